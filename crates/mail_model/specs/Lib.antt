@@ -1,0 +1,14 @@
+pub mod Lines
+pub mod Numbers
+pub mod Names
+pub mod Identity
+pub mod Plan
+pub mod Tape
+pub mod Transcript
+pub mod Smtp
+pub mod Session
+pub mod Told
+pub mod Mail
+pub mod Record
+pub mod Stored
+pub mod Site
