@@ -3,7 +3,7 @@ use Rattle.std.specs.Prelude.{ℕ, Bool, true, ◌&&◌, ◌||◌, not, nat_eq, 
 use Rattle.std.specs.Ordering.{nat_cmp}
 use Rattle.std.specs.Cmp.Lexicographic.{slice_cmp, pointwise}
 use Rattle.std.specs.FinMap as map
-use Rattle.mail_model.specs.Names.{lower}
+use Rattle.mail_model.specs.Names.{is_name, lower}
 
 -- the users' secrets by name
 abbrev pub Users : Type 0
@@ -19,7 +19,7 @@ pub record Plan : Type 0 where
   pub postmaster : List ℕ
 
 abbrev pub is_user : Plan → List ℕ → Bool
-is_user plan name = is_some (map.get plan.users name)
+is_user plan name = is_name name && is_some (map.get plan.users name)
 
 -- The mailbox that a path means: `postmaster` in any case means the configured one, and else the path is a user's name in any case.
 abbrev pub mailbox_of : Plan → List ℕ → Option (List ℕ)

@@ -144,7 +144,7 @@ abbrev pub HearsText : Site → ℕ → Talk → List (List ℕ) → List ℕ �
 HearsText old k talk lines line entries new =
     ((is_period line ≡ false) × (entries ≡ []) × (new ≡ record old { sessions = replace old.sessions k (On talk (lines ++ line ∷ [])) }))
     ⊎ ((is_period line ≡ true) × (is_large lines ≡ true) × (entries ≡ Said k (reply_text old.plan 1 talk (Text lines)) ∷ [])
-      × (new ≡ record old { sessions = replace old.sessions k (On (after_unit old.plan talk (Text lines) (reply_text old.plan 1 talk (Text lines))) []) }))
+    × (new ≡ record old { sessions = replace old.sessions k (On (after_unit old.plan talk (Text lines) (reply_text old.plan 1 talk (Text lines))) []) }))
     ⊎ ((is_period line ≡ true) × (is_large lines ≡ false) × (Files old k talk lines entries new ⊎ Falls old k talk lines entries new))
 
 -- a line that a session hears
@@ -184,10 +184,10 @@ abbrev pub LeavesOff : Site → List (List ℕ) → List Entry → Site → Type
 LeavesOff mid others front last =
     ((front ≡ []) × (last ≡ mid))
     ⊎ ((line : List ℕ) × (more : List (List ℕ)) × (entries : List Entry) × (missing : List Entry)
-      × (others ≡ line ∷ more) × Turns mid line entries last × (entries ≡ front ++ missing))
+    × (others ≡ line ∷ more) × Turns mid line entries last × (entries ≡ front ++ missing))
     ⊎ ((octets : List ℕ) × (mailboxes : List (List ℕ)) × (added : List Record) × (missing : List Record)
-      × (front ≡ []) × (message_records (nth_id (mid.drawn + 1)) (nth_stamp (mid.drawn + 1)) octets mailboxes ≡ added ++ missing)
-      × (last ≡ record mid { drawn = mid.drawn + 1; records = mid.records ++ added }))
+    × (front ≡ []) × (message_records (nth_id (mid.drawn + 1)) (nth_stamp (mid.drawn + 1)) octets mailboxes ≡ added ++ missing)
+    × (last ≡ record mid { drawn = mid.drawn + 1; records = mid.records ++ added }))
 
 -- at most one line that says why the program ended
 abbrev pub IsEnding : List Entry → Type 0

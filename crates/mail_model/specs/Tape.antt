@@ -101,9 +101,9 @@ planned d =
     option_and_then (λ copies.
     option_and_then (λ buckets.
     option_and_then (λ postmaster.
-        if nat_le copies.0 n && is_some (map.get d.users postmaster)
-        then Some (record { nodes = n; copies = copies.0; confirm = copies.1; buckets = buckets; users = d.users; postmaster = postmaster })
-        else None) d.postmaster) d.buckets) d.copies) d.nodes
+    if nat_le copies.0 n && is_some (map.get d.users postmaster)
+    then Some (record { nodes = n; copies = copies.0; confirm = copies.1; buckets = buckets; users = d.users; postmaster = postmaster })
+    else None) d.postmaster) d.buckets) d.copies) d.nodes
 
 -- A run line.
 pub data Order : Type 0 where
