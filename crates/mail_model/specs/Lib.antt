@@ -12,3 +12,5 @@ pub mod Mail
 pub mod Record
 pub mod Stored
 pub mod Site
+pub mod Laws
+pub mod Plain

@@ -1,5 +1,5 @@
 -- The plan of a cluster, and how the first lines of a tape give it.
-use Rattle.std.specs.Prelude.{ℕ, Bool, true, ◌&&◌, ◌||◌, not, nat_eq, nat_lt, nat_le, List, [], ◌∷◌, ◌++◌, Option, Some, None, is_some, is_none, if◌then◌else◌, codes}
+use Rattle.std.specs.Prelude.{ℕ, Bool, ◌&&◌, nat_eq, List, Option, Some, None, is_some, if◌then◌else◌, codes}
 use Rattle.std.specs.Ordering.{nat_cmp}
 use Rattle.std.specs.Cmp.Lexicographic.{slice_cmp, pointwise}
 use Rattle.std.specs.FinMap as map
@@ -18,10 +18,11 @@ pub record Plan : Type 0 where
   pub users : Users
   pub postmaster : List ℕ
 
+-- the plan has a user of this name
 abbrev pub is_user : Plan → List ℕ → Bool
 is_user plan name = is_name name && is_some (map.get plan.users name)
 
--- The mailbox that a path means: `postmaster` in any case means the configured one, and else the path is a user's name in any case.
+-- The mailbox that a path means: `postmaster` in any case means the configured one, and else the path is a user's name in any case (RFC 5321, section 4.5.1).
 abbrev pub mailbox_of : Plan → List ℕ → Option (List ℕ)
 mailbox_of plan path =
     if pointwise nat_eq (lower path) (codes "postmaster") then Some plan.postmaster

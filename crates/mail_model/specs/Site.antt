@@ -1,18 +1,18 @@
 -- What each run line does: the order in which it is refused, what it writes, and what is on the disk afterwards.
-use Rattle.std.specs.Prelude.{◌≡◌, ◌≢◌, ◌⊎◌, ℕ, ◌+◌, ◌-◌, ◌<◌, ◌≤◌, Bool, true, false, not, ◌&&◌, ◌||◌, nat_eq, nat_lt, nat_le, List, [], ◌∷◌, ◌++◌, length, map, flat_map, ⊤, Option, Some, None, IfSome, slice_get, slice_set, if◌then◌else◌, codes, MatchBool, All}
+use Rattle.std.specs.Prelude.{◌≡◌, ◌⊎◌, ℕ, ◌+◌, ◌-◌, Bool, true, false, not, ◌&&◌, ◌||◌, nat_eq, nat_lt, nat_le, List, [], ◌∷◌, ◌++◌, length, map, flat_map, ⊤, Option, Some, None, IfSome, slice_get, slice_set, if◌then◌else◌, codes, MatchBool, All}
 use Rattle.std.specs.Fmt.{decimal}
-use Rattle.mail_model.specs.Identity.{Id, Stamp, Key, Value, State}
+use Rattle.mail_model.specs.Identity.{Id, Stamp}
 use Rattle.mail_model.specs.Identity.Key.{Message}
 use Rattle.mail_model.specs.Identity.Value.{Here}
 use Rattle.mail_model.specs.Plan.{Plan}
 use Rattle.mail_model.specs.Tape.{Order, tape_order}
 use Rattle.mail_model.specs.Tape.Order.{Open, Say, End}
-use Rattle.mail_model.specs.Transcript.{Entry, has_code}
+use Rattle.mail_model.specs.Transcript.{Entry}
 use Rattle.mail_model.specs.Transcript.Entry.{Said, Event, Refused}
 use Rattle.mail_model.specs.Smtp.{command_of, greeting_text, down_text, stored_text}
-use Rattle.mail_model.specs.Session.{Unit, Talk, silent, reply_text, after_unit, is_period, is_quit, is_long_line, is_large}
+use Rattle.mail_model.specs.Session.{Talk, silent, reply_text, after_unit, is_period, is_quit, is_long_line, is_large}
 use Rattle.mail_model.specs.Session.Unit.{Line, Text}
-use Rattle.mail_model.specs.Told.{Mail, mail_of}
+use Rattle.mail_model.specs.Told.{mail_of}
 use Rattle.mail_model.specs.Mail.{IsStored}
 use Rattle.mail_model.specs.Lines.{HasNoLf}
 use Rattle.mail_model.specs.Record.{Record, IsJournal, payloads_of}
@@ -24,10 +24,12 @@ pub data Conversation : Type 0 where
   On : (talk : Talk) (lines : List (List ℕ)) → Conversation
   Over : Conversation
 
+-- the session has not ended
 abbrev pub is_on : Conversation → Bool
 is_on (On talk lines) = true
 is_on Over = false
 
+-- how many sessions have not ended
 abbrev pub count_on : List Conversation → ℕ
 count_on [] = 0
 count_on (conversation ∷ conversations) = (if is_on conversation then 1 else 0) + count_on conversations
@@ -52,6 +54,7 @@ pub data TapeFault : Type 0 where
   NodeDown : TapeFault
   TapeTooLong : TapeFault
 
+-- the word that the transcript has for a refusal
 abbrev pub fault_name : TapeFault → List ℕ
 fault_name BadPlan = codes "BadPlan"
 fault_name BadLine = codes "BadLine"
@@ -65,6 +68,7 @@ fault_name TapeTooLong = codes "TapeTooLong"
 abbrev pub session_at : List Conversation → ℕ → Option Conversation
 session_at sessions k = if nat_eq k 0 then None else slice_get sessions (k - 1)
 
+-- a session that there is not, or that has ended, hears nothing
 abbrev pub refused_session : Option Conversation → Option TapeFault
 refused_session None = Some NoSuchSession
 refused_session (Some Over) = Some NoSuchSession
@@ -79,9 +83,11 @@ refusal site (Open node) =
 refusal site (Say k text) = refused_session (session_at site.sessions k)
 refusal site End = None
 
+-- that a session has ended
 abbrev pub closed_event : ℕ → Entry
 closed_event k = Event (decimal k ++ codes " closed")
 
+-- the sessions, with this one in place of session k
 abbrev pub replace : List Conversation → ℕ → Conversation → List Conversation
 replace sessions k conversation = slice_set sessions (k - 1) conversation
 
@@ -91,6 +97,7 @@ down_entries k [] = []
 down_entries k (On talk lines ∷ sessions) = Said k (down_text 1) ∷ closed_event k ∷ down_entries (k + 1) sessions
 down_entries k (Over ∷ sessions) = down_entries (k + 1) sessions
 
+-- the same sessions, each of them ended
 abbrev pub all_over : List Conversation → List Conversation
 all_over sessions = map (λ _. Over) sessions
 
@@ -106,6 +113,7 @@ message_records id stamp octets mailboxes = Octets id octets ∷ copies_of id st
 abbrev pub nth_id : ℕ → Id
 nth_id n = record { node = 1; boot = 1; seq = n }
 
+-- the stamp of its copies
 abbrev pub nth_stamp : ℕ → Stamp
 nth_stamp n = record { count = n; boot = 1; node = 1 }
 
@@ -201,6 +209,7 @@ IsEnding (Event text ∷ entries) = ⊥
 abbrev pub HoldsRecords : List Record → List ℕ → Type 0
 HoldsRecords records octets = IsJournal 1 octets (payloads_of records)
 
+-- the entries of all lines, one after another
 abbrev pub all_of : List (List Entry) → List Entry
 all_of outputs = flat_map (λ entries. entries) outputs
 

@@ -1,8 +1,8 @@
 -- The first promise: a message that was answered 250 stands, octet for octet, on at least as many nodes as the plan confirms.
-use Rattle.std.specs.Prelude.{◌≡◌, ◌≢◌, ◌⊎◌, ℕ, ◌+◌, ◌-◌, ◌<◌, ◌≤◌, Bool, List, [], ◌∷◌, ◌++◌, length, map, flat_map, nat_eq, ⊤, Option, Some, None, IfSome, slice_get, if◌then◌else◌, ◌&&◌, codes}
+use Rattle.std.specs.Prelude.{◌≡◌, ◌≢◌, ◌⊎◌, ℕ, ◌-◌, ◌<◌, ◌≤◌, List, [], ◌∷◌, ◌++◌, length, map, flat_map, nat_eq, ⊤, Option, Some, None, IfSome, slice_get, if◌then◌else◌, codes}
 use Rattle.std.specs.Fmt.{decimal}
 use Rattle.std.specs.Cmp.Lexicographic.{pointwise}
-use Rattle.mail_model.specs.Identity.{Id, Key}
+use Rattle.mail_model.specs.Identity.{Id}
 use Rattle.mail_model.specs.Identity.Key.{Message}
 use Rattle.mail_model.specs.Plan.{Plan}
 use Rattle.mail_model.specs.Tape.{Order, tape_order}
@@ -28,6 +28,7 @@ pub record Ack : Type 0 where
   pub id : Id
   pub seconds : ℕ
 
+-- the messages of session k that were answered, in order
 abbrev pub mails_in : ℕ → List Ack → List Mail
 mails_in k [] = []
 mails_in k (ack ∷ acks) = if nat_eq ack.session k then ack.mail ∷ mails_in k acks else mails_in k acks
@@ -39,6 +40,7 @@ opened_at (Some (Open node)) = node ∷ []
 opened_at (Some (Say session text)) = []
 opened_at (Some End) = []
 
+-- the node of each session
 abbrev pub opened : List (List ℕ) → List ℕ
 opened lines = flat_map (λ line. opened_at (tape_order line)) lines
 
@@ -47,6 +49,7 @@ abbrev pub IsOther : Id → List Ack → Type 0
 IsOther id [] = ⊤
 IsOther id (ack ∷ acks) = (ack.id ≢ id) × IsOther id acks
 
+-- no two of the answers have one id
 abbrev pub HaveOtherIds : List Ack → Type 0
 HaveOtherIds [] = ⊤
 HaveOtherIds (ack ∷ acks) = IsOther ack.id acks × HaveOtherIds acks
@@ -73,16 +76,19 @@ abbrev pub AreRising : ℕ → List ℕ → ℕ → Type 0
 AreRising low [] high = ⊤
 AreRising low (node ∷ nodes) high = (low < node) × (node ≤ high) × AreRising node nodes high
 
+-- the user's copy stands on each of these nodes
 abbrev pub AllStand : List Entry → List (Option (List ℕ)) → Ack → List ℕ → List ℕ → Type 0
 AllStand entries stores ack user [] = ⊤
 AllStand entries stores ack user (node ∷ nodes) = Stands entries stores ack user node × AllStand entries stores ack user nodes
 
+-- the user's copy stands on as many nodes as the plan confirms, or more
 pub record StandsEnough (plan : Plan) (entries : List Entry) (stores : List (Option (List ℕ))) (ack : Ack) (user : List ℕ) : Type 0 where
   pub nodes : List ℕ
   pub rising : AreRising 0 nodes plan.nodes
   pub enough : plan.confirm ≤ length nodes
   pub stand : AllStand entries stores ack user nodes
 
+-- so does the copy of each of these users
 abbrev pub StandsForAll : Plan → List Entry → List (Option (List ℕ)) → Ack → List (List ℕ) → Type 0
 StandsForAll plan entries stores ack [] = ⊤
 StandsForAll plan entries stores ack (user ∷ users) = StandsEnough plan entries stores ack user × StandsForAll plan entries stores ack users
@@ -91,6 +97,7 @@ StandsForAll plan entries stores ack (user ∷ users) = StandsEnough plan entrie
 abbrev pub clock_of : List (List ℕ) → ℕ
 clock_of lines = 0
 
+-- and so does each message that was answered, under an id of the node of its session and with the seconds of the clock
 abbrev pub EachStands : Plan → List (List ℕ) → List Entry → List (Option (List ℕ)) → List Ack → Type 0
 EachStands plan lines entries stores [] = ⊤
 EachStands plan lines entries stores (ack ∷ acks) =

@@ -1,12 +1,12 @@
 -- The lines of a tape: first those of the plan, up to `go`, and then the run lines, up to `end`.
-use Rattle.std.specs.Prelude.{ℕ, Bool, ◌&&◌, ◌||◌, not, nat_eq, nat_lt, nat_le, ◌+◌, List, [], ◌∷◌, ◌++◌, length, Option, Some, None, is_some, is_none, option_and_then, if◌then◌else◌, codes}
+use Rattle.std.specs.Prelude.{ℕ, Bool, ◌&&◌, ◌||◌, nat_eq, nat_lt, nat_le, List, [], ◌∷◌, length, Option, Some, None, is_some, option_and_then, if◌then◌else◌, codes}
 use Rattle.std.specs.Option.{option_map}
 use Rattle.std.specs.List.{before_first, after_first, list_any}
 use Rattle.std.specs.FinMap as map
 use Rattle.mail_model.specs.Lines.{without_cr}
 use Rattle.mail_model.specs.Numbers.{number_of}
 use Rattle.mail_model.specs.Names.{is_name, is_secret, lower}
-use Rattle.mail_model.specs.Plan.{Plan, Users, is_user}
+use Rattle.mail_model.specs.Plan.{Plan, Users}
 
 -- what follows the prefix
 abbrev pub strip : List ℕ → List ℕ → Option (List ℕ)
@@ -18,6 +18,7 @@ strip (p ∷ ps) (x ∷ xs) = if nat_eq x p then strip ps xs else None
 abbrev pub first_word : List ℕ → List ℕ
 first_word octets = before_first (λ x. nat_eq x 32) octets
 
+-- the octets behind the first space
 abbrev pub behind_word : List ℕ → List ℕ
 behind_word octets = after_first (λ x. nat_eq x 32) octets
 
@@ -25,6 +26,7 @@ behind_word octets = after_first (λ x. nat_eq x 32) octets
 abbrev pub has_space : List ℕ → Bool
 has_space octets = list_any (λ x. nat_eq x 32) octets
 
+-- the first of two that there is
 abbrev pub or_else : {X : Type 0} → Option X → Option X → Option X
 or_else None other = other
 or_else (Some x) other = Some x
@@ -38,27 +40,34 @@ pub data PlanLine : Type 0 where
   Postmaster : (name : List ℕ) → PlanLine
   Go : PlanLine
 
+-- the number is within these ends
 abbrev pub between : ℕ → ℕ → ℕ → Bool
 between low n high = nat_le low n && nat_le n high
 
+-- `nodes N`, with 1 to 16 of them
 abbrev pub nodes_line : List ℕ → Option PlanLine
 nodes_line rest = option_and_then (λ n. if between 1 n 16 then Some (Nodes n) else None) (number_of rest)
 
+-- `copies R F`, with F from 1 to R
 abbrev pub copies_line : List ℕ → Option PlanLine
 copies_line rest = if has_space rest
     then option_and_then (λ copies. option_and_then (λ confirm. if between 1 confirm copies then Some (Copies copies confirm) else None) (number_of (behind_word rest))) (number_of (first_word rest))
     else None
 
+-- `buckets B`, from 1 to 1,024
 abbrev pub buckets_line : List ℕ → Option PlanLine
 buckets_line rest = option_and_then (λ n. if between 1 n 1024 then Some (Buckets n) else None) (number_of rest)
 
+-- `user NAME SECRET`, where all behind the second space is the secret; the name is kept in lower case
 abbrev pub user_line : List ℕ → Option PlanLine
 user_line rest = if has_space rest && is_name (first_word rest) && is_secret (behind_word rest)
     then Some (User (lower (first_word rest)) (behind_word rest)) else None
 
+-- `postmaster NAME`
 abbrev pub postmaster_line : List ℕ → Option PlanLine
 postmaster_line rest = if is_name rest then Some (Postmaster (lower rest)) else None
 
+-- `go`, and nothing behind it
 abbrev pub go_line : List ℕ → Option PlanLine
 go_line rest = if nat_eq (length rest) 0 then Some Go else None
 
@@ -80,6 +89,7 @@ pub record Draft : Type 0 where
   pub users : Users
   pub postmaster : Option (List ℕ)
 
+-- before the first plan line
 abbrev pub empty_draft : Draft
 empty_draft = record { nodes = None; copies = None; buckets = None; users = map.empty; postmaster = None }
 
@@ -111,6 +121,7 @@ pub data Order : Type 0 where
   Say : (session : ℕ) (text : List ℕ) → Order
   End : Order
 
+-- `open smtp N`
 abbrev pub open_line : List ℕ → Option Order
 open_line rest = option_map Open (number_of rest)
 
@@ -118,6 +129,7 @@ open_line rest = option_map Open (number_of rest)
 abbrev pub say_line : List ℕ → Option Order
 say_line rest = option_map (λ k. Say k (behind_word rest)) (number_of (first_word rest))
 
+-- `end`, and nothing behind it
 abbrev pub end_line : List ℕ → Option Order
 end_line rest = if nat_eq (length rest) 0 then Some End else None
 
@@ -132,8 +144,10 @@ order_of line =
 abbrev pub is_long : List ℕ → Bool
 is_long raw = nat_lt 65535 (length raw)
 
+-- the run line that a line of the tape is
 abbrev pub tape_order : List ℕ → Option Order
 tape_order raw = if is_long raw then None else order_of (without_cr raw)
 
+-- the plan line that a line of the tape is
 abbrev pub tape_plan_line : List ℕ → Option PlanLine
 tape_plan_line raw = if is_long raw then None else plan_line_of (without_cr raw)

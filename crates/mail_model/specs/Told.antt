@@ -1,6 +1,5 @@
 -- What a client was told: over the octets that it sent in a session and the replies that it got.
-use Rattle.std.specs.Prelude.{◌≡◌, ◌≢◌, ℕ, Bool, true, false, List, [], ◌∷◌, ◌++◌, map, flat_map, drop, ⊤, Option, Some, None, unwrap_or, if◌then◌else◌, codes, ◌&&◌, nat_eq}
-use Rattle.std.specs.Cmp.Lexicographic.{pointwise}
+use Rattle.std.specs.Prelude.{◌≡◌, ℕ, Bool, true, false, List, [], ◌∷◌, ◌++◌, map, flat_map, drop, ⊤, Option, Some, None, unwrap_or, if◌then◌else◌, codes, nat_eq}
 use Rattle.mail_model.specs.Lines.{HasNoCrlf, sent_line}
 use Rattle.mail_model.specs.Plan.{Plan}
 use Rattle.mail_model.specs.Tape.{Order, tape_order}
@@ -37,6 +36,7 @@ IsUnit false (Text lines) = ⊥
 IsUnit true (Line line) = ⊥
 IsUnit true (Text lines) = AreTextLines lines
 
+-- the reply asks for a text (RFC 5321, section 4.1.1.4)
 abbrev pub asks_text : List ℕ → Bool
 asks_text reply = has_code (codes "354") reply
 
@@ -54,12 +54,15 @@ pub record Mail : Type 0 where
   pub mailboxes : List (List ℕ)
   pub text : List ℕ
 
+-- no HELO yet
 abbrev pub unnamed : Greeting
 unnamed = record { name = []; extended = false }
 
+-- no transaction
 abbrev pub unaddressed : Envelope
 unaddressed = record { sender = []; mailboxes = [] }
 
+-- the message of the transaction that is open, with the text that these lines carry
 abbrev pub mail_of : Talk → List (List ℕ) → Mail
 mail_of talk lines = record {
   sender = (unwrap_or talk.envelope unaddressed).sender;
@@ -79,6 +82,7 @@ abbrev pub told_from : Plan → Talk → List (Unit × List ℕ) → List Mail
 told_from plan talk [] = []
 told_from plan talk (pair ∷ pairs) = told_in talk pair.0 pair.1 ++ told_from plan (after_unit plan talk pair.0 pair.1) pairs
 
+-- what the session has been told once these units were answered
 abbrev pub talk_after : Plan → Talk → List (Unit × List ℕ) → Talk
 talk_after plan talk [] = talk
 talk_after plan talk (pair ∷ pairs) = talk_after plan (after_unit plan talk pair.0 pair.1) pairs

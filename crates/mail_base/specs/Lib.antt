@@ -1,0 +1,8 @@
+pub mod Answers
+pub mod LowerNames
+pub mod NameFaults
+pub mod Orders
+pub mod Buckets
+pub mod Sets
+pub mod Codes
+pub mod Delivers

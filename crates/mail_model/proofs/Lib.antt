@@ -1,0 +1,11 @@
+pub mod Octets
+pub mod Replies
+pub mod Dialogue
+pub mod Disk
+pub mod Lists
+pub mod Kept
+pub mod Promise
+pub mod Readings
+pub mod Units
+pub mod Pieces
+pub mod OneLine

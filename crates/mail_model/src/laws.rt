@@ -1,0 +1,28 @@
+// Laws over the definitions.
+ghost use Rattle.mail_model.specs.Site.{RunsKeepStored};
+ghost use Rattle.mail_model.specs.Laws.{OneTranscript, OneJournal, OneTold, EntriesAreLines};
+
+/// Whatever run lines come, each message that was answered 250 stands.
+pub fn runs_keep_stored()
+    ensures { RunsKeepStored }
+{}
+
+/// A transcript has one reading: its octets tell its lines, and what follows the last of them.
+pub fn one_transcript()
+    ensures { OneTranscript }
+{}
+
+/// A journal has one reading: its octets tell its payloads.
+pub fn one_journal()
+    ensures { OneJournal }
+{}
+
+/// What a client was told has one reading: what it sent and the replies that it got tell its messages.
+pub fn one_told()
+    ensures { OneTold }
+{}
+
+/// Each entry that run lines give is one line of the transcript: no octet of it is an LF.
+pub fn entries_are_lines()
+    ensures { EntriesAreLines }
+{}
