@@ -1,2 +1,4 @@
 pub mod Causes
+pub mod Faulty
 pub mod Octets
+pub mod Yards

@@ -1,5 +1,5 @@
 -- What a disk holds after a write, and what a sink holds after a piece.
-use Rattle.std.specs.Prelude.{◌≡◌, ℕ, ◌+◌, ◌≤◌, ◌<◌, max, List, ◌++◌, length, take, drop, Option, Some, IfSome, Result, Ok, Err}
+use Rattle.std.specs.Prelude.{◌≡◌, ℕ, ◌+◌, ◌≤◌, ◌<◌, max, List, ◌++◌, length, take, drop, Option, Some, None, MatchOption, Result, Ok, Err}
 use Rattle.std.specs.Io.KnownBytes.{Appends}
 
 -- new is old with these octets at this offset
@@ -13,10 +13,10 @@ pub record Torn (at n : ℕ) (old new : List ℕ) : Type 0 where
   pub no_shorter : length old ≤ length new
   pub no_longer : length new ≤ max (length old) (at + n)
 
--- the write was done, or it failed and may have left anything in its range, where the content is told
+-- the write was done, or it failed and may have left anything in its range; content that is not told stays untold
 abbrev pub WritesAt : {E : Type 0} → Option (List ℕ) → Option (List ℕ) → Result (Unit {0}) E → ℕ → List ℕ → Type 0
-WritesAt old new (Ok _) at octets = IfSome old (λ held. (now : List ℕ) × (new ≡ Some now) × Holds held at octets now)
-WritesAt old new (Err _) at octets = IfSome old (λ held. (now : List ℕ) × (new ≡ Some now) × Torn at (length octets) held now)
+WritesAt old new (Ok _) at octets = MatchOption old (new ≡ None) (λ held. (now : List ℕ) × (new ≡ Some now) × Holds held at octets now)
+WritesAt old new (Err _) at octets = MatchOption old (new ≡ None) (λ held. (now : List ℕ) × (new ≡ Some now) × Torn at (length octets) held now)
 
 -- all of the piece was appended, or at a fault a front of it that is not the whole
 abbrev pub Writes : {E : Type 0} → Option (List ℕ) → Option (List ℕ) → Result (Unit {0}) E → List ℕ → Type 0

@@ -18,11 +18,15 @@ pub trait Disk {
     /// How often it has failed.
     ghost faults: { Self → ℕ };
 
+    /// Nothing was written since the last sync that succeeded: what reads give stands, whatever happens.
+    ghost settled: { Self → Type 0 };
+
     /// How many octets it holds.
     fn len(&mut self) -> Result<u64, Failed>
         ensures length { IfOk result (λ n. IfSome (seen self.old) (λ octets. n ≡ length octets)) }
         ensures seen { seen self.new ≡ seen self.old }
         ensures room { room self.new ≡ room self.old }
+        ensures settled { settled self.old → settled self.new }
         ensures cause { HasCause (faults self.old) (faults self.new) result };
 
     /// Gives what it holds from the offset on. 0 for a slice that is not empty is the end.
@@ -32,6 +36,7 @@ pub trait Disk {
         ensures end { IfOk result (λ n. n ≡ 0 → 0 < length into.new → IfSome (seen self.old) (λ octets. length octets ≤ at)) }
         ensures seen { seen self.new ≡ seen self.old }
         ensures room { room self.new ≡ room self.old }
+        ensures settled { settled self.old → settled self.new }
         ensures cause { HasCause (faults self.old) (faults self.new) result };
 
     /// Makes room past the end. It fails for want of memory alone, and then changes nothing.
@@ -39,6 +44,7 @@ pub trait Disk {
         ensures room { OnOk result (extra ≤ room self.new) }
         ensures never_less { room self.old ≤ room self.new }
         ensures seen { seen self.new ≡ seen self.old }
+        ensures settled { settled self.old → settled self.new }
         ensures faults { faults self.new ≡ faults self.old };
 
     /// Writes over what is there, and past the end. A failed write may leave any octets in its range.
@@ -51,5 +57,6 @@ pub trait Disk {
     fn sync(&mut self) -> Result<(), Failed>
         ensures seen { seen self.new ≡ seen self.old }
         ensures room { room self.new ≡ room self.old }
+        ensures settled { OnOk result (settled self.new) }
         ensures cause { HasCause (faults self.old) (faults self.new) result };
 }
