@@ -1,0 +1,52 @@
+//! smtp_wire: reads the command lines of SMTP.
+//!
+//! SUMMARY
+//!
+//! `read_command(line)` reads one line, given without its CRLF, and says which command it is or
+//! which rule it breaks first. What it reads borrows the line: nothing is copied or allocated.
+//!
+//! DESCRIPTION
+//!
+//! A line is a verb, the octets up to the first space, and what follows it. Spaces and tabs at the
+//! end of the line mean nothing. The verbs and the words `FROM:` and `TO:` mean the same in any
+//! case (RFC 5321, sections 2.4 and 4.1.1):
+//!
+//! - `HELO name`: one word of 1 to 255 visible ASCII octets.
+//! - `MAIL FROM:<path>`: spaces may stand before the path. It may be empty.
+//! - `RCPT TO:<path>`: the same, but the path is not empty.
+//! - `DATA` and `QUIT`, alone.
+//!
+//! A path is printable ASCII without `<` and `>`. A source route in front of it (`@a,@b:`, RFC 5321,
+//! section 4.1.2 and appendix C) is left out, and what is left has at most 512 octets.
+//!
+//! DIAGNOSTICS
+//!
+//! `UnknownVerb` where the verb is none of the five, and `BadArgument` where what follows it is not
+//! as above.
+//!
+//! STANDS ON
+//!
+//! `mail_model`, whose `command_of` says what each line means. The contract of `read_command` is
+//! that definition, both ways.
+//!
+//! WHAT IT DOES NOT DO
+//!
+//! EHLO, RSET, NOOP, VRFY, EXPN and HELP are unknown verbs here, MAIL and RCPT take no parameters,
+//! and no path is read further than above: no quoted local part, no domain, no address literal.
+//! Whether a command comes in its place, how long a line may be, and whose mailbox a path is, is
+//! for the session.
+#![tactic(auto)]
+
+mod command;
+mod laws;
+mod octets;
+mod path;
+
+pub use command::{Command, SmtpFault, read_command};
+pub use laws::{
+    blanks_at_end_mean_nothing, case_of_verb_means_nothing, names_are_read, recipients_are_read,
+    routes_are_left_out, senders_are_read,
+};
+
+#[cfg(test)]
+mod tests;

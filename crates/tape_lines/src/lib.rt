@@ -1,0 +1,24 @@
+//! tape_lines: the lines of a tape.
+//!
+//! Reads the plan lines of a tape up to `go`, and the run lines up to `end`, as values. It stands on
+//! `mail_base` for names, secrets and the plan, and each call answers exactly what the definitions of
+//! `mail_model` say of the line.
+//!
+//! A line is given without its LF; a CR at its end is dropped, and a line of more than 65,535 octets is
+//! refused. Words stand behind one space each. Numbers have 1 to 20 decimal digits and are below 2^64.
+//! It reads no source and writes no transcript.
+#![tactic(auto)]
+
+mod copy_count;
+mod draft;
+mod order;
+mod plan_line;
+#[cfg(test)]
+mod tests;
+mod words;
+
+pub use copy_count::CopyCount;
+pub use draft::Draft;
+pub use order::{Order, read_order};
+pub use plan_line::{PlanLine, read_plan_line};
+pub use words::{behind_word, first_word, has_space, number, strip, tape_line, without_cr};
