@@ -1,0 +1,168 @@
+-- Records that are appended one after another.
+use Rattle.std.proofs.Common.{◌≡◌, ⊎_elim, ℕ, ◌+◌, ◌<◌, ◌≤◌, List, [], ◌∷◌, ◌++◌, length, Option, Some, None, IfSome, IsErrOf, get_or, take, drop, Result, Ok, Err, refl, sym, ap, subst, ◌∙◌, arith, append_assoc}
+use Rattle.std.proofs.lemmas.List.{map-append, append-nil, take_more, take-append-drop}
+use Rattle.io_edge.specs.Causes.{Rose}
+use Rattle.mail_model.specs.Identity.{Id, Stamp}
+use Rattle.mail_model.specs.Told.{Mail}
+use Rattle.mail_model.specs.Mail.{trace_lines}
+use Rattle.mail_model.specs.Record.Record.{Octets}
+use Rattle.mail_model.specs.Record.{Record, IsJournal, payload_of, payloads_of}
+use Rattle.mail_model.specs.Site.{HoldsRecords, copies_of, nth_id}
+use Rattle.cluster_world.specs.Journal.{Stands, HasGate, HoldsEither}
+use Rattle.cluster_world.specs.Appends.{RecordsStand, HoldsFront, AppendsAll, Stops, Wrote, IsHead, IsUntouched, WroteMail}
+use Rattle.cluster_world.specs.declared.world.DeliverFault.{DeliverFault}
+use Rattle.cluster_world.specs.declared.world.DeliverFault.TheVariants.{Disk, NoMemory}
+
+one_payload : (records : List Record) (entry : Record) (payload : List ℕ) → payload ≡ payload_of entry → payloads_of records ++ payload ∷ [] ≡ payloads_of (records ++ entry ∷ [])
+one_payload records entry payload spelt = ap (λ (l : List ℕ). payloads_of records ++ l ∷ []) spelt ∙ sym (map-append payload_of records (entry ∷ []))
+
+-- one record that was appended
+pub one_stands : (old new : Option (List ℕ)) (end end' before now : ℕ) (entry : Record) (payload : List ℕ) → payload ≡ payload_of entry
+    → ((node : ℕ) (payloads : List (List ℕ)) → Stands old node payloads end → Stands new node (payloads ++ payload ∷ []) end')
+    → HasGate new end' → before ≤ now → AppendsAll old new end end' before now (entry ∷ [])
+one_stands old new end end' before now entry payload spelt appended gate later = record {
+  later = later;
+  gate = gate;
+  stand = λ records stands. subst (λ (l : List (List ℕ)). Stands new 1 l end') (one_payload records entry payload spelt) (appended 1 (payloads_of records) stands);
+}
+
+-- nothing follows what stood
+holds_none : (seen : Option (List ℕ)) (records wanted : List Record) (end : ℕ) → RecordsStand seen records end → HoldsFront seen records wanted
+holds_none None records wanted end stands = record { added = []; missing = wanted; front = refl; holds = tt }
+holds_none (Some held) records wanted end stands = record {
+  added = [];
+  missing = wanted;
+  front = refl;
+  holds = subst (λ (l : List Record). HoldsRecords l held) (sym (append-nil records)) stands.journal;
+}
+
+pub nothing_written : (old new : Option (List ℕ)) (end : ℕ) (wanted : List Record) → new ≡ old → Stops old new end wanted
+nothing_written old new end wanted same = record {
+  holds = λ records stands. subst (λ (o : Option (List ℕ)). HoldsFront o records wanted) (sym same) (holds_none old records wanted end stands);
+}
+
+-- the first of the records, or nothing
+holds_first : (seen : Option (List ℕ)) (records : List Record) (entry : Record) (payload : List ℕ) → payload ≡ payload_of entry
+    → HoldsEither seen 1 (payloads_of records) payload → HoldsFront seen records (entry ∷ [])
+holds_first None records entry payload spelt either = record { added = []; missing = entry ∷ []; front = refl; holds = tt }
+holds_first (Some held) records entry payload spelt either = ⊎_elim
+    (λ (without : IsJournal 1 held (payloads_of records)). record {
+      added = [];
+      missing = entry ∷ [];
+      front = refl;
+      holds = subst (λ (l : List Record). HoldsRecords l held) (sym (append-nil records)) without;
+    })
+    (λ (whole : IsJournal 1 held (payloads_of records ++ payload ∷ [])). record {
+      added = entry ∷ [];
+      missing = [];
+      front = refl;
+      holds = subst (λ (l : List (List ℕ)). IsJournal 1 held l) (one_payload records entry payload spelt) whole;
+    })
+    either
+
+pub one_stops : (old new : Option (List ℕ)) (end : ℕ) (entry : Record) (payload : List ℕ) → payload ≡ payload_of entry
+    → ((node : ℕ) (payloads : List (List ℕ)) → Stands old node payloads end → HoldsEither new node payloads payload)
+    → Stops old new end (entry ∷ [])
+one_stops old new end entry payload spelt failed = record {
+  holds = λ records stands. holds_first new records entry payload spelt (failed 1 (payloads_of records) stands);
+}
+
+-- no record yet
+pub none_yet : (seen : Option (List ℕ)) (end faults : ℕ) → HasGate seen end → AppendsAll seen seen end end faults faults []
+none_yet seen end faults gate = record {
+  later = omega arith;
+  gate = gate;
+  stand = λ records stands. subst (λ (l : List Record). RecordsStand seen l end) (sym (append-nil records)) stands;
+}
+
+-- some records, and then more
+pub appends_more : (old mid new : Option (List ℕ)) (end end' end'' before between now : ℕ) (first second : List Record)
+    → AppendsAll old mid end end' before between first → AppendsAll mid new end' end'' between now second → AppendsAll old new end end'' before now (first ++ second)
+appends_more old mid new end end' end'' before between now first second a b = record {
+  later = omega (arith, a.later, b.later);
+  gate = b.gate;
+  stand = λ records stands. subst (λ (l : List Record). RecordsStand new l end'') (append_assoc records first second) (b.stand (records ++ first) (a.stand records stands));
+}
+
+holds_behind : (seen : Option (List ℕ)) (records first second : List Record) → HoldsFront seen (records ++ first) second → HoldsFront seen records (first ++ second)
+holds_behind seen records first second h = record {
+  added = first ++ h.added;
+  missing = h.missing;
+  front = ap (λ (l : List Record). first ++ l) h.front ∙ sym (append_assoc first h.added h.missing);
+  holds = subst (λ (l : List Record). IfSome seen (HoldsRecords l)) (append_assoc records first h.added) h.holds;
+}
+
+-- some records, and then a front of more
+pub stops_more : (old mid new : Option (List ℕ)) (end end' before between : ℕ) (first second : List Record)
+    → AppendsAll old mid end end' before between first → Stops mid new end' second → Stops old new end (first ++ second)
+stops_more old mid new end end' before between first second a b = record {
+  holds = λ records stands. holds_behind new records first second (b.holds (records ++ first) (a.stand records stands));
+}
+
+-- a front of these is a front of more
+pub stops_before : (old new : Option (List ℕ)) (end : ℕ) (first second : List Record) → Stops old new end first → Stops old new end (first ++ second)
+stops_before old new end first second stops = record {
+  holds = λ records stands. let h = stops.holds records stands in record {
+    added = h.added;
+    missing = h.missing ++ second;
+    front = ap (λ (l : List Record). l ++ second) h.front ∙ append_assoc h.added h.missing second;
+    holds = h.holds;
+  };
+}
+
+-- the count rose behind where it had not fallen
+pub rose_later : (before between now : ℕ) → before ≤ between → Rose between now → Rose before now
+rose_later before between now later rose = omega (arith, rose)
+
+-- the states of the users so far, and of one more
+pub copies_more : (id : Id) (stamp : Stamp) (users : List (List ℕ)) (i : ℕ) (user : List ℕ) → i < length users → user ≡ get_or users i user
+    → copies_of id stamp (take (i + 1) users) ≡ copies_of id stamp (take i users) ++ copies_of id stamp (user ∷ [])
+copies_more id stamp users i user within is =
+    ap (λ (l : List (List ℕ)). copies_of id stamp l) (take_more users i user within ∙ ap (λ (u : List ℕ). take i users ++ u ∷ []) (sym is))
+    ∙ map-append _ (take i users) (user ∷ [])
+
+-- the states of these users, and of the others
+copies_split : (id : Id) (stamp : Stamp) (users : List (List ℕ)) (i : ℕ) → copies_of id stamp users ≡ copies_of id stamp (take i users) ++ copies_of id stamp (drop i users)
+copies_split id stamp users i = ap (λ (l : List (List ℕ)). copies_of id stamp l) (sym (take-append-drop i users)) ∙ map-append _ (take i users) (drop i users)
+
+stops_in_copies : (old mid new : Option (List ℕ)) (end end' before between : ℕ) (id : Id) (stamp : Stamp) (users : List (List ℕ)) (i : ℕ) (user : List ℕ)
+    → i < length users → user ≡ get_or users i user
+    → AppendsAll old mid end end' before between (copies_of id stamp (take i users)) → Stops mid new end' (copies_of id stamp (user ∷ []))
+    → Stops old new end (copies_of id stamp users)
+stops_in_copies old mid new end end' before between id stamp users i user within is front stops =
+    let some = stops_more old mid new end end' before between _ _ front stops in
+    let through = subst (λ (l : List Record). Stops old new end l) (sym (copies_more id stamp users i user within is)) some in
+    subst (λ (l : List Record). Stops old new end l) (sym (copies_split id stamp users (i + 1))) (stops_before old new end _ (copies_of id stamp (drop (i + 1) users)) through)
+
+-- the state of one user was not appended
+pub copy_failed : (old mid new : Option (List ℕ)) (end end' end'' before between now : ℕ) (id : Id) (stamp : Stamp) (users : List (List ℕ)) (i : ℕ) (user : List ℕ) (fault : DeliverFault)
+    → i < length users → user ≡ get_or users i user
+    → AppendsAll old mid end end' before between (copies_of id stamp (take i users)) → Wrote (Err fault) mid new end' end'' between now (copies_of id stamp (user ∷ []))
+    → Wrote (Err fault) old new end end'' before now (copies_of id stamp users)
+copy_failed old mid new end end' end'' before between now id stamp users i user Disk within is front wrote =
+    (stops_in_copies old mid new end end' before between id stamp users i user within is front wrote.0, omega (arith, front.later, wrote.1), rose_later before between now front.later wrote.2)
+copy_failed old mid new end end' end'' before between now id stamp users i user NoMemory within is front wrote =
+    (stops_in_copies old mid new end end' before between id stamp users i user within is front wrote.0, omega (arith, front.later, wrote.1))
+
+-- the message's octets were appended, or were not
+pub mail_wrote : (r : Result (Unit {0}) DeliverFault) (old new : Option (List ℕ)) (end end' before now : ℕ) (mail : Mail) (seq : ℕ) (head : List ℕ) → IsHead mail seq head
+    → ((entry : Record) → head ++ mail.text ≡ payload_of entry → Wrote r old new end end' before now (entry ∷ []))
+    → (IsErrOf r NoMemory → IsUntouched old new end end' before now)
+    → WroteMail r old new end end' before now mail seq
+mail_wrote (Ok _) old new end end' before now mail seq head h wrote untouched =
+    let octets = trace_lines mail (nth_id seq) h.date ++ mail.text in
+    record { octets = octets; stored = record { date = h.date; dated = h.dated; whole = refl }; appends = wrote (Octets (nth_id seq) octets) (ap (λ (l : List ℕ). l ++ mail.text) h.whole) }
+mail_wrote (Err Disk) old new end end' before now mail seq head h wrote untouched =
+    let octets = trace_lines mail (nth_id seq) h.date ++ mail.text in
+    let failed = wrote (Octets (nth_id seq) octets) (ap (λ (l : List ℕ). l ++ mail.text) h.whole) in
+    ((octets, failed.0), failed.1, failed.2)
+mail_wrote (Err NoMemory) old new end end' before now mail seq head h wrote untouched = untouched refl
+
+-- the state of one user more was appended
+pub copy_appended : (old mid new : Option (List ℕ)) (end end' end'' before between now : ℕ) (id : Id) (stamp : Stamp) (users : List (List ℕ)) (i : ℕ) (user : List ℕ)
+    → i < length users → user ≡ get_or users i user
+    → AppendsAll old mid end end' before between (copies_of id stamp (take i users)) → AppendsAll mid new end' end'' between now (copies_of id stamp (user ∷ []))
+    → AppendsAll old new end end'' before now (copies_of id stamp (take (i + 1) users))
+copy_appended old mid new end end' end'' before between now id stamp users i user within is front more =
+    subst (λ (l : List Record). AppendsAll old new end end'' before now l) (sym (copies_more id stamp users i user within is))
+    (appends_more old mid new end end' end'' before between now _ _ front more)

@@ -1,0 +1,5 @@
+pub mod Appended
+pub mod Delivered
+pub mod Gates
+pub mod Heads
+pub mod Pieces

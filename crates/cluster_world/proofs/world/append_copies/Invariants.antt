@@ -1,0 +1,13 @@
+use Rattle.std.proofs.Common.{take}
+use Rattle.mail_model.specs.Site.{copies_of, nth_id, nth_stamp}
+use Rattle.cluster_world.specs.Journal.{end_of}
+use Rattle.cluster_world.specs.Appends.{AppendsAll}
+use Rattle.cluster_world.proofs.world.append_copies.Given as goal
+
+-- the states of the users so far are appended, and stand if what was there did
+abbrev pub invariant-loop-user : goal.invariant-loop-user
+invariant-loop-user g l = record {
+  appended : AppendsAll (g.D.Disk.seen l.initial.disk) (g.D.Disk.seen l.disk) (end_of l.initial.journal) (end_of l.journal)
+      (g.D.Disk.faults l.initial.disk) (g.D.Disk.faults l.disk) (copies_of (nth_id l.seq) (nth_stamp l.seq) (take l.user-index l.users));
+  settled : g.D.Disk.settled l.initial.disk → g.D.Disk.settled l.disk;
+}

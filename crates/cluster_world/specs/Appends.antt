@@ -1,0 +1,62 @@
+-- Records that are appended to the journal of node 1, one after another.
+use Rattle.std.specs.Prelude.{◌≡◌, ℕ, ◌≤◌, List, [], ◌∷◌, ◌++◌, Option, IfSome, Result, Ok, Err}
+use Rattle.io_edge.specs.Causes.{Rose}
+use Rattle.mail_model.specs.Told.{Mail}
+use Rattle.mail_model.specs.Mail.{IsDate, IsStored, trace_lines}
+use Rattle.mail_model.specs.Record.{Record, payload_of, payloads_of}
+use Rattle.mail_model.specs.Record.Record.{Octets}
+use Rattle.mail_model.specs.Site.{HoldsRecords, nth_id}
+use Rattle.cluster_world.specs.Journal.{Stands, HasGate}
+use Rattle.cluster_world.specs.declared.world.DeliverFault.{DeliverFault}
+use Rattle.cluster_world.specs.declared.world.DeliverFault.TheVariants.{Disk, NoMemory}
+
+-- the octets are told, and are the journal of node 1 with these records, up to the gate at `end`
+abbrev pub RecordsStand : Option (List ℕ) → List Record → ℕ → Type 0
+RecordsStand seen records end = Stands seen 1 (payloads_of records) end
+
+-- The octets are told, and are the journal of node 1 with these records and a front of those that were to follow.
+pub record HoldsFront (seen : Option (List ℕ)) (records wanted : List Record) : Type 0 where
+  pub added : List Record
+  pub missing : List Record
+  pub front : wanted ≡ added ++ missing
+  pub holds : IfSome seen (HoldsRecords (records ++ added))
+
+-- all of the records follow those that stood
+pub record AppendsAll (old new : Option (List ℕ)) (end end' before now : ℕ) (wanted : List Record) : Type 0 where
+  pub later : before ≤ now
+  pub gate : HasGate new end'
+  pub stand : (records : List Record) → RecordsStand old records end → RecordsStand new (records ++ wanted) end'
+
+-- a front of them follows those that stood
+pub record Stops (old new : Option (List ℕ)) (end : ℕ) (wanted : List Record) : Type 0 where
+  pub holds : (records : List Record) → RecordsStand old records end → HoldsFront new records wanted
+
+-- what was done to the journal where these records were to be appended
+abbrev pub Wrote : Result (Unit {0}) DeliverFault → Option (List ℕ) → Option (List ℕ) → ℕ → ℕ → ℕ → ℕ → List Record → Type 0
+Wrote (Ok _) old new end end' before now wanted = AppendsAll old new end end' before now wanted
+Wrote (Err Disk) old new end end' before now wanted = Stops old new end wanted × (before ≤ now) × Rose before now
+Wrote (Err NoMemory) old new end end' before now wanted = Stops old new end wanted × (before ≤ now)
+
+-- nothing was done to it
+pub record IsUntouched (old new : Option (List ℕ)) (end end' before now : ℕ) : Type 0 where
+  pub seen : new ≡ old
+  pub gate : end' ≡ end
+  pub faults : now ≡ before
+
+-- how the payload of a message's octets begins: its kind, its id and its trace lines of second 0
+pub record IsHead (mail : Mail) (seq : ℕ) (head : List ℕ) : Type 0 where
+  pub date : List ℕ
+  pub dated : IsDate 0 date
+  pub whole : head ≡ payload_of (Octets (nth_id seq) (trace_lines mail (nth_id seq) date))
+
+-- the message's octets were appended
+pub record AppendsMail (old new : Option (List ℕ)) (end end' before now : ℕ) (mail : Mail) (seq : ℕ) : Type 0 where
+  pub octets : List ℕ
+  pub stored : IsStored mail (nth_id seq) 0 octets
+  pub appends : AppendsAll old new end end' before now (Octets (nth_id seq) octets ∷ [])
+
+-- what was done to the journal where a message's octets were to be appended: want of memory leaves it as it was
+abbrev pub WroteMail : Result (Unit {0}) DeliverFault → Option (List ℕ) → Option (List ℕ) → ℕ → ℕ → ℕ → ℕ → Mail → ℕ → Type 0
+WroteMail (Ok _) old new end end' before now mail seq = AppendsMail old new end end' before now mail seq
+WroteMail (Err Disk) old new end end' before now mail seq = ((octets : List ℕ) × Stops old new end (Octets (nth_id seq) octets ∷ [])) × (before ≤ now) × Rose before now
+WroteMail (Err NoMemory) old new end end' before now mail seq = IsUntouched old new end end' before now

@@ -1,0 +1,8 @@
+-- What records say.
+use Rattle.std.specs.Prelude.{ℕ}
+use Rattle.mail_model.specs.Identity.{Stamp, State}
+use Rattle.mail_model.specs.Identity.Value.{Here}
+
+-- the object is here
+abbrev pub here : Stamp → ℕ → State
+here stamp targets = record { value = Here; stamp = stamp; targets = targets }

@@ -1,0 +1,6 @@
+pub mod Appends
+pub mod Heads
+pub mod Journal
+pub mod Opens
+pub mod Trace
+pub mod World

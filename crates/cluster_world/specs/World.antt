@@ -1,0 +1,85 @@
+-- A world of one node: what its disk holds, and what a message leaves there.
+use Rattle.std.specs.Prelude.{◌≡◌, ℕ, ◌+◌, ◌≤◌, Bool, IsTrue, IsFalse, List, [], ◌∷◌, ◌++◌, Option, Result, Ok, Err}
+use Rattle.io_edge.specs.Causes.{Rose}
+use Rattle.mail_model.specs.Identity.{Id}
+use Rattle.mail_model.specs.Plan.{Plan}
+use Rattle.mail_model.specs.Told.{Mail}
+use Rattle.mail_model.specs.Mail.{IsStored}
+use Rattle.mail_model.specs.Record.{Record}
+use Rattle.mail_model.specs.Record.Record.{Boot}
+use Rattle.mail_model.specs.Site.{message_records, nth_id, nth_stamp}
+use Rattle.cluster_world.specs.Journal.{HasGate, end_of}
+use Rattle.cluster_world.specs.Appends.{RecordsStand, HoldsFront}
+use Rattle.cluster_world.specs.Opens.{BeginFails}
+use Rattle.cluster_world.specs.declared.world.World.{World}
+use Rattle.cluster_world.specs.declared.world.DeliverFault.{DeliverFault}
+use Rattle.cluster_world.specs.declared.world.DeliverFault.TheVariants as deliver
+use Rattle.cluster_world.specs.declared.world.OpenFault.{OpenFault}
+
+abbrev pub plan_of : {D : Type 0} → World D → Plan
+plan_of world = world.plan
+
+-- whether the node is up
+abbrev pub is_up : {D : Type 0} → World D → Bool
+is_up world = world.up
+
+-- how many sequence numbers were drawn
+abbrev pub drawn_of : {D : Type 0} → World D → ℕ
+drawn_of world = world.drawn
+
+abbrev pub disk_of : {D : Type 0} → World D → D
+disk_of world = world.disk
+
+-- the place of the gate that closes the journal
+abbrev pub gate_of : {D : Type 0} → World D → ℕ
+gate_of world = end_of world.journal
+
+-- the disk tells its octets, and they reach past the closed gate's place
+abbrev pub ShowsGate : {D : Type 0} → (D → Option (List ℕ)) → World D → Type 0
+ShowsGate seen world = HasGate (seen (disk_of world)) (gate_of world)
+
+-- the disk tells its octets, and they are the journal of node 1 with these records
+abbrev pub WorldHolds : {D : Type 0} → (D → Option (List ℕ)) → List Record → World D → Type 0
+WorldHolds seen records world = RecordsStand (seen (disk_of world)) records (gate_of world)
+
+-- where a world begins: the record of the node's first boot, and no message
+pub record Begins {D : Type 0} (seen : D → Option (List ℕ)) (plan : Plan) (world : World D) : Type 0 where
+  pub plan_is : plan_of world ≡ plan
+  pub up : IsTrue (is_up world)
+  pub drawn : drawn_of world ≡ 0
+  pub gate : ShowsGate seen world
+  pub holds : WorldHolds seen (Boot 1 ∷ []) world
+
+-- a world was opened, or its disk is handed back with the reason
+abbrev pub Opened : {D : Type 0} → (D → Option (List ℕ)) → (D → ℕ) → Result (World D) (OpenFault × D) → Plan → D → Type 0
+Opened seen faults (Ok world) plan disk = Begins seen plan world × (faults disk ≤ faults (disk_of world))
+Opened seen faults (Err refused) plan disk = BeginFails refused.0 (faults disk) (faults refused.1)
+
+-- The message is on the disk: its octets, and a state for each of its mailboxes.
+pub record Files {D : Type 0} (seen : D → Option (List ℕ)) (mail : Mail) (id : Id) (old new : World D) : Type 0 where
+  pub id_is : id ≡ nth_id (drawn_of old + 1)
+  pub up : IsTrue (is_up new)
+  pub gate : ShowsGate seen new
+  pub octets : List ℕ
+  pub stored : IsStored mail (nth_id (drawn_of old + 1)) 0 octets
+  pub holds : (records : List Record) → WorldHolds seen records old
+      → WorldHolds seen (records ++ message_records (nth_id (drawn_of old + 1)) (nth_stamp (drawn_of old + 1)) octets mail.mailboxes) new
+
+-- some of the message's records are on the disk behind those that were there
+pub record HoldsSome {D : Type 0} (seen : D → Option (List ℕ)) (mail : Mail) (records : List Record) (old new : World D) : Type 0 where
+  pub octets : List ℕ
+  pub front : HoldsFront (seen (disk_of new)) records (message_records (nth_id (drawn_of old + 1)) (nth_stamp (drawn_of old + 1)) octets mail.mailboxes)
+
+-- The message is not on the disk, or a front of its records is.
+pub record Falls {D : Type 0} (seen : D → Option (List ℕ)) (mail : Mail) (old new : World D) : Type 0 where
+  pub holds : (records : List Record) → WorldHolds seen records old → HoldsSome seen mail records old new
+
+-- what a delivery leaves; a node that stays up after a refusal has its disk as it was
+abbrev pub Delivers : {D : Type 0} → (D → Option (List ℕ)) → (D → ℕ) → Result Id DeliverFault → Mail → World D → World D → Type 0
+Delivers seen faults (Ok id) mail old new = Files seen mail id old new × (faults (disk_of old) ≤ faults (disk_of new))
+Delivers seen faults (Err deliver.Disk) mail old new =
+    Falls seen mail old new × IsFalse (is_up new)
+    × (faults (disk_of old) ≤ faults (disk_of new)) × Rose (faults (disk_of old)) (faults (disk_of new))
+Delivers seen faults (Err deliver.NoMemory) mail old new =
+    Falls seen mail old new × (faults (disk_of old) ≤ faults (disk_of new))
+    × (IsTrue (is_up new) → (seen (disk_of new) ≡ seen (disk_of old)) × (gate_of new ≡ gate_of old))
