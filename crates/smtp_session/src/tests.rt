@@ -1,0 +1,265 @@
+// What one client hears, with replies from RFC 5321 and the texts that this service gives them.
+use crate::{Heard, Reply, Session};
+use mail_base::{Deliver, Name, NodeNo, Plan, Secret, Users};
+use std::alloc::{AllocError, Global};
+use std::process::Abort;
+use std::test::Fail;
+
+// A client of node 1, and the messages that it sent.
+#[derive(Drop)]
+struct Client {
+    alloc: Global,
+    node: NodeNo,
+    plan: Plan,
+    session: Session,
+    filed: Vec<Deliver>,
+}
+
+fn name(alloc: Global, octets: &[u8]) -> Result<Name, Fail> {
+    Ok(Name::spelt(alloc, octets)?.ok_or("no name")?)
+}
+
+// u001, u002 and so on
+fn user(number: u8) -> [u8; 4] {
+    [
+        b'u',
+        b'0' + number / 100,
+        b'0' + number / 10 % 10,
+        b'0' + number % 10,
+    ]
+}
+
+fn add_user(users: &mut Users, alloc: Global, octets: &[u8]) -> Result<(), Fail> {
+    let secret = Secret::read(alloc, b"sesame")?.ok_or("no secret")?;
+    Ok(users.insert(name(alloc, octets)?, secret)?)
+}
+
+// alice, who is the postmaster, bob, and u001 to u101
+fn plan(alloc: Global) -> Result<Plan, Fail> {
+    let mut users = Users::new(alloc);
+    add_user(&mut users, alloc, b"alice")?;
+    add_user(&mut users, alloc, b"bob")?;
+    for number in 1..102u8 {
+        add_user(&mut users, alloc, &user(number))?;
+    }
+    Ok(Plan {
+        nodes: 1,
+        copies: 1,
+        confirm: 1,
+        buckets: 1,
+        users,
+        postmaster: name(alloc, b"alice")?,
+    })
+}
+
+impl Client {
+    fn new(alloc: Global) -> Result<Client, Fail> {
+        Ok(Client {
+            alloc,
+            node: NodeNo::new(1).ok_or("no node")?,
+            plan: plan(alloc)?,
+            session: Session::new(alloc),
+            filed: Vec::new(alloc),
+        })
+    }
+
+    // What a line leads to, as a text: nothing, the reply, or that a message is filed.
+    fn outcome(&mut self, line: &[u8]) -> Result<Vec<u8>, AllocError> {
+        let mut text = Vec::new(self.alloc);
+        match self.session.hear(self.alloc, &self.plan, line)? {
+            Heard::Collected => {}
+            Heard::Said(reply) => reply.text_into(self.alloc, self.node, &mut text)?,
+            Heard::Closed(reply) => {
+                reply.text_into(self.alloc, self.node, &mut text)?;
+                text.extend_from_slice(b", closed")?;
+            }
+            Heard::Files(deliver) => {
+                self.filed.push(deliver)?;
+                text.extend_from_slice(b"filed")?;
+            }
+        }
+        Ok(text)
+    }
+
+    // Says the lines, each of which leads to what stands beside it.
+    fn says(&mut self, rt: &impl Abort, steps: &[(&[u8], &[u8])]) -> Result<(), AllocError> {
+        for (at, (line, wanted)) in steps.iter().enumerate() {
+            let text = self.outcome(line)?;
+            assert!(rt; text.as_slice() == *wanted, "at step {at}");
+        }
+        Ok(())
+    }
+
+    // The message that was filed last is this one.
+    fn filed(&mut self, rt: &impl Abort, sender: &[u8], helo: &[u8], users: &[&[u8]], text: &[u8]) {
+        let Some(deliver) = self.filed.pop() else {
+            panic!(rt; "nothing filed");
+        };
+        assert!(rt; deliver.sender.as_slice() == sender);
+        assert!(rt; deliver.helo.as_slice() == helo && !deliver.extended);
+        assert!(rt; deliver.text.as_slice() == text);
+        assert!(rt; deliver.users.len() == users.len());
+        for (name, wanted) in deliver.users.as_slice().iter().zip(users.iter()) {
+            assert!(rt; name.octets() == *wanted);
+        }
+    }
+}
+
+const ASKED: &[u8] = b"354 end with a line that is a single period";
+
+#[test]
+fn hears_commands_and_texts(rt: HostRuntime) -> Result<(), Fail> {
+    let mut client = Client::new(rt.alloc())?;
+    let first: [(&[u8], &[u8]); 19] = [
+        (b"MAIL FROM:<bob>", b"503 bad order"),
+        (b"HELO c.example", b"250 node1"),
+        (b"RCPT TO:<alice>", b"503 bad order"),
+        (b"DATA", b"503 bad order"),
+        (b"MAIL FROM:<sender@example.org>", b"250 sender ok"),
+        (b"MAIL FROM:<bob>", b"503 bad order"),
+        (b"DATA", b"503 bad order"),
+        (b"RCPT TO:<nobody>", b"550 no such mailbox"),
+        (b"DATA", b"503 bad order"),
+        (b"RCPT TO:<ALICE>", b"250 recipient ok"),
+        (b"RCPT TO:<alice>", b"250 recipient ok"),
+        (b"RCPT TO:<PostMaster>", b"250 recipient ok"),
+        (b"DATA", ASKED),
+        (b"first", b""),
+        (b"..", b""),
+        (b".a", b""),
+        (b"", b""),
+        (b"QUIT", b""),
+        (b".", b"filed"),
+    ];
+    client.says(&rt, &first)?;
+    let text = b"first\r\n.\r\na\r\n\r\nQUIT\r\n";
+    client.filed(&rt, b"sender@example.org", b"c.example", &[b"alice"], text);
+    let second: [(&[u8], &[u8]); 6] = [
+        (b"RCPT TO:<bob>", b"503 bad order"),
+        (b"MAIL FROM:<>", b"250 sender ok"),
+        (b"RCPT TO:<bob>", b"250 recipient ok"),
+        (b"RCPT TO:<PostMaster>", b"250 recipient ok"),
+        (b"DATA", ASKED),
+        (b".", b"filed"),
+    ];
+    client.says(&rt, &second)?;
+    client.filed(&rt, b"", b"c.example", &[b"bob", b"alice"], b"");
+    Ok(())
+}
+
+#[test]
+fn refuses_and_closes(rt: HostRuntime) -> Result<(), Fail> {
+    let mut client = Client::new(rt.alloc())?;
+    let mut long = b"HELO c.example".to_vec(rt.alloc())?;
+    long.resize(1022, b' ')?;
+    let mut longer = long.clone()?;
+    longer.push(b' ')?;
+    let steps: [(&[u8], &[u8]); 14] = [
+        (&longer, b"500 line too long"),
+        (b"MAIL FROM:<bob>", b"503 bad order"),
+        (&long, b"250 node1"),
+        (b"MAIL FROM:<bob>", b"250 sender ok"),
+        (b"RCPT TO:<alice>", b"250 recipient ok"),
+        (b"HELO d.example", b"250 node1"),
+        (b"RCPT TO:<alice>", b"503 bad order"),
+        (b"EHLO c.example", b"500 unknown command"),
+        (b"NOOP", b"500 unknown command"),
+        (b"RSET", b"500 unknown command"),
+        (b"", b"500 unknown command"),
+        (b"MAIL FROM:bob", b"501 bad argument"),
+        (b"QUIT now", b"501 bad argument"),
+        (b"QUIT", b"221 node1 closing, closed"),
+    ];
+    client.says(&rt, &steps)?;
+    Ok(())
+}
+
+#[test]
+fn takes_a_hundred_recipients(rt: HostRuntime) -> Result<(), Fail> {
+    let mut client = Client::new(rt.alloc())?;
+    let begin: [(&[u8], &[u8]); 2] = [
+        (b"HELO c.example", b"250 node1"),
+        (b"MAIL FROM:<bob>", b"250 sender ok"),
+    ];
+    client.says(&rt, &begin)?;
+    for number in 1..101u8 {
+        let mut line = b"RCPT TO:<".to_vec(rt.alloc())?;
+        line.extend_from_slice(&user(number))?;
+        line.push(b'>')?;
+        client.says(&rt, &[(&line, b"250 recipient ok")])?;
+    }
+    let end: [(&[u8], &[u8]); 4] = [
+        (b"RCPT TO:<u101>", b"452 too many recipients"),
+        (b"RCPT TO:<u001>", b"250 recipient ok"),
+        (b"DATA", ASKED),
+        (b".", b"filed"),
+    ];
+    client.says(&rt, &end)?;
+    assert!(rt;
+        client
+            .filed
+            .pop()
+            .is_some_and(|deliver| deliver.users.len() == 100)
+    );
+    Ok(())
+}
+
+impl Client {
+    // Sends a text: 16,383 lines of 1,024 octets with their CRLF, the last line, and the period.
+    fn sends(&mut self, rt: &impl Abort, last: &[u8], outcome: &[u8]) -> Result<(), AllocError> {
+        let begin: [(&[u8], &[u8]); 3] = [
+            (b"MAIL FROM:<bob>", b"250 sender ok"),
+            (b"RCPT TO:<alice>", b"250 recipient ok"),
+            (b"DATA", ASKED),
+        ];
+        self.says(rt, &begin)?;
+        let line = [b'x'; 1022];
+        for _ in 0..16_383u32 {
+            assert!(rt; self.outcome(&line)?.is_empty());
+        }
+        self.says(rt, &[(last, b""), (b".", outcome)])
+    }
+}
+
+#[test]
+fn measures_texts(rt: HostRuntime) -> Result<(), Fail> {
+    let mut client = Client::new(rt.alloc())?;
+    client.says(&rt, &[(b"HELO c.example", b"250 node1")])?;
+    let mut last = [b'x'; 1023];
+    client.sends(&rt, &last, b"552 message too large")?;
+    last[0] = b'.';
+    client.sends(&rt, &last, b"filed")?;
+    assert!(rt;
+        client
+            .filed
+            .pop()
+            .is_some_and(|deliver| deliver.text.len() == 16_777_216)
+    );
+    let after: [(&[u8], &[u8]); 5] = [
+        (b"MAIL FROM:<bob>", b"250 sender ok"),
+        (b"RCPT TO:<bob>", b"250 recipient ok"),
+        (b"DATA", ASKED),
+        (b"short", b""),
+        (b".", b"filed"),
+    ];
+    client.says(&rt, &after)?;
+    client.filed(&rt, b"bob", b"c.example", &[b"bob"], b"short\r\n");
+    Ok(())
+}
+
+#[test]
+fn writes_replies(rt: HostRuntime) -> Result<(), Fail> {
+    let node = NodeNo::new(16).ok_or("no node")?;
+    let cases: [(Reply, &[u8]); 4] = [
+        (Reply::Ready, b"220 node16 Porcupine ready"),
+        (Reply::Stored, b"250 stored"),
+        (Reply::Closing, b"221 node16 closing"),
+        (Reply::Down, b"421 node16 down"),
+    ];
+    for (reply, wanted) in cases {
+        let mut text = Vec::new(rt.alloc());
+        reply.text_into(rt.alloc(), node, &mut text)?;
+        assert!(rt; text.as_slice() == wanted);
+    }
+    Ok(())
+}
