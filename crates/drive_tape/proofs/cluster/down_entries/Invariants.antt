@@ -1,0 +1,11 @@
+use Rattle.std.proofs.Common.{◌≡◌, ◌++◌, ◌+◌, drop}
+use Rattle.drive_tape.specs.Entries.{entries_of}
+use Rattle.drive_tape.specs.Cluster.{talker_entries}
+use Rattle.drive_tape.proofs.cluster.down_entries.Given as goal
+
+-- what the sessions that are left write completes it
+abbrev pub invariant-loop-talker : goal.invariant-loop-talker
+invariant-loop-talker l = record {
+  number : l.number ≡ l.talker-index + 1;
+  entries : entries_of l.entries ++ talker_entries l.number (drop l.talker-index l.talkers) ≡ entries_of l.fn.entries ++ talker_entries 1 l.talkers;
+}

@@ -1,0 +1,32 @@
+use Rattle.std.proofs.Common.{arith, ◌≡◌, ◌+◌, ◌^◌, length}
+use Rattle.drive_tape.proofs.Runs.{start, goes_on, stops}
+use Rattle.drive_tape.proofs.driver.drive.Goals as goal
+
+pub loop-handled-init : goal.loop-handled-init
+loop-handled-init g c =
+    let size : length c.args.reader.now.pending.items + c.limit.new.self.left ≡ 2 ^ 40 = omega (arith, c.limit.ensures.left, c.requires.short) in
+    rw c.limit.ensures.pending (record {
+      progress = start g.D.Disk.seen _ _ _ _ _ size;
+      ready = c.requires.ready;
+      drawn = omega (arith, c.requires.drawn);
+      unread = omega (arith, size);
+      read_later = omega arith;
+      write_later = omega arith;
+    })
+
+pub loop-handled-preserved : goal.loop-handled-preserved
+loop-handled-preserved g c =
+    let loop = c.loop-handled.invariant in
+    let turn = c.in-Ok.ensures in
+    record {
+      progress = goes_on g.D.Disk.seen _ _ _ _ _ _ _ _ _ _ _ _ _ _ _ loop.progress turn.turned;
+      ready = turn.ready;
+      drawn = omega (arith, loop.drawn, turn.drawn);
+      unread = omega (arith, loop.unread, turn.less);
+      read_later = omega (arith, loop.read_later, turn.read_later);
+      write_later = omega (arith, loop.write_later, turn.write_later);
+    }
+
+pub returns-in-Err-clause-drives : goal.returns-in-Err-clause-drives
+returns-in-Err-clause-drives g c first shows =
+    stops g.D.Disk.seen _ _ _ _ _ _ _ _ _ _ _ _ _ _ _ _ _ _ c.loop-handled.invariant.progress c.in-Err.ensures.turned c.at_line.ensures.stop c.at_line.ensures.number first shows

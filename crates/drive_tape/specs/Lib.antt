@@ -1,0 +1,11 @@
+pub mod Cut
+pub mod Reads
+pub mod Parts
+pub mod Entries
+pub mod Faults
+pub mod Talks
+pub mod Cluster
+pub mod Lines
+pub mod Stops
+pub mod Drive
+pub mod Plans

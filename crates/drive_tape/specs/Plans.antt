@@ -1,0 +1,101 @@
+-- What reading the plan lines of a tape did, up to `go`.
+use Rattle.std.specs.Prelude.{◌≡◌, ◌⊎◌, ◌<◌, ◌≤◌, ◌+◌, ◌^◌, ℕ, true, false, List, [], ◌∷◌, ◌++◌, length, flat_map, All, ⊤, Option, Some, None, Result, Ok, Err, option_and_then}
+use Rattle.std.specs.Io.KnownBytes.{Consumes, IsAtEnd}
+use Rattle.mail_model.specs.Lines.{HasNoLf, BeginsWith, ended}
+use Rattle.mail_model.specs.Plan.{Plan}
+use Rattle.mail_model.specs.Tape.{Draft, empty_draft, drafted, planned, tape_plan_line, is_long}
+use Rattle.mail_model.specs.Tape.PlanLine.{Go}
+use Rattle.drive_tape.specs.declared.plan_head.PlanHead.{PlanHead}
+use Rattle.drive_tape.specs.declared.plan_head.PlanTurn.{PlanTurn}
+use Rattle.drive_tape.specs.declared.plan_head.PlanTurn.TheVariants.{Line, End}
+use Rattle.drive_tape.specs.declared.drove.Drove.{Drove}
+use Rattle.drive_tape.specs.declared.drove.Drove.TheVariants.{BadTape}
+use Rattle.drive_tape.specs.declared.drove.TapeFault.{TapeFault}
+use Rattle.drive_tape.specs.declared.drove.TapeFault.TheVariants.{BadPlan, BadLine, TapeTooLong}
+use Rattle.drive_tape.specs.declared.drove.Stop.{Stop}
+use Rattle.drive_tape.specs.declared.drove.Stop.TheVariants.{Ended, ReadFault, WriteFault, Bad, NoMemory}
+use Rattle.drive_tape.specs.Drive.{stop_of, NamesLine}
+
+-- the line, as a plan line, makes the one draft of the other
+abbrev pub DraftsOn : Draft → List ℕ → Draft → Type 0
+DraftsOn old line new = option_and_then (drafted old) (tape_plan_line line) ≡ Some new
+
+-- these lines, one after another
+abbrev pub DraftsTo : Draft → List (List ℕ) → Draft → Type 0
+DraftsTo old [] new = new ≡ old
+DraftsTo old (line ∷ lines) new = (mid : Draft) × DraftsOn old line mid × DraftsTo mid lines new
+
+-- the plan is one that this program serves: one node, and so one copy
+abbrev pub IsServed : Plan → Type 0
+IsServed plan = (plan.nodes ≡ 1) × (plan.copies ≡ 1) × (plan.confirm ≡ 1)
+
+-- the line is not too long and adds nothing to the draft, and if it is `go`, the draft is no plan that is served
+abbrev pub IsBadPlan : List ℕ → Draft → Type 0
+IsBadPlan line draft = (is_long line ≡ false)
+    × (option_and_then (drafted draft) (tape_plan_line line) ≡ None)
+    × (tape_plan_line line ≡ Some Go → (plan : Plan) → planned draft ≡ Some plan → IsServed plan → ⊥)
+
+-- Why the plan part has a fault of the tape, at the octets that are no plan line, with room for so many octets more.
+abbrev pub PlanStopsAt : TapeFault → Option (List ℕ) → List ℕ → ℕ → Draft → Type 0
+PlanStopsAt fault left octets room draft =
+    ((fault ≡ BadPlan) × ((line : List ℕ) × (rest : List ℕ) × BeginsWith octets line rest × IsBadPlan line draft))
+    ⊎ ((fault ≡ BadLine) × (((line : List ℕ) × (rest : List ℕ) × BeginsWith octets line rest × (is_long line ≡ true))
+    ⊎ (HasNoLf octets × (IsAtEnd left ⊎ (65535 < length octets)))))
+    ⊎ ((fault ≡ TapeTooLong) × HasNoLf octets × (room ≡ 0) × (length octets ≤ 65535))
+
+-- Why it stopped.
+abbrev pub PlanStops : Stop → Option (List ℕ) → List ℕ → ℕ → Draft → Type 0
+PlanStops Ended left octets room draft = ⊥
+PlanStops ReadFault left octets room draft = HasNoLf octets
+PlanStops WriteFault left octets room draft = ⊥
+PlanStops (Bad fault) left octets room draft = PlanStopsAt fault left octets room draft
+PlanStops NoMemory left octets room draft = ⊤
+
+-- one turn over the octets that were pending and taken
+abbrev pub PlanDid : Result PlanTurn Stop → Option (List ℕ) → List ℕ → ℕ → Draft → List ℕ → Draft → Type 0
+PlanDid (Ok Line) left octets room old pending new = (line : List ℕ) × BeginsWith octets line pending × DraftsOn old line new
+PlanDid (Ok End) left octets room old pending new = (line : List ℕ) × BeginsWith octets line pending × (tape_plan_line line ≡ Some Go) × (new ≡ old)
+PlanDid (Err stop) left octets room old pending new = PlanStops stop left octets room old
+
+-- one turn, of a reader with so much room left
+pub record PlanTurned (left0 left1 : Option (List ℕ)) (result : Result PlanTurn Stop) (pending0 : List ℕ) (room0 : ℕ) (old : Draft) (pending1 : List ℕ) (room1 : ℕ) (new : Draft) : Type 0 where
+  pub taken : List ℕ
+  pub took : Consumes left0 left1 taken
+  pub did : PlanDid result left1 (pending0 ++ taken) room1 old pending1 new
+  pub size : room1 + length taken ≡ room0
+
+-- so far: the octets are these plan lines and what is pending
+pub record PlanProgress (left0 left1 : Option (List ℕ)) (pending0 pending : List ℕ) (draft : Draft) (count room : ℕ) : Type 0 where
+  pub read : List ℕ
+  pub lines : List (List ℕ)
+  pub took : Consumes left0 left1 read
+  pub cut : pending0 ++ read ≡ flat_map ended lines ++ pending
+  pub each : All HasNoLf lines
+  pub drafts : DraftsTo empty_draft lines draft
+  pub counted : length lines ≡ count
+  pub size : length (pending0 ++ read) + room ≡ 2 ^ 40
+
+-- the octets behind the plan lines are `go`, with a plan that is served; or why they are not
+abbrev pub HeadDid : Result PlanHead Drove → Option (List ℕ) → List ℕ → ℕ → Draft → ℕ → List ℕ → Type 0
+HeadDid (Ok head) left octets room draft count pending =
+    (line : List ℕ) × BeginsWith octets line pending × (tape_plan_line line ≡ Some Go) × (planned draft ≡ Some head.plan) × IsServed head.plan × (head.lines ≡ count + 1)
+HeadDid (Err answer) left octets room draft count pending = PlanStops (stop_of answer) left octets room draft × NamesLine answer (count + 1)
+
+-- The whole: the octets begin with plan lines, and behind them is `go`, or the answer is why it is not.
+pub record ReadsPlan (left0 left1 : Option (List ℕ)) (pending0 : List ℕ) (result : Result PlanHead Drove) (pending : List ℕ) : Type 0 where
+  pub read : List ℕ
+  pub lines : List (List ℕ)
+  pub draft : Draft
+  pub others : List ℕ
+  pub room : ℕ
+  pub took : Consumes left0 left1 read
+  pub cut : pending0 ++ read ≡ flat_map ended lines ++ others
+  pub each : All HasNoLf lines
+  pub drafts : DraftsTo empty_draft lines draft
+  pub limit : length (pending0 ++ read) + room ≡ 2 ^ 40
+  pub did : HeadDid result left1 others room draft (length lines) pending
+
+-- what the draft gives at `go`, at the line of this number
+abbrev pub HeadEnds : Result PlanHead Drove → Draft → ℕ → Type 0
+HeadEnds (Ok head) draft number = (planned draft ≡ Some head.plan) × IsServed head.plan × (head.lines ≡ number)
+HeadEnds (Err answer) draft number = (answer ≡ BadTape number BadPlan) × ((plan : Plan) → planned draft ≡ Some plan → IsServed plan → ⊥)

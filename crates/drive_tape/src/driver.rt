@@ -1,0 +1,174 @@
+// Drives a cluster by the run lines of a tape.
+ghost use Rattle.std.specs.Prelude.{◌≡◌, ◌+◌, ◌-◌, ◌^◌, ◌≤◌, ◌<◌, ◌++◌, [], List, ℕ, IfSome, IfErr, OnOk, IsErrOf, length};
+ghost use Rattle.io_edge.specs.Causes.{Rose};
+ghost use Rattle.mail_model.specs.Site.{Site, HoldsRecords};
+ghost use Rattle.cluster_world.specs.World.{drawn_of, disk_of};
+ghost use Rattle.drive_tape.specs.Cluster.{IsReady, Shows};
+ghost use Rattle.drive_tape.specs.Lines.{LineDid, IsOwnStop};
+ghost use Rattle.drive_tape.specs.Drive.{ShowsTurn, Drives, stop_of, NamesLine};
+
+use crate::cluster::{Cluster, StepStop};
+use crate::{Drove, Entry, LineReader, LineStop, Row, Stop, TapeFault, WriteStop, write_entries};
+use io_edge::{Disk, Sink, Source};
+use std::alloc::{AllocError, Global};
+use tape_lines::{Order, read_order};
+
+/// How many octets of a tape may be taken behind `go`. A plan part has at most 4,101 lines, and so never as many.
+pub const TAPE_OCTETS: u64 = 1_099_511_627_776;
+
+impl From<LineStop> for Stop {
+    ghost use Rattle.std.specs.Prelude.{◌≡◌};
+    ghost use Rattle.drive_tape.specs.Stops.{of_line};
+
+    ghost from_gives = { λ why stop. stop ≡ of_line why };
+
+    fn from(why: LineStop) -> Stop {
+        match why {
+            LineStop::ReadFault => Stop::ReadFault,
+            LineStop::EndedEarly => Stop::Bad(TapeFault::BadLine),
+            LineStop::LongLine => Stop::Bad(TapeFault::BadLine),
+            LineStop::TooLong => Stop::Bad(TapeFault::TapeTooLong),
+            LineStop::NoMemory => Stop::NoMemory,
+        }
+    }
+}
+
+impl From<WriteStop> for Stop {
+    ghost use Rattle.std.specs.Prelude.{◌≡◌};
+    ghost use Rattle.drive_tape.specs.Stops.{of_write};
+
+    ghost from_gives = { λ why stop. stop ≡ of_write why };
+
+    fn from(why: WriteStop) -> Stop {
+        match why {
+            WriteStop::WriteFault => Stop::WriteFault,
+            WriteStop::NoMemory => Stop::NoMemory,
+        }
+    }
+}
+
+impl From<AllocError> for Stop {
+    ghost use Rattle.std.specs.Prelude.{◌≡◌};
+    ghost use Rattle.drive_tape.specs.declared.drove.Stop.TheVariants.{NoMemory};
+
+    ghost from_gives = { λ _ stop. stop ≡ NoMemory };
+
+    fn from(_: AllocError) -> Stop {
+        Stop::NoMemory
+    }
+}
+
+impl From<StepStop> for Stop {
+    ghost use Rattle.std.specs.Prelude.{◌≡◌};
+    ghost use Rattle.drive_tape.specs.Stops.{of_step};
+
+    ghost from_gives = { λ why stop. stop ≡ of_step why };
+
+    fn from(why: StepStop) -> Stop {
+        match why {
+            StepStop::Refused(fault) => Stop::Bad(fault),
+            StepStop::NoMemory => Stop::NoMemory,
+        }
+    }
+}
+
+// Takes up a run line: what it gives is still to be written.
+fn take_up<D: Disk>(
+    cluster: &mut Cluster<D>,
+    alloc: Global,
+    line: &[u8],
+) -> Result<Row<Entry>, Stop>
+    requires ready { IsReady D.seen cluster.old }
+    requires drawn { drawn_of cluster.old.world < 2 ^ 64 - 1 }
+    ensures ready { IsReady D.seen cluster.new }
+    ensures did { (site : Site) → Shows D.seen cluster.old site → LineDid D.seen result line.now site cluster.new }
+    ensures own { IfErr result IsOwnStop }
+    ensures drawn { drawn_of cluster.new.world ≤ drawn_of cluster.old.world + 1 }
+{
+    match read_order(line) {
+        None => Err(Stop::Bad(TapeFault::BadLine)),
+        Some(Order::End) => Err(Stop::Ended),
+        Some(Order::Open { node }) => Ok(cluster.open(alloc, node)?),
+        Some(Order::Say { session, text }) => Ok(cluster.say(alloc, session, text)?),
+    }
+}
+
+// One turn: a line is read and taken up, and what it gives is written.
+fn turn<S: Source, K: Sink, D: Disk>(
+    alloc: Global,
+    reader: &mut LineReader,
+    source: &mut S,
+    sink: &mut K,
+    cluster: &mut Cluster<D>,
+) -> Result<(), Stop>
+    requires ready { IsReady D.seen cluster.old }
+    requires drawn { drawn_of cluster.old.world < 2 ^ 64 - 1 }
+    ensures ready { IsReady D.seen cluster.new }
+    ensures turned { (site : Site) → Shows D.seen cluster.old site
+        → ShowsTurn D.seen (S.left source.old) (S.left source.new) (K.contents sink.old) (K.contents sink.new) result
+        reader.old.pending.items reader.old.left site reader.new.pending.items reader.new.left cluster.new }
+    ensures drawn { drawn_of cluster.new.world ≤ drawn_of cluster.old.world + 1 }
+    ensures less { OnOk result (length reader.new.pending.items + reader.new.left < length reader.old.pending.items + reader.old.left) }
+    ensures short { length reader.old.pending.items ≤ 66047 → length reader.new.pending.items ≤ 66047 }
+    ensures read_later { S.faults source.old ≤ S.faults source.new }
+    ensures write_later { K.faults sink.old ≤ K.faults sink.new }
+    ensures read_fault { IsErrOf result Stop.ReadFault → Rose (S.faults source.old) (S.faults source.new) }
+    ensures write_fault { IsErrOf result Stop.WriteFault → Rose (K.faults sink.old) (K.faults sink.new) }
+{
+    let line = reader.next_line(source)?;
+    let entries = take_up(cluster, alloc, line.octets())?;
+    write_entries(alloc, sink, entries.as_slice())?;
+    Ok(())
+}
+
+// The answer for a stop at the line of this number.
+pub(crate) fn at_line(stop: Stop, number: u64) -> Drove
+    ensures stop { stop_of result ≡ stop }
+    ensures number { NamesLine result number }
+{
+    match stop {
+        Stop::Ended => Drove::Ended,
+        Stop::ReadFault => Drove::ReadFault,
+        Stop::WriteFault => Drove::WriteFault(number),
+        Stop::Bad(fault) => Drove::BadTape(number, fault),
+        Stop::NoMemory => Drove::NoMemory(number),
+    }
+}
+
+/// Drives the cluster by run lines until `end` or a stop; `from` lines of the tape came before them.
+/// What a line gives is written before the next line is read. It takes at most 1,099,511,627,776 octets, those that
+/// are pending among them.
+///
+/// The answer is `Ended` behind the line `end`. `BadTape(n, fault)` comes where line n is refused, and nothing is done for
+/// it; `ReadFault` where the source failed before a line was whole; `WriteFault(n)` where the sink failed at what line n
+/// gives, of which a front was written; `NoMemory(n)` where memory ran out at line n, of which nothing, all, or a part of
+/// its message's records may stand on the disk.
+pub fn drive<S: Source, K: Sink, D: Disk>(
+    alloc: Global,
+    reader: &mut LineReader,
+    source: &mut S,
+    sink: &mut K,
+    cluster: &mut Cluster<D>,
+    from: u64,
+) -> Drove
+    requires ready { IsReady D.seen cluster.old }
+    requires drawn { drawn_of cluster.old.world ≡ 0 }
+    requires short { length reader.old.pending.items ≤ 66047 }
+    requires few { from < 2 ^ 63 }
+    ensures drives { (first : Site) → Shows D.seen cluster.old first
+        → Drives (S.left source.old) (S.left source.new) (K.contents sink.old) (K.contents sink.new)
+        reader.old.pending.items result from first (D.seen (disk_of cluster.new.world)) }
+    ensures read_later { S.faults source.old ≤ S.faults source.new }
+    ensures write_later { K.faults sink.old ≤ K.faults sink.new }
+    ensures read_fault { stop_of result ≡ Stop.ReadFault → Rose (S.faults source.old) (S.faults source.new) }
+    ensures write_fault { stop_of result ≡ Stop.WriteFault → Rose (K.faults sink.old) (K.faults sink.new) }
+{
+    reader.limit(TAPE_OCTETS);
+    let mut handled: u64 = 0;
+    loop {
+        match turn(alloc, reader, source, sink, cluster) {
+            Ok(()) => handled += 1,
+            Err(stop) => return at_line(stop, from + handled + 1),
+        }
+    }
+}

@@ -1,0 +1,70 @@
+// How the work on a tape ended, and why.
+ghost use Rattle.std.specs.Prelude.{◌≡◌};
+ghost use Rattle.mail_model.specs.Site.{fault_name};
+ghost use Rattle.drive_tape.specs.Faults.{fault_of};
+
+/// Why a line of a tape is refused.
+#[derive(Clone, Copy, Debug, PartialEq, Eq)]
+pub enum TapeFault {
+    /// A line that is no line of the plan or breaks its rule, or a plan that does not fit together or is not served.
+    BadPlan,
+    /// A line of no form, one of more than 65,535 octets, or a tape that ends before its line is whole.
+    BadLine,
+    /// The session was never opened, or has ended; those of a node that is down have ended.
+    NoSuchSession,
+    /// 256 sessions stand.
+    TooManySessions,
+    /// The node is not of the plan. It comes before `NodeDown` and `TooManySessions`.
+    NoSuchNode,
+    /// The node is down. It comes before `TooManySessions`.
+    NodeDown,
+    /// 1,099,511,627,776 octets were taken behind `go`, and no whole line is left of them.
+    TapeTooLong,
+}
+
+impl TapeFault {
+    /// The name by which the transcript tells the fault.
+    pub fn name(self) -> &'static [u8]
+        ensures { result.now ≡ fault_name (fault_of self) }
+    {
+        match self {
+            TapeFault::BadPlan => b"BadPlan",
+            TapeFault::BadLine => b"BadLine",
+            TapeFault::NoSuchSession => b"NoSuchSession",
+            TapeFault::TooManySessions => b"TooManySessions",
+            TapeFault::NoSuchNode => b"NoSuchNode",
+            TapeFault::NodeDown => b"NodeDown",
+            TapeFault::TapeTooLong => b"TapeTooLong",
+        }
+    }
+}
+
+/// Why a turn handled no line.
+#[derive(Clone, Copy, Debug, PartialEq, Eq)]
+pub enum Stop {
+    /// The line is `end`.
+    Ended,
+    /// The source failed.
+    ReadFault,
+    /// The sink failed.
+    WriteFault,
+    /// The tape has a fault.
+    Bad(TapeFault),
+    /// Memory ran out.
+    NoMemory,
+}
+
+/// How the work ended, and at which line of the tape. Lines are numbered from 1, the plan lines among them.
+#[derive(Clone, Copy, Debug, PartialEq, Eq)]
+pub enum Drove {
+    /// The line `end` was read, and all before it was done and written.
+    Ended,
+    /// The source failed before a line was whole.
+    ReadFault,
+    /// The sink failed at what this line writes. What the line does is done.
+    WriteFault(u64),
+    /// This line has this fault, and nothing was done for it.
+    BadTape(u64, TapeFault),
+    /// Memory ran out at this line. What it does may be done, or in part.
+    NoMemory(u64),
+}

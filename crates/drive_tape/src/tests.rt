@@ -1,0 +1,249 @@
+// Small tapes with what the description of tapes gives for them, and each public call once.
+ghost use Rattle.std.specs.Prelude.{◌≡◌, IfSome, []};
+
+use crate::{
+    Cluster, Drove, Entry, LineReader, LineStop, Row, TapeFault, drive, read_plan, write_entries,
+};
+use cluster_world::World;
+use io_edge::faulty::{FaultyDisk, FaultySink, FaultySource};
+use io_edge::{Disk, PlainDisk, Sink, SliceSource, Source, VecSink};
+use mail_base::Octets;
+use std::alloc::{AllocError, Global};
+use std::test::Fail;
+
+const PLAN: &[u8] = b"nodes 1\ncopies 1 1\nbuckets 1\nuser alice tanstaaf\npostmaster alice\ngo\n";
+
+const MESSAGE: &[u8] =
+    b"open smtp 1\nsay 1 HELO c.example\nsay 1 MAIL FROM:<bob@b.example>\nsay 1 RCPT TO:<alice>\nsay 1 DATA\nsay 1 Subject: hi\nsay 1\nsay 1 hello\nsay 1 .\n";
+
+const ASKED: &[u8] =
+    b"1 220 node1 Porcupine ready\n1 250 node1\n1 250 sender ok\n1 250 recipient ok\n1 354 end with a line that is a single period\n";
+
+fn joined(alloc: Global, front: &[u8], rest: &[u8]) -> Result<Vec<u8>, AllocError> {
+    let mut octets = front.to_vec(alloc)?;
+    octets.extend_from_slice(rest)?;
+    Ok(octets)
+}
+
+// What the tape leads to on that disk.
+fn run<S: Source, K: Sink, D: Disk + Drop>(
+    alloc: Global,
+    source: &mut S,
+    sink: &mut K,
+    disk: D,
+) -> Drove
+    requires { IfSome (D.seen disk) (λ held. held ≡ []) }
+{
+    let mut reader = LineReader::new(alloc);
+    let head = match read_plan(alloc, &mut reader, source) {
+        Ok(head) => head,
+        Err(answer) => return answer,
+    };
+    let from = head.lines;
+    let Ok(world) = World::open(alloc, head.plan, disk) else {
+        return Drove::NoMemory(from);
+    };
+    let mut cluster = Cluster::new(alloc, world);
+    let answer = drive(alloc, &mut reader, source, sink, &mut cluster, from);
+    let _disk = cluster.close();
+    answer
+}
+
+#[test]
+fn tapes_are_driven(rt: HostRuntime) -> Result<(), Fail> {
+    let alloc = rt.alloc();
+    let cases: [(&[u8], Drove, &[u8]); 7] = [
+        (b"end\nopen\n", Drove::Ended, b""),
+        (
+            b"open smtp 2\n",
+            Drove::BadTape(7, TapeFault::NoSuchNode),
+            b"",
+        ),
+        (b"open\n", Drove::BadTape(7, TapeFault::BadLine), b""),
+        (b"end", Drove::BadTape(7, TapeFault::BadLine), b""),
+        (
+            b"say 1 QUIT\n",
+            Drove::BadTape(7, TapeFault::NoSuchSession),
+            b"",
+        ),
+        (
+            b"open smtp 1\nsay 1 HELO c.example\nsay 1 QUIT\nsay 1 QUIT\n",
+            Drove::BadTape(10, TapeFault::NoSuchSession),
+            b"1 220 node1 Porcupine ready\n1 250 node1\n1 221 node1 closing\n* 1 closed\n",
+        ),
+        (
+            b"open smtp 1\nopen smtp 1\nsay 2 QUIT\nend\n",
+            Drove::Ended,
+            b"1 220 node1 Porcupine ready\n2 220 node1 Porcupine ready\n2 221 node1 closing\n* 2 closed\n",
+        ),
+    ];
+    for (lines, wanted, transcript) in cases {
+        let tape = joined(alloc, PLAN, lines)?;
+        let mut sink = VecSink::new(alloc);
+        let answer = run(
+            alloc,
+            &mut SliceSource::new(&tape),
+            &mut sink,
+            PlainDisk::new(alloc),
+        );
+        assert_eq!(rt; answer, wanted);
+        assert_eq!(rt; sink.held.as_slice(), transcript);
+    }
+    Ok(())
+}
+
+#[test]
+fn plans_are_read(rt: HostRuntime) {
+    let alloc = rt.alloc();
+    let cases: [(&[u8], u64, TapeFault); 4] = [
+        (b"nodes 1\nnodes 1\n", 2, TapeFault::BadPlan),
+        (b"nodes 1\ngo\n", 2, TapeFault::BadPlan),
+        (b"nodes 1\ngo", 2, TapeFault::BadLine),
+        (
+            b"nodes 2\ncopies 1 1\nbuckets 1\nuser a a\npostmaster a\ngo\n",
+            6,
+            TapeFault::BadPlan,
+        ),
+    ];
+    for (tape, line, fault) in cases {
+        let mut reader = LineReader::new(alloc);
+        match read_plan(alloc, &mut reader, &mut SliceSource::new(tape)) {
+            Ok(_) => panic!(rt; "a plan"),
+            Err(answer) => assert_eq!(rt; answer, Drove::BadTape(line, fault)),
+        }
+    }
+}
+
+#[test]
+fn a_message_is_stored_or_the_disk_fails(rt: HostRuntime) -> Result<(), Fail> {
+    let alloc = rt.alloc();
+    let fallen: &[u8] = b"* fault 1\n1 421 node1 down\n* 1 closed\n";
+    // The opening makes six disk calls, and the message eight.
+    let cases: [(u64, Drove, &[u8]); 4] = [
+        (
+            0,
+            Drove::Ended,
+            b"1 250 stored\n2 220 node1 Porcupine ready\n",
+        ),
+        (7, Drove::BadTape(16, TapeFault::NodeDown), fallen),
+        (14, Drove::BadTape(16, TapeFault::NodeDown), fallen),
+        (
+            15,
+            Drove::Ended,
+            b"1 250 stored\n2 220 node1 Porcupine ready\n",
+        ),
+    ];
+    for (call, wanted, transcript) in cases {
+        let front = joined(alloc, PLAN, MESSAGE)?;
+        let tape = joined(alloc, &front, b"open smtp 1\nend\n")?;
+        let mut sink = VecSink::new(alloc);
+        let disk = FaultyDisk::new(PlainDisk::new(alloc), call);
+        assert_eq!(rt;
+            run(alloc, &mut SliceSource::new(&tape), &mut sink, disk),
+            wanted
+        );
+        assert_eq!(rt;
+            sink.held.as_slice(),
+            joined(alloc, ASKED, transcript)?.as_slice()
+        );
+    }
+    Ok(())
+}
+
+#[test]
+fn streams_fail(rt: HostRuntime) -> Result<(), Fail> {
+    let alloc = rt.alloc();
+    let tape = joined(alloc, PLAN, b"open smtp 1\nsay 1 QUIT\n")?;
+    // The first read takes the whole tape, and each line of the transcript is one write.
+    let cases: [(u64, u64, Drove, &[u8]); 4] = [
+        (1, 0, Drove::ReadFault, b""),
+        (
+            2,
+            0,
+            Drove::ReadFault,
+            b"1 220 node1 Porcupine ready\n1 221 node1 closing\n* 1 closed\n",
+        ),
+        (0, 2, Drove::WriteFault(8), b"1 220 node1 Porcupine ready\n"),
+        (
+            0,
+            3,
+            Drove::WriteFault(8),
+            b"1 220 node1 Porcupine ready\n1 221 node1 closing\n",
+        ),
+    ];
+    for (read, write, wanted, transcript) in cases {
+        let mut source = FaultySource::new(SliceSource::new(&tape), read);
+        let mut sink = FaultySink::new(VecSink::new(alloc), write);
+        assert_eq!(rt;
+            run(alloc, &mut source, &mut sink, PlainDisk::new(alloc)),
+            wanted
+        );
+        assert_eq!(rt; sink.inner.held.as_slice(), transcript);
+    }
+    Ok(())
+}
+
+#[test]
+fn sessions_are_counted(rt: HostRuntime) -> Result<(), Fail> {
+    let alloc = rt.alloc();
+    let mut tape = PLAN.to_vec(alloc)?;
+    for _ in 0..257u32 {
+        tape.extend_from_slice(b"open smtp 1\n")?;
+    }
+    let mut sink = VecSink::new(alloc);
+    let answer = run(
+        alloc,
+        &mut SliceSource::new(&tape),
+        &mut sink,
+        PlainDisk::new(alloc),
+    );
+    assert_eq!(rt; answer, Drove::BadTape(263, TapeFault::TooManySessions));
+    Ok(())
+}
+
+#[test]
+fn lines_are_cut(rt: HostRuntime) -> Result<(), Fail> {
+    let mut source = SliceSource::new(b"ab\r\ncd");
+    let mut reader = LineReader::new(rt.alloc());
+    match reader.next_line(&mut source) {
+        Ok(line) => assert_eq!(rt; line.octets(), b"ab\r".as_slice()),
+        Err(_) => panic!(rt; "no line"),
+    }
+    reader.limit(2);
+    assert!(rt;
+        reader
+            .next_line(&mut source)
+            .is_err_and(|why| why == LineStop::TooLong)
+    );
+    reader.limit(3);
+    assert!(rt;
+        reader
+            .next_line(&mut source)
+            .is_err_and(|why| why == LineStop::EndedEarly)
+    );
+    assert_eq!(rt; reader.pending.as_slice(), b"cd".as_slice());
+    Ok(())
+}
+
+#[test]
+fn entries_are_written(rt: HostRuntime) -> Result<(), Fail> {
+    let alloc = rt.alloc();
+    let mut row = Row::new(alloc);
+    row.push(Entry::Said {
+        session: 12,
+        text: Octets::from_vec(b"a~\\\x7f\n".to_vec(alloc)?),
+    })?;
+    row.push(Entry::Event {
+        text: Octets::from_vec(b"fault 1".to_vec(alloc)?),
+    })?;
+    row.push(Entry::Refused {
+        text: Octets::from_vec(TapeFault::BadLine.name().to_vec(alloc)?),
+    })?;
+    let mut sink = VecSink::new(alloc);
+    assert_eq!(rt; write_entries(alloc, &mut sink, row.as_slice()), Ok(()));
+    assert_eq!(rt;
+        sink.held.as_slice(),
+        b"12 a~\\x5C\\x7F\\x0A\n* fault 1\n! BadLine\n".as_slice()
+    );
+    Ok(())
+}
