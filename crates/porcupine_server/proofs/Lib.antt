@@ -1,0 +1,2 @@
+mod Promises
+mod OneWord

@@ -1,0 +1,5 @@
+pub mod Words
+pub mod Endings
+pub mod Stores
+pub mod Works
+pub mod Kept

@@ -1,0 +1,127 @@
+// The top call.
+ghost use Rattle.std.specs.Prelude.{◌≡◌, ◌≤◌, ◌^◌, [], length, IfSome};
+ghost use Rattle.io_edge.specs.Causes.{Rose};
+ghost use Rattle.drive_tape.specs.Plans.{IsServed};
+ghost use Rattle.porcupine_server.specs.Words.{IsDrive};
+ghost use Rattle.porcupine_server.specs.Stores.{DiskFailed, StoreFailed};
+ghost use Rattle.porcupine_server.specs.Works.{Serves, Works, Follows};
+ghost use Rattle.porcupine_server.specs.Kept.{KeepsStored};
+ghost use Rattle.porcupine_server.specs.declared.ending.Ending.TheVariants as endings;
+
+use crate::ending::{Ending, finish};
+use crate::words::is_drive;
+use cluster_world::{OpenFault, World};
+use drive_tape::{Cluster, LineReader, PlanHead, drive, read_plan};
+use io_edge::{Disk, Sink, Source, Yard, YardRefusal, write_all};
+use std::alloc::Global;
+
+// Opens the store and handles the run lines. The disk comes back in whatever state it is.
+fn serve<S: Source, K: Sink, D: Disk>(
+    alloc: Global,
+    head: PlanHead,
+    reader: LineReader,
+    source: &mut S,
+    sink: &mut K,
+    mut disk: D,
+) -> (Ending, D)
+    requires plan { IsServed head.plan }
+    requires few { head.lines ≤ 2 ^ 40 }
+    requires short { length reader.pending.items ≤ 66047 }
+    ensures serves { Serves (S.left source.old) (S.left source.new) (K.contents sink.old) (K.contents sink.new)
+        reader.pending.items head result.0 (D.seen result.1) }
+    ensures read_later { S.faults source.old ≤ S.faults source.new }
+    ensures write_later { K.faults sink.old ≤ K.faults sink.new }
+    ensures read_fault { result.0 ≡ endings.Read → Rose (S.faults source.old) (S.faults source.new) }
+    ensures write_fault { result.0 ≡ endings.Write → Rose (K.faults sink.old) (K.faults sink.new) }
+    ensures store_fault { result.0 ≡ endings.Store → DiskFailed D.seen D.faults disk result.1 }
+{
+    let Ok(0) = disk.len() else {
+        return (Ending::Store, disk);
+    };
+    let PlanHead { plan, lines } = head;
+    match World::open(alloc, plan, disk) {
+        Err((OpenFault::DiskFault, disk)) => (Ending::Store, disk),
+        Err((OpenFault::NoMemory, disk)) => (Ending::NoMemory, disk),
+        Ok(world) => {
+            let mut cluster = Cluster::new(alloc, world);
+            let mut reader = reader;
+            let drove = drive(alloc, &mut reader, source, sink, &mut cluster, lines);
+            (Ending::of(drove), cluster.close())
+        }
+    }
+}
+
+// The work of `drive`: the plan is read, a store is taken from the yard, served, and given back.
+fn work<S: Source, K: Sink, Y: Yard>(
+    alloc: Global,
+    source: &mut S,
+    sink: &mut K,
+    yard: &mut Y,
+) -> Ending
+    ensures works { Works Y.Store.seen (Y.returned yard.old) (Y.returned yard.new) (S.left source.old) (S.left source.new)
+        (K.contents sink.old) (K.contents sink.new) result }
+    ensures read_later { S.faults source.old ≤ S.faults source.new }
+    ensures write_later { K.faults sink.old ≤ K.faults sink.new }
+    ensures read_fault { result ≡ endings.Read → Rose (S.faults source.old) (S.faults source.new) }
+    ensures write_fault { result ≡ endings.Write → Rose (K.faults sink.old) (K.faults sink.new) }
+    ensures store_fault { result ≡ endings.Store → StoreFailed Y.Store.seen Y.Store.faults (Y.handed yard.old) (Y.handed yard.new)
+        (Y.returned yard.old) (Y.returned yard.new) (Y.faults yard.old) (Y.faults yard.new) }
+{
+    let mut reader = LineReader::new(alloc);
+    let head = match read_plan(alloc, &mut reader, source) {
+        Ok(head) => head,
+        Err(drove) => return Ending::of(drove),
+    };
+    let disk = match yard.store(0, 1, "") {
+        Ok(disk) => disk,
+        Err(YardRefusal::Failed) => return Ending::Store,
+        Err(YardRefusal::NoMemory) => return Ending::NoMemory,
+    };
+    let (ending, disk) = serve(alloc, head, reader, source, sink, disk);
+    yard.give_back(0, 1, disk);
+    ending
+}
+
+/// Does all that the program does, and answers its exit status.
+///
+/// The words are the one word `drive`: a tape is read from the source through its line `end`, node 1 gets the first store of
+/// the yard, which has to be empty, and the transcript goes to the sink. The store is given back in whatever state it is.
+///
+/// | Status | Comes where | Last line written |
+/// |---|---|---|
+/// | 0 | the tape was handled through `end` | none |
+/// | 1 | exactly where the words are not `drive` | `! words` |
+/// | 3 | line N of the tape has the fault NAME | `! line N NAME` |
+/// | 4 | the source failed | `! read` |
+/// | 5 | the sink failed | none |
+/// | 6 | the yard failed, or the store failed as it was opened or is not empty | `! disk 0 1` |
+/// | 7 | memory ran out | none |
+///
+/// What was written before a fault stays. With other words nothing is read and no store is taken; the status is 1 even where
+/// the line cannot be written.
+pub fn porcupine<S: Source, K: Sink, Y: Yard>(
+    alloc: Global,
+    words: &[String],
+    source: &mut S,
+    sink: &mut K,
+    yard: &mut Y,
+) -> u8
+    ensures stored_stands { IsDrive words.now → KeepsStored Y.Store.seen (Y.returned yard.old) (Y.returned yard.new)
+        (S.left source.old) (S.left source.new) (K.contents sink.old) (K.contents sink.new) }
+    ensures transcript_follows { IsDrive words.now → Follows Y.Store.seen (Y.returned yard.old) (Y.returned yard.new)
+        (S.left source.old) (S.left source.new) (K.contents sink.old) (K.contents sink.new) result }
+    ensures words_refused { (IsDrive words.now → ⊥) → (result ≡ 1) × (S.left source.new ≡ S.left source.old) × (Y.handed yard.new ≡ Y.handed yard.old) }
+    ensures words_taken { IsDrive words.now → result ≡ 1 → ⊥ }
+    ensures read_fault { result ≡ 4 → Rose (S.faults source.old) (S.faults source.new) }
+    ensures write_fault { result ≡ 5 → Rose (K.faults sink.old) (K.faults sink.new) }
+    ensures store_fault { result ≡ 6 → StoreFailed Y.Store.seen Y.Store.faults (Y.handed yard.old) (Y.handed yard.new)
+        (Y.returned yard.old) (Y.returned yard.new) (Y.faults yard.old) (Y.faults yard.new) }
+{
+    if !is_drive(words) {
+        // The status tells it all the same where the line cannot be written.
+        let _ = write_all(sink, b"! words\n");
+        return 1;
+    }
+    let ending = work(alloc, source, sink, yard);
+    finish(alloc, sink, ending)
+}
