@@ -1,0 +1,69 @@
+#!/usr/bin/env python3
+"""Runs the built program over tapes of many messages and of large ones, and prints a table.
+
+    ./porcupine drive < examples/first.tape    # builds the program
+    bench/tapes.py
+
+It asserts nothing. Each tape is one session that sends all its messages to one mailbox. The time is that
+of the whole run, the start of the program among it; the memory is the peak resident set of its process.
+"""
+
+import os
+import pathlib
+import tempfile
+import time
+
+ROOT = pathlib.Path(__file__).resolve().parent.parent
+PROGRAM = ROOT / "crates" / "porcupine_server" / "out" / "porcupine_server"
+PLAN = b"nodes 1\ncopies 1 1\nbuckets 1\nuser alice tanstaaf\npostmaster alice\ngo\n"
+COMMANDS = b"say 1 MAIL FROM:<bob@b.example>\nsay 1 RCPT TO:<alice>\nsay 1 DATA\n"
+# One line of a text with its CRLF: 64 octets.
+LINE = b"say 1 " + b"x" * 62 + b"\n"
+CASES = [
+    (1_000, 1_024),
+    (10_000, 1_024),
+    (100_000, 1_024),
+    (1_000, 102_400),
+    (10, 10_485_760),
+]
+
+
+def write_tape(path, messages, octets):
+    """Writes the tape, and says how many lines it has."""
+    text_lines = octets // 64
+    message = COMMANDS + LINE * text_lines + b"say 1 .\n"
+    with open(path, "wb") as tape:
+        tape.write(PLAN + b"open smtp 1\nsay 1 HELO c.example\n")
+        for _ in range(messages):
+            tape.write(message)
+        tape.write(b"say 1 QUIT\nend\n")
+    return 6 + 2 + messages * (4 + text_lines) + 2
+
+
+def run(path):
+    """Runs the program on the tape: its seconds, peak KiB and exit status."""
+    begun = time.perf_counter()
+    child = os.fork()
+    if child == 0:
+        os.dup2(os.open(path, os.O_RDONLY), 0)
+        os.dup2(os.open(os.devnull, os.O_WRONLY), 1)
+        os.execv(PROGRAM, [str(PROGRAM), "drive"])
+    _, status, usage = os.wait4(child, 0)
+    return time.perf_counter() - begun, usage.ru_maxrss, os.waitstatus_to_exitcode(status)
+
+
+def main():
+    print(f"{'messages':>9} {'octets':>11} {'lines':>10} {'seconds':>8} {'lines/s':>10} {'us/message':>11} {'peak MiB':>9} status")
+    for messages, octets in CASES:
+        with tempfile.TemporaryDirectory() as folder:
+            path = os.path.join(folder, "tape")
+            lines = write_tape(path, messages, octets)
+            seconds, peak, status = run(path)
+        print(
+            f"{messages:>9,} {octets:>11,} {lines:>10,} {seconds:>8.2f} {lines / seconds:>10,.0f}"
+            f" {seconds / messages * 1e6:>11.1f} {peak / 1024:>9.1f} {status}"
+        )
+
+
+if __name__ == "__main__":
+    main()
