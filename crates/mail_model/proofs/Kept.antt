@@ -18,7 +18,8 @@ use Rattle.mail_model.specs.Session.Unit.{Line, Text}
 use Rattle.mail_model.specs.Record.{Record}
 use Rattle.mail_model.specs.Told.{Mail, IsUnit, sent, fed_by, told_in, mail_of, asks_text}
 use Rattle.mail_model.specs.Stored.{Ack, stored_sessions, mails_in, opened, opened_at}
-use Rattle.mail_model.specs.Site.{Site, Conversation, TapeFault, session_at, replace, all_over, down_entries, closed_event, refusal, is_quit_line, nth_id, Files, Falls, Replies, HearsText, Hears, Steps, Turns, Runs, all_of, opening}
+use Rattle.mail_model.specs.Book.{BookEntry}
+use Rattle.mail_model.specs.Site.{Site, Made, Conversation, TapeFault, session_at, replace, all_over, down_entries, closed_event, refusal, is_quit_line, nth_id, Files, Falls, Replies, HearsText, Hears, Steps, Turns, Runs, all_of, opening}
 use Rattle.mail_model.specs.Site.Conversation.{On, Over}
 use Rattle.mail_model.specs.Site.TapeFault.{NoSuchNode}
 use Rattle.mail_model.proofs.Octets.{said_whole, period}
@@ -94,14 +95,14 @@ module _ (plan : Plan) (lines : List (List ℕ)) (entries : List Entry) (old : S
   here : Dialogue old.plan (sent k lines) (got k entries) (mails_in k old.acks) (Some (On talk so_far))
   here = restated old.plan _ _ _ _ _ _ _ _ refl refl refl (sym on) (kept.talks k)
 
-  -- a line that changes one session, and perhaps the disk, keeps all, where that session's dialogue goes on and no other is spoken to
-  said : (says : List Entry) (new : Conversation) (drawn : ℕ) (records : List Record) (acks : List Ack)
+  -- a line that changes one session, and perhaps the disk and the book, keeps all, where that session's dialogue goes on and no other is spoken to
+  said : (says : List Entry) (new : Conversation) (drawn : ℕ) (records : List Record) (acks : List Ack) (book : List BookEntry) (made : List Made)
       → Dialogue old.plan (sent k lines ++ sent_line text) (got k entries ++ got k says) (mails_in k acks) (Some new)
       → ((j : ℕ) → j ≢ k → got j says ≡ []) → ((j : ℕ) → j ≢ k → mails_in j acks ≡ mails_in j old.acks)
       → map (λ ack. ack.session) acks ≡ stored_sessions entries ++ stored_sessions says
       → AcksStand 0 drawn (length old.sessions) records acks → AreOurs drawn records
-      → Kept plan (lines ++ line ∷ []) (entries ++ says) (record old { sessions = replace old.sessions k new; drawn = drawn; records = records; acks = acks })
-  said says new drawn records acks heard quiet untold lines_of stand ours = record {
+      → Kept plan (lines ++ line ∷ []) (entries ++ says) (record old { sessions = replace old.sessions k new; drawn = drawn; records = records; acks = acks; book = book; made = made })
+  said says new drawn records acks book made heard quiet untold lines_of stand ours = record {
     planned = kept.planned;
     talks = λ j. ⊎_elim (λ same. subst At (sym same) at_k) (λ other. at_other j other) (cases_eq j k);
     lines_of = lines_of ∙ sym (Lists.stored_both entries says);
@@ -154,7 +155,7 @@ module _ (plan : Plan) (lines : List (List ℕ)) (entries : List Entry) (old : S
       → Dialogue old.plan (sent k lines ++ sent_line text) (got k entries ++ reply ∷ []) (mails_in k old.acks) (Some new)
       → In plan lines entries line (Said k reply ∷ behind) (record old { sessions = replace old.sessions k new })
   plain reply behind new is other quiet d =
-      said (Said k reply ∷ behind) new old.drawn old.records old.acks (replied reply behind new (mails_in k old.acks) is quiet d)
+      said (Said k reply ∷ behind) new old.drawn old.records old.acks old.book old.made (replied reply behind new (mails_in k old.acks) is quiet d)
       (λ j not_k. Lists.got_other k j reply behind not_k quiet) (λ j not_k. refl)
       (kept.lines_of ∙ sym (append-nil (stored_sessions entries)) ∙ ap (λ (l : List ℕ). stored_sessions entries ++ l) (sym (Lists.stored_reply k reply behind other quiet)))
       kept.stand kept.ours
@@ -171,7 +172,7 @@ module _ (plan : Plan) (lines : List (List ℕ)) (entries : List Entry) (old : S
       → new ≡ record old { sessions = replace old.sessions k (On talk (so_far ++ text ∷ [])) } → In plan lines entries line says new
   listens_keep says new mode whole other no_says new_site =
       in_words plan lines entries line [] _ _ _ no_says new_site
-      (said [] (On talk (so_far ++ text ∷ [])) old.drawn old.records old.acks
+      (said [] (On talk (so_far ++ text ∷ [])) old.drawn old.records old.acks old.book old.made
       (restated old.plan _ _ _ _ _ _ _ _ refl (append-nil (got k entries)) refl refl
       (listens old.plan (sent k lines) (got k entries) (mails_in k old.acks) talk so_far text mode whole other here))
       (λ j not_k. refl) (λ j not_k. refl) (kept.lines_of ∙ sym (append-nil (stored_sessions entries))) kept.stand kept.ours)
@@ -191,7 +192,7 @@ module _ (plan : Plan) (lines : List (List ℕ)) (entries : List Entry) (old : S
       let ack : Ack = record { session = k; mail = mail_of talk so_far; id = nth_id (old.drawn + 1); seconds = 0 } in
       let place = Lists.within old.sessions k (On talk so_far) on in
       in_words plan lines entries line _ _ _ _ f.says f.new_site
-      (said (Said k stored_text ∷ []) (On (after_unit old.plan talk (Text so_far) stored_text) []) (old.drawn + 1) _ (old.acks ++ ack ∷ [])
+      (said (Said k stored_text ∷ []) (On (after_unit old.plan talk (Text so_far) stored_text) []) (old.drawn + 1) _ (old.acks ++ ack ∷ []) _ _
       (replied stored_text [] _ _ (record { last = refl; no_farewell = refl }) tt
       (restated old.plan _ _ _ _ _ _ _ _ refl refl (Lists.mails_push old.acks ack) refl (text_answered stored_text mode is refl)))
       (λ j not_k. Lists.got_other k j stored_text [] not_k tt) (λ j not_k. Lists.mails_other j old.acks ack not_k)

@@ -3,8 +3,10 @@ pub mod Replies
 pub mod Dialogue
 pub mod Disk
 pub mod Lists
+pub mod Mailboxes
 pub mod Kept
 pub mod Promise
+pub mod Booked
 pub mod Readings
 pub mod Units
 pub mod Pieces

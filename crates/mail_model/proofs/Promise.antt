@@ -18,7 +18,7 @@ use Rattle.mail_model.specs.Session.{Talk, silent}
 use Rattle.mail_model.specs.Mail.{IsStored}
 use Rattle.mail_model.specs.Told.{Told, Answers, sent, fed_by, told_from}
 use Rattle.mail_model.specs.Stored.{Ack, stored_sessions, mails_in, opened, opened_at, EachStands, StandsForAll, StoredStands}
-use Rattle.mail_model.specs.Site.{Site, HearsText, Hears, Replies, Steps, Turns, LeavesOff, IsEnding, HoldsRecords, RunsKeepStored, all_of, opening, is_quit_line}
+use Rattle.mail_model.specs.Site.{Site, HearsText, Hears, Replies, Steps, Turns, RunsShort, LeavesOff, IsEnding, HoldsRecords, RunsKeepStored, all_of, opening, is_quit_line}
 use Rattle.mail_model.proofs.Dialogue.{answers_more}
 use Rattle.mail_model.proofs.Disk.{AreOurs, AcksStand, AllFiled, AckStands, ours_more, acks_more, says_here, other_ids}
 use Rattle.mail_model.proofs.Lists
@@ -26,11 +26,11 @@ use Rattle.mail_model.proofs.Lists.{AreQuiet}
 use Rattle.mail_model.proofs.Kept.{Kept, at_first, turn_keeps, runs_keep, down_quiet, closing_quiet}
 
 -- what one line writes: nothing, or one entry and quiet ones behind it
-abbrev IsOutput : List Entry → Type 0
+abbrev pub IsOutput : List Entry → Type 0
 IsOutput entries = (entries ≡ []) ⊎ ((first : Entry) × (others : List Entry) × (entries ≡ first ∷ others) × AreQuiet others)
 
 -- how the disk grew
-abbrev Grows : Site → Site → Type 0
+abbrev pub Grows : Site → Site → Type 0
 Grows old new = (more : List Record) × (new.records ≡ old.records ++ more) × (old.drawn ≤ new.drawn)
 
 -- nothing was appended
@@ -58,13 +58,34 @@ hears_turn old k talk so_far text says new h = ⊎_elim
     (cases_Bool talk.in_text)
 
 -- each line
-turn_output : (old : Site) (line : List ℕ) (says : List Entry) (new : Site) → Turns old line says new → IsOutput says × Grows old new
+pub turn_output : (old : Site) (line : List ℕ) (says : List Entry) (new : Site) → Turns old line says new → IsOutput says × Grows old new
 turn_output old line says new t = by_order t.order t.step
   where
     by_order : (order : Order) → Steps old order says new → IsOutput says × Grows old new
     by_order (Open node) step = (inr (_, [], step.0, tt), same_disk old new (ap (λ (s : Site). s.records) step.1) (ap (λ (s : Site). s.drawn) step.1))
     by_order (Say k text) step = hears_turn old k step.0 step.1 text says new step.3
     by_order End step = absurd step
+
+-- where memory ran out, records were appended at most
+short_grows : (old new : Site) → RunsShort old new → Grows old new
+short_grows old new short = (
+  short.added,
+  ap (λ (s : Site). s.records) short.new_site,
+  ⊎_elim
+      (λ one. omega (arith, ap (λ (s : Site). s.drawn) short.new_site, one))
+      (λ none. omega (arith, ap (λ (s : Site). s.drawn) short.new_site, none.0))
+      short.drew,
+)
+
+-- and they were those of a message under the next number
+short_ours : (old new : Site) → RunsShort old new → AreOurs old.drawn old.records → AreOurs new.drawn new.records
+short_ours old new short ours = subst (λ (s : Site). AreOurs s.drawn s.records) (sym short.new_site) (⊎_elim
+    (λ one. subst (λ (n : ℕ). AreOurs n (old.records ++ short.added)) (sym one)
+    (ours_more old.drawn old.records short.added short.missing short.octets short.mail.mailboxes ours short.front))
+    (λ none. subst (λ (n : ℕ). AreOurs n (old.records ++ short.added)) (sym none.0)
+    (subst (λ (l : List Record). AreOurs old.drawn (old.records ++ l)) (sym none.1)
+    (subst (AreOurs old.drawn) (sym (append-nil old.records)) ours)))
+    short.drew)
 
 -- as much is heard
 pub record IsHeardAs (entries more : List Entry) : Type 0 where
@@ -79,7 +100,7 @@ first_heard first others q = record {
 }
 
 -- a front of what a line writes is nothing, or is heard as all of it
-front_heard : (says front missing : List Entry) → IsOutput says → says ≡ front ++ missing → (front ≡ []) ⊎ IsHeardAs front says
+pub front_heard : (says front missing : List Entry) → IsOutput says → says ≡ front ++ missing → (front ≡ []) ⊎ IsHeardAs front says
 front_heard says [] missing output cut = inl refl
 front_heard says (first ∷ front) missing output cut = inr (⊎_elim
     (λ none. absurd (clash none))
@@ -100,14 +121,14 @@ front_heard says (first ∷ front) missing output cut = inr (⊎_elim
         }
 
 -- behind the same entries
-both_heard : (entries more less : List Entry) → IsHeardAs less more → IsHeardAs (entries ++ less) (entries ++ more)
+pub both_heard : (entries more less : List Entry) → IsHeardAs less more → IsHeardAs (entries ++ less) (entries ++ more)
 both_heard entries more less h = record {
   got_same = λ k. Lists.got_both k entries less ∙ ap (λ (l : List (List ℕ)). got k entries ++ l) (h.got_same k) ∙ sym (Lists.got_both k entries more);
   stored_same = Lists.stored_both entries less ∙ ap (λ (l : List ℕ). stored_sessions entries ++ l) h.stored_same ∙ sym (Lists.stored_both entries more);
 }
 
 -- why the program ended is quiet
-ending_quiet : (ending : List Entry) → IsEnding ending → AreQuiet ending
+pub ending_quiet : (ending : List Entry) → IsEnding ending → AreQuiet ending
 ending_quiet [] e = tt
 ending_quiet (Refused text ∷ []) e = tt
 ending_quiet (Refused text ∷ entry ∷ entries) e = absurd e
@@ -150,6 +171,22 @@ module _ (plan : Plan) (one : plan.nodes ≡ 1) (sure : plan.confirm ≡ 1) (dra
         each_stands lines entries ack.id.seq acks at a.1,
       )
 
+-- the answers are those that were heard, whatever lines and quiet entries follow
+pub told_still : (plan : Plan) (lines others : List (List ℕ)) (entries heard : List Entry) (site : Site) → Kept plan lines entries site → IsHeardAs heard entries
+    → (k : ℕ) → Told plan k (lines ++ others) heard (mails_in k site.acks)
+told_still plan lines others entries heard site kept same k =
+    let d = kept.talks k in
+    record {
+      pairs = d.pairs;
+      in_text = d.in_text;
+      rest = d.rest ++ sent k others;
+      units = subst (λ (octets : List ℕ). Answers false octets d.pairs d.in_text (d.rest ++ sent k others))
+          (sym (flat_map-append (λ (l : List ℕ). fed_by k (tape_order l)) lines others))
+          (answers_more false (sent k lines) (sent k others) d.pairs d.in_text d.rest d.units);
+      replies = d.heard ∙ ap (drop 1) (sym (same.got_same k));
+      are = d.told ∙ ap (λ (p : Plan). told_from p silent d.pairs) kept.planned;
+    }
+
 -- what is kept stands, whatever lines and quiet entries follow, and however the disk grew
 stands : (plan : Plan) (lines others : List (List ℕ)) (entries heard : List Entry) (site : Site) (drawn : ℕ) (records : List Record) (store : Option (List ℕ))
     → plan.nodes ≡ 1 → plan.confirm ≡ 1 → Kept plan lines entries site → IsHeardAs heard entries
@@ -158,33 +195,19 @@ stands : (plan : Plan) (lines others : List (List ℕ)) (entries heard : List En
 stands plan lines others entries heard site drawn records store one sure kept same ours stand held = record {
   acks = site.acks;
   lines_of = kept.lines_of ∙ sym same.stored_same;
-  told = told;
+  told = told_still plan lines others entries heard site kept same;
   other_ids = other_ids 0 drawn (length site.sessions) records site.acks stand;
   stands = each_stands plan one sure drawn (length site.sessions) records ours store held (lines ++ others) heard 0 site.acks
       (λ session above below. ap (λ (l : List ℕ). slice_get l (session - 1)) (flat_map-append (λ (l : List ℕ). opened_at (tape_order l)) lines others)
       ∙ node_of session (length site.sessions) (opened lines) (opened others) kept.nodes above below) stand;
 }
-  where
-    told : (k : ℕ) → Told plan k (lines ++ others) heard (mails_in k site.acks)
-    told k =
-        let d = kept.talks k in
-        record {
-          pairs = d.pairs;
-          in_text = d.in_text;
-          rest = d.rest ++ sent k others;
-          units = subst (λ (octets : List ℕ). Answers false octets d.pairs d.in_text (d.rest ++ sent k others))
-              (sym (flat_map-append (λ (l : List ℕ). fed_by k (tape_order l)) lines others))
-              (answers_more false (sent k lines) (sent k others) d.pairs d.in_text d.rest d.units);
-          replies = d.heard ∙ ap (drop 1) (sym (same.got_same k));
-          are = d.told ∙ ap (λ (p : Plan). told_from p silent d.pairs) kept.planned;
-        }
 
 -- one after the other
-heard_then : (a b c : List Entry) → IsHeardAs a b → IsHeardAs b c → IsHeardAs a c
+pub heard_then : (a b c : List Entry) → IsHeardAs a b → IsHeardAs b c → IsHeardAs a c
 heard_then a b c p q = record { got_same = λ k. p.got_same k ∙ q.got_same k; stored_same = p.stored_same ∙ q.stored_same }
 
 -- quiet entries are not heard
-quiet_heard : (entries more : List Entry) → AreQuiet more → IsHeardAs (entries ++ more) entries
+pub quiet_heard : (entries more : List Entry) → AreQuiet more → IsHeardAs (entries ++ more) entries
 quiet_heard entries more q = record {
   got_same = λ k. Lists.got_both k entries more ∙ ap (λ (l : List (List ℕ)). got k entries ++ l) (Lists.got_quiet k more q) ∙ append-nil (got k entries);
   stored_same = Lists.stored_both entries more ∙ ap (λ (l : List ℕ). stored_sessions entries ++ l) (Lists.stored_quiet more q) ∙ append-nil (stored_sessions entries);
@@ -226,8 +249,7 @@ module _ (plan : Plan) (lines others : List (List ℕ)) (entries : List Entry) (
       (subst (λ (s : Site). AreOurs s.drawn s.records) (sym still.1) kept.ours))
       (λ went. ⊎_elim
       (λ step. stepped step.0 step.1 step.2 step.3 (All-head HasNoLf step.0 step.1 (subst (All HasNoLf) step.4 whole)) step.4 step.5 step.6)
-      (λ short. unsaid short.4 (short.2, ap (λ (s : Site). s.records) short.6, omega (arith, ap (λ (s : Site). s.drawn) short.6))
-      (subst (λ (s : Site). AreOurs s.drawn s.records) (sym short.6) (ours_more mid.drawn mid.records short.2 short.3 short.0 short.1 kept.ours short.5)))
+      (λ short. unsaid short.0 (short_grows mid last short.1) (short_ours mid last short.1 kept.ours))
       went) off
 
 -- whatever run lines come and however the work leaves off

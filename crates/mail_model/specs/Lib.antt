@@ -6,11 +6,13 @@ pub mod Plan
 pub mod Tape
 pub mod Transcript
 pub mod Smtp
+pub mod Pop
 pub mod Session
 pub mod Told
 pub mod Mail
 pub mod Record
 pub mod Stored
+pub mod Book
 pub mod Site
 pub mod Laws
 pub mod Plain

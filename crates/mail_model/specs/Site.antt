@@ -12,12 +12,14 @@ use Rattle.mail_model.specs.Transcript.Entry.{Said, Event, Refused}
 use Rattle.mail_model.specs.Smtp.{command_of, greeting_text, down_text, stored_text}
 use Rattle.mail_model.specs.Session.{Talk, silent, reply_text, after_unit, is_period, is_quit, is_long_line, is_large}
 use Rattle.mail_model.specs.Session.Unit.{Line, Text}
-use Rattle.mail_model.specs.Told.{mail_of}
+use Rattle.mail_model.specs.Told.{Mail, mail_of}
 use Rattle.mail_model.specs.Mail.{IsStored}
 use Rattle.mail_model.specs.Lines.{HasNoLf}
 use Rattle.mail_model.specs.Record.{Record, IsJournal, payloads_of}
 use Rattle.mail_model.specs.Record.Record.{Boot, Octets, Stated}
 use Rattle.mail_model.specs.Stored.{Ack, StoredStands}
+use Rattle.mail_model.specs.Book.{BookEntry, copies_acked, AcknowledgedAsTold}
+use Rattle.mail_model.specs.Book.BookEntry.{Acknowledged, WentDown}
 
 -- A session that stands, with the lines so far of the text that it is in; or one that has ended.
 pub data Conversation : Type 0 where
@@ -34,7 +36,12 @@ abbrev pub count_on : List Conversation → ℕ
 count_on [] = 0
 count_on (conversation ∷ conversations) = (if is_on conversation then 1 else 0) + count_on conversations
 
--- A plan of one node, that node's state and disk, all sessions in order of `open`, and what was answered `250 stored`.
+-- A step that a line of the tape leads to: a message begins to be delivered at node 1, or its ticket of this number is asked.
+pub data Made : Type 0 where
+  Begins : (mail : Mail) → Made
+  Asks : (number : ℕ) → Made
+
+-- A plan of one node, that node's state and disk, all sessions in order of `open`, what was answered `250 stored`, the book, and the steps that were made.
 pub record Site : Type 0 where
   pub plan : Plan
   pub up : Bool
@@ -43,6 +50,8 @@ pub record Site : Type 0 where
   pub drawn : ℕ
   pub records : List Record
   pub acks : List Ack
+  pub book : List BookEntry
+  pub made : List Made
 
 -- Why a tape line is refused.
 pub data TapeFault : Type 0 where
@@ -117,7 +126,11 @@ nth_id n = record { node = 1; boot = 1; seq = n }
 abbrev pub nth_stamp : ℕ → Stamp
 nth_stamp n = record { count = n; boot = 1; node = 1 }
 
--- the message is on the disk, and the client is told so
+-- the entries of the book for the n-th message: one for each mailbox, confirmed by node 1
+abbrev pub nth_entries : ℕ → List ℕ → List (List ℕ) → List BookEntry
+nth_entries n octets mailboxes = map Acknowledged (copies_acked (nth_id n) 0 octets 1 mailboxes)
+
+-- the message is on the disk and in the book, and the client is told so
 pub record Files (old : Site) (k : ℕ) (talk : Talk) (lines : List (List ℕ)) (entries : List Entry) (new : Site) : Type 0 where
   pub octets : List ℕ
   pub stored : IsStored (mail_of talk lines) (nth_id (old.drawn + 1)) 0 octets
@@ -127,6 +140,8 @@ pub record Files (old : Site) (k : ℕ) (talk : Talk) (lines : List (List ℕ)) 
     drawn = old.drawn + 1;
     records = old.records ++ message_records (nth_id (old.drawn + 1)) (nth_stamp (old.drawn + 1)) octets (mail_of talk lines).mailboxes;
     acks = old.acks ++ record { session = k; mail = mail_of talk lines; id = nth_id (old.drawn + 1); seconds = 0 } ∷ [];
+    book = old.book ++ nth_entries (old.drawn + 1) octets (mail_of talk lines).mailboxes;
+    made = old.made ++ Begins (mail_of talk lines) ∷ Asks (old.drawn + 1) ∷ [];
   }
 
 -- the disk failed: some of the message's records may be there, the node is down, and all sessions end
@@ -136,7 +151,14 @@ pub record Falls (old : Site) (k : ℕ) (talk : Talk) (lines : List (List ℕ)) 
   pub missing : List Record
   pub front : message_records (nth_id (old.drawn + 1)) (nth_stamp (old.drawn + 1)) octets (mail_of talk lines).mailboxes ≡ added ++ missing
   pub says : entries ≡ Event (codes "fault 1") ∷ down_entries 1 old.sessions
-  pub new_site : new ≡ record old { up = false; sessions = all_over old.sessions; drawn = old.drawn + 1; records = old.records ++ added }
+  pub new_site : new ≡ record old {
+    up = false;
+    sessions = all_over old.sessions;
+    drawn = old.drawn + 1;
+    records = old.records ++ added;
+    book = old.book ++ WentDown 1 ∷ [];
+    made = old.made ++ Begins (mail_of talk lines) ∷ [];
+  }
 
 -- whether the line is QUIT
 abbrev pub is_quit_line : List ℕ → Bool
@@ -184,18 +206,37 @@ Runs old (line ∷ lines) [] new = ⊥
 
 -- where a tape begins: the journal of node 1 with the record of its first boot, and no session
 abbrev pub opening : Plan → Site
-opening plan = record { plan = plan; up = true; sessions = []; drawn = 0; records = Boot 1 ∷ []; acks = [] }
+opening plan = record { plan = plan; up = true; sessions = []; drawn = 0; records = Boot 1 ∷ []; acks = []; book = []; made = [] }
+
+-- Memory ran out in a step that delivers a message, or behind the one that put it on the disk: some of its records are there, and the node may be down.
+-- No line is handled afterwards, so whether it is up is not said.
+pub record RunsShort (old new : Site) : Type 0 where
+  pub mail : Mail
+  pub octets : List ℕ
+  pub added : List Record
+  pub missing : List Record
+  pub front : message_records (nth_id (old.drawn + 1)) (nth_stamp (old.drawn + 1)) octets mail.mailboxes ≡ added ++ missing
+  pub drawn : ℕ
+  pub downs : List BookEntry
+  pub asks : List Made
+  pub drew : (drawn ≡ old.drawn + 1) ⊎ ((drawn ≡ old.drawn) × (added ≡ []))
+  pub went : (downs ≡ []) ⊎ (downs ≡ WentDown 1 ∷ [])
+  pub asked : (asks ≡ []) ⊎ (asks ≡ Asks (old.drawn + 1) ∷ [])
+  pub new_site : new ≡ record old {
+    drawn = drawn;
+    records = old.records ++ added;
+    book = old.book ++ downs;
+    made = old.made ++ Begins mail ∷ asks;
+  }
 
 -- How the work may leave off behind the lines that were handled: nothing more was done; or the next line's step was made
--- and a front of what it writes was written; or memory ran out while a message's records were appended.
+-- and a front of what it writes was written; or memory ran out while a message was delivered.
 abbrev pub LeavesOff : Site → List (List ℕ) → List Entry → Site → Type 0
 LeavesOff mid others front last =
     ((front ≡ []) × (last ≡ mid))
     ⊎ ((line : List ℕ) × (more : List (List ℕ)) × (entries : List Entry) × (missing : List Entry)
     × (others ≡ line ∷ more) × Turns mid line entries last × (entries ≡ front ++ missing))
-    ⊎ ((octets : List ℕ) × (mailboxes : List (List ℕ)) × (added : List Record) × (missing : List Record)
-    × (front ≡ []) × (message_records (nth_id (mid.drawn + 1)) (nth_stamp (mid.drawn + 1)) octets mailboxes ≡ added ++ missing)
-    × (last ≡ record mid { drawn = mid.drawn + 1; records = mid.records ++ added }))
+    ⊎ ((front ≡ []) × RunsShort mid last)
 
 -- at most one line that says why the program ended
 abbrev pub IsEnding : List Entry → Type 0
@@ -220,3 +261,14 @@ RunsKeepStored = (plan : Plan) (lines others : List (List ℕ)) (outputs : List 
     → Runs (opening plan) lines outputs mid → LeavesOff mid others front last → IsEnding ending
     → IfSome store (HoldsRecords last.records)
     → StoredStands plan (lines ++ others) (all_of outputs ++ front ++ ending) (store ∷ [])
+
+-- one answer whose line was not written, or none
+abbrev pub AtMostOne : List Ack → Type 0
+AtMostOne acks = (acks ≡ []) ⊎ ((ack : Ack) × (acks ≡ ack ∷ []))
+
+-- whatever run lines come and however the work leaves off, the book is as the clients were told, but for one message at most whose line was not written
+abbrev pub RunsKeepBook : Type 0
+RunsKeepBook = (plan : Plan) (lines others : List (List ℕ)) (outputs : List (List Entry)) (mid last : Site) (front ending : List Entry)
+    → plan.nodes ≡ 1 → All HasNoLf lines → All HasNoLf others
+    → Runs (opening plan) lines outputs mid → LeavesOff mid others front last → IsEnding ending
+    → (unwritten : List Ack) × AtMostOne unwritten × (last ≡ mid → unwritten ≡ []) × AcknowledgedAsTold plan (lines ++ others) (all_of outputs ++ front ++ ending) last.book unwritten

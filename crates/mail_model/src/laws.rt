@@ -1,10 +1,15 @@
 // Laws over the definitions.
-ghost use Rattle.mail_model.specs.Site.{RunsKeepStored};
+ghost use Rattle.mail_model.specs.Site.{RunsKeepStored, RunsKeepBook};
 ghost use Rattle.mail_model.specs.Laws.{OneTranscript, OneJournal, OneTold, EntriesAreLines};
 
 /// Whatever run lines come, each message that was answered 250 stands.
 pub fn runs_keep_stored()
     ensures { RunsKeepStored }
+{}
+
+/// Whatever run lines come, the book has the messages that were answered 250, as they were told.
+pub fn runs_keep_book()
+    ensures { RunsKeepBook }
 {}
 
 /// A transcript has one reading: its octets tell its lines, and what follows the last of them.

@@ -17,12 +17,14 @@
 //! - `Tape`: the plan lines of a tape up to `go`, and its run lines up to `end`.
 //! - `Transcript`: the entries that are written, their lines, and the replies that a session got.
 //! - `Smtp`: what each command line means (RFC 5321, section 4.1), and the texts of replies.
+//! - `Pop`: what each command line of POP3 means (RFC 1939, section 3); no session speaks it yet.
 //! - `Session`: the reply to each unit, and what a session has been told (RFC 5321, sections 3.3 and
 //!   4.1.4).
 //! - `Told`: the messages that a client was told to be stored, by what it sent and what it got.
 //! - `Mail`: the octets of a message as it is stored: trace lines (RFC 5321, section 4.4) and text.
 //! - `Record`: the records of a node's disk, how a journal spells them, and what they say.
 //! - `Stored`: the first promise, that a message that was answered 250 stands.
+//! - `Book`: the book of a cluster, and that it is as the clients were told.
 //! - `Site`: a cluster of one node, line by line: what is refused, written and kept.
 //! - `Laws`: what the definitions say of octets that are written and read back.
 //! - `Plain`: what the plain functions take, as the definitions see it.
@@ -31,6 +33,8 @@
 //!
 //! - `runs_keep_stored`: whatever run lines come, the first promise holds of what was read, written
 //!   and kept.
+//! - `runs_keep_book`: whatever run lines come, the book has the messages that were answered 250, and
+//!   no others but for one at most whose line was not written.
 //! - `one_transcript`: the octets of a transcript tell its lines.
 //! - `one_journal`: the octets of a journal tell its payloads.
 //! - `one_told`: what a client sent and the replies that it got tell its messages.
@@ -49,7 +53,7 @@
 //!
 //! STANDS ON
 //!
-//! `httpdate`, for the date of a moment.
+//! `httpdate`, for the date of a moment, and `sha2`, for the digest of a message.
 //!
 //! WHAT IT DOES NOT DO
 //!
@@ -63,4 +67,6 @@ pub mod plain;
 #[cfg(test)]
 mod tests;
 
-pub use laws::{entries_are_lines, one_journal, one_told, one_transcript, runs_keep_stored};
+pub use laws::{
+    entries_are_lines, one_journal, one_told, one_transcript, runs_keep_book, runs_keep_stored,
+};
