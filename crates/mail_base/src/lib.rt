@@ -1,9 +1,9 @@
 //! mail_base: the words of the mail service as Rust types.
 //!
 //! Octets, names of mailboxes, secrets, numbers of nodes and sets of them, ids of messages, stamps,
-//! the users and the plan of a cluster. Contracts see each as the plain record, list, number or map of
-//! `mail_model`, so that callers reason about those and never about fields. What allocates takes the
-//! allocator and answers want of memory, with nothing changed.
+//! tickets of calls, the users and the plan of a cluster. Contracts see each as the plain record, list,
+//! number or map of `mail_model`, so that callers reason about those and never about fields. What
+//! allocates takes the allocator and answers want of memory, with nothing changed.
 //!
 //! It refuses octets that are no name or no secret, numbers that are no node, and ids whose boot or
 //! number is 0. It knows nothing of sessions, disks or sockets.
@@ -22,6 +22,7 @@ mod secret;
 mod stamp;
 #[cfg(test)]
 mod tests;
+mod ticket;
 mod users;
 
 pub use bucket::bucket_of;
@@ -35,4 +36,5 @@ pub use octets::Octets;
 pub use plan::Plan;
 pub use secret::Secret;
 pub use stamp::Stamp;
+pub use ticket::Ticket;
 pub use users::Users;

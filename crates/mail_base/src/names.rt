@@ -64,6 +64,13 @@ impl Names {
         self.held.iter().any(|other| *other == *name)
     }
 
+    /// The vector of these names. It takes no memory.
+    pub fn into_vec(self) -> Vec<Name>
+        ensures { result.items ≡ self }
+    {
+        self.held
+    }
+
     /// These names as a slice.
     pub fn as_slice(&self) -> &[Name]
         ensures { result.now ≡ self.now }
