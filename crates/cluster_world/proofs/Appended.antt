@@ -1,6 +1,7 @@
 -- Records that are appended one after another.
-use Rattle.std.proofs.Common.{◌≡◌, ⊎_elim, ℕ, ◌+◌, ◌<◌, ◌≤◌, List, [], ◌∷◌, ◌++◌, length, Option, Some, None, IfSome, IsErrOf, get_or, take, drop, Result, Ok, Err, refl, sym, ap, subst, ◌∙◌, arith, append_assoc}
+use Rattle.std.proofs.Common.{◌≡◌, ⊎_elim, ℕ, ◌+◌, ◌<◌, ◌≤◌, List, [], ◌∷◌, ◌++◌, length, Option, Some, None, IfSome, IsErrOf, get_or, take, drop, Err, refl, sym, ap, subst, ◌∙◌, arith, append_assoc}
 use Rattle.std.proofs.lemmas.List.{map-append, append-nil, take_more, take-append-drop}
+use Rattle.sha2.specs.Sha256.{sha256}
 use Rattle.io_edge.specs.Causes.{Rose}
 use Rattle.mail_model.specs.Identity.{Id, Stamp}
 use Rattle.mail_model.specs.Told.{Mail}
@@ -9,9 +10,10 @@ use Rattle.mail_model.specs.Record.Record.{Octets}
 use Rattle.mail_model.specs.Record.{Record, IsJournal, payload_of, payloads_of}
 use Rattle.mail_model.specs.Site.{HoldsRecords, copies_of, nth_id}
 use Rattle.cluster_world.specs.Journal.{Stands, HasGate, HoldsEither}
-use Rattle.cluster_world.specs.Appends.{RecordsStand, HoldsFront, AppendsAll, Stops, Wrote, IsHead, IsUntouched, WroteMail}
-use Rattle.cluster_world.specs.declared.world.DeliverFault.{DeliverFault}
-use Rattle.cluster_world.specs.declared.world.DeliverFault.TheVariants.{Disk, NoMemory}
+use Rattle.cluster_world.specs.Appends.{RecordsStand, HoldsFront, AppendsAll, AppendsMail, Stops, Wrote, IsHead, IsUntouched, WroteMail}
+use Rattle.cluster_world.specs.declared.append.Measure.{Measure}
+use Rattle.cluster_world.specs.declared.append.DeliverFault.{DeliverFault}
+use Rattle.cluster_world.specs.declared.append.DeliverFault.TheVariants.{Disk, NoMemory}
 
 one_payload : (records : List Record) (entry : Record) (payload : List ℕ) → payload ≡ payload_of entry → payloads_of records ++ payload ∷ [] ≡ payloads_of (records ++ entry ∷ [])
 one_payload records entry payload spelt = ap (λ (l : List ℕ). payloads_of records ++ l ∷ []) spelt ∙ sym (map-append payload_of records (entry ∷ []))
@@ -144,19 +146,40 @@ copy_failed old mid new end end' end'' before between now id stamp users i user 
 copy_failed old mid new end end' end'' before between now id stamp users i user NoMemory within is front wrote =
     (stops_in_copies old mid new end end' before between id stamp users i user within is front wrote.0, omega (arith, front.later, wrote.1))
 
--- the message's octets were appended, or were not
-pub mail_wrote : (r : Result (Unit {0}) DeliverFault) (old new : Option (List ℕ)) (end end' before now : ℕ) (mail : Mail) (seq : ℕ) (head : List ℕ) → IsHead mail seq head
-    → ((entry : Record) → head ++ mail.text ≡ payload_of entry → Wrote r old new end end' before now (entry ∷ []))
-    → (IsErrOf r NoMemory → IsUntouched old new end end' before now)
-    → WroteMail r old new end end' before now mail seq
-mail_wrote (Ok _) old new end end' before now mail seq head h wrote untouched =
-    let octets = trace_lines mail (nth_id seq) h.date ++ mail.text in
-    record { octets = octets; stored = record { date = h.date; dated = h.dated; whole = refl }; appends = wrote (Octets (nth_id seq) octets) (ap (λ (l : List ℕ). l ++ mail.text) h.whole) }
-mail_wrote (Err Disk) old new end end' before now mail seq head h wrote untouched =
+-- behind its kind and its id, a head has the trace lines
+lines_behind : (seq : ℕ) (lines : List ℕ) → drop 14 (payload_of (Octets (nth_id seq) lines)) ≡ lines
+lines_behind seq lines = refl
+
+-- a head has its kind and its id
+pub has_id : (mail : Mail) (seq : ℕ) (head : List ℕ) → IsHead mail seq head → 14 ≤ length head
+has_id mail seq head h = omega (arith, ap length h.whole)
+
+-- the message's octets were appended, and measured
+pub mail_appended : (old new : Option (List ℕ)) (end end' before now : ℕ) (mail : Mail) (seq : ℕ) (head : List ℕ) (measure : Measure) → IsHead mail seq head
+    → measure.length ≡ length (drop 14 head ++ mail.text) → measure.digest ≡ sha256 (drop 14 head ++ mail.text)
+    → ((entry : Record) → head ++ mail.text ≡ payload_of entry → AppendsAll old new end end' before now (entry ∷ []))
+    → AppendsMail old new end end' before now mail seq measure
+mail_appended old new end end' before now mail seq head measure h size digest appends =
+    let lines = trace_lines mail (nth_id seq) h.date in
+    let are : drop 14 head ≡ lines = ap (λ (l : List ℕ). drop 14 l) h.whole ∙ lines_behind seq lines in
+    record {
+      octets = lines ++ mail.text;
+      stored = record { date = h.date; dated = h.dated; whole = refl };
+      size = size ∙ ap (λ (l : List ℕ). length (l ++ mail.text)) are;
+      digest = digest ∙ ap (λ (l : List ℕ). sha256 (l ++ mail.text)) are;
+      appends = appends (Octets (nth_id seq) (lines ++ mail.text)) (ap (λ (l : List ℕ). l ++ mail.text) h.whole);
+    }
+
+-- the message's octets were not appended
+pub mail_failed : (fault : DeliverFault) (old new : Option (List ℕ)) (end end' before now : ℕ) (mail : Mail) (seq : ℕ) (head : List ℕ) → IsHead mail seq head
+    → ((entry : Record) → head ++ mail.text ≡ payload_of entry → Wrote (Err fault) old new end end' before now (entry ∷ []))
+    → (IsErrOf {T = Unit {0}} {E = DeliverFault} (Err fault) NoMemory → IsUntouched old new end end' before now)
+    → WroteMail (Err fault) old new end end' before now mail seq
+mail_failed Disk old new end end' before now mail seq head h wrote untouched =
     let octets = trace_lines mail (nth_id seq) h.date ++ mail.text in
     let failed = wrote (Octets (nth_id seq) octets) (ap (λ (l : List ℕ). l ++ mail.text) h.whole) in
     ((octets, failed.0), failed.1, failed.2)
-mail_wrote (Err NoMemory) old new end end' before now mail seq head h wrote untouched = untouched refl
+mail_failed NoMemory old new end end' before now mail seq head h wrote untouched = untouched refl
 
 -- the state of one user more was appended
 pub copy_appended : (old mid new : Option (List ℕ)) (end end' end'' before between now : ℕ) (id : Id) (stamp : Stamp) (users : List (List ℕ)) (i : ℕ) (user : List ℕ)

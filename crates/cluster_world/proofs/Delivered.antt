@@ -1,19 +1,19 @@
 -- What a delivery leaves of a world.
-use Rattle.std.proofs.Common.{◌≡◌, ℕ, ◌+◌, ◌≤◌, List, [], ◌∷◌, Option, Err, IsFalse, IsTrue, true, false, sym, ◌∙◌, arith}
+use Rattle.std.proofs.Common.{◌≡◌, inr, ℕ, ◌+◌, ◌≤◌, List, [], ◌∷◌, Option, Err, IsFalse, IsTrue, arith}
 use Rattle.mail_model.specs.Told.{Mail}
 use Rattle.mail_model.specs.Record.Record.{Octets}
-use Rattle.mail_model.specs.Identity.{Id}
 use Rattle.mail_model.specs.Site.{copies_of, message_records, nth_id, nth_stamp}
 use Rattle.cluster_world.specs.Appends.{AppendsAll, AppendsMail, Stops, Wrote}
 use Rattle.cluster_world.specs.World.{Falls, Files, Delivers, is_up, drawn_of, disk_of, gate_of}
 use Rattle.cluster_world.specs.declared.world.World.{World}
-use Rattle.cluster_world.specs.declared.world.DeliverFault.{DeliverFault}
-use Rattle.cluster_world.specs.declared.world.DeliverFault.TheVariants.{Disk, NoMemory}
+use Rattle.cluster_world.specs.declared.append.Measure.{Measure}
+use Rattle.cluster_world.specs.declared.append.DeliverFault.{DeliverFault}
+use Rattle.cluster_world.specs.declared.append.DeliverFault.TheVariants.{Disk, NoMemory}
 use Rattle.cluster_world.proofs.Appended.{appends_more, stops_more, stops_before, rose_later}
 
 module _ {D : Type 0} (seen : D → Option (List ℕ)) (faults : D → ℕ) (mail : Mail) (old new : World D) where
   -- a front of the message's records follows those that stood
-  pub falls : (octets : List ℕ) → Stops (seen (disk_of old)) (seen (disk_of new)) (gate_of old) (message_records (nth_id (drawn_of old + 1)) (nth_stamp (drawn_of old + 1)) octets mail.mailboxes)
+  falls : (octets : List ℕ) → Stops (seen (disk_of old)) (seen (disk_of new)) (gate_of old) (message_records (nth_id (drawn_of old + 1)) (nth_stamp (drawn_of old + 1)) octets mail.mailboxes)
       → Falls seen mail old new
   falls octets stops = record { holds = λ records stands. record { octets = octets; front = stops.holds records stands } }
 
@@ -22,20 +22,42 @@ module _ {D : Type 0} (seen : D → Option (List ℕ)) (faults : D → ℕ) (mai
   octets_failed octets stops = falls octets (stops_before _ _ _ _ (copies_of (nth_id (drawn_of old + 1)) (nth_stamp (drawn_of old + 1)) mail.mailboxes) stops)
 
   -- the octets were appended, and all states
-  pub files : (id : Id) (mid : Option (List ℕ)) (end between : ℕ) → id ≡ nth_id (drawn_of old + 1) → IsTrue (is_up new)
-      → AppendsMail (seen (disk_of old)) mid (gate_of old) end (faults (disk_of old)) between mail (drawn_of old + 1)
+  pub files : (measure : Measure) (mid : Option (List ℕ)) (end between : ℕ) → drawn_of new ≡ drawn_of old + 1 → IsTrue (is_up new)
+      → AppendsMail (seen (disk_of old)) mid (gate_of old) end (faults (disk_of old)) between mail (drawn_of old + 1) measure
       → AppendsAll mid (seen (disk_of new)) end (gate_of new) between (faults (disk_of new)) (copies_of (nth_id (drawn_of old + 1)) (nth_stamp (drawn_of old + 1)) mail.mailboxes)
-      → Files seen mail id old new × (faults (disk_of old) ≤ faults (disk_of new))
-  files id mid end between id_is up first second =
-      let all = appends_more _ _ _ _ _ _ _ _ _ _ _ first.appends second in
-      (record { id_is = id_is; up = up; gate = second.gate; octets = first.octets; stored = first.stored; holds = all.stand }, all.later)
+      → Files seen mail measure old new × (faults (disk_of old) ≤ faults (disk_of new))
+  files measure mid end between drawn up first second =
+      let all = appends_more _ _ _ _ _ _ _ _ _ _ _ first.appends second in (
+        record {
+          drawn = drawn;
+          up = up;
+          gate = second.gate;
+          octets = first.octets;
+          stored = first.stored;
+          size = first.size;
+          digest = first.digest;
+          holds = all.stand;
+        },
+        all.later,
+      )
 
   -- the octets were appended, and not all states
-  pub copies_failed : (fault : DeliverFault) (mid : Option (List ℕ)) (end between : ℕ) → IsFalse (is_up new)
-      → AppendsMail (seen (disk_of old)) mid (gate_of old) end (faults (disk_of old)) between mail (drawn_of old + 1)
+  pub copies_failed : (fault : DeliverFault) (measure : Measure) (mid : Option (List ℕ)) (end between : ℕ) → drawn_of new ≡ drawn_of old + 1 → IsFalse (is_up new)
+      → AppendsMail (seen (disk_of old)) mid (gate_of old) end (faults (disk_of old)) between mail (drawn_of old + 1) measure
       → Wrote (Err fault) mid (seen (disk_of new)) end (gate_of new) between (faults (disk_of new)) (copies_of (nth_id (drawn_of old + 1)) (nth_stamp (drawn_of old + 1)) mail.mailboxes)
       → Delivers seen faults (Err fault) mail old new
-  copies_failed Disk mid end between down first second =
-      (falls first.octets (stops_more _ _ _ _ _ _ _ _ _ first.appends second.0), down, omega (arith, first.appends.later, second.1), rose_later _ _ _ first.appends.later second.2)
-  copies_failed NoMemory mid end between down first second =
-      (falls first.octets (stops_more _ _ _ _ _ _ _ _ _ first.appends second.0), omega (arith, first.appends.later, second.1), λ (up : IsTrue (is_up new)). absurd (let never : false ≡ true = sym down ∙ up in cc))
+  copies_failed Disk measure mid end between drawn down first second = (
+    record {
+      falls = falls first.octets (stops_more _ _ _ _ _ _ _ _ _ first.appends second.0);
+      down = down;
+      drawn = drawn;
+      later = omega (arith, first.appends.later, second.1);
+    },
+    rose_later _ _ _ first.appends.later second.2,
+  )
+  copies_failed NoMemory measure mid end between drawn down first second = inr (record {
+    falls = falls first.octets (stops_more _ _ _ _ _ _ _ _ _ first.appends second.0);
+    down = down;
+    drawn = drawn;
+    later = omega (arith, first.appends.later, second.1);
+  })

@@ -1,5 +1,8 @@
 pub mod Appended
+pub mod Asked
 pub mod Delivered
+pub mod Down
 pub mod Gates
 pub mod Heads
 pub mod Pieces
+mod Completes

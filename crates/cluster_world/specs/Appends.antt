@@ -1,5 +1,6 @@
 -- Records that are appended to the journal of node 1, one after another.
-use Rattle.std.specs.Prelude.{◌≡◌, ℕ, ◌≤◌, List, [], ◌∷◌, ◌++◌, Option, IfSome, Result, Ok, Err}
+use Rattle.std.specs.Prelude.{◌≡◌, ℕ, ◌≤◌, List, [], ◌∷◌, ◌++◌, length, Option, IfSome, Result, Ok, Err}
+use Rattle.sha2.specs.Sha256.{sha256}
 use Rattle.io_edge.specs.Causes.{Rose}
 use Rattle.mail_model.specs.Told.{Mail}
 use Rattle.mail_model.specs.Mail.{IsDate, IsStored, trace_lines}
@@ -7,8 +8,9 @@ use Rattle.mail_model.specs.Record.{Record, payload_of, payloads_of}
 use Rattle.mail_model.specs.Record.Record.{Octets}
 use Rattle.mail_model.specs.Site.{HoldsRecords, nth_id}
 use Rattle.cluster_world.specs.Journal.{Stands, HasGate}
-use Rattle.cluster_world.specs.declared.world.DeliverFault.{DeliverFault}
-use Rattle.cluster_world.specs.declared.world.DeliverFault.TheVariants.{Disk, NoMemory}
+use Rattle.cluster_world.specs.declared.append.Measure.{Measure}
+use Rattle.cluster_world.specs.declared.append.DeliverFault.{DeliverFault}
+use Rattle.cluster_world.specs.declared.append.DeliverFault.TheVariants.{Disk, NoMemory}
 
 -- the octets are told, and are the journal of node 1 with these records, up to the gate at `end`
 abbrev pub RecordsStand : Option (List ℕ) → List Record → ℕ → Type 0
@@ -50,13 +52,15 @@ pub record IsHead (mail : Mail) (seq : ℕ) (head : List ℕ) : Type 0 where
   pub whole : head ≡ payload_of (Octets (nth_id seq) (trace_lines mail (nth_id seq) date))
 
 -- the message's octets were appended
-pub record AppendsMail (old new : Option (List ℕ)) (end end' before now : ℕ) (mail : Mail) (seq : ℕ) : Type 0 where
+pub record AppendsMail (old new : Option (List ℕ)) (end end' before now : ℕ) (mail : Mail) (seq : ℕ) (measure : Measure) : Type 0 where
   pub octets : List ℕ
   pub stored : IsStored mail (nth_id seq) 0 octets
+  pub size : measure.length ≡ length octets
+  pub digest : measure.digest ≡ sha256 octets
   pub appends : AppendsAll old new end end' before now (Octets (nth_id seq) octets ∷ [])
 
 -- what was done to the journal where a message's octets were to be appended: want of memory leaves it as it was
-abbrev pub WroteMail : Result (Unit {0}) DeliverFault → Option (List ℕ) → Option (List ℕ) → ℕ → ℕ → ℕ → ℕ → Mail → ℕ → Type 0
-WroteMail (Ok _) old new end end' before now mail seq = AppendsMail old new end end' before now mail seq
+abbrev pub WroteMail : Result Measure DeliverFault → Option (List ℕ) → Option (List ℕ) → ℕ → ℕ → ℕ → ℕ → Mail → ℕ → Type 0
+WroteMail (Ok measure) old new end end' before now mail seq = AppendsMail old new end end' before now mail seq measure
 WroteMail (Err Disk) old new end end' before now mail seq = ((octets : List ℕ) × Stops old new end (Octets (nth_id seq) octets ∷ [])) × (before ≤ now) × Rose before now
 WroteMail (Err NoMemory) old new end end' before now mail seq = IsUntouched old new end end' before now

@@ -1,19 +1,23 @@
 -- A world of one node: what its disk holds, and what a message leaves there.
-use Rattle.std.specs.Prelude.{◌≡◌, ℕ, ◌+◌, ◌≤◌, Bool, IsTrue, IsFalse, List, [], ◌∷◌, ◌++◌, Option, Result, Ok, Err}
+use Rattle.std.specs.Prelude.{◌≡◌, ◌⊎◌, ℕ, ◌+◌, ◌≤◌, length, Bool, IsTrue, IsFalse, List, [], ◌∷◌, ◌++◌, Option, Result, Ok, Err}
+use Rattle.sha2.specs.Sha256.{sha256}
 use Rattle.io_edge.specs.Causes.{Rose}
-use Rattle.mail_model.specs.Identity.{Id}
 use Rattle.mail_model.specs.Plan.{Plan}
 use Rattle.mail_model.specs.Told.{Mail}
 use Rattle.mail_model.specs.Mail.{IsStored}
 use Rattle.mail_model.specs.Record.{Record}
+use Rattle.mail_model.specs.Book.{BookEntry}
 use Rattle.mail_model.specs.Record.Record.{Boot}
 use Rattle.mail_model.specs.Site.{message_records, nth_id, nth_stamp}
 use Rattle.cluster_world.specs.Journal.{HasGate, end_of}
 use Rattle.cluster_world.specs.Appends.{RecordsStand, HoldsFront}
+use Rattle.cluster_world.specs.Books.{told_by}
 use Rattle.cluster_world.specs.Opens.{BeginFails}
 use Rattle.cluster_world.specs.declared.world.World.{World}
-use Rattle.cluster_world.specs.declared.world.DeliverFault.{DeliverFault}
-use Rattle.cluster_world.specs.declared.world.DeliverFault.TheVariants as deliver
+use Rattle.cluster_world.specs.declared.append.Measure.{Measure}
+use Rattle.cluster_world.specs.declared.step.Standing.{Standing}
+use Rattle.cluster_world.specs.declared.append.DeliverFault.{DeliverFault}
+use Rattle.cluster_world.specs.declared.append.DeliverFault.TheVariants as deliver
 use Rattle.cluster_world.specs.declared.world.OpenFault.{OpenFault}
 
 abbrev pub plan_of : {D : Type 0} → World D → Plan
@@ -26,6 +30,14 @@ is_up world = world.up
 -- how many sequence numbers were drawn
 abbrev pub drawn_of : {D : Type 0} → World D → ℕ
 drawn_of world = world.drawn
+
+-- the calls in progress, in the order in which they began
+abbrev pub standing_of : {D : Type 0} → World D → List Standing
+standing_of world = world.standing.items
+
+-- what the book says
+abbrev pub book_of : {D : Type 0} → World D → List BookEntry
+book_of world = told_by world.book
 
 abbrev pub disk_of : {D : Type 0} → World D → D
 disk_of world = world.disk
@@ -47,6 +59,8 @@ pub record Begins {D : Type 0} (seen : D → Option (List ℕ)) (plan : Plan) (w
   pub plan_is : plan_of world ≡ plan
   pub up : IsTrue (is_up world)
   pub drawn : drawn_of world ≡ 0
+  pub standing : standing_of world ≡ []
+  pub book : book_of world ≡ []
   pub gate : ShowsGate seen world
   pub holds : WorldHolds seen (Boot 1 ∷ []) world
 
@@ -56,12 +70,14 @@ Opened seen faults (Ok world) plan disk = Begins seen plan world × (faults disk
 Opened seen faults (Err refused) plan disk = BeginFails refused.0 (faults disk) (faults refused.1)
 
 -- The message is on the disk: its octets, and a state for each of its mailboxes.
-pub record Files {D : Type 0} (seen : D → Option (List ℕ)) (mail : Mail) (id : Id) (old new : World D) : Type 0 where
-  pub id_is : id ≡ nth_id (drawn_of old + 1)
+pub record Files {D : Type 0} (seen : D → Option (List ℕ)) (mail : Mail) (measure : Measure) (old new : World D) : Type 0 where
+  pub drawn : drawn_of new ≡ drawn_of old + 1
   pub up : IsTrue (is_up new)
   pub gate : ShowsGate seen new
   pub octets : List ℕ
   pub stored : IsStored mail (nth_id (drawn_of old + 1)) 0 octets
+  pub size : measure.length ≡ length octets
+  pub digest : measure.digest ≡ sha256 octets
   pub holds : (records : List Record) → WorldHolds seen records old
       → WorldHolds seen (records ++ message_records (nth_id (drawn_of old + 1)) (nth_stamp (drawn_of old + 1)) octets mail.mailboxes) new
 
@@ -74,12 +90,23 @@ pub record HoldsSome {D : Type 0} (seen : D → Option (List ℕ)) (mail : Mail)
 pub record Falls {D : Type 0} (seen : D → Option (List ℕ)) (mail : Mail) (old new : World D) : Type 0 where
   pub holds : (records : List Record) → WorldHolds seen records old → HoldsSome seen mail records old new
 
--- what a delivery leaves; a node that stays up after a refusal has its disk as it was
-abbrev pub Delivers : {D : Type 0} → (D → Option (List ℕ)) → (D → ℕ) → Result Id DeliverFault → Mail → World D → World D → Type 0
-Delivers seen faults (Ok id) mail old new = Files seen mail id old new × (faults (disk_of old) ≤ faults (disk_of new))
-Delivers seen faults (Err deliver.Disk) mail old new =
-    Falls seen mail old new × IsFalse (is_up new)
-    × (faults (disk_of old) ≤ faults (disk_of new)) × Rose (faults (disk_of old)) (faults (disk_of new))
-Delivers seen faults (Err deliver.NoMemory) mail old new =
-    Falls seen mail old new × (faults (disk_of old) ≤ faults (disk_of new))
-    × (IsTrue (is_up new) → (seen (disk_of new) ≡ seen (disk_of old)) × (gate_of new ≡ gate_of old))
+-- nothing was written, and no number was drawn
+pub record IsUnwritten {D : Type 0} (seen : D → Option (List ℕ)) (faults : D → ℕ) (old new : World D) : Type 0 where
+  pub up : IsTrue (is_up new)
+  pub drawn : drawn_of new ≡ drawn_of old
+  pub octets : seen (disk_of new) ≡ seen (disk_of old)
+  pub gate : gate_of new ≡ gate_of old
+  pub count : faults (disk_of new) ≡ faults (disk_of old)
+
+-- a front of the message's records may be there, and the node is down
+pub record Breaks {D : Type 0} (seen : D → Option (List ℕ)) (faults : D → ℕ) (mail : Mail) (old new : World D) : Type 0 where
+  pub falls : Falls seen mail old new
+  pub down : IsFalse (is_up new)
+  pub drawn : drawn_of new ≡ drawn_of old + 1
+  pub later : faults (disk_of old) ≤ faults (disk_of new)
+
+-- what filing a message leaves; a node that stays up after a refusal has its disk as it was
+abbrev pub Delivers : {D : Type 0} → (D → Option (List ℕ)) → (D → ℕ) → Result Measure DeliverFault → Mail → World D → World D → Type 0
+Delivers seen faults (Ok measure) mail old new = Files seen mail measure old new × (faults (disk_of old) ≤ faults (disk_of new))
+Delivers seen faults (Err deliver.Disk) mail old new = Breaks seen faults mail old new × Rose (faults (disk_of old)) (faults (disk_of new))
+Delivers seen faults (Err deliver.NoMemory) mail old new = IsUnwritten seen faults old new ⊎ Breaks seen faults mail old new

@@ -1,16 +1,25 @@
 // Layouts from their description, and each public call once.
-ghost use Rattle.std.specs.Prelude.{◌≤◌, length, IfOk, OnOk};
+ghost use Rattle.std.specs.Prelude.{◌≤◌, ◌<◌, length, IfOk, OnOk, IsTrue};
 ghost use Rattle.mail_base.specs.Delivers.{IsWithinLimits};
+ghost use Rattle.cluster_world.specs.World.{ShowsGate, is_up};
 
 use crate::{
-    DeliverFault, Journal, OpenFault, Trace, TraceFault, World, boot_payload, here_payload,
-    octets_head, trace_into,
+    Answer, Call, Entry, Journal, OpenFault, Said, Step, StepFault, Trace, TraceFault, World,
+    boot_payload, here_payload, octets_head, trace_into,
 };
-use io_edge::PlainDisk;
 use io_edge::faulty::FaultyDisk;
-use mail_base::{Deliver, MsgId, Name, Names, NodeNo, Octets, Plan, Secret, Stamp, Users};
+use io_edge::{Disk, PlainDisk};
+use mail_base::{
+    Deliver, MsgId, Name, Names, NodeNo, NodeSet, Octets, Plan, Secret, Stamp, Ticket, Users,
+};
 use std::alloc::{AllocError, Global};
 use std::test::Fail;
+
+// The SHA-256 of the first message with its trace lines, as another program gives it.
+const DIGEST: [u8; 32] = [
+    0x91, 0x83, 0x61, 0xe2, 0x49, 0xc0, 0x15, 0xe6, 0x87, 0x05, 0x2a, 0x3b, 0xd2, 0x7d, 0xac, 0x7e,
+    0x5a, 0xb3, 0x28, 0xce, 0x8a, 0x53, 0xa3, 0x0f, 0x3e, 0xc7, 0xf0, 0x13, 0xee, 0x0b, 0x34, 0x5e,
+];
 
 fn first_id() -> MsgId {
     MsgId::new(NodeNo::new(1).unwrap(), 1, 1).unwrap()
@@ -38,6 +47,7 @@ fn hello(alloc: Global) -> Result<Deliver, AllocError>
 {
     let mut users = Names::new(alloc);
     users.push(bob(alloc)?)?;
+    users.push(Name::spelt(alloc, b"amy")?.unwrap())?;
     Ok(Deliver {
         users,
         sender: Octets::from_vec(b"bob@b.example".to_vec(alloc)?),
@@ -45,6 +55,71 @@ fn hello(alloc: Global) -> Result<Deliver, AllocError>
         extended: false,
         text: Octets::from_vec(b"Hi\r\n".to_vec(alloc)?),
     })
+}
+
+fn ticket_of(seq: u64) -> Ticket {
+    Ticket {
+        node: NodeNo::new(1).unwrap(),
+        boot: 1,
+        seq,
+    }
+}
+
+fn step<D: Disk>(alloc: Global, world: &mut World<D>, step: Step) -> Result<Said, StepFault>
+    requires { IsTrue (is_up world.old) → ShowsGate D.seen world.old }
+    ensures { IsTrue (is_up world.new) → ShowsGate D.seen world.new }
+{
+    world.step(alloc, step)
+}
+
+fn begin<D: Disk>(alloc: Global, world: &mut World<D>, number: u8) -> Result<Said, StepFault>
+    requires gate { IsTrue (is_up world.old) → ShowsGate D.seen world.old }
+    requires low { 0 < number }
+    requires high { number ≤ 16 }
+    ensures { IsTrue (is_up world.new) → ShowsGate D.seen world.new }
+{
+    let node = NodeNo::new(number).unwrap();
+    let call = Call::Deliver(hello(alloc)?);
+    step(alloc, world, Step::Begin { node, call })
+}
+
+fn ask<D: Disk>(alloc: Global, world: &mut World<D>, seq: u64) -> Result<Said, StepFault>
+    requires { IsTrue (is_up world.old) → ShowsGate D.seen world.old }
+    ensures { IsTrue (is_up world.new) → ShowsGate D.seen world.new }
+{
+    let ticket = ticket_of(seq);
+    step(alloc, world, Step::Ask { ticket })
+}
+
+// What a new world says of its first message where this call of its disk fails.
+fn said_with_fault(alloc: Global, call: u64) -> Result<Result<Said, StepFault>, OpenFault> {
+    let disk = FaultyDisk::new(PlainDisk::new(alloc), call);
+    match World::open(alloc, plan(alloc)?, disk) {
+        Ok(mut world) => Ok(begin(alloc, &mut world, 1)),
+        Err((fault, _disk)) => Err(fault),
+    }
+}
+
+// Whether the user's copy of the first message is acknowledged here.
+fn is_acked(entry: &Entry, name: &[u8]) -> bool {
+    match entry {
+        Entry::Acked {
+            user,
+            id,
+            seconds,
+            length,
+            digest,
+            confirmers,
+        } => {
+            user.octets() == name
+                && *id == first_id()
+                && *seconds == 0
+                && *length == 133
+                && *digest == DIGEST
+                && confirmers.mask() == 1
+        }
+        Entry::Down { node: _ } => false,
+    }
 }
 
 #[test]
@@ -109,35 +184,64 @@ fn trace_is_written(rt: HostRuntime) -> Result<(), Fail> {
 }
 
 #[test]
-fn message_is_delivered(rt: HostRuntime) -> Result<(), Fail> {
+fn message_is_begun_and_asked_for(rt: HostRuntime) -> Result<(), Fail> {
     let alloc = rt.alloc();
     let Ok(mut world) = World::open(alloc, plan(alloc)?, PlainDisk::new(alloc)) else {
         panic!(rt; "no world");
     };
     assert_eq!(rt; world.plan().nodes, 1);
-    assert_eq!(rt; world.deliver(alloc, &hello(alloc)?), Ok(first_id()));
-    assert!(rt; world.is_up());
-    // A header of 16 octets, records of 10, 152 and 40, and a closed gate.
-    assert_eq!(rt; world.close().octets.len(), 219);
+    assert_eq!(rt; begin(alloc, &mut world, 2), Err(StepFault::NoSuchNode));
+    let ticket = ticket_of(1);
+    assert_eq!(rt; begin(alloc, &mut world, 1), Ok(Said::Begun { ticket }));
+    let ticket = ticket_of(2);
+    assert_eq!(rt; begin(alloc, &mut world, 1), Ok(Said::Begun { ticket }));
+    assert_eq!(rt; world.book().entries().len(), 0);
+    let stored = Answer::Stored {
+        id: first_id(),
+        confirmers: NodeSet::from_mask(1),
+    };
+    assert_eq!(rt; ask(alloc, &mut world, 1), Ok(Said::Asked(stored)));
+    assert_eq!(rt; ask(alloc, &mut world, 1), Err(StepFault::NoSuchTicket));
+    let entries = world.book().entries();
+    assert_eq!(rt; entries.len(), 2);
+    assert!(rt; is_acked(&entries[0], b"bob"));
+    assert!(rt; is_acked(&entries[1], b"amy"));
+    assert!(rt; world.is_up(NodeNo::new(1).unwrap()));
+    assert!(rt; !world.is_up(NodeNo::new(2).unwrap()));
+    // A header of 16 octets, a record of 10, a record of 152 and two of 40 for each message, and a closed gate.
+    assert_eq!(rt; world.close().octets.len(), 491);
     Ok(())
 }
 
 #[test]
 fn each_fault_takes_the_node_down(rt: HostRuntime) -> Result<(), Fail> {
-    let alloc = rt.alloc();
-    for call in 1..16u64 {
-        let disk = FaultyDisk::new(PlainDisk::new(alloc), call);
-        match World::open(alloc, plan(alloc)?, disk) {
-            Ok(mut world) => {
-                let delivered = world.deliver(alloc, &hello(alloc)?);
-                assert!(rt; call > 6);
-                assert_eq!(rt; delivered.is_ok(), call > 14, "at {call}");
-                assert_eq!(rt; world.is_up(), call > 14, "at {call}");
-            }
-            Err((fault, _disk)) => {
-                assert!(rt; call <= 6 && fault == OpenFault::DiskFault, "at {call}");
-            }
+    let first = NodeNo::new(1).unwrap();
+    for call in 1..20u64 {
+        let said = said_with_fault(rt.alloc(), call);
+        if call <= 6 {
+            assert_eq!(rt; said, Err(OpenFault::DiskFault), "at {call}");
+        } else if call <= 18 {
+            assert_eq!(rt; said, Ok(Ok(Said::Faulted(first))), "at {call}");
+        } else {
+            let ticket = ticket_of(1);
+            assert_eq!(rt; said, Ok(Ok(Said::Begun { ticket })), "at {call}");
         }
     }
+    Ok(())
+}
+
+#[test]
+fn node_that_fell_takes_no_step(rt: HostRuntime) -> Result<(), Fail> {
+    let alloc = rt.alloc();
+    let disk = FaultyDisk::new(PlainDisk::new(alloc), 9);
+    let Ok(mut world) = World::open(alloc, plan(alloc)?, disk) else {
+        panic!(rt; "no world");
+    };
+    let first = NodeNo::new(1).unwrap();
+    assert_eq!(rt; begin(alloc, &mut world, 1), Ok(Said::Faulted(first)));
+    assert!(rt; !world.is_up(first));
+    assert!(rt; matches!(world.book().entries(), [Entry::Down { node }] if *node == first));
+    assert_eq!(rt; begin(alloc, &mut world, 1), Err(StepFault::NodeDown));
+    assert_eq!(rt; ask(alloc, &mut world, 1), Err(StepFault::NodeDown));
     Ok(())
 }

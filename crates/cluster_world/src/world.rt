@@ -1,18 +1,21 @@
 //! A world of one node.
-ghost use Rattle.std.specs.Prelude.{◌≡◌, ◌+◌, ◌≤◌, ◌<◌, ◌++◌, ◌∷◌, [], ℕ, List, length, ◌-◌, ◌^◌, IfOk, OnOk, IsErrOf, IfSome, IsTrue};
-ghost use Rattle.mail_model.specs.Record.{Record, payload_of};
+ghost use Rattle.std.specs.Prelude.{◌≡◌, ◌+◌, ◌≤◌, ◌<◌, ◌++◌, ◌∷◌, [], ◌&&◌, ℕ, length, nat_eq, vec_len, vec_capacity, slice_get, ◌-◌, ◌^◌, IfOk, OnOk, is_ok, IfSome, None, IsTrue, IsFalse};
 ghost use Rattle.mail_model.specs.Site.{copies_of, nth_id, nth_stamp};
-ghost use Rattle.cluster_world.specs.Journal.{HasGate, end_of, largest};
-ghost use Rattle.cluster_world.specs.Appends.{Wrote, IsUntouched, IsHead, WroteMail};
-ghost use Rattle.cluster_world.specs.Opens.{Begun};
-ghost use Rattle.cluster_world.specs.World.{plan_of, is_up, drawn_of, disk_of, ShowsGate, Opened, Delivers};
+ghost use Rattle.mail_model.specs.Book.BookEntry.{WentDown};
 ghost use Rattle.mail_base.specs.Delivers.{mail_in, IsWithinLimits};
+ghost use Rattle.cluster_world.specs.Appends.{Wrote};
+ghost use Rattle.cluster_world.specs.Opens.{Begun};
+ghost use Rattle.cluster_world.specs.World.{plan_of, is_up, drawn_of, disk_of, gate_of, book_of, standing_of, ShowsGate, Opened, Delivers};
+ghost use Rattle.cluster_world.specs.Books.{told_by, spare_of};
+ghost use Rattle.cluster_world.specs.Steps.{BeginDid, AskDid, Completes, Stepped, StandsNot, SettledBy, entries_for, nth_ticket};
 
+use crate::append::{DeliverFault, Measure, append_copies, append_octets, first_node, id_of};
+use crate::book::{Book, Entry};
 use crate::journal::{Journal, JournalFault};
-use crate::record::{boot_payload, here_payload, octets_head};
-use crate::trace::{Trace, trace_into};
+use crate::record::boot_payload;
+use crate::step::{Answer, Call, Filing, Said, Standing, Step, StepFault};
 use io_edge::Disk;
-use mail_base::{Deliver, MsgId, Name, NodeNo, Plan, Stamp};
+use mail_base::{Deliver, Names, NodeNo, NodeSet, Plan, Ticket};
 use std::alloc::{AllocError, Global};
 
 /// Why a world was not opened.
@@ -52,41 +55,6 @@ impl From<JournalFault> for OpenFault {
     }
 }
 
-/// Why a message was not delivered.
-#[derive(Clone, Copy, Debug, PartialEq, Eq)]
-pub enum DeliverFault {
-    /// The disk failed, and the node is down.
-    Disk,
-    /// Want of memory.
-    NoMemory,
-}
-
-impl From<AllocError> for DeliverFault {
-    ghost use Rattle.std.specs.Prelude.{◌≡◌};
-    ghost use Rattle.cluster_world.specs.declared.world.DeliverFault.TheVariants as fault;
-
-    ghost from_gives = { λ _ e. e ≡ fault.NoMemory };
-
-    fn from(_: AllocError) -> DeliverFault {
-        DeliverFault::NoMemory
-    }
-}
-
-/// The node of a world of one.
-fn first_node() -> NodeNo
-    ensures { result ≡ 1 }
-{
-    NodeNo::new(1).unwrap()
-}
-
-/// The id of the message with this sequence number in the first boot.
-fn id_of(seq: u64) -> MsgId
-    requires { 0 < seq }
-    ensures { result ≡ nth_id seq }
-{
-    MsgId::new(first_node(), 1, seq).unwrap()
-}
-
 /// A new journal with the record of the node's first boot.
 fn begin<D: Disk>(alloc: Global, disk: &mut D) -> Result<Journal, OpenFault>
     requires { IfSome (D.seen disk.old) (λ held. held ≡ []) }
@@ -99,122 +67,55 @@ fn begin<D: Disk>(alloc: Global, disk: &mut D) -> Result<Journal, OpenFault>
     Ok(journal)
 }
 
-/// Appends one record.
-fn append_record<D: Disk>(
-    alloc: Global,
-    journal: &mut Journal,
-    disk: &mut D,
-    head: &[u8],
-    body: &[u8],
-) -> Result<(), DeliverFault>
-    requires gate { HasGate (D.seen disk.old) (end_of journal.old) }
-    requires short { length head.now + length body.now ≤ largest }
-    ensures wrote { (entry : Record) → head.now ++ body.now ≡ payload_of entry
-        → Wrote result (D.seen disk.old) (D.seen disk.new) (end_of journal.old) (end_of journal.new)
-        (D.faults disk.old) (D.faults disk.new) (entry ∷ []) }
-    ensures settled { OnOk result (D.settled disk.new) }
-    ensures untouched { IsErrOf result DeliverFault.NoMemory
-        → IsUntouched (D.seen disk.old) (D.seen disk.new) (end_of journal.old) (end_of journal.new)
-        (D.faults disk.old) (D.faults disk.new) }
+/// The ticket of the call with this number.
+fn ticket_of(seq: u64) -> Ticket
+    requires { 0 < seq }
+    ensures { result ≡ nth_ticket seq }
 {
-    match journal.append(alloc, disk, head, body) {
-        Ok(()) => return Ok(()),
-        Err(JournalFault::DiskFault) => return Err(DeliverFault::Disk),
-        Err(JournalFault::NoMemory) => return Err(DeliverFault::NoMemory),
-        // The payload is short enough, and an append reads no header.
-        Err(JournalFault::TooLarge) => unreachable!(),
-        Err(JournalFault::NotAJournal) => unreachable!(),
+    Ticket {
+        node: first_node(),
+        boot: 1,
+        seq,
     }
 }
 
-/// Appends the state that one user's copy of the message is here.
-fn append_copy<D: Disk>(
-    alloc: Global,
-    journal: &mut Journal,
-    disk: &mut D,
-    user: &Name,
-    seq: u64,
-) -> Result<(), DeliverFault>
-    requires gate { HasGate (D.seen disk.old) (end_of journal.old) }
-    requires drawn { 0 < seq }
-    ensures wrote { Wrote result (D.seen disk.old) (D.seen disk.new) (end_of journal.old) (end_of journal.new)
-        (D.faults disk.old) (D.faults disk.new) (copies_of (nth_id seq) (nth_stamp seq) (user.now ∷ [])) }
-    ensures settled { OnOk result (D.settled disk.new) }
+/// Puts an entry for each user of the filing into the book, and says what was stored.
+fn acknowledge(book: &mut Book, filing: Filing, confirmers: NodeSet) -> Answer
+    requires { length filing.users ≤ spare_of book.old }
+    ensures book { told_by book.new ≡ told_by book.old ++ entries_for filing confirmers }
+    ensures answer { result ≡ Answer.Stored filing.id confirmers }
 {
-    let Ok(payload) = here_payload(alloc, user, id_of(seq), Stamp::new(seq, 1, 1), 1) else {
-        return Err(DeliverFault::NoMemory);
-    };
-    append_record(alloc, journal, disk, &payload, &[])
-}
-
-/// Appends a state for each user, in order.
-fn append_copies<D: Disk>(
-    alloc: Global,
-    journal: &mut Journal,
-    disk: &mut D,
-    users: &[Name],
-    seq: u64,
-) -> Result<(), DeliverFault>
-    requires gate { HasGate (D.seen disk.old) (end_of journal.old) }
-    requires drawn { 0 < seq }
-    ensures wrote { Wrote result (D.seen disk.old) (D.seen disk.new) (end_of journal.old) (end_of journal.new)
-        (D.faults disk.old) (D.faults disk.new) (copies_of (nth_id seq) (nth_stamp seq) users.now) }
-    ensures settled { OnOk result (D.settled disk.old → D.settled disk.new) }
-{
-    for user in users {
-        append_copy(alloc, journal, disk, user, seq)?;
+    let Filing {
+        id,
+        users,
+        seconds,
+        length,
+        digest,
+    } = filing;
+    for user in users.into_vec() {
+        book.add(Entry::Acked {
+            user,
+            id,
+            seconds,
+            length,
+            digest,
+            confirmers,
+        });
     }
-    Ok(())
+    Answer::Stored { id, confirmers }
 }
 
-/// How the payload of the message's octets begins. Its year is 1970, so that nothing but memory can be wanting.
-fn message_head(alloc: Global, deliver: &Deliver, seq: u64) -> Result<Vec<u8>, AllocError>
-    requires small { IsWithinLimits deliver.now }
-    requires drawn { 0 < seq }
-    ensures head { IfOk result (λ head. IsHead (mail_in deliver.now) seq head.items) }
-    ensures short { IfOk result (λ head. length head.items ≤ 65_536) }
-{
-    let trace = Trace {
-        sender: deliver.sender.as_slice(),
-        helo: deliver.helo.as_slice(),
-        extended: deliver.extended,
-        id: id_of(seq),
-        seconds: 0,
-    };
-    let mut head = octets_head(alloc, trace.id)?;
-    let Ok(()) = trace_into(alloc, &mut head, &trace) else {
-        return Err(AllocError);
-    };
-    Ok(head)
-}
-
-/// Appends the octets of the message: its trace lines and its text.
-fn append_octets<D: Disk>(
-    alloc: Global,
-    journal: &mut Journal,
-    disk: &mut D,
-    deliver: &Deliver,
-    seq: u64,
-) -> Result<(), DeliverFault>
-    requires gate { HasGate (D.seen disk.old) (end_of journal.old) }
-    requires small { IsWithinLimits deliver.now }
-    requires drawn { 0 < seq }
-    ensures wrote { WroteMail result (D.seen disk.old) (D.seen disk.new) (end_of journal.old) (end_of journal.new)
-        (D.faults disk.old) (D.faults disk.new) (mail_in deliver.now) seq }
-    ensures settled { OnOk result (D.settled disk.new) }
-{
-    let head = message_head(alloc, deliver, seq)?;
-    append_record(alloc, journal, disk, &head, deliver.text.as_slice())
-}
-
-/// One node with its disk.
+/// One node with its disk, its calls in progress and its book.
 #[derive(Drop)]
 pub struct World<D> {
     plan: Plan,
     disk: D,
     journal: Journal,
     up: bool,
+    // the sequence numbers that were drawn, for messages and for the tickets of their deliveries alike
     drawn: u64,
+    standing: Vec<Standing>,
+    book: Book,
 }
 
 impl<D: Disk> World<D> {
@@ -232,48 +133,10 @@ impl<D: Disk> World<D> {
                 journal,
                 up: true,
                 drawn: 0,
+                standing: Vec::new(alloc),
+                book: Book::new(alloc),
             }),
             Err(fault) => Err((fault, disk)),
-        }
-    }
-
-    /// Puts the message on the disk: its octets, and then a state for each of its users, in order. Its id is of the next
-    /// sequence number, which is drawn even if the message is refused.
-    ///
-    /// It costs four disk calls for the octets and four for each user. `Disk` comes only where the disk failed, and
-    /// then the node is down. `NoMemory` may come behind some of the records; then the node is down too.
-    pub fn deliver(&mut self, alloc: Global, deliver: &Deliver) -> Result<MsgId, DeliverFault>
-        requires up { IsTrue (is_up self.old) }
-        requires gate { ShowsGate D.seen self.old }
-        requires small { IsWithinLimits deliver.now }
-        requires drawn { drawn_of self.old < 2 ^ 64 - 1 }
-        ensures delivers { Delivers D.seen D.faults result (mail_in deliver.now) self.old self.new }
-        ensures settled { OnOk result (D.settled (disk_of self.new)) }
-        ensures plan { plan_of self.new ≡ plan_of self.old }
-        ensures drawn { drawn_of self.new ≡ drawn_of self.old + 1 }
-    {
-        self.drawn += 1;
-        let seq = self.drawn;
-        match append_octets(alloc, &mut self.journal, &mut self.disk, deliver, seq) {
-            Ok(()) => {}
-            Err(DeliverFault::NoMemory) => return Err(DeliverFault::NoMemory),
-            Err(DeliverFault::Disk) => {
-                self.up = false;
-                return Err(DeliverFault::Disk);
-            }
-        }
-        match append_copies(
-            alloc,
-            &mut self.journal,
-            &mut self.disk,
-            deliver.users.as_slice(),
-            seq,
-        ) {
-            Ok(()) => Ok(id_of(seq)),
-            Err(fault) => {
-                self.up = false;
-                Err(fault)
-            }
         }
     }
 
@@ -291,10 +154,221 @@ impl<D: Disk> World<D> {
         &self.plan
     }
 
-    /// Whether the node is up.
-    pub fn is_up(&self) -> bool
-        ensures { result ≡ is_up self.now }
+    /// What was acknowledged so far, and whether the node went down.
+    pub fn book(&self) -> &Book
+        ensures { told_by result.now ≡ book_of self.now }
     {
-        self.up
+        &self.book
+    }
+
+    /// Whether the node is up.
+    pub fn is_up(&self, node: NodeNo) -> bool
+        ensures { result ≡ (nat_eq node 1 && is_up self.now) }
+    {
+        node.number() == 1 && self.up
+    }
+}
+
+impl<D: Disk> World<D> {
+    // Puts the message on the disk: its octets, and then a state for each of its users, in order. Its id is of the next
+    // sequence number. The node goes down where it is there in part.
+    fn file(&mut self, alloc: Global, deliver: &Deliver) -> Result<Measure, DeliverFault>
+        requires up { IsTrue (is_up self.old) }
+        requires gate { ShowsGate D.seen self.old }
+        requires small { IsWithinLimits deliver.now }
+        requires drawn { drawn_of self.old < 2 ^ 64 - 1 }
+        ensures delivers { Delivers D.seen D.faults result (mail_in deliver.now) self.old self.new }
+        ensures settled { OnOk result (D.settled (disk_of self.new)) }
+        ensures plan { plan_of self.new ≡ plan_of self.old }
+        ensures standing { self.new.standing ≡ self.old.standing }
+        ensures book { self.new.book ≡ self.old.book }
+    {
+        let seq = self.drawn + 1;
+        match append_octets(alloc, &mut self.journal, &mut self.disk, deliver, seq) {
+            Ok(measure) => {
+                self.drawn = seq;
+                self.file_copies(alloc, deliver)?;
+                Ok(measure)
+            }
+            Err(DeliverFault::NoMemory) => Err(DeliverFault::NoMemory),
+            Err(DeliverFault::Disk) => {
+                self.drawn = seq;
+                self.up = false;
+                Err(DeliverFault::Disk)
+            }
+        }
+    }
+
+    // Appends a state for each user of the message of the number that was drawn last. The node goes down where that fails.
+    fn file_copies(&mut self, alloc: Global, deliver: &Deliver) -> Result<(), DeliverFault>
+        requires gate { ShowsGate D.seen self.old }
+        requires drawn { 0 < drawn_of self.old }
+        requires up { IsTrue (is_up self.old) }
+        ensures wrote { Wrote result (D.seen (disk_of self.old)) (D.seen (disk_of self.new)) (gate_of self.old) (gate_of self.new)
+            (D.faults (disk_of self.old)) (D.faults (disk_of self.new)) (copies_of (nth_id (drawn_of self.old)) (nth_stamp (drawn_of self.old)) deliver.now.users) }
+        ensures settled { OnOk result (D.settled (disk_of self.old) → D.settled (disk_of self.new)) }
+        ensures up { is_up self.new ≡ is_ok result }
+        ensures plan { plan_of self.new ≡ plan_of self.old }
+        ensures drawn { drawn_of self.new ≡ drawn_of self.old }
+        ensures standing { self.new.standing ≡ self.old.standing }
+        ensures book { self.new.book ≡ self.old.book }
+    {
+        match append_copies(
+            alloc,
+            &mut self.journal,
+            &mut self.disk,
+            deliver.users.as_slice(),
+            self.drawn,
+        ) {
+            Ok(()) => Ok(()),
+            Err(fault) => {
+                self.up = false;
+                Err(fault)
+            }
+        }
+    }
+
+    // The call has begun, and its ticket stands, with what it put on the disk.
+    fn stand(&mut self, users: Names, measure: Measure) -> Said
+        requires room { vec_len self.old.standing < vec_capacity self.old.standing }
+        requires drawn { 0 < drawn_of self.old }
+        ensures said { result ≡ Said.Begun (nth_ticket (drawn_of self.old)) }
+        ensures standing { standing_of self.new ≡ standing_of self.old ++ record {
+          ticket = nth_ticket (drawn_of self.old);
+          filing = record { id = nth_id (drawn_of self.old); users = users; seconds = 0; length = measure.length; digest = measure.digest };
+        } ∷ [] }
+        ensures rest { (plan_of self.new ≡ plan_of self.old) × (is_up self.new ≡ is_up self.old) × (drawn_of self.new ≡ drawn_of self.old)
+            × (disk_of self.new ≡ disk_of self.old) × (gate_of self.new ≡ gate_of self.old) × (self.new.book ≡ self.old.book) }
+    {
+        let digest = measure.digest;
+        let filing = Filing {
+            id: id_of(self.drawn),
+            users,
+            seconds: 0,
+            length: measure.length,
+            digest,
+        };
+        let ticket = ticket_of(self.drawn);
+        self.standing.push_reserved(Standing { ticket, filing });
+        Said::Begun {
+            ticket: ticket_of(self.drawn),
+        }
+    }
+
+    // The node goes down: its calls are gone, and the book says so.
+    fn go_down(&mut self, alloc: Global)
+        requires { 0 < spare_of self.old.book }
+        ensures down { IsFalse (is_up self.new) }
+        ensures standing { standing_of self.new ≡ [] }
+        ensures book { book_of self.new ≡ book_of self.old ++ WentDown 1 ∷ [] }
+        ensures rest { (plan_of self.new ≡ plan_of self.old) × (drawn_of self.new ≡ drawn_of self.old)
+            × (disk_of self.new ≡ disk_of self.old) × (gate_of self.new ≡ gate_of self.old) }
+    {
+        self.up = false;
+        self.standing = Vec::new(alloc);
+        self.book.add(Entry::Down { node: first_node() });
+    }
+
+    // Takes a message in, where the node is up and has a number left.
+    fn take(&mut self, alloc: Global, deliver: Deliver) -> Result<Said, StepFault>
+        requires up { IsTrue (is_up self.old) }
+        requires gate { ShowsGate D.seen self.old }
+        requires drawn { drawn_of self.old < 2 ^ 64 - 1 }
+        ensures did { (node : ℕ) → node ≤ (plan_of self.old).nodes → BeginDid D.seen D.faults result node (mail_in deliver) self.old self.new }
+        ensures settled { IfOk result (λ said. SettledBy D.settled said self.old self.new) }
+    {
+        // So that nothing of what follows the message's last record takes memory.
+        self.book.reserve(1)?;
+        self.standing.reserve(1)?;
+        match self.file(alloc, &deliver) {
+            Ok(measure) => Ok(self.stand(deliver.users, measure)),
+            Err(DeliverFault::Disk) => {
+                self.go_down(alloc);
+                Ok(Said::Faulted(first_node()))
+            }
+            Err(DeliverFault::NoMemory) if self.up => Err(StepFault::NoMemory { down: None }),
+            Err(DeliverFault::NoMemory) => {
+                self.go_down(alloc);
+                Err(StepFault::NoMemory {
+                    down: Some(first_node()),
+                })
+            }
+        }
+    }
+
+    // Begins to deliver a message at the node.
+    fn begin(&mut self, alloc: Global, node: NodeNo, deliver: Deliver) -> Result<Said, StepFault>
+        requires gate { IsTrue (is_up self.old) → ShowsGate D.seen self.old }
+        ensures did { BeginDid D.seen D.faults result node (mail_in deliver) self.old self.new }
+        ensures settled { IfOk result (λ said. SettledBy D.settled said self.old self.new) }
+    {
+        if node.number() > self.plan.nodes {
+            return Err(StepFault::NoSuchNode);
+        }
+        if !self.up {
+            return Err(StepFault::NodeDown);
+        }
+        if self.drawn == u64::MAX {
+            return Err(StepFault::Worn);
+        }
+        self.take(alloc, deliver)
+    }
+
+    // Where the ticket stands.
+    fn place_of(&self, ticket: Ticket) -> Option<usize>
+        ensures some { IfSome result (λ place. IfSome (slice_get (standing_of self.now) place) (λ standing. standing.ticket ≡ ticket)) }
+        ensures within { IfSome result (λ place. place < vec_len self.now.standing) }
+        ensures none { result ≡ None → StandsNot ticket self.now }
+    {
+        self.standing
+            .iter()
+            .position(|standing| standing.ticket == ticket)
+    }
+
+    // Asks for a call: it is done, and goes into the book.
+    fn ask(&mut self, ticket: Ticket) -> Result<Said, StepFault>
+        ensures did { AskDid D.seen D.faults result ticket self.old self.new }
+        ensures settled { IfOk result (λ said. SettledBy D.settled said self.old self.new) }
+    {
+        if ticket.node.number() > self.plan.nodes {
+            return Err(StepFault::NoSuchNode);
+        }
+        if !self.up {
+            return Err(StepFault::NodeDown);
+        }
+        let Some(place) = self.place_of(ticket) else {
+            return Err(StepFault::NoSuchTicket);
+        };
+        self.book.reserve(self.standing[place].filing.users.len())?;
+        let standing = self.standing.remove(place);
+        let confirmers = NodeSet::from_mask(1);
+        Ok(Said::Asked(acknowledge(&mut self.book, standing.filing, confirmers)))
+    }
+
+    /// Makes one step: begins a call at a node, or asks for one and ends it.
+    ///
+    /// A delivery puts the message on the disk as it begins: its octets, and then a state for each of its users, in
+    /// order. That costs four disk calls for the octets and four for each user. Its id and its ticket are of the node's
+    /// next number. `Faulted` comes only where the disk failed, and then the node is down and its calls are gone.
+    ///
+    /// An ask for a call that stands ends it: the book has an entry for each of its users, in order, and the ticket stands
+    /// no more. It makes no disk call.
+    ///
+    /// # Errors
+    ///
+    /// The first that fits of `NoSuchNode`, `NodeDown`, `NoSuchTicket` and `Worn`, exactly where they say, and nothing is
+    /// changed; or `NoMemory`: nothing is changed, or the node is down with a front of the message's records on its disk.
+    pub fn step(&mut self, alloc: Global, step: Step) -> Result<Said, StepFault>
+        requires gate { IsTrue (is_up self.old) → ShowsGate D.seen self.old }
+        ensures stepped { Stepped D.seen D.faults result step self.old self.new }
+        ensures stored_once_asked { Completes D.faults result step self.old self.new }
+        ensures settled { IfOk result (λ said. SettledBy D.settled said self.old self.new) }
+    {
+        match step {
+            Step::Begin { node, call } => match call {
+                Call::Deliver(deliver) => self.begin(alloc, node, deliver),
+            },
+            Step::Ask { ticket } => self.ask(ticket),
+        }
     }
 }

@@ -4,7 +4,7 @@ use Rattle.mail_model.specs.Record.Record.{Stated}
 use Rattle.mail_model.specs.Site.{nth_id, nth_stamp}
 use Rattle.cluster_world.specs.Heads.{here}
 use Rattle.cluster_world.proofs.Pieces.{no_body}
-use Rattle.cluster_world.proofs.world.append_copy.Goals as goal
+use Rattle.cluster_world.proofs.append.append_copy.Goals as goal
 
 pub returns-clause-wrote : goal.returns-clause-wrote
 returns-clause-wrote g c =

@@ -2,7 +2,7 @@ use Rattle.std.proofs.Common.{take}
 use Rattle.mail_model.specs.Site.{copies_of, nth_id, nth_stamp}
 use Rattle.cluster_world.specs.Journal.{end_of}
 use Rattle.cluster_world.specs.Appends.{AppendsAll}
-use Rattle.cluster_world.proofs.world.append_copies.Given as goal
+use Rattle.cluster_world.proofs.append.append_copies.Given as goal
 
 -- the states of the users so far are appended, and stand if what was there did
 abbrev pub invariant-loop-user : goal.invariant-loop-user

@@ -1,5 +1,5 @@
 use Rattle.cluster_world.proofs.Appended.{one_stops}
-use Rattle.cluster_world.proofs.world.append_record.Goals as goal
+use Rattle.cluster_world.proofs.append.append_record.Goals as goal
 
 pub returns-in-Err-DiskFault-clause-wrote : goal.returns-in-Err-DiskFault-clause-wrote
 returns-in-Err-DiskFault-clause-wrote g c = λ entry spelt.

@@ -1,6 +1,6 @@
 use Rattle.std.proofs.lemmas.Result.{err_from_is_err_and}
 use Rattle.cluster_world.proofs.Appended.{copy_appended, copy_failed}
-use Rattle.cluster_world.proofs.world.append_copies.Goals as goal
+use Rattle.cluster_world.proofs.append.append_copies.Goals as goal
 
 pub returns-in_err-append_copy-clause-wrote : goal.returns-in_err-append_copy-clause-wrote
 returns-in_err-append_copy-clause-wrote g c =

@@ -1,5 +1,5 @@
 use Rattle.cluster_world.proofs.Heads.{head_is, short_head}
-use Rattle.cluster_world.proofs.world.message_head.Goals as goal
+use Rattle.cluster_world.proofs.append.message_head.Goals as goal
 
 pub returns-clause-head : goal.returns-clause-head
 returns-clause-head c = head_is _ _ _ _ _ _ _ _ c.id_of.ensures c.as_slice.ensures c.as_slice-2.ensures c.in-Ok.ensures.1 c.in_ok-head.ensures c.in-Ok.ensures.2

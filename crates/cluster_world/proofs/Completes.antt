@@ -1,0 +1,27 @@
+-- A call that stands at a node that is up is answered where memory does not run out.
+use Rattle.std.proofs.Common.{◌≡◌, ◌≤◌, ℕ, true, false, Option, Result, Ok, Err, sym, ◌∙◌, arith, List}
+use Rattle.std.specs.Prelude.{IsTrue}
+use Rattle.mail_base.specs.declared.ticket.Ticket.{Ticket}
+use Rattle.cluster_world.specs.World.{plan_of, is_up}
+use Rattle.cluster_world.specs.Steps.{AskDid, IsStoredAnswer, StandsNot}
+use Rattle.cluster_world.specs.declared.world.World.{World}
+use Rattle.cluster_world.specs.declared.step.Said.{Said}
+use Rattle.cluster_world.specs.declared.step.Said.TheVariants.{Begun, Asked, Faulted}
+use Rattle.cluster_world.specs.declared.step.Answer.TheVariants.{Stored}
+use Rattle.cluster_world.specs.declared.step.StepFault.{StepFault}
+use Rattle.cluster_world.specs.declared.step.StepFault.TheVariants.{NoSuchNode, NodeDown, NoSuchTicket, Worn, NoMemory}
+
+-- no node is up and down
+never : {P : Type 0} {D : Type 0} (world : World D) → IsTrue (is_up world) → is_up world ≡ false → P
+never world up down = absurd (let both : true ≡ false = sym up ∙ down in cc)
+
+pub answers : {D : Type 0} (seen : D → Option (List ℕ)) (faults : D → ℕ) (result : Result Said StepFault) (ticket : Ticket) (old new : World D) → AskDid seen faults result ticket old new
+    → ticket.node ≤ (plan_of old).nodes → IsTrue (is_up old) → (StandsNot ticket old → ⊥) → IsStoredAnswer result
+answers seen faults (Ok (Begun begun)) ticket old new did of_plan up stands = did
+answers seen faults (Ok (Asked (Stored id confirmers))) ticket old new did of_plan up stands = tt
+answers seen faults (Ok (Faulted failed)) ticket old new did of_plan up stands = did
+answers seen faults (Err NoSuchNode) ticket old new did of_plan up stands = absurd (omega (arith, did.0, of_plan))
+answers seen faults (Err NodeDown) ticket old new did of_plan up stands = never old up did.1
+answers seen faults (Err NoSuchTicket) ticket old new did of_plan up stands = stands did.2
+answers seen faults (Err Worn) ticket old new did of_plan up stands = did
+answers seen faults (Err (NoMemory down)) ticket old new did of_plan up stands = tt

@@ -1,0 +1,184 @@
+//! What a message puts on the disk: its octets, and a state for each of its users.
+ghost use Rattle.std.specs.Prelude.{◌≡◌, ◌+◌, ◌≤◌, ◌<◌, ◌++◌, ◌∷◌, [], length, drop, IfOk, OnOk, IsErrOf};
+ghost use Rattle.sha2.specs.Sha256.{sha256};
+ghost use Rattle.mail_model.specs.Record.{Record, payload_of};
+ghost use Rattle.mail_model.specs.Site.{copies_of, nth_id, nth_stamp};
+ghost use Rattle.mail_base.specs.Delivers.{mail_in, IsWithinLimits};
+ghost use Rattle.cluster_world.specs.Journal.{HasGate, end_of, largest};
+ghost use Rattle.cluster_world.specs.Appends.{Wrote, IsUntouched, IsHead, WroteMail};
+
+use crate::journal::{Journal, JournalFault};
+use crate::record::{here_payload, octets_head};
+use crate::trace::{Trace, trace_into};
+use io_edge::Disk;
+use mail_base::{Deliver, MsgId, Name, NodeNo, Stamp};
+use sha2::{Digest, Sha256};
+use std::alloc::{AllocError, Global};
+
+/// Why a record, or a message's records, were not appended.
+#[derive(Clone, Copy, Debug, PartialEq, Eq)]
+pub(crate) enum DeliverFault {
+    /// The disk failed.
+    Disk,
+    /// Want of memory.
+    NoMemory,
+}
+
+impl From<AllocError> for DeliverFault {
+    ghost use Rattle.std.specs.Prelude.{◌≡◌};
+    ghost use Rattle.cluster_world.specs.declared.append.DeliverFault.TheVariants as fault;
+
+    ghost from_gives = { λ _ e. e ≡ fault.NoMemory };
+
+    fn from(_: AllocError) -> DeliverFault {
+        DeliverFault::NoMemory
+    }
+}
+
+/// The node of a world of one.
+pub(crate) fn first_node() -> NodeNo
+    ensures { result ≡ 1 }
+{
+    NodeNo::new(1).unwrap()
+}
+
+/// The id of the message with this sequence number in the first boot.
+pub(crate) fn id_of(seq: u64) -> MsgId
+    requires { 0 < seq }
+    ensures { result ≡ nth_id seq }
+{
+    MsgId::new(first_node(), 1, seq).unwrap()
+}
+
+/// Appends one record.
+fn append_record<D: Disk>(
+    alloc: Global,
+    journal: &mut Journal,
+    disk: &mut D,
+    head: &[u8],
+    body: &[u8],
+) -> Result<(), DeliverFault>
+    requires gate { HasGate (D.seen disk.old) (end_of journal.old) }
+    requires short { length head.now + length body.now ≤ largest }
+    ensures wrote { (entry : Record) → head.now ++ body.now ≡ payload_of entry
+        → Wrote result (D.seen disk.old) (D.seen disk.new) (end_of journal.old) (end_of journal.new)
+        (D.faults disk.old) (D.faults disk.new) (entry ∷ []) }
+    ensures settled { OnOk result (D.settled disk.new) }
+    ensures untouched { IsErrOf result DeliverFault.NoMemory
+        → IsUntouched (D.seen disk.old) (D.seen disk.new) (end_of journal.old) (end_of journal.new)
+        (D.faults disk.old) (D.faults disk.new) }
+{
+    match journal.append(alloc, disk, head, body) {
+        Ok(()) => return Ok(()),
+        Err(JournalFault::DiskFault) => return Err(DeliverFault::Disk),
+        Err(JournalFault::NoMemory) => return Err(DeliverFault::NoMemory),
+        // The payload is short enough, and an append reads no header.
+        Err(JournalFault::TooLarge) => unreachable!(),
+        Err(JournalFault::NotAJournal) => unreachable!(),
+    }
+}
+
+/// Appends the state that one user's copy of the message is here.
+fn append_copy<D: Disk>(
+    alloc: Global,
+    journal: &mut Journal,
+    disk: &mut D,
+    user: &Name,
+    seq: u64,
+) -> Result<(), DeliverFault>
+    requires gate { HasGate (D.seen disk.old) (end_of journal.old) }
+    requires drawn { 0 < seq }
+    ensures wrote { Wrote result (D.seen disk.old) (D.seen disk.new) (end_of journal.old) (end_of journal.new)
+        (D.faults disk.old) (D.faults disk.new) (copies_of (nth_id seq) (nth_stamp seq) (user.now ∷ [])) }
+    ensures settled { OnOk result (D.settled disk.new) }
+{
+    let Ok(payload) = here_payload(alloc, user, id_of(seq), Stamp::new(seq, 1, 1), 1) else {
+        return Err(DeliverFault::NoMemory);
+    };
+    append_record(alloc, journal, disk, &payload, &[])
+}
+
+/// Appends a state for each user, in order.
+pub(crate) fn append_copies<D: Disk>(
+    alloc: Global,
+    journal: &mut Journal,
+    disk: &mut D,
+    users: &[Name],
+    seq: u64,
+) -> Result<(), DeliverFault>
+    requires gate { HasGate (D.seen disk.old) (end_of journal.old) }
+    requires drawn { 0 < seq }
+    ensures wrote { Wrote result (D.seen disk.old) (D.seen disk.new) (end_of journal.old) (end_of journal.new)
+        (D.faults disk.old) (D.faults disk.new) (copies_of (nth_id seq) (nth_stamp seq) users.now) }
+    ensures settled { OnOk result (D.settled disk.old → D.settled disk.new) }
+{
+    for user in users {
+        append_copy(alloc, journal, disk, user, seq)?;
+    }
+    Ok(())
+}
+
+/// How the payload of the message's octets begins. Its year is 1970, so that nothing but memory can be wanting.
+fn message_head(alloc: Global, deliver: &Deliver, seq: u64) -> Result<Vec<u8>, AllocError>
+    requires small { IsWithinLimits deliver.now }
+    requires drawn { 0 < seq }
+    ensures head { IfOk result (λ head. IsHead (mail_in deliver.now) seq head.items) }
+    ensures short { IfOk result (λ head. length head.items ≤ 65_536) }
+{
+    let trace = Trace {
+        sender: deliver.sender.as_slice(),
+        helo: deliver.helo.as_slice(),
+        extended: deliver.extended,
+        id: id_of(seq),
+        seconds: 0,
+    };
+    let mut head = octets_head(alloc, trace.id)?;
+    let Ok(()) = trace_into(alloc, &mut head, &trace) else {
+        return Err(AllocError);
+    };
+    Ok(head)
+}
+
+/// How many octets a message has, with its trace lines, and their SHA-256.
+#[derive(Clone, Copy)]
+pub(crate) struct Measure {
+    pub(crate) length: u64,
+    pub(crate) digest: [u8; 32],
+}
+
+/// The measure of a message whose record has this payload in two parts; the head begins with its kind and id.
+fn measure_of(head: &[u8], text: &[u8]) -> Measure
+    requires { 14 ≤ length head.now }
+    ensures length { result.length ≡ length (drop 14 head.now ++ text.now) }
+    ensures digest { result.digest ≡ sha256 (drop 14 head.now ++ text.now) }
+{
+    let trace = &head[14..];
+    let mut hasher = Sha256::new();
+    hasher.update(trace);
+    hasher.update(text);
+    let digest = hasher.finalize();
+    Measure {
+        length: (trace.len() + text.len()) as u64,
+        digest,
+    }
+}
+
+/// Appends the octets of the message: its trace lines and its text.
+pub(crate) fn append_octets<D: Disk>(
+    alloc: Global,
+    journal: &mut Journal,
+    disk: &mut D,
+    deliver: &Deliver,
+    seq: u64,
+) -> Result<Measure, DeliverFault>
+    requires gate { HasGate (D.seen disk.old) (end_of journal.old) }
+    requires small { IsWithinLimits deliver.now }
+    requires drawn { 0 < seq }
+    ensures wrote { WroteMail result (D.seen disk.old) (D.seen disk.new) (end_of journal.old) (end_of journal.new)
+        (D.faults disk.old) (D.faults disk.new) (mail_in deliver.now) seq }
+    ensures settled { OnOk result (D.settled disk.new) }
+{
+    let head = message_head(alloc, deliver, seq)?;
+    append_record(alloc, journal, disk, &head, deliver.text.as_slice())?;
+    Ok(measure_of(&head, deliver.text.as_slice()))
+}

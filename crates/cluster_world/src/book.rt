@@ -1,0 +1,76 @@
+//! The book of a world: what was acknowledged, and which nodes went down.
+ghost use Rattle.std.specs.Prelude.{◌≡◌, ◌+◌, ◌≤◌, ◌<◌, ◌++◌, ◌∷◌, [], OnOk};
+ghost use Rattle.cluster_world.specs.Books.{entries_of, spare_of};
+
+use mail_base::{MsgId, Name, NodeNo, NodeSet};
+use std::alloc::{AllocError, Global};
+
+/// One entry of the book.
+#[derive(Debug, Drop)]
+pub enum Entry {
+    /// One user's copy of a message was acknowledged.
+    Acked {
+        /// Whose mailbox it is in.
+        user: Name,
+        /// The message's id.
+        id: MsgId,
+        /// The seconds since 1970 at which the message came.
+        seconds: u64,
+        /// How many octets it has, with its trace lines.
+        length: u64,
+        /// The SHA-256 of these octets.
+        digest: [u8; 32],
+        /// The nodes on whose disks the copy was confirmed.
+        confirmers: NodeSet,
+    },
+    /// The node went down.
+    Down {
+        /// Which node.
+        node: NodeNo,
+    },
+}
+
+/// A list of entries that only grows.
+#[derive(Debug, Drop)]
+pub struct Book {
+    entries: Vec<Entry>,
+}
+
+impl Book {
+    /// A book with no entry. It takes no memory.
+    pub fn new(alloc: Global) -> Book
+        ensures { entries_of result ≡ [] }
+    {
+        Book {
+            entries: Vec::new(alloc),
+        }
+    }
+
+    /// The entries, in the order in which they were added.
+    pub fn entries(&self) -> &[Entry]
+        ensures { result.now ≡ entries_of self.now }
+    {
+        &self.entries
+    }
+
+    /// Makes room for so many entries more.
+    ///
+    /// # Errors
+    ///
+    /// Only want of memory; the book is then as before.
+    pub fn reserve(&mut self, extra: usize) -> Result<(), AllocError>
+        ensures entries { entries_of self.new ≡ entries_of self.old }
+        ensures spare { OnOk result (extra ≤ spare_of self.new) }
+    {
+        self.entries.reserve(extra)
+    }
+
+    /// Puts the entry behind the others, into room that was made before. It takes no memory.
+    pub fn add(&mut self, entry: Entry)
+        requires { 0 < spare_of self.old }
+        ensures entries { entries_of self.new ≡ entries_of self.old ++ entry ∷ [] }
+        ensures spare { spare_of self.new + 1 ≡ spare_of self.old }
+    {
+        self.entries.push_reserved(entry);
+    }
+}
