@@ -1,7 +1,9 @@
 mod Stops
 mod Writes
 mod Talks
-mod Holds
+mod Since
+mod Began
+mod Deliveries
 mod Steps
 mod Says
 mod Files
@@ -9,4 +11,5 @@ mod Orders
 pub mod Cuts
 pub mod Turn
 pub mod Runs
+mod Booked
 mod Heads

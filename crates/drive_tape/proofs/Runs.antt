@@ -8,12 +8,12 @@ use Rattle.mail_model.specs.Lines.{HasNoLf, ended}
 use Rattle.mail_model.specs.Transcript as transcript
 use Rattle.mail_model.specs.Transcript.{entry_line, written_of}
 use Rattle.mail_model.specs.Site.{Site, Turns, Runs, all_of}
-use Rattle.cluster_world.specs.World.{disk_of}
+use Rattle.cluster_world.specs.declared.world.World.{World}
 use Rattle.drive_tape.specs.declared.cluster.Cluster.{Cluster}
 use Rattle.drive_tape.specs.declared.drove.Stop.{Stop}
 use Rattle.drive_tape.specs.declared.drove.Drove.{Drove}
 use Rattle.drive_tape.specs.Cluster.{Shows}
-use Rattle.drive_tape.specs.Drive.{Stopped, Turned, ShowsTurn, Progress, ShowsProgress, Drives, stop_of, NamesLine}
+use Rattle.drive_tape.specs.Drive.{Stopped, Turned, ShowsTurn, Progress, ShowsProgress, DrivesWorld, stop_of, NamesLine}
 
 -- a list with one more at its end
 pub flat_map_last : {X : Type 0} (f : X → List ℕ) (xs : List X) (x : X) → flat_map f (xs ++ x ∷ []) ≡ flat_map f xs ++ f x
@@ -34,9 +34,9 @@ runs_more first (l ∷ lines) [] mid line entries new runs turns = absurd runs
 runs_more first (l ∷ lines) (x ∷ outputs) mid line entries new runs turns = (runs.0, runs.1, runs_more runs.0 lines outputs mid line entries new runs.2 turns)
 
 -- nothing is done yet
-pub start : {D : Type 0} (seen : D → Option (List ℕ)) (left held : Option (List ℕ)) (pending : List ℕ) (room : ℕ) (cluster : Cluster D)
-    → length pending + room ≡ 2 ^ 40 → ShowsProgress seen left left held held pending cluster pending cluster 0 room
-start seen left held pending room cluster size first shows = (
+pub start : {D : Type 0} (seen : D → Option (List ℕ)) (faults : D → ℕ) (left held : Option (List ℕ)) (pending : List ℕ) (room : ℕ) (cluster : Cluster D)
+    → length pending + room ≡ 2 ^ 40 → ShowsProgress seen faults left left held held pending cluster pending cluster 0 room
+start seen faults left held pending room cluster size began first shows = (
   first,
   record {
     read = [];
@@ -81,44 +81,46 @@ more left0 left1 left2 held0 held1 held2 pending0 first pending1 now count room1
     }
 
 -- a turn goes on
-pub goes_on : {D : Type 0} (seen : D → Option (List ℕ)) (left0 left1 left2 held0 held1 held2 : Option (List ℕ)) (pending0 : List ℕ) (cluster0 : Cluster D) (pending1 : List ℕ) (cluster1 : Cluster D) (count room1 : ℕ) (pending2 : List ℕ) (room2 : ℕ) (cluster2 : Cluster D)
-    → ShowsProgress seen left0 left1 held0 held1 pending0 cluster0 pending1 cluster1 count room1
-    → ((site : Site) → Shows seen cluster1 site → ShowsTurn seen left1 left2 held1 held2 (Ok tt) pending1 room1 site pending2 room2 cluster2)
-    → ShowsProgress seen left0 left2 held0 held2 pending0 cluster0 pending2 cluster2 (count + 1) room2
-goes_on seen left0 left1 left2 held0 held1 held2 pending0 cluster0 pending1 cluster1 count room1 pending2 room2 cluster2 p t first shows =
-    let q = p first shows in
-    let u = t q.0 q.2 in
+pub goes_on : {D : Type 0} (seen : D → Option (List ℕ)) (faults : D → ℕ) (left0 left1 left2 held0 held1 held2 : Option (List ℕ)) (pending0 : List ℕ) (cluster0 : Cluster D) (pending1 : List ℕ) (cluster1 : Cluster D) (count room1 : ℕ) (pending2 : List ℕ) (room2 : ℕ) (cluster2 : Cluster D)
+    → ShowsProgress seen faults left0 left1 held0 held1 pending0 cluster0 pending1 cluster1 count room1
+    → ((began : World D) (site : Site) → Shows seen faults began cluster1 site → ShowsTurn seen faults began left1 left2 held1 held2 (Ok tt) pending1 room1 site pending2 room2 cluster2)
+    → ShowsProgress seen faults left0 left2 held0 held2 pending0 cluster0 pending2 cluster2 (count + 1) room2
+goes_on seen faults left0 left1 left2 held0 held1 held2 pending0 cluster0 pending1 cluster1 count room1 pending2 room2 cluster2 p t began first shows =
+    let q = p began first shows in
+    let u = t began q.0 q.2 in
     (u.new, more _ _ _ _ _ _ pending0 first pending1 q.0 count room1 pending2 room2 u.new q.1 u.turned, u.shows)
 
 -- a turn stops
-pub stops : {D : Type 0} (seen : D → Option (List ℕ)) (left0 left1 left2 held0 held1 held2 : Option (List ℕ)) (pending0 : List ℕ) (cluster0 : Cluster D) (pending1 : List ℕ) (cluster1 : Cluster D) (count room1 : ℕ) (pending2 : List ℕ) (room2 : ℕ) (cluster2 : Cluster D) (stop : Stop) (answer : Drove) (from : ℕ)
-    → ShowsProgress seen left0 left1 held0 held1 pending0 cluster0 pending1 cluster1 count room1
-    → ((site : Site) → Shows seen cluster1 site → ShowsTurn seen left1 left2 held1 held2 (Err stop) pending1 room1 site pending2 room2 cluster2)
-    → stop_of answer ≡ stop → NamesLine answer (from + count + 1) → (first : Site) → Shows seen cluster0 first
-    → Drives left0 left2 held0 held2 pending0 answer from first (seen (disk_of cluster2.world))
-stops seen left0 left1 left2 held0 held1 held2 pending0 cluster0 pending1 cluster1 count room1 pending2 room2 cluster2 stop answer from shows_progress turned is names first shows =
-    let q = shows_progress first shows in
+pub stops : {D : Type 0} (seen : D → Option (List ℕ)) (faults : D → ℕ) (left0 left1 left2 held0 held1 held2 : Option (List ℕ)) (pending0 : List ℕ) (cluster0 : Cluster D) (pending1 : List ℕ) (cluster1 : Cluster D) (count room1 : ℕ) (pending2 : List ℕ) (room2 : ℕ) (cluster2 : Cluster D) (stop : Stop) (answer : Drove) (from : ℕ)
+    → ShowsProgress seen faults left0 left1 held0 held1 pending0 cluster0 pending1 cluster1 count room1
+    → ((began : World D) (site : Site) → Shows seen faults began cluster1 site → ShowsTurn seen faults began left1 left2 held1 held2 (Err stop) pending1 room1 site pending2 room2 cluster2)
+    → stop_of answer ≡ stop → NamesLine answer (from + count + 1) → (began : World D) (first : Site) → Shows seen faults began cluster0 first
+    → DrivesWorld seen faults began left0 left2 held0 held2 pending0 answer from first cluster2.world
+stops seen faults left0 left1 left2 held0 held1 held2 pending0 cluster0 pending1 cluster1 count room1 pending2 room2 cluster2 stop answer from shows_progress turned is names began first shows =
+    let q = shows_progress began first shows in
     let p = q.1 in
-    let u = turned q.0 q.2 in
+    let u = turned began q.0 q.2 in
     let t = u.turned in
     record {
-      read = p.read ++ t.taken;
-      written = p.written ++ t.written;
-      lines = p.lines;
-      outputs = p.outputs;
-      others = pending1 ++ t.taken;
-      mid = q.0;
-      tail = t.written;
-      last = u.new;
-      room = room2;
-      took = consumes_more _ _ _ _ _ p.took t.took;
-      gave = appends_more _ _ _ _ _ p.gave t.gave;
-      cut = sym (append_assoc pending0 p.read t.taken) ∙ ap (λ (l : List ℕ). l ++ t.taken) p.cut ∙ append_assoc (flat_map ended p.lines) pending1 t.taken;
-      each = p.each;
-      runs = p.runs;
-      out = ap (λ (l : List ℕ). l ++ t.written) p.out;
-      limit = omega (arith, p.size, t.size, length-append p.read t.taken, length-append pending0 p.read, length-append pending0 (p.read ++ t.taken));
-      stopped = subst (λ (s : Stop). Stopped s left2 (pending1 ++ t.taken) room2 q.0 t.written u.new) (sym is) t.did;
-      number = subst (λ (n : ℕ). NamesLine answer (from + n + 1)) (sym p.counted) names;
-      store_holds = u.store;
+      drives = record {
+        read = p.read ++ t.taken;
+        written = p.written ++ t.written;
+        lines = p.lines;
+        outputs = p.outputs;
+        others = pending1 ++ t.taken;
+        mid = q.0;
+        tail = t.written;
+        last = u.new;
+        room = room2;
+        took = consumes_more _ _ _ _ _ p.took t.took;
+        gave = appends_more _ _ _ _ _ p.gave t.gave;
+        cut = sym (append_assoc pending0 p.read t.taken) ∙ ap (λ (l : List ℕ). l ++ t.taken) p.cut ∙ append_assoc (flat_map ended p.lines) pending1 t.taken;
+        each = p.each;
+        runs = p.runs;
+        out = ap (λ (l : List ℕ). l ++ t.written) p.out;
+        limit = omega (arith, p.size, t.size, length-append p.read t.taken, length-append pending0 p.read, length-append pending0 (p.read ++ t.taken));
+        stopped = subst (λ (s : Stop). Stopped s left2 (pending1 ++ t.taken) room2 q.0 t.written u.new) (sym is) t.did;
+        number = subst (λ (n : ℕ). NamesLine answer (from + n + 1)) (sym p.counted) names;
+      };
+      since = u.since;
     }

@@ -13,11 +13,13 @@ use Rattle.smtp_session.specs.declared.session.Heard.TheVariants.{Collected, Sai
 use Rattle.smtp_session.specs.declared.reply.Reply.{Reply}
 use Rattle.smtp_session.specs.Replies.{text_of}
 use Rattle.cluster_world.specs.World.{is_up}
+use Rattle.cluster_world.specs.declared.world.World.{World}
 use Rattle.drive_tape.specs.declared.cluster.Cluster.{Cluster}
 use Rattle.drive_tape.specs.declared.sessions.Sessions.{Sessions}
 use Rattle.drive_tape.specs.declared.sessions.Talker.{Talker}
 use Rattle.drive_tape.specs.Talks.{Leads, SessionHears, closes}
 use Rattle.drive_tape.specs.Cluster.{Shows}
+use Rattle.drive_tape.proofs.Since.{still}
 use Rattle.drive_tape.proofs.Talks.{count_set_on, count_set_over}
 
 -- the session at a number stands at its place
@@ -93,11 +95,11 @@ stand_behind at k talk lines line (Closed reply) after leads here =
 stand_behind at k talk lines line (Files deliver) after leads here = sym (ap (λ (c : Conversation). count_on (replace at.sessions k c)) leads.5 ∙ count_set_on _ _ _ _ _ _ here)
 
 -- the sessions heard a line, and the world is as it was
-pub heard_shows : {D : Type 0} (seen : D → Option (List ℕ)) (old : Cluster D) (sessions : Sessions) (at : Site) (k : ℕ) (line : List ℕ) (heard : Heard)
-    → Shows seen old at → is_up old.world ≡ true → (h : SessionHears at.plan at.sessions k line heard sessions.talkers.items)
+pub heard_shows : {D : Type 0} (seen : D → Option (List ℕ)) (faults : D → ℕ) (start : World D) (old : Cluster D) (sessions : Sessions) (at : Site) (k : ℕ) (line : List ℕ) (heard : Heard)
+    → Shows seen faults start old at → is_up old.world ≡ true → (h : SessionHears at.plan at.sessions k line heard sessions.talkers.items)
     → sessions.standing ≡ cond (closes (Some heard)) (old.sessions.standing - 1) old.sessions.standing
-    → Shows seen (record old { sessions = sessions }) (heard_site at k h.after)
-heard_shows seen old sessions at k line heard shows up h count = record {
+    → Shows seen faults start (record old { sessions = sessions }) (heard_site at k h.after)
+heard_shows seen faults start old sessions at k line heard shows up h count = record {
   plan = shows.plan;
   up = shows.up;
   drawn = shows.drawn;
@@ -105,19 +107,20 @@ heard_shows seen old sessions at k line heard shows up h count = record {
   count = count ∙ ap (λ (n : ℕ). cond (closes (Some heard)) (n - 1) n) shows.count ∙ stand_behind at k h.talk h.lines line heard h.after h.leads (at_place at.sessions k _ h.here);
   holds = shows.holds;
   fallen = λ down. absurd (cc);
-  store = shows.store;
+  standing = shows.standing;
+  since = still shows.since refl refl refl refl;
 }
 
 -- one step more, with nothing filed
-pub says_step : {D : Type 0} (seen : D → Option (List ℕ)) (old : Cluster D) (sessions : Sessions) (at : Site) (k : ℕ) (line : List ℕ) (heard : Heard) (entries : List transcript.Entry)
-    → Shows seen old at → is_up old.world ≡ true → SessionHears at.plan at.sessions k line heard sessions.talkers.items
+pub says_step : {D : Type 0} (seen : D → Option (List ℕ)) (faults : D → ℕ) (start : World D) (old : Cluster D) (sessions : Sessions) (at : Site) (k : ℕ) (line : List ℕ) (heard : Heard) (entries : List transcript.Entry)
+    → Shows seen faults start old at → is_up old.world ≡ true → SessionHears at.plan at.sessions k line heard sessions.talkers.items
     → sessions.standing ≡ cond (closes (Some heard)) (old.sessions.standing - 1) old.sessions.standing → SaysOf heard k entries
-    → (last : Site) × (refusal at (tape.Order.Say k line) ≡ None) × Steps at (tape.Order.Say k line) entries last × Shows seen (record old { sessions = sessions }) last
-says_step seen old sessions at k line heard entries shows up h count says = (
+    → (last : Site) × (refusal at (tape.Order.Say k line) ≡ None) × Steps at (tape.Order.Say k line) entries last × Shows seen faults start (record old { sessions = sessions }) last
+says_step seen faults start old sessions at k line heard entries shows up h count says = (
   heard_site at k h.after,
   rw h.here refl,
   (h.talk, h.lines, h.here, hears at k h.talk h.lines line heard h.after entries h.leads says),
-  heard_shows seen old sessions at k line heard shows up h count,
+  heard_shows seen faults start old sessions at k line heard shows up h count,
 )
 
 -- a session heard the line by the plan of the site

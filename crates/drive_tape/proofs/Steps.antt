@@ -8,10 +8,12 @@ use Rattle.mail_model.specs.Session.{silent}
 use Rattle.mail_model.specs.Site as site
 use Rattle.mail_model.specs.Site.{Site, Steps, refusal, count_on, HoldsRecords}
 use Rattle.cluster_world.specs.World.{is_up}
+use Rattle.cluster_world.specs.declared.world.World.{World}
 use Rattle.drive_tape.specs.declared.cluster.Cluster.{Cluster}
 use Rattle.drive_tape.specs.declared.sessions.Sessions.{Sessions}
 use Rattle.drive_tape.specs.Talks.{Converse}
 use Rattle.drive_tape.specs.Cluster.{Shows}
+use Rattle.drive_tape.proofs.Since.{still}
 use Rattle.drive_tape.proofs.Talks.{count_more}
 
 -- a session may be opened at this node
@@ -28,12 +30,12 @@ open_accepted old number node found up few =
         (rw (is, up, room) refl, cc)
 
 -- a session is opened
-pub opens : {D : Type 0} (seen : D → Option (List ℕ)) (old : Cluster D) (sessions : Sessions) (at : Site) (number : ℕ)
-    → Shows seen old at → refusal at (tape.Order.Open number) ≡ None → is_up old.world ≡ true
+pub opens : {D : Type 0} (seen : D → Option (List ℕ)) (faults : D → ℕ) (start : World D) (old : Cluster D) (sessions : Sessions) (at : Site) (number : ℕ)
+    → Shows seen faults start old at → refusal at (tape.Order.Open number) ≡ None → is_up old.world ≡ true
     → Converse sessions.talkers.items (at.sessions ++ site.Conversation.On silent [] ∷ []) → sessions.standing ≡ old.sessions.standing + 1
     → (last : Site) × ((entries : List transcript.Entry) → entries ≡ transcript.Entry.Said (length at.sessions + 1) (greeting_text number) ∷ [] → Steps at (tape.Order.Open number) entries last)
-    × Shows seen (record old { sessions = sessions }) last
-opens seen old sessions at number shows accepted up talks count = (
+    × Shows seen faults start (record old { sessions = sessions }) last
+opens seen faults start old sessions at number shows accepted up talks count = (
   record at { sessions = at.sessions ++ site.Conversation.On silent [] ∷ [] },
   λ entries is. (is, refl),
   record {
@@ -44,7 +46,8 @@ opens seen old sessions at number shows accepted up talks count = (
     count = count ∙ ap (λ (n : ℕ). n + 1) shows.count ∙ sym (count_more at.sessions silent []);
     holds = shows.holds;
     fallen = λ down. absurd (cc);
-    store = shows.store;
+    standing = shows.standing;
+    since = still shows.since refl refl refl refl;
   },
 )
 

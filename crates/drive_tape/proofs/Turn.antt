@@ -10,8 +10,8 @@ use Rattle.mail_model.specs.Lines.{HasNoLf, ended, BeginsWith}
 use Rattle.mail_model.specs.Tape.{Order, tape_order}
 use Rattle.mail_model.specs.Transcript as transcript
 use Rattle.mail_model.specs.Transcript.{entry_line, written_of}
-use Rattle.mail_model.specs.Record.{Record}
-use Rattle.mail_model.specs.Site.{Site, Turns, LeavesOff, refusal, message_records, nth_id, nth_stamp}
+use Rattle.mail_model.specs.Site.{Site, Turns, LeavesOff, RunsShort, refusal}
+use Rattle.cluster_world.specs.declared.world.World.{World}
 use Rattle.drive_tape.specs.declared.cluster.Cluster.{Cluster}
 use Rattle.drive_tape.specs.declared.reader.LineStop.{LineStop}
 use Rattle.drive_tape.specs.declared.reader.LineStop.TheVariants as line
@@ -46,27 +46,23 @@ read_why line.LongLine left octets pending room mid reads full = inl (refl, inr 
 read_why line.TooLong left octets pending room mid reads full = inr (inl (refl, reads.0, full refl, reads.2))
 read_why line.NoMemory left octets pending room mid reads full = tt
 
-pub read_stops : {D : Type 0} (seen : D → Option (List ℕ)) (left0 left1 held : Option (List ℕ)) (why : LineStop) (pending0 : List ℕ) (room0 : ℕ) (at : Site) (pending1 : List ℕ) (room1 : ℕ) (cluster : Cluster D) (taken : List ℕ)
-    → Shows seen cluster at → Consumes left0 left1 taken → room1 + length taken ≡ room0 → (IsErrOf {T = List ℕ} (Err why) line.TooLong → room1 ≡ 0)
+pub read_stops : {D : Type 0} (seen : D → Option (List ℕ)) (faults : D → ℕ) (start : World D) (left0 left1 held : Option (List ℕ)) (why : LineStop) (pending0 : List ℕ) (room0 : ℕ) (at : Site) (pending1 : List ℕ) (room1 : ℕ) (cluster : Cluster D) (taken : List ℕ)
+    → Shows seen faults start cluster at → Consumes left0 left1 taken → room1 + length taken ≡ room0 → (IsErrOf {T = List ℕ} (Err why) line.TooLong → room1 ≡ 0)
     → Reads (Err why) left1 (pending0 ++ taken) pending1
-    → ShowsTurn seen left0 left1 held held (Err (of_line why)) pending0 room0 at pending1 room1 cluster
-read_stops seen left0 left1 held why pending0 room0 at pending1 room1 cluster taken shows took size full reads = record {
+    → ShowsTurn seen faults start left0 left1 held held (Err (of_line why)) pending0 room0 at pending1 room1 cluster
+read_stops seen faults start left0 left1 held why pending0 room0 at pending1 room1 cluster taken shows took size full reads = record {
   new = at;
   turned = record { taken = taken; written = []; took = took; gave = appends_none held; did = alone _ _ _ _ _ (read_why why left1 (pending0 ++ taken) pending1 room1 at reads full); size = size };
   shows = tt;
-  store = shows.store;
+  since = shows.since;
 }
 
 -- a line that gives nothing
 leaves_off : (octets line pending : List ℕ) (mid last : Site) → BeginsWith octets line pending → LineLeaves mid line last → LeavesOff mid (lines_in octets) [] last
 leaves_off octets line pending mid last begins left = ⊎_elim (λ (same : last ≡ mid). inl (refl, same))
-    (λ (more : ((entries : List transcript.Entry) × Turns mid line entries last) ⊎ ((octets : List ℕ) × (mailboxes : List (List ℕ)) × (added : List Record) × (missing : List Record)
-    × (message_records (nth_id (mid.drawn + 1)) (nth_stamp (mid.drawn + 1)) octets mailboxes ≡ added ++ missing)
-    × (last ≡ record mid { drawn = mid.drawn + 1; records = mid.records ++ added }))). ⊎_elim
+    (λ (more : ((entries : List transcript.Entry) × Turns mid line entries last) ⊎ RunsShort mid last). ⊎_elim
     (λ (made : (entries : List transcript.Entry) × Turns mid line entries last). inr (inl (line, lines_in pending, made.0, made.0, lines_begin octets line pending begins, made.1, refl)))
-    (λ (front : (octets : List ℕ) × (mailboxes : List (List ℕ)) × (added : List Record) × (missing : List Record)
-    × (message_records (nth_id (mid.drawn + 1)) (nth_stamp (mid.drawn + 1)) octets mailboxes ≡ added ++ missing)
-    × (last ≡ record mid { drawn = mid.drawn + 1; records = mid.records ++ added })). inr (inr (front.0, front.1, front.2, front.3, refl, front.4, front.5))) more)
+    (λ (short : RunsShort mid last). inr (inr (refl, short))) more)
     left
 
 bad_why : (fault : TapeFault) (left : Option (List ℕ)) (octets line pending : List ℕ) (room : ℕ) (mid : Site) → BeginsWith octets line pending → IsBad fault line mid → StopsAt fault left octets room mid
@@ -76,24 +72,24 @@ bad_why fault left octets line pending room mid begins bad = ⊎_elim
     inr (inr (refused.0, record { line = line; rest = pending; begins = begins; spelled = refused.1 }, refused.2)))
     bad
 
-pub step_stops : {D : Type 0} (seen : D → Option (List ℕ)) (left0 left1 held : Option (List ℕ)) (stop : Stop) (pending0 : List ℕ) (room0 : ℕ) (at : Site) (pending1 : List ℕ) (room1 : ℕ) (cluster : Cluster D) (taken line : List ℕ)
-    → Consumes left0 left1 taken → room1 + length taken ≡ room0 → BeginsWith (pending0 ++ taken) line pending1 → LineDid seen (Err stop) line at cluster
-    → ShowsTurn seen left0 left1 held held (Err stop) pending0 room0 at pending1 room1 cluster
-step_stops seen left0 left1 held Ended pending0 room0 at pending1 room1 cluster taken line took size begins did = record {
+pub step_stops : {D : Type 0} (seen : D → Option (List ℕ)) (faults : D → ℕ) (start : World D) (left0 left1 held : Option (List ℕ)) (stop : Stop) (pending0 : List ℕ) (room0 : ℕ) (at : Site) (pending1 : List ℕ) (room1 : ℕ) (cluster : Cluster D) (taken line : List ℕ)
+    → Consumes left0 left1 taken → room1 + length taken ≡ room0 → BeginsWith (pending0 ++ taken) line pending1 → LineDid seen faults start (Err stop) line at cluster
+    → ShowsTurn seen faults start left0 left1 held held (Err stop) pending0 room0 at pending1 room1 cluster
+step_stops seen faults start left0 left1 held Ended pending0 room0 at pending1 room1 cluster taken line took size begins did = record {
   new = at;
   turned = record { taken = taken; written = []; took = took; gave = appends_none held; did = alone _ _ _ _ _ (record { line = line; rest = pending1; begins = begins; spelled = did.0 }); size = size };
   shows = tt;
-  store = did.1.store;
+  since = did.1.since;
 }
-step_stops seen left0 left1 held ReadFault pending0 room0 at pending1 room1 cluster taken line took size begins did = absurd did
-step_stops seen left0 left1 held WriteFault pending0 room0 at pending1 room1 cluster taken line took size begins did = absurd did
-step_stops seen left0 left1 held (Bad fault) pending0 room0 at pending1 room1 cluster taken line took size begins did = record {
+step_stops seen faults start left0 left1 held ReadFault pending0 room0 at pending1 room1 cluster taken line took size begins did = absurd did
+step_stops seen faults start left0 left1 held WriteFault pending0 room0 at pending1 room1 cluster taken line took size begins did = absurd did
+step_stops seen faults start left0 left1 held (Bad fault) pending0 room0 at pending1 room1 cluster taken line took size begins did = record {
   new = at;
   turned = record { taken = taken; written = []; took = took; gave = appends_none held; did = alone _ _ _ _ _ (bad_why fault left1 (pending0 ++ taken) line pending1 room1 at begins did.0); size = size };
   shows = tt;
-  store = did.1.store;
+  since = did.1.since;
 }
-step_stops seen left0 left1 held NoMemory pending0 room0 at pending1 room1 cluster taken line took size begins did = record {
+step_stops seen faults start left0 left1 held NoMemory pending0 room0 at pending1 room1 cluster taken line took size begins did = record {
   new = did.0;
   turned = record {
     taken = taken;
@@ -104,7 +100,7 @@ step_stops seen left0 left1 held NoMemory pending0 room0 at pending1 room1 clust
     size = size;
   };
   shows = tt;
-  store = did.2;
+  since = did.2;
 }
 
 -- what a line gives is lines of the transcript, and so is each part of it
@@ -145,11 +141,11 @@ write_may : (why : WriteStop) → MayHaveStepped (of_write why)
 write_may write.WriteFault = tt
 write_may write.NoMemory = tt
 
-pub write_stops : {D : Type 0} (seen : D → Option (List ℕ)) (left0 left1 held0 held1 : Option (List ℕ)) (why : WriteStop) (pending0 : List ℕ) (room0 : ℕ) (at : Site) (pending1 : List ℕ) (room1 : ℕ) (cluster : Cluster D) (taken line : List ℕ) (entries : List Entry)
-    → Consumes left0 left1 taken → room1 + length taken ≡ room0 → BeginsWith (pending0 ++ taken) line pending1 → LineDid seen (Ok entries) line at cluster
+pub write_stops : {D : Type 0} (seen : D → Option (List ℕ)) (faults : D → ℕ) (start : World D) (left0 left1 held0 held1 : Option (List ℕ)) (why : WriteStop) (pending0 : List ℕ) (room0 : ℕ) (at : Site) (pending1 : List ℕ) (room1 : ℕ) (cluster : Cluster D) (taken line : List ℕ) (entries : List Entry)
+    → Consumes left0 left1 taken → room1 + length taken ≡ room0 → BeginsWith (pending0 ++ taken) line pending1 → LineDid seen faults start (Ok entries) line at cluster
     → WritesEntries held0 held1 (Err why) (entries_of entries)
-    → ShowsTurn seen left0 left1 held0 held1 (Err (of_write why)) pending0 room0 at pending1 room1 cluster
-write_stops seen left0 left1 held0 held1 why pending0 room0 at pending1 room1 cluster taken line entries took size begins did wrote = record {
+    → ShowsTurn seen faults start left0 left1 held0 held1 (Err (of_write why)) pending0 room0 at pending1 room1 cluster
+write_stops seen faults start left0 left1 held0 held1 why pending0 room0 at pending1 room1 cluster taken line entries took size begins did wrote = record {
   new = did.0;
   turned = record {
     taken = taken;
@@ -172,15 +168,15 @@ write_stops seen left0 left1 held0 held1 why pending0 room0 at pending1 room1 cl
     size = size;
   };
   shows = tt;
-  store = did.2.store;
+  since = did.2.since;
 }
 
 -- a line was handled
-pub handles : {D : Type 0} (seen : D → Option (List ℕ)) (left0 left1 held0 held1 : Option (List ℕ)) (pending0 : List ℕ) (room0 : ℕ) (at : Site) (pending1 : List ℕ) (room1 : ℕ) (cluster : Cluster D) (taken line : List ℕ) (entries : List Entry)
-    → Consumes left0 left1 taken → room1 + length taken ≡ room0 → BeginsWith (pending0 ++ taken) line pending1 → LineDid seen (Ok entries) line at cluster
+pub handles : {D : Type 0} (seen : D → Option (List ℕ)) (faults : D → ℕ) (start : World D) (left0 left1 held0 held1 : Option (List ℕ)) (pending0 : List ℕ) (room0 : ℕ) (at : Site) (pending1 : List ℕ) (room1 : ℕ) (cluster : Cluster D) (taken line : List ℕ) (entries : List Entry)
+    → Consumes left0 left1 taken → room1 + length taken ≡ room0 → BeginsWith (pending0 ++ taken) line pending1 → LineDid seen faults start (Ok entries) line at cluster
     → Appends held0 held1 (written_of (entries_of entries))
-    → ShowsTurn seen left0 left1 held0 held1 (Ok tt) pending0 room0 at pending1 room1 cluster
-handles seen left0 left1 held0 held1 pending0 room0 at pending1 room1 cluster taken line entries took size begins did wrote = record {
+    → ShowsTurn seen faults start left0 left1 held0 held1 (Ok tt) pending0 room0 at pending1 room1 cluster
+handles seen faults start left0 left1 held0 held1 pending0 room0 at pending1 room1 cluster taken line entries took size begins did wrote = record {
   new = did.0;
   turned = record {
     taken = taken;
@@ -191,5 +187,5 @@ handles seen left0 left1 held0 held1 pending0 room0 at pending1 room1 cluster ta
     size = size;
   };
   shows = did.2;
-  store = did.2.store;
+  since = did.2.since;
 }

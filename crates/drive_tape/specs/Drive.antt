@@ -1,14 +1,15 @@
 -- What driving a cluster by a tape did: over the octets that were read and those that were written.
-use Rattle.std.specs.Prelude.{◌≡◌, ◌⊎◌, ◌<◌, ◌≤◌, ◌+◌, ◌^◌, ℕ, List, [], ◌∷◌, ◌++◌, length, map, flat_map, All, ⊤, Option, Some, None, IfSome, Result, Ok, Err, OnOk}
+use Rattle.std.specs.Prelude.{◌≡◌, ◌⊎◌, ◌<◌, ◌≤◌, ◌+◌, ◌^◌, ℕ, List, [], ◌∷◌, ◌++◌, length, map, flat_map, All, ⊤, Option, Some, None, Result, Ok, Err, OnOk}
 use Rattle.std.specs.Io.KnownBytes.{Consumes, Appends, IsAtEnd}
 use Rattle.mail_model.specs.Lines.{HasNoLf, BeginsWith, ended}
 use Rattle.mail_model.specs.Tape.{Order, tape_order}
 use Rattle.mail_model.specs.Tape.Order.{End}
 use Rattle.mail_model.specs.Transcript.{Entry, entry_line, written_of}
 use Rattle.mail_model.specs.Site as site
-use Rattle.mail_model.specs.Site.{Site, Turns, Runs, LeavesOff, HoldsRecords, all_of, refusal}
-use Rattle.cluster_world.specs.World.{disk_of}
+use Rattle.mail_model.specs.Site.{Site, Turns, Runs, LeavesOff, all_of, refusal}
+use Rattle.cluster_world.specs.declared.world.World.{World}
 use Rattle.drive_tape.specs.declared.cluster.Cluster.{Cluster}
+use Rattle.drive_tape.specs.Delivery.{IsSince}
 use Rattle.drive_tape.specs.Cluster.{Shows}
 use Rattle.drive_tape.specs.Cut.{lines_in}
 use Rattle.drive_tape.specs.Parts.{IsCut}
@@ -113,9 +114,10 @@ pub record Progress (left0 left1 held0 held1 : Option (List ℕ)) (pending0 : Li
   pub size : length (pending0 ++ read) + room ≡ 2 ^ 40
 
 -- so far, from whatever site the cluster was at
-abbrev pub ShowsProgress : {D : Type 0} → (D → Option (List ℕ)) → Option (List ℕ) → Option (List ℕ) → Option (List ℕ) → Option (List ℕ) → List ℕ → Cluster D → List ℕ → Cluster D → ℕ → ℕ → Type 0
-ShowsProgress seen left0 left1 held0 held1 pending0 cluster0 pending cluster count room =
-    (first : Site) → Shows seen cluster0 first → (now : Site) × Progress left0 left1 held0 held1 pending0 first pending now count room × Shows seen cluster now
+abbrev pub ShowsProgress : {D : Type 0} → (D → Option (List ℕ)) → (D → ℕ) → Option (List ℕ) → Option (List ℕ) → Option (List ℕ) → Option (List ℕ) → List ℕ → Cluster D → List ℕ → Cluster D → ℕ → ℕ → Type 0
+ShowsProgress {D} seen faults left0 left1 held0 held1 pending0 cluster0 pending cluster count room =
+    (start : World D) (first : Site) → Shows seen faults start cluster0 first
+    → (now : Site) × Progress left0 left1 held0 held1 pending0 first pending now count room × Shows seen faults start cluster now
 
 -- the stop of an answer, and the number of the line that it names
 abbrev pub stop_of : Drove → Stop
@@ -134,7 +136,7 @@ NamesLine (drove.NoMemory n) line = n ≡ line
 
 -- The whole: the octets begin with the lines that were handled, what was written is what they give and a front of one more,
 -- and the answer is why it stopped there.
-pub record Drives (left0 left1 held0 held1 : Option (List ℕ)) (pending0 : List ℕ) (answer : Drove) (from : ℕ) (first : Site) (store : Option (List ℕ)) : Type 0 where
+pub record Drives (left0 left1 held0 held1 : Option (List ℕ)) (pending0 : List ℕ) (answer : Drove) (from : ℕ) (first : Site) : Type 0 where
   pub read : List ℕ
   pub written : List ℕ
   pub lines : List (List ℕ)
@@ -153,11 +155,15 @@ pub record Drives (left0 left1 held0 held1 : Option (List ℕ)) (pending0 : List
   pub limit : length (pending0 ++ read) + room ≡ 2 ^ 40
   pub stopped : Stopped (stop_of answer) left1 others room mid tail last
   pub number : NamesLine answer (from + length lines + 1)
-  pub store_holds : IfSome store (HoldsRecords last.records)
+
+-- The same, and what was done to the world that began as `start`: the steps of these lines and no others.
+pub record DrivesWorld {D : Type 0} (seen : D → Option (List ℕ)) (faults : D → ℕ) (start : World D) (left0 left1 held0 held1 : Option (List ℕ)) (pending0 : List ℕ) (answer : Drove) (from : ℕ) (first : Site) (world : World D) : Type 0 where
+  pub drives : Drives left0 left1 held0 held1 pending0 answer from first
+  pub since : IsSince seen faults start drives.last world
 
 -- a turn of the cluster at a site, and where it leaves the cluster
-pub record ShowsTurn {D : Type 0} (seen : D → Option (List ℕ)) (left0 left1 held0 held1 : Option (List ℕ)) (result : Result (Unit {0}) Stop) (pending0 : List ℕ) (room0 : ℕ) (old : Site) (pending1 : List ℕ) (room1 : ℕ) (cluster : Cluster D) : Type 0 where
+pub record ShowsTurn {D : Type 0} (seen : D → Option (List ℕ)) (faults : D → ℕ) (start : World D) (left0 left1 held0 held1 : Option (List ℕ)) (result : Result (Unit {0}) Stop) (pending0 : List ℕ) (room0 : ℕ) (old : Site) (pending1 : List ℕ) (room1 : ℕ) (cluster : Cluster D) : Type 0 where
   pub new : Site
   pub turned : Turned left0 left1 held0 held1 result pending0 room0 old pending1 room1 new
-  pub shows : OnOk result (Shows seen cluster new)
-  pub store : IfSome (seen (disk_of cluster.world)) (HoldsRecords new.records)
+  pub shows : OnOk result (Shows seen faults start cluster new)
+  pub since : IsSince seen faults start new cluster.world

@@ -4,8 +4,10 @@ pub mod Parts
 pub mod Entries
 pub mod Faults
 pub mod Talks
+pub mod Delivery
 pub mod Cluster
 pub mod Lines
 pub mod Stops
 pub mod Drive
+pub mod Booked
 pub mod Plans

@@ -1,9 +1,13 @@
 -- What reading a line of a tape leaves of the octets that were pending and taken.
-use Rattle.std.specs.Prelude.{◌≡◌, ℕ, ◌<◌, ◌≤◌, List, Option, Result, Ok, Err, length, ⊤}
+use Rattle.std.specs.Prelude.{◌≡◌, ℕ, ◌+◌, ◌<◌, ◌≤◌, List, Option, Result, Ok, Err, length, ⊤}
 use Rattle.std.specs.Io.KnownBytes.{IsAtEnd}
 use Rattle.mail_model.specs.Lines.{HasNoLf, BeginsWith}
 use Rattle.drive_tape.specs.declared.reader.LineStop.{LineStop}
 use Rattle.drive_tape.specs.declared.reader.LineStop.TheVariants.{ReadFault, EndedEarly, LongLine, TooLong, NoMemory}
+
+-- how many octets may be pending: a line that is not whole yet, and one piece
+abbrev pub most_pending : ℕ
+most_pending = 65_535 + 512
 
 abbrev pub Reads : Result (List ℕ) LineStop → Option (List ℕ) → List ℕ → List ℕ → Type 0
 Reads (Ok line) left octets pending = BeginsWith octets line pending

@@ -7,16 +7,17 @@ ghost use Rattle.mail_model.specs.Transcript as transcript;
 ghost use Rattle.mail_model.specs.Plan.{Plan};
 ghost use Rattle.mail_model.specs.Site.{Site, closed_event, opening};
 ghost use Rattle.smtp_session.specs.Replies.{text_of};
-ghost use Rattle.cluster_world.specs.World.{plan_of, is_up, drawn_of, disk_of, WorldHolds, Begins};
+ghost use Rattle.cluster_world.specs.World.{plan_of, is_up, drawn_of, disk_of, Begins};
+ghost use Rattle.cluster_world.specs.declared.world.World.{World as SeenWorld};
 ghost use Rattle.drive_tape.specs.Entries.{entry_of, entries_of};
 ghost use Rattle.drive_tape.specs.Cluster.{IsReady, Shows, StepDid, Filed, talker_entries};
 ghost use Rattle.drive_tape.specs.declared.sessions.Talker.TheVariants as talker;
-ghost use Rattle.mail_model.specs.Record.{Record};
 ghost use Rattle.mail_base.specs.Delivers.{mail_in};
 
+use crate::delivery::{Outcome, deliver};
 use crate::sessions::{Sessions, Talker};
 use crate::{Entry, Row, TapeFault};
-use cluster_world::{DeliverFault, World};
+use cluster_world::World;
 use io_edge::Disk;
 use mail_base::{Deliver, NodeNo, Octets, Plan};
 use smtp_session::{Heard, Reply};
@@ -148,7 +149,7 @@ impl<D: Disk> Cluster<D> {
         ensures world { result.world ≡ world }
         ensures talkers { result.sessions.talkers.items ≡ [] }
         ensures standing { result.sessions.standing ≡ 0 }
-        ensures shows { (plan : Plan) → Begins D.seen plan world → Shows D.seen result (opening plan) }
+        ensures shows { (plan : Plan) → Begins D.seen plan world → Shows D.seen D.faults world result (opening plan) }
         ensures ready { (plan : Plan) → Begins D.seen plan world → plan.nodes ≡ 1 → IsReady D.seen result }
     {
         Cluster {
@@ -166,13 +167,14 @@ impl<D: Disk> Cluster<D> {
     pub fn open(&mut self, alloc: Global, node: u64) -> Result<Row<Entry>, StepStop>
         requires ready { IsReady D.seen self.old }
         ensures ready { IsReady D.seen self.new }
-        ensures did { (site : Site) → Shows D.seen self.old site → StepDid D.seen result (tape.Order.Open node) site self.new }
+        ensures did { (start : SeenWorld D) (site : Site) → Shows D.seen D.faults start self.old site
+            → StepDid D.seen D.faults start result (tape.Order.Open node) site self.new }
         ensures drawn { drawn_of self.new.world ≡ drawn_of self.old.world }
     {
         let Some(node) = node_of(self.world.plan(), node) else {
             return Err(StepStop::Refused(TapeFault::NoSuchNode));
         };
-        if !self.world.is_up() {
+        if !self.world.is_up(node) {
             return Err(StepStop::Refused(TapeFault::NodeDown));
         }
         if self.sessions.standing >= 256 {
@@ -199,26 +201,23 @@ impl<D: Disk> Cluster<D> {
         Ok(entries)
     }
 
-    // Puts a message of the session on the disk, and says so; or the disk fails, and the node is down.
+    // Delivers a message of the session, and says so; or the disk fails, and the node is down.
     fn file(
         &mut self,
         alloc: Global,
         session: u64,
-        deliver: &Deliver,
+        message: Deliver,
     ) -> Result<Row<Entry>, StepStop>
         requires ready { IsReady D.seen self.old }
         requires up { IsTrue (is_up self.old.world) }
         requires drawn { drawn_of self.old.world < 2 ^ 64 - 1 }
         ensures ready { IsReady D.seen self.new }
-        ensures filed { (records : List Record) → WorldHolds D.seen records self.old.world
-            → Filed D.seen result session (mail_in deliver.now) records self.old self.new }
-        ensures plan { plan_of self.new.world ≡ plan_of self.old.world }
-        ensures drawn { drawn_of self.new.world ≡ drawn_of self.old.world + 1 }
+        ensures filed { Filed D.seen D.faults result session (mail_in message) self.old self.new }
+        ensures drawn { drawn_of self.new.world ≤ drawn_of self.old.world + 1 }
     {
-        match self.world.deliver(alloc, deliver) {
-            Ok(_) => Ok(says(alloc, session, Reply::Stored, first_node())?),
-            Err(DeliverFault::Disk) => Ok(self.fall(alloc)?),
-            Err(DeliverFault::NoMemory) => Err(StepStop::NoMemory),
+        match deliver(&mut self.world, alloc, first_node(), message)? {
+            Outcome::Stored => Ok(says(alloc, session, Reply::Stored, first_node())?),
+            Outcome::Fallen => Ok(self.fall(alloc)?),
         }
     }
 
@@ -234,11 +233,12 @@ impl<D: Disk> Cluster<D> {
         requires ready { IsReady D.seen self.old }
         requires drawn { drawn_of self.old.world < 2 ^ 64 - 1 }
         ensures ready { IsReady D.seen self.new }
-        ensures did { (site : Site) → Shows D.seen self.old site → StepDid D.seen result (tape.Order.Say session text.now) site self.new }
+        ensures did { (start : SeenWorld D) (site : Site) → Shows D.seen D.faults start self.old site
+            → StepDid D.seen D.faults start result (tape.Order.Say session text.now) site self.new }
         ensures drawn { drawn_of self.new.world ≤ drawn_of self.old.world + 1 }
     {
         // A node that is down has no session.
-        if !self.world.is_up() {
+        if !self.world.is_up(first_node()) {
             return Err(StepStop::Refused(TapeFault::NoSuchSession));
         }
         let Some(heard) = self.sessions.hear(alloc, self.world.plan(), session, text)? else {
@@ -248,7 +248,7 @@ impl<D: Disk> Cluster<D> {
             Heard::Collected => Ok(Row::new(alloc)),
             Heard::Said(reply) => Ok(says(alloc, session, reply, first_node())?),
             Heard::Closed(reply) => Ok(says_and_closes(alloc, session, reply, first_node())?),
-            Heard::Files(deliver) => Ok(self.file(alloc, session, &deliver)?),
+            Heard::Files(message) => Ok(self.file(alloc, session, message)?),
         }
     }
 

@@ -1,11 +1,15 @@
 // Drives a cluster by the run lines of a tape.
 ghost use Rattle.std.specs.Prelude.{◌≡◌, ◌+◌, ◌-◌, ◌^◌, ◌≤◌, ◌<◌, ◌++◌, [], List, ℕ, IfSome, IfErr, OnOk, IsErrOf, length};
 ghost use Rattle.io_edge.specs.Causes.{Rose};
-ghost use Rattle.mail_model.specs.Site.{Site, HoldsRecords};
-ghost use Rattle.cluster_world.specs.World.{drawn_of, disk_of};
+ghost use Rattle.mail_model.specs.Plan.{Plan};
+ghost use Rattle.mail_model.specs.Site.{Site, opening};
+ghost use Rattle.cluster_world.specs.World.{drawn_of, book_of};
+ghost use Rattle.cluster_world.specs.declared.world.World.{World as SeenWorld};
 ghost use Rattle.drive_tape.specs.Cluster.{IsReady, Shows};
 ghost use Rattle.drive_tape.specs.Lines.{LineDid, IsOwnStop};
-ghost use Rattle.drive_tape.specs.Drive.{ShowsTurn, Drives, stop_of, NamesLine};
+ghost use Rattle.drive_tape.specs.Drive.{ShowsTurn, DrivesWorld, stop_of, NamesLine};
+ghost use Rattle.drive_tape.specs.Booked.{BooksAsTold};
+ghost use Rattle.drive_tape.specs.Reads.{most_pending};
 
 use crate::cluster::{Cluster, StepStop};
 use crate::{Drove, Entry, LineReader, LineStop, Row, Stop, TapeFault, WriteStop, write_entries};
@@ -81,7 +85,8 @@ fn take_up<D: Disk>(
     requires ready { IsReady D.seen cluster.old }
     requires drawn { drawn_of cluster.old.world < 2 ^ 64 - 1 }
     ensures ready { IsReady D.seen cluster.new }
-    ensures did { (site : Site) → Shows D.seen cluster.old site → LineDid D.seen result line.now site cluster.new }
+    ensures did { (start : SeenWorld D) (site : Site) → Shows D.seen D.faults start cluster.old site
+        → LineDid D.seen D.faults start result line.now site cluster.new }
     ensures own { IfErr result IsOwnStop }
     ensures drawn { drawn_of cluster.new.world ≤ drawn_of cluster.old.world + 1 }
 {
@@ -104,12 +109,12 @@ fn turn<S: Source, K: Sink, D: Disk>(
     requires ready { IsReady D.seen cluster.old }
     requires drawn { drawn_of cluster.old.world < 2 ^ 64 - 1 }
     ensures ready { IsReady D.seen cluster.new }
-    ensures turned { (site : Site) → Shows D.seen cluster.old site
-        → ShowsTurn D.seen (S.left source.old) (S.left source.new) (K.contents sink.old) (K.contents sink.new) result
+    ensures turned { (start : SeenWorld D) (site : Site) → Shows D.seen D.faults start cluster.old site
+        → ShowsTurn D.seen D.faults start (S.left source.old) (S.left source.new) (K.contents sink.old) (K.contents sink.new) result
         reader.old.pending.items reader.old.left site reader.new.pending.items reader.new.left cluster.new }
     ensures drawn { drawn_of cluster.new.world ≤ drawn_of cluster.old.world + 1 }
     ensures less { OnOk result (length reader.new.pending.items + reader.new.left < length reader.old.pending.items + reader.old.left) }
-    ensures short { length reader.old.pending.items ≤ 66047 → length reader.new.pending.items ≤ 66047 }
+    ensures short { length reader.old.pending.items ≤ most_pending → length reader.new.pending.items ≤ most_pending }
     ensures read_later { S.faults source.old ≤ S.faults source.new }
     ensures write_later { K.faults sink.old ≤ K.faults sink.new }
     ensures read_fault { IsErrOf result Stop.ReadFault → Rose (S.faults source.old) (S.faults source.new) }
@@ -153,11 +158,14 @@ pub fn drive<S: Source, K: Sink, D: Disk>(
 ) -> Drove
     requires ready { IsReady D.seen cluster.old }
     requires drawn { drawn_of cluster.old.world ≡ 0 }
-    requires short { length reader.old.pending.items ≤ 66047 }
+    requires short { length reader.old.pending.items ≤ most_pending }
     requires few { from < 2 ^ 63 }
-    ensures drives { (first : Site) → Shows D.seen cluster.old first
-        → Drives (S.left source.old) (S.left source.new) (K.contents sink.old) (K.contents sink.new)
-        reader.old.pending.items result from first (D.seen (disk_of cluster.new.world)) }
+    ensures only_steps_of_tape { (start : SeenWorld D) (first : Site) → Shows D.seen D.faults start cluster.old first
+        → DrivesWorld D.seen D.faults start (S.left source.old) (S.left source.new) (K.contents sink.old) (K.contents sink.new)
+        reader.old.pending.items result from first cluster.new.world }
+    ensures acknowledged_as_told { (start : SeenWorld D) (plan : Plan) → plan.nodes ≡ 1 → Shows D.seen D.faults start cluster.old (opening plan)
+        → BooksAsTold (S.left source.old) (S.left source.new) (K.contents sink.old) (K.contents sink.new)
+        reader.old.pending.items result plan (book_of cluster.new.world) }
     ensures read_later { S.faults source.old ≤ S.faults source.new }
     ensures write_later { K.faults sink.old ≤ K.faults sink.new }
     ensures read_fault { stop_of result ≡ Stop.ReadFault → Rose (S.faults source.old) (S.faults source.new) }

@@ -19,8 +19,9 @@
 //!
 //! - `open smtp 1` opens a session, whose greeting is written.
 //! - `say k TEXT` gives session k the line TEXT. Its reply is written, and once it ended by `QUIT`, that
-//!   it is closed. A line of a text writes nothing. A whole message is put on the disk first, and its
-//!   session is told `250 stored` behind the last sync.
+//!   it is closed. A line of a text writes nothing. A whole message is delivered first: one step of the
+//!   world begins it, behind whose last sync it is on the disk, and one asks for it, by which it is in
+//!   the book. Then its session is told `250 stored`.
 //! - `end` ends the tape; nothing behind it is looked at.
 //!
 //! Where the disk fails at a message, the node is down from then on: in place of the reply come
@@ -68,7 +69,8 @@
 //! `mail_model`, whose definition of a site says what each line does. The contract of `drive` is a run of
 //! that definition: the octets that were taken begin with the lines that were handled, what was written
 //! is what they give and at most a front of what one more gives, the answer is why it went no further,
-//! and the disk holds the records that the run leaves.
+//! the world made the steps of these lines and no others, and its disk and its book hold what the run
+//! leaves. The book then has the messages that were answered `250 stored`, as they were told.
 //!
 //! WHAT IT DOES NOT DO
 //!
@@ -78,6 +80,7 @@
 #![tactic(auto)]
 
 mod cluster;
+mod delivery;
 mod driver;
 mod drove;
 mod entry;

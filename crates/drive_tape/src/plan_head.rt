@@ -4,6 +4,7 @@ ghost use Rattle.io_edge.specs.Causes.{Rose};
 ghost use Rattle.drive_tape.specs.Drive.{stop_of, NamesLine};
 ghost use Rattle.drive_tape.specs.Plans.{PlanTurned, ReadsPlan, IsBadPlan, HeadEnds};
 ghost use Rattle.mail_model.specs.Tape.{planned};
+ghost use Rattle.drive_tape.specs.Reads.{most_pending};
 
 use crate::driver::{TAPE_OCTETS, at_line};
 use crate::reader::LONGEST;
@@ -41,7 +42,7 @@ fn plan_turn<S: Source>(
     ensures turned { PlanTurned (S.left source.old) (S.left source.new) result
         reader.old.pending.items reader.old.left draft.old reader.new.pending.items reader.new.left draft.new }
     ensures less { OnOk result (length reader.new.pending.items + reader.new.left < length reader.old.pending.items + reader.old.left) }
-    ensures short { length reader.old.pending.items ≤ 66047 → length reader.new.pending.items ≤ 66047 }
+    ensures short { length reader.old.pending.items ≤ most_pending → length reader.new.pending.items ≤ most_pending }
     ensures read_later { S.faults source.old ≤ S.faults source.new }
     ensures read_fault { IsErrOf result Stop.ReadFault → Rose (S.faults source.old) (S.faults source.new) }
 {
@@ -99,10 +100,10 @@ pub fn read_plan<S: Source>(
     reader: &mut LineReader,
     source: &mut S,
 ) -> Result<PlanHead, Drove>
-    requires short { length reader.old.pending.items ≤ 66047 }
+    requires short { length reader.old.pending.items ≤ most_pending }
     ensures plan { ReadsPlan (S.left source.old) (S.left source.new) reader.old.pending.items result reader.new.pending.items }
     ensures few { IfOk result (λ head. head.lines ≤ 2 ^ 40) }
-    ensures short { length reader.new.pending.items ≤ 66047 }
+    ensures short { length reader.new.pending.items ≤ most_pending }
     ensures read_later { S.faults source.old ≤ S.faults source.new }
     ensures read_fault { IsErrOf result Drove.ReadFault → Rose (S.faults source.old) (S.faults source.new) }
 {

@@ -3,7 +3,7 @@ ghost use Rattle.std.specs.Prelude.{◌≡◌, ◌≢◌, ◌+◌, ◌-◌, ◌^
 ghost use Rattle.std.specs.Io.KnownBytes.{Consumes, IsAtEnd};
 ghost use Rattle.io_edge.specs.Causes.{Rose, HasCause};
 ghost use Rattle.mail_model.specs.Lines.{HasNoLf, BeginsWith};
-ghost use Rattle.drive_tape.specs.Reads.{Reads, IsPieceStop};
+ghost use Rattle.drive_tape.specs.Reads.{Reads, IsPieceStop, most_pending};
 
 use io_edge::{Failed, Source};
 use std::alloc::{AllocError, Global};
@@ -84,24 +84,28 @@ impl Line {
     }
 }
 
-// Where the first LF is.
-fn line_end(octets: &[u8]) -> Option<usize>
+// Where the first LF is, where none is among the first `seen` octets.
+fn line_end(octets: &[u8], seen: usize) -> Option<usize>
+    requires none { HasNoLf (take seen octets.now) }
+    requires within { seen ≤ length octets.now }
     ensures { MatchOption result (HasNoLf octets.now) (λ at. (at < length octets.now) × (slice_index octets.now at ≡ 10) × HasNoLf (take at octets.now)) }
 {
-    for (at, octet) in octets.iter().enumerate() {
-        if *octet == b'\n' {
+    for at in seen..octets.len() {
+        if octets[at] == b'\n' {
             return Some(at);
         }
     }
     None
 }
 
-// Takes the first line off what is pending, if it is whole. Unchanged on refusal.
-fn take_line(pending: &mut Vec<u8>) -> Result<Option<Line>, AllocError>
+// Takes the first line off what is pending, if it is whole; no LF is among the first `seen` octets. Unchanged on refusal.
+fn take_line(pending: &mut Vec<u8>, seen: usize) -> Result<Option<Line>, AllocError>
+    requires none { HasNoLf (take seen pending.old.items) }
+    requires within { seen ≤ length pending.old.items }
     ensures line { IfOk result (λ found. MatchOption found (HasNoLf pending.old.items × (pending.new.items ≡ pending.old.items)) (λ line. BeginsWith pending.old.items line pending.new.items)) }
     ensures err { OnErr result (pending.new.items ≡ pending.old.items) }
 {
-    match line_end(pending) {
+    match line_end(pending, seen) {
         None => Ok(None),
         Some(at) => {
             let rest = pending.split_off(at + 1)?;
@@ -147,12 +151,14 @@ impl LineReader {
             × Reads result (S.left source.new) (self.old.pending.items ++ taken) self.new.pending.items }
         ensures later { S.faults source.old ≤ S.faults source.new }
         ensures failed { IsErrOf result LineStop.ReadFault → Rose (S.faults source.old) (S.faults source.new) }
-        ensures short { length self.old.pending.items ≤ 66047 → length self.new.pending.items ≤ 66047 }
+        ensures short { length self.old.pending.items ≤ most_pending → length self.new.pending.items ≤ most_pending }
     {
+        let mut seen = 0;
         loop {
-            if let Some(line) = take_line(&mut self.pending)? {
+            if let Some(line) = take_line(&mut self.pending, seen)? {
                 return Ok(line);
             }
+            seen = self.pending.len();
             if self.pending.len() > LONGEST {
                 return Err(LineStop::LongLine);
             }

@@ -4,20 +4,22 @@ ghost use Rattle.std.specs.Prelude.{◌≡◌, IfSome, []};
 use crate::{
     Cluster, Drove, Entry, LineReader, LineStop, Row, TapeFault, drive, read_plan, write_entries,
 };
-use cluster_world::World;
+use cluster_world::{Entry as BookEntry, World};
 use io_edge::faulty::{FaultyDisk, FaultySink, FaultySource};
 use io_edge::{Disk, PlainDisk, Sink, SliceSource, Source, VecSink};
 use mail_base::Octets;
 use std::alloc::{AllocError, Global};
 use std::test::Fail;
 
-const PLAN: &[u8] = b"nodes 1\ncopies 1 1\nbuckets 1\nuser alice tanstaaf\npostmaster alice\ngo\n";
+// In another order than the usual one, and with two users.
+const PLAN: &[u8] =
+    b"user alice a\npostmaster carol\nbuckets 1\ncopies 1 1\nuser carol c\nnodes 1\ngo\n";
 
 const MESSAGE: &[u8] =
-    b"open smtp 1\nsay 1 HELO c.example\nsay 1 MAIL FROM:<bob@b.example>\nsay 1 RCPT TO:<alice>\nsay 1 DATA\nsay 1 Subject: hi\nsay 1\nsay 1 hello\nsay 1 .\n";
+    b"open smtp 1\nsay 1 HELO c.example\nsay 1 MAIL FROM:<>\nsay 1 RCPT TO:<postmaster>\nsay 1 RCPT TO:<alice>\nsay 1 DATA\nsay 1 Subject: hi\nsay 1\nsay 1 hello\nsay 1 .\n";
 
 const ASKED: &[u8] =
-    b"1 220 node1 Porcupine ready\n1 250 node1\n1 250 sender ok\n1 250 recipient ok\n1 354 end with a line that is a single period\n";
+    b"1 220 node1 Porcupine ready\n1 250 node1\n1 250 sender ok\n1 250 recipient ok\n1 250 recipient ok\n1 354 end with a line that is a single period\n";
 
 fn joined(alloc: Global, front: &[u8], rest: &[u8]) -> Result<Vec<u8>, AllocError> {
     let mut octets = front.to_vec(alloc)?;
@@ -25,122 +27,64 @@ fn joined(alloc: Global, front: &[u8], rest: &[u8]) -> Result<Vec<u8>, AllocErro
     Ok(octets)
 }
 
-// What the tape leads to on that disk.
+// What the book says: how many copies were acknowledged, and how many times a node went down.
+fn counts(book: &[BookEntry]) -> (u32, u32) {
+    let mut acked = 0u32;
+    let mut down = 0u32;
+    for entry in book {
+        match entry {
+            BookEntry::Acked { .. } => acked = acked.saturating_add(1),
+            BookEntry::Down { .. } => down = down.saturating_add(1),
+        }
+    }
+    (acked, down)
+}
+
+// What the tape leads to on that disk, and the counts of the book.
 fn run<S: Source, K: Sink, D: Disk + Drop>(
     alloc: Global,
     source: &mut S,
     sink: &mut K,
     disk: D,
-) -> Drove
+) -> (Drove, (u32, u32))
     requires { IfSome (D.seen disk) (λ held. held ≡ []) }
 {
     let mut reader = LineReader::new(alloc);
     let head = match read_plan(alloc, &mut reader, source) {
         Ok(head) => head,
-        Err(answer) => return answer,
+        Err(answer) => return (answer, (0, 0)),
     };
     let from = head.lines;
     let Ok(world) = World::open(alloc, head.plan, disk) else {
-        return Drove::NoMemory(from);
+        return (Drove::NoMemory(from), (0, 0));
     };
     let mut cluster = Cluster::new(alloc, world);
     let answer = drive(alloc, &mut reader, source, sink, &mut cluster, from);
+    let counted = counts(cluster.world.book().entries());
     let _disk = cluster.close();
-    answer
-}
-
-#[test]
-fn tapes_are_driven(rt: HostRuntime) -> Result<(), Fail> {
-    let alloc = rt.alloc();
-    let cases: [(&[u8], Drove, &[u8]); 7] = [
-        (b"end\nopen\n", Drove::Ended, b""),
-        (
-            b"open smtp 2\n",
-            Drove::BadTape(7, TapeFault::NoSuchNode),
-            b"",
-        ),
-        (b"open\n", Drove::BadTape(7, TapeFault::BadLine), b""),
-        (b"end", Drove::BadTape(7, TapeFault::BadLine), b""),
-        (
-            b"say 1 QUIT\n",
-            Drove::BadTape(7, TapeFault::NoSuchSession),
-            b"",
-        ),
-        (
-            b"open smtp 1\nsay 1 HELO c.example\nsay 1 QUIT\nsay 1 QUIT\n",
-            Drove::BadTape(10, TapeFault::NoSuchSession),
-            b"1 220 node1 Porcupine ready\n1 250 node1\n1 221 node1 closing\n* 1 closed\n",
-        ),
-        (
-            b"open smtp 1\nopen smtp 1\nsay 2 QUIT\nend\n",
-            Drove::Ended,
-            b"1 220 node1 Porcupine ready\n2 220 node1 Porcupine ready\n2 221 node1 closing\n* 2 closed\n",
-        ),
-    ];
-    for (lines, wanted, transcript) in cases {
-        let tape = joined(alloc, PLAN, lines)?;
-        let mut sink = VecSink::new(alloc);
-        let answer = run(
-            alloc,
-            &mut SliceSource::new(&tape),
-            &mut sink,
-            PlainDisk::new(alloc),
-        );
-        assert_eq!(rt; answer, wanted);
-        assert_eq!(rt; sink.held.as_slice(), transcript);
-    }
-    Ok(())
-}
-
-#[test]
-fn plans_are_read(rt: HostRuntime) {
-    let alloc = rt.alloc();
-    let cases: [(&[u8], u64, TapeFault); 4] = [
-        (b"nodes 1\nnodes 1\n", 2, TapeFault::BadPlan),
-        (b"nodes 1\ngo\n", 2, TapeFault::BadPlan),
-        (b"nodes 1\ngo", 2, TapeFault::BadLine),
-        (
-            b"nodes 2\ncopies 1 1\nbuckets 1\nuser a a\npostmaster a\ngo\n",
-            6,
-            TapeFault::BadPlan,
-        ),
-    ];
-    for (tape, line, fault) in cases {
-        let mut reader = LineReader::new(alloc);
-        match read_plan(alloc, &mut reader, &mut SliceSource::new(tape)) {
-            Ok(_) => panic!(rt; "a plan"),
-            Err(answer) => assert_eq!(rt; answer, Drove::BadTape(line, fault)),
-        }
-    }
+    (answer, counted)
 }
 
 #[test]
 fn a_message_is_stored_or_the_disk_fails(rt: HostRuntime) -> Result<(), Fail> {
     let alloc = rt.alloc();
+    let stored: &[u8] = b"1 250 stored\n2 220 node1 Porcupine ready\n";
     let fallen: &[u8] = b"* fault 1\n1 421 node1 down\n* 1 closed\n";
-    // The opening makes six disk calls, and the message eight.
-    let cases: [(u64, Drove, &[u8]); 4] = [
-        (
-            0,
-            Drove::Ended,
-            b"1 250 stored\n2 220 node1 Porcupine ready\n",
-        ),
-        (7, Drove::BadTape(16, TapeFault::NodeDown), fallen),
-        (14, Drove::BadTape(16, TapeFault::NodeDown), fallen),
-        (
-            15,
-            Drove::Ended,
-            b"1 250 stored\n2 220 node1 Porcupine ready\n",
-        ),
+    // The opening makes six disk calls, and the message for two mailboxes twelve.
+    let cases: [(u64, Drove, &[u8], (u32, u32)); 4] = [
+        (0, Drove::Ended, stored, (2, 0)),
+        (7, Drove::BadTape(18, TapeFault::NodeDown), fallen, (0, 1)),
+        (18, Drove::BadTape(18, TapeFault::NodeDown), fallen, (0, 1)),
+        (19, Drove::Ended, stored, (2, 0)),
     ];
-    for (call, wanted, transcript) in cases {
+    for (call, wanted, transcript, counted) in cases {
         let front = joined(alloc, PLAN, MESSAGE)?;
         let tape = joined(alloc, &front, b"open smtp 1\nend\n")?;
         let mut sink = VecSink::new(alloc);
         let disk = FaultyDisk::new(PlainDisk::new(alloc), call);
         assert_eq!(rt;
             run(alloc, &mut SliceSource::new(&tape), &mut sink, disk),
-            wanted
+            (wanted, counted)
         );
         assert_eq!(rt;
             sink.held.as_slice(),
@@ -163,41 +107,21 @@ fn streams_fail(rt: HostRuntime) -> Result<(), Fail> {
             Drove::ReadFault,
             b"1 220 node1 Porcupine ready\n1 221 node1 closing\n* 1 closed\n",
         ),
-        (0, 2, Drove::WriteFault(8), b"1 220 node1 Porcupine ready\n"),
+        (0, 2, Drove::WriteFault(9), b"1 220 node1 Porcupine ready\n"),
         (
             0,
             3,
-            Drove::WriteFault(8),
+            Drove::WriteFault(9),
             b"1 220 node1 Porcupine ready\n1 221 node1 closing\n",
         ),
     ];
     for (read, write, wanted, transcript) in cases {
         let mut source = FaultySource::new(SliceSource::new(&tape), read);
         let mut sink = FaultySink::new(VecSink::new(alloc), write);
-        assert_eq!(rt;
-            run(alloc, &mut source, &mut sink, PlainDisk::new(alloc)),
-            wanted
-        );
+        let (answer, _) = run(alloc, &mut source, &mut sink, PlainDisk::new(alloc));
+        assert_eq!(rt; answer, wanted);
         assert_eq!(rt; sink.inner.held.as_slice(), transcript);
     }
-    Ok(())
-}
-
-#[test]
-fn sessions_are_counted(rt: HostRuntime) -> Result<(), Fail> {
-    let alloc = rt.alloc();
-    let mut tape = PLAN.to_vec(alloc)?;
-    for _ in 0..257u32 {
-        tape.extend_from_slice(b"open smtp 1\n")?;
-    }
-    let mut sink = VecSink::new(alloc);
-    let answer = run(
-        alloc,
-        &mut SliceSource::new(&tape),
-        &mut sink,
-        PlainDisk::new(alloc),
-    );
-    assert_eq!(rt; answer, Drove::BadTape(263, TapeFault::TooManySessions));
     Ok(())
 }
 

@@ -1,12 +1,14 @@
 use Rattle.std.proofs.Common.{arith, ◌≡◌, ◌+◌, ◌^◌, length}
+use Rattle.mail_model.specs.Site.{opening}
 use Rattle.drive_tape.proofs.Runs.{start, goes_on, stops}
+use Rattle.drive_tape.proofs.Booked.{booked}
 use Rattle.drive_tape.proofs.driver.drive.Goals as goal
 
 pub loop-handled-init : goal.loop-handled-init
 loop-handled-init g c =
     let size : length c.args.reader.now.pending.items + c.limit.new.self.left ≡ 2 ^ 40 = omega (arith, c.limit.ensures.left, c.requires.short) in
     rw c.limit.ensures.pending (record {
-      progress = start g.D.Disk.seen _ _ _ _ _ size;
+      progress = start g.D.Disk.seen g.D.Disk.faults _ _ _ _ _ size;
       ready = c.requires.ready;
       drawn = omega (arith, c.requires.drawn);
       unread = omega (arith, size);
@@ -19,7 +21,7 @@ loop-handled-preserved g c =
     let loop = c.loop-handled.invariant in
     let turn = c.in-Ok.ensures in
     record {
-      progress = goes_on g.D.Disk.seen _ _ _ _ _ _ _ _ _ _ _ _ _ _ _ loop.progress turn.turned;
+      progress = goes_on g.D.Disk.seen g.D.Disk.faults _ _ _ _ _ _ _ _ _ _ _ _ _ _ _ loop.progress turn.turned;
       ready = turn.ready;
       drawn = omega (arith, loop.drawn, turn.drawn);
       unread = omega (arith, loop.unread, turn.less);
@@ -27,6 +29,11 @@ loop-handled-preserved g c =
       write_later = omega (arith, loop.write_later, turn.write_later);
     }
 
-pub returns-in-Err-clause-drives : goal.returns-in-Err-clause-drives
-returns-in-Err-clause-drives g c first shows =
-    stops g.D.Disk.seen _ _ _ _ _ _ _ _ _ _ _ _ _ _ _ _ _ _ c.loop-handled.invariant.progress c.in-Err.ensures.turned c.at_line.ensures.stop c.at_line.ensures.number first shows
+pub returns-in-Err-clause-only_steps_of_tape : goal.returns-in-Err-clause-only_steps_of_tape
+returns-in-Err-clause-only_steps_of_tape g c began first shows =
+    stops g.D.Disk.seen g.D.Disk.faults _ _ _ _ _ _ _ _ _ _ _ _ _ _ _ _ _ _ c.loop-handled.invariant.progress c.in-Err.ensures.turned c.at_line.ensures.stop c.at_line.ensures.number began first shows
+
+pub returns-in-Err-clause-acknowledged_as_told : goal.returns-in-Err-clause-acknowledged_as_told
+returns-in-Err-clause-acknowledged_as_told g c began plan one shows =
+    booked g.D.Disk.seen g.D.Disk.faults began _ _ _ _ _ _ plan _ _ one
+    (stops g.D.Disk.seen g.D.Disk.faults _ _ _ _ _ _ _ _ _ _ _ _ _ _ _ _ _ _ c.loop-handled.invariant.progress c.in-Err.ensures.turned c.at_line.ensures.stop c.at_line.ensures.number began (opening plan) shows)

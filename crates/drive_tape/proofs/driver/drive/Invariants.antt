@@ -6,7 +6,7 @@ use Rattle.drive_tape.proofs.driver.drive.Given as goal
 
 abbrev pub invariant-loop-handled : goal.invariant-loop-handled
 invariant-loop-handled g l = record {
-  progress : ShowsProgress g.D.Disk.seen (g.S.Source.left l.fn.source) (g.S.Source.left l.source) (g.K.Sink.contents l.fn.sink) (g.K.Sink.contents l.sink)
+  progress : ShowsProgress g.D.Disk.seen g.D.Disk.faults (g.S.Source.left l.fn.source) (g.S.Source.left l.source) (g.K.Sink.contents l.fn.sink) (g.K.Sink.contents l.sink)
       l.fn.reader.pending.items l.fn.cluster l.reader.pending.items l.cluster l.handled l.reader.left;
   ready : IsReady g.D.Disk.seen l.cluster;
   drawn : drawn_of l.cluster.world ≤ l.handled;

@@ -1,5 +1,7 @@
-use Rattle.std.proofs.Common.{◌≡◌, ◌+◌, ◌≤◌, ◌++◌, List, ℕ, length}
+use Rattle.std.proofs.Common.{◌≡◌, ◌+◌, ◌≤◌, ◌++◌, List, ℕ, length, take}
+use Rattle.mail_model.specs.Lines.{HasNoLf}
 use Rattle.std.specs.Io.KnownBytes.{Consumes}
+use Rattle.drive_tape.specs.Reads.{most_pending}
 use Rattle.drive_tape.proofs.reader.LineReader.next_line.Given as goal
 
 -- what was taken lies behind what was pending
@@ -7,7 +9,9 @@ abbrev pub invariant-loop-line : goal.invariant-loop-line
 invariant-loop-line g l = record {
   octets : (taken : List ℕ) × Consumes (g.S.Source.left l.fn.source) (g.S.Source.left l.source) taken
       × (l.self.pending.items ≡ l.fn.self.pending.items ++ taken) × (l.self.left + length taken ≡ l.fn.self.left);
-  short : length l.fn.self.pending.items ≤ 66047 → length l.self.pending.items ≤ 66047;
+  none : HasNoLf (take l.seen l.self.pending.items);
+  within : l.seen ≤ length l.self.pending.items;
+  short : length l.fn.self.pending.items ≤ most_pending → length l.self.pending.items ≤ most_pending;
   later : g.S.Source.faults l.fn.source ≤ g.S.Source.faults l.source;
 }
 
