@@ -1,2 +1,7 @@
 mod Promises
 mod OneWord
+mod NextLine
+mod FewDrafts
+mod GoodPlan
+mod GoodRun
+mod Complete

@@ -1,6 +1,6 @@
 -- The first promise, from what the work on a tape did and the last line.
 use Rattle.std.proofs.Common.{◌≡◌, ◌≢◌, ℕ, List, [], ◌∷◌, ◌++◌, length, map, flat_map, All, Option, Ok, refl, sym, ap, ◌∙◌, subst, arith, append_assoc, length-append, inl, inr, ⊎_elim, codes}
-use Rattle.std.specs.Prelude.{◌⊎◌}
+use Rattle.std.specs.Prelude.{◌⊎◌, IfSome}
 use Rattle.std.specs.Fmt.{decimal}
 use Rattle.std.specs.Io.KnownBytes.{Consumes, Appends}
 use Rattle.std.proofs.lemmas.List.{append-nil, map-append}
@@ -11,7 +11,7 @@ use Rattle.io_edge.proofs.Known.{consumes_more, appends_more}
 use Rattle.mail_model.specs.Lines.{HasNoLf, ended}
 use Rattle.mail_model.specs.Transcript.{Entry, entry_line, written_of}
 use Rattle.mail_model.specs.Transcript.Entry.{Said, Event, Refused}
-use Rattle.mail_model.specs.Site.{IsEnding, TapeFault, fault_name, opening, all_of}
+use Rattle.mail_model.specs.Site.{IsEnding, TapeFault, fault_name, opening, all_of, HoldsRecords}
 use Rattle.mail_model.specs.Stored.{stored_sessions}
 use Rattle.mail_model.proofs.OneLine.{by_test, decimal_no_lf, runs_lines}
 use Rattle.mail_model.proofs.Promise.{runs_keep_stored}
@@ -29,7 +29,7 @@ use Rattle.drive_tape.proofs.Cuts.{cut_whole, lines_each, rest_each}
 use Rattle.porcupine_server.specs.declared.ending.Ending.{Ending}
 use Rattle.porcupine_server.specs.declared.ending.Ending.TheVariants.{Done, Line, Read, Write, Store, NoMemory}
 use Rattle.porcupine_server.specs.Endings.{ending_of, status_of, last_entries, Finishes}
-use Rattle.porcupine_server.specs.Works.{Works, NoPlan, NoStore, Served, IsBeforeRun}
+use Rattle.porcupine_server.specs.Works.{Works, NoPlan, NoStore, Ran, Served, IsBeforeRun}
 use Rattle.porcupine_server.specs.Kept.{KeepsStored}
 
 abbrev IsNoLf : ℕ → Type 0
@@ -181,7 +181,7 @@ tape_whole head lines others go pending rest read1 read2 others1 others2 first l
 module _ {D : Type 0} (seen : D → Option (List ℕ)) (returned0 returned1 : Option (List (ℕ × ℕ × D))) (left0 between left1 held0 middle held1 : Option (List ℕ))
     (head : PlanHead) (pending : List ℕ) (answer : Drove) (given : D)
     (back : Adds returned0 returned1 (0, 1, given)) (reads : ReadsPlan left0 between [] (Ok head) pending)
-    (d : Drives between left1 held0 middle pending answer head.lines (opening head.plan) (seen given)) (last : Last middle held1 (ending_of answer)) where
+    (d : Drives between left1 held0 middle pending answer head.lines (opening head.plan)) (held : IfSome (seen given) (HoldsRecords d.last.records)) (last : Last middle held1 (ending_of answer)) where
   kept_with : (ending : List Entry) (cut : List ℕ) → d.written ++ (written_of last.front ++ last.cut) ≡ written_of ((all_of d.outputs ++ d.stopped.front) ++ ending) ++ cut
       → AreLines ending → HasNoLf cut → IsEnding ending → KeepsStored seen returned0 returned1 left0 left1 held0 held1
   kept_with ending cut whole each rest ends =
@@ -218,7 +218,7 @@ module _ {D : Type 0} (seen : D → Option (List ℕ)) (returned0 returned1 : Op
             goes = go.2;
             plan_is = go.3;
           },
-          runs_keep_stored head.plan d.lines (lines_in d.others) d.outputs d.mid d.last d.stopped.front ending (seen given) served.0 served.2 d.each (lines_each d.others) d.runs d.stopped.off ends d.store_holds,
+          runs_keep_stored head.plan d.lines (lines_in d.others) d.outputs d.mid d.last d.stopped.front ending (seen given) served.0 served.2 d.each (lines_each d.others) d.runs d.stopped.off ends held,
         );
       }
 
@@ -245,23 +245,23 @@ module _ {D : Type 0} (seen : D → Option (List ℕ)) (returned0 returned1 : Op
           ∙ join_last (all_of d.outputs) d.stopped.front last.front last.cut
 
 -- whatever the work did
-pub kept : {D : Type 0} (seen : D → Option (List ℕ)) (returned0 returned1 : Option (List (ℕ × ℕ × D))) (left0 left1 held0 middle held1 : Option (List ℕ)) (ending : Ending) (status : ℕ)
-    → Works seen returned0 returned1 left0 left1 held0 middle ending → Finishes middle held1 ending status → KeepsStored seen returned0 returned1 left0 left1 held0 held1
-kept seen returned0 returned1 left0 left1 held0 middle held1 ending status works finishes = ⊎_elim
+pub kept : {D : Type 0} (seen : D → Option (List ℕ)) (faults : D → ℕ) (handed0 handed1 returned0 returned1 : Option (List (ℕ × ℕ × D))) (left0 left1 held0 middle held1 : Option (List ℕ)) (ending : Ending) (status : ℕ)
+    → Works seen faults handed0 handed1 returned0 returned1 left0 left1 held0 middle ending → Finishes middle held1 ending status → KeepsStored seen returned0 returned1 left0 left1 held0 held1
+kept seen faults handed0 handed1 returned0 returned1 left0 left1 held0 middle held1 ending status works finishes = ⊎_elim
     (λ (none : NoPlan left0 left1 held0 middle ending). kept_nothing seen returned0 returned1 left0 left1 held0 middle held1 ending none.reads.read none.reads.took none.none last)
-    (λ (some : NoStore left0 left1 held0 middle ending ⊎ Served seen returned0 returned1 left0 left1 held0 middle ending). ⊎_elim
+    (λ (some : NoStore left0 left1 held0 middle ending ⊎ Served seen faults handed0 handed1 returned0 returned1 left0 left1 held0 middle ending). ⊎_elim
     (λ (none : NoStore left0 left1 held0 middle ending). kept_nothing seen returned0 returned1 left0 left1 held0 middle held1 ending none.reads.read none.reads.took none.none last)
-    (λ (served : Served seen returned0 returned1 left0 left1 held0 middle ending). by_serving served) some)
+    (λ (served : Served seen faults handed0 handed1 returned0 returned1 left0 left1 held0 middle ending). by_serving served) some)
     works
   where
     last : Last middle held1 ending
     last = lasts middle held1 ending status finishes
 
-    by_serving : Served seen returned0 returned1 left0 left1 held0 middle ending → KeepsStored seen returned0 returned1 left0 left1 held0 held1
+    by_serving : Served seen faults handed0 handed1 returned0 returned1 left0 left1 held0 middle ending → KeepsStored seen returned0 returned1 left0 left1 held0 held1
     by_serving served = ⊎_elim
         (λ (none : (left1 ≡ served.between) × (middle ≡ held0) × IsBeforeRun ending).
         kept_nothing seen returned0 returned1 left0 left1 held0 middle held1 ending served.reads.read (subst (λ (left : Option (List ℕ)). Consumes left0 left served.reads.read) (sym none.0) served.reads.took) none.1 last)
-        (λ (ran : (answer : Drove) × (ending ≡ ending_of answer) × Drives served.between left1 held0 middle served.pending answer served.head.lines (opening served.head.plan) (seen served.given)).
-        kept_run seen returned0 returned1 left0 served.between left1 held0 middle held1 served.head served.pending ran.0 served.given served.back served.reads ran.2
-        (subst (λ (e : Ending). Last middle held1 e) ran.1 last))
+        (λ (ran : Ran seen faults served.between left1 held0 middle served.pending served.head ending served.taken served.given).
+        kept_run seen returned0 returned1 left0 served.between left1 held0 middle held1 served.head served.pending ran.answer served.given served.back served.reads ran.drives ran.store
+        (subst (λ (e : Ending). Last middle held1 e) ran.is last))
         served.serves

@@ -1,14 +1,15 @@
 -- The first promise, over the octets that the program read and wrote and the store that it gave back.
-use Rattle.std.specs.Prelude.{◌≡◌, ◌⊎◌, ℕ, List, [], ◌∷◌, ◌++◌, map, flat_map, All, Option, Some}
+use Rattle.std.specs.Prelude.{◌≡◌, ◌⊎◌, ℕ, List, [], ◌∷◌, ◌++◌, flat_map, All, Option, Some}
 use Rattle.std.specs.Io.KnownBytes.{Consumes, Appends}
 use Rattle.io_edge.specs.Yards.{Adds}
 use Rattle.mail_model.specs.Lines.{HasNoLf, ended}
 use Rattle.mail_model.specs.Plan.{Plan}
 use Rattle.mail_model.specs.Tape.{Draft, empty_draft, planned, tape_plan_line}
 use Rattle.mail_model.specs.Tape.PlanLine.{Go}
-use Rattle.mail_model.specs.Transcript.{Entry, entry_line, written_of}
+use Rattle.mail_model.specs.Transcript.{Entry}
 use Rattle.mail_model.specs.Stored.{StoredStands, stored_sessions}
 use Rattle.drive_tape.specs.Plans.{DraftsTo}
+use Rattle.drive_tape.specs.Booked.{IsTranscript}
 
 -- The octets are a tape: plan lines, `go`, whole run lines, and what follows the last LF.
 pub record IsTape (octets : List ℕ) (plan : Plan) (lines : List (List ℕ)) : Type 0 where
@@ -24,13 +25,6 @@ pub record IsTape (octets : List ℕ) (plan : Plan) (lines : List (List ℕ)) : 
   pub drafts : DraftsTo empty_draft head draft
   pub goes : tape_plan_line go ≡ Some Go
   pub plan_is : planned draft ≡ Some plan
-
--- The octets are whole lines of a transcript, and a line that is cut.
-pub record IsTranscript (octets : List ℕ) (entries : List Entry) : Type 0 where
-  pub cut : List ℕ
-  pub whole : octets ≡ written_of entries ++ cut
-  pub each : All HasNoLf (map entry_line entries)
-  pub rest : HasNoLf cut
 
 -- No message was answered 250; or the store was given back, and each that was stands there.
 pub record KeepsStored {D : Type 0} (seen : D → Option (List ℕ)) (returned0 returned1 : Option (List (ℕ × ℕ × D))) (left0 left1 held0 held1 : Option (List ℕ)) : Type 0 where

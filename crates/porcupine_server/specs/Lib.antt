@@ -2,4 +2,5 @@ pub mod Words
 pub mod Endings
 pub mod Stores
 pub mod Works
+pub mod Complete
 pub mod Kept

@@ -1,7 +1,8 @@
 -- What the work on a tape did: the plan was read, the store was opened, and the run lines were handled.
-use Rattle.std.specs.Prelude.{◌≡◌, ◌⊎◌, ℕ, List, [], Option, Ok, Err, ⊤}
-use Rattle.io_edge.specs.Yards.{Adds}
-use Rattle.mail_model.specs.Site.{opening}
+use Rattle.std.specs.Prelude.{◌≡◌, ◌⊎◌, ℕ, false, List, [], Option, IfSome, Ok, Err, ⊤}
+use Rattle.io_edge.specs.Causes.{Rose}
+use Rattle.io_edge.specs.Yards.{Adds, with_last}
+use Rattle.mail_model.specs.Site.{opening, HoldsRecords}
 use Rattle.drive_tape.specs.declared.drove.Drove.{Drove}
 use Rattle.drive_tape.specs.declared.plan_head.PlanHead.{PlanHead}
 use Rattle.drive_tape.specs.Drive.{Drives}
@@ -19,11 +20,20 @@ IsBeforeRun Write = ⊥
 IsBeforeRun Store = ⊤
 IsBeforeRun NoMemory = ⊤
 
+-- The run lines were handled, over a disk that was one when it was handed out and another when it was given back.
+pub record Ran {D : Type 0} (seen : D → Option (List ℕ)) (faults : D → ℕ) (left0 left1 held0 held1 : Option (List ℕ)) (pending : List ℕ) (head : PlanHead) (ending : Ending) (taken given : D) : Type 0 where
+  pub answer : Drove
+  pub is : ending ≡ ending_of answer
+  pub drives : Drives left0 left1 held0 held1 pending answer head.lines (opening head.plan)
+  pub store : IfSome (seen given) (HoldsRecords drives.last.records)
+  -- the node fell only where the disk failed
+  pub fallen : drives.last.up ≡ false → Rose (faults taken) (faults given)
+
 -- the store was not opened, and nothing was read or written; or the run lines were handled
-abbrev pub Serves : Option (List ℕ) → Option (List ℕ) → Option (List ℕ) → Option (List ℕ) → List ℕ → PlanHead → Ending → Option (List ℕ) → Type 0
-Serves left0 left1 held0 held1 pending head ending store =
+abbrev pub Serves : {D : Type 0} → (D → Option (List ℕ)) → (D → ℕ) → Option (List ℕ) → Option (List ℕ) → Option (List ℕ) → Option (List ℕ) → List ℕ → PlanHead → Ending → D → D → Type 0
+Serves seen faults left0 left1 held0 held1 pending head ending taken given =
     ((left1 ≡ left0) × (held1 ≡ held0) × IsBeforeRun ending)
-    ⊎ ((answer : Drove) × (ending ≡ ending_of answer) × Drives left0 left1 held0 held1 pending answer head.lines (opening head.plan) store)
+    ⊎ Ran seen faults left0 left1 held0 held1 pending head ending taken given
 
 -- The plan was not read, and nothing was written.
 pub record NoPlan (left0 left1 held0 held1 : Option (List ℕ)) (ending : Ending) : Type 0 where
@@ -42,22 +52,24 @@ pub record NoStore (left0 left1 held0 held1 : Option (List ℕ)) (ending : Endin
   pub none : held1 ≡ held0
 
 -- The plan was read, and a store was handed out, served, and given back.
-pub record Served {D : Type 0} (seen : D → Option (List ℕ)) (returned0 returned1 : Option (List (ℕ × ℕ × D))) (left0 left1 held0 held1 : Option (List ℕ)) (ending : Ending) : Type 0 where
+pub record Served {D : Type 0} (seen : D → Option (List ℕ)) (faults : D → ℕ) (handed0 handed1 returned0 returned1 : Option (List (ℕ × ℕ × D))) (left0 left1 held0 held1 : Option (List ℕ)) (ending : Ending) : Type 0 where
   pub head : PlanHead
   pub pending : List ℕ
   pub between : Option (List ℕ)
+  pub taken : D
   pub given : D
   pub reads : ReadsPlan left0 between [] (Ok head) pending
-  pub serves : Serves between left1 held0 held1 pending head ending (seen given)
+  pub out : handed1 ≡ with_last handed0 (0, 1, taken)
+  pub serves : Serves seen faults between left1 held0 held1 pending head ending taken given
   pub back : Adds returned0 returned1 (0, 1, given)
 
-abbrev pub Works : {D : Type 0} → (D → Option (List ℕ)) → Option (List (ℕ × ℕ × D)) → Option (List (ℕ × ℕ × D)) → Option (List ℕ) → Option (List ℕ) → Option (List ℕ) → Option (List ℕ) → Ending → Type 0
-Works seen returned0 returned1 left0 left1 held0 held1 ending =
-    NoPlan left0 left1 held0 held1 ending ⊎ NoStore left0 left1 held0 held1 ending ⊎ Served seen returned0 returned1 left0 left1 held0 held1 ending
+abbrev pub Works : {D : Type 0} → (D → Option (List ℕ)) → (D → ℕ) → Option (List (ℕ × ℕ × D)) → Option (List (ℕ × ℕ × D)) → Option (List (ℕ × ℕ × D)) → Option (List (ℕ × ℕ × D)) → Option (List ℕ) → Option (List ℕ) → Option (List ℕ) → Option (List ℕ) → Ending → Type 0
+Works seen faults handed0 handed1 returned0 returned1 left0 left1 held0 held1 ending =
+    NoPlan left0 left1 held0 held1 ending ⊎ NoStore left0 left1 held0 held1 ending ⊎ Served seen faults handed0 handed1 returned0 returned1 left0 left1 held0 held1 ending
 
 -- The whole: the work, and then the last line, where there is one.
-pub record Follows {D : Type 0} (seen : D → Option (List ℕ)) (returned0 returned1 : Option (List (ℕ × ℕ × D))) (left0 left1 held0 held1 : Option (List ℕ)) (status : ℕ) : Type 0 where
+pub record Follows {D : Type 0} (seen : D → Option (List ℕ)) (faults : D → ℕ) (handed0 handed1 returned0 returned1 : Option (List (ℕ × ℕ × D))) (left0 left1 held0 held1 : Option (List ℕ)) (status : ℕ) : Type 0 where
   pub ending : Ending
   pub middle : Option (List ℕ)
-  pub works : Works seen returned0 returned1 left0 left1 held0 middle ending
+  pub works : Works seen faults handed0 handed1 returned0 returned1 left0 left1 held0 middle ending
   pub last : Finishes middle held1 ending status

@@ -1,10 +1,12 @@
 // The top call.
-ghost use Rattle.std.specs.Prelude.{◌≡◌, ◌≤◌, ◌^◌, [], length, IfSome};
+ghost use Rattle.std.specs.Prelude.{◌≡◌, ◌⊎◌, ◌≤◌, ◌^◌, ℕ, List, [], length, IfSome, Some};
 ghost use Rattle.io_edge.specs.Causes.{Rose};
 ghost use Rattle.drive_tape.specs.Plans.{IsServed};
-ghost use Rattle.porcupine_server.specs.Words.{IsDrive};
+ghost use Rattle.drive_tape.specs.Reads.{most_pending};
+ghost use Rattle.porcupine_server.specs.Words.{IsDrive, RefusesWords};
 ghost use Rattle.porcupine_server.specs.Stores.{DiskFailed, StoreFailed};
 ghost use Rattle.porcupine_server.specs.Works.{Serves, Works, Follows};
+ghost use Rattle.porcupine_server.specs.Complete.{IsGoodTape};
 ghost use Rattle.porcupine_server.specs.Kept.{KeepsStored};
 ghost use Rattle.porcupine_server.specs.declared.ending.Ending.TheVariants as endings;
 
@@ -26,9 +28,9 @@ fn serve<S: Source, K: Sink, D: Disk>(
 ) -> (Ending, D)
     requires plan { IsServed head.plan }
     requires few { head.lines ≤ 2 ^ 40 }
-    requires short { length reader.pending.items ≤ 66047 }
-    ensures serves { Serves (S.left source.old) (S.left source.new) (K.contents sink.old) (K.contents sink.new)
-        reader.pending.items head result.0 (D.seen result.1) }
+    requires short { length reader.pending.items ≤ most_pending }
+    ensures serves { Serves D.seen D.faults (S.left source.old) (S.left source.new) (K.contents sink.old) (K.contents sink.new)
+        reader.pending.items head result.0 disk result.1 }
     ensures read_later { S.faults source.old ≤ S.faults source.new }
     ensures write_later { K.faults sink.old ≤ K.faults sink.new }
     ensures read_fault { result.0 ≡ endings.Read → Rose (S.faults source.old) (S.faults source.new) }
@@ -58,8 +60,8 @@ fn work<S: Source, K: Sink, Y: Yard>(
     sink: &mut K,
     yard: &mut Y,
 ) -> Ending
-    ensures works { Works Y.Store.seen (Y.returned yard.old) (Y.returned yard.new) (S.left source.old) (S.left source.new)
-        (K.contents sink.old) (K.contents sink.new) result }
+    ensures works { Works Y.Store.seen Y.Store.faults (Y.handed yard.old) (Y.handed yard.new) (Y.returned yard.old) (Y.returned yard.new)
+        (S.left source.old) (S.left source.new) (K.contents sink.old) (K.contents sink.new) result }
     ensures read_later { S.faults source.old ≤ S.faults source.new }
     ensures write_later { K.faults sink.old ≤ K.faults sink.new }
     ensures read_fault { result ≡ endings.Read → Rose (S.faults source.old) (S.faults source.new) }
@@ -108,14 +110,20 @@ pub fn porcupine<S: Source, K: Sink, Y: Yard>(
 ) -> u8
     ensures stored_stands { IsDrive words.now → KeepsStored Y.Store.seen (Y.returned yard.old) (Y.returned yard.new)
         (S.left source.old) (S.left source.new) (K.contents sink.old) (K.contents sink.new) }
-    ensures transcript_follows { IsDrive words.now → Follows Y.Store.seen (Y.returned yard.old) (Y.returned yard.new)
-        (S.left source.old) (S.left source.new) (K.contents sink.old) (K.contents sink.new) result }
+    ensures transcript_follows { IsDrive words.now → Follows Y.Store.seen Y.Store.faults (Y.handed yard.old) (Y.handed yard.new)
+        (Y.returned yard.old) (Y.returned yard.new) (S.left source.old) (S.left source.new) (K.contents sink.old) (K.contents sink.new) result }
     ensures words_refused { (IsDrive words.now → ⊥) → (result ≡ 1) × (S.left source.new ≡ S.left source.old) × (Y.handed yard.new ≡ Y.handed yard.old) }
+    ensures words_told { (IsDrive words.now → ⊥) → RefusesWords (K.contents sink.old) (K.contents sink.new) (K.faults sink.old) (K.faults sink.new) }
     ensures words_taken { IsDrive words.now → result ≡ 1 → ⊥ }
     ensures read_fault { result ≡ 4 → Rose (S.faults source.old) (S.faults source.new) }
     ensures write_fault { result ≡ 5 → Rose (K.faults sink.old) (K.faults sink.new) }
     ensures store_fault { result ≡ 6 → StoreFailed Y.Store.seen Y.Store.faults (Y.handed yard.old) (Y.handed yard.new)
         (Y.returned yard.old) (Y.returned yard.new) (Y.faults yard.old) (Y.faults yard.new) }
+    ensures complete { IsDrive words.now → (tape : List ℕ) → S.left source.old ≡ Some tape → IsGoodTape tape
+        → (Rose (S.faults source.old) (S.faults source.new) → ⊥) → (Rose (K.faults sink.old) (K.faults sink.new) → ⊥)
+        → (StoreFailed Y.Store.seen Y.Store.faults (Y.handed yard.old) (Y.handed yard.new)
+        (Y.returned yard.old) (Y.returned yard.new) (Y.faults yard.old) (Y.faults yard.new) → ⊥)
+        → (result ≡ 0) ⊎ (result ≡ 7) }
 {
     if !is_drive(words) {
         // The status tells it all the same where the line cannot be written.

@@ -1,22 +1,35 @@
-// Whole tapes, and each part of the outside failing in turn.
+// Whole tapes through the program's one call, over an outside in memory.
+
+mod faults;
+mod messages;
+mod plans;
+mod replies;
+mod run_lines;
+mod store;
 
 use crate::server::porcupine;
-use io_edge::faulty::{FaultyDisk, FaultySink, FaultySource, FaultyYard};
-use io_edge::{Disk, MemoryYard, PlainDisk, SliceSource, VecSink, Yard};
+use io_edge::faulty::FaultyDisk;
+use io_edge::{MemoryYard, PlainDisk, SliceSource, VecSink};
 use std::alloc::{AllocError, Global};
+use std::process::Abort;
 use std::test::Fail;
 
+/// A plan of six lines, with the one user alice.
 const PLAN: &[u8] = b"nodes 1\ncopies 1 1\nbuckets 1\nuser alice tanstaaf\npostmaster alice\ngo\n";
 
-const MESSAGE: &[u8] =
-    b"open smtp 1\nsay 1 HELO c.example\nsay 1 MAIL FROM:<bob@b.example>\nsay 1 RCPT TO:<alice>\nsay 1 DATA\nsay 1 .\n";
+// The pieces, one behind the other.
+fn joined(alloc: Global, pieces: &[&[u8]]) -> Result<Vec<u8>, AllocError> {
+    let mut octets = Vec::new(alloc);
+    for piece in pieces {
+        octets.extend_from_slice(piece)?;
+    }
+    Ok(octets)
+}
 
-const ASKED: &[u8] =
-    b"1 220 node1 Porcupine ready\n1 250 node1\n1 250 sender ok\n1 250 recipient ok\n1 354 end with a line that is a single period\n";
-
-fn joined(alloc: Global, front: &[u8], rest: &[u8]) -> Result<Vec<u8>, AllocError> {
-    let mut octets = front.to_vec(alloc)?;
-    octets.extend_from_slice(rest)?;
+// This octet so many times.
+fn repeated(alloc: Global, octet: u8, count: usize) -> Result<Vec<u8>, AllocError> {
+    let mut octets = Vec::new(alloc);
+    octets.resize(count, octet)?;
     Ok(octets)
 }
 
@@ -27,122 +40,105 @@ fn words(alloc: Global, word: &str) -> Result<Vec<String>, AllocError> {
     Ok(words)
 }
 
-// A yard of one store, which holds these octets, and of which this disk call fails.
+/// What a run of the program left.
+#[derive(Drop)]
+struct Run {
+    status: u8,
+    transcript: Vec<u8>,
+    /// What the store holds that was given back, and nothing where none was.
+    store: Vec<u8>,
+}
+
+// A yard of one store, which holds these octets, and of which this disk call fails; none where it is 0.
 fn yard_of(
     alloc: Global,
     held: &[u8],
-    call: u64,
+    failing: u64,
 ) -> Result<MemoryYard<FaultyDisk<PlainDisk>>, AllocError> {
     let mut disk = PlainDisk::new(alloc);
     disk.octets.extend_from_slice(held)?;
     let mut stores = Vec::new(alloc);
-    stores.push(FaultyDisk::new(disk, call))?;
+    stores.push(FaultyDisk::new(disk, failing))?;
     Ok(MemoryYard::new(alloc, stores))
 }
 
-#[test]
-fn tapes_have_their_transcripts(rt: HostRuntime) -> Result<(), Fail> {
-    let alloc = rt.alloc();
-    let cases: [(&[u8], u8, &[u8]); 4] = [
-        (b"end\n", 0, b""),
-        (b"open smtp 2\n", 3, b"! line 7 NoSuchNode\n"),
-        (b"say 1 NOOP\n", 3, b"! line 7 NoSuchSession\n"),
-        (b"open sm", 3, b"! line 7 BadLine\n"),
-    ];
-    for (lines, status, transcript) in cases {
-        let tape = joined(alloc, PLAN, lines)?;
-        let mut sink = VecSink::new(alloc);
-        let mut yard = yard_of(alloc, b"", 0)?;
-        let answer = porcupine(
-            alloc,
-            &words(alloc, "drive")?,
-            &mut SliceSource::new(&tape),
-            &mut sink,
-            &mut yard,
-        );
-        assert_eq!(rt; answer, status);
-        assert_eq!(rt; sink.held.as_slice(), transcript);
-        assert_eq!(rt; yard.returned.len(), 1);
-    }
-    Ok(())
+// Runs `drive` on the tape, over an empty store of which this disk call fails.
+fn drive(alloc: Global, tape: &[u8], failing: u64) -> Result<Run, AllocError> {
+    let mut yard = yard_of(alloc, b"", failing)?;
+    let mut sink = VecSink::new(alloc);
+    let status = porcupine(
+        alloc,
+        &words(alloc, "drive")?,
+        &mut SliceSource::new(tape),
+        &mut sink,
+        &mut yard,
+    );
+    let store = match yard.returned.pop() {
+        Some((_, _, disk)) => disk.inner.octets,
+        None => Vec::new(alloc),
+    };
+    Ok(Run {
+        status,
+        transcript: sink.held,
+        store,
+    })
 }
 
-#[test]
-fn disk_calls_fail(rt: HostRuntime) -> Result<(), Fail> {
-    let alloc = rt.alloc();
-    let fallen: &[u8] = b"* fault 1\n1 421 node1 down\n* 1 closed\n! line 13 NoSuchSession\n";
-    // The length is one call, the opening six, and the message eight.
-    let cases: [(u64, u8, &[u8]); 6] = [
-        (1, 6, b"! disk 0 1\n"),
-        (2, 6, b"! disk 0 1\n"),
-        (7, 6, b"! disk 0 1\n"),
-        (8, 3, fallen),
-        (15, 3, fallen),
-        (16, 0, b"1 250 stored\n1 221 node1 closing\n* 1 closed\n"),
-    ];
-    let front = joined(alloc, PLAN, MESSAGE)?;
-    let tape = joined(alloc, &front, b"say 1 QUIT\nend\n")?;
-    for (call, status, rest) in cases {
-        let mut sink = VecSink::new(alloc);
-        let answer = porcupine(
+/// A tape, and what the program has to write for it.
+///
+/// It is written as lines, of which those that begin with two spaces are the program's.
+#[derive(Drop)]
+struct Script {
+    alloc: Global,
+    tape: Vec<u8>,
+    wanted: Vec<u8>,
+    /// The disk call that fails, the first being 1; none where it is 0.
+    failing: u64,
+}
+
+impl Script {
+    fn new(alloc: Global, lines: &[u8]) -> Result<Script, AllocError> {
+        let mut script = Script {
             alloc,
-            &words(alloc, "drive")?,
-            &mut SliceSource::new(&tape),
-            &mut sink,
-            &mut yard_of(alloc, b"", call)?,
-        );
-        assert_eq!(rt; answer, status);
-        let front: &[u8] = if status == 6 { b"" } else { ASKED };
+            tape: Vec::new(alloc),
+            wanted: Vec::new(alloc),
+            failing: 0,
+        };
+        script.add(lines)?;
+        Ok(script)
+    }
+
+    fn add(&mut self, lines: &[u8]) -> Result<(), AllocError> {
+        for line in lines.split_inclusive(|octet| *octet == b'\n') {
+            match line.strip_prefix(b"  ") {
+                Some(written) => self.wanted.extend_from_slice(written)?,
+                None => self.tape.extend_from_slice(line)?,
+            }
+        }
+        Ok(())
+    }
+
+    // Runs the tape, and compares.
+    fn run(&self, rt: &impl Abort, status: u8) -> Result<Run, Fail> {
+        let run = drive(self.alloc, &self.tape, self.failing)?;
         assert_eq!(rt;
-            sink.held.as_slice(),
-            joined(alloc, front, rest)?.as_slice()
+            str::from_utf8(&run.transcript)?,
+            str::from_utf8(&self.wanted)?
         );
+        assert_eq!(rt; run.status, status);
+        Ok(run)
     }
-    Ok(())
 }
 
-#[test]
-fn the_outside_fails(rt: HostRuntime) -> Result<(), Fail> {
-    let alloc = rt.alloc();
-    let tape = joined(alloc, PLAN, b"open smtp 1\nsay 1 QUIT\nend\n")?;
-    // Which read, which write and which store fails, the first being 1; what the store holds; the status and the transcript.
-    let cases: [(u64, u64, u64, &[u8], u8, &[u8]); 4] = [
-        (1, 0, 0, b"", 4, b"! read\n"),
-        (0, 2, 0, b"", 5, b"1 220 node1 Porcupine ready\n"),
-        (0, 0, 1, b"", 6, b"! disk 0 1\n"),
-        (0, 0, 0, b"x", 6, b"! disk 0 1\n"),
-    ];
-    for (read, write, store, held, status, transcript) in cases {
-        let mut source = FaultySource::new(SliceSource::new(&tape), read);
-        let mut sink = FaultySink::new(VecSink::new(alloc), write);
-        let mut yard = FaultyYard::new(yard_of(alloc, held, 0)?, store);
-        let answer = porcupine(
-            alloc,
-            &words(alloc, "drive")?,
-            &mut source,
-            &mut sink,
-            &mut yard,
-        );
-        assert_eq!(rt; answer, status);
-        assert_eq!(rt; sink.inner.held.as_slice(), transcript);
-    }
-    Ok(())
-}
-
-#[test]
-fn other_words_are_refused(rt: HostRuntime) -> Result<(), Fail> {
-    let alloc = rt.alloc();
-    for word in ["", "Drive", "drive ", "-h"] {
-        let mut sink = VecSink::new(alloc);
-        let answer = porcupine(
-            alloc,
-            &words(alloc, word)?,
-            &mut SliceSource::new(b""),
-            &mut sink,
-            &mut yard_of(alloc, b"", 0)?,
-        );
-        assert_eq!(rt; answer, 1);
-        assert_eq!(rt; sink.held.as_slice(), b"! words\n".as_slice());
+// Runs each case of the table behind these lines: a case goes through a line that begins with `!`.
+fn each_refused(rt: &impl Abort, alloc: Global, front: &[u8], table: &[u8]) -> Result<(), Fail> {
+    let mut script = Script::new(alloc, front)?;
+    for line in table.split_inclusive(|octet| *octet == b'\n') {
+        script.add(line)?;
+        if line.starts_with(b"  !") {
+            script.run(rt, 3)?;
+            script = Script::new(alloc, front)?;
+        }
     }
     Ok(())
 }

@@ -27,8 +27,10 @@ returns-clause-works g c = inr (inr (record {
   head = c.in-Ok.head;
   pending = c.read_plan.new.reader.pending.items;
   between = g.S.Source.left c.read_plan.new.source;
+  taken = c.in-Ok-store.disk;
   given = c.serve-ending.result.1;
   reads = rw c.new-reader.ensures.pending at c.in-Ok.ensures.plan;
+  out = c.give_back.ensures.handed ∙ c.in-Ok-store.ensures.handed;
   serves = c.serve-ending.ensures.serves;
   back = rw c.in-Ok-store.ensures.returned at c.give_back.ensures.returned;
 }))

@@ -1,0 +1,99 @@
+-- What comes next behind lines that were read from a text.
+use Rattle.std.proofs.Common.{◌≡◌, ◌≢◌, ◌≤◌, ℕ, List, [], ◌∷◌, ◌++◌, length, flat_map, All, refl, sym, ap, ◌∙◌, arith, append_assoc, length-append, inl, inr, ⊎_elim}
+use Rattle.std.specs.Prelude.{◌⊎◌}
+use Rattle.std.proofs.lemmas.List.{append_cancel_left}
+use Rattle.std.proofs.lemmas.List.Elements.{All-head, All-tail}
+use Rattle.mail_model.specs.Lines.{HasNoLf, BeginsWith, ended}
+use Rattle.drive_tape.specs.Cut.{lines_in}
+use Rattle.drive_tape.proofs.Cuts.{lines_begin}
+
+abbrev IsNoLf : ℕ → Type 0
+IsNoLf x = x ≢ 10
+
+first_of : {X : Type 0} → X → List X → X
+first_of x [] = x
+first_of x (y ∷ ys) = y
+
+rest_of : {X : Type 0} → List X → List X
+rest_of [] = []
+rest_of (x ∷ xs) = xs
+
+-- two lists that are equal begin alike, and go on alike
+same_first : {X : Type 0} (x y : X) (xs ys : List X) → x ∷ xs ≡ y ∷ ys → x ≡ y
+unfolding first_of
+same_first x y xs ys is = ap (first_of x) is
+
+same_rest : {X : Type 0} (x y : X) (xs ys : List X) → x ∷ xs ≡ y ∷ ys → xs ≡ ys
+unfolding rest_of
+same_rest x y xs ys is = ap rest_of is
+
+-- octets begin with one line
+pub same_line : (octets x a y b : List ℕ) → BeginsWith octets x a → BeginsWith octets y b → (x ≡ y) × (a ≡ b)
+same_line octets x a y b first second =
+    let same = same_first x y (lines_in a) (lines_in b) (sym (lines_begin octets x a first) ∙ lines_begin octets y b second) in
+    (same, same_rest 10 10 a b (append_cancel_left y (10 ∷ a) (10 ∷ b) (ap (λ (l : List ℕ). l ++ 10 ∷ a) (sym same) ∙ sym first.whole ∙ second.whole)))
+
+-- and so do longer ones
+pub begins_more : (octets line rest more : List ℕ) → BeginsWith octets line rest → BeginsWith (octets ++ more) line (rest ++ more)
+begins_more octets line rest more begins = record {
+  whole = ap (λ (l : List ℕ). l ++ more) begins.whole ∙ append_assoc line (10 ∷ rest) more;
+  one = begins.one;
+}
+
+-- octets with no LF that a line begins with are no longer than the line
+pub within_line : (octets more line rest : List ℕ) → HasNoLf octets → octets ++ more ≡ line ++ 10 ∷ rest → length octets ≤ length line
+within_line [] more line rest none is = omega arith
+within_line (x ∷ octets) more [] rest none is = absurd (All-head IsNoLf x octets none (same_first x 10 (octets ++ more) rest is))
+within_line (x ∷ octets) more (y ∷ line) rest none is =
+    let shorter = within_line octets more line rest (All-tail IsNoLf x octets none) (same_rest x y (octets ++ more) (line ++ 10 ∷ rest) is) in
+    omega (arith, shorter)
+
+-- octets with no LF begin with no line
+pub no_line : (octets line rest : List ℕ) → HasNoLf octets → octets ++ [] ≡ line ++ 10 ∷ rest → ⊥
+no_line octets line rest none is =
+    omega (arith, within_line octets [] line rest none is, ap length is, length-append octets [], length-append line (10 ∷ rest))
+
+-- the octets behind some of the lines of a text: the next line, and others
+pub record Ahead (all lines : List (List ℕ)) (behind more : List ℕ) : Type 0 where
+  pub next : List ℕ
+  pub others : List (List ℕ)
+  pub split : all ≡ lines ++ next ∷ others
+  pub begins : BeginsWith more next (flat_map ended others ++ behind)
+
+-- a text that begins with a line and others
+line_first : (line : List ℕ) (lines : List (List ℕ)) (behind : List ℕ) → flat_map ended (line ∷ lines) ++ behind ≡ line ++ 10 ∷ (flat_map ended lines ++ behind)
+line_first line lines behind = append_assoc (ended line) (flat_map ended lines) behind ∙ append_assoc line (10 ∷ []) (flat_map ended lines ++ behind)
+
+-- A text that is some lines and more, in two ways: the lines of the second are a front of those of the first, or go beyond them.
+pub next_line : (all lines : List (List ℕ)) (behind more : List ℕ) → All HasNoLf all → All HasNoLf lines
+    → flat_map ended all ++ behind ≡ flat_map ended lines ++ more → Ahead all lines behind more ⊎ ((extra : List (List ℕ)) × (lines ≡ all ++ extra))
+next_line [] lines behind more each read is = inr (lines, refl)
+next_line (x ∷ all) [] behind more each read is =
+    inl (record { next = x; others = all; split = refl; begins = record { whole = sym is ∙ line_first x all behind; one = All-head HasNoLf x all each } })
+next_line (x ∷ all) (y ∷ lines) behind more each read is =
+    let same = same_line (flat_map ended (x ∷ all) ++ behind) x (flat_map ended all ++ behind) y (flat_map ended lines ++ more)
+    (record { whole = line_first x all behind; one = All-head HasNoLf x all each })
+    (record { whole = is ∙ line_first y lines more; one = All-head HasNoLf y lines read }) in
+    ⊎_elim
+    (λ (ahead : Ahead all lines behind more). inl (record {
+      next = ahead.next;
+      others = ahead.others;
+      split = ap (λ (l : List (List ℕ)). x ∷ l) ahead.split ∙ ap (λ (l : List ℕ). l ∷ (lines ++ ahead.next ∷ ahead.others)) same.0;
+      begins = ahead.begins;
+    }))
+    (λ (beyond : (extra : List (List ℕ)) × (lines ≡ all ++ extra)).
+    inr (beyond.0, ap (λ (l : List (List ℕ)). y ∷ l) beyond.1 ∙ ap (λ (l : List ℕ). l ∷ (all ++ beyond.0)) (sym same.0)))
+    (next_line all lines behind more (All-tail HasNoLf x all each) (All-tail HasNoLf y lines read) same.1)
+
+-- where one list with a last element is cut: at that element, or before it
+pub last_or_before : {X : Type 0} (xs : List X) (last : X) (front : List X) (x : X) (rest : List X) → xs ++ last ∷ [] ≡ front ++ x ∷ rest
+    → ((xs ≡ front) × (last ≡ x) × (rest ≡ [])) ⊎ ((others : List X) × (xs ≡ front ++ x ∷ others))
+last_or_before [] last [] x rest is = inl (refl, same_first last x [] rest is, sym (same_rest last x [] rest is))
+last_or_before [] last (f ∷ front) x rest is = absurd (omega (arith, ap length is, length-append front (x ∷ rest)))
+last_or_before (y ∷ xs) last [] x rest is = inr (xs, ap (λ z. z ∷ xs) (same_first y x (xs ++ last ∷ []) rest is))
+last_or_before (y ∷ xs) last (f ∷ front) x rest is =
+    let first = same_first y f (xs ++ last ∷ []) (front ++ x ∷ rest) is in
+    ⊎_elim
+    (λ (here : (xs ≡ front) × (last ≡ x) × (rest ≡ [])). inl (ap (λ l. y ∷ l) here.0 ∙ ap (λ z. z ∷ front) first, here.1, here.2))
+    (λ (before : (others : List _) × (xs ≡ front ++ x ∷ others)). inr (before.0, ap (λ l. y ∷ l) before.1 ∙ ap (λ z. z ∷ (front ++ x ∷ before.0)) first))
+    (last_or_before xs last front x rest (same_rest y f (xs ++ last ∷ []) (front ++ x ∷ rest) is))

@@ -1,0 +1,129 @@
+// Each part of the outside failing in turn, and other words.
+
+use super::{PLAN, Script, joined, words, yard_of};
+use crate::server::porcupine;
+use io_edge::faulty::{FaultySink, FaultySource, FaultyYard};
+use io_edge::{SliceSource, VecSink};
+use std::alloc::{AllocError, Global};
+use std::test::Fail;
+
+const ASKED: &[u8] = b"\
+open smtp 1
+  1 220 node1 Porcupine ready
+open smtp 1
+  2 220 node1 Porcupine ready
+open smtp 1
+  3 220 node1 Porcupine ready
+say 1 QUIT
+  1 221 node1 closing
+  * 1 closed
+say 2 HELO c.example
+  2 250 node1
+say 2 MAIL FROM:<bob@b.example>
+  2 250 sender ok
+say 2 RCPT TO:<alice>
+  2 250 recipient ok
+say 2 DATA
+  2 354 end with a line that is a single period
+say 2 .
+";
+
+const FALLEN: &[u8] = b"  * fault 1
+  2 421 node1 down
+  * 2 closed
+  3 421 node1 down
+  * 3 closed
+";
+
+// The tape of one message, of which this disk call fails.
+fn asked(alloc: Global, failing: u64, rest: &[u8]) -> Result<Script, AllocError> {
+    let mut script = Script::new(alloc, PLAN)?;
+    script.failing = failing;
+    script.add(ASKED)?;
+    script.add(rest)?;
+    Ok(script)
+}
+
+#[test]
+fn a_disk_fault_takes_the_node_down(rt: HostRuntime) -> Result<(), Fail> {
+    let alloc = rt.alloc();
+    // The length of the store is one disk call, the opening six, and the message eight.
+    asked(alloc, 16, b"  2 250 stored\nend\n")?.run(&rt, 0)?;
+    let rests: [&[u8]; 4] = [
+        b"open smtp 1\n  ! line 16 NodeDown\n",
+        b"open smtp 2\n  ! line 16 NoSuchNode\n",
+        b"say 2 QUIT\n  ! line 16 NoSuchSession\n",
+        b"say 3 QUIT\n  ! line 16 NoSuchSession\n",
+    ];
+    for failing in 8..16u64 {
+        for rest in rests {
+            let lines = joined(alloc, &[FALLEN, rest])?;
+            asked(alloc, failing, &lines)?.run(&rt, 3)?;
+        }
+    }
+    Ok(())
+}
+
+#[test]
+fn a_store_fails_as_it_is_opened(rt: HostRuntime) -> Result<(), Fail> {
+    for failing in 1..8u64 {
+        let mut script = Script::new(rt.alloc(), PLAN)?;
+        script.failing = failing;
+        script.add(b"open smtp 1\nend\n  ! disk 0 1\n")?;
+        script.run(&rt, 6)?;
+    }
+    Ok(())
+}
+
+#[test]
+fn the_outside_fails(rt: HostRuntime) -> Result<(), Fail> {
+    let alloc = rt.alloc();
+    let tape = joined(alloc, &[PLAN, b"open smtp 1\nsay 1 QUIT\nend\n"])?;
+    // Which read, which write and which store fails, the first being 1; what the store holds; the status and the transcript.
+    let cases: [(u64, u64, u64, &[u8], u8, &[u8]); 5] = [
+        (1, 0, 0, b"", 4, b"! read\n"),
+        (0, 1, 0, b"", 5, b""),
+        (0, 2, 0, b"", 5, b"1 220 node1 Porcupine ready\n"),
+        (0, 0, 1, b"", 6, b"! disk 0 1\n"),
+        (0, 0, 0, b"x", 6, b"! disk 0 1\n"),
+    ];
+    for (read, write, store, held, status, transcript) in cases {
+        let mut sink = FaultySink::new(VecSink::new(alloc), write);
+        let answer = porcupine(
+            alloc,
+            &words(alloc, "drive")?,
+            &mut FaultySource::new(SliceSource::new(&tape), read),
+            &mut sink,
+            &mut FaultyYard::new(yard_of(alloc, held, 0)?, store),
+        );
+        assert_eq!(rt; answer, status);
+        assert_eq!(rt; sink.inner.held.as_slice(), transcript);
+    }
+    Ok(())
+}
+
+#[test]
+fn other_words_are_refused(rt: HostRuntime) -> Result<(), Fail> {
+    let alloc = rt.alloc();
+    // Which write fails, and what is written.
+    let cases: [(&str, u64, &[u8]); 5] = [
+        ("", 0, b"! words\n"),
+        ("Drive", 0, b"! words\n"),
+        ("drive ", 0, b"! words\n"),
+        ("-h", 0, b"! words\n"),
+        ("-h", 1, b""),
+    ];
+    for (word, write, written) in cases {
+        let mut sink = FaultySink::new(VecSink::new(alloc), write);
+        let answer = porcupine(
+            alloc,
+            &words(alloc, word)?,
+            &mut SliceSource::new(b""),
+            &mut sink,
+            &mut yard_of(alloc, b"", 0)?,
+        );
+        assert_eq!(rt; answer, 1);
+        assert_eq!(rt; sink.inner.held.as_slice(), written);
+    }
+    Ok(())
+}

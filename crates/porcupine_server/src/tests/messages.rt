@@ -1,0 +1,254 @@
+// Messages that are stored, and what the store holds of them.
+
+use super::store::Journal;
+use super::{PLAN, Script, joined, repeated};
+use std::alloc::{AllocError, Global};
+use std::test::Fail;
+
+const BEGIN: &[u8] = b"\
+open smtp 1
+  1 220 node1 Porcupine ready
+say 1 HELO c.example
+  1 250 node1
+";
+
+const ENVELOPE: &[u8] = b"\
+say 1 MAIL FROM:<bob@b.example>
+  1 250 sender ok
+say 1 RCPT TO:<alice>
+  1 250 recipient ok
+say 1 DATA
+  1 354 end with a line that is a single period
+";
+
+const STORED: &[u8] = b"\
+say 1 .
+  1 250 stored
+";
+
+// One session, which sends a message of each of these lines of text.
+fn sent(alloc: Global, texts: &[&[u8]]) -> Result<Script, AllocError> {
+    let mut script = Script::new(alloc, PLAN)?;
+    script.add(BEGIN)?;
+    for text in texts {
+        script.add(ENVELOPE)?;
+        script.add(text)?;
+        script.add(STORED)?;
+    }
+    script.add(b"end\n")?;
+    Ok(script)
+}
+
+#[test]
+fn one_message_is_stored(rt: HostRuntime) -> Result<(), Fail> {
+    let alloc = rt.alloc();
+    // Besides the message the store has 88 octets.
+    let cases: [(&[u8], &[u8], usize); 2] = [
+        (b"", b"", 129),
+        (
+            b"say 1 Subject: hi\nsay 1\nsay 1 hello\n",
+            b"Subject: hi\r\n\r\nhello\r\n",
+            151,
+        ),
+    ];
+    for (lines, text, length) in cases {
+        let run = sent(alloc, &[lines])?.run(&rt, 0)?;
+        assert_eq!(rt; run.store.len(), length + 88);
+        let mut journal = Journal::new(alloc)?;
+        journal.message(b"bob@b.example", b"c.example", &[b"alice"], text)?;
+        journal.is_held(&rt, &run.store)?;
+    }
+    Ok(())
+}
+
+// Lines that are no end of the text, and octets of every kind.
+const LINES: &[u8] = b"\
+say 1 ...
+say 1 .a
+say 1 .\x20
+say 1 .\r\r
+say 1  .
+say 1 x\r.\ry
+say 1 \r
+say 1
+say 1\x20
+say 1 a\0b\x07\x7F\x80\xFF\t\x20
+say 1 QUIT
+";
+
+const TEXT: &[u8] =
+    b"..\r\na\r\n \r\n\r\r\n .\r\nx\r.\ry\r\n\r\n\r\n\r\na\0b\x07\x7F\x80\xFF\t \r\nQUIT\r\n";
+
+#[test]
+fn texts_are_stored_octet_for_octet(rt: HostRuntime) -> Result<(), Fail> {
+    let alloc = rt.alloc();
+    let texts: [&[u8]; 3] = [b"say 1 ..\n", LINES, b"say 1 ..\nsay 1 .\r.\n"];
+    let run = sent(alloc, &texts)?.run(&rt, 0)?;
+    let mut journal = Journal::new(alloc)?;
+    for text in [b".\r\n".as_slice(), TEXT, b".\r\n\r.\r\n"] {
+        journal.message(b"bob@b.example", b"c.example", &[b"alice"], text)?;
+    }
+    journal.is_held(&rt, &run.store)?;
+    Ok(())
+}
+
+#[test]
+fn a_line_of_a_text_has_no_limit(rt: HostRuntime) -> Result<(), Fail> {
+    let alloc = rt.alloc();
+    // The longest that a line of a tape can say.
+    let line = repeated(alloc, b'y', 65_529)?;
+    let lines = joined(alloc, &[b"say 1 ", &line, b"\n"])?;
+    let text = joined(alloc, &[&line, b"\r\n"])?;
+    let run = sent(alloc, &[&lines])?.run(&rt, 0)?;
+    let mut journal = Journal::new(alloc)?;
+    journal.message(b"bob@b.example", b"c.example", &[b"alice"], &text)?;
+    journal.is_held(&rt, &run.store)?;
+    Ok(())
+}
+
+const BOTH: &[u8] = b"\
+nodes 1
+copies 1 1
+buckets 7
+user alice x
+user bob x
+postmaster bob
+go
+open smtp 1
+  1 220 node1 Porcupine ready
+open smtp 1
+  2 220 node1 Porcupine ready
+say 2 HELO two.example
+  2 250 node1
+say 1 HELO one.example
+  1 250 node1
+say 1 MAIL FROM:<a@one>
+  1 250 sender ok
+say 2 MAIL FROM:<b@two>
+  2 250 sender ok
+say 2 RCPT TO:<bob>
+  2 250 recipient ok
+say 1 RCPT TO:<alice>
+  1 250 recipient ok
+say 2 RCPT TO:<alice>
+  2 250 recipient ok
+say 1 DATA
+  1 354 end with a line that is a single period
+say 2 DATA
+  2 354 end with a line that is a single period
+say 1 first of one
+say 2 first of two
+say 2 .
+  2 250 stored
+say 2 MAIL FROM:<>
+  2 250 sender ok
+say 1 HELO in.the.text
+say 1 .
+  1 250 stored
+say 1 MAIL FROM:<@gate,@way:c@one>
+  1 250 sender ok
+say 2 RCPT TO:<POSTMASTER>
+  2 250 recipient ok
+say 1 RCPT TO:<ALICE>
+  1 250 recipient ok
+say 1 RCPT TO:<postmaster>
+  1 250 recipient ok
+say 1 RCPT TO:<bob>
+  1 250 recipient ok
+say 2 DATA
+  2 354 end with a line that is a single period
+say 1 DATA
+  1 354 end with a line that is a single period
+say 1 .
+  1 250 stored
+say 1 QUIT
+  1 221 node1 closing
+  * 1 closed
+say 2 second of two
+say 2 .
+  2 250 stored
+say 2 HELO three.example
+  2 250 node1
+say 2 MAIL FROM:<d@two>
+  2 250 sender ok
+say 2 RCPT TO:<@relay:Bob>
+  2 250 recipient ok
+say 2 DATA
+  2 354 end with a line that is a single period
+say 2 third of two
+say 2 .
+  2 250 stored
+end
+";
+
+#[test]
+fn two_sessions_take_turns(rt: HostRuntime) -> Result<(), Fail> {
+    let run = Script::new(rt.alloc(), BOTH)?.run(&rt, 0)?;
+    let mut journal = Journal::new(rt.alloc())?;
+    let one: &[u8] = b"one.example";
+    let two: &[u8] = b"two.example";
+    journal.message(b"b@two", two, &[b"bob", b"alice"], b"first of two\r\n")?;
+    journal.message(
+        b"a@one",
+        one,
+        &[b"alice"],
+        b"first of one\r\nHELO in.the.text\r\n",
+    )?;
+    journal.message(b"c@one", one, &[b"alice", b"bob"], b"")?;
+    journal.message(b"", two, &[b"bob"], b"second of two\r\n")?;
+    journal.message(b"d@two", b"three.example", &[b"bob"], b"third of two\r\n")?;
+    journal.is_held(&rt, &run.store)?;
+    Ok(())
+}
+
+// A text of 16,384 lines of 1,024 octets each with their CRLF, the first of which has this octet more.
+fn large(alloc: Global, octet: u8) -> Result<Vec<u8>, AllocError> {
+    let line = repeated(alloc, b'x', 1022)?;
+    let mut lines = joined(alloc, &[b"say 1 ", &[octet], &line, b"\n"])?;
+    for _ in 1..16_384u32 {
+        lines.extend_from_slice(b"say 1 ")?;
+        lines.extend_from_slice(&line)?;
+        lines.push(b'\n')?;
+    }
+    Ok(lines)
+}
+
+// What such a text leaves where the octet is a period.
+fn largest(alloc: Global) -> Result<Vec<u8>, AllocError> {
+    let mut line = repeated(alloc, b'x', 1022)?;
+    line.extend_from_slice(b"\r\n")?;
+    let mut text = Vec::new(alloc);
+    for _ in 0..16_384u32 {
+        text.extend_from_slice(&line)?;
+    }
+    Ok(text)
+}
+
+const TOO_LARGE: &[u8] = b"\
+say 1 .
+  1 552 message too large
+say 1 DATA
+  1 503 bad order
+";
+
+#[test]
+fn texts_have_a_greatest_length(rt: HostRuntime) -> Result<(), Fail> {
+    let alloc = rt.alloc();
+    let most = large(alloc, b'.')?;
+    let more = large(alloc, b'x')?;
+    let mut script = Script::new(alloc, PLAN)?;
+    let parts: [&[u8]; 10] = [
+        BEGIN, ENVELOPE, &most, STORED, ENVELOPE, &more, TOO_LARGE, ENVELOPE, STORED, b"end\n",
+    ];
+    for part in parts {
+        script.add(part)?;
+    }
+    let run = script.run(&rt, 0)?;
+    let text = largest(alloc)?;
+    assert_eq!(rt; text.len(), 16_777_216);
+    let mut journal = Journal::new(alloc)?;
+    journal.message(b"bob@b.example", b"c.example", &[b"alice"], &text)?;
+    journal.message(b"bob@b.example", b"c.example", &[b"alice"], b"")?;
+    journal.is_held(&rt, &run.store)?;
+    Ok(())
+}

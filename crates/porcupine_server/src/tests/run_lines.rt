@@ -1,0 +1,255 @@
+// Run lines: which are taken, and which fault the others have.
+
+use super::{PLAN, Script, drive, each_refused, joined, repeated};
+use std::alloc::{AllocError, Global};
+use std::process::Abort;
+use std::test::Fail;
+
+const FAULTS: &[u8] = b"\
+shut 1
+  ! line 7 BadLine
+
+  ! line 7 BadLine
+nodes 1
+  ! line 7 BadLine
+go
+  ! line 7 BadLine
+open
+  ! line 7 BadLine
+open smtp
+  ! line 7 BadLine
+open smtp\x20
+  ! line 7 BadLine
+open smtp x
+  ! line 7 BadLine
+open smtp -1
+  ! line 7 BadLine
+open smtp 1 1
+  ! line 7 BadLine
+open smtp  1
+  ! line 7 BadLine
+open  smtp 1
+  ! line 7 BadLine
+open smtp 1\x20
+  ! line 7 BadLine
+open smtp 1\r\r
+  ! line 7 BadLine
+open SMTP 1
+  ! line 7 BadLine
+open smtp 000000000000000000001
+  ! line 7 BadLine
+open smtp 18446744073709551616
+  ! line 7 BadLine
+open smtp 18446744073709551615
+  ! line 7 NoSuchNode
+open smtp 0
+  ! line 7 NoSuchNode
+open smtp 2
+  ! line 7 NoSuchNode
+say
+  ! line 7 BadLine
+say\x20
+  ! line 7 BadLine
+say x
+  ! line 7 BadLine
+say 1x
+  ! line 7 BadLine
+say\t1
+  ! line 7 BadLine
+say  1 QUIT
+  ! line 7 BadLine
+say -1 QUIT
+  ! line 7 BadLine
+say 18446744073709551616 QUIT
+  ! line 7 BadLine
+say 18446744073709551615 QUIT
+  ! line 7 NoSuchSession
+say 0 a
+  ! line 7 NoSuchSession
+say 0
+  ! line 7 NoSuchSession
+say 1
+  ! line 7 NoSuchSession
+say 1 NOOP
+  ! line 7 NoSuchSession
+open smtp 1
+  1 220 node1 Porcupine ready
+say 2 a
+  ! line 8 NoSuchSession
+open smtp 1
+  1 220 node1 Porcupine ready
+say 1\tQUIT
+  ! line 8 BadLine
+open smtp 1
+  1 220 node1 Porcupine ready
+say 1 QUIT
+  1 221 node1 closing
+  * 1 closed
+say 1 QUIT
+  ! line 9 NoSuchSession
+open smtp 1
+  1 220 node1 Porcupine ready
+say 0001 QUIT
+  1 221 node1 closing
+  * 1 closed
+open smtp 1
+  2 220 node1 Porcupine ready
+say 1 QUIT
+  ! line 10 NoSuchSession
+end\x20
+  ! line 7 BadLine
+end now
+  ! line 7 BadLine
+End
+  ! line 7 BadLine
+ end
+  ! line 7 BadLine
+";
+
+#[test]
+fn run_lines_are_refused(rt: HostRuntime) -> Result<(), Fail> {
+    each_refused(&rt, rt.alloc(), PLAN, FAULTS)
+}
+
+#[test]
+fn a_tape_ends_at_its_line_end(rt: HostRuntime) -> Result<(), Fail> {
+    let alloc = rt.alloc();
+    let long = repeated(alloc, b'x', 70_000)?;
+    let rests: [&[u8]; 4] = [b"", b"say 9 QUIT\n\n", b"end", &long];
+    for rest in rests {
+        let mut script = Script::new(alloc, PLAN)?;
+        script.add(b"end\n")?;
+        script.add(rest)?;
+        script.run(&rt, 0)?;
+    }
+    Ok(())
+}
+
+const SAYS: &[u8] = b"\
+open smtp 1
+  1 220 node1 Porcupine ready
+say 1 ";
+
+// Puts so many letters between these, which ends the tape.
+fn ends(
+    rt: &impl Abort,
+    alloc: Global,
+    front: &[u8],
+    count: usize,
+    back: &[u8],
+) -> Result<(), Fail> {
+    let letters = repeated(alloc, b'x', count)?;
+    Script::new(alloc, &joined(alloc, &[front, &letters, back])?)?.run(rt, 3)?;
+    Ok(())
+}
+
+#[test]
+fn lines_have_a_greatest_length(rt: HostRuntime) -> Result<(), Fail> {
+    let alloc = rt.alloc();
+    let plans: [(usize, &[u8]); 2] = [
+        (65_524, b"\n  ! line 1 BadPlan\n"),
+        (65_525, b"\n  ! line 1 BadLine\n"),
+    ];
+    for (count, back) in plans {
+        ends(&rt, alloc, b"user alice ", count, back)?;
+    }
+    let said = joined(alloc, &[PLAN, SAYS])?;
+    let lines: [(usize, &[u8]); 4] = [
+        (65_529, b"\n  1 500 line too long\n  ! line 9 BadLine\n"),
+        (65_528, b"\r\n  1 500 line too long\n  ! line 9 BadLine\n"),
+        (65_530, b"\n  ! line 8 BadLine\n"),
+        (65_529, b"\r\n  ! line 8 BadLine\n"),
+    ];
+    for (count, back) in lines {
+        ends(&rt, alloc, &said, count, back)?;
+    }
+    Ok(())
+}
+
+// The worked tape of one message.
+const FIRST: &[u8] = b"\
+nodes 1
+copies 1 1
+buckets 1
+user alice tanstaaf
+postmaster alice
+go
+open smtp 1
+  1 220 node1 Porcupine ready
+say 1 HELO c.example
+  1 250 node1
+say 1 MAIL FROM:<bob@b.example>
+  1 250 sender ok
+say 1 RCPT TO:<alice>
+  1 250 recipient ok
+say 1 DATA
+  1 354 end with a line that is a single period
+say 1 Subject: hi
+say 1
+say 1 hello
+say 1 .
+  1 250 stored
+say 1 QUIT
+  1 221 node1 closing
+  * 1 closed
+end
+";
+
+// The tape is cut at each octet of the line behind those of the script.
+fn stops_within(
+    rt: &impl Abort,
+    script: &Script,
+    line: &[u8],
+    number: u64,
+) -> Result<(), AllocError> {
+    let alloc = script.alloc;
+    let last = format!(in alloc; "! line {number} BadLine\n")?;
+    let wanted = joined(alloc, &[&script.wanted, last.as_bytes()])?;
+    for cut in 0..line.len() {
+        let run = drive(alloc, &joined(alloc, &[&script.tape, &line[..cut]])?, 0)?;
+        assert!(rt; run.transcript == wanted, "at octet {cut} of line {number}");
+        assert_eq!(rt; run.status, 3);
+    }
+    Ok(())
+}
+
+#[test]
+fn a_tape_is_cut_at_each_octet(rt: HostRuntime) -> Result<(), Fail> {
+    let mut script = Script::new(rt.alloc(), b"")?;
+    let mut number: u64 = 1;
+    for line in FIRST.split_inclusive(|octet| *octet == b'\n') {
+        if !line.starts_with(b"  ") {
+            stops_within(&rt, &script, line, number)?;
+            number = number.saturating_add(1);
+        }
+        script.add(line)?;
+    }
+    assert_eq!(rt; number, 18);
+    script.run(&rt, 0)?;
+    Ok(())
+}
+
+// Opens so many sessions.
+fn opened(alloc: Global, count: u64) -> Result<Script, Fail> {
+    let mut script = Script::new(alloc, PLAN)?;
+    for session in 1..=count {
+        script.add(b"open smtp 1\n")?;
+        script.add(format!(in alloc; "  {session} 220 node1 Porcupine ready\n")?.as_bytes())?;
+    }
+    Ok(script)
+}
+
+#[test]
+fn as_many_as_256_sessions_are_open(rt: HostRuntime) -> Result<(), Fail> {
+    let cases: [&[u8]; 3] = [
+        b"open smtp 1\n  ! line 263 TooManySessions\n",
+        b"open smtp 2\n  ! line 263 NoSuchNode\n",
+        b"say 7 QUIT\n  7 221 node1 closing\n  * 7 closed\nopen smtp 1\n  257 220 node1 Porcupine ready\nopen smtp 1\n  ! line 265 TooManySessions\n",
+    ];
+    for lines in cases {
+        let mut script = opened(rt.alloc(), 256)?;
+        script.add(lines)?;
+        script.run(&rt, 3)?;
+    }
+    Ok(())
+}

@@ -1,0 +1,98 @@
+// What the store of node 1 has to hold, written from the description of the journal.
+
+use super::joined;
+use std::alloc::{AllocError, Global};
+use std::process::Abort;
+use std::test::Fail;
+
+/// The octets of a journal.
+#[derive(Drop)]
+pub(super) struct Journal {
+    alloc: Global,
+    octets: Vec<u8>,
+    /// The number of the last message.
+    number: u64,
+}
+
+impl Journal {
+    /// The header of node 1 and the record of its boot.
+    pub(super) fn new(alloc: Global) -> Result<Journal, Fail> {
+        let mut journal = Journal {
+            alloc,
+            octets: joined(alloc, &[b"PORCUPN1", b"\0\x01\0\0\0\0\0\0"])?,
+            number: 0,
+        };
+        journal.record(b"\x01\0\0\0\x01")?;
+        Ok(journal)
+    }
+
+    // The open gate, the length and the payload.
+    fn record(&mut self, payload: &[u8]) -> Result<(), Fail> {
+        let length = u32::try_from(payload.len())?;
+        self.octets.push(0xA5)?;
+        self.octets.extend_from_slice(&length.to_be_bytes())?;
+        self.octets.extend_from_slice(payload)?;
+        Ok(())
+    }
+
+    // The four trace lines of the last message.
+    fn trace(&self, sender: &[u8], helo: &[u8]) -> Result<Vec<u8>, AllocError> {
+        let number = self.number.to_string(self.alloc)?;
+        joined(
+            self.alloc,
+            &[
+                b"Return-Path: <",
+                sender,
+                b">\r\nReceived: from ",
+                helo,
+                b"\r\n by node1 with SMTP id <1.1.",
+                number.as_bytes(),
+                b"@node1>;\r\n Thu, 01 Jan 1970 00:00:00 +0000\r\n",
+            ],
+        )
+    }
+
+    // The last message is here for this user. Node 1 in its boot 1 stamped it with its number.
+    fn copy(&mut self, id: &[u8], user: &[u8]) -> Result<(), Fail> {
+        let length = [u8::try_from(user.len())?];
+        let count = self.number.to_be_bytes();
+        let payload = joined(
+            self.alloc,
+            &[
+                b"\x04\x02",
+                &length,
+                user,
+                id,
+                b"\x01",
+                &count,
+                b"\0\0\0\x01\x01\0\x01",
+            ],
+        )?;
+        self.record(&payload)
+    }
+
+    /// The next message: its octets, and its copy of each user.
+    pub(super) fn message(
+        &mut self,
+        sender: &[u8],
+        helo: &[u8],
+        users: &[&[u8]],
+        text: &[u8],
+    ) -> Result<(), Fail> {
+        self.number = self.number.saturating_add(1);
+        let id = joined(self.alloc, &[b"\x01\0\0\0\x01", &self.number.to_be_bytes()])?;
+        let trace = self.trace(sender, helo)?;
+        self.record(&joined(self.alloc, &[b"\x03", &id, &trace, text])?)?;
+        for user in users {
+            self.copy(&id, user)?;
+        }
+        Ok(())
+    }
+
+    /// The store holds the journal, and one closed gate behind it.
+    pub(super) fn is_held(&mut self, rt: &impl Abort, store: &[u8]) -> Result<(), AllocError> {
+        self.octets.push(0)?;
+        assert!(rt; self.octets.as_slice() == store);
+        Ok(())
+    }
+}
