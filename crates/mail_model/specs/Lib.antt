@@ -7,7 +7,9 @@ pub mod Tape
 pub mod Transcript
 pub mod Smtp
 pub mod Pop
+pub mod PopReplies
 pub mod Session
+pub mod Maildrop
 pub mod Told
 pub mod Mail
 pub mod Record

@@ -1,5 +1,5 @@
 -- The command lines of POP3 (RFC 1939), in this project's profile.
-use Rattle.std.specs.Prelude.{ℕ, ◌&&◌, ◌||◌, nat_eq, nat_lt, List, length, Option, Some, None, Result, Ok, Err, if◌then◌else◌, codes}
+use Rattle.std.specs.Prelude.{ℕ, ◌&&◌, ◌||◌, nat_eq, nat_lt, List, length, Option, Some, None, ok_or, Result, Ok, Err, if◌then◌else◌, codes}
 use Rattle.std.specs.List.{list_all}
 use Rattle.mail_model.specs.Names.{is_name}
 use Rattle.mail_model.specs.Numbers.{is_digit, value_after}
@@ -22,6 +22,11 @@ pub data Fault : Type 0 where
   BadArgument : Fault
   BadNumber : Fault
 
+-- the result with what its value makes; a fault stays
+abbrev pub mapped : {X Y : Type 0} → (X → Y) → Result X Fault → Result Y Fault
+mapped f (Ok x) = Ok (f x)
+mapped f (Err fault) = Err fault
+
 -- the number that a word is: 1 to 10 digits, below 2^32
 abbrev pub short_number_of : List ℕ → Option ℕ
 short_number_of word =
@@ -40,20 +45,15 @@ pass_of line = if nat_eq (length (behind_word line)) 0 then Err BadArgument else
 abbrev pub alone : Command → List ℕ → Result Command Fault
 alone command rest = if nat_eq (length rest) 0 then Ok command else Err BadArgument
 
--- the command of a number that was read
-abbrev pub or_bad_number : (ℕ → Command) → Option ℕ → Result Command Fault
-or_bad_number f None = Err BadNumber
-or_bad_number f (Some n) = Ok (f n)
-
--- a command that takes one word, which is a number
-abbrev pub numbered : (ℕ → Command) → List ℕ → Result Command Fault
-numbered f rest =
+-- the one word behind a verb, which is a number
+abbrev pub number_in : List ℕ → Result ℕ Fault
+number_in rest =
     if nat_eq (length (unspaced rest)) 0 || has_space (unspaced rest) then Err BadArgument
-    else or_bad_number f (short_number_of (unspaced rest))
+    else ok_or (short_number_of (unspaced rest)) BadNumber
 
--- a command that takes a number or nothing
-abbrev pub maybe_numbered : (Option ℕ → Command) → List ℕ → Result Command Fault
-maybe_numbered f rest = if nat_eq (length rest) 0 then Ok (f None) else numbered (λ n. f (Some n)) rest
+-- a number behind a verb, or nothing
+abbrev pub maybe_number_in : List ℕ → Result (Option ℕ) Fault
+maybe_number_in rest = if nat_eq (length rest) 0 then Ok None else mapped Some (number_in rest)
 
 -- the command of a whole line, of the verb in it, and of what follows the verb without the blanks at the end
 abbrev pub command_in : List ℕ → List ℕ → List ℕ → Result Command Fault
@@ -61,9 +61,9 @@ command_in line verb rest =
     if is_word verb (codes "USER") then user_of rest
     else (if is_word verb (codes "PASS") then pass_of line
     else (if is_word verb (codes "STAT") then alone Stat rest
-    else (if is_word verb (codes "LIST") then maybe_numbered Listing rest
-    else (if is_word verb (codes "UIDL") then maybe_numbered Uidl rest
-    else (if is_word verb (codes "RETR") then numbered Retr rest
+    else (if is_word verb (codes "LIST") then mapped Listing (maybe_number_in rest)
+    else (if is_word verb (codes "UIDL") then mapped Uidl (maybe_number_in rest)
+    else (if is_word verb (codes "RETR") then mapped Retr (number_in rest)
     else (if is_word verb (codes "QUIT") then alone Quit rest
     else Err UnknownVerb))))))
 

@@ -17,7 +17,10 @@
 //! - `Tape`: the plan lines of a tape up to `go`, and its run lines up to `end`.
 //! - `Transcript`: the entries that are written, their lines, and the replies that a session got.
 //! - `Smtp`: what each command line means (RFC 5321, section 4.1), and the texts of replies.
-//! - `Pop`: what each command line of POP3 means (RFC 1939, section 3); no session speaks it yet.
+//! - `Pop`: what each command line of POP3 means (RFC 1939, section 3).
+//! - `PopReplies`: the lines of the replies of POP3 (RFC 1939, sections 3 to 7).
+//! - `Maildrop`: what a POP3 session has been told, and what each line leads to (RFC 1939, sections 4
+//!   to 7); the service speaks it not yet.
 //! - `Session`: the reply to each unit, and what a session has been told (RFC 5321, sections 3.3 and
 //!   4.1.4).
 //! - `Told`: the messages that a client was told to be stored, by what it sent and what it got.
