@@ -28,7 +28,7 @@ mod users;
 pub use bucket::bucket_of;
 pub use deliver::Deliver;
 pub use msg_id::MsgId;
-pub use name::{Name, NameFault};
+pub use name::{Name, NameFault, spells_name};
 pub use names::Names;
 pub use node_no::NodeNo;
 pub use node_set::NodeSet;

@@ -79,7 +79,9 @@ fn begins_with_at(octets: &[u8]) -> bool
     !octets.is_empty() && octets[0] == b'@'
 }
 
-fn spells_name(octets: &[u8]) -> bool
+/// Whether the octets are a name, in any case: 1 to 64 of them from 0x21 to 0x7E, none `<` or `>`, the
+/// first not `@`. It takes no memory.
+pub fn spells_name(octets: &[u8]) -> bool
     ensures { result ≡ is_name octets.now }
 {
     !octets.is_empty() && octets.len() <= 64 && !(begins_with_at(octets) || has_bad_octet(octets))
