@@ -1,24 +1,17 @@
 -- What whole command lines mean.
-use Rattle.std.proofs.Common.{◌≡◌, ◌⊎◌, inl, inr, ℕ, ◌+◌, ◌<◌, ◌≤◌, suc, Bool, true, false, cond, not, ◌&&◌, ◌||◌, nat_eq, nat_le, Some, None, Ok, Err, List, [], ◌∷◌, ◌++◌, length, map, refl, sym, ◌∙◌, ap, arith, codes, Option, Result, option_and_then}
+use Rattle.std.proofs.Common.{◌≡◌, ℕ, ◌+◌, ◌<◌, ◌≤◌, suc, Bool, true, false, cond, not, ◌&&◌, ◌||◌, nat_eq, nat_le, Some, None, Ok, Err, List, [], ◌∷◌, ◌++◌, length, map, refl, sym, ◌∙◌, ap, arith, codes, Option, Result, option_and_then}
 use Rattle.std.proofs.lemmas.List.{append_assoc, drop_at, take_at, length_push, append-nil}
 use Rattle.std.proofs.lemmas.Bool.Decides.{nat_tests}
 use Rattle.std.specs.List.{list_all, list_any, prefix_len, position_or_len}
 use Rattle.std.specs.Char.{to_ascii_uppercase}
 use Rattle.std.specs.Cmp.Lexicographic.{pointwise}
-use Rattle.mail_model.specs.Names.{begins_with}
 use Rattle.mail_model.specs.Smtp.{Command, Fault, is_blank, is_visible, is_path_octet, trimmed, trimmed_command, command_of, verb_of, rest_of, unspaced, is_helo_name, routed, path_content, path_behind, sender_in, recipient_in, or_bad, alone}
 use Rattle.mail_model.specs.Smtp.Command.{Helo, Mail, Rcpt, Data, Quit}
 use Rattle.mail_model.specs.Smtp.Fault.{UnknownVerb, BadArgument}
-use Rattle.smtp_wire.specs.Laws.{IsPlainPath, IsRoute, IsOneWord, NamesAreRead, SendersAreRead, RecipientsAreRead, RoutesAreLeftOut, BlanksAtEndMeanNothing, CaseOfVerbMeansNothing}
-use Rattle.smtp_wire.proofs.Fronts.{trimmed_more, trimmed_done}
-
-and_true : (a b : Bool) → (a && b) ≡ true → (a ≡ true) × (b ≡ true)
-and_true true b h = (refl, h)
-and_true false b h = absurd (cc)
-
-or_false : (a b : Bool) → (a || b) ≡ false → (a ≡ false) × (b ≡ false)
-or_false true b h = absurd (cc)
-or_false false b h = (refl, h)
+use Rattle.smtp_wire.specs.Laws.{IsPlainPath, IsRoute, NamesAreRead, SendersAreRead, RecipientsAreRead, RoutesAreLeftOut, BlanksAtEndMeanNothing, CaseOfVerbMeansNothing}
+use Rattle.line_words.specs.Words.{IsOneWord}
+use Rattle.line_words.proofs.Fronts.{trimmed_more, trimmed_done}
+use Rattle.line_words.proofs.Verbs.{and_true, or_false, begins_or_ends, begins_or_ends_from, trimmed_begins, word_len, word_trimmed}
 
 -- the command of a verb in upper case and what follows it
 abbrev said : List ℕ → List ℕ → Result Command Fault
@@ -29,32 +22,6 @@ said verb rest =
     (cond (pointwise nat_eq verb (codes "DATA")) (alone Data rest)
     (cond (pointwise nat_eq verb (codes "QUIT")) (alone Quit rest)
     (Err UnknownVerb)))))
-
-abbrev begins_or_ends : List ℕ → Bool
-begins_or_ends [] = true
-begins_or_ends (x ∷ xs) = nat_eq x 32
-
-begins_or_ends_from : (rest : List ℕ) → ((rest ≡ []) ⊎ (begins_with 32 rest ≡ true)) → begins_or_ends rest ≡ true
-begins_or_ends_from [] r = refl
-begins_or_ends_from (x ∷ rest) (inl e) = absurd (cc)
-begins_or_ends_from (x ∷ rest) (inr e) = e
-
-trimmed_begins : (rest : List ℕ) → begins_or_ends rest ≡ true → begins_or_ends (trimmed rest) ≡ true
-trimmed_begins [] r = refl
-trimmed_begins (x ∷ rest) r = elim (is_blank x && nat_eq (length (trimmed rest)) 0) as (λ b. begins_or_ends (cond b [] (x ∷ trimmed rest)) ≡ true) [ true ↦ refl | false ↦ r ]
-
-word_no_space : (x : ℕ) → is_blank x ≡ false → nat_eq x 32 ≡ false
-word_no_space x h = (or_false (nat_eq x 32) (nat_eq x 9) h).0
-
--- a word in front stays
-word_len : (verb rest : List ℕ) → IsOneWord verb → begins_or_ends rest ≡ true → position_or_len (λ x. nat_eq x 32) (verb ++ rest) ≡ length verb
-word_len [] [] w r = refl
-word_len [] (x ∷ rest) w r = rw r
-word_len (x ∷ verb) rest w r = let p = or_false (is_blank x) _ w in rw (word_no_space x p.0, word_len verb rest p.1 r) (omega arith)
-
-word_trimmed : (verb rest : List ℕ) → IsOneWord verb → trimmed (verb ++ rest) ≡ verb ++ trimmed rest
-word_trimmed [] rest w = refl
-word_trimmed (x ∷ verb) rest w = let p = or_false (is_blank x) _ w in rw (p.0, word_trimmed verb rest p.1)
 
 said_parts : (line : List ℕ) → trimmed_command line ≡ said (map to_ascii_uppercase (verb_of line)) (rest_of line)
 said_parts line = refl

@@ -5,6 +5,7 @@ use Rattle.std.specs.List.{list_all, list_any}
 use Rattle.mail_model.specs.Names.{begins_with}
 use Rattle.mail_model.specs.Smtp.{is_blank, is_visible, is_path_octet, command_of}
 use Rattle.mail_model.specs.Smtp.Command.{Helo, Mail, Rcpt}
+use Rattle.line_words.specs.Words.{IsOneWord}
 
 -- a path of at most 512 octets with no source route
 pub record IsPlainPath (path : List ℕ) : Type 0 where
@@ -22,10 +23,6 @@ pub record IsClientName (name : List ℕ) : Type 0 where
 pub record IsRoute (route : List ℕ) : Type 0 where
   pub octets : list_all is_path_octet route ≡ true
   pub no_colon : list_any (λ x. nat_eq x 58) route ≡ false
-
--- no blank, so the octets are one word
-abbrev pub IsOneWord : List ℕ → Type 0
-IsOneWord word = list_any is_blank word ≡ false
 
 abbrev pub NamesAreRead : Type 0
 NamesAreRead = (name : List ℕ) → IsClientName name → command_of (codes "HELO " ++ name) ≡ Ok (Helo name)

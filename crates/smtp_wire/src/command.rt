@@ -4,8 +4,8 @@ ghost use Rattle.std.specs.List.{list_all};
 ghost use Rattle.mail_model.specs.Smtp.{is_visible, is_helo_name, alone, command_of};
 ghost use Rattle.smtp_wire.specs.Seen.{seen, IsWithinLimits, command_seen, helo_of, mail_of, rcpt_of};
 
-use crate::octets::{is_word, split_verb, trimmed, unspaced};
 use crate::path::{path_behind, recipient_in, sender_in};
+use line_words::{is_word, split_verb, trimmed, unspaced};
 
 /// A command, whose words are parts of its line.
 #[derive(Clone, Copy, Debug, PartialEq, Eq)]

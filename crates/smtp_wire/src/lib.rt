@@ -26,8 +26,8 @@
 //!
 //! STANDS ON
 //!
-//! `mail_model`, whose `command_of` says what each line means. The contract of `read_command` is
-//! that definition, both ways.
+//! `mail_model`, whose `command_of` says what each line means, and `line_words`, which cuts lines into
+//! words. The contract of `read_command` is that definition, both ways.
 //!
 //! WHAT IT DOES NOT DO
 //!

@@ -4,7 +4,8 @@ ghost use Rattle.std.specs.List.{prefix_len};
 ghost use Rattle.std.specs.Option.{option_copied};
 ghost use Rattle.mail_model.specs.Smtp.{is_path_octet, routed, path_content, path_behind, sender_in, recipient_in};
 
-use crate::octets::{begins_with, is_word, len_before, split_front, unspaced};
+use crate::octets::{begins_with, split_front};
+use line_words::{is_word, len_before, unspaced};
 
 // the most octets of a path without its source route
 const PATH_LIMIT: usize = 512;
@@ -15,7 +16,7 @@ fn is_path_octet(x: u8) -> bool
     0x20 <= x && x <= 0x7E && x != b'<' && x != b'>'
 }
 
-#[tactic(auto, using(crate::proofs::Fronts::octet_counts))]
+#[tactic(auto, using(line_words::proofs::Fronts::octet_counts))]
 fn path_octet_count(octets: &[u8]) -> usize
     ensures { result ≡ prefix_len is_path_octet octets.now }
 {
@@ -23,7 +24,7 @@ fn path_octet_count(octets: &[u8]) -> usize
 }
 
 /// The octets without a source route; `None` where one has no end.
-#[tactic(auto, using(crate::proofs::Fronts::route_found, crate::proofs::Fronts::no_route))]
+#[tactic(auto, using(crate::proofs::Routes::route_found, crate::proofs::Routes::no_route))]
 fn routed(content: &[u8]) -> Option<&[u8]>
     ensures { option_copied result ≡ routed content.now }
 {
@@ -39,7 +40,7 @@ fn routed(content: &[u8]) -> Option<&[u8]>
 }
 
 /// What stands between the brackets, where the octets are a path and nothing more.
-#[tactic(auto, using(crate::proofs::Fronts::octet_counts))]
+#[tactic(auto, using(line_words::proofs::Fronts::octet_counts))]
 fn path_content(octets: &[u8]) -> Option<&[u8]>
     ensures { option_copied result ≡ path_content octets.now }
 {

@@ -1,12 +1,6 @@
 -- What stands behind a prefix and before a last octet.
-use Rattle.std.proofs.Common.{◌≡◌, ⊎_elim, ℕ, suc, ◌+◌, ◌-◌, ◌<◌, ◌≤◌, ◌&&◌, not, Bool, true, false, cond, nat_eq, nat_lt, List, [], ◌∷◌, length, take, drop, Option, Some, None, MatchOption, refl, arith, Bor}
-use Rattle.std.specs.Prelude.{unwrap_or}
+use Rattle.std.proofs.Common.{◌≡◌, ℕ, suc, ◌+◌, ◌-◌, ◌&&◌, Bool, true, false, cond, nat_eq, List, [], ◌∷◌, length, take, drop, Option, Some, None, MatchOption, refl, arith, Bor}
 use Rattle.std.specs.Option.{option_copied}
-use Rattle.std.specs.List.{position_from, position_or_len}
-use Rattle.std.proofs.lemmas.List.Sums.{prefix_len-le-length}
-use Rattle.std.proofs.lemmas.Bool.{cases_lt}
-use Rattle.std.proofs.lemmas.Bool.Decides.{nat_tests}
-use Rattle.std.proofs.lemmas.Iterator.Adapters.{position_from-zero}
 use Rattle.std.specs.Cmp.Lexicographic.{pointwise}
 use Rattle.mail_model.specs.Lines.{without_cr}
 use Rattle.mail_model.specs.Tape.{strip}
@@ -42,21 +36,3 @@ without_cr_is (x ∷ y ∷ ys) =
     let one : suc (length ys) - 1 ≡ length ys = omega arith in
     let two : suc (suc (length ys)) - 1 ≡ suc (length ys) = omega arith in
     rw (two, without_cr_is (y ∷ ys), one) (cons_cond x (pointwise nat_eq (drop (length ys) (y ∷ ys)) (13 ∷ [])) (take (length ys) (y ∷ ys)) (y ∷ ys))
-
-found : (n len : ℕ) → n < len → unwrap_or (cond (nat_lt n len) (Some n) None) len ≡ n
-found n len lt = let yes : nat_lt n len ≡ true = grind (arith, nat_tests) in rw yes refl
-
-not_found : (n len : ℕ) → n ≤ len → len ≤ n → unwrap_or (cond (nat_lt n len) (Some n) None) len ≡ n
-not_found n len le ge =
-    let no : nat_lt n len ≡ false = grind (arith, nat_tests) in
-    let same : len ≡ n = omega arith in rw no same
-
--- the first space by its place
-pub word_len_is : (test : ℕ → Bool) (xs : List ℕ) → unwrap_or (position_from test 0 xs) (length xs) ≡ position_or_len test xs
-word_len_is test xs =
-    let n = position_or_len test xs in
-    let le : n ≤ length xs = prefix_len-le-length (λ x. not (test x)) xs in
-    rw (← position_from-zero test xs) (⊎_elim (found n (length xs)) (not_found n (length xs) le) (cases_lt n (length xs)))
-
-pub word_len_within : (test : ℕ → Bool) (xs : List ℕ) → position_or_len test xs ≤ length xs
-word_len_within test xs = prefix_len-le-length (λ x. not (test x)) xs

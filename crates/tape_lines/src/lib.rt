@@ -1,8 +1,8 @@
 //! tape_lines: the lines of a tape.
 //!
 //! Reads the plan lines of a tape up to `go`, and the run lines up to `end`, as values. It stands on
-//! `mail_base` for names, secrets and the plan, and each call answers exactly what the definitions of
-//! `mail_model` say of the line.
+//! `line_words` for words and numbers, and on `mail_base` for names, secrets and the plan. Each call
+//! answers exactly what the definitions of `mail_model` say of the line.
 //!
 //! A line is given without its LF; a CR at its end is dropped, and a line of more than 65,535 octets is
 //! refused. Words stand behind one space each. Numbers have 1 to 20 decimal digits and are below 2^64.
@@ -19,6 +19,7 @@ mod words;
 
 pub use copy_count::CopyCount;
 pub use draft::Draft;
+pub use line_words::{behind_word, first_word, has_space, number};
 pub use order::{Order, read_order};
 pub use plan_line::{PlanLine, read_plan_line};
-pub use words::{behind_word, first_word, has_space, number, strip, tape_line, without_cr};
+pub use words::{strip, tape_line, without_cr};

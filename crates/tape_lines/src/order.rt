@@ -4,7 +4,8 @@ ghost use Rattle.std.specs.Option.{option_map};
 ghost use Rattle.mail_model.specs.Tape.{strip, open_line, say_line, end_line, order_of, tape_order};
 ghost use Rattle.tape_lines.specs.Orders.{order_seen};
 
-use crate::words::{behind_word, first_word, number, strip, tape_line};
+use crate::words::{strip, tape_line};
+use line_words::{behind_word, first_word, number};
 
 /// A run line.
 #[derive(Clone, Copy, Debug, PartialEq, Eq)]

@@ -5,7 +5,8 @@ ghost use Rattle.mail_model.specs.Tape.{strip, nodes_line, copies_line, buckets_
 ghost use Rattle.tape_lines.specs.PlanLines.{plan_line_seen, counts_line, names_line};
 
 use crate::CopyCount;
-use crate::words::{behind_word, first_word, has_space, number, strip, tape_line};
+use crate::words::{strip, tape_line};
+use line_words::{behind_word, first_word, has_space, number};
 use mail_base::{Name, Secret};
 use std::alloc::{AllocError, Global};
 

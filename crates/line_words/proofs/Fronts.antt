@@ -1,13 +1,12 @@
 -- Counts of octets at a front, and words in any case.
-use Rattle.std.proofs.Common.{◌≡◌, ℕ, ◌+◌, ◌-◌, ◌<◌, ◌≤◌, suc, Bool, true, false, cond, not, ◌&&◌, ◌||◌, nat_eq, nat_lt, get_or, Some, None, List, [], ◌∷◌, ◌++◌, length, take, drop, refl, sym, ◌∙◌, ap, arith}
+use Rattle.std.proofs.Common.{◌≡◌, ℕ, ◌+◌, ◌-◌, ◌<◌, ◌≤◌, Bool, true, false, ◌&&◌, nat_eq, get_or, List, [], ◌∷◌, ◌++◌, length, take, refl, sym, ◌∙◌, ap, arith}
 use Rattle.std.proofs.lemmas.List.{take_rest, take_more, length_push}
 use Rattle.std.proofs.lemmas.List.Folds.{length-prefix_len}
 use Rattle.std.proofs.lemmas.List.Sums.{prefix_len-le-length}
 use Rattle.std.proofs.lemmas.Bool.Decides.{nat_tests}
-use Rattle.std.specs.List.{list_all, list_any, zip, position_or_len}
+use Rattle.std.specs.List.{list_all, zip}
 use Rattle.std.specs.Char.{to_ascii_uppercase}
-use Rattle.mail_model.specs.Names.{begins_with}
-use Rattle.mail_model.specs.Smtp.{is_blank, trimmed, is_word, routed}
+use Rattle.mail_model.specs.Smtp.{is_blank, trimmed, is_word}
 
 pub ruleset octet_counts = (length-prefix_len, prefix_len-le-length, take_rest)
 
@@ -46,25 +45,6 @@ trimmed_at line end some within other =
     let e : end ≡ end - 1 + 1 = omega arith in
     let more : take end line ≡ take (end - 1) line ++ get_or line (end - 1) 0 ∷ [] = ap (λ n. take n line) e ∙ take_more line (end - 1) 0 (omega arith) in
     rw more (sym (trimmed_done (take (end - 1) line) _ other))
-
--- some octet passes exactly where the first that does comes before the end
-any_before : (p : ℕ → Bool) (octets : List ℕ) → list_any p octets ≡ nat_lt (position_or_len p octets) (length octets)
-any_before p [] = refl
-any_before p (x ∷ octets) = elim (p x) as (λ b. (b || list_any p octets) ≡ nat_lt (cond (not b) (1 + position_or_len p octets) 0) (suc (length octets))) [
-  | true ↦ grind (arith, nat_tests)
-  | false ↦ rw (any_before p octets) (grind (arith, nat_tests))
-]
-
-pub route_found : (content : List ℕ) → begins_with 64 content ≡ true → position_or_len (λ x. nat_eq x 58) content < length content →
-    routed content ≡ Some (drop (position_or_len (λ x. nat_eq x 58) content + 1) content)
-route_found content at found =
-    let some : list_any (λ x. nat_eq x 58) content ≡ true = rw (any_before (λ x. nat_eq x 58) content) (grind (arith, nat_tests)) in
-    rw (at, some)
-
-pub no_route : (content : List ℕ) → begins_with 64 content ≡ true → length content ≤ position_or_len (λ x. nat_eq x 58) content → routed content ≡ None
-no_route content at none =
-    let no : list_any (λ x. nat_eq x 58) content ≡ false = rw (any_before (λ x. nat_eq x 58) content) (grind (arith, nat_tests)) in
-    rw (at, no)
 
 pub trimmed_all : (line : List ℕ) (end : ℕ) → end ≤ 0 → take end line ≡ trimmed (take end line)
 trimmed_all line end none = let e : end ≡ 0 = omega arith in rw e

@@ -1,8 +1,8 @@
 use Rattle.std.proofs.Common.{◌≡◌, ◌∙◌, take, sym, arith}
-use Rattle.smtp_wire.proofs.Fronts.{trimmed_back, trimmed_at, trimmed_all}
+use Rattle.line_words.proofs.Fronts.{trimmed_back, trimmed_at, trimmed_all}
 use Rattle.mail_model.specs.Smtp.{trimmed}
-use Rattle.smtp_wire.proofs.octets.trimmed.Goals.{then-loop-end-test+else-is_blank, else-loop-end-test}
-use Rattle.smtp_wire.proofs.octets.trimmed.Goals as goal
+use Rattle.line_words.proofs.octets.trimmed.Goals.{then-loop-end-test+else-is_blank, else-loop-end-test}
+use Rattle.line_words.proofs.octets.trimmed.Goals as goal
 
 pub loop-end-preserved : goal.loop-end-preserved
 loop-end-preserved c = record {

@@ -1,6 +1,6 @@
 use Rattle.std.proofs.Common.{◌≡◌, ◌≤◌, take, length}
 use Rattle.mail_model.specs.Smtp.{trimmed}
-use Rattle.smtp_wire.proofs.octets.trimmed.Given as goal
+use Rattle.line_words.proofs.octets.trimmed.Given as goal
 
 -- what is left means the same
 abbrev pub invariant-loop-end : goal.invariant-loop-end

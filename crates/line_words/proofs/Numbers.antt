@@ -4,7 +4,7 @@ use Rattle.std.specs.Prelude.{fold}
 use Rattle.std.proofs.lemmas.Bool.{cases_lt}
 use Rattle.std.proofs.lemmas.Bool.Decides.{nat_tests}
 use Rattle.mail_model.specs.Numbers.{value_after}
-use Rattle.tape_lines.specs.Words.{shifted}
+use Rattle.line_words.specs.Words.{shifted}
 
 -- more digits make no number smaller
 grows : (n : ℕ) (xs : List ℕ) → n ≤ value_after n xs
