@@ -1,0 +1,55 @@
+//! pop_wire: reads the command lines of POP3.
+//!
+//! SUMMARY
+//!
+//! `read_command(line)` reads one line, given without its CRLF, and says which command it is or
+//! which rule it breaks first. What it reads borrows the line: nothing is copied or allocated.
+//!
+//! DESCRIPTION
+//!
+//! A line is a verb, the octets up to the first space, and what follows it. The verbs mean the same
+//! in any case (RFC 1939, section 3). Arguments have one or more spaces before each; a tab parts no
+//! words. Spaces and tabs at the end of the line mean nothing, but in PASS:
+//!
+//! - `USER name`: one name, of 1 to 64 octets from 0x21 to 0x7E, none of them `<` or `>`, the first
+//!   not `@`. It stays as it was sent.
+//! - `PASS secret`: whatever stands behind the first space, of any octets but not empty. Each space
+//!   and tab in it counts, at its front and its end too.
+//! - `LIST n` and `UIDL n`, or `LIST` and `UIDL` alone.
+//! - `RETR n`.
+//! - `STAT` and `QUIT`, alone.
+//!
+//! A number `n` has 1 to 10 digits, zeros in front among them, and is below 2^32.
+//!
+//! DIAGNOSTICS
+//!
+//! `UnknownVerb` where the verb is none of the seven, and so for an empty line. `BadArgument` where
+//! there are too few or too many words, the name is none or the secret is empty. `BadNumber` where one
+//! word stands in the place of a number and is none.
+//!
+//! STANDS ON
+//!
+//! `mail_model`, whose `pop_command_of` says what each line means, `mail_base`, which knows names, and
+//! `line_words`, which cuts lines into words and reads numbers. The contract of `read_command` is that
+//! definition, both ways.
+//!
+//! WHAT IT DOES NOT DO
+//!
+//! DELE, TOP, APOP, NOOP, RSET and CAPA are unknown verbs here. Whether a command comes in its place,
+//! how long a line may be, whether the name is a mailbox and the secret is its own, and whether a
+//! message has that number, 0 among them, is for the session.
+#![tactic(auto)]
+
+mod command;
+mod laws;
+mod number;
+
+pub use command::{PopCommand, PopFault, read_command};
+pub use laws::{
+    blanks_at_end_mean_nothing, case_of_verb_means_nothing, larger_numbers_are_bad,
+    more_spaces_mean_nothing, names_are_read, numbers_are_read, other_verbs_are_unknown,
+    secrets_are_read, two_arguments_are_too_many,
+};
+
+#[cfg(test)]
+mod tests;

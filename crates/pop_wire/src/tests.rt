@@ -1,0 +1,154 @@
+// Lines and what RFC 1939 and the profile above make of them.
+use crate::{
+    PopCommand, PopFault, blanks_at_end_mean_nothing, case_of_verb_means_nothing,
+    larger_numbers_are_bad, more_spaces_mean_nothing, names_are_read, numbers_are_read,
+    other_verbs_are_unknown, read_command, secrets_are_read, two_arguments_are_too_many,
+};
+use std::alloc::AllocError;
+
+#[test]
+fn reads_commands(rt: HostRuntime) {
+    let bob = Ok(PopCommand::User { name: b"Bob" });
+    let space = Ok(PopCommand::Pass { secret: b" " });
+    let all = Ok(PopCommand::List { number: None });
+    let seven = Ok(PopCommand::List { number: Some(7) });
+    let last = Ok(PopCommand::Uidl {
+        number: Some(u32::MAX),
+    });
+    let lines: [(&[u8], Result<PopCommand, PopFault>); 22] = [
+        (b"USER Bob", bob),
+        (b"user Bob \t", bob),
+        (b"uSeR   Bob", bob),
+        (b"PASS  ", space),
+        (b"pass  ", space),
+        (b"PASS \t", Ok(PopCommand::Pass { secret: b"\t" })),
+        (
+            b"PASS   a  b\t ",
+            Ok(PopCommand::Pass {
+                secret: b"  a  b\t ",
+            }),
+        ),
+        (
+            b"pAsS \x00\xFF",
+            Ok(PopCommand::Pass {
+                secret: b"\x00\xFF",
+            }),
+        ),
+        (b"STAT", Ok(PopCommand::Stat)),
+        (b"stat\t ", Ok(PopCommand::Stat)),
+        (b"LIST", all),
+        (b"LIST  ", all),
+        (b"list\t", all),
+        (b"LIST 7", seven),
+        (b"List   7\t", seven),
+        (b"LIST 0000000007", seven),
+        (b"UIDL", Ok(PopCommand::Uidl { number: None })),
+        (b"UIDL 4294967295", last),
+        (b"uidl  4294967295  ", last),
+        (b"RETR 0", Ok(PopCommand::Retr { number: 0 })),
+        (b"retr  12 ", Ok(PopCommand::Retr { number: 12 })),
+        (b"Quit ", Ok(PopCommand::Quit)),
+    ];
+    for (at, (line, wanted)) in lines.iter().enumerate() {
+        assert_eq!(rt; read_command(line), *wanted, "at {at}");
+    }
+}
+
+#[test]
+fn refuses_arguments(rt: HostRuntime) {
+    let arguments: [&[u8]; 23] = [
+        b"USER",
+        b"USER \t",
+        b"USER a b",
+        b"USER @a",
+        b"USER a<b",
+        b"USER <a>",
+        b"USER a\tb",
+        b"USER a\x7F",
+        b"PASS",
+        b"PASS ",
+        b"PASS\t",
+        b"PASS\t ",
+        b"STAT 1",
+        b"STAT \tx",
+        b"LIST 1 2",
+        b"LIST x y",
+        b"LIST \t 1",
+        b"UIDL 1  2",
+        b"RETR",
+        b"RETR  ",
+        b"retr\t",
+        b"RETR 1 x",
+        b"QUIT now",
+    ];
+    for (at, line) in arguments.iter().enumerate() {
+        assert_eq!(rt; read_command(line), Err(PopFault::BadArgument), "at {at}");
+    }
+}
+
+#[test]
+fn refuses_numbers_and_verbs(rt: HostRuntime) {
+    let numbers: [&[u8]; 11] = [
+        b"LIST x",
+        b"LIST -1",
+        b"LIST +1",
+        b"LIST 1\t2",
+        b"UIDL 4294967296",
+        b"UIDL 00000000001",
+        b"UIDL 1.",
+        b"RETR 9999999999",
+        b"RETR 18446744073709551617",
+        b"RETR \t1",
+        b"retr :",
+    ];
+    for (at, line) in numbers.iter().enumerate() {
+        assert_eq!(rt; read_command(line), Err(PopFault::BadNumber), "at {at}");
+    }
+    let verbs: [&[u8]; 17] = [
+        b"",
+        b" ",
+        b"\t",
+        b" STAT",
+        b"USERS bob",
+        b"USE bob",
+        b"PASS\tx",
+        b"PASS\t x",
+        b"LIST\t1",
+        b"RETR1",
+        b"QUIT\tnow",
+        b"DELE 1",
+        b"TOP 1 0",
+        b"APOP bob 0",
+        b"NOOP",
+        b"RSET",
+        b"CAPA",
+    ];
+    for (at, line) in verbs.iter().enumerate() {
+        assert_eq!(rt; read_command(line), Err(PopFault::UnknownVerb), "at {at}");
+    }
+}
+
+#[test]
+fn keeps_limits_of_names(rt: HostRuntime) -> Result<(), AllocError> {
+    for length in [64, 65] {
+        let mut line = Vec::from_slice(rt.alloc(), b"USER ")?;
+        for _ in 0..length {
+            line.push(b'x')?;
+        }
+        assert_eq!(rt; read_command(&line).is_ok(), length == 64, "at {length}");
+    }
+    Ok(())
+}
+
+#[test]
+fn laws_are_said() {
+    names_are_read();
+    secrets_are_read();
+    numbers_are_read();
+    larger_numbers_are_bad();
+    two_arguments_are_too_many();
+    blanks_at_end_mean_nothing();
+    more_spaces_mean_nothing();
+    case_of_verb_means_nothing();
+    other_verbs_are_unknown();
+}
