@@ -1,0 +1,7 @@
+pub mod Crlf
+pub mod Cutting
+pub mod Undotting
+pub mod Sending
+pub mod Once
+pub mod RoundTrip
+pub mod Worked

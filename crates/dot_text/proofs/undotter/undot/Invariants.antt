@@ -1,0 +1,8 @@
+use Rattle.std.proofs.Common.{◌≡◌, ℕ, List, ◌++◌, take}
+use Rattle.dot_text.specs.Places.{UndotsAt}
+use Rattle.dot_text.proofs.undotter.undot.Given as goal
+
+-- what was given so far, and where the octets so far have led
+abbrev pub invariant-loop-at : goal.invariant-loop-at
+invariant-loop-at l = (more : List ℕ) × (l.out.items ≡ l.fn.out.items ++ more)
+    × ((fed given : List ℕ) → UndotsAt l.fn.place fed given → UndotsAt l.place (fed ++ take l.at l.piece) (given ++ more))

@@ -1,0 +1,125 @@
+// A text out of its octets as they come.
+ghost use Rattle.std.specs.Prelude.{◌≡◌, ◌++◌, [], List, ℕ, IfOk, OnOk, OnErr};
+ghost use Rattle.dot_text.specs.Places.{next_place, told, Undots, UndotsAt, Behind, IsWithin};
+
+use std::alloc::AllocError;
+
+/// Where a text stands behind a piece of its octets.
+#[derive(Clone, Copy, Debug, PartialEq, Eq)]
+pub enum Cut {
+    /// It goes on.
+    More,
+    /// So many octets of the piece were used, and the last of them ended the text.
+    Ended(usize),
+}
+
+// Where in its line an undotter stands.
+#[derive(Clone, Copy, Debug, PartialEq, Eq)]
+enum Place {
+    // No octet of the line has come.
+    LineStart,
+    // One period has.
+    Period,
+    // One period and CR have.
+    PeriodCr,
+    // Something else has, and its last octet is no CR.
+    Inside,
+    // Something else has, and its last octet is CR.
+    Cr,
+}
+
+/// Reads a text whose lines come with a period in front of those that begin with one, and which the line
+/// that is one period ends (RFC 5321, section 4.5.2, and RFC 1939, section 3). A line is what stands before
+/// CRLF; a lone CR or LF is an octet of the text.
+#[derive(Clone, Copy, Debug, PartialEq, Eq)]
+pub struct Undotter {
+    place: Place,
+}
+
+impl Undotter {
+    /// An undotter at the front of a text. It takes no memory.
+    pub fn new() -> Undotter
+        ensures { Undots result [] [] }
+    {
+        Undotter {
+            place: Place::LineStart,
+        }
+    }
+
+    /// Puts behind `out` what the next octets of the text give: each line with its CRLF, without the period
+    /// that leads it. A period that leads a line waits for the octet behind it, and so does a CR behind
+    /// that period; all else is given at once.
+    ///
+    /// `Ended` comes exactly with the LF of the line that is one period, of which nothing is given. The
+    /// octets behind it are not used, and what is fed next is another text. A text has no limit here.
+    ///
+    /// # Errors
+    ///
+    /// Only want of memory; the undotter and `out` are then as before.
+    pub fn feed(&mut self, piece: &[u8], out: &mut Vec<u8>) -> Result<Cut, AllocError>
+        ensures ok { IfOk result (λ cut. (more : List ℕ) × (out.new.items ≡ out.old.items ++ more)
+            × ((fed given : List ℕ) → Undots self.old fed given → Behind cut self.new.place fed piece.now (given ++ more))) }
+        ensures used { IfOk result (λ cut. IsWithin cut piece.now) }
+        ensures err { OnErr result ((out.new.items ≡ out.old.items) × (self.new ≡ self.old)) }
+    {
+        let mut place = self.place;
+        let kept = out.len();
+        match undot(&mut place, piece, out) {
+            Ok(cut) => {
+                self.place = place;
+                Ok(cut)
+            }
+            Err(error) => {
+                out.truncate(kept);
+                Err(error)
+            }
+        }
+    }
+}
+
+// The place behind the octet; none where it ends the line that is one period.
+fn next_place(place: Place, octet: u8) -> Option<Place>
+    ensures { result ≡ next_place place octet }
+{
+    match (place, octet) {
+        (Place::LineStart, b'.') => Some(Place::Period),
+        (Place::Period, b'\r') => Some(Place::PeriodCr),
+        (Place::Period, _) => Some(Place::Inside),
+        (Place::PeriodCr, b'\n') => None,
+        (Place::Cr, b'\n') => Some(Place::LineStart),
+        (_, b'\r') => Some(Place::Cr),
+        (_, _) => Some(Place::Inside),
+    }
+}
+
+// Puts behind `out` what the octet gives.
+fn tell(place: Place, octet: u8, out: &mut Vec<u8>) -> Result<(), AllocError>
+    ensures ok { OnOk result (out.new.items ≡ out.old.items ++ told place octet) }
+    ensures err { OnErr result (out.new.items ≡ out.old.items) }
+{
+    match (place, octet) {
+        (Place::LineStart, b'.') | (Place::Period, b'\r') | (Place::PeriodCr, b'\n') => Ok(()),
+        (Place::PeriodCr, _) => out.extend_from_slice(&[b'\r', octet]),
+        (_, _) => out.extend_from_slice(&[octet]),
+    }
+}
+
+// Puts behind `out` what the octets give, up to the end of the text.
+fn undot(place: &mut Place, piece: &[u8], out: &mut Vec<u8>) -> Result<Cut, AllocError>
+    ensures ok { IfOk result (λ cut. (more : List ℕ) × (out.new.items ≡ out.old.items ++ more)
+        × ((fed given : List ℕ) → UndotsAt place.old fed given → Behind cut place.new fed piece.now (given ++ more))) }
+    ensures used { IfOk result (λ cut. IsWithin cut piece.now) }
+    ensures err { OnErr result ((more : List ℕ) × (out.new.items ≡ out.old.items ++ more)) }
+{
+    for (at, octet) in piece.iter().enumerate() {
+        tell(*place, *octet, out)?;
+        match next_place(*place, *octet) {
+            Some(next) => *place = next,
+            None => {
+                *place = Place::LineStart;
+                return Ok(Cut::Ended(at + 1));
+            }
+        }
+    }
+    Ok(Cut::More)
+}
