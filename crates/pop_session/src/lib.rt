@@ -1,0 +1,70 @@
+//! pop_session: one POP3 session, over whole lines.
+//!
+//! SUMMARY
+//!
+//! `Session::new()` is a session that has been told nothing, and `hear(alloc, plan, line)` takes its next
+//! line, given without its CRLF, and says what that leads to: a reply, a reply and the end of the
+//! session, or a question to the node. `Reply::lines` has the lines of a reply, without their CRLF.
+//!
+//! DESCRIPTION
+//!
+//! The commands are those of `pop_wire`, and come in this order (RFC 1939, sections 4 to 7):
+//!
+//! - Before the login, `USER` with any name, and `PASS` in the line directly behind it. Any other line
+//!   between them, also one that is no command, makes `PASS` come out of its order. Names mean the same
+//!   in either case.
+//! - Behind it `STAT`, `LIST`, `UIDL` and `RETR`, over the listing that the node answered. The messages
+//!   keep their numbers, from 1 in the order of the listing, to the end of the session.
+//! - `QUIT` at any time. It ends the session.
+//!
+//! Where the node is asked, the session hears no line until the caller gave its answer:
+//!
+//! - `LogsIn`: `listed` with the messages, and the session is behind its login; or `Reply::wrong`, and it
+//!   is as before the `USER`. A name that the plan does not have is never asked about, and every secret
+//!   is, also one that no user can have.
+//! - `Fetches`: `Reply::fetched` or `Reply::gone`, and the session stays as it is. `fetched` is the first
+//!   line of that reply alone: its caller sends the lines of the message behind it, a period that leads
+//!   one doubled, and then the line that is one period.
+//!
+//! `Reply::ready` opens a session and `Reply::down` comes before it is ended because its node goes down;
+//! when these are due is known to the caller.
+//!
+//! DIAGNOSTICS
+//!
+//! Replies that begin with `-ERR`, in the order in which they are tried: a line of more than 1,024 octets
+//! with its CRLF is too long; the verb is unknown; the argument is bad; the command comes out of its
+//! order; the name or the secret is wrong; or there is no message of that number. What is refused
+//! changes nothing, but that `PASS` may then not come next.
+//!
+//! Want of memory is an `AllocError`, and the session is then as before the line: it may be heard again.
+//!
+//! STANDS ON
+//!
+//! `pop_wire` for commands, `mail_base` for names, ids and the plan, and `mail_model`, whose definition of
+//! a session says what every line leads to. The contract of `hear` is that definition. Three laws say
+//! what it means: `asks_behind_user`, `listed_once` and `numbered_alike`.
+//!
+//! COSTS
+//!
+//! No octets of messages are read or kept. `STAT` goes over the listing once, and `LIST` and `UIDL` without
+//! a number make a line for each message of it. A number leads to its message at once.
+//!
+//! WHAT IT DOES NOT DO
+//!
+//! It cuts no lines out of octets, compares no secrets and reads no messages. It does not look whether a
+//! listing names a message twice. DELE, TOP, APOP, NOOP, RSET and CAPA are unknown commands, and nothing is
+//! locked. After `Closed` the caller lets it go.
+#![tactic(auto)]
+
+mod laws;
+mod listing;
+mod reply;
+mod session;
+#[cfg(test)]
+mod tests;
+mod text;
+
+pub use laws::{asks_behind_user, listed_once, numbered_alike};
+pub use listing::{Item, Listing};
+pub use reply::Reply;
+pub use session::{Heard, Session, Stage};

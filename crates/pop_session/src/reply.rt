@@ -1,0 +1,202 @@
+// The replies of a session.
+ghost use Rattle.std.specs.Prelude.{◌≡◌, ℕ, List, ◌++◌, ◌∷◌, [], length, map, flat_map, codes, IfOk, OnOk, OnErr};
+ghost use Rattle.mail_model.specs.Lines.{sent_line};
+ghost use Rattle.mail_model.specs.PopReplies.{one_line, ready_text, down_text, size_line, id_line, octets_text, stat_text, listing_reply, dotted_line, last_line};
+ghost use Rattle.mail_model.specs.Maildrop as maildrop;
+ghost use Rattle.mail_model.specs.Maildrop.{answer_reply};
+
+use crate::text::{with_number, with_text};
+use crate::{Item, Listing};
+use mail_base::{NodeNo, Octets};
+use std::alloc::{AllocError, Global};
+use std::marker::Model;
+
+/// What a session answers (RFC 1939, section 3): one line or several, without their CRLF, each behind
+/// the other. A contract sees the lines.
+#[derive(Debug, Drop)]
+pub struct Reply {
+    held: Vec<Octets>,
+}
+
+impl Model for Reply {
+    ghost use Rattle.std.specs.Prelude.{List, ℕ};
+
+    ghost Value = { List (List ℕ) };
+
+    ghost view = { λ r. r.held.items };
+}
+
+// What LIST shows of a message (RFC 1939, section 5).
+fn size_line(alloc: Global, number: u64, item: &Item) -> Result<Vec<u8>, AllocError>
+    ensures { IfOk result (λ line. line.items ≡ size_line number item.now) }
+{
+    let line = with_number(Vec::new(alloc), alloc, u128::from(number))?;
+    with_number(with_text(line, b" ")?, alloc, u128::from(item.length))
+}
+
+// What UIDL shows of a message (RFC 1939, section 7).
+fn id_line(alloc: Global, number: u64, item: &Item) -> Result<Vec<u8>, AllocError>
+    ensures { IfOk result (λ line. line.items ≡ id_line number item.now) }
+{
+    let line = with_number(Vec::new(alloc), alloc, u128::from(number))?;
+    with_text(with_text(line, b" ")?, item.id.id_text(alloc)?.as_bytes())
+}
+
+impl Reply {
+    // The reply of this one line.
+    fn of_line(alloc: Global, line: Vec<u8>) -> Result<Reply, AllocError>
+        ensures { IfOk result (λ reply. reply ≡ one_line line.items) }
+    {
+        let mut reply = Reply {
+            held: Vec::new(alloc),
+        };
+        reply.push(line)?;
+        Ok(reply)
+    }
+
+    // One line more. Unchanged on refusal.
+    fn push(&mut self, line: Vec<u8>) -> Result<(), AllocError>
+        ensures ok { OnOk result (self.new ≡ self.old ++ line.items ∷ []) }
+        ensures err { OnErr result (self.new ≡ self.old) }
+    {
+        self.held.push(Octets::from_vec(line))?;
+        Ok(())
+    }
+
+    /// The lines, the first of which begins with `+OK` or `-ERR`.
+    pub fn lines(&self) -> &[Octets]
+        ensures { result.now ≡ self.now }
+    {
+        &self.held
+    }
+
+    /// The reply of this one line.
+    pub(crate) fn said(alloc: Global, text: &[u8]) -> Result<Reply, AllocError>
+        ensures { IfOk result (λ reply. reply ≡ one_line text.now) }
+    {
+        Reply::of_line(alloc, text.to_vec(alloc)?)
+    }
+
+    /// Opens a session (RFC 1939, section 4): the node and its boot, the number of the session, and the
+    /// seconds at its opening.
+    ///
+    /// # Errors
+    ///
+    /// Only want of memory.
+    pub fn ready(
+        alloc: Global,
+        node: NodeNo,
+        boot: u32,
+        session: u64,
+        seconds: u64,
+    ) -> Result<Reply, AllocError>
+        ensures { IfOk result (λ reply. reply ≡ one_line (ready_text node boot session seconds)) }
+    {
+        let number = u128::from(node.number());
+        let line = with_number(b"+OK node".to_vec(alloc)?, alloc, number)?;
+        let line = with_number(with_text(line, b" ready <")?, alloc, u128::from(boot))?;
+        let line = with_number(with_text(line, b".")?, alloc, u128::from(session))?;
+        let line = with_number(with_text(line, b".")?, alloc, u128::from(seconds))?;
+        let line = with_number(with_text(line, b"@node")?, alloc, number)?;
+        Reply::of_line(alloc, with_text(line, b">")?)
+    }
+
+    /// Before a session is ended because its node goes down.
+    ///
+    /// # Errors
+    ///
+    /// Only want of memory.
+    pub fn down(alloc: Global, node: NodeNo) -> Result<Reply, AllocError>
+        ensures { IfOk result (λ reply. reply ≡ one_line (down_text node)) }
+    {
+        let line = b"-ERR [SYS/TEMP] node".to_vec(alloc)?;
+        let line = with_number(line, alloc, u128::from(node.number()))?;
+        Reply::of_line(alloc, with_text(line, b" down")?)
+    }
+
+    /// To a login whose secret is wrong (RFC 1939, section 7).
+    ///
+    /// # Errors
+    ///
+    /// Only want of memory.
+    pub fn wrong(alloc: Global) -> Result<Reply, AllocError>
+        ensures { IfOk result (λ reply. reply ≡ answer_reply maildrop.Answer.Wrong) }
+    {
+        Reply::said(alloc, b"-ERR name or secret is wrong")
+    }
+
+    /// The first line to RETR of a message of so many octets (RFC 1939, section 5). The lines of the
+    /// message follow, a period that leads one doubled, and then the line that is one period.
+    ///
+    /// # Errors
+    ///
+    /// Only want of memory.
+    pub fn fetched(alloc: Global, octets: u64) -> Result<Reply, AllocError>
+        ensures line { IfOk result (λ reply. reply ≡ one_line (octets_text octets)) }
+        ensures begins { IfOk result (λ reply. (lines : List (List ℕ)) → length (flat_map sent_line lines) ≡ octets → reply ++ map dotted_line lines ++ last_line ≡ answer_reply (maildrop.Answer.Whole lines)) }
+    {
+        let line = with_number(b"+OK ".to_vec(alloc)?, alloc, u128::from(octets))?;
+        Reply::of_line(alloc, with_text(line, b" octets")?)
+    }
+
+    /// To RETR of a message that was deleted since the login.
+    ///
+    /// # Errors
+    ///
+    /// Only want of memory.
+    pub fn gone(alloc: Global) -> Result<Reply, AllocError>
+        ensures { IfOk result (λ reply. reply ≡ answer_reply maildrop.Answer.GoneAlready) }
+    {
+        Reply::said(alloc, b"-ERR message was deleted")
+    }
+
+    /// To STAT (RFC 1939, section 5).
+    pub(crate) fn count(alloc: Global, listing: &Listing) -> Result<Reply, AllocError>
+        ensures { IfOk result (λ reply. reply ≡ one_line (stat_text listing.now)) }
+    {
+        let count = listing.as_slice().len() as u128;
+        let line = with_number(b"+OK ".to_vec(alloc)?, alloc, count)?;
+        let line = with_number(with_text(line, b" ")?, alloc, listing.octets())?;
+        Reply::of_line(alloc, line)
+    }
+
+    /// To LIST of one message (RFC 1939, section 5).
+    pub(crate) fn size(alloc: Global, number: u32, item: &Item) -> Result<Reply, AllocError>
+        ensures { IfOk result (λ reply. reply ≡ one_line (codes "+OK " ++ size_line number item.now)) }
+    {
+        let line = size_line(alloc, u64::from(number), item)?;
+        Reply::of_line(alloc, with_text(b"+OK ".to_vec(alloc)?, &line)?)
+    }
+
+    /// To UIDL of one message (RFC 1939, section 7).
+    pub(crate) fn id(alloc: Global, number: u32, item: &Item) -> Result<Reply, AllocError>
+        ensures { IfOk result (λ reply. reply ≡ one_line (codes "+OK " ++ id_line number item.now)) }
+    {
+        let line = id_line(alloc, u64::from(number), item)?;
+        Reply::of_line(alloc, with_text(b"+OK ".to_vec(alloc)?, &line)?)
+    }
+
+    /// To LIST of every message (RFC 1939, section 5).
+    pub(crate) fn sizes(alloc: Global, listing: &Listing) -> Result<Reply, AllocError>
+        ensures { IfOk result (λ reply. reply ≡ listing_reply (codes "+OK listing") size_line listing.now) }
+    {
+        let mut reply = Reply::said(alloc, b"+OK listing")?;
+        for (at, item) in listing.as_slice().iter().enumerate() {
+            reply.push(size_line(alloc, at as u64 + 1, item)?)?;
+        }
+        reply.push(b".".to_vec(alloc)?)?;
+        Ok(reply)
+    }
+
+    /// To UIDL of every message (RFC 1939, section 7).
+    pub(crate) fn ids(alloc: Global, listing: &Listing) -> Result<Reply, AllocError>
+        ensures { IfOk result (λ reply. reply ≡ listing_reply (codes "+OK unique ids") id_line listing.now) }
+    {
+        let mut reply = Reply::said(alloc, b"+OK unique ids")?;
+        for (at, item) in listing.as_slice().iter().enumerate() {
+            reply.push(id_line(alloc, at as u64 + 1, item)?)?;
+        }
+        reply.push(b".".to_vec(alloc)?)?;
+        Ok(reply)
+    }
+}

@@ -1,0 +1,352 @@
+// What one client hears: each table has the lines that it says and, indented, what they lead to.
+use crate::{Heard, Item, Listing, Reply, Session};
+use mail_base::{MsgId, Name, NodeNo, Plan, Secret, Users};
+use std::alloc::{AllocError, Global};
+use std::process::Abort;
+use std::test::Fail;
+
+// A client, the node that answers its questions, and what was said so far.
+#[derive(Drop)]
+struct Client {
+    alloc: Global,
+    plan: Plan,
+    session: Session,
+    maildrop: Option<Listing>,
+    said: Vec<u8>,
+}
+
+// alice, whose secret is sesame, and bob
+fn plan(alloc: Global) -> Result<Plan, Fail> {
+    let mut users = Users::new(alloc);
+    for octets in [b"alice".as_slice(), b"bob".as_slice()] {
+        let name = Name::spelt(alloc, octets)?.ok_or("no name")?;
+        users.insert(name, Secret::read(alloc, b"sesame")?.ok_or("no secret")?)?;
+    }
+    Ok(Plan {
+        nodes: 1,
+        copies: 1,
+        confirm: 1,
+        buckets: 1,
+        users,
+        postmaster: Name::spelt(alloc, b"alice")?.ok_or("no name")?,
+    })
+}
+
+// A listing of messages with these nodes, boots, numbers and lengths.
+fn listing(alloc: Global, messages: &[(u8, u32, u64, u64)]) -> Result<Listing, Fail> {
+    let mut listing = Listing::new(alloc);
+    for (node, boot, seq, length) in messages {
+        let node = NodeNo::new(*node).ok_or("no node")?;
+        let id = MsgId::new(node, *boot, *seq).ok_or("no id")?;
+        listing.push(Item {
+            id,
+            length: *length,
+        })?;
+    }
+    Ok(listing)
+}
+
+impl Client {
+    fn new(alloc: Global, messages: &[(u8, u32, u64, u64)]) -> Result<Client, Fail> {
+        Ok(Client {
+            alloc,
+            plan: plan(alloc)?,
+            session: Session::new(),
+            maildrop: Some(listing(alloc, messages)?),
+            said: Vec::new(alloc),
+        })
+    }
+
+    // One line more of what was said.
+    fn note(&mut self, before: &[u8], line: &[u8]) -> Result<(), AllocError> {
+        self.said.extend_from_slice(before)?;
+        self.said.extend_from_slice(line)?;
+        self.said.extend_from_slice(b"\n")
+    }
+
+    fn note_reply(&mut self, reply: &Reply) -> Result<(), AllocError> {
+        for line in reply.lines() {
+            self.note(b"  ", line.as_slice())?;
+        }
+        Ok(())
+    }
+
+    // The node's answer to a login.
+    fn log_in(&mut self, user: &Name, secret: &[u8]) -> Result<Reply, AllocError> {
+        self.note(b"  asks for ", user.octets())?;
+        let right = match self.plan.users.secret(user) {
+            Some(wanted) => wanted.octets() == secret,
+            None => false,
+        };
+        match self.maildrop.take() {
+            Some(maildrop) if right => self.session.listed(self.alloc, maildrop),
+            maildrop => {
+                self.maildrop = maildrop;
+                Reply::wrong(self.alloc)
+            }
+        }
+    }
+
+    // The node's answer to RETR: it has the first message, of 151 octets, and the others are gone.
+    fn fetch(&mut self, number: u32, id: MsgId) -> Result<Reply, AllocError> {
+        let text = id.id_text(self.alloc)?;
+        self.note(b"  asks for ", text.as_bytes())?;
+        if number == 1 {
+            Reply::fetched(self.alloc, 151)
+        } else {
+            Reply::gone(self.alloc)
+        }
+    }
+
+    fn say(&mut self, line: &[u8]) -> Result<(), AllocError> {
+        self.note(b"", line)?;
+        match self.session.hear(self.alloc, &self.plan, line)? {
+            Heard::Said(reply) => self.note_reply(&reply),
+            Heard::Closed(reply) => {
+                self.note_reply(&reply)?;
+                self.note(b"  ", b"closed")
+            }
+            Heard::LogsIn { user, secret } => {
+                let reply = self.log_in(&user, secret.as_slice())?;
+                self.note_reply(&reply)
+            }
+            Heard::Fetches { number, id } => {
+                let reply = self.fetch(number, id)?;
+                self.note_reply(&reply)
+            }
+        }
+    }
+
+    // Says the lines of a table that are not indented; they lead to those that are.
+    fn says(&mut self, rt: &impl Abort, table: &[u8]) -> Result<(), AllocError> {
+        for line in table.split(|x| *x == b'\n') {
+            if !line.starts_with(b"  ") && !line.is_empty() {
+                self.say(line)?;
+            }
+        }
+        assert!(rt; self.said.as_slice() == table, "{:?}", self.said);
+        Ok(())
+    }
+}
+
+const ONE_MESSAGE: &[u8] = b"\
+USER alice
+  +OK send PASS
+PASS sesame
+  asks for alice
+  +OK maildrop open
+STAT
+  +OK 1 151
+LIST
+  +OK listing
+  1 151
+  .
+LIST 1
+  +OK 1 151
+UIDL
+  +OK unique ids
+  1 1.1.1
+  .
+uidl 1
+  +OK 1 1.1.1
+RETR 1
+  asks for 1.1.1
+  +OK 151 octets
+LIST 0
+  -ERR no such message
+LIST 2
+  -ERR no such message
+UIDL 4294967295
+  -ERR no such message
+RETR 0
+  -ERR no such message
+RETR 4294967296
+  -ERR bad argument
+STAT 1
+  -ERR bad argument
+USER bob
+  -ERR bad order
+PASS sesame
+  -ERR bad order
+NOOP
+  -ERR unknown command
+DELE 1
+  -ERR unknown command
+STAT
+  +OK 1 151
+QUIT
+  +OK bye
+  closed
+";
+
+const NO_MESSAGE: &[u8] = b"\
+USER bob
+  +OK send PASS
+PASS sesame
+  asks for bob
+  +OK maildrop open
+STAT
+  +OK 0 0
+LIST
+  +OK listing
+  .
+UIDL
+  +OK unique ids
+  .
+LIST 1
+  -ERR no such message
+RETR 1
+  -ERR no such message
+";
+
+const THREE_MESSAGES: &[u8] = b"\
+USER alice
+  +OK send PASS
+PASS sesame
+  asks for alice
+  +OK maildrop open
+STAT
+  +OK 3 18446744073709552068
+LIST
+  +OK listing
+  1 302
+  2 151
+  3 18446744073709551615
+  .
+LIST 2
+  +OK 2 151
+UIDL
+  +OK unique ids
+  1 2.1.7
+  2 16.4294967295.18446744073709551615
+  3 1.3.12
+  .
+UIDL 3
+  +OK 3 1.3.12
+RETR 3
+  asks for 1.3.12
+  -ERR message was deleted
+";
+
+#[test]
+fn shows_maildrops(rt: HostRuntime) -> Result<(), Fail> {
+    Client::new(rt.alloc(), &[(1, 1, 1, 151)])?.says(&rt, ONE_MESSAGE)?;
+    Client::new(rt.alloc(), &[])?.says(&rt, NO_MESSAGE)?;
+    let three = [
+        (2, 1, 7, 302),
+        (16, u32::MAX, u64::MAX, 151),
+        (1, 3, 12, u64::MAX),
+    ];
+    Client::new(rt.alloc(), &three)?.says(&rt, THREE_MESSAGES)?;
+    Ok(())
+}
+
+const LOGINS: &[u8] = b"\
+STAT
+  -ERR bad order
+LIST
+  -ERR bad order
+LIST 1
+  -ERR bad order
+UIDL
+  -ERR bad order
+RETR 1
+  -ERR bad order
+PASS sesame
+  -ERR bad order
+USER nobody
+  +OK send PASS
+PASS sesame
+  -ERR name or secret is wrong
+PASS sesame
+  -ERR bad order
+USER alice
+  +OK send PASS
+STAT
+  -ERR bad order
+PASS sesame
+  -ERR bad order
+USER alice
+  +OK send PASS
+NOOP
+  -ERR unknown command
+PASS sesame
+  -ERR bad order
+USER alice
+  +OK send PASS
+USER @
+  -ERR bad argument
+PASS sesame
+  -ERR bad order
+USER alice
+  +OK send PASS
+PASS
+  -ERR bad argument
+PASS sesame
+  -ERR bad order
+USER alice
+  +OK send PASS
+PASS sesame\x20
+  asks for alice
+  -ERR name or secret is wrong
+PASS sesame
+  -ERR bad order
+USER alice
+  +OK send PASS
+PASS \x00\xFF
+  asks for alice
+  -ERR name or secret is wrong
+USER nobody
+  +OK send PASS
+USER BOB
+  +OK send PASS
+PASS sesame
+  asks for bob
+  +OK maildrop open
+";
+
+#[test]
+fn logs_in(rt: HostRuntime) -> Result<(), Fail> {
+    Client::new(rt.alloc(), &[])?.says(&rt, LOGINS)?;
+    let mut client = Client::new(rt.alloc(), &[])?;
+    client.says(&rt, b"QUIT\n  +OK bye\n  closed\n")?;
+    Ok(())
+}
+
+#[test]
+fn hears_long_lines(rt: HostRuntime) -> Result<(), Fail> {
+    let mut client = Client::new(rt.alloc(), &[])?;
+    let mut long = b"PASS ".to_vec(rt.alloc())?;
+    long.resize(1022, b'x')?;
+    client.say(b"USER alice")?;
+    client.say(&long)?;
+    assert!(rt;
+        client
+            .said
+            .ends_with(b"\n  asks for alice\n  -ERR name or secret is wrong\n")
+    );
+    long.push(b'x')?;
+    client.say(b"USER alice")?;
+    client.say(&long)?;
+    assert!(rt; client.said.ends_with(b"\n  -ERR line too long\n"));
+    client.say(b"PASS sesame")?;
+    assert!(rt; client.said.ends_with(b"\n  -ERR bad order\n"));
+    Ok(())
+}
+
+fn says_line(rt: &impl Abort, reply: &Reply, wanted: &[u8]) {
+    let [line] = reply.lines() else {
+        panic!(rt; "not one line");
+    };
+    assert!(rt; line.as_slice() == wanted);
+}
+
+#[test]
+fn opens_and_goes_down(rt: HostRuntime) -> Result<(), Fail> {
+    let node = NodeNo::new(16).ok_or("no node")?;
+    let ready = Reply::ready(rt.alloc(), node, 3, 12, 1_000_000_000)?;
+    says_line(&rt, &ready, b"+OK node16 ready <3.12.1000000000@node16>");
+    let down = Reply::down(rt.alloc(), node)?;
+    says_line(&rt, &down, b"-ERR [SYS/TEMP] node16 down");
+    Ok(())
+}
