@@ -1,5 +1,6 @@
 -- What was filed stays on the disk: records are only added, and each message has octets and states of its own.
-use Rattle.std.proofs.Common.{◌≡◌, ◌≢◌, inl, inr, ⊎_elim, ◌<◌, ◌≤◌, ◌+◌, ℕ, List, [], ◌∷◌, ◌++◌, refl, ap, subst, arith}
+use Rattle.std.proofs.Common.{◌≡◌, ◌≢◌, inl, inr, ⊎_elim, ◌<◌, ◌≤◌, ◌+◌, ℕ, List, [], ◌∷◌, ◌++◌, Some, refl, sym, ap, subst, arith}
+use Rattle.std.proofs.lemmas.List.{append-nil}
 use Rattle.std.specs.Prelude.{⊤}
 use Rattle.mail_model.specs.Identity.{Id, Stamp, Key}
 use Rattle.mail_model.specs.Identity.Key.{Message}
@@ -8,8 +9,13 @@ use Rattle.mail_model.specs.Record.{Record, Member, HoldsOctets, SaysHere}
 use Rattle.mail_model.specs.Record.Record.{Boot, Octets, Stated}
 use Rattle.mail_model.specs.Told.{Mail}
 use Rattle.mail_model.specs.Mail.{IsStored}
-use Rattle.mail_model.specs.Stored.{Ack, IsOther, HaveOtherIds}
-use Rattle.mail_model.specs.Site.{copies_of, message_records, nth_id, nth_stamp}
+use Rattle.mail_model.specs.Tape.{Protocol}
+use Rattle.mail_model.specs.Tape.Protocol.{Smtp}
+use Rattle.mail_model.specs.Stored.{Ack, IsOther, HaveOtherIds, kind_at}
+use Rattle.mail_model.specs.Site.{Call, copies_of, message_records, nth_id, nth_stamp}
+use Rattle.mail_model.specs.Site.Call.{Delivers, LogsIn, Fetches, Leaves}
+use Rattle.mail_model.specs.Steps.{MayWrite, drawn_by}
+use Rattle.mail_model.proofs.Sessions.{kind_more}
 
 -- so far nothing is gone, and no octets have a number that was not drawn
 abbrev pub IsOurs : ℕ → Record → Type 0
@@ -55,6 +61,24 @@ ours_more drawn records added missing octets mailboxes o front =
     ours_both (drawn + 1) records added (ours_later drawn (drawn + 1) records (omega arith) o)
     (ours_front (drawn + 1) added missing (subst (AreOurs (drawn + 1)) front
     (omega arith, copies_ours (drawn + 1) (nth_id (drawn + 1)) (nth_stamp (drawn + 1)) mailboxes)))
+
+-- nothing is added
+pub ours_nothing : (drawn : ℕ) (records added : List Record) → AreOurs drawn records → added ≡ [] → AreOurs drawn (records ++ added)
+ours_nothing drawn records added o none = subst (λ (l : List Record). AreOurs drawn (records ++ l)) (sym none) (subst (AreOurs drawn) (sym (append-nil records)) o)
+
+-- what a call wrote is added
+pub ours_by : (call : Call) (drawn : ℕ) (records added : List Record) → AreOurs drawn records → MayWrite call drawn added → AreOurs (drawn_by call drawn) (records ++ added)
+ours_by (Delivers mail) drawn records added o w = ours_more drawn records added w.1 w.0 mail.mailboxes o w.2
+ours_by (LogsIn user secret) drawn records added o w = ours_nothing drawn records added o w
+ours_by (Fetches user id) drawn records added o w = ours_nothing drawn records added o w
+ours_by (Leaves login) drawn records added o w = ours_nothing drawn records added o w
+
+-- no number is drawn twice
+pub drawn_rises : (call : Call) (drawn : ℕ) → drawn ≤ drawn_by call drawn
+drawn_rises (Delivers mail) drawn = omega arith
+drawn_rises (LogsIn user secret) drawn = omega arith
+drawn_rises (Fetches user id) drawn = omega arith
+drawn_rises (Leaves login) drawn = omega arith
 
 -- a record stays where more follow
 member_front : (one : Record) (records more : List Record) → Member one records → Member one (records ++ more)
@@ -133,13 +157,12 @@ says_here drawn records key o f = record {
     gone : Gone ≡ Here → ⊥
     gone e = cc
 
--- one answer `250 stored`, its number between the two, its session one of so many
-pub record AckStands (low high count : ℕ) (records : List Record) (ack : Ack) : Type 0 where
+-- one answer `250 stored`, its number between the two, its session one of these that takes mail
+pub record AckStands (low high : ℕ) (kinds : List (Protocol × ℕ)) (records : List Record) (ack : Ack) : Type 0 where
   pub named : ack.id ≡ nth_id ack.id.seq
   pub above : low < ack.id.seq
   pub below : ack.id.seq ≤ high
-  pub session_above : 0 < ack.session
-  pub session_below : ack.session ≤ count
+  pub taken : kind_at kinds ack.session ≡ Some (Smtp, 1)
   pub at_once : ack.seconds ≡ 0
   pub octets : List ℕ
   pub stored : IsStored ack.mail ack.id 0 octets
@@ -147,68 +170,65 @@ pub record AckStands (low high count : ℕ) (records : List Record) (ack : Ack) 
   pub filed : AllFiled ack.id records ack.mail.mailboxes
 
 -- all of them, their numbers rising
-abbrev pub AcksStand : ℕ → ℕ → ℕ → List Record → List Ack → Type 0
-AcksStand low high count records [] = low ≤ high
-AcksStand low high count records (ack ∷ acks) = AckStands low high count records ack × AcksStand ack.id.seq high count records acks
+abbrev pub AcksStand : ℕ → ℕ → List (Protocol × ℕ) → List Record → List Ack → Type 0
+AcksStand low high kinds records [] = low ≤ high
+AcksStand low high kinds records (ack ∷ acks) = AckStands low high kinds records ack × AcksStand ack.id.seq high kinds records acks
 
 -- numbers, sessions and records are added
-pub acks_more : (low high later count count_later : ℕ) (records more : List Record) (acks : List Ack) → high ≤ later → count ≤ count_later
-    → AcksStand low high count records acks → AcksStand low later count_later (records ++ more) acks
-acks_more low high later count count_later records more [] le le_count a = omega arith
-acks_more low high later count count_later records more (ack ∷ acks) le le_count a =
+pub acks_more : (low high later : ℕ) (kinds kinds_more : List (Protocol × ℕ)) (records more : List Record) (acks : List Ack) → high ≤ later
+    → AcksStand low high kinds records acks → AcksStand low later (kinds ++ kinds_more) (records ++ more) acks
+acks_more low high later kinds kinds_more records more [] le a = omega arith
+acks_more low high later kinds kinds_more records more (ack ∷ acks) le a =
     let one = a.0 in (
       record {
         named = one.named;
         above = one.above;
         below = omega (arith, one.below);
-        session_above = one.session_above;
-        session_below = omega (arith, one.session_below);
+        taken = kind_more kinds kinds_more ack.session (Smtp, 1) one.taken;
         at_once = one.at_once;
         octets = one.octets;
         stored = one.stored;
         holds = holds_more ack.id one.octets records more one.holds;
         filed = filed_more ack.id records more ack.mail.mailboxes one.filed;
       },
-      acks_more ack.id.seq high later count count_later records more acks le le_count a.1,
+      acks_more ack.id.seq high later kinds kinds_more records more acks le a.1,
     )
 
 -- one answer more, under a number above all others
-acks_push : (low high later count : ℕ) (records : List Record) (acks : List Ack) (ack : Ack) → high < ack.id.seq → AcksStand low high count records acks
-    → ((below : ℕ) → below ≤ high → AckStands below later count records ack) → ack.id.seq ≤ later → AcksStand low later count records (acks ++ ack ∷ [])
-acks_push low high later count records [] ack lt a one le = (one low a, le)
-acks_push low high later count records (first ∷ acks) ack lt a one le =
+acks_push : (low high later : ℕ) (kinds : List (Protocol × ℕ)) (records : List Record) (acks : List Ack) (ack : Ack) → high < ack.id.seq → AcksStand low high kinds records acks
+    → ((below : ℕ) → below ≤ high → AckStands below later kinds records ack) → ack.id.seq ≤ later → AcksStand low later kinds records (acks ++ ack ∷ [])
+acks_push low high later kinds records [] ack lt a one le = (one low a, le)
+acks_push low high later kinds records (first ∷ acks) ack lt a one le =
     let old = a.0 in (
       record {
         named = old.named;
         above = old.above;
         below = omega (arith, old.below);
-        session_above = old.session_above;
-        session_below = old.session_below;
+        taken = old.taken;
         at_once = old.at_once;
         octets = old.octets;
         stored = old.stored;
         holds = old.holds;
         filed = old.filed;
       },
-      acks_push first.id.seq high later count records acks ack lt a.1 one le,
+      acks_push first.id.seq high later kinds records acks ack lt a.1 one le,
     )
 
 -- a message is stored under the next number
-pub acks_filed : (drawn count k : ℕ) (mail : Mail) (octets : List ℕ) (records : List Record) (acks : List Ack) → AreOurs drawn records → AcksStand 0 drawn count records acks
-    → 0 < k → k ≤ count → IsStored mail (nth_id (drawn + 1)) 0 octets
-    → AcksStand 0 (drawn + 1) count (records ++ message_records (nth_id (drawn + 1)) (nth_stamp (drawn + 1)) octets mail.mailboxes)
+pub acks_filed : (drawn : ℕ) (kinds : List (Protocol × ℕ)) (k : ℕ) (mail : Mail) (octets : List ℕ) (records : List Record) (acks : List Ack) → AreOurs drawn records → AcksStand 0 drawn kinds records acks
+    → kind_at kinds k ≡ Some (Smtp, 1) → IsStored mail (nth_id (drawn + 1)) 0 octets
+    → AcksStand 0 (drawn + 1) kinds (records ++ message_records (nth_id (drawn + 1)) (nth_stamp (drawn + 1)) octets mail.mailboxes)
     (acks ++ record { session = k; mail = mail; id = nth_id (drawn + 1); seconds = 0 } ∷ [])
-acks_filed drawn count k mail octets records acks ours a above below stored =
+acks_filed drawn kinds k mail octets records acks ours a taken stored =
     let id : Id = nth_id (drawn + 1) in
     let added : List Record = message_records id (nth_stamp (drawn + 1)) octets mail.mailboxes in
-    acks_push 0 drawn (drawn + 1) count (records ++ added) acks _ (omega arith)
-    (acks_more 0 drawn drawn count count records added acks (omega arith) (omega arith) a)
+    acks_push 0 drawn (drawn + 1) kinds (records ++ added) acks _ (omega arith)
+    (subst (λ (l : List (Protocol × ℕ)). AcksStand 0 drawn l (records ++ added) acks) (append-nil kinds) (acks_more 0 drawn drawn kinds [] records added acks (omega arith) a))
     (λ low le. record {
       named = refl;
       above = omega arith;
       below = omega arith;
-      session_above = above;
-      session_below = below;
+      taken = taken;
       at_once = refl;
       octets = octets;
       stored = stored;
@@ -218,13 +238,13 @@ acks_filed drawn count k mail octets records acks ours a above below stored =
     (omega arith)
 
 -- later answers have other numbers
-others_above : (low high count : ℕ) (id : Id) (records : List Record) (acks : List Ack) → id.seq ≤ low → AcksStand low high count records acks → IsOther id acks
-others_above low high count id records [] le a = tt
-others_above low high count id records (ack ∷ acks) le a =
-    (λ e. absurd (omega (arith, a.0.above, ap (λ (i : Id). i.seq) e)), others_above ack.id.seq high count id records acks (omega (arith, a.0.above)) a.1)
+others_above : (low high : ℕ) (kinds : List (Protocol × ℕ)) (id : Id) (records : List Record) (acks : List Ack) → id.seq ≤ low → AcksStand low high kinds records acks → IsOther id acks
+others_above low high kinds id records [] le a = tt
+others_above low high kinds id records (ack ∷ acks) le a =
+    (λ e. absurd (omega (arith, a.0.above, ap (λ (i : Id). i.seq) e)), others_above ack.id.seq high kinds id records acks (omega (arith, a.0.above)) a.1)
 
 -- rising numbers are other numbers
-pub other_ids : (low high count : ℕ) (records : List Record) (acks : List Ack) → AcksStand low high count records acks → HaveOtherIds acks
-other_ids low high count records [] a = tt
-other_ids low high count records (ack ∷ acks) a =
-    (others_above ack.id.seq high count ack.id records acks (omega arith) a.1, other_ids ack.id.seq high count records acks a.1)
+pub other_ids : (low high : ℕ) (kinds : List (Protocol × ℕ)) (records : List Record) (acks : List Ack) → AcksStand low high kinds records acks → HaveOtherIds acks
+other_ids low high kinds records [] a = tt
+other_ids low high kinds records (ack ∷ acks) a =
+    (others_above ack.id.seq high kinds ack.id records acks (omega arith) a.1, other_ids ack.id.seq high kinds records acks a.1)

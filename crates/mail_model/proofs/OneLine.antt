@@ -4,36 +4,29 @@ use Rattle.std.specs.Fmt.{decimal, digits, digits_onto, digit_glyph}
 use Rattle.std.specs.List.{list_all}
 use Rattle.std.proofs.lemmas.List.{map-append}
 use Rattle.std.proofs.lemmas.List.Elements.{All-nil, All-cons, All-append, All-from_recursion}
-use Rattle.std.proofs.lemmas.Bool.{cases_Bool, and_parts, not-true, eqb-false, leb-true, MatchBool-at_true, MatchBool-at_false}
+use Rattle.std.proofs.lemmas.Bool.{and_parts, not-true, eqb-false, leb-true}
 use Rattle.mail_model.specs.Lines.{HasNoLf}
 use Rattle.mail_model.specs.Names.{is_printable}
 use Rattle.mail_model.specs.Transcript.{Entry, entry_line, hex_digit, escaped_octet, escaped}
 use Rattle.mail_model.specs.Transcript.Entry.{Said, Event}
 use Rattle.mail_model.specs.Tape.{Order}
-use Rattle.mail_model.specs.Tape.Order.{Open, Say, End}
-use Rattle.mail_model.specs.Session.{Talk, reply_text}
-use Rattle.mail_model.specs.Session.Unit.{Line, Text}
-use Rattle.mail_model.specs.Smtp.{greeting_text, down_text, stored_text}
-use Rattle.mail_model.specs.Site.{Site, Conversation, is_quit_line, closed_event, down_entries, Falls, Replies, HearsText, Hears, Steps, Turns, all_of}
-use Rattle.mail_model.specs.Site.Conversation.{On, Over}
+use Rattle.mail_model.specs.Tape.Order.{Open, Say, Feed, Close, End}
+use Rattle.mail_model.specs.Session.{Unit, Talk, reply_text, ends_session}
+use Rattle.mail_model.specs.Smtp.{stored_text}
+use Rattle.mail_model.specs.Site.{Site, Call, Conversation, closed_event, down_entries, down_text, protocol_of, is_on}
+use Rattle.mail_model.specs.Steps.{Replies, Falls, Hears, HearsSome, TakesUp, Turns, said_lines, greeting, all_of}
+use Rattle.mail_model.proofs.Choices.{either}
+use Rattle.mail_model.proofs.Handled.{HearsKeep, BegunKeeps, some_keep, turn_keeps, runs_keep}
+use Rattle.mail_model.proofs.Ways.{Reads, by_way}
 use Rattle.mail_model.specs.Laws.{EntriesAreLines}
 
 -- an octet that is no LF
-abbrev IsNoLf : ℕ → Type 0
+abbrev pub IsNoLf : ℕ → Type 0
 IsNoLf x = x ≢ 10
 
 -- entries of which each is one line
 abbrev AreLines : List Entry → Type 0
 AreLines entries = All HasNoLf (map entry_line entries)
-
--- either of two octets, and of two texts
-either_octet : (b : Bool) (x y : ℕ) → IsNoLf x → IsNoLf y → IsNoLf (if b then x else y)
-either_octet true x y p q = p
-either_octet false x y p q = q
-
-either_text : (b : Bool) (xs ys : List ℕ) → HasNoLf xs → HasNoLf ys → HasNoLf (if b then xs else ys)
-either_text true xs ys p q = p
-either_text false xs ys p q = q
 
 -- a text that is written out, by a test of its octets
 pub by_test : (xs : List ℕ) → list_all (λ x. not (nat_eq x 10)) xs ≡ true → HasNoLf xs
@@ -44,23 +37,30 @@ by_test (x ∷ xs) h =
 
 -- the digits of a number
 
-digit_no_lf : (d : ℕ) → IsNoLf (digit_glyph false d)
-digit_no_lf d = either_octet (nat_lt d 10) (48 + d) (87 + d) (λ e. omega (arith, e)) (λ e. omega (arith, e))
+-- what a text has however digits are put in front of it
+module _ (P : List ℕ → Type 0) (onto : (digit : ℕ) (behind : List ℕ) → P behind → P (digit_glyph false digit ∷ behind)) where
+  digits_have : (k n : ℕ) (behind : List ℕ) → P behind → P (digits_onto k 10 false n behind)
+  digits_have zero n behind has = has
+  digits_have (suc k) n behind has =
+      let more = onto (n % 10) behind has in either P (nat_eq (n / 10) 0) _ _ more (digits_have k (n / 10) (digit_glyph false (n % 10) ∷ behind) more)
 
-digits_no_lf : (k n : ℕ) (behind : List ℕ) → HasNoLf behind → HasNoLf (digits_onto k 10 false n behind)
-digits_no_lf zero n behind h = h
-digits_no_lf (suc k) n behind h =
-    let more = All-cons IsNoLf (digit_glyph false (n % 10)) behind (digit_no_lf (n % 10)) h in
-    either_text (nat_eq (n / 10) 0) _ _ more (digits_no_lf k (n / 10) (digit_glyph false (n % 10) ∷ behind) more)
+  -- a number has, if each digit alone does
+  pub decimal_has : ((digit : ℕ) → P (digit_glyph false digit ∷ [])) → (n : ℕ) → P (decimal n)
+  unfolding digits
+  decimal_has alone n =
+      either P (nat_eq (n / 10) 0) _ _ (alone (n % 10)) (digits_have 63 (n / 10) (digit_glyph false (n % 10) ∷ []) (alone (n % 10)))
+
+digit_no_lf : (d : ℕ) → IsNoLf (digit_glyph false d)
+digit_no_lf d = either IsNoLf (nat_lt d 10) (48 + d) (87 + d) (λ e. omega (arith, e)) (λ e. omega (arith, e))
 
 pub decimal_no_lf : (n : ℕ) → HasNoLf (decimal n)
-unfolding digits
-decimal_no_lf n = digits_no_lf 64 n [] (All-nil IsNoLf)
+decimal_no_lf n = decimal_has HasNoLf (λ d behind h. All-cons IsNoLf (digit_glyph false d) behind (digit_no_lf d) h)
+    (λ d. All-cons IsNoLf (digit_glyph false d) [] (digit_no_lf d) (All-nil IsNoLf)) n
 
 -- the text of a reply
 
 hex_no_lf : (n : ℕ) → IsNoLf (hex_digit n)
-hex_no_lf n = either_octet (nat_lt n 10) (48 + n) (55 + n) (λ e. omega (arith, e)) (λ e. omega (arith, e))
+hex_no_lf n = either IsNoLf (nat_lt n 10) (48 + n) (55 + n) (λ e. omega (arith, e)) (λ e. omega (arith, e))
 
 -- a printable octet is no LF
 printable_no_lf : (x : ℕ) → is_printable x ≡ true → IsNoLf x
@@ -108,13 +108,26 @@ no_lines = All-nil HasNoLf
 one_more : (entry : Entry) (entries : List Entry) → HasNoLf (entry_line entry) → AreLines entries → AreLines (entry ∷ entries)
 one_more entry entries h more = All-cons HasNoLf (entry_line entry) (map entry_line entries) h more
 
+-- one part after the other
+both_lines : (entries more : List Entry) → AreLines entries → AreLines more → AreLines (entries ++ more)
+both_lines entries more h m = subst (All HasNoLf) (sym (map-append entry_line entries more)) (All-append HasNoLf (map entry_line entries) (map entry_line more) h m)
+
+-- lines of a reply
+reply_lines : (k : ℕ) (lines : List (List ℕ)) → AreLines (said_lines k lines)
+reply_lines k [] = no_lines
+reply_lines k (line ∷ lines) = one_more (Said k line) (said_lines k lines) (said_line k line) (reply_lines k lines)
+
+-- what one session is told as its node goes down
+last_lines : (k : ℕ) (text : List ℕ) (on : Bool) → AreLines (if on then Said k text ∷ closed_event k ∷ [] else [])
+last_lines k text true = one_more (Said k text) (closed_event k ∷ []) (said_line k text) (one_more (closed_event k) [] (closed_line k) no_lines)
+last_lines k text false = no_lines
+
 -- what is written as the node goes down
 down_lines : (k : ℕ) (sessions : List Conversation) → AreLines (down_entries k sessions)
 down_lines k [] = no_lines
-down_lines k (On talk lines ∷ sessions) =
-    one_more (Said k (down_text 1)) (closed_event k ∷ down_entries (k + 1) sessions) (said_line k (down_text 1))
-    (one_more (closed_event k) (down_entries (k + 1) sessions) (closed_line k) (down_lines (k + 1) sessions))
-down_lines k (Over ∷ sessions) = down_lines (k + 1) sessions
+down_lines k (conversation ∷ sessions) =
+    let last : List Entry = if is_on conversation then Said k (down_text (protocol_of conversation)) ∷ closed_event k ∷ [] else [] in
+    both_lines last (down_entries (k + 1) sessions) (last_lines k (down_text (protocol_of conversation)) (is_on conversation)) (down_lines (k + 1) sessions)
 
 -- what follows a reply that may end its session
 closing_lines : (k : ℕ) (quits : Bool) → AreLines (if quits then closed_event k ∷ [] else [])
@@ -125,51 +138,58 @@ closing_lines k false = no_lines
 in_words : (entries others : List Entry) → entries ≡ others → AreLines others → AreLines entries
 in_words entries others e h = subst AreLines (sym e) h
 
--- a line that a session hears
-module _ (old new : Site) (k : ℕ) (talk : Talk) (so_far : List (List ℕ)) (text : List ℕ) (entries : List Entry) where
-  -- one reply and what follows it
-  replied : (reply : List ℕ) (others : List Entry) → entries ≡ Said k reply ∷ others → AreLines others → AreLines entries
-  replied reply others e h = in_words entries (Said k reply ∷ others) e (one_more (Said k reply) others (said_line k reply) h)
+-- what a session does with the next of what it was fed
+module _ (old new : Site) (k : ℕ) (entries : List Entry) where
+  replies_lines : (talk : Talk) (unit : Unit) (more : List ℕ) → Replies old k talk unit more entries new → AreLines entries
+  replies_lines talk unit more h =
+      let reply : List ℕ = reply_text old.plan 1 talk unit in
+      let others : List Entry = if ends_session unit then closed_event k ∷ [] else [] in
+      in_words entries (Said k reply ∷ others) h.says (one_more (Said k reply) others (said_line k reply) (closing_lines k (ends_session unit)))
 
-  replies_lines : Replies old k talk text entries new → AreLines entries
-  replies_lines h =
-      replied (reply_text old.plan 1 talk (Line text)) (if is_quit_line text then closed_event k ∷ [] else []) h.says (closing_lines k (is_quit_line text))
+  reads_lines : Reads old k entries new → AreLines entries
+  reads_lines h = in_words entries (said_lines k h.lines ++ h.behind) h.says_lines (both_lines (said_lines k h.lines) h.behind (reply_lines k h.lines)
+      (⊎_elim (λ none. in_words h.behind [] none no_lines) (λ one. in_words h.behind (closed_event k ∷ []) one (one_more (closed_event k) [] (closed_line k) no_lines)) h.closing))
 
-  falls_lines : Falls old k talk so_far entries new → AreLines entries
-  falls_lines h =
+  falls_lines : (call : Call) → Falls old call entries new → AreLines entries
+  falls_lines call h =
       in_words entries (Event (codes "fault 1") ∷ down_entries 1 old.sessions) h.says
       (one_more (Event (codes "fault 1")) (down_entries 1 old.sessions) (event_line (codes "fault 1") (by_test (codes "fault 1") refl)) (down_lines 1 old.sessions))
 
-  text_lines : HearsText old k talk so_far text entries new → AreLines entries
-  text_lines h =
-      ⊎_elim (λ more. in_words entries [] more.1 no_lines)
-      (λ done. ⊎_elim (λ large. replied (reply_text old.plan 1 talk (Text so_far)) [] large.2 no_lines)
-      (λ last. ⊎_elim (λ files. replied stored_text [] files.says no_lines) falls_lines last.2) done) h
+  pub hears_lines : Hears old k entries new → AreLines entries
+  hears_lines h = by_way old k entries new
+      (λ talk unit more next none replies. replies_lines talk unit more replies)
+      (λ talk text more next files. in_words entries (Said k stored_text ∷ []) files.says (one_more (Said k stored_text) [] (said_line k stored_text) no_lines))
+      reads_lines falls_lines h
 
-  hears_lines : Hears old k talk so_far text entries new → AreLines entries
-  hears_lines h = ⊎_elim
-      (λ mode. text_lines (MatchBool-at_true (HearsText old k talk so_far text entries new) (Replies old k talk text entries new) mode h))
-      (λ mode. replies_lines (MatchBool-at_false (HearsText old k talk so_far text entries new) (Replies old k talk text entries new) mode h))
-      (cases_Bool talk.in_text)
+-- a run line that is taken up
+pub takes_lines : (old : Site) (order : Order) (first : List Entry) (new : Site) → TakesUp old order first new → AreLines first
+takes_lines old (Open protocol node) first new t =
+    let number : ℕ = length old.sessions + 1 in
+    let text : List ℕ = greeting protocol node number in
+    in_words first (Said number text ∷ []) t.0 (one_more (Said number text) [] (said_line number text) no_lines)
+takes_lines old (Say k text) first new t = in_words first [] t.says no_lines
+takes_lines old (Feed k octets) first new t = in_words first [] t.says no_lines
+takes_lines old (Close k) first new t = in_words first [] t.says no_lines
+takes_lines old End first new t = absurd t
+
+-- so all that is written behind run lines are lines
+abbrev AreWritten : List (List ℕ) → List Entry → Site → Type 0
+AreWritten handled entries site = AreLines entries
+
+hears_written : HearsKeep AreWritten
+hears_written handled entries old k says new are h = both_lines entries says are (hears_lines old new k says h)
+
+begun_written : BegunKeeps AreWritten
+begun_written handled entries old line order first start are begun = both_lines entries first are (takes_lines old order first start begun.takes_up)
+
+-- all that a session does
+pub some_lines : (old : Site) (k : ℕ) (outputs : List (List Entry)) (new : Site) → HearsSome old k outputs new → AreLines (all_of outputs)
+some_lines old k outputs new h = some_keep AreWritten hears_written [] [] old k outputs new no_lines h
 
 -- one line of the tape
 pub turns_lines : (old new : Site) (line : List ℕ) (entries : List Entry) → Turns old line entries new → All HasNoLf (map entry_line entries)
-turns_lines old new line entries t = by_order t.order t.step
-  where
-    by_order : (order : Order) → Steps old order entries new → AreLines entries
-    by_order (Open node) step =
-        let number : ℕ = length old.sessions + 1 in
-        in_words entries (Said number (greeting_text node) ∷ []) step.0
-        (one_more (Said number (greeting_text node)) [] (said_line number (greeting_text node)) no_lines)
-    by_order (Say k text) step = hears_lines old new k step.0 step.1 text entries step.3
-    by_order End step = absurd step
+turns_lines old new line entries t = turn_keeps AreWritten hears_written begun_written [] [] old line entries new no_lines t
 
 -- all lines of a tape
 pub runs_lines : EntriesAreLines
-runs_lines first last [] [] runs = no_lines
-runs_lines first last [] (entries ∷ outputs) runs = absurd runs
-runs_lines first last (line ∷ lines) [] runs = absurd runs
-runs_lines first last (line ∷ lines) (entries ∷ outputs) runs =
-    subst (All HasNoLf) (sym (map-append entry_line entries (all_of outputs)))
-    (All-append HasNoLf (map entry_line entries) (map entry_line (all_of outputs))
-    (turns_lines first runs.0 line entries runs.1) (runs_lines runs.0 last lines outputs runs.2))
+runs_lines first last lines outputs runs = runs_keep AreWritten hears_written begun_written [] [] first lines outputs last no_lines runs

@@ -1,12 +1,12 @@
 -- The book of a cluster: which messages were acknowledged, and which nodes went down.
-use Rattle.std.specs.Prelude.{◌≡◌, ◌≢◌, ℕ, List, [], ◌∷◌, ◌++◌, length, map, AllPairs}
+use Rattle.std.specs.Prelude.{◌≡◌, ◌≢◌, ℕ, true, List, [], ◌∷◌, ◌++◌, length, map, AllPairs}
 use Rattle.sha2.specs.Sha256.{sha256}
 use Rattle.mail_model.specs.Identity.{Id}
 use Rattle.mail_model.specs.Plan.{Plan}
 use Rattle.mail_model.specs.Transcript.{Entry}
 use Rattle.mail_model.specs.Told.{Told}
 use Rattle.mail_model.specs.Mail.{IsStored}
-use Rattle.mail_model.specs.Stored.{Ack, HaveOtherIds, stored_sessions, mails_in, clock_of}
+use Rattle.mail_model.specs.Stored.{Ack, HaveOtherIds, opened, takes_mail, stored_sessions, mails_in, clock_of}
 
 -- One user's copy of a message that was acknowledged: the seconds at which it came, the number and the SHA-256 of its octets, and the nodes that confirmed it (bit n - 1 is node n).
 pub record Acked : Type 0 where
@@ -52,10 +52,10 @@ AreCopies lines (ack ∷ acks) copies =
 -- order of these lines, and behind them those of `unwritten`, whose line was not written.
 pub record AcknowledgedAsTold (plan : Plan) (lines : List (List ℕ)) (entries : List Entry) (book : List BookEntry) (unwritten : List Ack) : Type 0 where
   pub acks : List Ack
-  -- each `250 stored` line
-  pub lines_of : map (λ ack. ack.session) acks ≡ stored_sessions entries
+  -- each `250 stored` line of an SMTP session
+  pub lines_of : map (λ ack. ack.session) acks ≡ stored_sessions (opened lines) entries
   -- answers the message of its session that it should, the first the first, and so on
-  pub told : (k : ℕ) → Told plan k lines entries (mails_in k acks)
+  pub told : (k : ℕ) → takes_mail (opened lines) k ≡ true → Told plan k lines entries (mails_in k acks)
   -- under an id of its own
   pub other_ids : HaveOtherIds (acks ++ unwritten)
   -- and the book has its copies, and no others

@@ -5,7 +5,8 @@ use Rattle.mail_model.specs.Transcript.{Entry, entry_line, written_of}
 use Rattle.mail_model.specs.Record.{IsJournal}
 use Rattle.mail_model.specs.Plan.{Plan}
 use Rattle.mail_model.specs.Told.{Mail, Told}
-use Rattle.mail_model.specs.Site.{Site, Runs, all_of}
+use Rattle.mail_model.specs.Site.{Site}
+use Rattle.mail_model.specs.Steps.{Runs, all_of}
 
 -- the same octets are the same lines of entries, and the same octets behind the last LF
 abbrev pub OneTranscript : Type 0

@@ -13,8 +13,12 @@ pub mod Maildrop
 pub mod Told
 pub mod Mail
 pub mod Record
+pub mod Listing
 pub mod Stored
 pub mod Book
+pub mod Shown
 pub mod Site
+pub mod Steps
+pub mod Runs
 pub mod Laws
 pub mod Plain

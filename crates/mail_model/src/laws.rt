@@ -1,5 +1,5 @@
 // Laws over the definitions.
-ghost use Rattle.mail_model.specs.Site.{RunsKeepStored, RunsKeepBook};
+ghost use Rattle.mail_model.specs.Runs.{RunsKeepStored, RunsKeepBook, RunsShowAsFiled};
 ghost use Rattle.mail_model.specs.Laws.{OneTranscript, OneJournal, OneTold, EntriesAreLines};
 
 /// Whatever run lines come, each message that was answered 250 stands.
@@ -10,6 +10,11 @@ pub fn runs_keep_stored()
 /// Whatever run lines come, the book has the messages that were answered 250, as they were told.
 pub fn runs_keep_book()
     ensures { RunsKeepBook }
+{}
+
+/// Whatever run lines come, a disk that tells what it holds has what its readers were shown.
+pub fn runs_show_as_filed()
+    ensures { RunsShowAsFiled }
 {}
 
 /// A transcript has one reading: its octets tell its lines, and what follows the last of them.
