@@ -1,5 +1,5 @@
 -- A message on its way, as its client told it.
-use Rattle.std.specs.Prelude.{ℕ, ◌≤◌, length}
+use Rattle.std.specs.Prelude.{◌≤◌, length}
 use Rattle.mail_model.specs.Told.{Mail}
 use Rattle.mail_base.specs.declared.deliver.Deliver.{Deliver}
 

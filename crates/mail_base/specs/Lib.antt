@@ -6,3 +6,4 @@ pub mod Buckets
 pub mod Sets
 pub mod Codes
 pub mod Delivers
+pub mod Items
