@@ -2,6 +2,7 @@
 use Rattle.std.proofs.Common.{◌≡◌, ◌≢◌, ◌+◌, ◌-◌, ◌<◌, ◌≤◌, ℕ, List, [], ◌∷◌, ◌++◌, length, take, drop, get_or, flat_map, sym, ap, ap₂, subst, ◌∙◌, arith, append_assoc}
 use Rattle.std.specs.Prelude.{slice_index}
 use Rattle.std.proofs.lemmas.List.{append-nil, drop_more, length-drop, get_or-drop, get_or_append_left, get_or-take, length-take-le, length-append, drop-drop, take-append-drop, take_at}
+use Rattle.std.proofs.Math.Seq.{take-append_seam}
 use Rattle.std.proofs.lemmas.List.Concat.{flat_map-append}
 use Rattle.mail_model.specs.Lines.{HasNoCrlf, sent_line}
 use Rattle.dot_text.specs.Cuts.{Taken, taken_octets, AreTaken, Cuts, IsFirstCrlf, HasNoneBefore}
@@ -94,3 +95,27 @@ module _ (octets : List ℕ) (start len : ℕ) (is : IsFirstCrlf (drop start oct
   next_length =
       let all : len ≤ length (drop start octets) = omega (arith, is.within) in
       sym (length-append (take len (drop start octets)) (13 ∷ 10 ∷ []) ∙ ap (λ (n : ℕ). n + 2) (length-take-le len (drop start octets) all))
+
+  pub next_last : take (start + (len + 2) - start) (drop start octets) ≡ sent_line (take len (drop start octets))
+  next_last =
+      let count : start + (len + 2) - start ≡ length (sent_line (take len (drop start octets))) = omega (arith, next_length) in
+      ap₂ (λ (n : ℕ) (l : List ℕ). take n l) count (first_line (drop start octets) len is)
+      ∙ take-append_seam (sent_line (take len (drop start octets))) (drop (len + 2) (drop start octets))
+
+-- what was taken last is put back
+are_front : (taken : List Taken) (last : Taken) → AreTaken (taken ++ last ∷ []) → AreTaken taken
+are_front [] last are = tt
+are_front (Given line ∷ taken) last are = (are.0, are_front taken last are.1)
+are_front (Skipped octets ∷ taken) last are = are_front taken last are
+
+pub cuts_back : (fed : List ℕ) (taken : List Taken) (last : Taken) (old new : List ℕ) → new ≡ taken_octets last ++ old → Cuts fed (taken ++ last ∷ []) old → Cuts fed taken new
+cuts_back fed taken last old new is cuts = record {
+  whole = cuts.whole ∙ octets_push taken last old ∙ ap (λ (l : List ℕ). flat_map taken_octets taken ++ l) (sym is);
+  lines = are_front taken last cuts.lines;
+}
+
+pub back : (octets : List ℕ) (last start : ℕ) → last ≤ start → drop last octets ≡ take (start - last) (drop last octets) ++ drop start octets
+back octets last start before =
+    let all : last + (start - last) ≡ start = omega (arith, before) in
+    sym (take-append-drop (start - last) (drop last octets))
+    ∙ ap (λ (l : List ℕ). take (start - last) (drop last octets) ++ l) (drop-drop (start - last) last octets ∙ ap (λ (n : ℕ). drop n octets) all)

@@ -1,12 +1,17 @@
 -- Octets are cut into lines in one way, and so are those of a text.
-use Rattle.std.proofs.Common.{◌≡◌, ℕ, false, List, [], ◌∷◌, ◌++◌, length, map, flat_map, refl, sym, ap, ap₂, ◌∙◌, arith, append_assoc}
+use Rattle.std.proofs.Common.{◌≡◌, ℕ, true, false, List, [], ◌∷◌, ◌++◌, length, map, flat_map, refl, sym, ap, ap₂, ◌∙◌, arith, append_assoc}
 use Rattle.mail_model.specs.Lines.{HasNoCrlf, sent_line}
 use Rattle.mail_model.specs.Session.{is_period, undotted}
-use Rattle.mail_model.specs.Session.Unit.{Text}
-use Rattle.mail_model.specs.Told.{AreTextLines, unit_octets}
+use Rattle.mail_model.specs.Session.Unit.{Line, Text}
+use Rattle.mail_model.specs.Told.{AreTextLines, HasNoUnit, unit_octets}
 use Rattle.dot_text.specs.Cuts.{Taken, taken_octets, AreTaken, asked}
 use Rattle.dot_text.specs.Cuts.Taken.{Given, Skipped}
 use Rattle.dot_text.specs.Laws.{LinesAreOne, LinesAreAll, TextsAreOne, BegunHasNoText}
+use Rattle.dot_text.specs.Texts.{IsBegun}
+use Rattle.dot_text.specs.Places.{Behind, Feeds}
+use Rattle.dot_text.specs.declared.undotter.Undotter.{Undotter}
+use Rattle.dot_text.specs.declared.undotter.Cut.{Cut}
+use Rattle.dot_text.specs.declared.undotter.Cut.TheVariants.{More, Ended}
 use Rattle.dot_text.proofs.Crlf.{none_one, one_sent_line, no_line}
 
 -- two lists that begin with as many octets
@@ -127,3 +132,13 @@ pub begun_none : BegunHasNoText
 begun_none fed line given octets text after begun is same =
     none_begun is.lines begun.lines line after is.are begun.are begun.no_end
     (ap (λ (l : List ℕ). l ++ after) (sym is.whole) ∙ same ∙ begun.whole)
+
+-- nor has it a whole unit
+no_unit : (fed line given : List ℕ) → IsBegun fed line given → HasNoUnit true fed
+no_unit fed line given begun (Line other) more is same = is
+no_unit fed line given begun (Text lines) more is same = none_begun lines begun.lines line more is begun.are begun.no_end (sym same ∙ begun.whole)
+
+-- an undotter behind a piece
+pub feeds : (cut : Cut) (undotter : Undotter) (fed piece given : List ℕ) → Behind cut undotter.place fed piece given → Feeds cut undotter fed piece given
+feeds More undotter fed piece given here = (here, no_unit (fed ++ piece) here.0 given here.2)
+feeds (Ended used) undotter fed piece given here = here

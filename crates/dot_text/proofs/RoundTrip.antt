@@ -7,7 +7,8 @@ use Rattle.mail_model.specs.Session.{is_period, undotted, undotted_line}
 use Rattle.mail_model.specs.Told.{AreTextLines}
 use Rattle.mail_model.specs.PopReplies.{dotted_line}
 use Rattle.dot_text.specs.Texts.{IsText}
-use Rattle.dot_text.specs.Dots.{Dots, closed, dotted, AreLines}
+use Rattle.mail_model.specs.Lines.{closed}
+use Rattle.dot_text.specs.Dots.{Dots, dotted, AreLines}
 use Rattle.dot_text.specs.Laws.{RoundTrips, DotsAreOne}
 use Rattle.dot_text.proofs.Crlf.{none_nil, none_cons, one_sent_line, no_line}
 use Rattle.dot_text.proofs.Once.{texts_one, begun_none}

@@ -4,7 +4,8 @@ use Rattle.std.proofs.lemmas.List.{append-nil, take_more, length-append}
 use Rattle.std.proofs.lemmas.Bool.{eqb-true, eqb-false, ne_eqb, cond-true, cond-false, or_right, or_from}
 use Rattle.mail_model.specs.Lines.{HasNoCrlf, sent_line}
 use Rattle.mail_model.specs.PopReplies.{dotted_line}
-use Rattle.dot_text.specs.Dots.{Dots, closed, ends_in_crlf, dotted, AreLines, next_tail, dotted_octet, ending, IsSent, IsSentAt}
+use Rattle.mail_model.specs.Lines.{closed, ends_in_crlf}
+use Rattle.dot_text.specs.Dots.{Dots, dotted, AreLines, next_tail, dotted_octet, ending, IsSent, IsSentAt}
 use Rattle.dot_text.specs.declared.dotting.Tail.{Tail}
 use Rattle.dot_text.specs.declared.dotting.Tail.TheVariants.{LineEnd, Cr, Other}
 use Rattle.dot_text.proofs.Crlf.{none_nil, none_one, none_push, none_front, none_tail, none_here}

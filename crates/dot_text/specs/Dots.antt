@@ -1,20 +1,9 @@
 -- A text as it is sent (RFC 5321, section 4.5.2, and RFC 1939, section 3).
-use Rattle.std.specs.Prelude.{◌≡◌, ◌≢◌, ℕ, Bool, false, ◌&&◌, ◌||◌, nat_eq, List, [], ◌∷◌, ◌++◌, length, flat_map, ⊤, if◌then◌else◌}
-use Rattle.mail_model.specs.Lines.{HasNoCrlf, sent_line}
+use Rattle.std.specs.Prelude.{◌≡◌, ◌≢◌, ℕ, nat_eq, List, [], ◌∷◌, ◌++◌, flat_map, ⊤, if◌then◌else◌}
+use Rattle.mail_model.specs.Lines.{HasNoCrlf, sent_line, closed}
 use Rattle.mail_model.specs.PopReplies.{dotted_line}
 use Rattle.dot_text.specs.declared.dotting.Tail.{Tail}
 use Rattle.dot_text.specs.declared.dotting.Tail.TheVariants.{LineEnd, Cr, Other}
-
--- the octets end in CRLF
-abbrev pub ends_in_crlf : List ℕ → Bool
-ends_in_crlf [] = false
-ends_in_crlf (x ∷ []) = false
-ends_in_crlf (x ∷ y ∷ []) = nat_eq x 13 && nat_eq y 10
-ends_in_crlf (x ∷ y ∷ z ∷ zs) = ends_in_crlf (y ∷ z ∷ zs)
-
--- the text with CRLF behind it, where it is not empty and does not end in one
-abbrev pub closed : List ℕ → List ℕ
-closed text = if nat_eq (length text) 0 || ends_in_crlf text then text else sent_line text
 
 -- lines as they are sent
 abbrev pub dotted : List (List ℕ) → List ℕ

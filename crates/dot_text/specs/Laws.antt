@@ -4,7 +4,8 @@ use Rattle.mail_model.specs.Lines.{HasNoCrlf}
 use Rattle.dot_text.specs.Cuts.{Taken, Cuts, asked}
 use Rattle.dot_text.specs.Cuts.Taken.{Given}
 use Rattle.dot_text.specs.Texts.{IsText, IsBegun}
-use Rattle.dot_text.specs.Dots.{Dots, closed}
+use Rattle.mail_model.specs.Lines.{closed}
+use Rattle.dot_text.specs.Dots.{Dots}
 
 -- However the octets came, the same takes off them give the same lines and leave the same rest.
 abbrev pub LinesAreOne : Type 0

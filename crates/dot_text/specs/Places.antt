@@ -1,6 +1,7 @@
 -- Where in its line an undotter stands.
-use Rattle.std.specs.Prelude.{◌≡◌, ◌≢◌, ◌<◌, ◌≤◌, ⊤, ℕ, List, [], ◌∷◌, ◌++◌, length, take, nat_eq, false, Option, Some, None, if◌then◌else◌}
+use Rattle.std.specs.Prelude.{◌≡◌, ◌≢◌, ◌<◌, ◌≤◌, ⊤, ℕ, List, [], ◌∷◌, ◌++◌, length, take, nat_eq, true, false, Option, Some, None, if◌then◌else◌}
 use Rattle.mail_model.specs.Session.{is_period}
+use Rattle.mail_model.specs.Told.{HasNoUnit}
 use Rattle.dot_text.specs.Texts.{IsText, IsBegun}
 use Rattle.dot_text.specs.declared.undotter.Place.{Place}
 use Rattle.dot_text.specs.declared.undotter.Place.TheVariants.{LineStart, Period, PeriodCr, Inside, Cr}
@@ -48,6 +49,11 @@ Undots undotter fed given = UndotsAt undotter.place fed given
 abbrev pub Behind : Cut → Place → List ℕ → List ℕ → List ℕ → Type 0
 Behind More place fed piece given = UndotsAt place (fed ++ piece) given
 Behind (Ended used) place fed piece given = IsText (fed ++ take used piece) given × UndotsAt place [] []
+
+-- the same of an undotter; where the text goes on, none is whole in the octets so far
+abbrev pub Feeds : Cut → Undotter → List ℕ → List ℕ → List ℕ → Type 0
+Feeds More undotter fed piece given = Undots undotter (fed ++ piece) given × HasNoUnit true (fed ++ piece)
+Feeds (Ended used) undotter fed piece given = IsText (fed ++ take used piece) given × Undots undotter [] []
 
 -- at least one octet of the piece was used, and no more than it has
 abbrev pub IsWithin : Cut → List ℕ → Type 0

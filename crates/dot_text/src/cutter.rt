@@ -3,6 +3,7 @@ ghost use Rattle.std.specs.Prelude.{◌≡◌, ◌≤◌, ◌++◌, ◌∷◌, [
 ghost use Rattle.mail_model.specs.Lines.{HasNoCrlf};
 ghost use Rattle.dot_text.specs.Cuts.{Taken, Cuts, HasNoneBefore, IsFirstCrlf};
 ghost use Rattle.dot_text.specs.Cuts.Taken.{Skipped};
+ghost use Rattle.dot_text.specs.Cuts.{taken_octets};
 ghost use Rattle.dot_text.specs.Shown.{Gives, GivesNone, IsKind};
 
 use std::alloc::{AllocError, Global};
@@ -18,14 +19,17 @@ pub enum Line {
 }
 
 /// Cuts octets that come in pieces into lines, which end in CRLF (RFC 5321, section 2.3.8). A contract sees
-/// the limit, the line that was given last, and the octets that no line has given yet.
-#[derive(Drop)]
+/// the limit, the line that was given last, the octets that can be put back, and those that no line has
+/// given yet.
+#[derive(Debug, Drop)]
 pub struct LineCutter {
     limit: usize,
     octets: Vec<u8>,
     // where the line that was given last begins, and how many octets it has
     line_at: usize,
     line_len: usize,
+    // where the octets begin that were taken off last; the start where something was fed since
+    last: usize,
     // where the octets begin that no line has given yet
     start: usize,
     // how many of those were looked at, and begin no CRLF
@@ -33,15 +37,15 @@ pub struct LineCutter {
 }
 
 impl Model for LineCutter {
-    ghost use Rattle.std.specs.Prelude.{◌+◌, ◌≤◌, length, take, drop};
+    ghost use Rattle.std.specs.Prelude.{◌+◌, ◌-◌, ◌≤◌, length, take, drop};
     ghost use Rattle.dot_text.specs.Cuts.{HasNoneBefore};
     ghost use Rattle.dot_text.specs.Shown.{Shown};
 
     ghost Value = { Shown };
 
-    ghost view = { λ c. record { limit = c.limit; line = take c.line_len (drop c.line_at c.octets.items); rest = drop c.start c.octets.items } };
+    ghost view = { λ c. record { limit = c.limit; line = take c.line_len (drop c.line_at c.octets.items); last = take (c.start - c.last) (drop c.last c.octets.items); rest = drop c.start c.octets.items } };
 
-    ghost invariant = { λ c. (c.line_at + c.line_len ≤ length c.octets.items) × (c.start ≤ length c.octets.items) × HasNoneBefore (drop c.start c.octets.items) c.seen };
+    ghost invariant = { λ c. (c.line_at + c.line_len ≤ length c.octets.items) × (c.start ≤ length c.octets.items) × (c.last ≤ c.start) × HasNoneBefore (drop c.start c.octets.items) c.seen };
 }
 
 // Where the first CRLF begins. None begins before the place `seen`.
@@ -74,6 +78,7 @@ impl LineCutter {
     pub fn new(alloc: Global, limit: usize) -> LineCutter
         ensures limit { result.limit ≡ limit }
         ensures line { result.line ≡ [] }
+        ensures last { result.last ≡ [] }
         ensures rest { result.rest ≡ [] }
         ensures shows { Cuts [] [] result.rest }
     {
@@ -82,12 +87,14 @@ impl LineCutter {
             octets: Vec::new(alloc),
             line_at: 0,
             line_len: 0,
+            last: 0,
             start: 0,
             seen: 0,
         }
     }
 
-    /// Takes up the next octets, as many as memory holds. The line that was given last is let go.
+    /// Takes up the next octets, as many as memory holds. The line that was given last is let go, and nothing
+    /// can be put back.
     ///
     /// # Errors
     ///
@@ -95,6 +102,7 @@ impl LineCutter {
     pub fn feed(&mut self, piece: &[u8]) -> Result<(), AllocError>
         ensures limit { self.new.limit ≡ self.old.limit }
         ensures line { OnOk result (self.new.line ≡ []) }
+        ensures last { OnOk result (self.new.last ≡ []) }
         ensures rest { OnOk result (self.new.rest ≡ self.old.rest ++ piece.now) }
         ensures shows { OnOk result ((fed : List ℕ) (taken : List Taken) → Cuts fed taken self.old.rest → Cuts (fed ++ piece.now) taken self.new.rest) }
         ensures err { OnErr result (self.new ≡ self.old) }
@@ -102,11 +110,13 @@ impl LineCutter {
         self.octets.extend_from_slice(piece)?;
         self.line_at = 0;
         self.line_len = 0;
+        self.last = self.start;
         let left = self.octets.len() - self.start;
         if left <= self.start {
             self.octets.rotate_left(self.start);
             self.octets.truncate(left);
             self.start = 0;
+            self.last = 0;
         }
         Ok(())
     }
@@ -125,6 +135,7 @@ impl LineCutter {
             Some(len) => {
                 self.line_at = self.start;
                 self.line_len = len;
+                self.last = self.start;
                 self.start += len + 2;
                 self.seen = 0;
                 Some(kind_of(len + 2, self.limit))
@@ -153,10 +164,25 @@ impl LineCutter {
         requires { count ≤ length self.old.rest }
         ensures limit { self.new.limit ≡ self.old.limit }
         ensures line { self.new.line ≡ self.old.line }
+        ensures last { self.new.last ≡ take count self.old.rest }
         ensures rest { self.new.rest ≡ drop count self.old.rest }
         ensures shows { (fed : List ℕ) (taken : List Taken) → Cuts fed taken self.old.rest → Cuts fed (taken ++ Skipped (take count self.old.rest) ∷ []) self.new.rest }
     {
+        self.last = self.start;
         self.start += count;
         self.seen = self.seen.saturating_sub(count);
+    }
+
+    /// Puts back what was taken off last, a line with its CRLF or octets that were skipped, where nothing was
+    /// fed or put back since; else nothing is changed. The line that was given last stays. It takes no memory.
+    pub fn put_back(&mut self)
+        ensures limit { self.new.limit ≡ self.old.limit }
+        ensures line { self.new.line ≡ self.old.line }
+        ensures last { self.new.last ≡ [] }
+        ensures rest { self.new.rest ≡ self.old.last ++ self.old.rest }
+        ensures shows { (fed : List ℕ) (taken : List Taken) (last : Taken) → Cuts fed (taken ++ last ∷ []) self.old.rest → taken_octets last ≡ self.old.last → Cuts fed taken self.new.rest }
+    {
+        self.start = self.last;
+        self.seen = 0;
     }
 }

@@ -3,8 +3,8 @@
 //! SUMMARY
 //!
 //! `LineCutter` cuts the octets of a connection into lines: `feed(piece)` takes octets up, `next()` cuts
-//! the next line off, `line()` has its octets, `rest()` the octets that no line has given yet, and
-//! `skip(count)` takes some of those away. `Undotter` reads a text that ends with a line that is one
+//! the next line off, `line()` has its octets, `rest()` the octets that no line has given yet, `skip(count)`
+//! takes some of those away, and `put_back()` gives back what was taken last. `Undotter` reads a text that ends with a line that is one
 //! period: `feed(piece, out)` puts behind `out` what the piece gives, and says whether the text goes on
 //! or where it ended. `dot_into(out, text)` writes such a text.
 //!

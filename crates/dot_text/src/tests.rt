@@ -88,6 +88,9 @@ fn skips_octets(rt: HostRuntime) -> Result<(), AllocError> {
     cutter.feed(b"\n")?;
     assert_eq!(rt; cutter.next(), Some(Line::Whole));
     assert_eq!(rt; cutter.line(), b"\nx".as_slice());
+    cutter.put_back();
+    assert_eq!(rt; cutter.rest(), b"\nx\r\n".as_slice());
+    assert_eq!(rt; cutter.next(), Some(Line::Whole));
     assert_eq!(rt; cutter.rest(), b"".as_slice());
     Ok(())
 }

@@ -1,6 +1,6 @@
 // A text out of its octets as they come.
 ghost use Rattle.std.specs.Prelude.{◌≡◌, ◌++◌, [], List, ℕ, IfOk, OnOk, OnErr};
-ghost use Rattle.dot_text.specs.Places.{next_place, told, Undots, UndotsAt, Behind, IsWithin};
+ghost use Rattle.dot_text.specs.Places.{next_place, told, Undots, UndotsAt, Behind, Feeds, IsWithin};
 
 use std::alloc::AllocError;
 
@@ -58,7 +58,7 @@ impl Undotter {
     /// Only want of memory; the undotter and `out` are then as before.
     pub fn feed(&mut self, piece: &[u8], out: &mut Vec<u8>) -> Result<Cut, AllocError>
         ensures ok { IfOk result (λ cut. (more : List ℕ) × (out.new.items ≡ out.old.items ++ more)
-            × ((fed given : List ℕ) → Undots self.old fed given → Behind cut self.new.place fed piece.now (given ++ more))) }
+            × ((fed given : List ℕ) → Undots self.old fed given → Feeds cut self.new fed piece.now (given ++ more))) }
         ensures used { IfOk result (λ cut. IsWithin cut piece.now) }
         ensures err { OnErr result ((out.new.items ≡ out.old.items) × (self.new ≡ self.old)) }
     {

@@ -14,7 +14,7 @@ invariant_of-self-then-left-self c =
     c.truncate.ensures.items ∙ ap (λ (l : List ℕ). take (c.len.result - old.start) l) c.rotate_left.ensures.items
     ∙ moved c.extend_from_slice.new.self.items old.start (c.len.result - old.start) left ∙ ap (λ (l : List ℕ). drop old.start l) fed ∙ all in
     let Before : List ℕ → Type 0 = λ l. HasNoneBefore l old.seen in
-    (omega arith, omega arith, subst Before (sym is) (seen_fed (drop old.start old.octets.items) c.args.piece.now old.seen c.self.invariant.2))
+    (omega arith, omega arith, omega arith, subst Before (sym is) (seen_fed (drop old.start old.octets.items) c.args.piece.now old.seen c.self.invariant.3))
 
 pub invariant_of-self-else-left-self : goal.invariant_of-self-else-left-self
 invariant_of-self-else-left-self c =
@@ -26,5 +26,6 @@ invariant_of-self-else-left-self c =
     let Before : List ℕ → Type 0 = λ l. HasNoneBefore l old.seen in (
       omega arith,
       omega (arith, ap (λ (l : List ℕ). length l) fed, length-append old.octets.items c.args.piece.now, c.self.invariant.1),
-      subst Before (sym is) (seen_fed (drop old.start old.octets.items) c.args.piece.now old.seen c.self.invariant.2),
+      omega arith,
+      subst Before (sym is) (seen_fed (drop old.start old.octets.items) c.args.piece.now old.seen c.self.invariant.3),
     )
