@@ -1,11 +1,12 @@
 //! tape_lines: the lines of a tape.
 //!
 //! Reads the plan lines of a tape up to `go`, and the run lines up to `end`, as values. It stands on
-//! `line_words` for words and numbers, and on `mail_base` for names, secrets and the plan. Each call
-//! answers exactly what the definitions of `mail_model` say of the line.
+//! `line_words` for words and numbers, on `mail_base` for names, secrets and the plan, and on `hex` for
+//! the octets of `feed`. Each call answers exactly what the definitions of `mail_model` say of the line.
 //!
 //! A line is given without its LF; a CR at its end is dropped, and a line of more than 65,535 octets is
 //! refused. Words stand behind one space each. Numbers have 1 to 20 decimal digits and are below 2^64.
+//! Octets are pairs of hexadecimal digits of either case, one pair at least.
 //! It reads no source and writes no transcript.
 #![tactic(auto)]
 
@@ -13,13 +14,14 @@ mod copy_count;
 mod draft;
 mod order;
 mod plan_line;
+mod protocol;
 #[cfg(test)]
 mod tests;
 mod words;
 
 pub use copy_count::CopyCount;
 pub use draft::Draft;
-pub use line_words::{behind_word, first_word, has_space, number};
 pub use order::{Order, read_order};
 pub use plan_line::{PlanLine, read_plan_line};
+pub use protocol::Protocol;
 pub use words::{strip, tape_line, without_cr};

@@ -1,59 +1,158 @@
 // Lines of the tape's format, and each public call once.
 use crate::{
-    CopyCount, Draft, Order, behind_word, first_word, has_space, number, read_order,
-    read_plan_line, strip, tape_line, without_cr,
+    CopyCount, Draft, Order, Protocol, read_order, read_plan_line, strip, tape_line, without_cr,
 };
 use std::test::Fail;
 
 #[test]
-fn reads_numbers(rt: HostRuntime) {
-    let cases: [(&[u8], Option<u64>); 7] = [
-        (b"0", Some(0)),
-        (b"00000000000000000007", Some(7)),
-        (b"18446744073709551615", Some(u64::MAX)),
-        (b"18446744073709551616", None),
-        (b"000000000000000000007", None),
-        (b"", None),
-        (b"1x", None),
+fn reads_opens_and_closes(rt: HostRuntime) -> Result<(), Fail> {
+    let smtp = Protocol::Smtp;
+    let pop = Protocol::Pop;
+    let cases: [(&[u8], Order<'_>); 8] = [
+        (
+            b"open smtp 2\r",
+            Order::Open {
+                protocol: smtp,
+                node: 2,
+            },
+        ),
+        (
+            b"open smtp 0",
+            Order::Open {
+                protocol: smtp,
+                node: 0,
+            },
+        ),
+        (
+            b"open pop 2\r",
+            Order::Open {
+                protocol: pop,
+                node: 2,
+            },
+        ),
+        (
+            b"open pop 18446744073709551615",
+            Order::Open {
+                protocol: pop,
+                node: u64::MAX,
+            },
+        ),
+        (b"close 00000000000000000007", Order::Close { session: 7 }),
+        (b"close 0\r", Order::Close { session: 0 }),
+        (b"end", Order::End),
+        (b"end\r", Order::End),
     ];
-    for (word, value) in cases {
-        assert!(rt; number(word) == value);
+    for (at, (line, order)) in cases.iter().enumerate() {
+        let Some(found) = read_order(rt.alloc(), line)? else {
+            panic!(rt; "none at {at}");
+        };
+        assert!(rt; found == *order, "at {at}");
     }
+    Ok(())
 }
 
 #[test]
-fn reads_orders(rt: HostRuntime) {
-    let cases: [(&[u8], Option<Order<'_>>); 6] = [
-        (b"open smtp 2\r", Some(Order::Open { node: 2 })),
-        (
-            b"say 1 NOOP",
-            Some(Order::Say {
-                session: 1,
-                text: b"NOOP".as_slice(),
-            }),
-        ),
-        (
-            b"say 1",
-            Some(Order::Say {
-                session: 1,
-                text: b"".as_slice(),
-            }),
-        ),
-        (b"end", Some(Order::End)),
-        (b"end ", None),
-        (b"open sm", None),
+fn reads_says(rt: HostRuntime) -> Result<(), Fail> {
+    let cases: [(&[u8], u64, &[u8]); 5] = [
+        (b"say 1 NOOP\r", 1, b"NOOP"),
+        (b"say 1", 1, b""),
+        (b"say 1 ", 1, b""),
+        (b"say 007  RCPT  TO ", 7, b" RCPT  TO "),
+        (b"say 18446744073709551615 \r\r", u64::MAX, b"\r"),
     ];
-    for (line, order) in cases {
-        assert!(rt; read_order(line) == order);
+    for (at, (line, wanted, words)) in cases.iter().enumerate() {
+        let Some(Order::Say { session, text }) = read_order(rt.alloc(), line)? else {
+            panic!(rt; "none at {at}");
+        };
+        assert!(rt; session == *wanted && text == *words, "at {at}");
     }
+    Ok(())
 }
 
 #[test]
-fn cuts_words(rt: HostRuntime) {
+fn reads_feeds(rt: HostRuntime) -> Result<(), Fail> {
+    let cases: [(&[u8], u64, &[u8]); 5] = [
+        (b"feed 1 51554954", 1, b"QUIT"),
+        (b"feed 0 0d0A\r", 0, b"\r\n"),
+        (b"feed 00000000000000000007 00", 7, b"\x00"),
+        (b"feed 18446744073709551615 fF", u64::MAX, b"\xff"),
+        (b"feed 2 aBcDeF09", 2, b"\xab\xcd\xef\x09"),
+    ];
+    for (at, (line, wanted, spelt)) in cases.iter().enumerate() {
+        let Some(Order::Feed { session, octets }) = read_order(rt.alloc(), line)? else {
+            panic!(rt; "none at {at}");
+        };
+        assert!(rt;
+            session == *wanted && octets.as_slice() == *spelt,
+            "at {at}"
+        );
+    }
+    Ok(())
+}
+
+#[test]
+fn refuses_opens_and_closes(rt: HostRuntime) -> Result<(), Fail> {
+    let lines: [&[u8]; 20] = [
+        b"open sm",
+        b"open pop",
+        b"open pop ",
+        b"open pop  1",
+        b"open pop 1 ",
+        b"open pop 1x",
+        b"open POP 1",
+        b"open imap 1",
+        b"open pop 18446744073709551616",
+        b"open smtp 000000000000000000001",
+        b"close",
+        b"close ",
+        b"close  1",
+        b"close 1 ",
+        b"closes 1",
+        b"close 18446744073709551616",
+        b"end ",
+        b"end\r\r",
+        b"END",
+        b"",
+    ];
+    for (at, line) in lines.iter().enumerate() {
+        assert!(rt; read_order(rt.alloc(), line)?.is_none(), "at {at}");
+    }
+    Ok(())
+}
+
+#[test]
+fn refuses_feeds(rt: HostRuntime) -> Result<(), Fail> {
+    let lines: [&[u8]; 20] = [
+        b"feed",
+        b"feed 1",
+        b"feed 1 ",
+        b"feed 1 \r",
+        b"feed 1 4",
+        b"feed 1 414",
+        b"feed 1 4g",
+        b"feed 1 G4",
+        b"feed 1 0x41",
+        b"feed 1  41",
+        b"feed 1  414",
+        b"feed 1 41 ",
+        b"feed 1 41  ",
+        b"feed 1 41 41",
+        b"feed  1 41",
+        b"feed x 41",
+        b"feed 18446744073709551616 41",
+        b"feed 000000000000000000001 41",
+        b"Feed 1 41",
+        b"feed 1 41\r\r",
+    ];
+    for (at, line) in lines.iter().enumerate() {
+        assert!(rt; read_order(rt.alloc(), line)?.is_none(), "at {at}");
+    }
+    Ok(())
+}
+
+#[test]
+fn cuts_lines(rt: HostRuntime) {
     assert!(rt; strip(b"user ", b"user ann") == Some(b"ann".as_slice()));
-    assert!(rt; first_word(b"ann s0 s1") == b"ann".as_slice());
-    assert!(rt; behind_word(b"ann s0 s1") == b"s0 s1".as_slice());
-    assert!(rt; has_space(b"ann s0") && !has_space(b"ann"));
     assert!(rt; without_cr(b"ann\r") == b"ann".as_slice());
     assert!(rt; tape_line(b"ann\r") == Some(b"ann".as_slice()));
     assert!(rt; CopyCount::new(1, 2).is_none());
