@@ -1,2 +1,4 @@
 mod Choices
 mod Closes
+mod Mails
+mod Units

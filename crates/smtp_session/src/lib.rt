@@ -1,16 +1,17 @@
-//! smtp_session: one SMTP session, over whole lines.
+//! smtp_session: one SMTP session, over octets that come in pieces.
 //!
 //! SUMMARY
 //!
-//! `Session::new(alloc)` is a session that has been told nothing, and `hear(alloc, plan, line)` takes
-//! its next line, given without its CRLF, and says what that leads to: nothing yet, a reply, a reply
-//! and the end of the session, or a whole message that is to be stored before it is answered.
-//! `Reply::text_into` writes a reply's text.
+//! `Session::new(alloc)` is a session that has been told nothing. `feed(piece)` takes up what the client
+//! sends, however it is cut, and `next(alloc, plan)` takes the next unit of it and says what that leads
+//! to: a reply, a reply and the end of the session, or a whole message that is to be stored before it is
+//! answered. It says `Idle` where no unit is whole yet. `Reply::text_into` writes a reply's text.
 //!
 //! DESCRIPTION
 //!
 //! A unit is what one reply answers: a command line, or the lines of a text through the line that is
-//! one period. The commands are those of `smtp_wire`, and come in this order (RFC 5321, section 4.1.4):
+//! one period. A line is what stands before CRLF; a lone CR or LF is an octet of it (RFC 5321, section
+//! 2.3.8). The commands are those of `smtp_wire`, and come in this order (RFC 5321, section 4.1.4):
 //!
 //! - `HELO` at any time. It ends the transaction, where there is one, and its name stays in force until
 //!   the next `HELO`.
@@ -25,27 +26,48 @@
 //! `Deliver`. Every end of a text ends the transaction: `MAIL` may come next, and the name of `HELO`
 //! stays.
 //!
+//! The caller feeds a piece, and takes units until the session is idle:
+//!
+//!     session.feed(piece)?;
+//!     loop {
+//!         match session.next(alloc, plan)? {
+//!             Heard::Idle => break,
+//!             Heard::Said(reply) => answer(reply)?,
+//!             Heard::Closed(reply) => return close(reply),
+//!             Heard::Files(deliver) => answer(store(deliver)?)?,
+//!         }
+//!     }
+//!
+//! Octets that come behind a unit wait for the next call. Nothing is looked at again for each piece: the
+//! octets of a text are read as they come, and a line that is not whole is looked at from where its last
+//! piece ended. Besides its recipients a session holds no more than the text up to its limit, and what was
+//! fed since it was last idle; but a command line that never ends is kept whole, so a caller that bounds
+//! its memory looks at the length of `Session::cutter.rest()`.
+//!
 //! DIAGNOSTICS
 //!
 //! `BadOrder` where a command comes out of its order, `NoSuchMailbox` and `TooManyRecipients` at `RCPT`,
 //! `UnknownCommand` and `BadArgument` where a line is no command, `LineTooLong` for a command line of
-//! more than 1,024 octets with its CRLF, and `TooLarge` at the end of a text of more than 16,777,216
-//! octets. A command that is refused changes nothing. The lines of a text have no limit of their own,
-//! and no more of a text is kept than its limit.
+//! more than 1,024 octets with its CRLF, once it is whole, and `TooLarge` at the end of a text of more than
+//! 16,777,216 octets. A command that is refused changes nothing. The lines of a text have no limit of
+//! their own. Of a text that passes its limit nothing is kept; the rest of it is read and dropped.
 //!
-//! Want of memory is an `AllocError`, and the session is then as before the line: it may be heard again.
+//! Want of memory is an `AllocError`. A piece that was refused may be fed again, and a unit that was not
+//! answered is still the next one, for which the session may be asked again.
 //!
 //! STANDS ON
 //!
-//! `smtp_wire` for commands, `mail_base` for names, the plan and messages, and `mail_model`, whose
-//! definition of a session says what every line leads to. The contract of `hear` is that definition: at
-//! every node the reply is the unit's, and afterwards the session has been told what the unit tells.
+//! `dot_text` for lines and texts out of pieces, `smtp_wire` for commands, `mail_base` for names, the plan
+//! and messages, and `mail_model`, whose definition of a session says what every unit leads to. The
+//! contract of `next` is that definition: it takes the first unit of the octets that no unit has taken
+//! yet, at every node the reply is that unit's, and afterwards the session has been told what the unit
+//! tells. It is idle only where those octets begin with no whole unit.
 //!
 //! WHAT IT DOES NOT DO
 //!
-//! It cuts no lines out of octets, stores nothing and sends nothing. It does not say when the greeting,
-//! `Stored` or `Down` is due: these are its caller's. After `Closed` the caller lets it go. No time
-//! limit, no `EHLO` and none of its extensions.
+//! It stores nothing and sends nothing. It does not say when the greeting, `Stored` or `Down` is due:
+//! these are its caller's. After `Closed` the caller lets it go. No time limit, no `EHLO` and none of its
+//! extensions.
 #![tactic(auto)]
 
 mod envelope;
@@ -54,8 +76,10 @@ mod session;
 #[cfg(test)]
 mod tests;
 mod text;
+mod told;
 
 pub use envelope::{Envelope, Greeting};
 pub use reply::Reply;
 pub use session::{Heard, Session};
 pub use text::Text;
+pub use told::Told;

@@ -10,7 +10,7 @@ use std::alloc::{AllocError, Global};
 /// three digits.
 #[derive(Clone, Copy, Debug, PartialEq, Eq)]
 pub enum Reply {
-    /// 220, before the first line of a session (RFC 5321, section 3.1). `hear` never answers it.
+    /// 220, before the first line of a session (RFC 5321, section 3.1). `Session::next` never answers it.
     Ready,
     /// 250 to HELO (section 4.1.1.1): the node's name.
     Hello,
@@ -34,11 +34,11 @@ pub enum Reply {
     SendText,
     /// 552 at the end of a text of more than 16,777,216 octets (section 4.5.3.1.9).
     TooLarge,
-    /// 250 at the end of a text, once the message is stored (section 4.1.1.4). `hear` never answers it.
+    /// 250 at the end of a text, once the message is stored (section 4.1.1.4). `Session::next` never answers it.
     Stored,
     /// 221 to QUIT (section 4.1.1.10).
     Closing,
-    /// 421: the node leaves the session (section 3.8). `hear` never answers it.
+    /// 421: the node leaves the session (section 3.8). `Session::next` never answers it.
     Down,
 }
 

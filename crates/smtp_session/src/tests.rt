@@ -63,11 +63,12 @@ impl Client {
         })
     }
 
-    // What a line leads to, as a text: nothing, the reply, or that a message is filed.
-    fn outcome(&mut self, line: &[u8]) -> Result<Vec<u8>, AllocError> {
+    // What the next unit leads to, as a text: the reply, or that a message is filed. None where no unit is
+    // whole.
+    fn outcome(&mut self) -> Result<Option<Vec<u8>>, AllocError> {
         let mut text = Vec::new(self.alloc);
-        match self.session.hear(self.alloc, &self.plan, line)? {
-            Heard::Collected => {}
+        match self.session.next(self.alloc, &self.plan)? {
+            Heard::Idle => return Ok(None),
             Heard::Said(reply) => reply.text_into(self.alloc, self.node, &mut text)?,
             Heard::Closed(reply) => {
                 reply.text_into(self.alloc, self.node, &mut text)?;
@@ -78,16 +79,45 @@ impl Client {
                 text.extend_from_slice(b"filed")?;
             }
         }
-        Ok(text)
+        Ok(Some(text))
+    }
+
+    // What a line with its CRLF leads to; nothing where no unit is whole.
+    fn answer(&mut self, line: &[u8]) -> Result<Vec<u8>, AllocError> {
+        self.session.feed(line)?;
+        self.session.feed(b"\r\n")?;
+        Ok(self.outcome()?.unwrap_or(Vec::new(self.alloc)))
     }
 
     // Says the lines, each of which leads to what stands beside it.
     fn says(&mut self, rt: &impl Abort, steps: &[(&[u8], &[u8])]) -> Result<(), AllocError> {
         for (at, (line, wanted)) in steps.iter().enumerate() {
-            let text = self.outcome(line)?;
+            let text = self.answer(line)?;
             assert!(rt; text.as_slice() == *wanted, "at step {at}");
         }
         Ok(())
+    }
+
+    // Feeds a piece, and puts behind `out` what each unit leads to that is then whole, with `|` behind it.
+    fn hears_piece(&mut self, piece: &[u8], out: &mut Vec<u8>) -> Result<(), AllocError> {
+        self.session.feed(piece)?;
+        for _ in 0..piece.len() {
+            let Some(text) = self.outcome()? else {
+                break;
+            };
+            out.extend_from_slice(&text)?;
+            out.push(b'|')?;
+        }
+        Ok(())
+    }
+
+    // What the octets lead to where they come in pieces of so many.
+    fn hears(&mut self, octets: &[u8], size: usize) -> Result<Vec<u8>, AllocError> {
+        let mut out = Vec::new(self.alloc);
+        for piece in octets.chunks(size.max(1)) {
+            self.hears_piece(piece, &mut out)?;
+        }
+        Ok(out)
     }
 
     // The message that was filed last is this one.
@@ -204,6 +234,84 @@ fn takes_a_hundred_recipients(rt: HostRuntime) -> Result<(), Fail> {
     Ok(())
 }
 
+#[test]
+fn hears_the_same_in_any_pieces(rt: HostRuntime) -> Result<(), Fail> {
+    let octets =
+        b"MAIL FROM:<bob>\r\nHELO c.example\r\nMAIL FROM:<bob>\r\nRCPT TO:<alice>\r\nDATA\r\n\
+        ..\r\nQUIT\r\n.a\r\n...\r\n.\r\nHELO\rd\r\nNOOP\n\r\nMAIL FROM:<>\r\nRCPT TO:<bob>\r\nDATA\r\n.\r\nQUIT\r\nNO";
+    let wanted = b"503 bad order|250 node1|250 sender ok|250 recipient ok|\
+        354 end with a line that is a single period|filed|500 unknown command|500 unknown command|\
+        250 sender ok|250 recipient ok|354 end with a line that is a single period|filed|221 node1 closing, closed|";
+    for size in [1, 2, 7, 1000usize] {
+        let mut client = Client::new(rt.alloc())?;
+        let heard = client.hears(octets, size)?;
+        assert!(rt;
+            heard.as_slice() == wanted.as_slice(),
+            "in pieces of {size}"
+        );
+        client.filed(&rt, b"", b"c.example", &[b"bob"], b"");
+        client.filed(
+            &rt,
+            b"bob",
+            b"c.example",
+            &[b"alice"],
+            b".\r\nQUIT\r\na\r\n..\r\n",
+        );
+    }
+    Ok(())
+}
+
+const BEGIN: &[u8] = b"HELO c\r\nMAIL FROM:<bob>\r\nRCPT TO:<alice>\r\nDATA\r\n";
+
+impl Client {
+    // The text that is filed where these octets come behind DATA, in pieces of so many.
+    fn files(&mut self, octets: &[u8], size: usize) -> Result<Option<Deliver>, AllocError> {
+        self.hears(BEGIN, size)?;
+        self.hears(octets, size)?;
+        Ok(self.filed.pop())
+    }
+}
+
+#[test]
+fn ends_texts_at_a_whole_period_line(rt: HostRuntime) -> Result<(), Fail> {
+    let cases: [(&[u8], Option<&[u8]>); 11] = [
+        (b".\r\n", Some(b"")),
+        (b"..\r\n.\r\n", Some(b".\r\n")),
+        (b"...\r\n.\r\n", Some(b"..\r\n")),
+        (
+            b"a\rb\nc\0\x7f\xff\r\n.\r\n",
+            Some(b"a\rb\nc\0\x7f\xff\r\n"),
+        ),
+        (b"a\n.\nb\r\n.\r\n", Some(b"a\n.\nb\r\n")),
+        (b"a\r.\rb\r\n.\r\n", Some(b"a\r.\rb\r\n")),
+        (b"a\n.\r\nb\r\n.\r\n", Some(b"a\n.\r\nb\r\n")),
+        (b".\n.\r\r\n.\r\n", Some(b"\n.\r\r\n")),
+        (b"a\n.\n", None),
+        (b"a\r.\r", None),
+        (b"a\n.\r\n", None),
+    ];
+    for (at, (octets, wanted)) in cases.iter().enumerate() {
+        for size in [1, 2, 7, 1000usize] {
+            let filed = Client::new(rt.alloc())?.files(octets, size)?;
+            let text = filed.as_ref().map(|deliver| deliver.text.as_slice());
+            assert!(rt; text == *wanted, "at {at}, in pieces of {size}");
+        }
+    }
+    Ok(())
+}
+
+#[test]
+fn takes_lines_of_any_length_in_a_text(rt: HostRuntime) -> Result<(), Fail> {
+    let mut octets = b"..".to_vec(rt.alloc())?;
+    octets.resize(100_000, b'x')?;
+    octets.extend_from_slice(b"\r\n.\r\nQUIT\r\n")?;
+    for size in [1000, 200_000usize] {
+        let filed = Client::new(rt.alloc())?.files(&octets, size)?;
+        assert!(rt; filed.is_some_and(|deliver| deliver.text.len() == 100_001));
+    }
+    Ok(())
+}
+
 impl Client {
     // Sends a text: 16,383 lines of 1,024 octets with their CRLF, the last line, and the period.
     fn sends(&mut self, rt: &impl Abort, last: &[u8], outcome: &[u8]) -> Result<(), AllocError> {
@@ -215,7 +323,7 @@ impl Client {
         self.says(rt, &begin)?;
         let line = [b'x'; 1022];
         for _ in 0..16_383u32 {
-            assert!(rt; self.outcome(&line)?.is_empty());
+            assert!(rt; self.answer(&line)?.is_empty());
         }
         self.says(rt, &[(last, b""), (b".", outcome)])
     }

@@ -1,8 +1,9 @@
-// The text of a message as its lines come.
-ghost use Rattle.std.specs.Prelude.{◌≡◌, ◌≤◌, ◌++◌, [], ◌∷◌, List, ℕ, Bool, true, false, length, OnOk, OnErr};
-ghost use Rattle.mail_model.specs.Session.{undotted, undotted_line};
-ghost use Rattle.smtp_session.specs.Texts.{IsText};
+// The text of a message as its octets come.
+ghost use Rattle.std.specs.Prelude.{◌≡◌, ◌≤◌, ◌++◌, [], List, ℕ, Bool, true, false, length, take, IfOk, OnErr};
+ghost use Rattle.dot_text.specs.Places.{Undots, Feeds, IsWithin};
+ghost use Rattle.smtp_session.specs.Texts.{IsText, KeepsFront};
 
+use dot_text::{Cut, Undotter};
 use mail_base::Octets;
 use std::alloc::{AllocError, Global};
 use std::marker::Model;
@@ -10,9 +11,8 @@ use std::marker::Model;
 // how many octets a text may have once the periods are taken off
 const LIMIT: usize = 16_777_216;
 
-/// A text so far: its lines without the periods that lead them, each with its CRLF, at most 16,777,216
-/// octets. One that passes the limit is not kept. A contract sees its octets and whether it has passed
-/// the limit.
+/// A text so far: its octets without the periods that lead its lines, at most 16,777,216. One that passes
+/// the limit is not kept. A contract sees its octets and whether it has passed the limit.
 #[derive(Debug, Drop)]
 pub struct Text {
     octets: Vec<u8>,
@@ -27,16 +27,6 @@ impl Model for Text {
     ghost view = { λ t. (t.octets.items, t.large) };
 
     ghost invariant = { λ t. length t.octets.items ≤ 16777216 };
-}
-
-// A line without the period that leads it (RFC 5321, section 4.5.2).
-fn undotted(line: &[u8]) -> &[u8]
-    ensures { result.now ≡ undotted_line line.now }
-{
-    match line.first() {
-        Some(b'.') => &line[1..],
-        _ => line,
-    }
 }
 
 impl Text {
@@ -57,6 +47,13 @@ impl Text {
         self.large
     }
 
+    /// How many octets are kept.
+    pub fn kept(&self) -> usize
+        ensures { result ≡ length self.now.0 }
+    {
+        self.octets.len()
+    }
+
     /// The octets that were kept: none of a text that has passed the limit. It takes no memory.
     pub fn into_octets(self) -> Octets
         ensures octets { result ≡ self.0 }
@@ -65,35 +62,40 @@ impl Text {
         Octets::from_vec(self.octets)
     }
 
-    /// One line more, given without its CRLF, without the period that leads it (RFC 5321, section 4.5.2).
+    /// Keeps the first octets, so many of them.
+    pub fn truncate(&mut self, count: usize)
+        ensures { self.new ≡ (take count self.old.0, self.old.1) }
+    {
+        self.octets.truncate(count);
+    }
+
+    /// Takes up what the undotter gives of the next octets, up to the end of the text (RFC 5321, section
+    /// 4.5.2), and says where that is. The octets of a text that passes the limit are let go.
     ///
     /// # Errors
     ///
-    /// Only want of memory; the text is then as before.
-    pub fn add(&mut self, alloc: Global, line: &[u8]) -> Result<(), AllocError>
-        ensures ok { OnOk result ((lines : List (List ℕ)) → IsText self.old lines → IsText self.new (lines ++ line.now ∷ [])) }
-        ensures err { OnErr result (self.new ≡ self.old) }
+    /// Only want of memory; the text and the undotter are then as before.
+    pub fn read(
+        &mut self,
+        alloc: Global,
+        undotter: &mut Undotter,
+        piece: &[u8],
+    ) -> Result<Cut, AllocError>
+        ensures ok { IfOk result (λ cut. (more : List ℕ) × ((given : List ℕ) → IsText self.old given → IsText self.new (given ++ more))
+            × ((fed given : List ℕ) → Undots undotter.old fed given → Feeds cut undotter.new fed piece.now (given ++ more))) }
+        ensures kept { IfOk result (λ cut. KeepsFront self.old self.new) }
+        ensures used { IfOk result (λ cut. IsWithin cut piece.now) }
+        ensures err { OnErr result ((self.new ≡ self.old) × (undotter.new ≡ undotter.old)) }
     {
         if self.large {
-            return Ok(());
+            let mut passed = Vec::new(alloc);
+            return undotter.feed(piece, &mut passed);
         }
-        let line = undotted(line);
-        if line.len() + 2 > LIMIT - self.octets.len() {
+        let cut = undotter.feed(piece, &mut self.octets)?;
+        if self.octets.len() > LIMIT {
             self.octets = Vec::new(alloc);
             self.large = true;
-            return Ok(());
         }
-        add_line(&mut self.octets, line)
+        Ok(cut)
     }
-}
-
-// Puts the line with its CRLF behind the octets.
-fn add_line(octets: &mut Vec<u8>, line: &[u8]) -> Result<(), AllocError>
-    ensures ok { OnOk result (octets.new.items ≡ octets.old.items ++ line.now ++ 13 ∷ 10 ∷ []) }
-    ensures err { OnErr result (octets.new.items ≡ octets.old.items) }
-{
-    octets.reserve(line.len() + 2)?;
-    octets.extend_from_slice(line).unwrap();
-    octets.extend_from_slice(b"\r\n").unwrap();
-    Ok(())
 }

@@ -1,12 +1,16 @@
-use Rattle.std.proofs.Common.{◌≡◌, refl, false, rules}
-use Rattle.mail_model.specs.Session.{is_long_line, is_quit}
-use Rattle.mail_model.specs.Smtp.{command_of}
-use Rattle.smtp_session.proofs.Closes.{closes}
+use Rattle.smtp_session.proofs.Units.{long_line, short_line, hears_line}
 use Rattle.smtp_session.proofs.session.Session.hear_line.Goals as goal
 
-pub returns-clause-ok : goal.returns-clause-ok
-returns-clause-ok c =
-    let short : is_long_line c.args.line.now ≡ false = search rules in
-    let exact = c.read_command-command.ensures.exact in
-    rw (c.heard_of.ensures, exact)
-    (closes c.args.plan.now _ _ c.args.line.now c.in_ok-reply.reply (is_quit (command_of c.args.line.now)) refl short (rw exact at c.in_ok-reply.ensures.ok))
+pub returns-in-Some-Long-clause-ok : goal.returns-in-Some-Long-clause-ok
+returns-in-Some-Long-clause-ok c talk pending follows =
+    let before = c.args.self.now in
+    let gives = rw c.in-Some-Long.field-0-is at c.in-Some-Long.ensures in
+    long_line c.args.plan.now talk pending before.told before.cutter c.next.new.self before.undotter before.text follows c.requires gives
+
+pub returns-in-Ok-clause-ok : goal.returns-in-Ok-clause-ok
+returns-in-Ok-clause-ok c talk pending follows =
+    let before = c.args.self.now in
+    let gives = rw c.in-Some-Whole.field-0-is at c.in-Some-Whole.ensures in
+    let short = short_line c.args.plan.now talk pending before.told before.cutter c.next.new.self before.undotter before.text follows c.requires gives in
+    hears_line c.args.plan.now talk pending before.told before.cutter c.next.new.self before.undotter before.text follows c.requires gives c.in-Ok.heard c.hear.new.self
+    ((rw c.line.ensures at c.in-Ok.ensures.ok) short)

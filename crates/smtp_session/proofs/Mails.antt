@@ -1,0 +1,37 @@
+-- The message of a text that has ended.
+use Rattle.std.proofs.Common.{◌≡◌, ℕ, Bool, true, false, List, length, Option, Some, None, refl, sym, ap, ◌∙◌}
+use Rattle.std.specs.Prelude.{unwrap_or}
+use Rattle.std.specs.Option.{option_map}
+use Rattle.std.proofs.lemmas.Bool.{lt-ltb, le-ltb}
+use Rattle.mail_model.specs.Session as model
+use Rattle.mail_model.specs.Session.{Talk, undotted, is_large}
+use Rattle.mail_model.specs.Told.{Mail, mail_of, unnamed, unaddressed}
+use Rattle.smtp_session.specs.declared.envelope.Greeting.{Greeting}
+use Rattle.smtp_session.specs.declared.told.Told.{Told}
+use Rattle.smtp_session.specs.Talks.{talk_of, greeting_of}
+use Rattle.smtp_session.specs.Texts.{IsText}
+
+-- a text that has passed the limit, and one that is kept
+pub large_text : (text : List ℕ × Bool) (lines : List (List ℕ)) → text.1 ≡ true → IsText text (undotted lines) → is_large lines ≡ true
+large_text (octets, true) lines large is = lt-ltb 16777216 (length (undotted lines)) is.1
+large_text (octets, false) lines large is = cc
+
+pub small_text : (text : List ℕ × Bool) (lines : List (List ℕ)) → text.1 ≡ false → IsText text (undotted lines) → (text.0 ≡ undotted lines) × (is_large lines ≡ false)
+small_text (octets, true) lines small is = cc
+small_text (octets, false) lines small is = (is.0, le-ltb 16777216 (length (undotted lines)) is.1)
+
+-- no session was greeted by EHLO
+not_extended : (greeting : Option Greeting) → (unwrap_or (option_map greeting_of greeting) unnamed).extended ≡ false
+not_extended None = refl
+not_extended (Some greeting) = refl
+
+abbrev mail : model.Envelope → List ℕ → Bool → List ℕ → Mail
+mail envelope helo extended text = record { sender = envelope.sender; helo = helo; extended = extended; mailboxes = envelope.mailboxes; text = text }
+
+pub mail_is : (told : Told) (lines : List (List ℕ)) (envelope : model.Envelope) (helo text : List ℕ) → envelope ≡ unwrap_or (talk_of told).envelope unaddressed
+    → helo ≡ (unwrap_or (talk_of told).greeting unnamed).name → text ≡ undotted lines → mail envelope helo false text ≡ mail_of (talk_of told) lines
+mail_is told lines envelope helo text of_envelope of_helo of_text =
+    ap (λ (e : model.Envelope). mail e helo false text) of_envelope
+    ∙ ap (λ (h : List ℕ). mail (unwrap_or (talk_of told).envelope unaddressed) h false text) of_helo
+    ∙ ap (λ (b : Bool). mail (unwrap_or (talk_of told).envelope unaddressed) (unwrap_or (talk_of told).greeting unnamed).name b text) (sym (not_extended told.greeting))
+    ∙ ap (λ (t : List ℕ). mail (unwrap_or (talk_of told).envelope unaddressed) (unwrap_or (talk_of told).greeting unnamed).name (unwrap_or (talk_of told).greeting unnamed).extended t) of_text
