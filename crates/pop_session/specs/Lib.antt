@@ -1,3 +1,5 @@
 pub mod Codes
 pub mod Shown
 pub mod Laws
+pub mod Follows
+pub mod Messages

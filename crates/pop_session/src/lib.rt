@@ -1,12 +1,25 @@
-//! pop_session: one POP3 session, over whole lines.
+//! pop_session: one POP3 session, over the octets of its client as they come.
 //!
 //! SUMMARY
 //!
-//! `Session::new()` is a session that has been told nothing, and `hear(alloc, plan, line)` takes its next
-//! line, given without its CRLF, and says what that leads to: a reply, a reply and the end of the
-//! session, or a question to the node. `Reply::lines` has the lines of a reply, without their CRLF.
+//! `Session::new(alloc)` is a session that has been told nothing. `feed(piece)` takes up octets of its
+//! client, in pieces of any size, and `next(alloc, plan)` hears the next line of them, where one is whole,
+//! and says what that leads to: a reply, a reply and the end of the session, or a question to the node.
+//! `Reply::lines` has the lines of a reply, without their CRLF, and `into_lines` moves them out.
 //!
 //! DESCRIPTION
+//!
+//! A line is what stands before CRLF; a lone CR or LF is an octet of it. It does not matter how the octets
+//! were cut into pieces. A caller feeds one, and hears lines until there is none:
+//!
+//!     session.feed(piece)?;
+//!     loop {
+//!         match session.next(alloc, plan)? {
+//!             Heard::Idle => break,
+//!             Heard::Said(reply) => send(reply)?,
+//!             ..
+//!         }
+//!     }
 //!
 //! The commands are those of `pop_wire`, and come in this order (RFC 1939, sections 4 to 7):
 //!
@@ -17,14 +30,14 @@
 //!   keep their numbers, from 1 in the order of the listing, to the end of the session.
 //! - `QUIT` at any time. It ends the session.
 //!
-//! Where the node is asked, the session hears no line until the caller gave its answer:
+//! Where the node is asked, the session hears no line until the caller gave its answer. It may be fed:
 //!
 //! - `LogsIn`: `listed` with the messages, and the session is behind its login; or `Reply::wrong`, and it
 //!   is as before the `USER`. A name that the plan does not have is never asked about, and every secret
 //!   is, also one that no user can have.
-//! - `Fetches`: `Reply::fetched` or `Reply::gone`, and the session stays as it is. `fetched` is the first
-//!   line of that reply alone: its caller sends the lines of the message behind it, a period that leads
-//!   one doubled, and then the line that is one period.
+//! - `Fetches`: `Reply::message` with the octets of the message, or `Reply::gone`, and the session stays as
+//!   it is. `message` is the whole reply: how many octets there are, the lines of the message, a period that
+//!   leads one doubled, and the line that is one period.
 //!
 //! `Reply::ready` opens a session and `Reply::down` comes before it is ended because its node goes down;
 //! when these are due is known to the caller.
@@ -36,30 +49,38 @@
 //! order; the name or the secret is wrong; or there is no message of that number. What is refused
 //! changes nothing, but that `PASS` may then not come next.
 //!
-//! Want of memory is an `AllocError`, and the session is then as before the line: it may be heard again.
+//! Want of memory is an `AllocError`. A `feed` or `listed` has then changed nothing, and behind a `next` the
+//! line waits still: it may be heard again, also once more was fed.
 //!
 //! STANDS ON
 //!
-//! `pop_wire` for commands, `mail_base` for names, ids and the plan, and `mail_model`, whose definition of
-//! a session says what every line leads to. The contract of `hear` is that definition. Three laws say
+//! `dot_text` for lines out of octets and for a message as it is sent, `pop_wire` for commands, `mail_base`
+//! for names, ids and the plan, and `mail_model`, whose definition of a session says what every line leads
+//! to. The contract of `next` is that definition, at the first line of the octets that wait. Three laws say
 //! what it means: `asks_behind_user`, `listed_once` and `numbered_alike`.
 //!
 //! COSTS
 //!
-//! No octets of messages are read or kept. `STAT` goes over the listing once, and `LIST` and `UIDL` without
-//! a number make a line for each message of it. A number leads to its message at once.
+//! Hearing is in proportion to the octets that were fed: a line that has no CRLF yet is not looked at again
+//! for each piece. `STAT` goes over the listing once, and `LIST` and `UIDL` without a number make a line for
+//! each message of it. A number leads to its message at once. The reply to `RETR` is made in proportion to
+//! the octets of the message, which are held twice more meanwhile.
 //!
 //! WHAT IT DOES NOT DO
 //!
-//! It cuts no lines out of octets, compares no secrets and reads no messages. It does not look whether a
-//! listing names a message twice. DELE, TOP, APOP, NOOP, RSET and CAPA are unknown commands, and nothing is
-//! locked. After `Closed` the caller lets it go.
+//! It keeps a line that has no CRLF yet, however long. It compares no secrets and reads no messages: their
+//! octets are given to `Reply::message`. It does not look whether a listing names a message twice. DELE, TOP,
+//! APOP, NOOP, RSET and CAPA are unknown commands, and nothing is locked. After `Closed` the caller lets it
+//! go.
 #![tactic(auto)]
 
 mod laws;
 mod listing;
 mod reply;
+#[cfg(test)]
+mod reply_tests;
 mod session;
+mod stage;
 #[cfg(test)]
 mod tests;
 mod text;
@@ -67,4 +88,5 @@ mod text;
 pub use laws::{asks_behind_user, listed_once, numbered_alike};
 pub use listing::{Item, Listing};
 pub use reply::Reply;
-pub use session::{Heard, Session, Stage};
+pub use session::Session;
+pub use stage::Heard;

@@ -1,12 +1,14 @@
 // The replies of a session.
-ghost use Rattle.std.specs.Prelude.{◌≡◌, ℕ, List, ◌++◌, ◌∷◌, [], length, map, flat_map, codes, IfOk, OnOk, OnErr};
-ghost use Rattle.mail_model.specs.Lines.{sent_line};
-ghost use Rattle.mail_model.specs.PopReplies.{one_line, ready_text, down_text, size_line, id_line, octets_text, stat_text, listing_reply, dotted_line, last_line};
+ghost use Rattle.std.specs.Prelude.{◌≡◌, ℕ, List, ◌++◌, ◌∷◌, [], codes, IfOk, OnOk, OnErr};
+ghost use Rattle.mail_model.specs.PopReplies.{one_line, ready_text, down_text, size_line, id_line, octets_text, stat_text, listing_reply};
+ghost use Rattle.dot_text.specs.Dots.{Dots};
+ghost use Rattle.pop_session.specs.Messages.{AreCut, ShowsMessage};
 ghost use Rattle.mail_model.specs.Maildrop as maildrop;
 ghost use Rattle.mail_model.specs.Maildrop.{answer_reply};
 
 use crate::text::{with_number, with_text};
 use crate::{Item, Listing};
+use dot_text::{LineCutter, dot_into, lines_are_all};
 use mail_base::{NodeNo, Octets};
 use std::alloc::{AllocError, Global};
 use std::marker::Model;
@@ -42,6 +44,25 @@ fn id_line(alloc: Global, number: u64, item: &Item) -> Result<Vec<u8>, AllocErro
     with_text(with_text(line, b" ")?, item.id.id_text(alloc)?.as_bytes())
 }
 
+// The first line to RETR (RFC 1939, section 5).
+fn octets_line(alloc: Global, octets: u128) -> Result<Vec<u8>, AllocError>
+    ensures { IfOk result (λ line. line.items ≡ octets_text octets) }
+{
+    let line = with_number(b"+OK ".to_vec(alloc)?, alloc, octets)?;
+    with_text(line, b" octets")
+}
+
+// A cutter that was fed a message as it is sent (RFC 1939, section 3).
+fn as_sent(alloc: Global, octets: &[u8]) -> Result<LineCutter, AllocError>
+    ensures { IfOk result (λ cutter. Dots octets.now cutter.rest) }
+{
+    let mut sent = Vec::new(alloc);
+    dot_into(&mut sent, octets)?;
+    let mut cutter = LineCutter::new(alloc, usize::MAX);
+    cutter.feed(&sent)?;
+    Ok(cutter)
+}
+
 impl Reply {
     // The reply of this one line.
     fn of_line(alloc: Global, line: Vec<u8>) -> Result<Reply, AllocError>
@@ -63,11 +84,26 @@ impl Reply {
         Ok(())
     }
 
+    // One line more, which stays where it is too. Unchanged on refusal.
+    fn push_copy(&mut self, alloc: Global, line: &[u8]) -> Result<(), AllocError>
+        ensures ok { OnOk result (self.new ≡ self.old ++ line.now ∷ []) }
+        ensures err { OnErr result (self.new ≡ self.old) }
+    {
+        self.push(line.to_vec(alloc)?)
+    }
+
     /// The lines, the first of which begins with `+OK` or `-ERR`.
     pub fn lines(&self) -> &[Octets]
         ensures { result.now ≡ self.now }
     {
         &self.held
+    }
+
+    /// The lines, moved out. It takes no memory.
+    pub fn into_lines(self) -> Vec<Octets>
+        ensures { result.items ≡ self }
+    {
+        self.held
     }
 
     /// The reply of this one line.
@@ -125,18 +161,31 @@ impl Reply {
         Reply::said(alloc, b"-ERR name or secret is wrong")
     }
 
-    /// The first line to RETR of a message of so many octets (RFC 1939, section 5). The lines of the
-    /// message follow, a period that leads one doubled, and then the line that is one period.
+    // The lines that the cutter gives, each behind the other.
+    fn push_lines(&mut self, alloc: Global, cutter: &mut LineCutter) -> Result<(), AllocError>
+        ensures { OnOk result ((lines : List (List ℕ)) × (self.new ≡ self.old ++ lines) × AreCut cutter.old.rest lines cutter.new.rest) }
+    {
+        'lines: while let Some(_) = cutter.next() {
+            self.push_copy(alloc, cutter.line())?;
+        }
+        Ok(())
+    }
+
+    /// To RETR of a message of these octets (RFC 1939, sections 3 and 5): how many they are, its lines, a
+    /// period that leads one doubled, and the line that is one period. A line is what stands before CRLF; a
+    /// lone CR or LF is an octet of it. What follows the last CRLF is a line too, where it is not empty.
     ///
     /// # Errors
     ///
     /// Only want of memory.
-    pub fn fetched(alloc: Global, octets: u64) -> Result<Reply, AllocError>
-        ensures line { IfOk result (λ reply. reply ≡ one_line (octets_text octets)) }
-        ensures begins { IfOk result (λ reply. (lines : List (List ℕ)) → length (flat_map sent_line lines) ≡ octets → reply ++ map dotted_line lines ++ last_line ≡ answer_reply (maildrop.Answer.Whole lines)) }
+    pub fn message(alloc: Global, octets: &[u8]) -> Result<Reply, AllocError>
+        ensures { IfOk result (λ reply. ShowsMessage octets.now reply) }
     {
-        let line = with_number(b"+OK ".to_vec(alloc)?, alloc, u128::from(octets))?;
-        Reply::of_line(alloc, with_text(line, b" octets")?)
+        let mut reply = Reply::of_line(alloc, octets_line(alloc, octets.len() as u128)?)?;
+        let mut cutter = as_sent(alloc, octets)?;
+        reply.push_lines(alloc, &mut cutter)?;
+        lines_are_all();
+        Ok(reply)
     }
 
     /// To RETR of a message that was deleted since the login.
@@ -184,7 +233,7 @@ impl Reply {
         for (at, item) in listing.as_slice().iter().enumerate() {
             reply.push(size_line(alloc, at as u64 + 1, item)?)?;
         }
-        reply.push(b".".to_vec(alloc)?)?;
+        reply.push_copy(alloc, b".")?;
         Ok(reply)
     }
 
@@ -196,7 +245,7 @@ impl Reply {
         for (at, item) in listing.as_slice().iter().enumerate() {
             reply.push(id_line(alloc, at as u64 + 1, item)?)?;
         }
-        reply.push(b".".to_vec(alloc)?)?;
+        reply.push_copy(alloc, b".")?;
         Ok(reply)
     }
 }

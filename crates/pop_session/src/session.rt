@@ -1,262 +1,84 @@
-// One session: each line is heard, and answered or asked of the node.
-ghost use Rattle.std.specs.Prelude.{◌≡◌, [], ◌∷◌, Some, None, Ok, IfOk, OnOk, OnErr};
-ghost use Rattle.mail_model.specs.Plan.{Plan as Plans};
-ghost use Rattle.mail_model.specs.Session.{is_long_line};
-ghost use Rattle.mail_model.specs.Maildrop.{opening, said, bad_order, farewell, no_such_message, retr_outcome, pass_outcome, before_login, behind_login, list_outcome, uidl_outcome, command_outcome, named_by, with_user, after_answer, answer_reply};
+// One session: octets as they come, and the lines of which they are.
+ghost use Rattle.std.specs.Prelude.{◌≡◌, ◌⊎◌, ◌<◌, ℕ, List, [], ◌++◌, IfOk, OnOk, OnErr};
+ghost use Rattle.mail_model.specs.Maildrop.{opening, after_answer, answer_reply};
 ghost use Rattle.mail_model.specs.Maildrop as maildrop;
-ghost use Rattle.pop_wire.specs.Seen.{seen, command_seen, IsWithinLimits};
-ghost use Rattle.pop_session.specs.Shown.{stage_of, outcome_of, Hears};
+ghost use Rattle.pop_session.specs.Follows.{Follows, Hears, waiting};
 
-use crate::{Listing, Reply};
-use mail_base::{MsgId, Name, Octets, Plan};
-use pop_wire::{PopCommand, PopFault, read_command};
+use crate::stage::Stage;
+use crate::{Heard, Listing, Reply};
+use dot_text::LineCutter;
+use mail_base::Plan;
 use std::alloc::{AllocError, Global};
 
-/// What a session has been told.
-#[derive(Debug, Drop)]
-pub enum Stage {
-    /// Before the login (RFC 1939, section 4): the user whom a good USER named, where its line was the
-    /// last.
-    Authorization { user: Option<Name> },
-    /// Behind the login (RFC 1939, section 5): the messages of the maildrop.
-    Transaction { listing: Listing },
-}
+// The most octets of a line with its CRLF.
+const LIMIT: usize = 1024;
 
-/// A session: what it has been told. It hears whole lines, given without their CRLF.
+/// A session: what it has been told, and the octets that it was fed and no line has given yet.
 #[derive(Debug, Drop)]
 pub struct Session {
-    /// What it has been told.
-    pub stage: Stage,
-}
-
-/// What a line leads to.
-#[derive(Debug, Drop)]
-pub enum Heard {
-    /// The line is answered.
-    Said(Reply),
-    /// The line is answered, and the session ends.
-    Closed(Reply),
-    /// The node is asked whether this is the user's secret: `listed` or `Reply::wrong` comes next.
-    LogsIn { user: Name, secret: Octets },
-    /// The node is asked for this message: `Reply::fetched` or `Reply::gone` comes next.
-    Fetches { number: u32, id: MsgId },
-}
-
-// A reply of one line.
-fn said(alloc: Global, text: &[u8]) -> Result<Heard, AllocError>
-    ensures { IfOk result (λ heard. outcome_of heard ≡ said text.now) }
-{
-    Ok(Heard::Said(Reply::said(alloc, text)?))
-}
-
-// The command is none that may come now.
-fn bad_order(alloc: Global) -> Result<Heard, AllocError>
-    ensures { IfOk result (λ heard. outcome_of heard ≡ bad_order) }
-{
-    said(alloc, b"-ERR bad order")
-}
-
-// To QUIT (RFC 1939, sections 4 and 6).
-fn farewell(alloc: Global) -> Result<Heard, AllocError>
-    ensures { IfOk result (λ heard. outcome_of heard ≡ farewell) }
-{
-    Ok(Heard::Closed(Reply::said(alloc, b"+OK bye")?))
-}
-
-// PASS (RFC 1939, section 7).
-fn log_in(
-    user: &Option<Name>,
-    alloc: Global,
-    plan: &Plan,
-    secret: &[u8],
-) -> Result<Heard, AllocError>
-    ensures { IfOk result (λ heard. outcome_of heard ≡ pass_outcome plan.now user.now secret.now) }
-{
-    let Some(user) = user else {
-        return bad_order(alloc);
-    };
-    if !plan.users.has(user) {
-        return Ok(Heard::Said(Reply::wrong(alloc)?));
-    }
-    Ok(Heard::LogsIn {
-        user: user.copy()?,
-        secret: Octets::from_vec(secret.to_vec(alloc)?),
-    })
-}
-
-// A command before the login.
-fn authorize(
-    user: &Option<Name>,
-    alloc: Global,
-    plan: &Plan,
-    command: &PopCommand<'_>,
-) -> Result<Heard, AllocError>
-    ensures { IfOk result (λ heard. outcome_of heard ≡ before_login plan.now user.now (command_seen command.now)) }
-{
-    match command {
-        PopCommand::User { .. } => said(alloc, b"+OK send PASS"),
-        PopCommand::Pass { secret } => log_in(user, alloc, plan, secret),
-        PopCommand::Stat => bad_order(alloc),
-        PopCommand::List { .. } => bad_order(alloc),
-        PopCommand::Uidl { .. } => bad_order(alloc),
-        PopCommand::Retr { .. } => bad_order(alloc),
-        PopCommand::Quit => farewell(alloc),
-    }
-}
-
-// There is no message of the number that was asked for.
-fn no_such_message(alloc: Global) -> Result<Heard, AllocError>
-    ensures { IfOk result (λ heard. outcome_of heard ≡ no_such_message) }
-{
-    said(alloc, b"-ERR no such message")
-}
-
-// LIST (RFC 1939, section 5).
-fn list(listing: &Listing, alloc: Global, number: Option<u32>) -> Result<Heard, AllocError>
-    ensures { IfOk result (λ heard. outcome_of heard ≡ list_outcome listing.now number) }
-{
-    let Some(number) = number else {
-        return Ok(Heard::Said(Reply::sizes(alloc, listing)?));
-    };
-    match listing.message(number) {
-        None => no_such_message(alloc),
-        Some(item) => Ok(Heard::Said(Reply::size(alloc, number, item)?)),
-    }
-}
-
-// UIDL (RFC 1939, section 7).
-fn uidl(listing: &Listing, alloc: Global, number: Option<u32>) -> Result<Heard, AllocError>
-    ensures { IfOk result (λ heard. outcome_of heard ≡ uidl_outcome listing.now number) }
-{
-    let Some(number) = number else {
-        return Ok(Heard::Said(Reply::ids(alloc, listing)?));
-    };
-    match listing.message(number) {
-        None => no_such_message(alloc),
-        Some(item) => Ok(Heard::Said(Reply::id(alloc, number, item)?)),
-    }
-}
-
-// RETR (RFC 1939, section 5).
-fn retr(listing: &Listing, alloc: Global, number: u32) -> Result<Heard, AllocError>
-    ensures { IfOk result (λ heard. outcome_of heard ≡ retr_outcome listing.now number) }
-{
-    match listing.message(number) {
-        None => no_such_message(alloc),
-        Some(item) => Ok(Heard::Fetches {
-            number,
-            id: item.id,
-        }),
-    }
-}
-
-// A command behind the login.
-fn transact(listing: &Listing, alloc: Global, command: &PopCommand<'_>) -> Result<Heard, AllocError>
-    ensures { IfOk result (λ heard. outcome_of heard ≡ behind_login listing.now (command_seen command.now)) }
-{
-    match command {
-        PopCommand::User { .. } => bad_order(alloc),
-        PopCommand::Pass { .. } => bad_order(alloc),
-        PopCommand::Stat => Ok(Heard::Said(Reply::count(alloc, listing)?)),
-        PopCommand::List { number } => list(listing, alloc, *number),
-        PopCommand::Uidl { number } => uidl(listing, alloc, *number),
-        PopCommand::Retr { number } => retr(listing, alloc, *number),
-        PopCommand::Quit => farewell(alloc),
-    }
-}
-
-// What a command line that is not too long leads to.
-fn obey(
-    stage: &Stage,
-    alloc: Global,
-    plan: &Plan,
-    command: &Result<PopCommand<'_>, PopFault>,
-) -> Result<Heard, AllocError>
-    ensures { IfOk result (λ heard. outcome_of heard ≡ command_outcome plan.now (stage_of stage.now) (seen command.now)) }
-{
-    match command {
-        Err(PopFault::UnknownVerb) => said(alloc, b"-ERR unknown command"),
-        Err(PopFault::BadArgument) => said(alloc, b"-ERR bad argument"),
-        Err(PopFault::BadNumber) => said(alloc, b"-ERR bad argument"),
-        Ok(command) => match stage {
-            Stage::Authorization { user } => authorize(user, alloc, plan, command),
-            Stage::Transaction { listing } => transact(listing, alloc, command),
-        },
-    }
-}
-
-// The user whom a good USER names.
-fn named_by(
-    alloc: Global,
-    command: &Result<PopCommand<'_>, PopFault>,
-) -> Result<Option<Name>, AllocError>
-    requires { IfOk command.now IsWithinLimits }
-    ensures { IfOk result (λ user. user ≡ named_by (seen command.now)) }
-{
-    match command {
-        Ok(PopCommand::User { name }) => Name::spelt(alloc, name),
-        _ => Ok(None),
-    }
-}
-
-// Whether a line is more than 1,024 octets with its CRLF.
-fn is_long(line: &[u8]) -> bool
-    ensures { result ≡ is_long_line line.now }
-{
-    line.len() > 1022
+    stage: Stage,
+    cutter: LineCutter,
 }
 
 impl Session {
-    /// A session that has been told nothing. It takes no memory.
-    pub fn new() -> Session
-        ensures { stage_of result.stage ≡ opening }
+    /// A session that has been told nothing and fed nothing. It takes no memory.
+    pub fn new(alloc: Global) -> Session
+        ensures { Follows result opening [] }
     {
         Session {
             stage: Stage::Authorization { user: None },
+            cutter: LineCutter::new(alloc, LIMIT),
         }
     }
 
-    // Before the login this user comes in place of the one before.
-    fn name_user(&mut self, named: Option<Name>)
-        ensures { stage_of self.new.stage ≡ with_user (stage_of self.old.stage) named }
-    {
-        match &mut self.stage {
-            Stage::Authorization { user } => *user = named,
-            Stage::Transaction { .. } => {}
-        }
-    }
-
-    /// Hears a line, given without its CRLF.
-    ///
-    /// What it leads to is what the definition of a session says, and afterwards the session has been
-    /// told what the line tells (RFC 1939, sections 3 to 7).
+    /// Takes up the next octets of the client, as many as memory holds. It hears none of them: `next` does.
     ///
     /// # Errors
     ///
-    /// Only want of memory; the session is then as before, and the line may be heard again.
-    pub fn hear(&mut self, alloc: Global, plan: &Plan, line: &[u8]) -> Result<Heard, AllocError>
-        ensures ok { IfOk result (λ heard. Hears plan.now self.old line.now heard self.new) }
+    /// Only want of memory; the session is then as before.
+    pub fn feed(&mut self, piece: &[u8]) -> Result<(), AllocError>
+        ensures ok { OnOk result ((stage : maildrop.Stage) (pending : List ℕ) → Follows self.old stage pending → Follows self.new stage (pending ++ piece.now)) }
         ensures err { OnErr result (self.new ≡ self.old) }
     {
-        if is_long(line) {
-            let heard = said(alloc, b"-ERR line too long")?;
-            self.name_user(None);
-            return Ok(heard);
-        }
-        let command = read_command(line);
-        let heard = obey(&self.stage, alloc, plan, &command)?;
-        let user = named_by(alloc, &command)?;
-        self.name_user(user);
-        Ok(heard)
+        self.cutter.feed(piece)
     }
 
-    /// The node answered to a login with the listing: TRANSACTION begins (RFC 1939, section 5).
+    /// Hears the next line of what was fed, where one is whole: what stands before the next CRLF.
+    ///
+    /// What it leads to is what the definition of a session says, and afterwards the session has been
+    /// told what the line tells (RFC 1939, sections 3 to 7). `Heard::Idle` comes exactly where no line is
+    /// whole, and changes nothing; behind any other answer fewer octets wait.
+    ///
+    /// # Errors
+    ///
+    /// Only want of memory; the line may then be heard again, also behind a `feed`.
+    pub fn next(&mut self, alloc: Global, plan: &Plan) -> Result<Heard, AllocError>
+        ensures ok { IfOk result (λ heard. (stage : maildrop.Stage) (pending : List ℕ) → Follows self.old stage pending → Hears plan.now stage pending heard self.new) }
+        ensures less { IfOk result (λ heard. (heard ≡ Heard.Idle) ⊎ (waiting self.new < waiting self.old)) }
+        ensures err { OnErr result ((stage : maildrop.Stage) (pending : List ℕ) → Follows self.old stage pending → Follows self.new stage pending) }
+    {
+        let Some(kind) = self.cutter.next() else {
+            return Ok(Heard::Idle);
+        };
+        match self.stage.hear(alloc, plan, kind, self.cutter.line()) {
+            Ok(heard) => Ok(heard),
+            Err(error) => {
+                self.cutter.put_back();
+                Err(error)
+            }
+        }
+    }
+
+    /// The node answered to a login with the listing: TRANSACTION begins (RFC 1939, section 5). What was
+    /// fed and not heard stays.
     ///
     /// # Errors
     ///
     /// Only want of memory; the session is then as before.
     pub fn listed(&mut self, alloc: Global, listing: Listing) -> Result<Reply, AllocError>
-        ensures ok { IfOk result (λ reply. (reply ≡ answer_reply (maildrop.Answer.Listed listing)) × (stage_of self.new.stage ≡ after_answer (stage_of self.old.stage) (maildrop.Answer.Listed listing))) }
+        ensures reply { IfOk result (λ reply. reply ≡ answer_reply (maildrop.Answer.Listed listing)) }
+        ensures ok { OnOk result ((stage : maildrop.Stage) (pending : List ℕ) → Follows self.old stage pending → Follows self.new (after_answer stage (maildrop.Answer.Listed listing)) pending) }
+        ensures waits { waiting self.new ≡ waiting self.old }
         ensures err { OnErr result (self.new ≡ self.old) }
     {
         let reply = Reply::said(alloc, b"+OK maildrop open")?;

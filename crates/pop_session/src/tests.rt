@@ -1,4 +1,6 @@
 // What one client hears: each table has the lines that it says and, indented, what they lead to.
+ghost use Rattle.std.specs.Prelude.{◌<◌};
+
 use crate::{Heard, Item, Listing, Reply, Session};
 use mail_base::{MsgId, Name, NodeNo, Plan, Secret, Users};
 use std::alloc::{AllocError, Global};
@@ -51,7 +53,7 @@ impl Client {
         Ok(Client {
             alloc,
             plan: plan(alloc)?,
-            session: Session::new(),
+            session: Session::new(alloc),
             maildrop: Some(listing(alloc, messages)?),
             said: Vec::new(alloc),
         })
@@ -87,47 +89,114 @@ impl Client {
         }
     }
 
-    // The node's answer to RETR: it has the first message, of 151 octets, and the others are gone.
+    // The node's answer to RETR: it has the first message, and the others are gone.
     fn fetch(&mut self, number: u32, id: MsgId) -> Result<Reply, AllocError> {
         let text = id.id_text(self.alloc)?;
         self.note(b"  asks for ", text.as_bytes())?;
         if number == 1 {
-            Reply::fetched(self.alloc, 151)
+            Reply::message(self.alloc, FIRST_MESSAGE)
         } else {
             Reply::gone(self.alloc)
         }
     }
 
-    fn say(&mut self, line: &[u8]) -> Result<(), AllocError> {
-        self.note(b"", line)?;
-        match self.session.hear(self.alloc, &self.plan, line)? {
-            Heard::Said(reply) => self.note_reply(&reply),
+    // What the session heard last. Whether it heard anything.
+    fn answer(&mut self, heard: Heard) -> Result<bool, AllocError> {
+        match heard {
+            Heard::Idle => return Ok(false),
+            Heard::Said(reply) => self.note_reply(&reply)?,
             Heard::Closed(reply) => {
                 self.note_reply(&reply)?;
-                self.note(b"  ", b"closed")
+                self.note(b"  ", b"closed")?;
             }
             Heard::LogsIn { user, secret } => {
                 let reply = self.log_in(&user, secret.as_slice())?;
-                self.note_reply(&reply)
+                self.note_reply(&reply)?;
             }
             Heard::Fetches { number, id } => {
                 let reply = self.fetch(number, id)?;
-                self.note_reply(&reply)
+                self.note_reply(&reply)?;
             }
         }
+        Ok(true)
+    }
+
+    // The next line. Where memory was wanting, it is heard again, behind a piece of no octets.
+    fn next(&mut self) -> Result<Heard, AllocError> {
+        match self.session.next(self.alloc, &self.plan) {
+            Ok(heard) => Ok(heard),
+            Err(AllocError) => {
+                self.session.feed(b"")?;
+                self.session.next(self.alloc, &self.plan)
+            }
+        }
+    }
+
+    // Feeds a piece, and answers the lines that are then whole.
+    fn feed(&mut self, piece: &[u8]) -> Result<(), AllocError> {
+        self.session.feed(piece)?;
+        for _ in piece {
+            let heard = self.next()?;
+            if !self.answer(heard)? {
+                return Ok(());
+            }
+        }
+        Ok(())
+    }
+
+    fn say(&mut self, line: &[u8]) -> Result<(), AllocError> {
+        self.note(b"", line)?;
+        self.feed(line)?;
+        self.feed(b"\r\n")
     }
 
     // Says the lines of a table that are not indented; they lead to those that are.
     fn says(&mut self, rt: &impl Abort, table: &[u8]) -> Result<(), AllocError> {
         for line in table.split(|x| *x == b'\n') {
-            if !line.starts_with(b"  ") && !line.is_empty() {
+            if is_said(line) {
                 self.say(line)?;
             }
         }
-        assert!(rt; self.said.as_slice() == table, "{:?}", self.said);
+        has_said(rt, self, table);
         Ok(())
     }
 }
+
+fn is_said(line: &[u8]) -> bool {
+    !line.starts_with(b"  ") && !line.is_empty()
+}
+
+// What a client that hears these messages says and hears, where the lines of the table that are not
+// indented come in pieces of so many octets.
+fn says_in_pieces(
+    rt: &impl Abort,
+    alloc: Global,
+    messages: &[(u8, u32, u64, u64)],
+    table: &[u8],
+    size: usize,
+) -> Result<(), Fail>
+    requires { 0 < size }
+{
+    let mut says = Vec::new(alloc);
+    let mut wanted = Vec::new(alloc);
+    for line in table.split(|x| *x == b'\n') {
+        if is_said(line) {
+            says.extend_from_slice(line)?;
+            says.extend_from_slice(b"\r\n")?;
+        } else if !line.is_empty() {
+            wanted.extend_from_slice(line)?;
+            wanted.push(b'\n')?;
+        }
+    }
+    let mut client = Client::new(alloc, messages)?;
+    for piece in says.chunks(size) {
+        client.feed(piece)?;
+    }
+    has_said(rt, &client, &wanted);
+    Ok(())
+}
+
+const FIRST_MESSAGE: &[u8] = b"Subject: x\r\n\r\n.\r\n..\r\nx.\ry\r\nz";
 
 const ONE_MESSAGE: &[u8] = b"\
 USER alice
@@ -151,7 +220,14 @@ uidl 1
   +OK 1 1.1.1
 RETR 1
   asks for 1.1.1
-  +OK 151 octets
+  +OK 28 octets
+  Subject: x
+  
+  ..
+  ...
+  x.\ry
+  z
+  .
 LIST 0
   -ERR no such message
 LIST 2
@@ -238,6 +314,16 @@ fn shows_maildrops(rt: HostRuntime) -> Result<(), Fail> {
         (1, 3, 12, u64::MAX),
     ];
     Client::new(rt.alloc(), &three)?.says(&rt, THREE_MESSAGES)?;
+    Ok(())
+}
+
+#[test]
+fn hears_octets_in_any_pieces(rt: HostRuntime) -> Result<(), Fail> {
+    let sizes: [usize; 4] = [1, 2, 7, 100_000];
+    for size in sizes {
+        says_in_pieces(&rt, rt.alloc(), &[(1, 1, 1, 151)], ONE_MESSAGE, size.max(1))?;
+        says_in_pieces(&rt, rt.alloc(), &[], LOGINS, size.max(1))?;
+    }
     Ok(())
 }
 
@@ -334,19 +420,34 @@ fn hears_long_lines(rt: HostRuntime) -> Result<(), Fail> {
     Ok(())
 }
 
-fn says_line(rt: &impl Abort, reply: &Reply, wanted: &[u8]) {
-    let [line] = reply.lines() else {
-        panic!(rt; "not one line");
-    };
-    assert!(rt; line.as_slice() == wanted);
+fn has_said(rt: &impl Abort, client: &Client, wanted: &[u8]) {
+    assert!(rt; client.said.as_slice() == wanted, "{:?}", client.said);
+}
+
+// A line ends at CRLF alone, and none is heard before.
+#[test]
+fn waits_for_crlf(rt: HostRuntime) -> Result<(), Fail> {
+    let mut client = Client::new(rt.alloc(), &[])?;
+    client.feed(b"USER alice\n")?;
+    client.feed(b"PASS sesame\r")?;
+    client.feed(b"QUIT\r")?;
+    assert!(rt; client.said.is_empty());
+    client.feed(b"\nQU")?;
+    client.feed(b"IT\r\nSTAT")?;
+    has_said(&rt, &client, b"  -ERR bad argument\n  +OK bye\n  closed\n");
+    Ok(())
 }
 
 #[test]
-fn opens_and_goes_down(rt: HostRuntime) -> Result<(), Fail> {
-    let node = NodeNo::new(16).ok_or("no node")?;
-    let ready = Reply::ready(rt.alloc(), node, 3, 12, 1_000_000_000)?;
-    says_line(&rt, &ready, b"+OK node16 ready <3.12.1000000000@node16>");
-    let down = Reply::down(rt.alloc(), node)?;
-    says_line(&rt, &down, b"-ERR [SYS/TEMP] node16 down");
+fn refuses_a_very_long_line_once(rt: HostRuntime) -> Result<(), Fail> {
+    let mut client = Client::new(rt.alloc(), &[])?;
+    let mut long = b"USER ".to_vec(rt.alloc())?;
+    long.resize(100_000, b'x')?;
+    for piece in long.chunks(999) {
+        client.feed(piece)?;
+    }
+    assert!(rt; client.said.is_empty());
+    client.feed(b"\r\nQUIT\r\n")?;
+    has_said(&rt, &client, b"  -ERR line too long\n  +OK bye\n  closed\n");
     Ok(())
 }
