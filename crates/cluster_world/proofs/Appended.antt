@@ -9,6 +9,7 @@ use Rattle.mail_model.specs.Mail.{trace_lines}
 use Rattle.mail_model.specs.Record.Record.{Octets}
 use Rattle.mail_model.specs.Record.{Record, IsJournal, payload_of, payloads_of}
 use Rattle.mail_model.specs.Site.{HoldsRecords, copies_of, nth_id}
+use Rattle.cluster_world.proofs.Recalled.{length-frames-append, length-one-frame}
 use Rattle.cluster_world.specs.Journal.{Stands, HasGate, HoldsEither}
 use Rattle.cluster_world.specs.Appends.{RecordsStand, HoldsFront, AppendsAll, AppendsMail, Stops, Wrote, IsHead, IsUntouched, WroteMail}
 use Rattle.cluster_world.specs.declared.append.Measure.{Measure}
@@ -21,8 +22,9 @@ one_payload records entry payload spelt = ap (λ (l : List ℕ). payloads_of rec
 -- one record that was appended
 pub one_stands : (old new : Option (List ℕ)) (end end' before now : ℕ) (entry : Record) (payload : List ℕ) → payload ≡ payload_of entry
     → ((node : ℕ) (payloads : List (List ℕ)) → Stands old node payloads end → Stands new node (payloads ++ payload ∷ []) end')
-    → HasGate new end' → before ≤ now → AppendsAll old new end end' before now (entry ∷ [])
-one_stands old new end end' before now entry payload spelt appended gate later = record {
+    → HasGate new end' → before ≤ now → end' ≡ end + 5 + length payload → AppendsAll old new end end' before now (entry ∷ [])
+one_stands old new end end' before now entry payload spelt appended gate later grew = record {
+  grew = omega (arith, grew, length-one-frame entry payload spelt);
   later = later;
   gate = gate;
   stand = λ records stands. subst (λ (l : List (List ℕ)). Stands new 1 l end') (one_payload records entry payload spelt) (appended 1 (payloads_of records) stands);
@@ -73,6 +75,7 @@ one_stops old new end entry payload spelt failed = record {
 pub none_yet : (seen : Option (List ℕ)) (end faults : ℕ) → HasGate seen end → AppendsAll seen seen end end faults faults []
 none_yet seen end faults gate = record {
   later = omega arith;
+  grew = omega arith;
   gate = gate;
   stand = λ records stands. subst (λ (l : List Record). RecordsStand seen l end) (sym (append-nil records)) stands;
 }
@@ -83,6 +86,7 @@ pub appends_more : (old mid new : Option (List ℕ)) (end end' end'' before betw
 appends_more old mid new end end' end'' before between now first second a b = record {
   later = omega (arith, a.later, b.later);
   gate = b.gate;
+  grew = omega (arith, a.grew, b.grew, length-frames-append first second);
   stand = λ records stands. subst (λ (l : List Record). RecordsStand new l end'') (append_assoc records first second) (b.stand (records ++ first) (a.stand records stands));
 }
 
@@ -100,6 +104,14 @@ pub stops_more : (old mid new : Option (List ℕ)) (end end' before between : �
 stops_more old mid new end end' before between first second a b = record {
   holds = λ records stands. holds_behind new records first second (b.holds (records ++ first) (a.stand records stands));
 }
+
+holds_all : (seen : Option (List ℕ)) (records wanted : List Record) (end : ℕ) → RecordsStand seen (records ++ wanted) end → HoldsFront seen records wanted
+holds_all None records wanted end stands = record { added = wanted; missing = []; front = sym (append-nil wanted); holds = tt }
+holds_all (Some held) records wanted end stands = record { added = wanted; missing = []; front = sym (append-nil wanted); holds = stands.journal }
+
+-- all of the records are a front of them
+pub all_stop : (old new : Option (List ℕ)) (end end' before now : ℕ) (wanted : List Record) → AppendsAll old new end end' before now wanted → Stops old new end wanted
+all_stop old new end end' before now wanted a = record { holds = λ records stands. holds_all new records wanted end' (a.stand records stands) }
 
 -- a front of these is a front of more
 pub stops_before : (old new : Option (List ℕ)) (end : ℕ) (first second : List Record) → Stops old new end first → Stops old new end (first ++ second)
@@ -137,13 +149,13 @@ stops_in_copies old mid new end end' before between id stamp users i user within
     subst (λ (l : List Record). Stops old new end l) (sym (copies_split id stamp users (i + 1))) (stops_before old new end _ (copies_of id stamp (drop (i + 1) users)) through)
 
 -- the state of one user was not appended
-pub copy_failed : (old mid new : Option (List ℕ)) (end end' end'' before between now : ℕ) (id : Id) (stamp : Stamp) (users : List (List ℕ)) (i : ℕ) (user : List ℕ) (fault : DeliverFault)
+pub copy_failed : (S T : Type 0) (old mid new : Option (List ℕ)) (end end' end'' before between now : ℕ) (id : Id) (stamp : Stamp) (users : List (List ℕ)) (i : ℕ) (user : List ℕ) (fault : DeliverFault)
     → i < length users → user ≡ get_or users i user
-    → AppendsAll old mid end end' before between (copies_of id stamp (take i users)) → Wrote (Err fault) mid new end' end'' between now (copies_of id stamp (user ∷ []))
-    → Wrote (Err fault) old new end end'' before now (copies_of id stamp users)
-copy_failed old mid new end end' end'' before between now id stamp users i user Disk within is front wrote =
+    → AppendsAll old mid end end' before between (copies_of id stamp (take i users)) → Wrote {T = S} (Err fault) mid new end' end'' between now (copies_of id stamp (user ∷ []))
+    → Wrote {T = T} (Err fault) old new end end'' before now (copies_of id stamp users)
+copy_failed S T old mid new end end' end'' before between now id stamp users i user Disk within is front wrote =
     (stops_in_copies old mid new end end' before between id stamp users i user within is front wrote.0, omega (arith, front.later, wrote.1), rose_later before between now front.later wrote.2)
-copy_failed old mid new end end' end'' before between now id stamp users i user NoMemory within is front wrote =
+copy_failed S T old mid new end end' end'' before between now id stamp users i user NoMemory within is front wrote =
     (stops_in_copies old mid new end end' before between id stamp users i user within is front wrote.0, omega (arith, front.later, wrote.1))
 
 -- behind its kind and its id, a head has the trace lines
@@ -156,30 +168,31 @@ has_id mail seq head h = omega (arith, ap length h.whole)
 
 -- the message's octets were appended, and measured
 pub mail_appended : (old new : Option (List ℕ)) (end end' before now : ℕ) (mail : Mail) (seq : ℕ) (head : List ℕ) (measure : Measure) → IsHead mail seq head
-    → measure.length ≡ length (drop 14 head ++ mail.text) → measure.digest ≡ sha256 (drop 14 head ++ mail.text)
+    → measure.place.at ≡ end + 19 → measure.place.length ≡ length (drop 14 head ++ mail.text) → measure.digest ≡ sha256 (drop 14 head ++ mail.text)
     → ((entry : Record) → head ++ mail.text ≡ payload_of entry → AppendsAll old new end end' before now (entry ∷ []))
     → AppendsMail old new end end' before now mail seq measure
-mail_appended old new end end' before now mail seq head measure h size digest appends =
+mail_appended old new end end' before now mail seq head measure h at size digest appends =
     let lines = trace_lines mail (nth_id seq) h.date in
     let are : drop 14 head ≡ lines = ap (λ (l : List ℕ). drop 14 l) h.whole ∙ lines_behind seq lines in
     record {
       octets = lines ++ mail.text;
       stored = record { date = h.date; dated = h.dated; whole = refl };
+      at = at;
       size = size ∙ ap (λ (l : List ℕ). length (l ++ mail.text)) are;
       digest = digest ∙ ap (λ (l : List ℕ). sha256 (l ++ mail.text)) are;
       appends = appends (Octets (nth_id seq) (lines ++ mail.text)) (ap (λ (l : List ℕ). l ++ mail.text) h.whole);
     }
 
 -- the message's octets were not appended
-pub mail_failed : (fault : DeliverFault) (old new : Option (List ℕ)) (end end' before now : ℕ) (mail : Mail) (seq : ℕ) (head : List ℕ) → IsHead mail seq head
-    → ((entry : Record) → head ++ mail.text ≡ payload_of entry → Wrote (Err fault) old new end end' before now (entry ∷ []))
-    → (IsErrOf {T = Unit {0}} {E = DeliverFault} (Err fault) NoMemory → IsUntouched old new end end' before now)
+pub mail_failed : (T : Type 0) (fault : DeliverFault) (old new : Option (List ℕ)) (end end' before now : ℕ) (mail : Mail) (seq : ℕ) (head : List ℕ) → IsHead mail seq head
+    → ((entry : Record) → head ++ mail.text ≡ payload_of entry → Wrote {T = T} (Err fault) old new end end' before now (entry ∷ []))
+    → (IsErrOf {T = T} {E = DeliverFault} (Err fault) NoMemory → IsUntouched old new end end' before now)
     → WroteMail (Err fault) old new end end' before now mail seq
-mail_failed Disk old new end end' before now mail seq head h wrote untouched =
+mail_failed T Disk old new end end' before now mail seq head h wrote untouched =
     let octets = trace_lines mail (nth_id seq) h.date ++ mail.text in
     let failed = wrote (Octets (nth_id seq) octets) (ap (λ (l : List ℕ). l ++ mail.text) h.whole) in
     ((octets, failed.0), failed.1, failed.2)
-mail_failed NoMemory old new end end' before now mail seq head h wrote untouched = untouched refl
+mail_failed T NoMemory old new end end' before now mail seq head h wrote untouched = untouched refl
 
 -- the state of one user more was appended
 pub copy_appended : (old mid new : Option (List ℕ)) (end end' end'' before between now : ℕ) (id : Id) (stamp : Stamp) (users : List (List ℕ)) (i : ℕ) (user : List ℕ)

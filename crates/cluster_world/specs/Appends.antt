@@ -1,10 +1,10 @@
 -- Records that are appended to the journal of node 1, one after another.
-use Rattle.std.specs.Prelude.{◌≡◌, ℕ, ◌≤◌, List, [], ◌∷◌, ◌++◌, length, Option, IfSome, Result, Ok, Err}
+use Rattle.std.specs.Prelude.{◌≡◌, ℕ, ◌≤◌, List, [], ◌∷◌, ◌++◌, ◌+◌, length, flat_map, Option, IfSome, Result, Ok, Err}
 use Rattle.sha2.specs.Sha256.{sha256}
 use Rattle.io_edge.specs.Causes.{Rose}
 use Rattle.mail_model.specs.Told.{Mail}
 use Rattle.mail_model.specs.Mail.{IsDate, IsStored, trace_lines}
-use Rattle.mail_model.specs.Record.{Record, payload_of, payloads_of}
+use Rattle.mail_model.specs.Record.{Record, payload_of, payloads_of, framed}
 use Rattle.mail_model.specs.Record.Record.{Octets}
 use Rattle.mail_model.specs.Site.{HoldsRecords, nth_id}
 use Rattle.cluster_world.specs.Journal.{Stands, HasGate}
@@ -28,13 +28,14 @@ pub record AppendsAll (old new : Option (List ℕ)) (end end' before now : ℕ) 
   pub later : before ≤ now
   pub gate : HasGate new end'
   pub stand : (records : List Record) → RecordsStand old records end → RecordsStand new (records ++ wanted) end'
+  pub grew : end' ≡ end + length (flat_map framed (payloads_of wanted))
 
 -- a front of them follows those that stood
 pub record Stops (old new : Option (List ℕ)) (end : ℕ) (wanted : List Record) : Type 0 where
   pub holds : (records : List Record) → RecordsStand old records end → HoldsFront new records wanted
 
 -- what was done to the journal where these records were to be appended
-abbrev pub Wrote : Result (Unit {0}) DeliverFault → Option (List ℕ) → Option (List ℕ) → ℕ → ℕ → ℕ → ℕ → List Record → Type 0
+abbrev pub Wrote : {T : Type 0} → Result T DeliverFault → Option (List ℕ) → Option (List ℕ) → ℕ → ℕ → ℕ → ℕ → List Record → Type 0
 Wrote (Ok _) old new end end' before now wanted = AppendsAll old new end end' before now wanted
 Wrote (Err Disk) old new end end' before now wanted = Stops old new end wanted × (before ≤ now) × Rose before now
 Wrote (Err NoMemory) old new end end' before now wanted = Stops old new end wanted × (before ≤ now)
@@ -51,11 +52,12 @@ pub record IsHead (mail : Mail) (seq : ℕ) (head : List ℕ) : Type 0 where
   pub dated : IsDate 0 date
   pub whole : head ≡ payload_of (Octets (nth_id seq) (trace_lines mail (nth_id seq) date))
 
--- the message's octets were appended
+-- the message's octets were appended, behind the gate, the length, the kind and the id
 pub record AppendsMail (old new : Option (List ℕ)) (end end' before now : ℕ) (mail : Mail) (seq : ℕ) (measure : Measure) : Type 0 where
   pub octets : List ℕ
   pub stored : IsStored mail (nth_id seq) 0 octets
-  pub size : measure.length ≡ length octets
+  pub at : measure.place.at ≡ end + 19
+  pub size : measure.place.length ≡ length octets
   pub digest : measure.digest ≡ sha256 octets
   pub appends : AppendsAll old new end end' before now (Octets (nth_id seq) octets ∷ [])
 

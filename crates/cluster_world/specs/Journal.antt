@@ -1,5 +1,5 @@
 -- A journal that stands on a disk, and what an append leaves of it.
-use Rattle.std.specs.Prelude.{◌≡◌, ◌⊎◌, ℕ, ◌<◌, ◌≤◌, List, [], ◌∷◌, ◌++◌, length, Option, IfSome, Result, Ok, Err}
+use Rattle.std.specs.Prelude.{◌≡◌, ◌⊎◌, ℕ, ◌+◌, ◌<◌, ◌≤◌, List, [], ◌∷◌, ◌++◌, length, is_some, Option, IfSome, Result, Ok, Err}
 use Rattle.std.specs.Int.{to_be_bytes, w32}
 use Rattle.io_edge.specs.Causes.{Rose}
 use Rattle.mail_model.specs.Record.{IsJournal, journal_of}
@@ -10,6 +10,10 @@ use Rattle.cluster_world.specs.declared.journal.JournalFault.TheVariants.{DiskFa
 -- the place of the closed gate that ends the journal
 abbrev pub end_of : Journal → ℕ
 end_of journal = journal.end
+
+-- whether the octets are told has not changed
+abbrev pub IsToldAlike : Option (List ℕ) → Option (List ℕ) → Type 0
+IsToldAlike old new = is_some new ≡ is_some old
 
 -- the octets are told, and reach past the closed gate's place
 abbrev pub HasGate : Option (List ℕ) → ℕ → Type 0
@@ -46,9 +50,9 @@ abbrev pub Gated : {T E : Type 0} → Result T E → Option (List ℕ) → ℕ �
 Gated (Ok _) seen node payloads payload end = Stands seen node (payloads ++ payload ∷ []) end
 Gated (Err _) seen node payloads payload end = HoldsEither seen node payloads payload
 
--- what a creation leaves: a journal with no payload, or nothing where memory was wanting
+-- what a creation leaves: a journal of 16 octets with no payload, or nothing where memory was wanting
 abbrev pub Created : Result Journal JournalFault → Option (List ℕ) → Option (List ℕ) → ℕ → ℕ → ℕ → Type 0
-Created (Ok journal) old new node before now = Stands new node [] (end_of journal) × HasGate new (end_of journal) × (before ≤ now)
+Created (Ok journal) old new node before now = Stands new node [] (end_of journal) × HasGate new (end_of journal) × (before ≤ now) × (end_of journal ≡ 16)
 Created (Err DiskFault) old new node before now = Rose before now
 Created (Err NotAJournal) old new node before now = ⊥
 Created (Err TooLarge) old new node before now = ⊥
@@ -60,7 +64,7 @@ largest = 16_842_752
 
 -- When an append is refused, and what a refusal leaves: only want of memory and a payload that is too large leave all as it was.
 abbrev pub Refuses : {T : Type 0} → Result T JournalFault → ℕ → Option (List ℕ) → Option (List ℕ) → ℕ → ℕ → ℕ → ℕ → Type 0
-Refuses (Ok _) size old new end end' before now = (size ≤ largest) × HasGate new end' × (before ≤ now)
+Refuses (Ok _) size old new end end' before now = (size ≤ largest) × HasGate new end' × (before ≤ now) × (end' ≡ end + 5 + size)
 Refuses (Err DiskFault) size old new end end' before now = (size ≤ largest) × (before ≤ now) × Rose before now
 Refuses (Err NotAJournal) size old new end end' before now = ⊥
 Refuses (Err TooLarge) size old new end end' before now = (largest < size) × (new ≡ old) × (end' ≡ end) × (now ≡ before)

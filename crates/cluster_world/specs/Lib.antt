@@ -1,8 +1,13 @@
 pub mod Appends
 pub mod Books
+pub mod Completes
+pub mod Fits
+pub mod Found
 pub mod Heads
+pub mod Index
 pub mod Journal
 pub mod Opens
+pub mod Reads
 pub mod Steps
 pub mod Trace
 pub mod World

@@ -1,8 +1,7 @@
 -- What each step of a world of one node does, and when it is refused.
-use Rattle.std.specs.Prelude.{◌≡◌, ◌≢◌, ℕ, ◌+◌, ◌-◌, ◌^◌, ◌<◌, ◌≤◌, IsTrue, IsFalse, List, [], ◌∷◌, ◌++◌, length, map, All, ⊤, Option, Some, None, Result, Ok, Err}
+use Rattle.std.specs.Prelude.{◌≡◌, ◌≢◌, ◌⊎◌, ℕ, ◌+◌, ◌-◌, ◌^◌, ◌<◌, ◌≤◌, IsTrue, IsFalse, List, [], ◌∷◌, ◌++◌, length, map, All, ⊤, Option, Some, None, Result, Ok, Err}
 use Rattle.sha2.specs.Sha256.{sha256}
 use Rattle.io_edge.specs.Causes.{Rose}
-use Rattle.mail_model.specs.Identity.{Id}
 use Rattle.mail_model.specs.Told.{Mail}
 use Rattle.mail_model.specs.Mail.{IsStored}
 use Rattle.mail_model.specs.Record.{Record}
@@ -11,22 +10,31 @@ use Rattle.mail_model.specs.Book.BookEntry.{Acknowledged, WentDown}
 use Rattle.mail_model.specs.Site.{message_records, nth_id, nth_stamp}
 use Rattle.mail_base.specs.Delivers.{mail_in}
 use Rattle.mail_base.specs.declared.ticket.Ticket.{Ticket}
-use Rattle.cluster_world.specs.World.{plan_of, is_up, drawn_of, disk_of, gate_of, book_of, standing_of, ShowsGate, WorldHolds, Falls}
+use Rattle.cluster_world.specs.World.{plan_of, is_up, drawn_of, tickets_of, disk_of, gate_of, book_of, standing_of, ShowsGate, WorldHolds, Fits, Falls}
+use Rattle.cluster_world.specs.Found.{FindsLogin, FindsPart}
 use Rattle.cluster_world.specs.declared.world.World.{World}
-use Rattle.cluster_world.specs.declared.step.Call.TheVariants as call
+use Rattle.cluster_world.specs.declared.step.Call.{Call}
+use Rattle.cluster_world.specs.declared.step.Call.TheVariants.{Deliver, Login, Fetch, Leave}
 use Rattle.cluster_world.specs.declared.step.Step.{Step}
 use Rattle.cluster_world.specs.declared.step.Step.TheVariants.{Begin, Ask}
+use Rattle.cluster_world.specs.declared.step.Answer.{Answer}
 use Rattle.cluster_world.specs.declared.step.Answer.TheVariants.{Stored}
 use Rattle.cluster_world.specs.declared.step.Said.{Said}
-use Rattle.cluster_world.specs.declared.step.Said.TheVariants.{Begun, Asked, Faulted}
+use Rattle.cluster_world.specs.declared.step.Said.TheVariants.{Begun, Noted, Asked, Faulted}
 use Rattle.cluster_world.specs.declared.step.StepFault.{StepFault}
 use Rattle.cluster_world.specs.declared.step.StepFault.TheVariants.{NoSuchNode, NodeDown, NoSuchTicket, Worn, NoMemory}
 use Rattle.cluster_world.specs.declared.step.Filing.{Filing}
+use Rattle.cluster_world.specs.declared.step.Pending.{Pending}
+use Rattle.cluster_world.specs.declared.step.Pending.TheVariants.{Filed, Found}
 use Rattle.cluster_world.specs.declared.step.Standing.{Standing}
 
--- the ticket of the n-th call of node 1 in its first boot
+-- the n-th ticket of node 1 in its first boot
 abbrev pub nth_ticket : ℕ → Ticket
 nth_ticket n = record { node = 1; boot = 1; seq = n }
+
+-- the last number that there is
+abbrev pub last_number : ℕ
+last_number = 2 ^ 64 - 1
 
 -- the filing of the n-th message, by its octets
 abbrev pub nth_filing : ℕ → List ℕ → List (List ℕ) → Filing
@@ -37,32 +45,53 @@ abbrev pub entries_for : Filing → ℕ → List BookEntry
 entries_for filing confirmers =
     map (λ user. Acknowledged (record { user = user; id = filing.id; seconds = filing.seconds; size = filing.length; digest = filing.digest; confirmers = confirmers })) filing.users
 
+-- a call in progress
+abbrev pub call_of : Ticket → Pending → Standing
+call_of ticket pending = record { ticket = ticket; pending = pending }
+
 -- nothing that tells of the world has changed
 pub record IsAsBefore {D : Type 0} (seen : D → Option (List ℕ)) (faults : D → ℕ) (old new : World D) : Type 0 where
   pub plan : plan_of new ≡ plan_of old
   pub up : is_up new ≡ is_up old
   pub drawn : drawn_of new ≡ drawn_of old
+  pub tickets : tickets_of new ≡ tickets_of old
   pub standing : standing_of new ≡ standing_of old
   pub book : book_of new ≡ book_of old
   pub octets : seen (disk_of new) ≡ seen (disk_of old)
   pub gate : gate_of new ≡ gate_of old
   pub count : faults (disk_of new) ≡ faults (disk_of old)
+  pub fits : (records : List Record) → Fits records old → Fits records new
 
--- The node has gone down: a front of the message's records is on its disk, its calls are gone, and the book says that it is down.
+-- The node has gone down as a message was filed: a front of the message's records is on its disk, its calls are gone, and the book says that it is down.
 pub record GoesDown {D : Type 0} (seen : D → Option (List ℕ)) (faults : D → ℕ) (mail : Mail) (old new : World D) : Type 0 where
   pub plan : plan_of new ≡ plan_of old
   pub down : IsFalse (is_up new)
   pub drawn : drawn_of new ≡ drawn_of old + 1
+  pub tickets : tickets_of new ≡ tickets_of old
   pub standing : standing_of new ≡ []
   pub book : book_of new ≡ book_of old ++ WentDown 1 ∷ []
   pub falls : Falls seen mail old new
   pub later : faults (disk_of old) ≤ faults (disk_of new)
 
--- The delivery has begun: the message is on the disk, and the ticket stands with its filing.
+-- The node has gone down as it read: nothing was written, its calls are gone, and the book says that it is down.
+pub record StopsReading {D : Type 0} (seen : D → Option (List ℕ)) (faults : D → ℕ) (old new : World D) : Type 0 where
+  pub plan : plan_of new ≡ plan_of old
+  pub down : IsFalse (is_up new)
+  pub drawn : drawn_of new ≡ drawn_of old
+  pub tickets : tickets_of new ≡ tickets_of old
+  pub standing : standing_of new ≡ []
+  pub book : book_of new ≡ book_of old ++ WentDown 1 ∷ []
+  pub octets : seen (disk_of new) ≡ seen (disk_of old)
+  pub gate : gate_of new ≡ gate_of old
+  pub fits : (records : List Record) → Fits records old → Fits records new
+  pub later : faults (disk_of old) ≤ faults (disk_of new)
+
+-- The delivery has begun: the message is on the disk and in memory, and the ticket stands with its filing.
 pub record Takes {D : Type 0} (seen : D → Option (List ℕ)) (faults : D → ℕ) (mail : Mail) (ticket : Ticket) (old new : World D) : Type 0 where
   pub plan : plan_of new ≡ plan_of old
   pub up : IsTrue (is_up new)
   pub drawn : drawn_of new ≡ drawn_of old + 1
+  pub tickets : tickets_of new ≡ tickets_of old + 1
   pub book : book_of new ≡ book_of old
   pub later : faults (disk_of old) ≤ faults (disk_of new)
   pub gate : ShowsGate seen new
@@ -70,46 +99,124 @@ pub record Takes {D : Type 0} (seen : D → Option (List ℕ)) (faults : D → �
   pub stored : IsStored mail (nth_id (drawn_of old + 1)) 0 octets
   pub holds : (records : List Record) → WorldHolds seen records old
       → WorldHolds seen (records ++ message_records (nth_id (drawn_of old + 1)) (nth_stamp (drawn_of old + 1)) octets mail.mailboxes) new
-  pub ticket_is : ticket ≡ nth_ticket (drawn_of old + 1)
-  pub standing : standing_of new ≡ standing_of old ++ record { ticket = ticket; filing = nth_filing (drawn_of old + 1) octets mail.mailboxes } ∷ []
+  pub fits : (records : List Record) → Fits records old
+      → Fits (records ++ message_records (nth_id (drawn_of old + 1)) (nth_stamp (drawn_of old + 1)) octets mail.mailboxes) new
+  pub ticket_is : ticket ≡ nth_ticket (tickets_of old + 1)
+  pub standing : standing_of new ≡ standing_of old ++ call_of ticket (Filed (nth_filing (drawn_of old + 1) octets mail.mailboxes)) ∷ []
 
--- The call is done: its ticket stands no more, and the book has an entry for each of the message's users.
-pub record Acknowledges {D : Type 0} (seen : D → Option (List ℕ)) (ticket : Ticket) (id : Id) (confirmers : ℕ) (old new : World D) : Type 0 where
+-- The reading has begun and is done: nothing was written, and the ticket stands with this answer.
+pub record Finds {D : Type 0} (seen : D → Option (List ℕ)) (faults : D → ℕ) (ticket : Ticket) (answer : Answer) (old new : World D) : Type 0 where
+  pub plan : plan_of new ≡ plan_of old
+  pub up : IsTrue (is_up new)
+  pub drawn : drawn_of new ≡ drawn_of old
+  pub tickets : tickets_of new ≡ tickets_of old + 1
+  pub book : book_of new ≡ book_of old
+  pub octets : seen (disk_of new) ≡ seen (disk_of old)
+  pub gate : gate_of new ≡ gate_of old
+  pub fits : (records : List Record) → Fits records old → Fits records new
+  pub later : faults (disk_of old) ≤ faults (disk_of new)
+  pub ticket_is : ticket ≡ nth_ticket (tickets_of old + 1)
+  pub standing : standing_of new ≡ standing_of old ++ call_of ticket (Found answer) ∷ []
+
+-- what a call has begun that has this ticket
+abbrev pub HasBegun : {D : Type 0} → (D → Option (List ℕ)) → (D → ℕ) → Call → Ticket → World D → World D → Type 0
+HasBegun seen faults (Deliver deliver) ticket old new = Takes seen faults (mail_in deliver) ticket old new
+HasBegun seen faults (Login user proof) ticket old new =
+    (answer : Answer) × Finds seen faults ticket answer old new × FindsLogin answer user proof ticket old × (disk_of new ≡ disk_of old)
+HasBegun seen faults (Fetch user id holders start most) ticket old new =
+    (answer : Answer) × Finds seen faults ticket answer old new × FindsPart seen answer user id start most old
+HasBegun seen faults (Leave user login manager) ticket old new = ⊥
+
+-- the call is only noted
+abbrev pub IsNoted : Call → Type 0
+IsNoted (Deliver deliver) = ⊥
+IsNoted (Login user proof) = ⊥
+IsNoted (Fetch user id holders start most) = ⊥
+IsNoted (Leave user login manager) = ⊤
+
+-- the node has a number left for each that the call draws: its ticket, and the id of a message
+abbrev pub HasNumbers : {D : Type 0} → Call → World D → Type 0
+HasNumbers (Deliver deliver) world = (drawn_of world < last_number) × (tickets_of world < last_number)
+HasNumbers (Login user proof) world = tickets_of world < last_number
+HasNumbers (Fetch user id holders start most) world = tickets_of world < last_number
+HasNumbers (Leave user login manager) world = ⊤
+
+-- The disk failed in this call; or it does not tell its octets, and gave fewer than it had been given. It is never asked at a login.
+abbrev pub HasMishap : {D : Type 0} → (D → Option (List ℕ)) → (D → ℕ) → Call → World D → World D → Type 0
+HasMishap seen faults (Deliver deliver) old new = Rose (faults (disk_of old)) (faults (disk_of new))
+HasMishap seen faults (Login user proof) old new = ⊥
+HasMishap seen faults (Fetch user id holders start most) old new = Rose (faults (disk_of old)) (faults (disk_of new)) ⊎ (seen (disk_of old) ≡ None)
+HasMishap seen faults (Leave user login manager) old new = ⊥
+
+-- what stands on the disk and in memory is what some records say
+pub record IsSound {D : Type 0} (seen : D → Option (List ℕ)) (world : World D) : Type 0 where
+  pub records : List Record
+  pub fits : Fits records world
+  pub holds : WorldHolds seen records world
+
+-- the node went down in the call
+abbrev pub HasFallen : {D : Type 0} → (D → Option (List ℕ)) → (D → ℕ) → Call → World D → World D → Type 0
+HasFallen seen faults (Deliver deliver) old new = GoesDown seen faults (mail_in deliver) old new
+HasFallen seen faults (Login user proof) old new = ⊥
+HasFallen seen faults (Fetch user id holders start most) old new = StopsReading seen faults old new
+HasFallen seen faults (Leave user login manager) old new = ⊥
+
+-- memory ran out in the call, and the node is down
+abbrev pub HasBrokenOff : {D : Type 0} → (D → Option (List ℕ)) → (D → ℕ) → Call → World D → World D → Type 0
+HasBrokenOff seen faults (Deliver deliver) old new = GoesDown seen faults (mail_in deliver) old new
+HasBrokenOff seen faults (Login user proof) old new = ⊥
+HasBrokenOff seen faults (Fetch user id holders start most) old new = ⊥
+HasBrokenOff seen faults (Leave user login manager) old new = ⊥
+
+-- what the beginning of a call at a node does
+abbrev pub BeginDid : {D : Type 0} → (D → Option (List ℕ)) → (D → ℕ) → Result Said StepFault → ℕ → Call → World D → World D → Type 0
+BeginDid seen faults (Ok (Begun ticket)) node call old new = (node ≤ (plan_of old).nodes) × IsTrue (is_up old) × HasBegun seen faults call ticket old new
+BeginDid seen faults (Ok Noted) node call old new = (node ≤ (plan_of old).nodes) × IsTrue (is_up old) × IsNoted call × (new ≡ old)
+BeginDid seen faults (Ok (Asked answer)) node call old new = ⊥
+BeginDid seen faults (Ok (Faulted failed)) node call old new =
+    (node ≤ (plan_of old).nodes) × IsTrue (is_up old) × (failed ≡ 1) × HasFallen seen faults call old new × (IsSound seen old → HasMishap seen faults call old new)
+BeginDid seen faults (Err NoSuchNode) node call old new = ((plan_of old).nodes < node) × (new ≡ old)
+BeginDid seen faults (Err NodeDown) node call old new = (node ≤ (plan_of old).nodes) × IsFalse (is_up old) × (new ≡ old)
+BeginDid seen faults (Err NoSuchTicket) node call old new = ⊥
+BeginDid seen faults (Err Worn) node call old new = (node ≤ (plan_of old).nodes) × IsTrue (is_up old) × (HasNumbers call old → ⊥) × (new ≡ old)
+BeginDid seen faults (Err (NoMemory None)) node call old new = IsTrue (is_up old) × IsAsBefore seen faults old new
+BeginDid seen faults (Err (NoMemory (Some failed))) node call old new = (failed ≡ 1) × IsTrue (is_up old) × HasBrokenOff seen faults call old new
+
+-- what became of a call in progress, and what it adds to the book: a message is acknowledged to each of its users, and what was found is handed out
+abbrev pub Settles : Pending → Answer → List BookEntry → List BookEntry → Type 0
+Settles (Filed filing) answer old new = (answer ≡ Stored filing.id 1) × (new ≡ old ++ entries_for filing 1)
+Settles (Found found) answer old new = (answer ≡ found) × (new ≡ old)
+
+-- how many entries a call in progress adds to the book
+abbrev pub entries_in : Pending → ℕ
+entries_in (Filed filing) = length filing.users
+entries_in (Found answer) = 0
+
+-- The call is done: its ticket stands no more, and the other calls stand as before.
+pub record IsAnswered {D : Type 0} (ticket : Ticket) (answer : Answer) (old new : World D) : Type 0 where
   pub plan : plan_of new ≡ plan_of old
   pub up : is_up new ≡ is_up old
   pub drawn : drawn_of new ≡ drawn_of old
+  pub tickets : tickets_of new ≡ tickets_of old
   pub disk : disk_of new ≡ disk_of old
   pub gate : gate_of new ≡ gate_of old
-  pub filing : Filing
+  pub fits : (records : List Record) → Fits records old → Fits records new
+  pub pending : Pending
   pub before : List Standing
   pub behind : List Standing
-  pub stood : standing_of old ≡ before ++ record { ticket = ticket; filing = filing } ∷ behind
+  pub stood : standing_of old ≡ before ++ call_of ticket pending ∷ behind
   pub stands : standing_of new ≡ before ++ behind
-  pub id_is : id ≡ filing.id
-  pub by_node_1 : confirmers ≡ 1
-  pub book : book_of new ≡ book_of old ++ entries_for filing confirmers
+  pub settles : Settles pending answer (book_of old) (book_of new)
 
 -- no call in progress has this ticket
 abbrev pub StandsNot : {D : Type 0} → Ticket → World D → Type 0
 StandsNot ticket world = All (λ standing. standing.ticket ≢ ticket) (standing_of world)
 
--- what the beginning of a delivery at a node does
-abbrev pub BeginDid : {D : Type 0} → (D → Option (List ℕ)) → (D → ℕ) → Result Said StepFault → ℕ → Mail → World D → World D → Type 0
-BeginDid seen faults (Ok (Begun ticket)) node mail old new = (node ≤ (plan_of old).nodes) × IsTrue (is_up old) × Takes seen faults mail ticket old new
-BeginDid seen faults (Ok (Asked answer)) node mail old new = ⊥
-BeginDid seen faults (Ok (Faulted failed)) node mail old new =
-    (node ≤ (plan_of old).nodes) × IsTrue (is_up old) × (failed ≡ 1) × Rose (faults (disk_of old)) (faults (disk_of new)) × GoesDown seen faults mail old new
-BeginDid seen faults (Err NoSuchNode) node mail old new = ((plan_of old).nodes < node) × (new ≡ old)
-BeginDid seen faults (Err NodeDown) node mail old new = (node ≤ (plan_of old).nodes) × IsFalse (is_up old) × (new ≡ old)
-BeginDid seen faults (Err NoSuchTicket) node mail old new = ⊥
-BeginDid seen faults (Err Worn) node mail old new = (node ≤ (plan_of old).nodes) × IsTrue (is_up old) × (drawn_of old ≡ 2 ^ 64 - 1) × (new ≡ old)
-BeginDid seen faults (Err (NoMemory None)) node mail old new = IsTrue (is_up old) × IsAsBefore seen faults old new
-BeginDid seen faults (Err (NoMemory (Some failed))) node mail old new = (failed ≡ 1) × IsTrue (is_up old) × GoesDown seen faults mail old new
-
 -- what an ask does
 abbrev pub AskDid : {D : Type 0} → (D → Option (List ℕ)) → (D → ℕ) → Result Said StepFault → Ticket → World D → World D → Type 0
 AskDid seen faults (Ok (Begun begun)) ticket old new = ⊥
-AskDid seen faults (Ok (Asked (Stored id confirmers))) ticket old new = IsTrue (is_up old) × Acknowledges seen ticket id confirmers old new
+AskDid seen faults (Ok Noted) ticket old new = ⊥
+AskDid seen faults (Ok (Asked answer)) ticket old new = IsTrue (is_up old) × IsAnswered ticket answer old new
 AskDid seen faults (Ok (Faulted failed)) ticket old new = ⊥
 AskDid seen faults (Err NoSuchNode) ticket old new = ((plan_of old).nodes < ticket.node) × (new ≡ old)
 AskDid seen faults (Err NodeDown) ticket old new = (ticket.node ≤ (plan_of old).nodes) × IsFalse (is_up old) × (new ≡ old)
@@ -120,40 +227,5 @@ AskDid seen faults (Err (NoMemory (Some failed))) ticket old new = ⊥
 
 -- what a step does
 abbrev pub Stepped : {D : Type 0} → (D → Option (List ℕ)) → (D → ℕ) → Result Said StepFault → Step → World D → World D → Type 0
-Stepped seen faults result (Begin node (call.Deliver deliver)) old new = BeginDid seen faults result node (mail_in deliver) old new
+Stepped seen faults result (Begin node call) old new = BeginDid seen faults result node call old new
 Stepped seen faults result (Ask ticket) old new = AskDid seen faults result ticket old new
-
--- the delivery has begun, or memory was wanting
-abbrev pub IsBegun : Result Said StepFault → Type 0
-IsBegun (Ok (Begun ticket)) = ⊤
-IsBegun (Ok (Asked answer)) = ⊥
-IsBegun (Ok (Faulted failed)) = ⊥
-IsBegun (Err NoSuchNode) = ⊥
-IsBegun (Err NodeDown) = ⊥
-IsBegun (Err NoSuchTicket) = ⊥
-IsBegun (Err Worn) = ⊥
-IsBegun (Err (NoMemory down)) = ⊤
-
--- the message is stored, or memory was wanting
-abbrev pub IsStoredAnswer : Result Said StepFault → Type 0
-IsStoredAnswer (Ok (Begun ticket)) = ⊥
-IsStoredAnswer (Ok (Asked (Stored id confirmers))) = ⊤
-IsStoredAnswer (Ok (Faulted failed)) = ⊥
-IsStoredAnswer (Err NoSuchNode) = ⊥
-IsStoredAnswer (Err NodeDown) = ⊥
-IsStoredAnswer (Err NoSuchTicket) = ⊥
-IsStoredAnswer (Err Worn) = ⊥
-IsStoredAnswer (Err (NoMemory down)) = ⊤
-
--- A delivery at a node that is up and has a number left begins where the disk does not fail, and is stored where it is asked for; want of memory alone is in the way.
-abbrev pub Completes : {D : Type 0} → (D → ℕ) → Result Said StepFault → Step → World D → World D → Type 0
-Completes faults result (Begin node (call.Deliver deliver)) old new =
-    node ≤ (plan_of old).nodes → IsTrue (is_up old) → drawn_of old < 2 ^ 64 - 1 → (Rose (faults (disk_of old)) (faults (disk_of new)) → ⊥) → IsBegun result
-Completes faults result (Ask ticket) old new =
-    ticket.node ≤ (plan_of old).nodes → IsTrue (is_up old) → (StandsNot ticket old → ⊥) → IsStoredAnswer result
-
--- A step that was made leaves the disk settled: a message that was begun stands whatever happens, and an ask writes nothing.
-abbrev pub SettledBy : {D : Type 0} → (D → Type 0) → Said → World D → World D → Type 0
-SettledBy settled (Begun ticket) old new = settled (disk_of new)
-SettledBy settled (Asked answer) old new = settled (disk_of old) → settled (disk_of new)
-SettledBy settled (Faulted failed) old new = ⊤

@@ -9,11 +9,14 @@ use Rattle.mail_model.specs.Record.{Record}
 use Rattle.mail_model.specs.Book.{BookEntry}
 use Rattle.mail_model.specs.Record.Record.{Boot}
 use Rattle.mail_model.specs.Site.{message_records, nth_id, nth_stamp}
-use Rattle.cluster_world.specs.Journal.{HasGate, end_of}
+use Rattle.cluster_world.specs.Journal.{HasGate, IsToldAlike, end_of}
+use Rattle.cluster_world.specs.Index.{kept_in}
+use Rattle.cluster_world.specs.Fits.{Recalls}
 use Rattle.cluster_world.specs.Appends.{RecordsStand, HoldsFront}
 use Rattle.cluster_world.specs.Books.{told_by}
 use Rattle.cluster_world.specs.Opens.{BeginFails}
 use Rattle.cluster_world.specs.declared.world.World.{World}
+use Rattle.cluster_world.specs.declared.index.Kept.{Kept}
 use Rattle.cluster_world.specs.declared.append.Measure.{Measure}
 use Rattle.cluster_world.specs.declared.step.Standing.{Standing}
 use Rattle.cluster_world.specs.declared.append.DeliverFault.{DeliverFault}
@@ -27,9 +30,13 @@ plan_of world = world.plan
 abbrev pub is_up : {D : Type 0} → World D → Bool
 is_up world = world.up
 
--- how many sequence numbers were drawn
+-- how many ids of messages were drawn
 abbrev pub drawn_of : {D : Type 0} → World D → ℕ
 drawn_of world = world.drawn
+
+-- how many tickets were drawn
+abbrev pub tickets_of : {D : Type 0} → World D → ℕ
+tickets_of world = world.tickets
 
 -- the calls in progress, in the order in which they began
 abbrev pub standing_of : {D : Type 0} → World D → List Standing
@@ -46,6 +53,14 @@ disk_of world = world.disk
 abbrev pub gate_of : {D : Type 0} → World D → ℕ
 gate_of world = end_of world.journal
 
+-- the user's messages as the world has them in memory, in the order in which they came
+abbrev pub kept_of : {D : Type 0} → List ℕ → World D → List Kept
+kept_of user world = kept_in user world.index
+
+-- what the world has in memory is what these records say
+abbrev pub Fits : {D : Type 0} → List Record → World D → Type 0
+Fits records world = Recalls records (gate_of world) (drawn_of world) (λ user. kept_of user world)
+
 -- the disk tells its octets, and they reach past the closed gate's place
 abbrev pub ShowsGate : {D : Type 0} → (D → Option (List ℕ)) → World D → Type 0
 ShowsGate seen world = HasGate (seen (disk_of world)) (gate_of world)
@@ -59,27 +74,36 @@ pub record Begins {D : Type 0} (seen : D → Option (List ℕ)) (plan : Plan) (w
   pub plan_is : plan_of world ≡ plan
   pub up : IsTrue (is_up world)
   pub drawn : drawn_of world ≡ 0
+  pub tickets : tickets_of world ≡ 0
   pub standing : standing_of world ≡ []
   pub book : book_of world ≡ []
   pub gate : ShowsGate seen world
   pub holds : WorldHolds seen (Boot 1 ∷ []) world
+  pub fits : Fits (Boot 1 ∷ []) world
+
+-- whether the disk of a world that was opened, or that is handed back, tells its octets has not changed
+abbrev pub OpenedAlike : {D : Type 0} → (D → Option (List ℕ)) → Result (World D) (OpenFault × D) → D → Type 0
+OpenedAlike seen (Ok world) disk = IsToldAlike (seen disk) (seen (disk_of world))
+OpenedAlike seen (Err refused) disk = IsToldAlike (seen disk) (seen refused.1)
 
 -- a world was opened, or its disk is handed back with the reason
 abbrev pub Opened : {D : Type 0} → (D → Option (List ℕ)) → (D → ℕ) → Result (World D) (OpenFault × D) → Plan → D → Type 0
 Opened seen faults (Ok world) plan disk = Begins seen plan world × (faults disk ≤ faults (disk_of world))
 Opened seen faults (Err refused) plan disk = BeginFails refused.0 (faults disk) (faults refused.1)
 
--- The message is on the disk: its octets, and a state for each of its mailboxes.
+-- The message is on the disk, its octets and a state for each of its mailboxes; and in memory it is listed for each of them.
 pub record Files {D : Type 0} (seen : D → Option (List ℕ)) (mail : Mail) (measure : Measure) (old new : World D) : Type 0 where
   pub drawn : drawn_of new ≡ drawn_of old + 1
   pub up : IsTrue (is_up new)
   pub gate : ShowsGate seen new
   pub octets : List ℕ
   pub stored : IsStored mail (nth_id (drawn_of old + 1)) 0 octets
-  pub size : measure.length ≡ length octets
+  pub size : measure.place.length ≡ length octets
   pub digest : measure.digest ≡ sha256 octets
   pub holds : (records : List Record) → WorldHolds seen records old
       → WorldHolds seen (records ++ message_records (nth_id (drawn_of old + 1)) (nth_stamp (drawn_of old + 1)) octets mail.mailboxes) new
+  pub fits : (records : List Record) → Fits records old
+      → Fits (records ++ message_records (nth_id (drawn_of old + 1)) (nth_stamp (drawn_of old + 1)) octets mail.mailboxes) new
 
 -- some of the message's records are on the disk behind those that were there
 pub record HoldsSome {D : Type 0} (seen : D → Option (List ℕ)) (mail : Mail) (records : List Record) (old new : World D) : Type 0 where
@@ -97,6 +121,7 @@ pub record IsUnwritten {D : Type 0} (seen : D → Option (List ℕ)) (faults : D
   pub octets : seen (disk_of new) ≡ seen (disk_of old)
   pub gate : gate_of new ≡ gate_of old
   pub count : faults (disk_of new) ≡ faults (disk_of old)
+  pub kept : (user : List ℕ) → kept_of user new ≡ kept_of user old
 
 -- a front of the message's records may be there, and the node is down
 pub record Breaks {D : Type 0} (seen : D → Option (List ℕ)) (faults : D → ℕ) (mail : Mail) (old new : World D) : Type 0 where

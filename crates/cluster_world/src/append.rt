@@ -1,13 +1,16 @@
 //! What a message puts on the disk: its octets, and a state for each of its users.
-ghost use Rattle.std.specs.Prelude.{◌≡◌, ◌+◌, ◌≤◌, ◌<◌, ◌++◌, ◌∷◌, [], length, drop, IfOk, OnOk, IsErrOf};
+ghost use Rattle.std.specs.Prelude.{◌≡◌, ◌+◌, ◌≤◌, ◌<◌, ◌++◌, ◌∷◌, [], List, ℕ, length, drop, IfOk, OnOk, IsErrOf};
 ghost use Rattle.sha2.specs.Sha256.{sha256};
 ghost use Rattle.mail_model.specs.Record.{Record, payload_of};
 ghost use Rattle.mail_model.specs.Site.{copies_of, nth_id, nth_stamp};
 ghost use Rattle.mail_base.specs.Delivers.{mail_in, IsWithinLimits};
-ghost use Rattle.cluster_world.specs.Journal.{HasGate, end_of, largest};
+ghost use Rattle.cluster_world.specs.Index.{kept_in, added_for};
+ghost use Rattle.cluster_world.specs.Journal.{HasGate, IsToldAlike, end_of, largest};
 ghost use Rattle.cluster_world.specs.Appends.{Wrote, IsUntouched, IsHead, WroteMail};
 
+use crate::index::{Index, Kept};
 use crate::journal::{Journal, JournalFault};
+use crate::place::Place;
 use crate::record::{here_payload, octets_head};
 use crate::trace::{Trace, trace_into};
 use io_edge::Disk;
@@ -57,7 +60,7 @@ fn append_record<D: Disk>(
     disk: &mut D,
     head: &[u8],
     body: &[u8],
-) -> Result<(), DeliverFault>
+) -> Result<Place, DeliverFault>
     requires gate { HasGate (D.seen disk.old) (end_of journal.old) }
     requires short { length head.now + length body.now ≤ largest }
     ensures wrote { (entry : Record) → head.now ++ body.now ≡ payload_of entry
@@ -67,9 +70,11 @@ fn append_record<D: Disk>(
     ensures untouched { IsErrOf result DeliverFault.NoMemory
         → IsUntouched (D.seen disk.old) (D.seen disk.new) (end_of journal.old) (end_of journal.new)
         (D.faults disk.old) (D.faults disk.new) }
+    ensures placed { IfOk result (λ place. (place.at ≡ end_of journal.old + 5) × (place.length ≡ length head.now + length body.now)) }
+    ensures told { IsToldAlike (D.seen disk.old) (D.seen disk.new) }
 {
     match journal.append(alloc, disk, head, body) {
-        Ok(()) => return Ok(()),
+        Ok(place) => return Ok(place),
         Err(JournalFault::DiskFault) => return Err(DeliverFault::Disk),
         Err(JournalFault::NoMemory) => return Err(DeliverFault::NoMemory),
         // The payload is short enough, and an append reads no header.
@@ -85,12 +90,13 @@ fn append_copy<D: Disk>(
     disk: &mut D,
     user: &Name,
     seq: u64,
-) -> Result<(), DeliverFault>
+) -> Result<Place, DeliverFault>
     requires gate { HasGate (D.seen disk.old) (end_of journal.old) }
     requires drawn { 0 < seq }
     ensures wrote { Wrote result (D.seen disk.old) (D.seen disk.new) (end_of journal.old) (end_of journal.new)
         (D.faults disk.old) (D.faults disk.new) (copies_of (nth_id seq) (nth_stamp seq) (user.now ∷ [])) }
     ensures settled { OnOk result (D.settled disk.new) }
+    ensures told { IsToldAlike (D.seen disk.old) (D.seen disk.new) }
 {
     let Ok(payload) = here_payload(alloc, user, id_of(seq), Stamp::new(seq, 1, 1), 1) else {
         return Err(DeliverFault::NoMemory);
@@ -111,6 +117,7 @@ pub(crate) fn append_copies<D: Disk>(
     ensures wrote { Wrote result (D.seen disk.old) (D.seen disk.new) (end_of journal.old) (end_of journal.new)
         (D.faults disk.old) (D.faults disk.new) (copies_of (nth_id seq) (nth_stamp seq) users.now) }
     ensures settled { OnOk result (D.settled disk.old → D.settled disk.new) }
+    ensures told { IsToldAlike (D.seen disk.old) (D.seen disk.new) }
 {
     for user in users {
         append_copy(alloc, journal, disk, user, seq)?;
@@ -139,17 +146,19 @@ fn message_head(alloc: Global, deliver: &Deliver, seq: u64) -> Result<Vec<u8>, A
     Ok(head)
 }
 
-/// How many octets a message has, with its trace lines, and their SHA-256.
+/// Where the octets of a message lie, its trace lines with them, and their SHA-256.
 #[derive(Clone, Copy)]
 pub(crate) struct Measure {
-    pub(crate) length: u64,
+    pub(crate) place: Place,
     pub(crate) digest: [u8; 32],
 }
 
-/// The measure of a message whose record has this payload in two parts; the head begins with its kind and id.
-fn measure_of(head: &[u8], text: &[u8]) -> Measure
-    requires { 14 ≤ length head.now }
-    ensures length { result.length ≡ length (drop 14 head.now ++ text.now) }
+/// The measure of a message whose record has this payload in two parts at the place; the head begins with its kind and id.
+fn measure_of(head: &[u8], text: &[u8], place: Place) -> Measure
+    requires kind { 14 ≤ length head.now }
+    requires whole { place.length ≡ length head.now + length text.now }
+    ensures at { result.place.at ≡ place.at + 14 }
+    ensures length { result.place.length ≡ length (drop 14 head.now ++ text.now) }
     ensures digest { result.digest ≡ sha256 (drop 14 head.now ++ text.now) }
 {
     let trace = &head[14..];
@@ -158,8 +167,19 @@ fn measure_of(head: &[u8], text: &[u8]) -> Measure
     hasher.update(text);
     let digest = hasher.finalize();
     Measure {
-        length: (trace.len() + text.len()) as u64,
+        place: place.behind(14),
         digest,
+    }
+}
+
+/// The message of this number, whose octets lie at the place, as it is kept.
+fn kept_at(seq: u64, place: Place) -> Kept
+    requires { 0 < seq }
+    ensures { result ≡ record { id = nth_id seq; place = place } }
+{
+    Kept {
+        id: id_of(seq),
+        place,
     }
 }
 
@@ -177,8 +197,33 @@ pub(crate) fn append_octets<D: Disk>(
     ensures wrote { WroteMail result (D.seen disk.old) (D.seen disk.new) (end_of journal.old) (end_of journal.new)
         (D.faults disk.old) (D.faults disk.new) (mail_in deliver.now) seq }
     ensures settled { OnOk result (D.settled disk.new) }
+    ensures told { IsToldAlike (D.seen disk.old) (D.seen disk.new) }
 {
     let head = message_head(alloc, deliver, seq)?;
-    append_record(alloc, journal, disk, &head, deliver.text.as_slice())?;
-    Ok(measure_of(&head, deliver.text.as_slice()))
+    let place = append_record(alloc, journal, disk, &head, deliver.text.as_slice())?;
+    Ok(measure_of(&head, deliver.text.as_slice(), place))
+}
+
+/// Appends a state for each user, in order, and lists the message, whose octets lie at the place, for each of them.
+pub(crate) fn append_listed<D: Disk>(
+    alloc: Global,
+    journal: &mut Journal,
+    disk: &mut D,
+    index: &mut Index,
+    users: &[Name],
+    seq: u64,
+    place: Place,
+) -> Result<(), DeliverFault>
+    requires gate { HasGate (D.seen disk.old) (end_of journal.old) }
+    requires drawn { 0 < seq }
+    ensures wrote { Wrote result (D.seen disk.old) (D.seen disk.new) (end_of journal.old) (end_of journal.new)
+        (D.faults disk.old) (D.faults disk.new) (copies_of (nth_id seq) (nth_stamp seq) users.now) }
+    ensures kept { OnOk result ((user : List ℕ) → kept_in user index.new ≡ kept_in user index.old
+        ++ added_for user users.now (record { id = nth_id seq; place = place })) }
+    ensures settled { OnOk result (D.settled disk.old → D.settled disk.new) }
+    ensures told { IsToldAlike (D.seen disk.old) (D.seen disk.new) }
+{
+    append_copies(alloc, journal, disk, users, seq)?;
+    index.add(alloc, users, &kept_at(seq, place))?;
+    Ok(())
 }

@@ -1,5 +1,11 @@
 //! The steps of a world, what they answer, and why they are refused.
-use mail_base::{Deliver, MsgId, Names, NodeNo, NodeSet, Ticket};
+ghost use Rattle.std.specs.Prelude.{◌≡◌, ◌<◌};
+ghost use Rattle.cluster_world.specs.Steps.{nth_ticket};
+
+use crate::append::first_node;
+use mail_base::{
+    Deliver, Items, MsgId, Name, Names, NodeNo, NodeSet, Octets, Proof, Stamp, Ticket,
+};
 use std::alloc::AllocError;
 
 /// What a session asks of its node.
@@ -7,6 +13,35 @@ use std::alloc::AllocError;
 pub enum Call {
     /// Stores the message in the mailbox of each of its users.
     Deliver(Deliver),
+    /// Opens the user's maildrop, and lists its messages.
+    Login {
+        /// Whose maildrop.
+        user: Name,
+        /// What the client gave to show that it may.
+        proof: Proof,
+    },
+    /// Reads a part of a message.
+    Fetch {
+        /// In whose maildrop it is.
+        user: Name,
+        /// The message's id.
+        id: MsgId,
+        /// The nodes that hold it, by the listing. In a cluster of one node that node is asked, whatever this says.
+        holders: NodeSet,
+        /// How many of its octets to pass over.
+        from: u64,
+        /// How many octets to give at most.
+        most: u64,
+    },
+    /// Ends a login.
+    Leave {
+        /// Whose maildrop.
+        user: Name,
+        /// The login, as its listing named it.
+        login: Ticket,
+        /// The node that manages it, as its listing named it.
+        manager: NodeNo,
+    },
 }
 
 /// One step of a world.
@@ -27,7 +62,7 @@ pub enum Step {
 }
 
 /// What became of a call.
-#[derive(Clone, Copy, Debug, PartialEq, Eq)]
+#[derive(Debug, Drop)]
 pub enum Answer {
     /// The message is stored in all its mailboxes.
     Stored {
@@ -36,16 +71,43 @@ pub enum Answer {
         /// The nodes on whose disks it is.
         confirmers: NodeSet,
     },
+    /// The proof was right, and these are the messages of the maildrop, in the order in which they came.
+    Listed {
+        /// By which the login is known: the ticket of its call.
+        login: Ticket,
+        /// The node that manages it.
+        manager: NodeNo,
+        /// The nodes that were asked.
+        asked: NodeSet,
+        /// The messages.
+        items: Items,
+    },
+    /// The proof was not right.
+    Wrong {
+        /// The stamp of the secret that was asked: 0 in each part, since it is the plan's.
+        stamp: Stamp,
+    },
+    /// A part of the message.
+    Part {
+        /// Its octets: those behind the ones to be passed over, and no more than were asked for.
+        octets: Octets,
+        /// How many octets the message has.
+        whole: u64,
+    },
+    /// The user's maildrop has no such message.
+    GoneAlready,
 }
 
 /// The answer of a step that was made.
-#[derive(Clone, Copy, Debug, PartialEq, Eq)]
+#[derive(Debug, Drop)]
 pub enum Said {
     /// The call has begun, and has this ticket.
     Begun {
         /// By which it is asked for.
         ticket: Ticket,
     },
+    /// The end of a login is noted. Nothing waits for it, so it has no ticket.
+    Noted,
     /// The call is done, and its ticket stands no more.
     Asked(Answer),
     /// The disk of this node failed in this step, and the node is down.
@@ -61,7 +123,7 @@ pub enum StepFault {
     NodeDown,
     /// The ticket does not stand.
     NoSuchTicket,
-    /// The node has no number left that it could draw.
+    /// The node has no number left for the call: none for its ticket, or for its message.
     Worn,
     /// Want of memory. The world is as it was; or this node is down, with some of the step's records on its disk.
     NoMemory {
@@ -81,6 +143,18 @@ impl From<AllocError> for StepFault {
     }
 }
 
+/// The n-th ticket of the first node in its first boot.
+pub(crate) fn ticket_of(seq: u64) -> Ticket
+    requires { 0 < seq }
+    ensures { result ≡ nth_ticket seq }
+{
+    Ticket {
+        node: first_node(),
+        boot: 1,
+        seq,
+    }
+}
+
 /// What the beginning of a delivery put on the disk.
 #[derive(Debug, Drop)]
 pub struct Filing {
@@ -96,11 +170,20 @@ pub struct Filing {
     pub digest: [u8; 32],
 }
 
+/// What the beginning of a call left to be answered.
+#[derive(Debug, Drop)]
+pub enum Pending {
+    /// A delivery put this on the disk.
+    Filed(Filing),
+    /// A login or a fetch found this.
+    Found(Answer),
+}
+
 /// A call in progress.
 #[derive(Debug, Drop)]
 pub struct Standing {
     /// By which it is asked for.
     pub ticket: Ticket,
-    /// What it put on the disk.
-    pub filing: Filing,
+    /// What is to be answered.
+    pub pending: Pending,
 }

@@ -1,7 +1,9 @@
-// Layouts from their description, and each public call once.
+// Layouts from their description, and each call that stores once.
 ghost use Rattle.std.specs.Prelude.{◌≤◌, ◌<◌, length, IfOk, OnOk, IsTrue};
 ghost use Rattle.mail_base.specs.Delivers.{IsWithinLimits};
 ghost use Rattle.cluster_world.specs.World.{ShowsGate, is_up};
+
+mod reading;
 
 use crate::{
     Answer, Call, Entry, Journal, OpenFault, Said, Step, StepFault, Trace, TraceFault, World,
@@ -9,9 +11,7 @@ use crate::{
 };
 use io_edge::faulty::FaultyDisk;
 use io_edge::{Disk, PlainDisk};
-use mail_base::{
-    Deliver, MsgId, Name, Names, NodeNo, NodeSet, Octets, Plan, Secret, Stamp, Ticket, Users,
-};
+use mail_base::{Deliver, MsgId, Name, Names, NodeNo, Octets, Plan, Secret, Stamp, Ticket, Users};
 use std::alloc::{AllocError, Global};
 use std::test::Fail;
 
@@ -21,12 +21,30 @@ const DIGEST: [u8; 32] = [
     0x5a, 0xb3, 0x28, 0xce, 0x8a, 0x53, 0xa3, 0x0f, 0x3e, 0xc7, 0xf0, 0x13, 0xee, 0x0b, 0x34, 0x5e,
 ];
 
+fn first_node() -> NodeNo {
+    NodeNo::new(1).unwrap()
+}
+
+fn id_of(seq: u64) -> MsgId {
+    match MsgId::new(first_node(), 1, seq) {
+        Some(id) => id,
+        None => MsgId::new(first_node(), 1, 1).unwrap(),
+    }
+}
+
 fn first_id() -> MsgId {
-    MsgId::new(NodeNo::new(1).unwrap(), 1, 1).unwrap()
+    id_of(1)
 }
 
 fn bob(alloc: Global) -> Result<Name, AllocError> {
-    Ok(Name::spelt(alloc, b"bob")?.unwrap())
+    name(alloc, b"bob")
+}
+
+fn name(alloc: Global, octets: &[u8]) -> Result<Name, AllocError> {
+    match Name::spelt(alloc, octets)? {
+        Some(name) => Ok(name),
+        None => Err(AllocError),
+    }
 }
 
 fn plan(alloc: Global) -> Result<Plan, AllocError> {
@@ -47,7 +65,7 @@ fn hello(alloc: Global) -> Result<Deliver, AllocError>
 {
     let mut users = Names::new(alloc);
     users.push(bob(alloc)?)?;
-    users.push(Name::spelt(alloc, b"amy")?.unwrap())?;
+    users.push(name(alloc, b"amy")?)?;
     Ok(Deliver {
         users,
         sender: Octets::from_vec(b"bob@b.example".to_vec(alloc)?),
@@ -91,12 +109,62 @@ fn ask<D: Disk>(alloc: Global, world: &mut World<D>, seq: u64) -> Result<Said, S
     step(alloc, world, Step::Ask { ticket })
 }
 
+// Whether the call has begun, with the ticket of this number.
+fn is_begun(said: &Result<Said, StepFault>, seq: u64) -> bool {
+    match said {
+        Ok(said) => match said {
+            Said::Begun { ticket } => *ticket == ticket_of(seq),
+            Said::Noted => false,
+            Said::Asked(_) => false,
+            Said::Faulted(_) => false,
+        },
+        Err(_) => false,
+    }
+}
+
+// Whether the node went down.
+fn is_faulted(said: &Result<Said, StepFault>) -> bool {
+    match said {
+        Ok(said) => match said {
+            Said::Begun { .. } => false,
+            Said::Noted => false,
+            Said::Asked(_) => false,
+            Said::Faulted(node) => *node == first_node(),
+        },
+        Err(_) => false,
+    }
+}
+
+fn is_refused(said: &Result<Said, StepFault>, fault: StepFault) -> bool {
+    match said {
+        Ok(_) => false,
+        Err(other) => *other == fault,
+    }
+}
+
+// Whether the first message was stored.
+fn is_first_stored(said: &Result<Said, StepFault>) -> bool {
+    let Ok(Said::Asked(answer)) = said else {
+        return false;
+    };
+    match answer {
+        Answer::Stored { id, confirmers } => *id == first_id() && confirmers.mask() == 1,
+        Answer::Listed { .. } => false,
+        Answer::Wrong { .. } => false,
+        Answer::Part { .. } => false,
+        Answer::GoneAlready => false,
+    }
+}
+
 // What a new world says of its first message where this call of its disk fails.
-fn said_with_fault(alloc: Global, call: u64) -> Result<Result<Said, StepFault>, OpenFault> {
+fn said_with_fault(
+    alloc: Global,
+    call: u64,
+) -> Result<Result<Result<Said, StepFault>, OpenFault>, AllocError> {
     let disk = FaultyDisk::new(PlainDisk::new(alloc), call);
     match World::open(alloc, plan(alloc)?, disk) {
-        Ok(mut world) => Ok(begin(alloc, &mut world, 1)),
-        Err((fault, _disk)) => Err(fault),
+        Ok(mut world) => Ok(Ok(begin(alloc, &mut world, 1))),
+        Err((fault, _disk)) => Ok(Err(fault)),
     }
 }
 
@@ -134,7 +202,14 @@ fn journal_begins(rt: HostRuntime) -> Result<(), Fail> {
         b"PORCUPN1\x00\x01\0\0\0\0\0\0\0".as_slice()
     );
     let boot = boot_payload(alloc, 1)?;
-    assert_eq!(rt; journal.append(alloc, &mut disk, &boot, &[]), Ok(()));
+    let Ok(place) = journal.append(alloc, &mut disk, &boot, &[]) else {
+        panic!(rt; "no record");
+    };
+    assert!(rt; place.at == 21 && place.length == 5);
+    let Ok(read) = Journal::read(alloc, &mut disk, place.part(1, 9)) else {
+        panic!(rt; "not read");
+    };
+    assert_eq!(rt; read.as_slice(), b"\0\0\0\x01".as_slice());
     assert_eq!(rt;
         disk.octets.as_slice(),
         b"PORCUPN1\x00\x01\0\0\0\0\0\0\xa5\0\0\0\x05\x01\0\0\0\x01\0".as_slice()
@@ -190,23 +265,22 @@ fn message_is_begun_and_asked_for(rt: HostRuntime) -> Result<(), Fail> {
         panic!(rt; "no world");
     };
     assert_eq!(rt; world.plan().nodes, 1);
-    assert_eq!(rt; begin(alloc, &mut world, 2), Err(StepFault::NoSuchNode));
-    let ticket = ticket_of(1);
-    assert_eq!(rt; begin(alloc, &mut world, 1), Ok(Said::Begun { ticket }));
-    let ticket = ticket_of(2);
-    assert_eq!(rt; begin(alloc, &mut world, 1), Ok(Said::Begun { ticket }));
+    let said = begin(alloc, &mut world, 2);
+    assert!(rt; is_refused(&said, StepFault::NoSuchNode));
+    let said = begin(alloc, &mut world, 1);
+    assert!(rt; is_begun(&said, 1));
+    let said = begin(alloc, &mut world, 1);
+    assert!(rt; is_begun(&said, 2));
     assert_eq!(rt; world.book().entries().len(), 0);
-    let stored = Answer::Stored {
-        id: first_id(),
-        confirmers: NodeSet::from_mask(1),
-    };
-    assert_eq!(rt; ask(alloc, &mut world, 1), Ok(Said::Asked(stored)));
-    assert_eq!(rt; ask(alloc, &mut world, 1), Err(StepFault::NoSuchTicket));
+    let said = ask(alloc, &mut world, 1);
+    assert!(rt; is_first_stored(&said));
+    let said = ask(alloc, &mut world, 1);
+    assert!(rt; is_refused(&said, StepFault::NoSuchTicket));
     let entries = world.book().entries();
     assert_eq!(rt; entries.len(), 2);
     assert!(rt; is_acked(&entries[0], b"bob"));
     assert!(rt; is_acked(&entries[1], b"amy"));
-    assert!(rt; world.is_up(NodeNo::new(1).unwrap()));
+    assert!(rt; world.is_up(first_node()));
     assert!(rt; !world.is_up(NodeNo::new(2).unwrap()));
     // A header of 16 octets, a record of 10, a record of 152 and two of 40 for each message, and a closed gate.
     assert_eq!(rt; world.close().octets.len(), 491);
@@ -215,16 +289,11 @@ fn message_is_begun_and_asked_for(rt: HostRuntime) -> Result<(), Fail> {
 
 #[test]
 fn each_fault_takes_the_node_down(rt: HostRuntime) -> Result<(), Fail> {
-    let first = NodeNo::new(1).unwrap();
     for call in 1..20u64 {
-        let said = said_with_fault(rt.alloc(), call);
-        if call <= 6 {
-            assert_eq!(rt; said, Err(OpenFault::DiskFault), "at {call}");
-        } else if call <= 18 {
-            assert_eq!(rt; said, Ok(Ok(Said::Faulted(first))), "at {call}");
-        } else {
-            let ticket = ticket_of(1);
-            assert_eq!(rt; said, Ok(Ok(Said::Begun { ticket })), "at {call}");
+        match said_with_fault(rt.alloc(), call)? {
+            Ok(said) if call <= 18 => assert!(rt; call > 6 && is_faulted(&said), "at {call}"),
+            Ok(said) => assert!(rt; is_begun(&said, 1), "at {call}"),
+            Err(fault) => assert!(rt; call <= 6 && fault == OpenFault::DiskFault, "at {call}"),
         }
     }
     Ok(())
@@ -237,11 +306,13 @@ fn node_that_fell_takes_no_step(rt: HostRuntime) -> Result<(), Fail> {
     let Ok(mut world) = World::open(alloc, plan(alloc)?, disk) else {
         panic!(rt; "no world");
     };
-    let first = NodeNo::new(1).unwrap();
-    assert_eq!(rt; begin(alloc, &mut world, 1), Ok(Said::Faulted(first)));
-    assert!(rt; !world.is_up(first));
-    assert!(rt; matches!(world.book().entries(), [Entry::Down { node }] if *node == first));
-    assert_eq!(rt; begin(alloc, &mut world, 1), Err(StepFault::NodeDown));
-    assert_eq!(rt; ask(alloc, &mut world, 1), Err(StepFault::NodeDown));
+    let said = begin(alloc, &mut world, 1);
+    assert!(rt; is_faulted(&said));
+    assert!(rt; !world.is_up(first_node()));
+    assert!(rt; matches!(world.book().entries(), [Entry::Down { node }] if *node == first_node()));
+    let said = begin(alloc, &mut world, 1);
+    assert!(rt; is_refused(&said, StepFault::NodeDown));
+    let said = ask(alloc, &mut world, 1);
+    assert!(rt; is_refused(&said, StepFault::NodeDown));
     Ok(())
 }

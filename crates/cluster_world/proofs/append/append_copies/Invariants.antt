@@ -1,4 +1,4 @@
-use Rattle.std.proofs.Common.{take}
+use Rattle.std.proofs.Common.{◌≡◌, take, is_some}
 use Rattle.mail_model.specs.Site.{copies_of, nth_id, nth_stamp}
 use Rattle.cluster_world.specs.Journal.{end_of}
 use Rattle.cluster_world.specs.Appends.{AppendsAll}
@@ -9,5 +9,6 @@ abbrev pub invariant-loop-user : goal.invariant-loop-user
 invariant-loop-user g l = record {
   appended : AppendsAll (g.D.Disk.seen l.initial.disk) (g.D.Disk.seen l.disk) (end_of l.initial.journal) (end_of l.journal)
       (g.D.Disk.faults l.initial.disk) (g.D.Disk.faults l.disk) (copies_of (nth_id l.seq) (nth_stamp l.seq) (take l.user-index l.users));
+  told : is_some (g.D.Disk.seen l.disk) ≡ is_some (g.D.Disk.seen l.initial.disk);
   settled : g.D.Disk.settled l.initial.disk → g.D.Disk.settled l.disk;
 }

@@ -1,0 +1,152 @@
+-- What the answers to a login and a fetch say of the records that are in memory.
+use Rattle.std.proofs.Common.{◌≡◌, ◌⊎◌, inl, inr, ⊎_elim, ℕ, ◌+◌, ◌-◌, ◌≤◌, List, [], ◌∷◌, ◌++◌, IsTrue, IsFalse, map, Option, Some, None, Ok, Err, refl, sym, ap, ◌∙◌, arith}
+use Rattle.std.specs.Prelude.{min}
+use Rattle.io_edge.specs.Causes.{Rose}
+use Rattle.mail_model.specs.Listing.{size_in}
+use Rattle.mail_model.specs.Identity.{Id}
+use Rattle.mail_model.specs.PopReplies as replies
+use Rattle.mail_base.specs.Items.{item_seen}
+use Rattle.mail_base.specs.declared.item.Item.{Item}
+use Rattle.mail_base.specs.declared.proof.Proof.{Proof}
+use Rattle.mail_base.specs.declared.ticket.Ticket.{Ticket}
+use Rattle.cluster_world.specs.Index.{kept_in, place_in}
+use Rattle.cluster_world.specs.Reads.{MayEndBefore, HasRead, IsPartAt, AnswersLogin, AnswersFetch}
+use Rattle.cluster_world.specs.World.{plan_of, is_up, drawn_of, tickets_of, kept_of, disk_of, gate_of, book_of, standing_of}
+use Rattle.cluster_world.specs.Found.{FindsLogin, FindsPart}
+use Rattle.cluster_world.specs.Steps.{IsSound, Finds, StopsReading, call_of, nth_ticket}
+use Rattle.cluster_world.specs.Journal.{end_of}
+use Rattle.cluster_world.specs.declared.journal.Journal.{Journal}
+use Rattle.cluster_world.specs.declared.index.Index.{Index}
+use Rattle.cluster_world.specs.declared.step.Pending.TheVariants.{Found}
+use Rattle.mail_model.specs.Book.BookEntry.{WentDown}
+use Rattle.cluster_world.proofs.Recalled.{recalls_same}
+use Rattle.cluster_world.specs.declared.place.Place.{Place}
+use Rattle.cluster_world.specs.declared.index.Kept.{Kept}
+use Rattle.cluster_world.specs.declared.world.World.{World}
+use Rattle.cluster_world.specs.declared.journal.JournalFault.{JournalFault}
+use Rattle.cluster_world.specs.declared.journal.JournalFault.TheVariants.{DiskFault, NotAJournal, TooLarge, NoMemory}
+use Rattle.cluster_world.specs.declared.step.Answer.{Answer}
+use Rattle.cluster_world.specs.declared.step.Answer.TheVariants.{Stored, Listed, Wrong, Part, GoneAlready}
+use Rattle.cluster_world.proofs.Readings.{listed_seen, all_at_node_1, size_at, size_by_place, found_at, length_cut, part_is, told_or_rose}
+
+-- a disk that ends before a place ends before a later one
+ends_later : (seen : Option (List ℕ)) (a b : ℕ) → a ≤ b → MayEndBefore seen a → MayEndBefore seen b
+ends_later None a b le early = tt
+ends_later (Some held) a b le early = omega (arith, le, early)
+
+-- a read of a part that failed
+pub read_failed : (fault : JournalFault) (row : List Kept) (id : Id) (start most : ℕ) (place part : Place) (seen : Option (List ℕ)) (before now : ℕ) → place_in id row ≡ Some place
+    → part.at ≡ place.at + min start place.length → part.length ≡ min most (place.length - start) → HasRead (Err fault) part seen before now
+    → AnswersFetch (Err fault) row id start most seen before now
+read_failed DiskFault row id start most place part seen before now found at size read =
+    let within : part.at + part.length ≤ place.at + place.length = omega (arith, at, size) in
+    let cause : Rose before now ⊎ MayEndBefore seen (place.at + place.length) = ⊎_elim (λ (rose : Rose before now). inl rose) (λ early. inr (ends_later seen (part.at + part.length) (place.at + place.length) within early)) read.0 in
+    (place, found, cause, read.1)
+read_failed NotAJournal row id start most place part seen before now found at size read = read
+read_failed TooLarge row id start most place part seen before now found at size read = read
+read_failed NoMemory row id start most place part seen before now found at size read = read
+
+-- a read of a part that was made
+pub read_done : (octets : List ℕ) (start most : ℕ) (place part : Place) (seen : Option (List ℕ)) (before now : ℕ)
+    → part.at ≡ place.at + min start place.length → part.length ≡ min most (place.length - start) → HasRead (Ok octets) part seen before now
+    → IsPartAt place start most octets seen
+read_done octets start most place part seen before now at size read = record {
+  count = read.0 ∙ size;
+  part = rw (← at, ← size) read.1;
+}
+
+module _ {D : Type 0} (seen : D → Option (List ℕ)) (old : World D) where
+  -- what a login was answered, over the records
+  pub finds_login : (answer : Answer) (user : List ℕ) (proof : Proof) (ticket : Ticket) → AnswersLogin answer (plan_of old) user proof ticket (kept_of user old) → FindsLogin answer user proof ticket old
+  finds_login (Stored id confirmers) user proof ticket a = a
+  finds_login (Listed login manager asked items) user proof ticket a = (
+    a.0,
+    record {
+      own = a.1;
+      by_node_1 = a.2;
+      asked_node_1 = a.3;
+      held = rw a.4 (all_at_node_1 (kept_of user old));
+      are = λ records fits. ap (λ (l : List Item). map item_seen l) a.4 ∙ listed_seen (kept_of user old) ∙ fits.lists user;
+    },
+  )
+  finds_login (Wrong stamp) user proof ticket a = a
+  finds_login (Part octets whole) user proof ticket a = a
+  finds_login GoneAlready user proof ticket a = a
+
+  -- what a fetch was answered, over the records
+  pub finds_part : (answer : Answer) (user : List ℕ) (id : Id) (start most before now : ℕ)
+      → AnswersFetch (Ok answer) (kept_of user old) id start most (seen (disk_of old)) before now → FindsPart seen answer user id start most old
+  finds_part (Stored own confirmers) user id start most before now a = a
+  finds_part (Listed login manager asked items) user id start most before now a = a
+  finds_part (Wrong stamp) user id start most before now a = a
+  finds_part (Part octets whole) user id start most before now a = λ records fits.
+      let place = a.0 in
+      let found = found_at records id (kept_of user old) place (fits.places user) a.1 in
+      record {
+        all = found.octets;
+        listed = ap (λ (l : List replies.Item). size_in id l) (sym (fits.lists user)) ∙ size_by_place id (kept_of user old) ∙ ap (λ (o : Option Place). size_at o) a.1 ∙ ap (λ (n : ℕ). Some n) (sym a.2);
+        known = found.known;
+        size = a.2 ∙ found.lies.size;
+        count = a.3.count ∙ ap (λ (n : ℕ). min most (n - start)) found.lies.size ∙ length_cut found.octets start most;
+        part = λ stands. part_is (seen (disk_of old)) records (gate_of old) found.octets octets place start most found.lies stands a.3.part;
+      }
+  finds_part GoneAlready user id start most before now a = λ records fits.
+      ap (λ (l : List replies.Item). size_in id l) (sym (fits.lists user)) ∙ size_by_place id (kept_of user old) ∙ ap (λ (o : Option Place). size_at o) a.0
+
+  -- the count of faults has not fallen
+  pub fetched_later : (answer : Answer) (row : List Kept) (id : Id) (start most : ℕ) (told : Option (List ℕ)) (before now : ℕ) → AnswersFetch (Ok answer) row id start most told before now → before ≤ now
+  fetched_later (Stored own confirmers) row id start most told before now a = absurd a
+  fetched_later (Listed login manager asked items) row id start most told before now a = absurd a
+  fetched_later (Wrong stamp) row id start most told before now a = absurd a
+  fetched_later (Part octets whole) row id start most told before now a = a.4
+  fetched_later GoneAlready row id start most told before now a = a.1
+
+  -- a world whose disk tells its octets has a read fail only where that disk failed
+  pub has_cause : (user : List ℕ) (id : Id) (start most before now : ℕ) → AnswersFetch (Err DiskFault) (kept_of user old) id start most (seen (disk_of old)) before now
+      → IsSound seen old → Rose before now ⊎ (seen (disk_of old) ≡ None)
+  has_cause user id start most before now a sound =
+      let found = found_at sound.records id (kept_of user old) a.0 (sound.fits.places user) a.1 in
+      told_or_rose (seen (disk_of old)) sound.records (gate_of old) found.octets a.0 before now found.lies sound.holds a.2
+
+-- The answer stands with the next ticket, and nothing was written.
+pub finds : {D : Type 0} (seen : D → Option (List ℕ)) (faults : D → ℕ) (answer : Answer) (disk : D) (old new : World D) → IsTrue (is_up old)
+    → seen disk ≡ seen (disk_of old) → faults (disk_of old) ≤ faults disk
+    → (plan_of new ≡ plan_of old) × (is_up new ≡ is_up old) × (drawn_of new ≡ drawn_of old) × (disk_of new ≡ disk)
+    × (new.journal ≡ old.journal) × (new.index ≡ old.index) × (book_of new ≡ book_of old)
+    → tickets_of new ≡ tickets_of old + 1
+    → standing_of new ≡ standing_of old ++ call_of (nth_ticket (tickets_of old + 1)) (Found answer) ∷ []
+    → Finds seen faults (nth_ticket (tickets_of old + 1)) answer old new
+finds seen faults answer disk old new up same later rest more stands = record {
+  plan = rest.0;
+  up = rest.1 ∙ up;
+  drawn = rest.2;
+  tickets = more;
+  book = rest.6;
+  octets = ap seen rest.3 ∙ same;
+  gate = ap (λ (j : Journal). end_of j) rest.4;
+  fits = λ records fits. recalls_same records (gate_of old) (gate_of new) (drawn_of old) (drawn_of new) (λ user. kept_of user old) (λ user. kept_of user new)
+      (ap (λ (j : Journal). end_of j) rest.4) rest.2 (λ user. ap (λ (i : Index). kept_in user i) rest.5) fits;
+  later = rw rest.3 later;
+  ticket_is = refl;
+  standing = stands;
+}
+
+-- The node has gone down as it read.
+pub stops_reading : {D : Type 0} (seen : D → Option (List ℕ)) (faults : D → ℕ) (disk : D) (old new : World D)
+    → seen disk ≡ seen (disk_of old) → faults (disk_of old) ≤ faults disk
+    → (plan_of new ≡ plan_of old) × (drawn_of new ≡ drawn_of old) × (tickets_of new ≡ tickets_of old) × (disk_of new ≡ disk)
+    × (new.journal ≡ old.journal) × (new.index ≡ old.index)
+    → IsFalse (is_up new) → standing_of new ≡ [] → book_of new ≡ book_of old ++ WentDown 1 ∷ [] → StopsReading seen faults old new
+stops_reading seen faults disk old new same later rest down standing book = record {
+  plan = rest.0;
+  down = down;
+  drawn = rest.1;
+  tickets = rest.2;
+  standing = standing;
+  book = book;
+  octets = ap seen rest.3 ∙ same;
+  gate = ap (λ (j : Journal). end_of j) rest.4;
+  fits = λ records fits. recalls_same records (gate_of old) (gate_of new) (drawn_of old) (drawn_of new) (λ user. kept_of user old) (λ user. kept_of user new)
+      (ap (λ (j : Journal). end_of j) rest.4) rest.1 (λ user. ap (λ (i : Index). kept_in user i) rest.5) fits;
+  later = rw rest.3 later;
+}

@@ -1,0 +1,16 @@
+use Rattle.std.proofs.Common.{rules, ◌∙◌, arith}
+use Rattle.cluster_world.proofs.Filled.{filled_more}
+use Rattle.cluster_world.proofs.journal.fill.Goals as goal
+
+pub loop-filled-preserved : goal.loop-filled-preserved
+loop-filled-preserved g c =
+    let so_far = c.loop-filled.invariant in
+    let read = c.in_ok-count.ensures in
+    record {
+      octets = filled_more _ _ c.loop-filled.into c.read.new.into _ c.args.at c.loop-filled.filled c.in_ok-count.count so_far.within read.bound.0 so_far.seen so_far.octets read.octets;
+      size = search rules;
+      within = search rules;
+      seen = read.seen ∙ so_far.seen;
+      later = omega (arith, so_far.later, read.cause.later);
+      settled = λ before. read.settled (so_far.settled before);
+    }

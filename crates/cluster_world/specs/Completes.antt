@@ -1,0 +1,82 @@
+-- When a step does its work, what it leaves settled, and that what a fetch hands out is what was filed.
+use Rattle.std.specs.Prelude.{◌≡◌, ℕ, ◌≤◌, IsTrue, List, [], ◌∷◌, ◌++◌, ⊤, Option, Result, Ok, Err}
+use Rattle.mail_base.specs.declared.ticket.Ticket.{Ticket}
+use Rattle.cluster_world.specs.World.{plan_of, is_up, disk_of, standing_of}
+use Rattle.cluster_world.specs.Found.{FindsPart}
+use Rattle.cluster_world.specs.Steps.{HasNumbers, IsSound, HasMishap, StandsNot, call_of}
+use Rattle.cluster_world.specs.declared.world.World.{World}
+use Rattle.cluster_world.specs.declared.step.Call.{Call}
+use Rattle.cluster_world.specs.declared.step.Call.TheVariants.{Deliver, Login, Fetch, Leave}
+use Rattle.cluster_world.specs.declared.step.Step.{Step}
+use Rattle.cluster_world.specs.declared.step.Step.TheVariants.{Begin, Ask}
+use Rattle.cluster_world.specs.declared.step.Answer.{Answer}
+use Rattle.cluster_world.specs.declared.step.Answer.TheVariants.{Part}
+use Rattle.cluster_world.specs.declared.step.Said.{Said}
+use Rattle.cluster_world.specs.declared.step.Said.TheVariants.{Begun, Noted, Asked, Faulted}
+use Rattle.cluster_world.specs.declared.step.StepFault.{StepFault}
+use Rattle.cluster_world.specs.declared.step.StepFault.TheVariants.{NoSuchNode, NodeDown, NoSuchTicket, Worn, NoMemory}
+use Rattle.cluster_world.specs.declared.step.Pending.TheVariants.{Found}
+use Rattle.cluster_world.specs.declared.step.Standing.{Standing}
+
+-- the call has begun or is noted, or memory was wanting
+abbrev pub IsBegun : Result Said StepFault → Type 0
+IsBegun (Ok (Begun ticket)) = ⊤
+IsBegun (Ok Noted) = ⊤
+IsBegun (Ok (Asked answer)) = ⊥
+IsBegun (Ok (Faulted failed)) = ⊥
+IsBegun (Err NoSuchNode) = ⊥
+IsBegun (Err NodeDown) = ⊥
+IsBegun (Err NoSuchTicket) = ⊥
+IsBegun (Err Worn) = ⊥
+IsBegun (Err (NoMemory down)) = ⊤
+
+-- the call is answered, or memory was wanting
+abbrev pub IsAnswer : Result Said StepFault → Type 0
+IsAnswer (Ok (Begun ticket)) = ⊥
+IsAnswer (Ok Noted) = ⊥
+IsAnswer (Ok (Asked answer)) = ⊤
+IsAnswer (Ok (Faulted failed)) = ⊥
+IsAnswer (Err NoSuchNode) = ⊥
+IsAnswer (Err NodeDown) = ⊥
+IsAnswer (Err NoSuchTicket) = ⊥
+IsAnswer (Err Worn) = ⊥
+IsAnswer (Err (NoMemory down)) = ⊤
+
+-- A call at a node that is up and has numbers left begins where the disk has no mishap, and is answered where it is asked for; want of memory alone is in the way.
+abbrev pub Completes : {D : Type 0} → (D → Option (List ℕ)) → (D → ℕ) → Result Said StepFault → Step → World D → World D → Type 0
+Completes seen faults result (Begin node call) old new =
+    node ≤ (plan_of old).nodes → IsTrue (is_up old) → HasNumbers call old → IsSound seen old → (HasMishap seen faults call old new → ⊥) → IsBegun result
+Completes seen faults result (Ask ticket) old new =
+    ticket.node ≤ (plan_of old).nodes → IsTrue (is_up old) → (StandsNot ticket old → ⊥) → IsAnswer result
+
+-- A delivery that was begun leaves the disk settled: its message stands whatever happens.
+abbrev pub SettledByDelivery : {D : Type 0} → (D → Type 0) → Said → World D → Type 0
+SettledByDelivery settled (Begun ticket) new = settled (disk_of new)
+SettledByDelivery settled Noted new = ⊤
+SettledByDelivery settled (Asked answer) new = ⊤
+SettledByDelivery settled (Faulted failed) new = ⊤
+
+-- What a step that was made leaves settled: every step but a delivery writes nothing.
+abbrev pub SettledBy : {D : Type 0} → (D → Type 0) → Step → Said → World D → World D → Type 0
+SettledBy settled (Begin node (Deliver deliver)) said old new = SettledByDelivery settled said new
+SettledBy settled (Begin node (Login user proof)) said old new = settled (disk_of old) → settled (disk_of new)
+SettledBy settled (Begin node (Fetch user id holders start most)) said old new = settled (disk_of old) → settled (disk_of new)
+SettledBy settled (Begin node (Leave user login manager)) said old new = settled (disk_of old) → settled (disk_of new)
+SettledBy settled (Ask ticket) said old new = settled (disk_of old) → settled (disk_of new)
+
+-- the ticket stands with a part that is as filed
+abbrev pub StandsAsFiled : {D : Type 0} → (D → Option (List ℕ)) → Result Said StepFault → Call → World D → World D → Type 0
+StandsAsFiled seen (Ok (Begun ticket)) (Fetch user id holders start most) old new =
+    (answer : Answer) × (standing_of new ≡ standing_of old ++ call_of ticket (Found answer) ∷ []) × FindsPart seen answer user id start most old
+StandsAsFiled seen _ _ old new = ⊤
+
+-- An ask hands out the part that its beginning found.
+abbrev pub HandsOut : {D : Type 0} → Result Said StepFault → Ticket → World D → Type 0
+HandsOut (Ok (Asked (Part octets whole))) ticket old =
+    (before : List Standing) × (behind : List Standing) × (standing_of old ≡ before ++ call_of ticket (Found (Part octets whole)) ∷ behind)
+HandsOut _ ticket old = ⊤
+
+-- the octets of a fetch are those that were filed under its id: found so as it begins, and handed out so as it is asked for
+abbrev pub FetchedAsFiled : {D : Type 0} → (D → Option (List ℕ)) → Result Said StepFault → Step → World D → World D → Type 0
+FetchedAsFiled seen result (Begin node call) old new = StandsAsFiled seen result call old new
+FetchedAsFiled seen result (Ask ticket) old new = HandsOut result ticket old

@@ -1,0 +1,139 @@
+//! How a world files a message: on its disk, and in its index.
+ghost use Rattle.std.specs.Prelude.{◌≡◌, ◌+◌, ◌≤◌, ◌<◌, ◌++◌, ◌∷◌, [], ◌&&◌, List, ℕ, length, nat_eq, vec_len, vec_capacity, slice_get, ◌-◌, ◌^◌, IfOk, OnOk, is_ok, IfSome, None, IsTrue, IsFalse};
+ghost use Rattle.mail_model.specs.Site.{copies_of, nth_id, nth_stamp};
+ghost use Rattle.mail_model.specs.Book.BookEntry.{WentDown};
+ghost use Rattle.mail_base.specs.Delivers.{mail_in, IsWithinLimits};
+ghost use Rattle.cluster_world.specs.Appends.{Wrote};
+ghost use Rattle.cluster_world.specs.Opens.{Begun};
+ghost use Rattle.cluster_world.specs.Index.{kept_in, added_for};
+ghost use Rattle.cluster_world.specs.Journal.{IsToldAlike};
+ghost use Rattle.cluster_world.specs.World.{plan_of, is_up, drawn_of, tickets_of, kept_of, disk_of, gate_of, book_of, standing_of, ShowsGate, Opened, OpenedAlike, Delivers};
+ghost use Rattle.cluster_world.specs.Books.{told_by, spare_of};
+ghost use Rattle.cluster_world.specs.Steps.{BeginDid, AskDid, Stepped, StandsNot, HasNumbers, Settles, entries_for, entries_in, nth_ticket, last_number, call_of};
+ghost use Rattle.cluster_world.specs.Completes.{Completes, FetchedAsFiled, SettledBy, SettledByDelivery};
+
+use crate::append::{DeliverFault, Measure, append_listed, append_octets, first_node, id_of};
+use crate::place::Place;
+use crate::step::{Call, Filing, Pending, Said, StepFault};
+use crate::world::World;
+use io_edge::Disk;
+use mail_base::{Deliver, Names};
+use std::alloc::Global;
+
+/// The filing of the message of this number.
+fn filing_of(seq: u64, users: Names, measure: Measure) -> Filing
+    requires { 0 < seq }
+    ensures { result ≡ record { id = nth_id seq; users = users; seconds = 0; length = measure.place.length; digest = measure.digest } }
+{
+    let digest = measure.digest;
+    Filing {
+        id: id_of(seq),
+        users,
+        seconds: 0,
+        length: measure.place.length,
+        digest,
+    }
+}
+
+impl<D: Disk> World<D> {
+    // Puts the message on the disk: its octets, and then a state for each of its users, in order. Its id is of the next
+    // number, and it is then listed for each of them. The node goes down where it is there in part.
+    fn file(&mut self, alloc: Global, deliver: &Deliver) -> Result<Measure, DeliverFault>
+        requires up { IsTrue (is_up self.old) }
+        requires gate { ShowsGate D.seen self.old }
+        requires small { IsWithinLimits deliver.now }
+        requires drawn { drawn_of self.old < last_number }
+        ensures delivers { Delivers D.seen D.faults result (mail_in deliver.now) self.old self.new }
+        ensures settled { OnOk result (D.settled (disk_of self.new)) }
+        ensures told { IsToldAlike (D.seen (disk_of self.old)) (D.seen (disk_of self.new)) }
+        ensures plan { plan_of self.new ≡ plan_of self.old }
+        ensures tickets { tickets_of self.new ≡ tickets_of self.old }
+        ensures standing { self.new.standing ≡ self.old.standing }
+        ensures book { self.new.book ≡ self.old.book }
+    {
+        let seq = self.drawn + 1;
+        match append_octets(alloc, &mut self.journal, &mut self.disk, deliver, seq) {
+            Ok(measure) => {
+                self.drawn = seq;
+                self.file_copies(alloc, deliver, measure.place)?;
+                Ok(measure)
+            }
+            Err(DeliverFault::NoMemory) => Err(DeliverFault::NoMemory),
+            Err(DeliverFault::Disk) => {
+                self.drawn = seq;
+                self.up = false;
+                Err(DeliverFault::Disk)
+            }
+        }
+    }
+
+    // Appends a state for each user of the message of the number that was drawn last, and lists the message, whose octets
+    // lie at the place, for each of them. The node goes down where that fails.
+    fn file_copies(
+        &mut self,
+        alloc: Global,
+        deliver: &Deliver,
+        place: Place,
+    ) -> Result<(), DeliverFault>
+        requires gate { ShowsGate D.seen self.old }
+        requires drawn { 0 < drawn_of self.old }
+        requires up { IsTrue (is_up self.old) }
+        ensures wrote { Wrote result (D.seen (disk_of self.old)) (D.seen (disk_of self.new)) (gate_of self.old) (gate_of self.new)
+            (D.faults (disk_of self.old)) (D.faults (disk_of self.new)) (copies_of (nth_id (drawn_of self.old)) (nth_stamp (drawn_of self.old)) deliver.now.users) }
+        ensures kept { OnOk result ((user : List ℕ) → kept_of user self.new ≡ kept_of user self.old
+            ++ added_for user deliver.now.users (record { id = nth_id (drawn_of self.old); place = place })) }
+        ensures settled { OnOk result (D.settled (disk_of self.old) → D.settled (disk_of self.new)) }
+        ensures told { IsToldAlike (D.seen (disk_of self.old)) (D.seen (disk_of self.new)) }
+        ensures up { is_up self.new ≡ is_ok result }
+        ensures plan { plan_of self.new ≡ plan_of self.old }
+        ensures drawn { drawn_of self.new ≡ drawn_of self.old }
+        ensures tickets { tickets_of self.new ≡ tickets_of self.old }
+        ensures standing { self.new.standing ≡ self.old.standing }
+        ensures book { self.new.book ≡ self.old.book }
+    {
+        let filed = append_listed(
+            alloc,
+            &mut self.journal,
+            &mut self.disk,
+            &mut self.index,
+            deliver.users.as_slice(),
+            self.drawn,
+            place,
+        );
+        self.up = filed.is_ok();
+        filed
+    }
+
+    // Takes a message in, where the node is up and has numbers left.
+    pub(crate) fn take(&mut self, alloc: Global, deliver: Deliver) -> Result<Said, StepFault>
+        requires up { IsTrue (is_up self.old) }
+        requires gate { ShowsGate D.seen self.old }
+        requires drawn { drawn_of self.old < last_number }
+        requires tickets { tickets_of self.old < last_number }
+        ensures did { (node : ℕ) → node ≤ (plan_of self.old).nodes → BeginDid D.seen D.faults result node (Call.Deliver deliver) self.old self.new }
+        ensures settled { IfOk result (λ said. SettledByDelivery D.settled said self.new) }
+        ensures told { IsToldAlike (D.seen (disk_of self.old)) (D.seen (disk_of self.new)) }
+    {
+        // So that want of memory is met before anything is written.
+        self.book.reserve(1)?;
+        self.standing.reserve(1)?;
+        self.index.reserve(alloc, deliver.users.as_slice())?;
+        match self.file(alloc, &deliver) {
+            Ok(measure) => {
+                let filing = filing_of(self.drawn, deliver.users, measure);
+                Ok(self.stand(Pending::Filed(filing)))
+            }
+            Err(DeliverFault::Disk) => {
+                self.go_down(alloc);
+                Ok(Said::Faulted(first_node()))
+            }
+            Err(DeliverFault::NoMemory) if self.up => Err(StepFault::NoMemory { down: None }),
+            Err(DeliverFault::NoMemory) => {
+                self.go_down(alloc);
+                Err(StepFault::NoMemory {
+                    down: Some(first_node()),
+                })
+            }
+        }
+    }
+}
