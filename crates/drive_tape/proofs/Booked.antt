@@ -1,5 +1,5 @@
 -- The book of a world that a tape drove, by the law of the book.
-use Rattle.std.proofs.Common.{◌≡◌, ◌⊎◌, ℕ, List, [], ◌++◌, map, flat_map, All, Option, sym, ap, ◌∙◌, subst, append_assoc, ⊎_elim}
+use Rattle.std.proofs.Common.{◌≡◌, ◌⊎◌, ℕ, Bool, List, [], ◌++◌, map, flat_map, All, Option, sym, ap, ◌∙◌, subst, append_assoc, ⊎_elim}
 use Rattle.std.proofs.lemmas.List.{append-nil, map-append}
 use Rattle.std.proofs.lemmas.List.Elements.{All-append}
 use Rattle.std.proofs.lemmas.Grind.{flat_map-append}
@@ -8,7 +8,9 @@ use Rattle.mail_model.specs.Plan.{Plan}
 use Rattle.mail_model.specs.Transcript.{Entry, entry_line, written_of}
 use Rattle.mail_model.specs.Stored.{Ack}
 use Rattle.mail_model.specs.Book.{BookEntry, AcknowledgedAsTold}
-use Rattle.mail_model.specs.Site.{AtMostOne, opening, all_of}
+use Rattle.mail_model.specs.Site.{opening}
+use Rattle.mail_model.specs.Steps.{all_of}
+use Rattle.mail_model.specs.Runs.{AtMostOne}
 use Rattle.mail_model.proofs.Booked.{runs_keep_book}
 use Rattle.mail_model.proofs.OneLine.{runs_lines}
 use Rattle.cluster_world.specs.World.{book_of}
@@ -29,12 +31,12 @@ lacks (drove.WriteFault n) unwritten P may few none = few
 lacks (drove.BadTape n fault) unwritten P may few none = ⊎_elim (λ stepped. absurd stepped) none may
 lacks (drove.NoMemory n) unwritten P may few none = few
 
-pub booked : {D : Type 0} (seen : D → Option (List ℕ)) (faults : D → ℕ) (start : World D) (left0 left1 held0 held1 : Option (List ℕ)) (pending0 : List ℕ) (answer : Drove) (plan : Plan) (from : ℕ) (world : World D)
-    → plan.nodes ≡ 1 → DrivesWorld seen faults start left0 left1 held0 held1 pending0 answer from (opening plan) world
+pub booked : {D : Type 0} (seen : D → Option (List ℕ)) (faults : D → ℕ) (start : World D) (left0 left1 held0 held1 : Option (List ℕ)) (pending0 : List ℕ) (answer : Drove) (plan : Plan) (tells : Bool) (from : ℕ) (world : World D)
+    → plan.nodes ≡ 1 → DrivesWorld seen faults start left0 left1 held0 held1 pending0 answer from (opening plan tells) world
     → BooksAsTold left0 left1 held0 held1 pending0 answer plan (book_of world)
-booked seen faults start left0 left1 held0 held1 pending0 answer plan from world one all =
+booked seen faults start left0 left1 held0 held1 pending0 answer plan tells from world one all =
     let d = all.drives in
-    let law = runs_keep_book plan d.lines (lines_in d.others) d.outputs d.mid d.last d.stopped.front [] one d.each (lines_each d.others) d.runs d.stopped.off tt in
+    let law = runs_keep_book plan tells d.lines (lines_in d.others) d.outputs d.mid d.last d.stopped.front [] one d.runs d.stopped.off tt in
     let entries = (all_of d.outputs ++ d.stopped.front) ++ [] in
     record {
       read = d.read;

@@ -1,15 +1,26 @@
 mod Stops
 mod Writes
-mod Talks
+mod CallsMade
+mod CallsAnswered
+mod CallsFallen
+mod CallsLeft
+mod CallsRead
+mod CallsShort
+mod Talkers
 mod Since
-mod Began
-mod Deliveries
-mod Steps
-mod Says
-mod Files
+mod Talks
+mod Standing
+mod Taking
+mod Hearing
+mod Mailing
+mod Reading
+mod Calling
+mod Entering
 mod Orders
 pub mod Cuts
-pub mod Turn
 pub mod Runs
+pub mod Parts
+mod Answering
+pub mod Turn
 mod Booked
 mod Heads

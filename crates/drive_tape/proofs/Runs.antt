@@ -7,7 +7,8 @@ use Rattle.io_edge.proofs.Known.{consumes_more, appends_more, consumes_none, app
 use Rattle.mail_model.specs.Lines.{HasNoLf, ended}
 use Rattle.mail_model.specs.Transcript as transcript
 use Rattle.mail_model.specs.Transcript.{entry_line, written_of}
-use Rattle.mail_model.specs.Site.{Site, Turns, Runs, all_of}
+use Rattle.mail_model.specs.Site.{Site}
+use Rattle.mail_model.specs.Steps.{Turns, Runs, all_of}
 use Rattle.cluster_world.specs.declared.world.World.{World}
 use Rattle.drive_tape.specs.declared.cluster.Cluster.{Cluster}
 use Rattle.drive_tape.specs.declared.drove.Stop.{Stop}
@@ -19,7 +20,7 @@ use Rattle.drive_tape.specs.Drive.{Stopped, Turned, ShowsTurn, Progress, ShowsPr
 pub flat_map_last : {X : Type 0} (f : X → List ℕ) (xs : List X) (x : X) → flat_map f (xs ++ x ∷ []) ≡ flat_map f xs ++ f x
 flat_map_last f xs x = flat_map-append f xs (x ∷ []) ∙ ap (λ (l : List ℕ). flat_map f xs ++ l) (append-nil (f x))
 
-all_last : (outputs : List (List transcript.Entry)) (entries : List transcript.Entry) → all_of (outputs ++ entries ∷ []) ≡ all_of outputs ++ entries
+pub all_last : (outputs : List (List transcript.Entry)) (entries : List transcript.Entry) → all_of (outputs ++ entries ∷ []) ≡ all_of outputs ++ entries
 all_last outputs entries = flat_map-append (λ es. es) outputs (entries ∷ []) ∙ ap (λ (l : List transcript.Entry). all_of outputs ++ l) (append-nil entries)
 
 -- the lines of two lists of entries

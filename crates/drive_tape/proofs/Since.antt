@@ -1,21 +1,29 @@
--- The steps that were made of a world since it began.
-use Rattle.std.proofs.Common.{◌≡◌, ℕ, List, [], ◌∷◌, ◌++◌, Option, sym, ◌∙◌, subst}
-use Rattle.std.specs.Prelude.{IfSome}
-use Rattle.mail_model.specs.Record.{Record}
-use Rattle.mail_model.specs.Site.{Site, Made, HoldsRecords}
-use Rattle.cluster_world.specs.World.{disk_of}
+-- The steps that were made of a world since it began, and sites whose sessions or answers alone differ.
+use Rattle.std.proofs.Common.{ℕ, List, [], ◌∷◌, ◌++◌, Option, subst}
+use Rattle.mail_model.specs.Site.{Site, Conversation, Made}
+use Rattle.mail_model.specs.Stored.{Ack}
 use Rattle.cluster_world.specs.declared.world.World.{World}
-use Rattle.drive_tape.specs.Delivery.{Makes, IsSince}
+use Rattle.drive_tape.specs.Calls.{Makes, IsSince, IsAt}
 
--- another site with the same steps, book, records and node
-pub still : {D : Type 0} {seen : D → Option (List ℕ)} {faults : D → ℕ} {start : World D} {one other : Site} {world : World D} → IsSince seen faults start one world
-    → other.made ≡ one.made → other.book ≡ one.book → other.records ≡ one.records → other.up ≡ one.up → IsSince seen faults start other world
-still {D} {seen} {faults} {start} {one} {other} {world} since made book records up = record {
-  made = subst (λ (steps : List Made). Makes seen faults steps start world) (sym made) since.made;
-  book = since.book ∙ sym book;
-  store = subst (λ (rs : List Record). IfSome (seen (disk_of world)) (HoldsRecords rs)) (sym records) since.store;
-  later = since.later;
-  cause = λ down. since.cause (sym up ∙ down);
+-- a world speaks of no sessions, and of nothing that was answered
+pub since_moved : {D : Type 0} (seen : D → Option (List ℕ)) (faults : D → ℕ) (start : World D) (site : Site) (world : World D) (sessions : List Conversation) (acks : List Ack)
+    → IsSince seen faults start site world → IsSince seen faults start (record site { sessions = sessions; acks = acks }) world
+since_moved seen faults start site world sessions acks since =
+    record { made = since.made; book = since.book; store = since.store; told = since.told; later = since.later; cause = since.cause }
+
+pub at_moved : {D : Type 0} (seen : D → Option (List ℕ)) (faults : D → ℕ) (start : World D) (site : Site) (world : World D) (sessions : List Conversation) (acks : List Ack)
+    → IsAt seen faults start site world → IsAt seen faults start (record site { sessions = sessions; acks = acks }) world
+at_moved seen faults start site world sessions acks at = record {
+  plan = at.plan;
+  tells = at.tells;
+  up = at.up;
+  drawn = at.drawn;
+  tickets = at.tickets;
+  standing = at.standing;
+  gate = at.gate;
+  holds = at.holds;
+  fits = at.fits;
+  since = since_moved seen faults start site world sessions acks at.since;
 }
 
 -- steps behind steps

@@ -6,7 +6,7 @@ use Rattle.mail_model.specs.Plan.{Plan}
 use Rattle.mail_model.specs.Transcript.{Entry, entry_line, written_of}
 use Rattle.mail_model.specs.Stored.{Ack}
 use Rattle.mail_model.specs.Book.{BookEntry, AcknowledgedAsTold}
-use Rattle.mail_model.specs.Site.{AtMostOne}
+use Rattle.mail_model.specs.Runs.{AtMostOne}
 use Rattle.drive_tape.specs.declared.drove.Drove.{Drove}
 use Rattle.drive_tape.specs.declared.drove.Drove.TheVariants as drove
 

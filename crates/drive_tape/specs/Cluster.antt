@@ -1,22 +1,20 @@
--- The program's cluster as a site.
-use Rattle.std.specs.Prelude.{◌≡◌, ◌⊎◌, ◌+◌, ℕ, true, false, List, [], ◌∷◌, Option, Some, None, Result, Ok, Err, map, codes}
+-- The program's cluster as a site, and what its calls do.
+use Rattle.std.specs.Prelude.{◌≡◌, ◌⊎◌, ℕ, true, false, List, [], Option, Some, None, Result, Ok, Err}
 use Rattle.mail_model.specs.Tape as tape
 use Rattle.mail_model.specs.Transcript as transcript
-use Rattle.mail_model.specs.Smtp.{down_text, stored_text}
-use Rattle.mail_model.specs.Told.{Mail}
-use Rattle.mail_model.specs.Site.{Site, Steps, RunsShort, refusal, count_on, all_over, closed_event}
-use Rattle.cluster_world.specs.World.{plan_of, is_up, drawn_of, standing_of, ShowsGate, WorldHolds}
+use Rattle.mail_model.specs.Site.{Site, refusal, session_at, count_on, all_over}
+use Rattle.mail_model.specs.Steps.{TakesUp, Hears, IsIdle}
+use Rattle.mail_model.specs.Runs.{RunsShort}
+use Rattle.cluster_world.specs.World.{plan_of, is_up, ShowsGate}
 use Rattle.cluster_world.specs.declared.world.World.{World}
 use Rattle.drive_tape.specs.declared.cluster.Cluster.{Cluster}
 use Rattle.drive_tape.specs.declared.cluster.StepStop.{StepStop}
 use Rattle.drive_tape.specs.declared.cluster.StepStop.TheVariants.{Refused, NoMemory}
 use Rattle.drive_tape.specs.declared.entry.Entry.{Entry}
-use Rattle.drive_tape.specs.declared.sessions.Talker.{Talker}
-use Rattle.drive_tape.specs.declared.sessions.Talker.TheVariants.{On, Over}
 use Rattle.drive_tape.specs.Entries.{entries_of}
-use Rattle.drive_tape.specs.Talks.{Converse}
 use Rattle.drive_tape.specs.Faults.{fault_of}
-use Rattle.drive_tape.specs.Delivery.{IsSince, IsStoredBy, IsFallen, RanShort}
+use Rattle.drive_tape.specs.Talks.{Converse, rest_at}
+use Rattle.drive_tape.specs.Calls.{IsAt, IsSince}
 
 -- what the calls of a cluster need of it, and keep
 pub record IsReady {D : Type 0} (seen : D → Option (List ℕ)) (cluster : Cluster D) : Type 0 where
@@ -25,52 +23,31 @@ pub record IsReady {D : Type 0} (seen : D → Option (List ℕ)) (cluster : Clus
 
 -- The cluster is at this site, and its world began as `start`.
 pub record Shows {D : Type 0} (seen : D → Option (List ℕ)) (faults : D → ℕ) (start : World D) (cluster : Cluster D) (site : Site) : Type 0 where
-  pub plan : plan_of cluster.world ≡ site.plan
-  pub up : is_up cluster.world ≡ site.up
-  pub drawn : drawn_of cluster.world ≡ site.drawn
-  pub standing : standing_of cluster.world ≡ []
+  pub at : IsAt seen faults start site cluster.world
   pub talks : Converse cluster.sessions.talkers.items site.sessions
   pub count : cluster.sessions.standing ≡ count_on site.sessions
-  pub holds : is_up cluster.world ≡ true → WorldHolds seen site.records cluster.world
-  pub fallen : is_up cluster.world ≡ false → site.sessions ≡ all_over site.sessions
+  pub fallen : site.up ≡ false → site.sessions ≡ all_over site.sessions
   pub since : IsSince seen faults start site cluster.world
 
--- what a step may leave where memory ran out: nothing new, the whole step, or a message that was delivered in part
-abbrev pub StepLeaves : Site → tape.Order → Site → Type 0
-StepLeaves old order last =
-    (last ≡ old)
-    ⊎ ((entries : List transcript.Entry) × (refusal old order ≡ None) × Steps old order entries last)
-    ⊎ RunsShort old last
+-- how many octets the session of this number holds that it has not looked at further; none where it has ended
+abbrev pub rest_in : {D : Type 0} → ℕ → Cluster D → ℕ
+rest_in session cluster = rest_at session cluster.sessions.talkers.items
 
--- one step: what it gives, why it is refused, or what want of memory leaves
-abbrev pub StepDid : {D : Type 0} → (D → Option (List ℕ)) → (D → ℕ) → World D → Result (List Entry) StepStop → tape.Order → Site → Cluster D → Type 0
-StepDid seen faults start (Ok entries) order old new = (site : Site) × (refusal old order ≡ None) × Steps old order (entries_of entries) site × Shows seen faults start new site
-StepDid seen faults start (Err (Refused fault)) order old new = (refusal old order ≡ Some (fault_of fault)) × Shows seen faults start new old
-StepDid seen faults start (Err NoMemory) order old new = (last : Site) × StepLeaves old order last × IsSince seen faults start last new.world
+-- what a call that gives no entries answers, as one that gives none
+abbrev pub gives_none : Result (Unit {0}) StepStop → Result (List Entry) StepStop
+gives_none (Ok _) = Ok []
+gives_none (Err stop) = Err stop
 
--- what the sessions from number k on write as their node goes down
-abbrev pub talker_entries : ℕ → List Talker → List transcript.Entry
-talker_entries k [] = []
-talker_entries k (On session ∷ talkers) = transcript.Entry.Said k (down_text 1) ∷ closed_event k ∷ talker_entries (k + 1) talkers
-talker_entries k (Over ∷ talkers) = talker_entries (k + 1) talkers
+-- a run line was taken up: what it gives at once, why it is refused, or what want of memory leaves
+abbrev pub TookUp : {D : Type 0} → (D → Option (List ℕ)) → (D → ℕ) → World D → Result (List Entry) StepStop → tape.Order → Site → Cluster D → Type 0
+TookUp seen faults start (Ok entries) order old new = (site : Site) × (refusal old order ≡ None) × TakesUp old order (entries_of entries) site × Shows seen faults start new site
+TookUp seen faults start (Err (Refused fault)) order old new = (refusal old order ≡ Some (fault_of fault)) × Shows seen faults start new old
+TookUp seen faults start (Err NoMemory) order old new =
+    (last : Site) × ((last ≡ old) ⊎ ((entries : List transcript.Entry) × (refusal old order ≡ None) × TakesUp old order entries last)) × IsSince seen faults start last new.world
 
--- the message is stored, and the session is told so
-pub record Stores {D : Type 0} (seen : D → Option (List ℕ)) (faults : D → ℕ) (session : ℕ) (mail : Mail) (entries : List transcript.Entry) (old new : Cluster D) : Type 0 where
-  pub stored : IsStoredBy seen faults mail old.world new.world
-  pub says : entries ≡ transcript.Entry.Said session stored_text ∷ []
-  pub sessions : new.sessions ≡ old.sessions
-
--- the disk failed, and all sessions have ended
-pub record Drops {D : Type 0} (seen : D → Option (List ℕ)) (faults : D → ℕ) (mail : Mail) (entries : List transcript.Entry) (old new : Cluster D) : Type 0 where
-  pub fallen : IsFallen seen faults mail old.world new.world
-  pub says : entries ≡ transcript.Entry.Event (codes "fault 1") ∷ talker_entries 1 old.sessions.talkers.items
-  pub talkers : new.sessions.talkers.items ≡ map (λ _. Over) old.sessions.talkers.items
-  pub standing : new.sessions.standing ≡ 0
-
--- what filing a message gives: it is stored, or the disk failed; or memory ran out in this, or behind it
-abbrev pub Filed : {D : Type 0} → (D → Option (List ℕ)) → (D → ℕ) → Result (List Entry) StepStop → ℕ → Mail → Cluster D → Cluster D → Type 0
-Filed seen faults (Ok entries) session mail old new =
-    Stores seen faults session mail (entries_of entries) old new ⊎ Drops seen faults mail (entries_of entries) old new
-Filed seen faults (Err (Refused fault)) session mail old new = ⊥
-Filed seen faults (Err NoMemory) session mail old new =
-    RanShort seen faults mail old.world new.world ⊎ IsStoredBy seen faults mail old.world new.world ⊎ IsFallen seen faults mail old.world new.world
+-- the session heard its next unit, or none is whole; or what want of memory leaves
+abbrev pub HeardNext : {D E : Type 0} → (D → Option (List ℕ)) → (D → ℕ) → World D → Result (Option (List Entry)) E → ℕ → Site → Cluster D → Type 0
+HeardNext seen faults start (Ok None) k old new = IsIdle (session_at old.sessions k) × Shows seen faults start new old
+HeardNext seen faults start (Ok (Some entries)) k old new = (site : Site) × Hears old k (entries_of entries) site × Shows seen faults start new site
+HeardNext seen faults start (Err _) k old new =
+    (last : Site) × ((last ≡ old) ⊎ ((entries : List transcript.Entry) × Hears old k entries last) ⊎ RunsShort old last) × IsSince seen faults start last new.world

@@ -6,13 +6,15 @@ use Rattle.mail_model.specs.Tape.{Order, tape_order}
 use Rattle.mail_model.specs.Tape.Order.{End}
 use Rattle.mail_model.specs.Transcript.{Entry, entry_line, written_of}
 use Rattle.mail_model.specs.Site as site
-use Rattle.mail_model.specs.Site.{Site, Turns, Runs, LeavesOff, all_of, refusal}
+use Rattle.mail_model.specs.Site.{Site, refusal}
+use Rattle.mail_model.specs.Steps.{Turns, Runs, all_of}
+use Rattle.mail_model.specs.Runs.{LeavesOff}
 use Rattle.cluster_world.specs.declared.world.World.{World}
 use Rattle.drive_tape.specs.declared.cluster.Cluster.{Cluster}
-use Rattle.drive_tape.specs.Delivery.{IsSince}
+use Rattle.drive_tape.specs.Calls.{IsSince}
 use Rattle.drive_tape.specs.Cluster.{Shows}
 use Rattle.drive_tape.specs.Cut.{lines_in}
-use Rattle.drive_tape.specs.Parts.{IsCut}
+use Rattle.drive_tape.specs.Parts.{IsCutOfNext}
 use Rattle.drive_tape.specs.declared.drove.Drove.{Drove}
 use Rattle.drive_tape.specs.declared.drove.Drove.TheVariants as drove
 use Rattle.drive_tape.specs.declared.drove.TapeFault.{TapeFault}
@@ -54,7 +56,7 @@ Stops WriteFault left octets room mid = ⊤
 Stops (Bad fault) left octets room mid = StopsAt fault left octets room mid
 Stops NoMemory left octets room mid = ⊤
 
--- whether a stop may come once the next line's step was made
+-- whether a stop may come once something was done for the next line
 abbrev pub MayHaveStepped : Stop → Type 0
 MayHaveStepped Ended = ⊥
 MayHaveStepped ReadFault = ⊥
@@ -62,14 +64,13 @@ MayHaveStepped WriteFault = ⊤
 MayHaveStepped (Bad fault) = ⊥
 MayHaveStepped NoMemory = ⊤
 
--- The work stopped: the next line was left alone, or a front of what it gives was written, the last line of it perhaps in part.
+-- The work stopped: the next line was left alone, or left in its midst, once a front of what it gives was written, the last line of it perhaps in part.
 pub record Stopped (stop : Stop) (left : Option (List ℕ)) (octets : List ℕ) (room : ℕ) (mid : Site) (written : List ℕ) (last : Site) : Type 0 where
   pub front : List Entry
-  pub missing : List Entry
   pub cut : List ℕ
   pub out : written ≡ written_of front ++ cut
-  pub part : IsCut missing cut
-  pub next : (written ≡ []) ⊎ ((line : List ℕ) × (more : List (List ℕ)) × (lines_in octets ≡ line ∷ more) × Turns mid line (front ++ missing) last)
+  -- the line that was written in part is one that the work gives behind the front
+  pub part : IsCutOfNext (λ entry. LeavesOff mid (lines_in octets) (front ++ entry ∷ []) last) cut
   pub each : All HasNoLf (map entry_line front)
   pub rest : HasNoLf cut
   pub off : LeavesOff mid (lines_in octets) front last

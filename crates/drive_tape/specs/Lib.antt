@@ -4,9 +4,12 @@ pub mod Parts
 pub mod Entries
 pub mod Faults
 pub mod Talks
-pub mod Delivery
+pub mod Calls
+pub mod Asked
 pub mod Cluster
+pub mod Leads
 pub mod Lines
+pub mod Answering
 pub mod Stops
 pub mod Drive
 pub mod Booked

@@ -1,27 +1,36 @@
 // A cluster and the sessions that are open at it.
-ghost use Rattle.std.specs.Prelude.{◌≡◌, ◌+◌, ◌-◌, ◌^◌, ◌≤◌, ◌<◌, ◌∷◌, ◌++◌, [], List, ℕ, Bool, true, false, map, IsTrue, IfOk, OnOk, OnErr, Some, None, IsErrOf, nat_eq, nat_lt, ◌||◌, if◌then◌else◌};
-ghost use Rattle.std.specs.Fmt.{decimal};
-ghost use Rattle.std.specs.Prelude.{codes};
+ghost use Rattle.std.specs.Prelude.{◌≡◌, ◌≤◌, ◌<◌, ◌∷◌, [], List, ℕ, true, map, IsTrue, IfOk, OnOk, IfSome, Some, None, Option, is_some, nat_eq, nat_lt, ◌||◌, if◌then◌else◌, codes};
 ghost use Rattle.mail_model.specs.Tape as tape;
 ghost use Rattle.mail_model.specs.Transcript as transcript;
+ghost use Rattle.mail_model.specs.Maildrop.{Outcome as MaildropOutcome, Stage};
 ghost use Rattle.mail_model.specs.Plan.{Plan};
-ghost use Rattle.mail_model.specs.Site.{Site, closed_event, opening};
-ghost use Rattle.smtp_session.specs.Replies.{text_of};
-ghost use Rattle.cluster_world.specs.World.{plan_of, is_up, drawn_of, disk_of, Begins};
-ghost use Rattle.cluster_world.specs.declared.world.World.{World as SeenWorld};
-ghost use Rattle.drive_tape.specs.Entries.{entry_of, entries_of};
-ghost use Rattle.drive_tape.specs.Cluster.{IsReady, Shows, StepDid, Filed, talker_entries};
-ghost use Rattle.drive_tape.specs.declared.sessions.Talker.TheVariants as talker;
+ghost use Rattle.mail_model.specs.Site.{Site, Conversation, Login as SeenLogin, opening, session_at};
+ghost use Rattle.mail_model.specs.Site.Conversation.{OnPop};
+ghost use Rattle.cluster_world.specs.Steps.{nth_ticket};
+ghost use Rattle.tape_lines.specs.Orders.{protocol_seen};
 ghost use Rattle.mail_base.specs.Delivers.{mail_in};
+ghost use Rattle.cluster_world.specs.World.{plan_of, is_up, disk_of, Begins, ShowsGate};
+ghost use Rattle.cluster_world.specs.declared.world.World.{World as SeenWorld};
+ghost use Rattle.drive_tape.specs.Calls.{IsAt};
+ghost use Rattle.drive_tape.specs.Entries.{entries_of};
+ghost use Rattle.drive_tape.specs.Talks.{Converse, IsOwn};
+ghost use Rattle.drive_tape.specs.Cluster.{IsReady, Shows, TookUp, HeardNext, gives_none, rest_in};
+ghost use Rattle.drive_tape.specs.Leads.{CallDid, FilesMail, HasLeftBy, LeavesDrop, AnswersLine, Enters, FetchesMail, talker_entries};
+ghost use Rattle.drive_tape.specs.declared.talker.Talker.TheVariants as talker;
 
-use crate::delivery::{Outcome, deliver};
-use crate::sessions::{Sessions, Talker};
+use crate::answers::{
+    falls, first_node, greets, listing_of, says, says_and_closes, shows, shows_and_closes,
+};
+use crate::calls::{Entered, Fetched, Outcome, deliver, fetch, leave, log_in};
+use crate::sessions::Sessions;
+use crate::talker::{Heard, Login};
 use crate::{Entry, Row, TapeFault};
 use cluster_world::World;
 use io_edge::Disk;
-use mail_base::{Deliver, NodeNo, Octets, Plan};
-use smtp_session::{Heard, Reply};
+use mail_base::{Deliver, MsgId, Name, NodeNo, Octets, Plan};
+use smtp_session::Reply;
 use std::alloc::{AllocError, Global};
+use tape_lines::Protocol;
 
 /// Why a step gave no entries.
 #[derive(Clone, Copy, Debug, PartialEq, Eq)]
@@ -52,13 +61,6 @@ pub struct Cluster<D> {
     pub sessions: Sessions,
 }
 
-// The first node.
-fn first_node() -> NodeNo
-    ensures { result ≡ 1 }
-{
-    NodeNo::new(1).unwrap()
-}
-
 // The node of this number in the plan.
 fn node_of(plan: &Plan, number: u64) -> Option<NodeNo>
     requires { plan.now.nodes ≡ 1 }
@@ -67,89 +69,31 @@ fn node_of(plan: &Plan, number: u64) -> Option<NodeNo>
     if number == 1 { NodeNo::new(1) } else { None }
 }
 
-// A line of the session: the reply of that node.
-fn said(alloc: Global, session: u64, reply: Reply, node: NodeNo) -> Result<Entry, AllocError>
-    ensures { IfOk result (λ entry. entry_of entry ≡ transcript.Entry.Said session (text_of reply node)) }
-{
-    let mut text = Vec::new(alloc);
-    reply.text_into(alloc, node, &mut text)?;
-    Ok(Entry::Said {
-        session,
-        text: Octets::from_vec(text),
-    })
-}
-
-// The session has ended.
-fn closed(alloc: Global, session: u64) -> Result<Entry, AllocError>
-    ensures { IfOk result (λ entry. entry_of entry ≡ closed_event session) }
-{
-    let number = session.to_string(alloc)?;
-    let mut text = Vec::from_slice(alloc, number.as_bytes())?;
-    text.extend_from_slice(b" closed")?;
-    Ok(Entry::Event {
-        text: Octets::from_vec(text),
-    })
-}
-
-// The disk of the first node failed.
-fn fault(alloc: Global) -> Result<Entry, AllocError>
-    ensures { IfOk result (λ entry. entry_of entry ≡ transcript.Entry.Event (codes "fault 1")) }
-{
-    Ok(Entry::Event {
-        text: Octets::from_vec(Vec::from_slice(alloc, b"fault 1")?),
-    })
-}
-
-// The one line that a session says, of that node.
-fn says(alloc: Global, session: u64, reply: Reply, node: NodeNo) -> Result<Row<Entry>, AllocError>
-    ensures { IfOk result (λ entries. entries_of entries ≡ transcript.Entry.Said session (text_of reply node) ∷ []) }
-{
-    let mut entries = Row::new(alloc);
-    entries.push(said(alloc, session, reply, node)?)?;
-    Ok(entries)
-}
-
-// The last line that a session says, of that node, and that it has ended.
-fn says_and_closes(
+// Tells the node that a session leaves, where it had a login.
+fn take_leave<D: Disk>(
+    world: &mut World<D>,
     alloc: Global,
-    session: u64,
-    reply: Reply,
-    node: NodeNo,
-) -> Result<Row<Entry>, AllocError>
-    ensures { IfOk result (λ entries. entries_of entries ≡ transcript.Entry.Said session (text_of reply node) ∷ closed_event session ∷ []) }
-{
-    let mut entries = Row::new(alloc);
-    entries.push(said(alloc, session, reply, node)?)?;
-    entries.push(closed(alloc, session)?)?;
-    Ok(entries)
-}
-
-// What the sessions that stand write as their node goes down, behind what is there.
-fn down_entries(
-    alloc: Global,
-    talkers: &[Talker],
-    entries: &mut Row<Entry>,
+    login: Option<Login>,
 ) -> Result<(), AllocError>
-    ensures { OnOk result (entries_of entries.new ≡ entries_of entries.old ++ talker_entries 1 talkers.now) }
+    requires one { (plan_of world.old).nodes ≡ 1 }
+    requires up { IsTrue (is_up world.old) }
+    requires gate { ShowsGate D.seen world.old }
+    ensures left { (start : SeenWorld D) (at : Site) → IsOwn login → IsAt D.seen D.faults start at world.old
+        → HasLeftBy D.seen D.faults start result login at world.new }
+    ensures plan { plan_of world.new ≡ plan_of world.old }
+    ensures gate { is_up world.new ≡ true → ShowsGate D.seen world.new }
 {
-    let mut number = 1u64;
-    for talker in talkers {
-        if let Talker::On(_) = talker {
-            entries.push(said(alloc, number, Reply::Down, first_node())?)?;
-            entries.push(closed(alloc, number)?)?;
-        }
-        number += 1;
+    match login {
+        Some(login) => leave(world, alloc, login.user, login.ticket),
+        None => Ok(()),
     }
-    Ok(())
 }
 
 impl<D: Disk> Cluster<D> {
     /// A cluster at which no session was opened. It takes no memory.
     pub fn new(alloc: Global, world: World<D>) -> Cluster<D>
         ensures world { result.world ≡ world }
-        ensures talkers { result.sessions.talkers.items ≡ [] }
-        ensures standing { result.sessions.standing ≡ 0 }
-        ensures shows { (plan : Plan) → Begins D.seen plan world → Shows D.seen D.faults world result (opening plan) }
+        ensures shows { (plan : Plan) → Begins D.seen plan world → Shows D.seen D.faults world result (opening plan (is_some (D.seen (disk_of world)))) }
         ensures ready { (plan : Plan) → Begins D.seen plan world → plan.nodes ≡ 1 → IsReady D.seen result }
     {
         Cluster {
@@ -158,18 +102,23 @@ impl<D: Disk> Cluster<D> {
         }
     }
 
-    /// Opens a session at the node of this number, and gives its greeting. The session gets the next number.
+    /// Opens a session of this protocol at the node of this number, and gives its greeting. The session gets the next
+    /// number.
     ///
     /// # Errors
     ///
     /// `Refused`, the first that fits: `NoSuchNode` where the plan has no such node, `NodeDown` where it is down, and
     /// `TooManySessions` where 256 sessions stand. `NoMemory`: the session may then be open.
-    pub fn open(&mut self, alloc: Global, node: u64) -> Result<Row<Entry>, StepStop>
+    pub fn open(
+        &mut self,
+        alloc: Global,
+        protocol: Protocol,
+        node: u64,
+    ) -> Result<Row<Entry>, StepStop>
         requires ready { IsReady D.seen self.old }
         ensures ready { IsReady D.seen self.new }
         ensures did { (start : SeenWorld D) (site : Site) → Shows D.seen D.faults start self.old site
-            → StepDid D.seen D.faults start result (tape.Order.Open node) site self.new }
-        ensures drawn { drawn_of self.new.world ≡ drawn_of self.old.world }
+            → TookUp D.seen D.faults start result (tape.Order.Open (protocol_seen protocol) node) site self.new }
     {
         let Some(node) = node_of(self.world.plan(), node) else {
             return Err(StepStop::Refused(TapeFault::NoSuchNode));
@@ -180,9 +129,113 @@ impl<D: Disk> Cluster<D> {
         if self.sessions.standing >= 256 {
             return Err(StepStop::Refused(TapeFault::TooManySessions));
         }
-        self.sessions.add(alloc)?;
+        self.sessions.add(alloc, protocol)?;
         let number = self.sessions.talkers.len() as u64;
-        Ok(says(alloc, number, Reply::Ready, node)?)
+        Ok(greets(alloc, number, protocol, node)?)
+    }
+
+    /// The session of this number takes up a line, given without its CRLF: it is to hear it.
+    ///
+    /// # Errors
+    ///
+    /// `Refused(NoSuchSession)` where the session was never opened or has ended, and `NoMemory`: nothing is said then of
+    /// the octets that it holds.
+    pub fn say(&mut self, session: u64, text: &[u8]) -> Result<(), StepStop>
+        requires ready { IsReady D.seen self.old }
+        ensures ready { IsReady D.seen self.new }
+        ensures did { (start : SeenWorld D) (site : Site) → Shows D.seen D.faults start self.old site
+            → TookUp D.seen D.faults start (gives_none result) (tape.Order.Say session text.now) site self.new }
+    {
+        if !self.sessions.is_on(session) {
+            return Err(StepStop::Refused(TapeFault::NoSuchSession));
+        }
+        self.sessions.feed(session, text)?;
+        self.sessions.feed(session, b"\r\n")?;
+        Ok(())
+    }
+
+    /// The session of this number takes up octets, as many as memory holds: whole lines, parts of lines, or both. It is
+    /// to hear what is whole of them.
+    ///
+    /// # Errors
+    ///
+    /// `Refused(NoSuchSession)` where the session was never opened or has ended, and `NoMemory`: nothing is said then of
+    /// the octets that it holds.
+    pub fn feed(&mut self, session: u64, octets: &[u8]) -> Result<(), StepStop>
+        requires ready { IsReady D.seen self.old }
+        ensures ready { IsReady D.seen self.new }
+        ensures did { (start : SeenWorld D) (site : Site) → Shows D.seen D.faults start self.old site
+            → TookUp D.seen D.faults start (gives_none result) (tape.Order.Feed session octets.now) site self.new }
+    {
+        if !self.sessions.is_on(session) {
+            return Err(StepStop::Refused(TapeFault::NoSuchSession));
+        }
+        self.sessions.feed(session, octets)?;
+        Ok(())
+    }
+
+    /// The client of the session of this number closes it: it ends without a word, and the node is told that it leaves,
+    /// where it had entered a maildrop.
+    ///
+    /// # Errors
+    ///
+    /// `Refused(NoSuchSession)` where the session was never opened or has ended, and `NoMemory`: the session has then
+    /// ended, and the node was told.
+    pub fn close_session(&mut self, alloc: Global, session: u64) -> Result<(), StepStop>
+        requires ready { IsReady D.seen self.old }
+        ensures ready { IsReady D.seen self.new }
+        ensures did { (start : SeenWorld D) (site : Site) → Shows D.seen D.faults start self.old site
+            → TookUp D.seen D.faults start (gives_none result) (tape.Order.Close session) site self.new }
+    {
+        // A node that is down has no session.
+        if !self.world.is_up(first_node()) {
+            return Err(StepStop::Refused(TapeFault::NoSuchSession));
+        }
+        if !self.sessions.is_on(session) {
+            return Err(StepStop::Refused(TapeFault::NoSuchSession));
+        }
+        let login = self.sessions.end(session);
+        take_leave(&mut self.world, alloc, login)?;
+        Ok(())
+    }
+
+    /// The session of this number hears the next unit or line of the octets that it was given, where one is whole, and
+    /// this is what that gives: the lines of its reply, and behind the reply to `QUIT` that it is closed. A message is on
+    /// the disk before its session is told so, and one that is read is read before it is shown; or the disk failed, and
+    /// that and the end of all sessions is given. Nothing is given where no unit is whole.
+    ///
+    /// # Errors
+    ///
+    /// Want of memory. The unit may then be heard, and its message on the disk whole or in part.
+    pub fn hear(&mut self, alloc: Global, session: u64) -> Result<Option<Row<Entry>>, AllocError>
+        requires ready { IsReady D.seen self.old }
+        ensures ready { IsReady D.seen self.new }
+        ensures did { (start : SeenWorld D) (site : Site) → Shows D.seen D.faults start self.old site
+            → HeardNext D.seen D.faults start result session site self.new }
+        ensures less { IfOk result (λ more. IfSome more (λ _. rest_in session self.new < rest_in session self.old)) }
+    {
+        // A node that is down has no session.
+        if !self.world.is_up(first_node()) {
+            return Ok(None);
+        }
+        match self.sessions.next(alloc, self.world.plan(), session)? {
+            Heard::Idle => Ok(None),
+            Heard::Said(reply) => Ok(Some(says(alloc, session, reply, first_node())?)),
+            Heard::Closed(reply) => Ok(Some(says_and_closes(alloc, session, reply, first_node())?)),
+            Heard::Files(message) => Ok(Some(self.file(alloc, session, message)?)),
+            Heard::Shown(reply) => Ok(Some(shows(alloc, session, reply)?)),
+            Heard::Left { reply, login } => Ok(Some(self.leave(alloc, session, reply, login)?)),
+            Heard::LogsIn { user, secret } => Ok(Some(self.log_in(alloc, session, user, secret)?)),
+            Heard::Fetches { user, id } => Ok(Some(self.fetch(alloc, session, user, id)?)),
+        }
+    }
+
+    /// Gives the disk back, in whatever state it is.
+    pub fn close(self) -> D
+        ensures { result ≡ disk_of self.world }
+    {
+        let Cluster { world, .. } = self;
+        world.close()
     }
 }
 
@@ -194,9 +247,7 @@ impl<D: Disk> Cluster<D> {
         ensures standing { OnOk result (self.new.sessions.standing ≡ 0) }
         ensures world { self.new.world ≡ self.old.world }
     {
-        let mut entries = Row::new(alloc);
-        entries.push(fault(alloc)?)?;
-        down_entries(alloc, &self.sessions.talkers, &mut entries)?;
+        let entries = falls(alloc, &self.sessions.talkers)?;
         self.sessions.end_all();
         Ok(entries)
     }
@@ -207,56 +258,105 @@ impl<D: Disk> Cluster<D> {
         alloc: Global,
         session: u64,
         message: Deliver,
-    ) -> Result<Row<Entry>, StepStop>
+    ) -> Result<Row<Entry>, AllocError>
         requires ready { IsReady D.seen self.old }
         requires up { IsTrue (is_up self.old.world) }
-        requires drawn { drawn_of self.old.world < 2 ^ 64 - 1 }
         ensures ready { IsReady D.seen self.new }
-        ensures filed { Filed D.seen D.faults result session (mail_in message) self.old self.new }
-        ensures drawn { drawn_of self.new.world ≤ drawn_of self.old.world + 1 }
+        ensures filed { (start : SeenWorld D) (at : Site) → Shows D.seen D.faults start self.old at
+            → CallDid D.seen D.faults start result (FilesMail at session (mail_in message)) at self.new }
+        ensures rest { OnOk result (rest_in session self.new ≤ rest_in session self.old) }
     {
-        match deliver(&mut self.world, alloc, first_node(), message)? {
-            Outcome::Stored => Ok(says(alloc, session, Reply::Stored, first_node())?),
-            Outcome::Fallen => Ok(self.fall(alloc)?),
+        match deliver(&mut self.world, alloc, message)? {
+            Outcome::Stored => says(alloc, session, Reply::Stored, first_node()),
+            Outcome::Fallen => self.fall(alloc),
         }
     }
 
-    /// The session of this number hears a line, given without its CRLF, and this is what that gives: its reply, none for a
-    /// line of a text, and behind the reply to `QUIT` that it is closed. A whole message is on the disk before its session
-    /// is told so; or the disk failed, and that and the end of all sessions is given.
-    ///
-    /// # Errors
-    ///
-    /// `Refused(NoSuchSession)` where the session was never opened or has ended, and `NoMemory`: the line may then be
-    /// heard, and its message on the disk whole or in part.
-    pub fn say(&mut self, alloc: Global, session: u64, text: &[u8]) -> Result<Row<Entry>, StepStop>
+    // Tells the node that the session leaves, and writes its last reply and that it is closed.
+    fn leave(
+        &mut self,
+        alloc: Global,
+        session: u64,
+        reply: pop_session::Reply,
+        login: Option<Login>,
+    ) -> Result<Row<Entry>, AllocError>
         requires ready { IsReady D.seen self.old }
-        requires drawn { drawn_of self.old.world < 2 ^ 64 - 1 }
+        requires up { IsTrue (is_up self.old.world) }
         ensures ready { IsReady D.seen self.new }
-        ensures did { (start : SeenWorld D) (site : Site) → Shows D.seen D.faults start self.old site
-            → StepDid D.seen D.faults start result (tape.Order.Say session text.now) site self.new }
-        ensures drawn { drawn_of self.new.world ≤ drawn_of self.old.world + 1 }
+        ensures left { (start : SeenWorld D) (at : Site) → IsOwn login → Shows D.seen D.faults start self.old at
+            → CallDid D.seen D.faults start result (LeavesDrop at session reply login) at self.new }
+        ensures sessions { self.new.sessions ≡ self.old.sessions }
     {
-        // A node that is down has no session.
-        if !self.world.is_up(first_node()) {
-            return Err(StepStop::Refused(TapeFault::NoSuchSession));
-        }
-        let Some(heard) = self.sessions.hear(alloc, self.world.plan(), session, text)? else {
-            return Err(StepStop::Refused(TapeFault::NoSuchSession));
-        };
-        match heard {
-            Heard::Collected => Ok(Row::new(alloc)),
-            Heard::Said(reply) => Ok(says(alloc, session, reply, first_node())?),
-            Heard::Closed(reply) => Ok(says_and_closes(alloc, session, reply, first_node())?),
-            Heard::Files(message) => Ok(self.file(alloc, session, message)?),
+        take_leave(&mut self.world, alloc, login)?;
+        shows_and_closes(alloc, session, reply)
+    }
+
+    // Asks whether this is the user's secret: the session is let in, or told that it is not.
+    fn log_in(
+        &mut self,
+        alloc: Global,
+        session: u64,
+        user: Name,
+        secret: Octets,
+    ) -> Result<Row<Entry>, AllocError>
+        requires ready { IsReady D.seen self.old }
+        requires up { IsTrue (is_up self.old.world) }
+        ensures ready { IsReady D.seen self.new }
+        ensures logged_in { AnswersLine D.seen D.faults result session (MaildropOutcome.AsksLogin user secret) self.old self.new }
+        ensures rest { OnOk result (rest_in session self.new ≡ rest_in session self.old) }
+    {
+        let name = user.copy()?;
+        match log_in(&mut self.world, alloc, user, secret)? {
+            Some(entered) => self.enter(alloc, session, name, entered),
+            None => shows(alloc, session, pop_session::Reply::wrong(alloc)?),
         }
     }
 
-    /// Gives the disk back, in whatever state it is.
-    pub fn close(self) -> D
-        ensures { result ≡ disk_of self.world }
+    // The session of this user is let in, and told so.
+    fn enter(
+        &mut self,
+        alloc: Global,
+        session: u64,
+        user: Name,
+        entered: Entered,
+    ) -> Result<Row<Entry>, AllocError>
+        ensures entered { (old : List Conversation) (stage : Stage) (known : Option SeenLogin) (more : List ℕ) → Converse self.old.sessions.talkers.items old
+            → session_at old session ≡ Some (OnPop stage known more) → entered.ticket ≡ nth_ticket entered.ticket.seq
+            → IfOk result (λ entries. Enters (entries_of entries) session user entered stage more old self.new.sessions) }
+        ensures count { self.new.sessions.standing ≡ self.old.sessions.standing }
+        ensures rest { OnOk result (rest_in session self.new ≡ rest_in session self.old) }
+        ensures world { self.new.world ≡ self.old.world }
     {
-        let Cluster { world, .. } = self;
-        world.close()
+        let Entered { ticket, items } = entered;
+        let listing = listing_of(alloc, &items)?;
+        let login = Login { user, ticket };
+        let reply = self.sessions.enter(alloc, session, login, listing)?;
+        shows(alloc, session, reply)
+    }
+
+    // Reads a message of the user, and shows it, or says that it was deleted; or the disk fails, and the node is down.
+    fn fetch(
+        &mut self,
+        alloc: Global,
+        session: u64,
+        user: Name,
+        id: MsgId,
+    ) -> Result<Row<Entry>, AllocError>
+        requires ready { IsReady D.seen self.old }
+        requires up { IsTrue (is_up self.old.world) }
+        ensures ready { IsReady D.seen self.new }
+        ensures fetched { (start : SeenWorld D) (at : Site) → Shows D.seen D.faults start self.old at
+            → CallDid D.seen D.faults start result (FetchesMail at session user id) at self.new }
+        ensures rest { OnOk result (rest_in session self.new ≤ rest_in session self.old) }
+    {
+        match fetch(&mut self.world, alloc, user, id)? {
+            Fetched::Whole(octets) => shows(
+                alloc,
+                session,
+                pop_session::Reply::message(alloc, octets.as_slice())?,
+            ),
+            Fetched::Gone => shows(alloc, session, pop_session::Reply::gone(alloc)?),
+            Fetched::Fallen => self.fall(alloc),
+        }
     }
 }

@@ -61,7 +61,7 @@ pub enum Drove {
     Ended,
     /// The source failed before a line was whole.
     ReadFault,
-    /// The sink failed at what this line writes. What the line does is done.
+    /// The sink failed at what this line writes. What gave it is done, and no unit behind it was heard.
     WriteFault(u64),
     /// This line has this fault, and nothing was done for it.
     BadTape(u64, TapeFault),

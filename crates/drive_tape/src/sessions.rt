@@ -1,57 +1,20 @@
 // All sessions of a tape, in order of `open`.
-ghost use Rattle.std.specs.Prelude.{◌≡◌, ◌+◌, ◌-◌, ◌≤◌, ◌<◌, ◌∷◌, ◌++◌, [], List, ℕ, Bool, true, false, length, map, vec_len, IsTrue, ◌↔◌, OnOk, OnErr, IfOk, if◌then◌else◌};
-ghost use Rattle.mail_model.specs.Session.{Talk, silent};
-ghost use Rattle.mail_model.specs.Site.{Conversation};
+ghost use Rattle.std.specs.Prelude.{◌≡◌, ◌⊎◌, ◌+◌, ◌-◌, ◌<◌, ◌∷◌, ◌++◌, [], List, ℕ, true, length, map, OnOk, IfOk, IfSome, if◌then◌else◌, Option, Some, None};
+ghost use Rattle.std.specs.Option.{option_map};
+ghost use Rattle.mail_model.specs.Maildrop as maildrop;
+ghost use Rattle.mail_model.specs.Maildrop.{after_answer, answer_reply};
+ghost use Rattle.mail_model.specs.Site.{Conversation, session_at, replace, refused_session, protocol_of};
 ghost use Rattle.mail_model.specs.Site as site;
-ghost use Rattle.drive_tape.specs.Talks.{Matches, Converse, SlotHears, SessionsHear, closes};
-ghost use Rattle.drive_tape.specs.declared.sessions.Talker.TheVariants as talker;
+ghost use Rattle.mail_model.specs.Steps.{with_octets, opened_session};
+ghost use Rattle.tape_lines.specs.Orders.{protocol_seen};
+ghost use Rattle.drive_tape.specs.Talks.{Converse, SessionsHear, IsOwn, closes, login_in, login_seen, rest_at};
+ghost use Rattle.drive_tape.specs.declared.talker.Talker.TheVariants as talker;
 
+use crate::talker::{Heard, Login, Talker};
 use mail_base::Plan;
-use smtp_session::{Heard, Session};
+use pop_session::{Listing, Reply};
 use std::alloc::{AllocError, Global};
-
-/// A session that stands, or one that has ended.
-#[derive(Debug, Drop)]
-pub enum Talker {
-    /// It stands, and was told so much.
-    On(Session),
-    /// It has ended. Its number is given to no other.
-    Over,
-}
-
-// A session hears a line, if it stands; QUIT ends it. Unchanged on refusal.
-fn hear_in(
-    talker: &mut Talker,
-    alloc: Global,
-    plan: &Plan,
-    line: &[u8],
-) -> Result<Option<Heard>, AllocError>
-    ensures ok { (one : Conversation) → Matches talker.old one → IfOk result (λ heard. SlotHears plan.now one line.now heard talker.new) }
-    ensures err { OnErr result (talker.new ≡ talker.old) }
-{
-    let Talker::On(session) = talker else {
-        return Ok(None);
-    };
-    match session.hear(alloc, plan, line)? {
-        Heard::Collected => Ok(Some(Heard::Collected)),
-        Heard::Said(reply) => Ok(Some(Heard::Said(reply))),
-        Heard::Closed(reply) => {
-            *talker = Talker::Over;
-            Ok(Some(Heard::Closed(reply)))
-        }
-        Heard::Files(deliver) => Ok(Some(Heard::Files(deliver))),
-    }
-}
-
-// How many sessions stand behind a line.
-fn standing_behind(standing: u64, heard: &Option<Heard>) -> u64
-    ensures { result ≡ (if closes heard.now then standing - 1 else standing) }
-{
-    match heard {
-        Some(Heard::Closed(_)) => standing.saturating_sub(1),
-        _ => standing,
-    }
-}
+use tape_lines::Protocol;
 
 /// The sessions by number, from 1, and how many of them stand.
 #[derive(Drop)]
@@ -60,6 +23,17 @@ pub struct Sessions {
     pub talkers: Vec<Talker>,
     /// How many of them have not ended.
     pub standing: u64,
+}
+
+// How many sessions stand behind what one heard.
+fn standing_behind(standing: u64, heard: &Heard) -> u64
+    ensures { result ≡ (if closes heard.now then standing - 1 else standing) }
+{
+    match heard {
+        Heard::Closed(_) => standing.saturating_sub(1),
+        Heard::Left { .. } => standing.saturating_sub(1),
+        _ => standing,
+    }
 }
 
 impl Sessions {
@@ -74,41 +48,117 @@ impl Sessions {
         }
     }
 
-    /// One session more. Unchanged on refusal.
-    pub fn add(&mut self, alloc: Global) -> Result<(), AllocError>
+    /// One session more, which speaks this and was told nothing.
+    ///
+    /// # Errors
+    ///
+    /// Only want of memory; the sessions are then as before.
+    pub fn add(&mut self, alloc: Global, protocol: Protocol) -> Result<(), AllocError>
         requires { self.old.standing < 256 }
-        ensures ok { OnOk result ((old : List Conversation) → Converse self.old.talkers.items old → Converse self.new.talkers.items (old ++ site.Conversation.On silent [] ∷ [])) }
+        ensures ok { OnOk result ((old : List Conversation) → Converse self.old.talkers.items old → Converse self.new.talkers.items (old ++ opened_session (protocol_seen protocol) ∷ [])) }
         ensures length { OnOk result (length self.new.talkers.items ≡ length self.old.talkers.items + 1) }
         ensures count { OnOk result (self.new.standing ≡ self.old.standing + 1) }
-        ensures err { OnErr result ((self.new.talkers.items ≡ self.old.talkers.items) × (self.new.standing ≡ self.old.standing)) }
     {
-        self.talkers.push(Talker::On(Session::new(alloc)))?;
+        self.talkers.push(Talker::new(alloc, protocol))?;
         self.standing += 1;
         Ok(())
     }
 
-    /// The session of this number hears a line, if it stands. Unchanged on refusal.
-    pub fn hear(
-        &mut self,
-        alloc: Global,
-        plan: &Plan,
-        number: u64,
-        line: &[u8],
-    ) -> Result<Option<Heard>, AllocError>
-        ensures ok { (old : List Conversation) → Converse self.old.talkers.items old
-            → IfOk result (λ heard. SessionsHear plan.now old number line.now heard self.new.talkers.items) }
-        ensures count { IfOk result (λ heard. self.new.standing ≡ (if closes heard then self.old.standing - 1 else self.old.standing)) }
-        ensures err { OnErr result ((self.new.talkers.items ≡ self.old.talkers.items) × (self.new.standing ≡ self.old.standing)) }
+    // The place of the session of this number, where there is one.
+    fn place_of(&self, number: u64) -> Option<usize>
+        ensures some { IfSome result (λ place. (number ≡ place + 1) × (place < length self.now.talkers.items)) }
+        ensures none { result ≡ None → (number ≡ 0) ⊎ (length self.now.talkers.items < number) }
     {
-        if number == 0 {
-            return Ok(None);
+        if number == 0 || number > self.talkers.len() as u64 {
+            return None;
         }
-        if number > self.talkers.len() as u64 {
-            return Ok(None);
+        Some((number - 1) as usize)
+    }
+
+    /// Whether the session of this number was opened and has not ended.
+    pub fn is_on(&self, number: u64) -> bool
+        ensures { (old : List Conversation) → Converse self.now.talkers.items old → refused_session (session_at old number) ≡ (if result then None else Some site.TapeFault.NoSuchSession) }
+    {
+        match self.place_of(number) {
+            Some(place) => self.talkers[place].is_on(),
+            None => false,
         }
-        let heard = hear_in(&mut self.talkers[(number - 1) as usize], alloc, plan, line)?;
+    }
+
+    /// The session of this number takes up octets of its client. One that has ended takes none.
+    ///
+    /// # Errors
+    ///
+    /// Only want of memory.
+    pub fn feed(&mut self, number: u64, octets: &[u8]) -> Result<(), AllocError>
+        ensures ok { OnOk result ((old : List Conversation) (one : Conversation) → Converse self.old.talkers.items old → session_at old number ≡ Some one
+            → Converse self.new.talkers.items (replace old number (with_octets one octets.now))) }
+        ensures count { self.new.standing ≡ self.old.standing }
+    {
+        match self.place_of(number) {
+            Some(place) => self.talkers[place].feed(octets),
+            None => Ok(()),
+        }
+    }
+
+    /// What the next of the octets of this session leads to. With QUIT it has ended. Behind anything but
+    /// `Heard::Idle` it holds fewer octets.
+    ///
+    /// # Errors
+    ///
+    /// Only want of memory.
+    pub fn next(&mut self, alloc: Global, plan: &Plan, number: u64) -> Result<Heard, AllocError>
+        ensures ok { (old : List Conversation) → Converse self.old.talkers.items old → IfOk result (λ heard. SessionsHear plan.now old number heard self.new.talkers.items) }
+        ensures count { IfOk result (λ heard. self.new.standing ≡ (if closes heard then self.old.standing - 1 else self.old.standing)) }
+        ensures less { IfOk result (λ heard. (heard ≡ Heard.Idle) ⊎ (rest_at number self.new.talkers.items < rest_at number self.old.talkers.items)) }
+    {
+        let Some(place) = self.place_of(number) else {
+            return Ok(Heard::Idle);
+        };
+        let heard = self.talkers[place].next(alloc, plan)?;
         self.standing = standing_behind(self.standing, &heard);
         Ok(heard)
+    }
+
+    /// The client of this session, which stands, has closed it: it has ended. Its login, where it had one.
+    pub fn end(&mut self, number: u64) -> Option<Login>
+        ensures ended { (old : List Conversation) (one : Conversation) → Converse self.old.talkers.items old → session_at old number ≡ Some one
+            → Converse self.new.talkers.items (replace old number (site.Conversation.Over (protocol_of one))) }
+        ensures login { (old : List Conversation) (one : Conversation) → Converse self.old.talkers.items old → session_at old number ≡ Some one
+            → option_map login_seen result ≡ login_in one }
+        ensures own { (old : List Conversation) → Converse self.old.talkers.items old → IsOwn result }
+        ensures count { self.new.standing ≡ self.old.standing - 1 }
+    {
+        self.standing = self.standing.saturating_sub(1);
+        let place = self.place_of(number)?;
+        self.talkers[place].end()
+    }
+
+    /// The node let the session of this number in, as this login, and these are the messages of its maildrop:
+    /// TRANSACTION begins (RFC 1939, section 5). The reply to its PASS.
+    ///
+    /// # Errors
+    ///
+    /// Only want of memory.
+    pub fn enter(
+        &mut self,
+        alloc: Global,
+        number: u64,
+        login: Login,
+        listing: Listing,
+    ) -> Result<Reply, AllocError>
+        ensures reply { (old : List Conversation) (stage : maildrop.Stage) (known : Option site.Login) (pending : List ℕ) → Converse self.old.talkers.items old → session_at old number ≡ Some (site.Conversation.OnPop stage known pending)
+            → IfOk result (λ reply. reply ≡ answer_reply (maildrop.Answer.Listed listing)) }
+        ensures ok { OnOk result ((old : List Conversation) (stage : maildrop.Stage) (known : Option site.Login) (pending : List ℕ) → Converse self.old.talkers.items old → session_at old number ≡ Some (site.Conversation.OnPop stage known pending) → IsOwn (Some login)
+            → Converse self.new.talkers.items (replace old number (site.Conversation.OnPop (after_answer stage (maildrop.Answer.Listed listing)) (Some (login_seen login)) pending))) }
+        ensures count { self.new.standing ≡ self.old.standing }
+        ensures rest { OnOk result (rest_at number self.new.talkers.items ≡ rest_at number self.old.talkers.items) }
+    {
+        match self.place_of(number) {
+            Some(place) => self.talkers[place].enter(alloc, login, listing),
+            // Only a session that there is asks to be let in.
+            None => Reply::wrong(alloc),
+        }
     }
 
     /// All sessions end.

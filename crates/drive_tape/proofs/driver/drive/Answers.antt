@@ -10,7 +10,6 @@ loop-handled-init g c =
     rw c.limit.ensures.pending (record {
       progress = start g.D.Disk.seen g.D.Disk.faults _ _ _ _ _ size;
       ready = c.requires.ready;
-      drawn = omega (arith, c.requires.drawn);
       unread = omega (arith, size);
       read_later = omega arith;
       write_later = omega arith;
@@ -23,7 +22,6 @@ loop-handled-preserved g c =
     record {
       progress = goes_on g.D.Disk.seen g.D.Disk.faults _ _ _ _ _ _ _ _ _ _ _ _ _ _ _ loop.progress turn.turned;
       ready = turn.ready;
-      drawn = omega (arith, loop.drawn, turn.drawn);
       unread = omega (arith, loop.unread, turn.less);
       read_later = omega (arith, loop.read_later, turn.read_later);
       write_later = omega (arith, loop.write_later, turn.write_later);
@@ -34,6 +32,6 @@ returns-in-Err-clause-only_steps_of_tape g c began first shows =
     stops g.D.Disk.seen g.D.Disk.faults _ _ _ _ _ _ _ _ _ _ _ _ _ _ _ _ _ _ c.loop-handled.invariant.progress c.in-Err.ensures.turned c.at_line.ensures.stop c.at_line.ensures.number began first shows
 
 pub returns-in-Err-clause-acknowledged_as_told : goal.returns-in-Err-clause-acknowledged_as_told
-returns-in-Err-clause-acknowledged_as_told g c began plan one shows =
-    booked g.D.Disk.seen g.D.Disk.faults began _ _ _ _ _ _ plan _ _ one
-    (stops g.D.Disk.seen g.D.Disk.faults _ _ _ _ _ _ _ _ _ _ _ _ _ _ _ _ _ _ c.loop-handled.invariant.progress c.in-Err.ensures.turned c.at_line.ensures.stop c.at_line.ensures.number began (opening plan) shows)
+returns-in-Err-clause-acknowledged_as_told g c began plan tells one shows =
+    booked g.D.Disk.seen g.D.Disk.faults began _ _ _ _ _ _ plan tells _ _ one
+    (stops g.D.Disk.seen g.D.Disk.faults _ _ _ _ _ _ _ _ _ _ _ _ _ _ _ _ _ _ c.loop-handled.invariant.progress c.in-Err.ensures.turned c.at_line.ensures.stop c.at_line.ensures.number began (opening plan tells) shows)

@@ -1,6 +1,5 @@
 use Rattle.std.proofs.Common.{◌+◌, ◌≤◌, ◌^◌, length}
 use Rattle.drive_tape.specs.Cluster.{IsReady}
-use Rattle.cluster_world.specs.World.{drawn_of}
 use Rattle.drive_tape.specs.Drive.{ShowsProgress}
 use Rattle.drive_tape.proofs.driver.drive.Given as goal
 
@@ -9,7 +8,6 @@ invariant-loop-handled g l = record {
   progress : ShowsProgress g.D.Disk.seen g.D.Disk.faults (g.S.Source.left l.fn.source) (g.S.Source.left l.source) (g.K.Sink.contents l.fn.sink) (g.K.Sink.contents l.sink)
       l.fn.reader.pending.items l.fn.cluster l.reader.pending.items l.cluster l.handled l.reader.left;
   ready : IsReady g.D.Disk.seen l.cluster;
-  drawn : drawn_of l.cluster.world ≤ l.handled;
   unread : l.handled + length l.reader.pending.items + l.reader.left ≤ 2 ^ 40;
   read_later : g.S.Source.faults l.fn.source ≤ g.S.Source.faults l.source;
   write_later : g.K.Sink.faults l.fn.sink ≤ g.K.Sink.faults l.sink;

@@ -1,72 +1,29 @@
-use Rattle.std.proofs.Common.{◌≡◌, ◌∙◌, ap, refl, inl, inr, true, rules}
+use Rattle.std.proofs.Common.{◌≡◌, ◌∙◌, ◌++◌, ◌∷◌, [], None, true, rules, refl, inl}
 use Rattle.std.proofs.lemmas.Result.{err_from_is_err_and}
-use Rattle.cluster_world.specs.World.{is_up}
-use Rattle.drive_tape.specs.Entries.{entries_of}
-use Rattle.drive_tape.proofs.Says.{says_step, by_plan, first_says}
-use Rattle.drive_tape.proofs.Files.{filed_step, not_filed}
+use Rattle.mail_model.specs.Site.{refused_session, session_at, replace}
+use Rattle.mail_model.specs.Steps.{with_octets}
+use Rattle.drive_tape.proofs.Taking.{stands_here, feeds, fed_again}
+use Rattle.drive_tape.proofs.Talks.{replaced}
 use Rattle.drive_tape.proofs.cluster.Cluster.say.Goals as goal
 
-pub returns-in_err-heard-clause-did : goal.returns-in_err-heard-clause-did
-returns-in_err-heard-clause-did g c start at shows =
+pub returns-in_err-feed-clause-did : goal.returns-in_err-feed-clause-did
+returns-in_err-feed-clause-did g c start at shows =
     let p = err_from_is_err_and c.from_residual.result c.from_residual.ensures.1 in
     rw (p.1, p.2) (at, inl refl, shows.since)
 
-pub returns-in-Collected-clause-did : goal.returns-in-Collected-clause-did
-returns-in-Collected-clause-did g c start at shows =
-    let up : is_up c.args.self.now.world ≡ true = search rules in
-    let heard = rw (c.in-Some.is, c.in-Collected.is) at (c.in_ok-heard.ensures.ok at.sessions shows.talks) in
-    let count = rw (c.in-Some.is, c.in-Collected.is) at c.in_ok-heard.ensures.count in
-    says_step g.D.Disk.seen g.D.Disk.faults start c.args.self.now c.hear.new.self at c.args.session c.args.text.now _ (entries_of c.new.result) shows up
-    (by_plan _ _ _ _ _ _ _ (c.plan.ensures ∙ shows.plan) heard) count (ap entries_of c.new.ensures)
+pub returns-in_err-feed-2-clause-did : goal.returns-in_err-feed-2-clause-did
+returns-in_err-feed-2-clause-did g c start at shows =
+    let p = err_from_is_err_and c.from_residual-in_err-feed-2.result c.from_residual-in_err-feed-2.ensures.1 in
+    rw (p.1, p.2) (at, inl refl, shows.since)
 
-pub returns-in_err-says-in-Said-clause-did : goal.returns-in_err-says-in-Said-clause-did
-returns-in_err-says-in-Said-clause-did g c start at shows =
-    let p = err_from_is_err_and c.from_residual-in_err-says-in-Said.result c.from_residual-in_err-says-in-Said.ensures.1 in
-    let up : is_up c.args.self.now.world ≡ true = search rules in
-    let heard = rw (c.in-Some.is, c.in-Said.is) at (c.in_ok-heard.ensures.ok at.sessions shows.talks) in
-    let count = rw (c.in-Some.is, c.in-Said.is) at c.in_ok-heard.ensures.count in
-    let did = says_step g.D.Disk.seen g.D.Disk.faults start c.args.self.now c.hear.new.self at c.args.session c.args.text.now _ _ shows up
-    (by_plan _ _ _ _ _ _ _ (c.plan.ensures ∙ shows.plan) heard) count refl in
-    rw (p.1, p.2) (did.0, inr (inl (_, did.1, did.2)), did.3.since)
-
-pub returns-in_ok-says-in-Said-clause-did : goal.returns-in_ok-says-in-Said-clause-did
-returns-in_ok-says-in-Said-clause-did g c start at shows =
-    let up : is_up c.args.self.now.world ≡ true = search rules in
-    let heard = rw (c.in-Some.is, c.in-Said.is) at (c.in_ok-heard.ensures.ok at.sessions shows.talks) in
-    let count = rw (c.in-Some.is, c.in-Said.is) at c.in_ok-heard.ensures.count in
-    says_step g.D.Disk.seen g.D.Disk.faults start c.args.self.now c.hear.new.self at c.args.session c.args.text.now _ _ shows up
-    (by_plan _ _ _ _ _ _ _ (c.plan.ensures ∙ shows.plan) heard) count (first_says _ _ _ _ _ c.in_ok-says-in-Said.ensures c.first_node-in-Said.ensures)
-
-pub returns-in_err-says_and_closes-in-Closed-clause-did : goal.returns-in_err-says_and_closes-in-Closed-clause-did
-returns-in_err-says_and_closes-in-Closed-clause-did g c start at shows =
-    let p = err_from_is_err_and c.from_residual-in_err-says_and_closes-in-Closed.result c.from_residual-in_err-says_and_closes-in-Closed.ensures.1 in
-    let up : is_up c.args.self.now.world ≡ true = search rules in
-    let heard = rw (c.in-Some.is, c.in-Closed.is) at (c.in_ok-heard.ensures.ok at.sessions shows.talks) in
-    let count = rw (c.in-Some.is, c.in-Closed.is) at c.in_ok-heard.ensures.count in
-    let did = says_step g.D.Disk.seen g.D.Disk.faults start c.args.self.now c.hear.new.self at c.args.session c.args.text.now _ _ shows up
-    (by_plan _ _ _ _ _ _ _ (c.plan.ensures ∙ shows.plan) heard) count refl in
-    rw (p.1, p.2) (did.0, inr (inl (_, did.1, did.2)), did.3.since)
-
-pub returns-in_ok-says_and_closes-in-Closed-clause-did : goal.returns-in_ok-says_and_closes-in-Closed-clause-did
-returns-in_ok-says_and_closes-in-Closed-clause-did g c start at shows =
-    let up : is_up c.args.self.now.world ≡ true = search rules in
-    let heard = rw (c.in-Some.is, c.in-Closed.is) at (c.in_ok-heard.ensures.ok at.sessions shows.talks) in
-    let count = rw (c.in-Some.is, c.in-Closed.is) at c.in_ok-heard.ensures.count in
-    says_step g.D.Disk.seen g.D.Disk.faults start c.args.self.now c.hear.new.self at c.args.session c.args.text.now _ _ shows up
-    (by_plan _ _ _ _ _ _ _ (c.plan.ensures ∙ shows.plan) heard) count (first_says _ _ _ _ _ c.in_ok-says_and_closes-in-Closed.ensures c.first_node-in-Closed.ensures)
-
-pub returns-in_err-file-in-Files-clause-did : goal.returns-in_err-file-in-Files-clause-did
-returns-in_err-file-in-Files-clause-did g c start at shows =
-    let p = err_from_is_err_and c.from_residual-in_err-file-in-Files.result c.from_residual-in_err-file-in-Files.ensures.1 in
-    let up : is_up c.args.self.now.world ≡ true = search rules in
-    let heard = rw (c.in-Some.is, c.in-Files.is) at (c.in_ok-heard.ensures.ok at.sessions shows.talks) in
-    rw (p.1, p.2) (not_filed g.D.Disk.seen g.D.Disk.faults start c.args.self.now c.hear.new.self at c.args.session c.args.text.now c.in-Files.message shows c.requires.ready.one up
-    (by_plan _ _ _ _ _ _ _ (c.plan.ensures ∙ shows.plan) heard) c.file.new.self _ c.in_err-file-in-Files.ensures.filed)
-
-pub returns-in_ok-file-in-Files-clause-did : goal.returns-in_ok-file-in-Files-clause-did
-returns-in_ok-file-in-Files-clause-did g c start at shows =
-    let up : is_up c.args.self.now.world ≡ true = search rules in
-    let heard = rw (c.in-Some.is, c.in-Files.is) at (c.in_ok-heard.ensures.ok at.sessions shows.talks) in
-    let count = rw (c.in-Some.is, c.in-Files.is) at c.in_ok-heard.ensures.count in
-    filed_step g.D.Disk.seen g.D.Disk.faults start c.args.self.now c.hear.new.self at c.args.session c.args.text.now c.in-Files.message shows c.requires.ready.one up
-    (by_plan _ _ _ _ _ _ _ (c.plan.ensures ∙ shows.plan) heard) c.file.new.self _ count c.in_ok-file-in-Files.ensures.filed
+pub returns-clause-did : goal.returns-clause-did
+returns-clause-did g c start at shows =
+    let on : c.is_on.result ≡ true = search rules in
+    let stands : refused_session (session_at at.sessions c.args.session) ≡ None = rw on at (c.is_on.ensures at.sessions shows.talks) in
+    let here = stands_here (session_at at.sessions c.args.session) stands in
+    let first = with_octets here.0 c.args.text.now in
+    let talks = c.in_ok-feed-2.ensures.ok (replace at.sessions c.args.session first) first (c.in_ok-feed.ensures.ok at.sessions here.0 shows.talks here.1)
+    (replaced at.sessions c.args.session here.0 first here.1) in
+    let did = feeds g.D.Disk.seen g.D.Disk.faults start c.args.self.now c.feed-2.new.self at c.args.session (c.args.text.now ++ 13 ∷ 10 ∷ []) here.0 shows stands here.1
+    (fed_again c.feed-2.new.self.talkers.items at.sessions c.args.session here.0 c.args.text.now (13 ∷ 10 ∷ []) talks) (c.in_ok-feed-2.ensures.count ∙ c.in_ok-feed.ensures.count) in
+    (did.0, stands, did.1, did.2)

@@ -1,7 +1,7 @@
 use Rattle.std.proofs.Common.{◌<◌, length, arith, ap}
 use Rattle.std.proofs.lemmas.List.Edits.{map_over_more}
-use Rattle.drive_tape.specs.declared.sessions.Talker.{Talker}
-use Rattle.drive_tape.specs.declared.sessions.Talker.TheVariants.{Over}
+use Rattle.drive_tape.specs.declared.talker.Talker.{Talker}
+use Rattle.drive_tape.specs.declared.talker.Talker.TheVariants.{Over}
 use Rattle.drive_tape.proofs.sessions.Sessions.end_all.Goals as goal
 
 pub loop-talker-preserved : goal.loop-talker-preserved

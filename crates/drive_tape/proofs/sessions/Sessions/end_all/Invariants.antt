@@ -1,5 +1,5 @@
 use Rattle.std.proofs.Common.{◌≡◌, ◌++◌, map, take, drop}
-use Rattle.drive_tape.specs.declared.sessions.Talker.TheVariants as talker
+use Rattle.drive_tape.specs.declared.talker.Talker.TheVariants as talker
 use Rattle.drive_tape.proofs.sessions.Sessions.end_all.Given as goal
 
 abbrev pub invariant-loop-talker : goal.invariant-loop-talker
