@@ -1,6 +1,6 @@
 -- A good tape is handled through its line `end`.
-use Rattle.std.proofs.Common.{◌≡◌, ◌≤◌, ℕ, true, List, [], ◌++◌, Option, Some, Err, refl, sym, ap, ◌∙◌, subst, arith, inl, inr, ⊎_elim}
-use Rattle.std.specs.Prelude.{◌⊎◌, ⊤}
+use Rattle.std.proofs.Common.{◌≡◌, ◌≢◌, ◌≤◌, ℕ, Bool, true, List, [], ◌++◌, Option, Some, None, Err, refl, sym, ap, ◌∙◌, subst, arith, inl, inr, ⊎_elim}
+use Rattle.std.specs.Prelude.{◌⊎◌, ⊤, IfSome, is_some}
 use Rattle.std.proofs.lemmas.Bool.{true_from_ne_false}
 use Rattle.std.specs.Io.KnownBytes.{Appends}
 use Rattle.io_edge.specs.Causes.{Rose}
@@ -49,16 +49,16 @@ module _ (tape : List ℕ) (good : IsGoodTape tape) where
   unread left0 left1 (drove.NoMemory n) pending told reads = tt
 
   -- the run lines were handled, at a node that did not fall
-  handled : (between left1 held0 held1 : Option (List ℕ)) (left pending : List ℕ) (answer : Drove) (from : ℕ) → between ≡ Some left → pending ++ left ≡ run_part tape good
-      → (d : Drives between left1 held0 held1 pending answer from (opening good.plan)) → d.last.up ≡ true → NamesNone (ending_of answer)
-  handled between left1 held0 held1 left pending drove.Ended from told is d up = tt
-  handled between left1 held0 held1 left pending drove.ReadFault from told is d up = tt
-  handled between left1 held0 held1 left pending (drove.WriteFault n) from told is d up = tt
-  handled between left1 held0 held1 left pending (drove.BadTape n fault) from told is d up =
+  handled : (tells : Bool) (between left1 held0 held1 : Option (List ℕ)) (left pending : List ℕ) (answer : Drove) (from : ℕ) → between ≡ Some left → pending ++ left ≡ run_part tape good
+      → (d : Drives between left1 held0 held1 pending answer from (opening good.plan tells)) → d.last.up ≡ true → NamesNone (ending_of answer)
+  handled tells between left1 held0 held1 left pending drove.Ended from told is d up = tt
+  handled tells between left1 held0 held1 left pending drove.ReadFault from told is d up = tt
+  handled tells between left1 held0 held1 left pending (drove.WriteFault n) from told is d up = tt
+  handled tells between left1 held0 held1 left pending (drove.BadTape n fault) from told is d up =
       let alone : d.last ≡ d.mid = ⊎_elim (λ (none : ⊥). absurd none) (λ (alone : (d.tail ≡ []) × (d.last ≡ d.mid)). alone.1) d.stopped.alone in
-      absurd (no_run_fault tape good between left1 left fault pending d.read d.others d.room d.lines d.outputs d.mid told is d.took d.cut d.each d.runs
+      absurd (no_run_fault tape good tells between left1 left fault pending d.read d.others d.room d.lines d.outputs d.mid told is d.took d.cut d.each d.runs
       (ap (λ (s : Site). s.up) (sym alone) ∙ up) d.limit d.stopped.why)
-  handled between left1 held0 held1 left pending (drove.NoMemory n) from told is d up = tt
+  handled tells between left1 held0 held1 left pending (drove.NoMemory n) from told is d up = tt
 
   -- whatever the work did, with a store that does not fail
   no_line_named : {D : Type 0} (seen : D → Option (List ℕ)) (faults : D → ℕ) (handed0 handed1 returned0 returned1 : Option (List (ℕ × ℕ × D))) (left0 left1 held0 held1 : Option (List ℕ)) (ending : Ending) (before now : ℕ)
@@ -77,16 +77,25 @@ module _ (tape : List ℕ) (good : IsGoodTape tape) where
           (λ (ran : Ran seen faults served.between left1 held0 held1 served.pending served.head ending served.taken served.given).
           let plan = reads_good_plan tape good left0 served.between served.head served.pending told served.reads in
           subst NamesNone (sym ran.is) (at_plan served ran plan.0 plan.1 plan.2 served.head.plan plan.3 ran.drives
-          (true_from_ne_false ran.drives.last.up (λ down. stands (inr (served.taken, served.given, served.out, served.back, inl (ran.fallen down)))))))
+          (true_from_ne_false ran.drives.last.up (λ down. stands (inr (
+            served.taken,
+            served.given,
+            served.out,
+            served.back,
+            ⊎_elim
+                (λ (rose : Rose (faults served.taken) (faults served.given)). inl rose)
+                (λ (none : seen served.taken ≡ None). inr (subst (λ (o : Option (List ℕ)). IfSome o (λ held. held ≢ [])) (sym none) tt))
+                (ran.fallen down),
+          ))))))
           served.serves
         where
           at_plan : (served : Served seen faults handed0 handed1 returned0 returned1 left0 left1 held0 held1 ending)
               (ran : Ran seen faults served.between left1 held0 held1 served.pending served.head ending served.taken served.given) (left : List ℕ)
               → served.between ≡ Some left → served.pending ++ left ≡ run_part tape good → (plan : Plan) → plan ≡ good.plan
-              → (d : Drives served.between left1 held0 held1 served.pending ran.answer served.head.lines (opening plan)) → d.last.up ≡ true → NamesNone (ending_of ran.answer)
+              → (d : Drives served.between left1 held0 held1 served.pending ran.answer served.head.lines (opening plan (is_some (seen served.given)))) → d.last.up ≡ true → NamesNone (ending_of ran.answer)
           at_plan served ran left between is plan same = subst
-              (λ (p : Plan). (d : Drives served.between left1 held0 held1 served.pending ran.answer served.head.lines (opening p)) → d.last.up ≡ true → NamesNone (ending_of ran.answer))
-              (sym same) (handled served.between left1 held0 held1 left served.pending ran.answer served.head.lines between is)
+              (λ (p : Plan). (d : Drives served.between left1 held0 held1 served.pending ran.answer served.head.lines (opening p (is_some (seen served.given)))) → d.last.up ≡ true → NamesNone (ending_of ran.answer))
+              (sym same) (handled (is_some (seen served.given)) served.between left1 held0 held1 left served.pending ran.answer served.head.lines between is)
 
 -- the status of an ending that names no line, where nothing of the outside fails
 fine_status : (ending : Ending) (status : ℕ) → NamesNone ending → status ≡ status_of ending → (ending ≡ Read → ⊥) → (ending ≡ Write → ⊥) → (ending ≡ Store → ⊥) → (status ≡ 0) ⊎ (status ≡ 7)

@@ -10,7 +10,8 @@ use Rattle.mail_model.specs.Lines.{HasNoLf, BeginsWith, ended, without_cr}
 use Rattle.mail_model.specs.Tape.{Order, tape_order, order_of, is_long}
 use Rattle.mail_model.specs.Tape.Order.{End}
 use Rattle.mail_model.specs.Transcript.{Entry}
-use Rattle.mail_model.specs.Site.{Site, Turns, Runs, Steps, opening, refusal}
+use Rattle.mail_model.specs.Site.{Site, opening, refusal}
+use Rattle.mail_model.specs.Steps.{TakesUp, Turns, Runs}
 use Rattle.drive_tape.specs.declared.drove.TapeFault.{TapeFault}
 use Rattle.drive_tape.specs.declared.drove.TapeFault.TheVariants.{BadLine, TapeTooLong}
 use Rattle.drive_tape.specs.Faults.{fault_of}
@@ -29,11 +30,11 @@ order_short line order is = by_test (is_long line) refl is
     by_test false test some = ltb-false 65535 (length line) test
 
 -- `end` is not handled as a run line
-no_end_step : (order : Order) (old new : Site) (entries : List Entry) → order ≡ End → Steps old order entries new → ⊥
-no_end_step order old new entries is step = subst (λ (o : Order). Steps old o entries new) is step
+no_end_step : (order : Order) (old new : Site) (entries : List Entry) → order ≡ End → TakesUp old order entries new → ⊥
+no_end_step order old new entries is step = subst (λ (o : Order). TakesUp old o entries new) is step
 
 no_end_turn : (old new : Site) (line : List ℕ) (entries : List Entry) → tape_order line ≡ Some End → Turns old line entries new → ⊥
-no_end_turn old new line entries ends turns = no_end_step turns.order old new entries (same_Some turns.order End (sym turns.spelled ∙ ends)) turns.step
+no_end_turn old new line entries ends turns = no_end_step turns.order old turns.start turns.first (same_Some turns.order End (sym turns.begun.spelled ∙ ends)) turns.begun.takes_up
 
 no_end_run : (first last : Site) (front : List (List ℕ)) (line : List ℕ) (rest : List (List ℕ)) (outputs : List (List Entry)) → tape_order line ≡ Some End → Runs first (front ++ line ∷ rest) outputs last → ⊥
 no_end_run first last [] line rest [] ends runs = absurd runs
@@ -41,7 +42,7 @@ no_end_run first last [] line rest (entries ∷ outputs) ends runs = no_end_turn
 no_end_run first last (l ∷ front) line rest [] ends runs = absurd runs
 no_end_run first last (l ∷ front) line rest (entries ∷ outputs) ends runs = no_end_run runs.0 last front line rest outputs ends runs.2
 
-module _ (tape : List ℕ) (good : IsGoodTape tape) where
+module _ (tape : List ℕ) (good : IsGoodTape tape) (tells : Bool) where
   -- the run lines and `end`
   abbrev all_lines : List (List ℕ)
   all_lines = good.lines ++ good.last ∷ []
@@ -73,7 +74,7 @@ module _ (tape : List ℕ) (good : IsGoodTape tape) where
     length-append next (10 ∷ []),
   )
 
-  run_next : (lines : List (List ℕ)) (outputs : List (List Entry)) (mid : Site) (more : List ℕ) → All HasNoLf lines → Runs (opening good.plan) lines outputs mid → mid.up ≡ true
+  run_next : (lines : List (List ℕ)) (outputs : List (List Entry)) (mid : Site) (more : List ℕ) → All HasNoLf lines → Runs (opening good.plan tells) lines outputs mid → mid.up ≡ true
       → run_part tape good ≡ flat_map ended lines ++ more → RunNext lines mid more
   run_next lines outputs mid more each runs up is = ⊎_elim
       (λ (ahead : Ahead all_lines lines good.behind more). ⊎_elim
@@ -87,7 +88,7 @@ module _ (tape : List ℕ) (good : IsGoodTape tape) where
         short = run_short lines ahead.next ahead.others ahead.split;
       })
       (λ (before : (others : List (List ℕ)) × (good.lines ≡ lines ++ ahead.next ∷ others)).
-      let accepted = good.accepted lines ahead.next before.0 outputs mid before.1 runs up in
+      let accepted = good.accepted lines ahead.next before.0 tells outputs mid before.1 runs up in
       record {
         next = ahead.next;
         rest = flat_map ended ahead.others ++ good.behind;
@@ -99,14 +100,14 @@ module _ (tape : List ℕ) (good : IsGoodTape tape) where
       })
       (last_or_before good.lines good.last lines ahead.next ahead.others ahead.split))
       (λ (beyond : (extra : List (List ℕ)) × (lines ≡ all_lines ++ extra)).
-      absurd (no_end_run (opening good.plan) mid good.lines good.last beyond.0 outputs good.ends
-      (subst (λ (ls : List (List ℕ)). Runs (opening good.plan) ls outputs mid) (beyond.1 ∙ append_assoc good.lines (good.last ∷ []) beyond.0) runs)))
+      absurd (no_end_run (opening good.plan tells) mid good.lines good.last beyond.0 outputs good.ends
+      (subst (λ (ls : List (List ℕ)). Runs (opening good.plan tells) ls outputs mid) (beyond.1 ∙ append_assoc good.lines (good.last ∷ []) beyond.0) runs)))
       (next_line all_lines lines good.behind more (All-push HasNoLf good.lines good.last good.each good.last_one) each (run_lines lines more is))
 
   -- the run lines of the tape have no fault
   pub no_run_fault : (between left1 : Option (List ℕ)) (left : List ℕ) (fault : TapeFault) (pending read others : List ℕ) (room : ℕ) (lines : List (List ℕ)) (outputs : List (List Entry)) (mid : Site)
       → between ≡ Some left → pending ++ left ≡ run_part tape good → Consumes between left1 read → pending ++ read ≡ flat_map ended lines ++ others → All HasNoLf lines
-      → Runs (opening good.plan) lines outputs mid → mid.up ≡ true → length (pending ++ read) + room ≡ 2 ^ 40 → StopsAt fault left1 others room mid → ⊥
+      → Runs (opening good.plan tells) lines outputs mid → mid.up ≡ true → length (pending ++ read) + room ≡ 2 ^ 40 → StopsAt fault left1 others room mid → ⊥
   no_run_fault between left1 left fault pending read others room lines outputs mid told is took cut each runs up limit why = ⊎_elim
       (λ (bad : (fault ≡ BadLine) × BeginsWithNone left1 others). no_bad_line bad.1)
       (λ (other : ((fault ≡ TapeTooLong) × HasNoLf others × (room ≡ 0) × (length others ≤ 65535)) ⊎ IsRefused mid others (fault_of fault)). ⊎_elim

@@ -1,3 +1,4 @@
+mod Serving
 mod Promises
 mod OneWord
 mod NextLine

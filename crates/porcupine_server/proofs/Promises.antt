@@ -1,6 +1,6 @@
--- The first promise, from what the work on a tape did and the last line.
-use Rattle.std.proofs.Common.{◌≡◌, ◌≢◌, ℕ, List, [], ◌∷◌, ◌++◌, length, map, flat_map, All, Option, Ok, refl, sym, ap, ◌∙◌, subst, arith, append_assoc, length-append, inl, inr, ⊎_elim, codes}
-use Rattle.std.specs.Prelude.{◌⊎◌, IfSome}
+-- The promises to senders and to readers, from what the work on a tape did and the last line.
+use Rattle.std.proofs.Common.{◌≡◌, ◌≢◌, ℕ, List, [], ◌∷◌, ◌++◌, length, map, flat_map, All, Option, Some, None, Ok, refl, sym, ap, ◌∙◌, subst, arith, append_assoc, length-append, inl, inr, ⊎_elim, codes}
+use Rattle.std.specs.Prelude.{◌⊎◌, IfSome, is_some}
 use Rattle.std.specs.Fmt.{decimal}
 use Rattle.std.specs.Io.KnownBytes.{Consumes, Appends}
 use Rattle.std.proofs.lemmas.List.{append-nil, map-append}
@@ -11,26 +11,34 @@ use Rattle.io_edge.proofs.Known.{consumes_more, appends_more}
 use Rattle.mail_model.specs.Lines.{HasNoLf, ended}
 use Rattle.mail_model.specs.Transcript.{Entry, entry_line, written_of}
 use Rattle.mail_model.specs.Transcript.Entry.{Said, Event, Refused}
-use Rattle.mail_model.specs.Site.{IsEnding, TapeFault, fault_name, opening, all_of, HoldsRecords}
-use Rattle.mail_model.specs.Stored.{stored_sessions}
+use Rattle.mail_model.specs.Plan.{Plan}
+use Rattle.mail_model.specs.Tape.{Protocol}
+use Rattle.mail_model.specs.Site.{TapeFault, fault_name, opening, HoldsRecords}
+use Rattle.mail_model.specs.Steps.{Runs, all_of}
+use Rattle.mail_model.specs.Runs.{IsEnding}
+use Rattle.mail_model.specs.Stored.{StoredStands, stored_sessions}
+use Rattle.mail_model.specs.Shown.{lines_to}
 use Rattle.mail_model.proofs.OneLine.{by_test, decimal_no_lf, runs_lines}
 use Rattle.mail_model.proofs.Promise.{runs_keep_stored}
+use Rattle.mail_model.proofs.ShownLaw.{runs_show_as_filed}
 use Rattle.drive_tape.specs.declared.drove.Drove.{Drove}
 use Rattle.drive_tape.specs.declared.drove.Drove.TheVariants as drove
 use Rattle.drive_tape.specs.declared.plan_head.PlanHead.{PlanHead}
 use Rattle.drive_tape.specs.Faults.{fault_of}
 use Rattle.drive_tape.specs.Parts.{IsCut}
+use Rattle.drive_tape.specs.Booked.{IsTranscript}
 use Rattle.drive_tape.specs.Cut.{lines_in, rest_in}
 use Rattle.drive_tape.specs.Drive.{Drives, MayHaveStepped, stop_of}
 use Rattle.drive_tape.specs.Plans.{ReadsPlan}
 use Rattle.drive_tape.proofs.Runs.{written_more}
-use Rattle.drive_tape.proofs.Turn.{front_lines, missing_lines, cut_line}
+use Rattle.drive_tape.proofs.Parts.{front_lines, missing_lines, cut_line}
 use Rattle.drive_tape.proofs.Cuts.{cut_whole, lines_each, rest_each}
 use Rattle.porcupine_server.specs.declared.ending.Ending.{Ending}
 use Rattle.porcupine_server.specs.declared.ending.Ending.TheVariants.{Done, Line, Read, Write, Store, NoMemory}
 use Rattle.porcupine_server.specs.Endings.{ending_of, status_of, last_entries, Finishes}
 use Rattle.porcupine_server.specs.Works.{Works, NoPlan, NoStore, Ran, Served, IsBeforeRun}
-use Rattle.porcupine_server.specs.Kept.{KeepsStored}
+use Rattle.porcupine_server.specs.Kept.{IsTape, KeepsStored}
+use Rattle.porcupine_server.specs.Seen.{HasWhatWasShown, ShowsStored}
 
 abbrev IsNoLf : ℕ → Type 0
 IsNoLf x = x ≢ 10
@@ -80,12 +88,20 @@ front_ends (Said session text ∷ front) missing ends = absurd ends
 front_ends (Event text ∷ front) missing ends = absurd ends
 
 -- it answers no message
-ending_quiet : (entries : List Entry) → IsEnding entries → stored_sessions entries ≡ []
-ending_quiet [] ends = refl
-ending_quiet (Refused text ∷ []) ends = refl
-ending_quiet (Refused text ∷ entry ∷ entries) ends = absurd ends
-ending_quiet (Said session text ∷ entries) ends = absurd ends
-ending_quiet (Event text ∷ entries) ends = absurd ends
+ending_quiet : (entries : List Entry) → IsEnding entries → (sessions : List (Protocol × ℕ)) → stored_sessions sessions entries ≡ []
+ending_quiet [] ends sessions = refl
+ending_quiet (Refused text ∷ []) ends sessions = refl
+ending_quiet (Refused text ∷ entry ∷ entries) ends sessions = absurd ends
+ending_quiet (Said session text ∷ entries) ends sessions = absurd ends
+ending_quiet (Event text ∷ entries) ends sessions = absurd ends
+
+-- and is said to no session
+ending_unsaid : (entries : List Entry) → IsEnding entries → (k : ℕ) → lines_to k entries ≡ []
+ending_unsaid [] ends k = refl
+ending_unsaid (Refused text ∷ []) ends k = refl
+ending_unsaid (Refused text ∷ entry ∷ entries) ends k = absurd ends
+ending_unsaid (Said session text ∷ entries) ends k = absurd ends
+ending_unsaid (Event text ∷ entries) ends k = absurd ends
 
 -- what the last line, or the part of it that was written, is
 record Last (held0 held1 : Option (List ℕ)) (ending : Ending) : Type 0 where
@@ -126,9 +142,21 @@ lasts held0 held1 ending status finishes = ⊎_elim
     nothing [] (entry ∷ missing) cut is part = absurd (omega (arith, ap length is))
     nothing (entry ∷ front) missing cut is part = absurd (omega (arith, ap length is))
 
+-- Both promises, of one reading of the octets.
+record KeepsBoth {D : Type 0} (seen : D → Option (List ℕ)) (returned0 returned1 : Option (List (ℕ × ℕ × D))) (left0 left1 held0 held1 : Option (List ℕ)) : Type 0 where
+  read : List ℕ
+  written : List ℕ
+  entries : List Entry
+  took : Consumes left0 left1 read
+  gave : Appends held0 held1 written
+  transcript : IsTranscript written entries
+  promise : (((sessions : List (Protocol × ℕ)) → stored_sessions sessions entries ≡ []) × ((k : ℕ) → lines_to k entries ≡ []))
+      ⊎ ((given : D) × (plan : Plan) × (lines : List (List ℕ)) × Adds returned0 returned1 (0, 1, given) × IsTape read plan lines
+      × StoredStands plan lines entries (seen given ∷ []) × IfSome (seen given) (HasWhatWasShown lines entries))
+
 -- no run line was handled
 kept_nothing : {D : Type 0} (seen : D → Option (List ℕ)) (returned0 returned1 : Option (List (ℕ × ℕ × D))) (left0 left1 held0 middle held1 : Option (List ℕ)) (ending : Ending) (read : List ℕ)
-    → Consumes left0 left1 read → middle ≡ held0 → Last middle held1 ending → KeepsStored seen returned0 returned1 left0 left1 held0 held1
+    → Consumes left0 left1 read → middle ≡ held0 → Last middle held1 ending → KeepsBoth seen returned0 returned1 left0 left1 held0 held1
 kept_nothing seen returned0 returned1 left0 left1 held0 middle held1 ending read took none last = record {
   read = read;
   written = written_of last.front ++ last.cut;
@@ -136,7 +164,7 @@ kept_nothing seen returned0 returned1 left0 left1 held0 middle held1 ending read
   took = took;
   gave = subst (λ (held : Option (List ℕ)). Appends held held1 (written_of last.front ++ last.cut)) none last.gave;
   transcript = record { cut = last.cut; whole = refl; each = last.each; rest = last.rest };
-  promise = inl (ending_quiet last.front last.ends);
+  promise = inl (ending_quiet last.front last.ends, ending_unsaid last.front last.ends);
 }
 
 lines_more : (xs ys : List Entry) → AreLines xs → AreLines ys → AreLines (xs ++ ys)
@@ -181,9 +209,22 @@ tape_whole head lines others go pending rest read1 read2 others1 others2 first l
 module _ {D : Type 0} (seen : D → Option (List ℕ)) (returned0 returned1 : Option (List (ℕ × ℕ × D))) (left0 between left1 held0 middle held1 : Option (List ℕ))
     (head : PlanHead) (pending : List ℕ) (answer : Drove) (given : D)
     (back : Adds returned0 returned1 (0, 1, given)) (reads : ReadsPlan left0 between [] (Ok head) pending)
-    (d : Drives between left1 held0 middle pending answer head.lines (opening head.plan)) (held : IfSome (seen given) (HoldsRecords d.last.records)) (last : Last middle held1 (ending_of answer)) where
+    (d : Drives between left1 held0 middle pending answer head.lines (opening head.plan (is_some (seen given)))) (held : IfSome (seen given) (HoldsRecords d.last.records)) (last : Last middle held1 (ending_of answer)) where
+  -- what readers were shown is in the store, where it tells its octets
+  shown_with : (ending : List Entry) → IsEnding ending → IfSome (seen given) (HasWhatWasShown (d.lines ++ lines_in d.others) ((all_of d.outputs ++ d.stopped.front) ++ ending))
+  shown_with ending ends = by_store (seen given) refl
+    where
+      by_store : (store : Option (List ℕ)) → seen given ≡ store → IfSome store (HasWhatWasShown (d.lines ++ lines_in d.others) ((all_of d.outputs ++ d.stopped.front) ++ ending))
+      by_store None is = tt
+      by_store (Some octets) is = (
+        d.last.records,
+        subst (λ (o : Option (List ℕ)). IfSome o (HoldsRecords d.last.records)) is held,
+        λ k node kind. runs_show_as_filed head.plan d.lines (lines_in d.others) d.outputs d.mid d.last d.stopped.front ending reads.did.4.0
+            (subst (λ (o : Option (List ℕ)). Runs (opening head.plan (is_some o)) d.lines d.outputs d.mid) is d.runs) d.stopped.off ends k node kind,
+      )
+
   kept_with : (ending : List Entry) (cut : List ℕ) → d.written ++ (written_of last.front ++ last.cut) ≡ written_of ((all_of d.outputs ++ d.stopped.front) ++ ending) ++ cut
-      → AreLines ending → HasNoLf cut → IsEnding ending → KeepsStored seen returned0 returned1 left0 left1 held0 held1
+      → AreLines ending → HasNoLf cut → IsEnding ending → KeepsBoth seen returned0 returned1 left0 left1 held0 held1
   kept_with ending cut whole each rest ends =
       let go = reads.did in
       let served = go.4 in
@@ -218,11 +259,12 @@ module _ {D : Type 0} (seen : D → Option (List ℕ)) (returned0 returned1 : Op
             goes = go.2;
             plan_is = go.3;
           },
-          runs_keep_stored head.plan d.lines (lines_in d.others) d.outputs d.mid d.last d.stopped.front ending (seen given) served.0 served.2 d.each (lines_each d.others) d.runs d.stopped.off ends held,
+          runs_keep_stored head.plan (is_some (seen given)) d.lines (lines_in d.others) d.outputs d.mid d.last d.stopped.front ending (seen given) served.0 served.2 d.runs d.stopped.off ends held,
+          shown_with ending ends,
         );
       }
 
-  kept_run : KeepsStored seen returned0 returned1 left0 left1 held0 held1
+  kept_run : KeepsBoth seen returned0 returned1 left0 left1 held0 held1
   kept_run = ⊎_elim
       (λ (may : MayHaveStepped (stop_of answer)).
       let none = last.none (cut_is_last answer may) in
@@ -245,9 +287,9 @@ module _ {D : Type 0} (seen : D → Option (List ℕ)) (returned0 returned1 : Op
           ∙ join_last (all_of d.outputs) d.stopped.front last.front last.cut
 
 -- whatever the work did
-pub kept : {D : Type 0} (seen : D → Option (List ℕ)) (faults : D → ℕ) (handed0 handed1 returned0 returned1 : Option (List (ℕ × ℕ × D))) (left0 left1 held0 middle held1 : Option (List ℕ)) (ending : Ending) (status : ℕ)
-    → Works seen faults handed0 handed1 returned0 returned1 left0 left1 held0 middle ending → Finishes middle held1 ending status → KeepsStored seen returned0 returned1 left0 left1 held0 held1
-kept seen faults handed0 handed1 returned0 returned1 left0 left1 held0 middle held1 ending status works finishes = ⊎_elim
+kept_both : {D : Type 0} (seen : D → Option (List ℕ)) (faults : D → ℕ) (handed0 handed1 returned0 returned1 : Option (List (ℕ × ℕ × D))) (left0 left1 held0 middle held1 : Option (List ℕ)) (ending : Ending) (status : ℕ)
+    → Works seen faults handed0 handed1 returned0 returned1 left0 left1 held0 middle ending → Finishes middle held1 ending status → KeepsBoth seen returned0 returned1 left0 left1 held0 held1
+kept_both seen faults handed0 handed1 returned0 returned1 left0 left1 held0 middle held1 ending status works finishes = ⊎_elim
     (λ (none : NoPlan left0 left1 held0 middle ending). kept_nothing seen returned0 returned1 left0 left1 held0 middle held1 ending none.reads.read none.reads.took none.none last)
     (λ (some : NoStore left0 left1 held0 middle ending ⊎ Served seen faults handed0 handed1 returned0 returned1 left0 left1 held0 middle ending). ⊎_elim
     (λ (none : NoStore left0 left1 held0 middle ending). kept_nothing seen returned0 returned1 left0 left1 held0 middle held1 ending none.reads.read none.reads.took none.none last)
@@ -257,7 +299,7 @@ kept seen faults handed0 handed1 returned0 returned1 left0 left1 held0 middle he
     last : Last middle held1 ending
     last = lasts middle held1 ending status finishes
 
-    by_serving : Served seen faults handed0 handed1 returned0 returned1 left0 left1 held0 middle ending → KeepsStored seen returned0 returned1 left0 left1 held0 held1
+    by_serving : Served seen faults handed0 handed1 returned0 returned1 left0 left1 held0 middle ending → KeepsBoth seen returned0 returned1 left0 left1 held0 held1
     by_serving served = ⊎_elim
         (λ (none : (left1 ≡ served.between) × (middle ≡ held0) × IsBeforeRun ending).
         kept_nothing seen returned0 returned1 left0 left1 held0 middle held1 ending served.reads.read (subst (λ (left : Option (List ℕ)). Consumes left0 left served.reads.read) (sym none.0) served.reads.took) none.1 last)
@@ -265,3 +307,32 @@ kept seen faults handed0 handed1 returned0 returned1 left0 left1 held0 middle he
         kept_run seen returned0 returned1 left0 served.between left1 held0 middle held1 served.head served.pending ran.answer served.given served.back served.reads ran.drives ran.store
         (subst (λ (e : Ending). Last middle held1 e) ran.is last))
         served.serves
+
+module _ {D : Type 0} (seen : D → Option (List ℕ)) (faults : D → ℕ) (handed0 handed1 returned0 returned1 : Option (List (ℕ × ℕ × D))) (left0 left1 held0 middle held1 : Option (List ℕ)) (ending : Ending) (status : ℕ)
+    (works : Works seen faults handed0 handed1 returned0 returned1 left0 left1 held0 middle ending) (finishes : Finishes middle held1 ending status) where
+  both : KeepsBoth seen returned0 returned1 left0 left1 held0 held1
+  both = kept_both seen faults handed0 handed1 returned0 returned1 left0 left1 held0 middle held1 ending status works finishes
+
+  -- the promise to senders
+  pub kept : KeepsStored seen returned0 returned1 left0 left1 held0 held1
+  kept = record {
+    read = both.read;
+    written = both.written;
+    entries = both.entries;
+    took = both.took;
+    gave = both.gave;
+    transcript = both.transcript;
+    promise = ⊎_elim (λ none. inl none.0) (λ some. inr (some.0, some.1, some.2, some.3, some.4, some.5)) both.promise;
+  }
+
+  -- the promise to readers
+  pub shown : ShowsStored seen returned0 returned1 left0 left1 held0 held1
+  shown = record {
+    read = both.read;
+    written = both.written;
+    entries = both.entries;
+    took = both.took;
+    gave = both.gave;
+    transcript = both.transcript;
+    promise = ⊎_elim (λ none. inl none.1) (λ some. inr (some.0, some.1, some.2, some.3, some.4, some.6)) both.promise;
+  }

@@ -4,7 +4,7 @@ use Rattle.std.specs.Io.KnownBytes.{Consumes, Appends}
 use Rattle.io_edge.specs.Yards.{Adds}
 use Rattle.mail_model.specs.Lines.{HasNoLf, ended}
 use Rattle.mail_model.specs.Plan.{Plan}
-use Rattle.mail_model.specs.Tape.{Draft, empty_draft, planned, tape_plan_line}
+use Rattle.mail_model.specs.Tape.{Protocol, Draft, empty_draft, planned, tape_plan_line}
 use Rattle.mail_model.specs.Tape.PlanLine.{Go}
 use Rattle.mail_model.specs.Transcript.{Entry}
 use Rattle.mail_model.specs.Stored.{StoredStands, stored_sessions}
@@ -34,5 +34,5 @@ pub record KeepsStored {D : Type 0} (seen : D → Option (List ℕ)) (returned0 
   pub took : Consumes left0 left1 read
   pub gave : Appends held0 held1 written
   pub transcript : IsTranscript written entries
-  pub promise : (stored_sessions entries ≡ [])
+  pub promise : ((sessions : List (Protocol × ℕ)) → stored_sessions sessions entries ≡ [])
       ⊎ ((given : D) × (plan : Plan) × (lines : List (List ℕ)) × Adds returned0 returned1 (0, 1, given) × IsTape read plan lines × StoredStands plan lines entries (seen given ∷ []))

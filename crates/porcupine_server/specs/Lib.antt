@@ -4,3 +4,4 @@ pub mod Stores
 pub mod Works
 pub mod Complete
 pub mod Kept
+pub mod Seen

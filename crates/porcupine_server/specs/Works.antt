@@ -1,5 +1,5 @@
 -- What the work on a tape did: the plan was read, the store was opened, and the run lines were handled.
-use Rattle.std.specs.Prelude.{◌≡◌, ◌⊎◌, ℕ, false, List, [], Option, IfSome, Ok, Err, ⊤}
+use Rattle.std.specs.Prelude.{◌≡◌, ◌⊎◌, ℕ, false, List, [], Option, None, IfSome, is_some, Ok, Err, ⊤}
 use Rattle.io_edge.specs.Causes.{Rose}
 use Rattle.io_edge.specs.Yards.{Adds, with_last}
 use Rattle.mail_model.specs.Site.{opening, HoldsRecords}
@@ -24,10 +24,10 @@ IsBeforeRun NoMemory = ⊤
 pub record Ran {D : Type 0} (seen : D → Option (List ℕ)) (faults : D → ℕ) (left0 left1 held0 held1 : Option (List ℕ)) (pending : List ℕ) (head : PlanHead) (ending : Ending) (taken given : D) : Type 0 where
   pub answer : Drove
   pub is : ending ≡ ending_of answer
-  pub drives : Drives left0 left1 held0 held1 pending answer head.lines (opening head.plan)
+  pub drives : Drives left0 left1 held0 held1 pending answer head.lines (opening head.plan (is_some (seen given)))
   pub store : IfSome (seen given) (HoldsRecords drives.last.records)
-  -- the node fell only where the disk failed
-  pub fallen : drives.last.up ≡ false → Rose (faults taken) (faults given)
+  -- the node fell only where the disk failed, or does not tell what it holds
+  pub fallen : drives.last.up ≡ false → Rose (faults taken) (faults given) ⊎ (seen taken ≡ None)
 
 -- the store was not opened, and nothing was read or written; or the run lines were handled
 abbrev pub Serves : {D : Type 0} → (D → Option (List ℕ)) → (D → ℕ) → Option (List ℕ) → Option (List ℕ) → Option (List ℕ) → Option (List ℕ) → List ℕ → PlanHead → Ending → D → D → Type 0

@@ -1,6 +1,7 @@
 // Whole tapes through the program's one call, over an outside in memory.
 
 mod faults;
+mod maildrops;
 mod messages;
 mod plans;
 mod replies;

@@ -1,5 +1,6 @@
 // Each part of the outside failing in turn, and other words.
 
+use super::store::Journal;
 use super::{PLAN, Script, joined, words, yard_of};
 use crate::server::porcupine;
 use io_edge::faulty::{FaultySink, FaultySource, FaultyYard};
@@ -59,6 +60,77 @@ fn a_disk_fault_takes_the_node_down(rt: HostRuntime) -> Result<(), Fail> {
         for rest in rests {
             let lines = joined(alloc, &[FALLEN, rest])?;
             asked(alloc, failing, &lines)?.run(&rt, 3)?;
+        }
+    }
+    Ok(())
+}
+
+const RETRIEVED: &[u8] = b"  2 250 stored
+open pop 1
+  4 +OK node1 ready <1.4.0@node1>
+say 4 USER alice
+  4 +OK send PASS
+say 4 PASS tanstaaf
+  4 +OK maildrop open
+say 4 LIST
+  4 +OK listing
+  4 1 129
+  4 .
+open pop 1
+  5 +OK node1 ready <1.5.0@node1>
+say 4 RETR 1
+";
+
+const READ_FAILED: &[u8] = b"  * fault 1
+  2 421 node1 down
+  * 2 closed
+  3 421 node1 down
+  * 3 closed
+  4 -ERR [SYS/TEMP] node1 down
+  * 4 closed
+  5 -ERR [SYS/TEMP] node1 down
+  * 5 closed
+close 4
+  ! line 22 NoSuchSession
+";
+
+#[test]
+fn a_read_that_fails_takes_the_node_down(rt: HostRuntime) -> Result<(), Fail> {
+    let alloc = rt.alloc();
+    // LIST reads nothing, and RETR is the first disk call behind those of the message.
+    asked(alloc, 16, &joined(alloc, &[RETRIEVED, READ_FAILED])?)?.run(&rt, 3)?;
+    Ok(())
+}
+
+// `feed 1` of an envelope and two messages at once.
+const TWO_AT_ONCE: &[u8] =
+    b"open smtp 1\nfeed 1 48454c4f20630d0a4d41494c2046524f4d3a3c3e0d0a5243505420544f3a3c616c6963653e0d0a\
+444154410d0a2e0d0a4d41494c2046524f4d3a3c3e0d0a5243505420544f3a3c616c6963653e0d0a444154410d0a2e0d0a\nend\n";
+
+#[test]
+fn what_a_unit_gives_is_written_before_the_next_is_heard(rt: HostRuntime) -> Result<(), Fail> {
+    let alloc = rt.alloc();
+    let tape = joined(alloc, &[PLAN, TWO_AT_ONCE])?;
+    // Which write fails, and how many messages the store then holds.
+    let cases: [(u64, u64); 5] = [(5, 0), (6, 1), (9, 1), (10, 2), (11, 2)];
+    for (write, messages) in cases {
+        let mut sink = FaultySink::new(VecSink::new(alloc), write);
+        let mut yard = yard_of(alloc, b"", 0)?;
+        let answer = porcupine(
+            alloc,
+            &words(alloc, "drive")?,
+            &mut SliceSource::new(&tape),
+            &mut sink,
+            &mut yard,
+        );
+        assert_eq!(rt; answer, if write <= 10 { 5 } else { 0 });
+        let mut journal = Journal::new(alloc)?;
+        for _ in 0..messages {
+            journal.message(b"", b"c", &[b"alice"], b"")?;
+        }
+        match yard.returned.pop() {
+            Some((_, _, disk)) => journal.is_held(&rt, &disk.inner.octets)?,
+            None => assert!(rt; false),
         }
     }
     Ok(())

@@ -46,6 +46,82 @@ open smtp 0
   ! line 7 NoSuchNode
 open smtp 2
   ! line 7 NoSuchNode
+open pop
+  ! line 7 BadLine
+open pop\x20
+  ! line 7 BadLine
+open pop x
+  ! line 7 BadLine
+open POP 1
+  ! line 7 BadLine
+open imap 1
+  ! line 7 BadLine
+open pop 0
+  ! line 7 NoSuchNode
+open pop 2
+  ! line 7 NoSuchNode
+feed
+  ! line 7 BadLine
+feed 1
+  ! line 7 BadLine
+feed 1\x20
+  ! line 7 BadLine
+feed 1 4
+  ! line 7 BadLine
+feed 1 4G
+  ! line 7 BadLine
+feed 1 41 42
+  ! line 7 BadLine
+feed 1  41
+  ! line 7 BadLine
+feed 1 414
+  ! line 7 BadLine
+feed 1 41\x20
+  ! line 7 BadLine
+feed x 41
+  ! line 7 BadLine
+feed 18446744073709551616 41
+  ! line 7 BadLine
+feed 1 41
+  ! line 7 NoSuchSession
+feed 0 0d0A
+  ! line 7 NoSuchSession
+close
+  ! line 7 BadLine
+close x
+  ! line 7 BadLine
+close 1 1
+  ! line 7 BadLine
+close 0
+  ! line 7 NoSuchSession
+close 1
+  ! line 7 NoSuchSession
+open pop 1
+  1 +OK node1 ready <1.1.0@node1>
+close 2
+  ! line 8 NoSuchSession
+open pop 1
+  1 +OK node1 ready <1.1.0@node1>
+close 1
+close 1
+  ! line 9 NoSuchSession
+open pop 1
+  1 +OK node1 ready <1.1.0@node1>
+close 1
+feed 1 41
+  ! line 9 NoSuchSession
+open smtp 1
+  1 220 node1 Porcupine ready
+close 1
+say 1 QUIT
+  ! line 9 NoSuchSession
+open pop 1
+  1 +OK node1 ready <1.1.0@node1>
+feed 1 515549540d0a
+  1 +OK bye
+  * 1 closed
+feed 1 515549540d0a
+  ! line 9 NoSuchSession
 say
   ! line 7 BadLine
 say\x20
