@@ -1,11 +1,13 @@
 #!/usr/bin/env python3
-"""Runs the built program over tapes of many messages and of large ones, and prints a table.
+"""Runs the built program over tapes of many messages and of large ones, and prints two tables.
 
     ./porcupine drive < examples/first.tape    # builds the program
     bench/tapes.py
 
-It asserts nothing. Each tape is one session that sends all its messages to one mailbox. The time is that
-of the whole run, the start of the program among it; the memory is the peak resident set of its process.
+It asserts nothing. Each tape is one session that sends all its messages to one mailbox; for the second
+table a POP3 session follows that logs in, asks for STAT, LIST and UIDL, and reads each message. The time is
+that of the whole run, the start of the program among it, and for reading what the run takes longer than
+that of the same tape without the reader; the memory is the peak resident set of the process.
 """
 
 import os
@@ -28,7 +30,7 @@ CASES = [
 ]
 
 
-def write_tape(path, messages, octets):
+def write_tape(path, messages, octets, reads=False):
     """Writes the tape, and says how many lines it has."""
     text_lines = octets // 64
     message = COMMANDS + LINE * text_lines + b"say 1 .\n"
@@ -36,8 +38,13 @@ def write_tape(path, messages, octets):
         tape.write(PLAN + b"open smtp 1\nsay 1 HELO c.example\n")
         for _ in range(messages):
             tape.write(message)
-        tape.write(b"say 1 QUIT\nend\n")
-    return 6 + 2 + messages * (4 + text_lines) + 2
+        tape.write(b"say 1 QUIT\n")
+        if reads:
+            tape.write(b"open pop 1\nsay 2 USER alice\nsay 2 PASS tanstaaf\nsay 2 STAT\nsay 2 LIST\nsay 2 UIDL\n")
+            for number in range(1, messages + 1):
+                tape.write(b"say 2 RETR %d\n" % number)
+        tape.write(b"end\n")
+    return 6 + 2 + messages * (4 + text_lines) + 2 + (6 + messages if reads else 0)
 
 
 def run(path):
@@ -52,17 +59,41 @@ def run(path):
     return time.perf_counter() - begun, usage.ru_maxrss, os.waitstatus_to_exitcode(status)
 
 
-def main():
+def timed(messages, octets, reads=False):
+    """Writes a tape and runs the program on it: how many lines it has, and what the run gave."""
+    with tempfile.TemporaryDirectory() as folder:
+        path = os.path.join(folder, "tape")
+        return write_tape(path, messages, octets, reads), *run(path)
+
+
+def print_sending():
+    """What it costs to take messages in."""
     print(f"{'messages':>9} {'octets':>11} {'lines':>10} {'seconds':>8} {'lines/s':>10} {'us/message':>11} {'peak MiB':>9} status")
     for messages, octets in CASES:
-        with tempfile.TemporaryDirectory() as folder:
-            path = os.path.join(folder, "tape")
-            lines = write_tape(path, messages, octets)
-            seconds, peak, status = run(path)
+        lines, seconds, peak, status = timed(messages, octets)
         print(
             f"{messages:>9,} {octets:>11,} {lines:>10,} {seconds:>8.2f} {lines / seconds:>10,.0f}"
             f" {seconds / messages * 1e6:>11.1f} {peak / 1024:>9.1f} {status}"
         )
+
+
+def print_reading():
+    """What it costs to show them."""
+    print(f"{'messages':>9} {'octets':>11} {'seconds':>8} {'us/message':>11} {'peak MiB':>9} status")
+    for messages, octets in CASES:
+        _, sending, _, _ = timed(messages, octets)
+        _, seconds, peak, status = timed(messages, octets, reads=True)
+        print(
+            f"{messages:>9,} {octets:>11,} {seconds - sending:>8.2f}"
+            f" {(seconds - sending) / messages * 1e6:>11.1f} {peak / 1024:>9.1f} {status}"
+        )
+
+
+def main():
+    print("taking messages in")
+    print_sending()
+    print("reading them back")
+    print_reading()
 
 
 if __name__ == "__main__":
