@@ -1,7 +1,7 @@
 //! mail_base: the words of the mail service as Rust types.
 //!
 //! Octets, names of mailboxes, secrets, proofs of who a client is, numbers of nodes and sets of them,
-//! ids of messages, stamps, listings of maildrops, tickets of calls, the users and the plan of a
+//! ids of messages and lists of them, stamps, listings of maildrops, tickets of calls, the users and the plan of a
 //! cluster. Contracts see each as the plain record, list, number or map of `mail_model`, so that
 //! callers reason about those and never about fields. What allocates takes the allocator and answers
 //! want of memory, with nothing changed.
@@ -12,6 +12,7 @@
 
 mod bucket;
 mod deliver;
+mod ids;
 mod item;
 mod items;
 mod msg_id;
@@ -31,6 +32,7 @@ mod users;
 
 pub use bucket::bucket_of;
 pub use deliver::Deliver;
+pub use ids::Ids;
 pub use item::Item;
 pub use items::Items;
 pub use msg_id::MsgId;
