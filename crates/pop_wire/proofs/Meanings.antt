@@ -12,7 +12,7 @@ use Rattle.mail_model.specs.Numbers.{is_digit, value_after}
 use Rattle.mail_model.specs.Tape.{behind_word, has_space}
 use Rattle.mail_model.specs.Smtp.{is_blank, is_word, trimmed, verb_of, rest_of, unspaced}
 use Rattle.mail_model.specs.Pop.{Command, Fault, mapped, short_number_of, user_of, alone, number_in, maybe_number_in, command_in, pop_command_of}
-use Rattle.mail_model.specs.Pop.Command.{User, Pass, Stat, Listing, Uidl, Retr, Quit}
+use Rattle.mail_model.specs.Pop.Command.{User, Pass, Stat, Listing, Uidl, Retr, Dele, Quit}
 use Rattle.mail_model.specs.Pop.Fault.{UnknownVerb, BadArgument, BadNumber}
 use Rattle.pop_wire.specs.Laws.{is_pass, NamesAreRead, SecretsAreRead, NumbersAreRead, TwoArgumentsAreTooMany, BlanksAtEndMeanNothing, MoreSpacesMeanNothing, CaseOfVerbMeansNothing, LargerNumbersAreBad, OtherVerbsAreUnknown}
 use Rattle.line_words.specs.Words.{IsOneWord}
@@ -35,8 +35,9 @@ said secret verb rest =
     (cond (pointwise nat_eq verb (codes "LIST")) (mapped Listing (maybe_number_in rest))
     (cond (pointwise nat_eq verb (codes "UIDL")) (mapped Uidl (maybe_number_in rest))
     (cond (pointwise nat_eq verb (codes "RETR")) (mapped Retr (number_in rest))
+    (cond (pointwise nat_eq verb (codes "DELE")) (mapped Dele (number_in rest))
     (cond (pointwise nat_eq verb (codes "QUIT")) (alone Quit rest)
-    (Err UnknownVerb)))))))
+    (Err UnknownVerb))))))))
 
 drop_behind : (xs ys : List ℕ) → drop (length xs + 1) (xs ++ ys) ≡ drop 1 ys
 drop_behind [] ys = refl
@@ -162,6 +163,7 @@ number_read : (n : ℕ) (word : List ℕ) → IsSpelt n word → 0 < length word
     (pop_command_of (codes "RETR " ++ word) ≡ Ok (Retr n))
     × (pop_command_of (codes "LIST " ++ word) ≡ Ok (Listing (Some n)))
     × (pop_command_of (codes "UIDL " ++ word) ≡ Ok (Uidl (Some n)))
+    × (pop_command_of (codes "DELE " ++ word) ≡ Ok (Dele n))
 number_read n [] h some short small = absurd (omega arith)
 number_read n (x ∷ word) h some short small =
     let one = digits_word (x ∷ word) h.0 in
@@ -170,6 +172,7 @@ number_read n (x ∷ word) h some short small =
       word_said (codes "RETR") (32 ∷ x ∷ word) refl refl ∙ ap (said (x ∷ word) (codes "RETR")) (space_word x word one) ∙ ap (mapped Retr) read,
       word_said (codes "LIST") (32 ∷ x ∷ word) refl refl ∙ ap (said (x ∷ word) (codes "LIST")) (space_word x word one) ∙ ap (mapped Listing) maybe,
       word_said (codes "UIDL") (32 ∷ x ∷ word) refl refl ∙ ap (said (x ∷ word) (codes "UIDL")) (space_word x word one) ∙ ap (mapped Uidl) maybe,
+      word_said (codes "DELE") (32 ∷ x ∷ word) refl refl ∙ ap (said (x ∷ word) (codes "DELE")) (space_word x word one) ∙ ap (mapped Dele) read,
     )
 
 pub numbers_read : NumbersAreRead
@@ -192,6 +195,7 @@ number_bad : (n : ℕ) (word : List ℕ) → IsSpelt n word → 0 < length word 
     (pop_command_of (codes "RETR " ++ word) ≡ Err BadNumber)
     × (pop_command_of (codes "LIST " ++ word) ≡ Err BadNumber)
     × (pop_command_of (codes "UIDL " ++ word) ≡ Err BadNumber)
+    × (pop_command_of (codes "DELE " ++ word) ≡ Err BadNumber)
 number_bad n [] h some large = absurd (omega arith)
 number_bad n (x ∷ word) h some large =
     let one = digits_word (x ∷ word) h.0 in
@@ -200,6 +204,7 @@ number_bad n (x ∷ word) h some large =
       word_said (codes "RETR") (32 ∷ x ∷ word) refl refl ∙ ap (said (x ∷ word) (codes "RETR")) (space_word x word one) ∙ ap (mapped Retr) bad,
       word_said (codes "LIST") (32 ∷ x ∷ word) refl refl ∙ ap (said (x ∷ word) (codes "LIST")) (space_word x word one) ∙ ap (mapped Listing) maybe,
       word_said (codes "UIDL") (32 ∷ x ∷ word) refl refl ∙ ap (said (x ∷ word) (codes "UIDL")) (space_word x word one) ∙ ap (mapped Uidl) maybe,
+      word_said (codes "DELE") (32 ∷ x ∷ word) refl refl ∙ ap (said (x ∷ word) (codes "DELE")) (space_word x word one) ∙ ap (mapped Dele) bad,
     )
 
 pub larger_are_bad : LargerNumbersAreBad
@@ -239,6 +244,7 @@ two_too_many (x ∷ word) (y ∷ other) w o =
       word_said (codes "RETR") (32 ∷ rest) refl refl ∙ ap (said rest (codes "RETR")) kept ∙ ap (mapped Retr) refused,
       word_said (codes "LIST") (32 ∷ rest) refl refl ∙ ap (said rest (codes "LIST")) kept ∙ ap (mapped Listing) maybe,
       word_said (codes "UIDL") (32 ∷ rest) refl refl ∙ ap (said rest (codes "UIDL")) kept ∙ ap (mapped Uidl) maybe,
+      word_said (codes "DELE") (32 ∷ rest) refl refl ∙ ap (said rest (codes "DELE")) kept ∙ ap (mapped Dele) refused,
     )
 
 -- blanks at the end
@@ -298,5 +304,6 @@ others_unknown verb rest w h r =
     let list = or_false (is_word verb (codes "LIST")) _ stat.1 in
     let uidl = or_false (is_word verb (codes "UIDL")) _ list.1 in
     let retr = or_false (is_word verb (codes "RETR")) _ uidl.1 in
-    let quit = or_false (is_word verb (codes "QUIT")) _ retr.1 in
-    word_said verb rest w (begins_or_ends_from rest r) ∙ rw (user.0, pass.0, stat.0, list.0, uidl.0, retr.0, quit.0)
+    let dele = or_false (is_word verb (codes "DELE")) _ retr.1 in
+    let quit = or_false (is_word verb (codes "QUIT")) _ dele.1 in
+    word_said verb rest w (begins_or_ends_from rest r) ∙ rw (user.0, pass.0, stat.0, list.0, uidl.0, retr.0, dele.0, quit.0)

@@ -6,7 +6,7 @@ use Rattle.std.specs.List.{list_all, list_any}
 use Rattle.mail_model.specs.Names.{begins_with, is_name}
 use Rattle.mail_model.specs.Smtp.{is_blank, is_word, trimmed, verb_of}
 use Rattle.mail_model.specs.Pop.{pop_command_of}
-use Rattle.mail_model.specs.Pop.Command.{User, Pass, Listing, Uidl, Retr}
+use Rattle.mail_model.specs.Pop.Command.{User, Pass, Listing, Uidl, Retr, Dele}
 use Rattle.mail_model.specs.Pop.Fault.{UnknownVerb, BadArgument, BadNumber}
 use Rattle.line_words.specs.Words.{IsOneWord}
 
@@ -31,18 +31,21 @@ NumbersAreRead = (n : ℕ) → n < 2 ^ 32 →
     (pop_command_of (codes "RETR " ++ decimal n) ≡ Ok (Retr n))
     × (pop_command_of (codes "LIST " ++ decimal n) ≡ Ok (Listing (Some n)))
     × (pop_command_of (codes "UIDL " ++ decimal n) ≡ Ok (Uidl (Some n)))
+    × (pop_command_of (codes "DELE " ++ decimal n) ≡ Ok (Dele n))
 
 abbrev pub LargerNumbersAreBad : Type 0
 LargerNumbersAreBad = (n : ℕ) → 2 ^ 32 ≤ n → n < 2 ^ 64 →
     (pop_command_of (codes "RETR " ++ decimal n) ≡ Err BadNumber)
     × (pop_command_of (codes "LIST " ++ decimal n) ≡ Err BadNumber)
     × (pop_command_of (codes "UIDL " ++ decimal n) ≡ Err BadNumber)
+    × (pop_command_of (codes "DELE " ++ decimal n) ≡ Err BadNumber)
 
 abbrev pub TwoArgumentsAreTooMany : Type 0
 TwoArgumentsAreTooMany = (word other : List ℕ) → IsArgument word → IsArgument other →
     (pop_command_of (codes "RETR " ++ (word ++ (codes " " ++ other))) ≡ Err BadArgument)
     × (pop_command_of (codes "LIST " ++ (word ++ (codes " " ++ other))) ≡ Err BadArgument)
     × (pop_command_of (codes "UIDL " ++ (word ++ (codes " " ++ other))) ≡ Err BadArgument)
+    × (pop_command_of (codes "DELE " ++ (word ++ (codes " " ++ other))) ≡ Err BadArgument)
 
 abbrev pub BlanksAtEndMeanNothing : Type 0
 BlanksAtEndMeanNothing = (line blanks : List ℕ) → is_pass (verb_of (trimmed line)) ≡ false → list_all is_blank blanks ≡ true →
@@ -60,7 +63,7 @@ CaseOfVerbMeansNothing = (verb other rest : List ℕ) → IsOneWord verb → IsO
 
 -- the verbs that are read
 abbrev pub verbs : List (List ℕ)
-verbs = codes "USER" ∷ codes "PASS" ∷ codes "STAT" ∷ codes "LIST" ∷ codes "UIDL" ∷ codes "RETR" ∷ codes "QUIT" ∷ []
+verbs = codes "USER" ∷ codes "PASS" ∷ codes "STAT" ∷ codes "LIST" ∷ codes "UIDL" ∷ codes "RETR" ∷ codes "DELE" ∷ codes "QUIT" ∷ []
 
 -- whatever follows
 abbrev pub OtherVerbsAreUnknown : Type 0

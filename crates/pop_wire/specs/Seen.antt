@@ -3,7 +3,7 @@ use Rattle.std.specs.Prelude.{◌<◌, ⊤, length, IsTrue, Result, Ok, Err}
 use Rattle.mail_model.specs.Names.{is_name}
 use Rattle.mail_model.specs.Pop as pop
 use Rattle.pop_wire.specs.declared.command.PopCommand.{PopCommand}
-use Rattle.pop_wire.specs.declared.command.PopCommand.TheVariants.{User, Pass, Stat, List, Uidl, Retr, Quit}
+use Rattle.pop_wire.specs.declared.command.PopCommand.TheVariants.{User, Pass, Stat, List, Uidl, Retr, Dele, Quit}
 use Rattle.pop_wire.specs.declared.command.PopFault.{PopFault}
 use Rattle.pop_wire.specs.declared.command.PopFault.TheVariants.{UnknownVerb, BadArgument, BadNumber}
 
@@ -15,6 +15,7 @@ command_seen Stat = pop.Command.Stat
 command_seen (List number) = pop.Command.Listing number
 command_seen (Uidl number) = pop.Command.Uidl number
 command_seen (Retr number) = pop.Command.Retr number
+command_seen (Dele number) = pop.Command.Dele number
 command_seen Quit = pop.Command.Quit
 
 -- a name is one, and a secret is not empty
@@ -25,6 +26,7 @@ IsWithinLimits Stat = ⊤
 IsWithinLimits (List number) = ⊤
 IsWithinLimits (Uidl number) = ⊤
 IsWithinLimits (Retr number) = ⊤
+IsWithinLimits (Dele number) = ⊤
 IsWithinLimits Quit = ⊤
 
 abbrev pub fault_seen : PopFault → pop.Fault

@@ -23,6 +23,8 @@ pub enum PopCommand<'a> {
     Uidl { number: Option<u32> },
     /// The octets of a message (section 5).
     Retr { number: u32 },
+    /// A message is marked to be deleted (section 5).
+    Dele { number: u32 },
     /// The client takes its leave (sections 4 and 6).
     Quit,
 }
@@ -108,6 +110,15 @@ fn read_retr(rest: &[u8]) -> Result<PopCommand<'_>, PopFault>
     })
 }
 
+fn read_dele(rest: &[u8]) -> Result<PopCommand<'_>, PopFault>
+    ensures exact { seen result ≡ mapped pop.Command.Dele (number_in rest.now) }
+    ensures limits { IfOk result IsWithinLimits }
+{
+    Ok(PopCommand::Dele {
+        number: read_number(rest)?,
+    })
+}
+
 fn read_alone<'a>(command: PopCommand<'a>, rest: &[u8]) -> Result<PopCommand<'a>, PopFault>
     requires { IsWithinLimits command }
     ensures exact { seen result ≡ alone (command_seen command.entry) rest.now }
@@ -141,6 +152,8 @@ pub fn read_command(line: &[u8]) -> Result<PopCommand<'_>, PopFault>
         read_uidl(rest)
     } else if is_word(verb, b"RETR") {
         read_retr(rest)
+    } else if is_word(verb, b"DELE") {
+        read_dele(rest)
     } else if is_word(verb, b"QUIT") {
         read_alone(PopCommand::Quit, rest)
     } else {

@@ -12,17 +12,17 @@ pub fn secrets_are_read()
     ensures { SecretsAreRead }
 {}
 
-/// `RETR`, `LIST` and `UIDL` take every number below 2^32, written in decimal.
+/// `RETR`, `LIST`, `UIDL` and `DELE` take every number below 2^32, written in decimal.
 pub fn numbers_are_read()
     ensures { NumbersAreRead }
 {}
 
-/// Numbers from 2^32 on, as far as 64 bits go, are a bad number to each of the three.
+/// Numbers from 2^32 on, as far as 64 bits go, are a bad number to each of the four.
 pub fn larger_numbers_are_bad()
     ensures { LargerNumbersAreBad }
 {}
 
-/// Behind `RETR`, `LIST` and `UIDL` two words are a bad argument, whatever they are.
+/// Behind `RETR`, `LIST`, `UIDL` and `DELE` two words are a bad argument, whatever they are.
 pub fn two_arguments_are_too_many()
     ensures { TwoArgumentsAreTooMany }
 {}
@@ -42,7 +42,7 @@ pub fn case_of_verb_means_nothing()
     ensures { CaseOfVerbMeansNothing }
 {}
 
-/// A verb that is none of the seven, in any case, is unknown whatever follows it.
+/// A verb that is none of the eight, in any case, is unknown whatever follows it.
 pub fn other_verbs_are_unknown()
     ensures { OtherVerbsAreUnknown }
 {}

@@ -16,14 +16,14 @@
 //! - `PASS secret`: whatever stands behind the first space, of any octets but not empty. Each space
 //!   and tab in it counts, at its front and its end too.
 //! - `LIST n` and `UIDL n`, or `LIST` and `UIDL` alone.
-//! - `RETR n`.
+//! - `RETR n` and `DELE n`.
 //! - `STAT` and `QUIT`, alone.
 //!
 //! A number `n` has 1 to 10 digits, zeros in front among them, and is below 2^32.
 //!
 //! DIAGNOSTICS
 //!
-//! `UnknownVerb` where the verb is none of the seven, and so for an empty line. `BadArgument` where
+//! `UnknownVerb` where the verb is none of the eight, and so for an empty line. `BadArgument` where
 //! there are too few or too many words, the name is none or the secret is empty. `BadNumber` where one
 //! word stands in the place of a number and is none.
 //!
@@ -35,7 +35,7 @@
 //!
 //! WHAT IT DOES NOT DO
 //!
-//! DELE, TOP, APOP, NOOP, RSET and CAPA are unknown verbs here. Whether a command comes in its place,
+//! TOP, APOP, NOOP, RSET and CAPA are unknown verbs here. Whether a command comes in its place,
 //! how long a line may be, whether the name is a mailbox and the secret is its own, and whether a
 //! message has that number, 0 among them, is for the session.
 #![tactic(auto)]

@@ -15,7 +15,7 @@ fn reads_commands(rt: HostRuntime) {
     let last = Ok(PopCommand::Uidl {
         number: Some(u32::MAX),
     });
-    let lines: [(&[u8], Result<PopCommand, PopFault>); 22] = [
+    let lines: [(&[u8], Result<PopCommand, PopFault>); 24] = [
         (b"USER Bob", bob),
         (b"user Bob \t", bob),
         (b"uSeR   Bob", bob),
@@ -47,6 +47,8 @@ fn reads_commands(rt: HostRuntime) {
         (b"uidl  4294967295  ", last),
         (b"RETR 0", Ok(PopCommand::Retr { number: 0 })),
         (b"retr  12 ", Ok(PopCommand::Retr { number: 12 })),
+        (b"DELE 1", Ok(PopCommand::Dele { number: 1 })),
+        (b"dele  0 ", Ok(PopCommand::Dele { number: 0 })),
         (b"Quit ", Ok(PopCommand::Quit)),
     ];
     for (at, (line, wanted)) in lines.iter().enumerate() {
@@ -56,7 +58,7 @@ fn reads_commands(rt: HostRuntime) {
 
 #[test]
 fn refuses_arguments(rt: HostRuntime) {
-    let arguments: [&[u8]; 23] = [
+    let arguments: [&[u8]; 25] = [
         b"USER",
         b"USER \t",
         b"USER a b",
@@ -79,6 +81,8 @@ fn refuses_arguments(rt: HostRuntime) {
         b"RETR  ",
         b"retr\t",
         b"RETR 1 x",
+        b"DELE",
+        b"DELE 1 2",
         b"QUIT now",
     ];
     for (at, line) in arguments.iter().enumerate() {
@@ -88,7 +92,7 @@ fn refuses_arguments(rt: HostRuntime) {
 
 #[test]
 fn refuses_numbers_and_verbs(rt: HostRuntime) {
-    let numbers: [&[u8]; 11] = [
+    let numbers: [&[u8]; 12] = [
         b"LIST x",
         b"LIST -1",
         b"LIST +1",
@@ -100,6 +104,7 @@ fn refuses_numbers_and_verbs(rt: HostRuntime) {
         b"RETR 18446744073709551617",
         b"RETR \t1",
         b"retr :",
+        b"DELE 4294967296",
     ];
     for (at, line) in numbers.iter().enumerate() {
         assert_eq!(rt; read_command(line), Err(PopFault::BadNumber), "at {at}");
@@ -116,7 +121,7 @@ fn refuses_numbers_and_verbs(rt: HostRuntime) {
         b"LIST\t1",
         b"RETR1",
         b"QUIT\tnow",
-        b"DELE 1",
+        b"DELE\t1",
         b"TOP 1 0",
         b"APOP bob 0",
         b"NOOP",
