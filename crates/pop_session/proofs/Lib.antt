@@ -1,3 +1,4 @@
 pub mod Shows
 pub mod Logins
 pub mod Messages
+pub mod Marks

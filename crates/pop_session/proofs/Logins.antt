@@ -1,14 +1,15 @@
 -- What a line that asks for a login is.
-use Rattle.std.proofs.Common.{◌≡◌, ℕ, Bool, true, false, cond, List, [], Option, Some, None, unwrap_or, Result, Ok, Err, refl, sym, ◌∙◌, ap}
+use Rattle.std.proofs.Common.{◌≡◌, ℕ, Bool, true, false, cond, List, [], ◌∷◌, Option, Some, None, unwrap_or, Result, Ok, Err, refl, sym, ◌∙◌, ap}
 use Rattle.mail_model.specs.Plan.{Plan, is_user}
 use Rattle.mail_model.specs.Session.{is_long_line}
 use Rattle.mail_model.specs.Pop.{Command, Fault, pop_command_of}
-use Rattle.mail_model.specs.Pop.Command.{User, Pass, Stat, Listing, Uidl, Retr, Quit}
+use Rattle.mail_model.specs.Pop.Command.{User, Pass, Stat, Listing, Uidl, Retr, Dele, Quit}
 use Rattle.mail_model.specs.Pop.Fault.{UnknownVerb, BadArgument, BadNumber}
-use Rattle.mail_model.specs.PopReplies.{Item}
-use Rattle.mail_model.specs.Maildrop.{Stage, Outcome, said, pass_outcome, before_login, behind_login, of_message, message_at, command_outcome, named_by, with_user}
+use Rattle.mail_model.specs.PopReplies.{Item, Slot, marked_ids}
+use Rattle.mail_model.specs.Identity.{Id}
+use Rattle.mail_model.specs.Maildrop.{Stage, Outcome, said, pass_outcome, before_login, behind_login, of_message, message_at, deletion_of, command_outcome, named_by, named_in, after_line}
 use Rattle.mail_model.specs.Maildrop.Stage.{Authorization, Transaction}
-use Rattle.mail_model.specs.Maildrop.Outcome.{Answered, Closed, AsksLogin, AsksMessage}
+use Rattle.mail_model.specs.Maildrop.Outcome.{Answered, Closed, AsksLogin, AsksMessage, AsksDeletion}
 use Rattle.pop_session.specs.Laws.{Names, AsksBehindUser}
 
 -- whether it is a question for a login
@@ -17,35 +18,44 @@ is_login (Answered lines) = false
 is_login (Closed lines) = false
 is_login (AsksLogin user secret) = true
 is_login (AsksMessage number id) = false
+is_login (AsksDeletion ids) = false
 
 user_in : Outcome → List ℕ
 user_in (Answered lines) = []
 user_in (Closed lines) = []
 user_in (AsksLogin user secret) = user
 user_in (AsksMessage number id) = []
+user_in (AsksDeletion ids) = []
 
 secret_in : Outcome → List ℕ
 secret_in (Answered lines) = []
 secret_in (Closed lines) = []
 secret_in (AsksLogin user secret) = secret
 secret_in (AsksMessage number id) = []
+secret_in (AsksDeletion ids) = []
 
 message_is_no_login : (f : Item → Outcome) (item : Option Item) → ((item : Item) → is_login (f item) ≡ false) → is_login (of_message f item) ≡ false
 unfolding is_login
 message_is_no_login f None h = refl
 message_is_no_login f (Some item) h = h item
 
-no_login_behind : (items : List Item) (command : Command) → is_login (behind_login items command) ≡ false
+deletion_is_no_login : (ids : List Id) → is_login (deletion_of ids) ≡ false
 unfolding is_login
-no_login_behind items (User name) = refl
-no_login_behind items (Pass secret) = refl
-no_login_behind items Stat = refl
-no_login_behind items (Listing None) = refl
-no_login_behind items (Listing (Some n)) = message_is_no_login _ (message_at items n) (λ item. refl)
-no_login_behind items (Uidl None) = refl
-no_login_behind items (Uidl (Some n)) = message_is_no_login _ (message_at items n) (λ item. refl)
-no_login_behind items (Retr n) = message_is_no_login _ (message_at items n) (λ item. refl)
-no_login_behind items Quit = refl
+deletion_is_no_login [] = refl
+deletion_is_no_login (id ∷ ids) = refl
+
+no_login_behind : (slots : List Slot) (command : Command) → is_login (behind_login slots command) ≡ false
+unfolding is_login
+no_login_behind slots (User name) = refl
+no_login_behind slots (Pass secret) = refl
+no_login_behind slots Stat = refl
+no_login_behind slots (Listing None) = refl
+no_login_behind slots (Listing (Some n)) = message_is_no_login _ (message_at slots n) (λ item. refl)
+no_login_behind slots (Uidl None) = refl
+no_login_behind slots (Uidl (Some n)) = message_is_no_login _ (message_at slots n) (λ item. refl)
+no_login_behind slots (Retr n) = message_is_no_login _ (message_at slots n) (λ item. refl)
+no_login_behind slots (Dele n) = message_is_no_login _ (message_at slots n) (λ item. refl)
+no_login_behind slots Quit = deletion_is_no_login (marked_ids slots)
 
 passes : (is : Bool) (name given user secret : List ℕ) (other : List (List ℕ)) → cond is (AsksLogin name given) (Answered other) ≡ AsksLogin user secret →
     (is ≡ true) × (name ≡ user) × (given ≡ secret)
@@ -74,6 +84,7 @@ asks_before plan named Stat user secret h = absurd (cc)
 asks_before plan named (Listing number) user secret h = absurd (cc)
 asks_before plan named (Uidl number) user secret h = absurd (cc)
 asks_before plan named (Retr number) user secret h = absurd (cc)
+asks_before plan named (Dele number) user secret h = absurd (cc)
 asks_before plan named Quit user secret h = absurd (cc)
 
 asks_by : (plan : Plan) (stage : Stage) (result : Result Command Fault) (user secret : List ℕ) → command_outcome plan stage result ≡ AsksLogin user secret →
@@ -83,8 +94,8 @@ asks_by plan stage (Err UnknownVerb) user secret h = absurd (cc)
 asks_by plan stage (Err BadArgument) user secret h = absurd (cc)
 asks_by plan stage (Err BadNumber) user secret h = absurd (cc)
 asks_by plan (Authorization named) (Ok command) user secret h = asks_before plan named command user secret h
-asks_by plan (Transaction items) (Ok command) user secret h =
-    let no : true ≡ false = sym (ap is_login h) ∙ no_login_behind items command in
+asks_by plan (Transaction slots) (Ok command) user secret h =
+    let no : true ≡ false = sym (ap is_login h) ∙ no_login_behind slots command in
     absurd (cc (no))
 
 record AsksAtLength (plan : Plan) (stage : Stage) (long : Bool) (result : Result Command Fault) (user secret : List ℕ) : Type 0 where
@@ -105,23 +116,24 @@ names_by line user false (Ok Stat) short is h = absurd (cc)
 names_by line user false (Ok (Listing number)) short is h = absurd (cc)
 names_by line user false (Ok (Uidl number)) short is h = absurd (cc)
 names_by line user false (Ok (Retr number)) short is h = absurd (cc)
+names_by line user false (Ok (Dele number)) short is h = absurd (cc)
 names_by line user false (Ok Quit) short is h = absurd (cc)
 names_by line user false (Err fault) short is h = absurd (cc)
 
 user_of : Stage → Option (List ℕ)
 user_of (Authorization user) = user
-user_of (Transaction items) = None
+user_of (Transaction slots) = None
 
-told : (stage : Stage) (named : Option (List ℕ)) (user : List ℕ) → with_user stage named ≡ Authorization (Some user) → named ≡ Some user
+told : (stage : Stage) (line user : List ℕ) → after_line stage line ≡ Authorization (Some user) → named_in line ≡ Some user
 unfolding user_of
-told (Authorization old) named user h = ap user_of h
-told (Transaction items) named user h = absurd (cc)
+told (Authorization old) line user h = ap user_of h
+told (Transaction slots) line user h = absurd (cc)
 
 pub asks_behind_user : AsksBehindUser
 asks_behind_user plan stage first second user secret h =
     let all = asks_at plan _ (is_long_line second) (pop_command_of second) user secret _ h in
     record {
-      names = names_by first user (is_long_line first) (pop_command_of first) refl refl (told stage _ user all.asks.stands);
+      names = names_by first user (is_long_line first) (pop_command_of first) refl refl (told stage first user all.asks.stands);
       configured = all.asks.configured;
       short = all.short;
       says = all.asks.says;

@@ -1,22 +1,38 @@
 -- What the definition of a session says, in the client's terms.
-use Rattle.std.specs.Prelude.{◌≡◌, ℕ, ◌+◌, true, false, List, length, Some, Ok, slice_get}
+use Rattle.std.specs.Prelude.{◌≡◌, ℕ, ◌+◌, true, false, List, length, take, Some, None, Ok, slice_get}
 use Rattle.mail_model.specs.Plan.{Plan, is_user}
 use Rattle.mail_model.specs.Session.{is_long_line}
 use Rattle.mail_model.specs.Pop.{pop_command_of}
 use Rattle.mail_model.specs.Pop.Command.{User, Pass}
 use Rattle.mail_model.specs.Names.{lower}
-use Rattle.mail_model.specs.PopReplies.{Item, listing_reply}
-use Rattle.mail_model.specs.Maildrop.{Stage, line_outcome, after_line, message_at}
+use Rattle.mail_model.specs.PopReplies.{Item, Slot, listing_reply, unmarked}
+use Rattle.mail_model.specs.Maildrop.{Stage, line_outcome, after_line, message_at, with_mark, list_outcome, uidl_outcome, retr_outcome, dele_outcome}
 use Rattle.mail_model.specs.Maildrop.Outcome.{AsksLogin}
 
--- Behind its first line a listing shows of each message what is shown of it alone, in the line of its number.
+-- Behind its first line a listing shows of each message that is not marked what is shown of it alone, under its own number, in the place that it has among those that are not marked.
 abbrev pub NumberedAlike : Type 0
-NumberedAlike = (first : List ℕ) (line : ℕ → Item → List ℕ) (items : List Item) (n : ℕ) (item : Item) →
-    message_at items n ≡ Some item → slice_get (listing_reply first line items) n ≡ Some (line n item)
+NumberedAlike = (first : List ℕ) (line : ℕ → Item → List ℕ) (slots : List Slot) (n : ℕ) (item : Item) →
+    message_at slots n ≡ Some item → slice_get (listing_reply first line slots) (length (unmarked (take n slots))) ≡ Some (line n item)
 
--- a line for each message, and two more
+-- a line for each message that is not marked, and two more
 abbrev pub ListedOnce : Type 0
-ListedOnce = (first : List ℕ) (line : ℕ → Item → List ℕ) (items : List Item) → length (listing_reply first line items) ≡ length items + 2
+ListedOnce = (first : List ℕ) (line : ℕ → Item → List ℕ) (slots : List Slot) → length (listing_reply first line slots) ≡ length (unmarked slots) + 2
+
+-- In both listings the number has the same message, or none, and what a command leads to that names it is the same.
+pub record IsShownAlike (old new : List Slot) (n : ℕ) : Type 0 where
+  pub message : message_at new n ≡ message_at old n
+  pub list : list_outcome new (Some n) ≡ list_outcome old (Some n)
+  pub uidl : uidl_outcome new (Some n) ≡ uidl_outcome old (Some n)
+  pub retr : retr_outcome new n ≡ retr_outcome old n
+  pub dele : dele_outcome new n ≡ dele_outcome old n
+
+-- A mark shifts no numbers: each other message is shown as before, under its number.
+abbrev pub NumbersStay : Type 0
+NumbersStay = (slots : List Slot) (marked n : ℕ) → (n ≡ marked → ⊥) → IsShownAlike slots (with_mark slots marked) n
+
+-- The message that was marked is none any more.
+abbrev pub MarkedIsNone : Type 0
+MarkedIsNone = (slots : List Slot) (n : ℕ) → message_at (with_mark slots n) n ≡ None
 
 -- a line that is USER with a name of this user, in any case of its letters
 pub record Names (line user : List ℕ) : Type 0 where

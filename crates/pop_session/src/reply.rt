@@ -1,6 +1,6 @@
 // The replies of a session.
 ghost use Rattle.std.specs.Prelude.{◌≡◌, ℕ, List, ◌++◌, ◌∷◌, [], codes, IfOk, OnOk, OnErr};
-ghost use Rattle.mail_model.specs.PopReplies.{one_line, ready_text, down_text, size_line, id_line, octets_text, stat_text, listing_reply};
+ghost use Rattle.mail_model.specs.PopReplies.{one_line, ready_text, down_text, size_line, id_line, octets_text, stat_text, deleted_text, listing_reply};
 ghost use Rattle.dot_text.specs.Dots.{Dots};
 ghost use Rattle.pop_session.specs.Messages.{AreCut, ShowsMessage};
 ghost use Rattle.mail_model.specs.Maildrop as maildrop;
@@ -199,12 +199,53 @@ impl Reply {
         Reply::said(alloc, b"-ERR message was deleted")
     }
 
+    /// To QUIT whose deletions are done (RFC 1939, section 6).
+    ///
+    /// # Errors
+    ///
+    /// Only want of memory.
+    pub fn dropped(alloc: Global) -> Result<Reply, AllocError>
+        ensures { IfOk result (λ reply. reply ≡ answer_reply maildrop.Answer.Dropped) }
+    {
+        Reply::said(alloc, b"+OK bye")
+    }
+
+    /// To QUIT, where it is not known that every marked message was deleted (RFC 1939, section 6; RFC 3206).
+    ///
+    /// # Errors
+    ///
+    /// Only want of memory.
+    pub fn remaining(alloc: Global) -> Result<Reply, AllocError>
+        ensures { IfOk result (λ reply. reply ≡ answer_reply maildrop.Answer.Remaining) }
+    {
+        Reply::said(alloc, b"-ERR [SYS/TEMP] some messages may remain")
+    }
+
+    /// To a login, or to RETR, that the node can't answer now (RFC 3206).
+    ///
+    /// # Errors
+    ///
+    /// Only want of memory.
+    pub fn later(alloc: Global) -> Result<Reply, AllocError>
+        ensures { IfOk result (λ reply. reply ≡ answer_reply maildrop.Answer.Later) }
+    {
+        Reply::said(alloc, b"-ERR [SYS/TEMP] try again later")
+    }
+
+    /// To DELE of the message of this number (RFC 1939, section 5).
+    pub(crate) fn deleted(alloc: Global, number: u32) -> Result<Reply, AllocError>
+        ensures { IfOk result (λ reply. reply ≡ one_line (deleted_text number)) }
+    {
+        let line = with_number(b"+OK message ".to_vec(alloc)?, alloc, u128::from(number))?;
+        Reply::of_line(alloc, with_text(line, b" deleted")?)
+    }
+
     /// To STAT (RFC 1939, section 5).
+    #[tactic(auto, using(crate::proofs::Marks::unmarked_count, crate::proofs::Marks::unmarked_octets))]
     pub(crate) fn count(alloc: Global, listing: &Listing) -> Result<Reply, AllocError>
         ensures { IfOk result (λ reply. reply ≡ one_line (stat_text listing.now)) }
     {
-        let count = listing.as_slice().len() as u128;
-        let line = with_number(b"+OK ".to_vec(alloc)?, alloc, count)?;
+        let line = with_number(b"+OK ".to_vec(alloc)?, alloc, listing.count() as u128)?;
         let line = with_number(with_text(line, b" ")?, alloc, listing.octets())?;
         Reply::of_line(alloc, line)
     }
@@ -230,8 +271,10 @@ impl Reply {
         ensures { IfOk result (λ reply. reply ≡ listing_reply (codes "+OK listing") size_line listing.now) }
     {
         let mut reply = Reply::said(alloc, b"+OK listing")?;
-        for (at, item) in listing.as_slice().iter().enumerate() {
-            reply.push(size_line(alloc, at as u64 + 1, item)?)?;
+        for (at, slot) in listing.slots().iter().enumerate() {
+            if !slot.marked {
+                reply.push(size_line(alloc, at as u64 + 1, &slot.item)?)?;
+            }
         }
         reply.push_copy(alloc, b".")?;
         Ok(reply)
@@ -242,8 +285,10 @@ impl Reply {
         ensures { IfOk result (λ reply. reply ≡ listing_reply (codes "+OK unique ids") id_line listing.now) }
     {
         let mut reply = Reply::said(alloc, b"+OK unique ids")?;
-        for (at, item) in listing.as_slice().iter().enumerate() {
-            reply.push(id_line(alloc, at as u64 + 1, item)?)?;
+        for (at, slot) in listing.slots().iter().enumerate() {
+            if !slot.marked {
+                reply.push(id_line(alloc, at as u64 + 1, &slot.item)?)?;
+            }
         }
         reply.push_copy(alloc, b".")?;
         Ok(reply)

@@ -70,3 +70,19 @@ fn opens_and_goes_down(rt: HostRuntime) -> Result<(), Fail> {
     says_line(&rt, &down, b"-ERR [SYS/TEMP] node16 down");
     Ok(())
 }
+
+#[test]
+fn answers_a_deletion(rt: HostRuntime) -> Result<(), Fail> {
+    says_line(&rt, &Reply::dropped(rt.alloc())?, b"+OK bye");
+    says_line(
+        &rt,
+        &Reply::remaining(rt.alloc())?,
+        b"-ERR [SYS/TEMP] some messages may remain",
+    );
+    says_line(
+        &rt,
+        &Reply::later(rt.alloc())?,
+        b"-ERR [SYS/TEMP] try again later",
+    );
+    Ok(())
+}

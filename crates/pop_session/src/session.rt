@@ -1,5 +1,7 @@
 // One session: octets as they come, and the lines of which they are.
 ghost use Rattle.std.specs.Prelude.{◌≡◌, ◌⊎◌, ◌<◌, ℕ, List, [], ◌++◌, IfOk, OnOk, OnErr};
+ghost use Rattle.mail_model.specs.PopReplies.{listed_slots};
+ghost use Rattle.mail_model.specs.PopReplies as replies;
 ghost use Rattle.mail_model.specs.Maildrop.{opening, after_answer, answer_reply};
 ghost use Rattle.mail_model.specs.Maildrop as maildrop;
 ghost use Rattle.pop_session.specs.Follows.{Follows, Hears, waiting};
@@ -69,15 +71,15 @@ impl Session {
         }
     }
 
-    /// The node answered to a login with the listing: TRANSACTION begins (RFC 1939, section 5). What was
-    /// fed and not heard stays.
+    /// The node answered to a login with the listing: TRANSACTION begins, and nothing is marked (RFC 1939,
+    /// section 5). What was fed and not heard stays.
     ///
     /// # Errors
     ///
     /// Only want of memory; the session is then as before.
     pub fn listed(&mut self, alloc: Global, listing: Listing) -> Result<Reply, AllocError>
-        ensures reply { IfOk result (λ reply. reply ≡ answer_reply (maildrop.Answer.Listed listing)) }
-        ensures ok { OnOk result ((stage : maildrop.Stage) (pending : List ℕ) → Follows self.old stage pending → Follows self.new (after_answer stage (maildrop.Answer.Listed listing)) pending) }
+        ensures reply { IfOk result (λ reply. (items : List replies.Item) → reply ≡ answer_reply (maildrop.Answer.Listed items)) }
+        ensures ok { OnOk result ((items : List replies.Item) (stage : maildrop.Stage) (pending : List ℕ) → listing ≡ listed_slots items → Follows self.old stage pending → Follows self.new (after_answer stage (maildrop.Answer.Listed items)) pending) }
         ensures waits { waiting self.new ≡ waiting self.old }
         ensures err { OnErr result (self.new ≡ self.old) }
     {

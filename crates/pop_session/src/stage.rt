@@ -2,14 +2,14 @@
 ghost use Rattle.std.specs.Prelude.{◌≡◌, length, false, Some, IfOk, OnErr};
 ghost use Rattle.mail_model.specs.Lines.{sent_line};
 ghost use Rattle.mail_model.specs.Session.{is_long_line};
-ghost use Rattle.mail_model.specs.Maildrop.{said, bad_order, farewell, no_such_message, retr_outcome, pass_outcome, before_login, behind_login, list_outcome, uidl_outcome, command_outcome, named_by, with_user};
+ghost use Rattle.mail_model.specs.Maildrop.{said, bad_order, farewell, no_such_message, retr_outcome, dele_outcome, quit_outcome, pass_outcome, before_login, behind_login, list_outcome, uidl_outcome, command_outcome, named_by, marked_by};
 ghost use Rattle.pop_wire.specs.Seen.{seen, command_seen, IsWithinLimits};
 ghost use Rattle.dot_text.specs.Shown.{IsKind};
-ghost use Rattle.pop_session.specs.Shown.{stage_of, outcome_of, HearsLine};
+ghost use Rattle.pop_session.specs.Shown.{stage_of, outcome_of, told_by, told_long, HearsLine};
 
 use crate::{Listing, Reply};
 use dot_text::Line;
-use mail_base::{MsgId, Name, Octets, Plan};
+use mail_base::{Ids, MsgId, Name, Octets, Plan};
 use pop_wire::{PopCommand, PopFault, read_command};
 use std::alloc::{AllocError, Global};
 
@@ -19,7 +19,7 @@ pub(crate) enum Stage {
     /// Before the login (RFC 1939, section 4): the user whom a good USER named, where its line was the
     /// last.
     Authorization { user: Option<Name> },
-    /// Behind the login (RFC 1939, section 5): the messages of the maildrop.
+    /// Behind the login (RFC 1939, section 5): the messages of the maildrop, and which of them are marked.
     Transaction { listing: Listing },
 }
 
@@ -32,10 +32,14 @@ pub enum Heard {
     Said(Reply),
     /// The line is answered, and the session ends.
     Closed(Reply),
-    /// The node is asked whether this is the user's secret: `listed` or `Reply::wrong` comes next.
+    /// The node is asked whether this is the user's secret: `listed`, `Reply::wrong` or `Reply::later` comes
+    /// next.
     LogsIn { user: Name, secret: Octets },
-    /// The node is asked for this message: `Reply::message` or `Reply::gone` comes next.
+    /// The node is asked for this message: `Reply::message`, `Reply::gone` or `Reply::later` comes next.
     Fetches { number: u32, id: MsgId },
+    /// The node is asked to delete these messages, of which there is one at least, in the order of the
+    /// listing. `Reply::dropped` comes next, or `Reply::remaining`, and the session ends.
+    Deletes { ids: Ids },
 }
 
 // A reply of one line.
@@ -52,7 +56,7 @@ fn bad_order(alloc: Global) -> Result<Heard, AllocError>
     said(alloc, b"-ERR bad order")
 }
 
-// To QUIT (RFC 1939, sections 4 and 6).
+// To QUIT with nothing to delete (RFC 1939, sections 4 and 6).
 fn farewell(alloc: Global) -> Result<Heard, AllocError>
     ensures { IfOk result (λ heard. outcome_of heard ≡ Some farewell) }
 {
@@ -96,6 +100,7 @@ fn authorize(
         PopCommand::List { .. } => bad_order(alloc),
         PopCommand::Uidl { .. } => bad_order(alloc),
         PopCommand::Retr { .. } => bad_order(alloc),
+        PopCommand::Dele { .. } => bad_order(alloc),
         PopCommand::Quit => farewell(alloc),
     }
 }
@@ -146,6 +151,27 @@ fn retr(listing: &Listing, alloc: Global, number: u32) -> Result<Heard, AllocErr
     }
 }
 
+// DELE (RFC 1939, section 5). The mark itself comes once this reply stands.
+fn dele(listing: &Listing, alloc: Global, number: u32) -> Result<Heard, AllocError>
+    ensures { IfOk result (λ heard. outcome_of heard ≡ Some (dele_outcome listing.now number)) }
+{
+    match listing.message(number) {
+        None => no_such_message(alloc),
+        Some(_) => Ok(Heard::Said(Reply::deleted(alloc, number)?)),
+    }
+}
+
+// QUIT behind the login (RFC 1939, section 6).
+fn quit(listing: &Listing, alloc: Global) -> Result<Heard, AllocError>
+    ensures { IfOk result (λ heard. outcome_of heard ≡ Some (quit_outcome listing.now)) }
+{
+    let ids = listing.marked_ids(alloc)?;
+    if ids.is_empty() {
+        return farewell(alloc);
+    }
+    Ok(Heard::Deletes { ids })
+}
+
 // A command behind the login.
 fn transact(listing: &Listing, alloc: Global, command: &PopCommand<'_>) -> Result<Heard, AllocError>
     ensures { IfOk result (λ heard. outcome_of heard ≡ Some (behind_login listing.now (command_seen command.now))) }
@@ -157,7 +183,8 @@ fn transact(listing: &Listing, alloc: Global, command: &PopCommand<'_>) -> Resul
         PopCommand::List { number } => list(listing, alloc, *number),
         PopCommand::Uidl { number } => uidl(listing, alloc, *number),
         PopCommand::Retr { number } => retr(listing, alloc, *number),
-        PopCommand::Quit => farewell(alloc),
+        PopCommand::Dele { number } => dele(listing, alloc, *number),
+        PopCommand::Quit => quit(listing, alloc),
     }
 }
 
@@ -195,13 +222,33 @@ fn named_by(
     }
 }
 
+// DELE marks its message.
+fn mark_by(listing: &mut Listing, command: &Result<PopCommand<'_>, PopFault>)
+    ensures { listing.new ≡ marked_by listing.old (seen command.now) }
+{
+    if let Ok(PopCommand::Dele { number }) = command {
+        listing.mark(*number);
+    }
+}
+
 impl Stage {
-    // Before the login this user comes in place of the one before.
-    fn name_user(&mut self, named: Option<Name>)
-        ensures { stage_of self.new ≡ with_user (stage_of self.old) named }
+    // The command was obeyed: before the login this user comes in place of the one before, and behind it
+    // DELE marks.
+    fn tell(&mut self, named: Option<Name>, command: &Result<PopCommand<'_>, PopFault>)
+        ensures { stage_of self.new ≡ told_by (stage_of self.old) named (seen command.now) }
     {
         match self {
             Stage::Authorization { user } => *user = named,
+            Stage::Transaction { listing } => mark_by(listing, command),
+        }
+    }
+
+    // A line that is too long names nobody.
+    fn tell_long(&mut self)
+        ensures { stage_of self.new ≡ told_long (stage_of self.old) }
+    {
+        match self {
+            Stage::Authorization { user } => *user = None,
             Stage::Transaction { .. } => {}
         }
     }
@@ -214,7 +261,7 @@ impl Stage {
         let command = read_command(line);
         let heard = obey(self, alloc, plan, &command)?;
         let user = named_by(alloc, &command)?;
-        self.name_user(user);
+        self.tell(user, &command);
         Ok(heard)
     }
 
@@ -232,7 +279,7 @@ impl Stage {
         match kind {
             Line::Long => {
                 let heard = said(alloc, b"-ERR line too long")?;
-                self.name_user(None);
+                self.tell_long();
                 Ok(heard)
             }
             Line::Whole => self.hear_command(alloc, plan, line),

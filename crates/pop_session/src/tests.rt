@@ -1,8 +1,10 @@
 // What one client hears: each table has the lines that it says and, indented, what they lead to.
 ghost use Rattle.std.specs.Prelude.{◌<◌};
 
+mod marks;
+
 use crate::{Heard, Item, Listing, Reply, Session};
-use mail_base::{MsgId, Name, NodeNo, Plan, Secret, Users};
+use mail_base::{Ids, MsgId, Name, NodeNo, Plan, Secret, Users};
 use std::alloc::{AllocError, Global};
 use std::process::Abort;
 use std::test::Fail;
@@ -100,6 +102,15 @@ impl Client {
         }
     }
 
+    // The node's answer to QUIT behind marks.
+    fn delete(&mut self, ids: &Ids) -> Result<Reply, AllocError> {
+        for id in ids.as_slice() {
+            let text = id.id_text(self.alloc)?;
+            self.note(b"  deletes ", text.as_bytes())?;
+        }
+        Reply::dropped(self.alloc)
+    }
+
     // What the session heard last. Whether it heard anything.
     fn answer(&mut self, heard: Heard) -> Result<bool, AllocError> {
         match heard {
@@ -116,6 +127,11 @@ impl Client {
             Heard::Fetches { number, id } => {
                 let reply = self.fetch(number, id)?;
                 self.note_reply(&reply)?;
+            }
+            Heard::Deletes { ids } => {
+                let reply = self.delete(&ids)?;
+                self.note_reply(&reply)?;
+                self.note(b"  ", b"closed")?;
             }
         }
         Ok(true)
@@ -246,8 +262,14 @@ PASS sesame
   -ERR bad order
 NOOP
   -ERR unknown command
-DELE 1
+RSET
   -ERR unknown command
+DELE 0
+  -ERR no such message
+DELE 2
+  -ERR no such message
+DELE
+  -ERR bad argument
 STAT
   +OK 1 151
 QUIT
@@ -273,6 +295,11 @@ LIST 1
   -ERR no such message
 RETR 1
   -ERR no such message
+DELE 1
+  -ERR no such message
+QUIT
+  +OK bye
+  closed
 ";
 
 const THREE_MESSAGES: &[u8] = b"\
@@ -337,6 +364,8 @@ LIST 1
 UIDL
   -ERR bad order
 RETR 1
+  -ERR bad order
+DELE 1
   -ERR bad order
 PASS sesame
   -ERR bad order

@@ -4,4 +4,4 @@ use Rattle.pop_session.proofs.reply.Reply.ids.Given as goal
 
 -- the lines so far, and those of the messages that are left
 abbrev pub invariant-loop-at : goal.invariant-loop-at
-invariant-loop-at l = l.reply ++ lines_from id_line (l.at + 1) (drop l.at l.item-items) ≡ codes "+OK unique ids" ∷ lines_from id_line 1 l.item-items
+invariant-loop-at l = l.reply ++ lines_from id_line (l.at + 1) (drop l.at l.slot-items) ≡ codes "+OK unique ids" ∷ lines_from id_line 1 l.slot-items
