@@ -3,7 +3,7 @@ use Rattle.std.proofs.Common.{◌≡◌, ◌≤◌, ℕ, true, false, Option, Re
 use Rattle.std.specs.Prelude.{IsTrue}
 use Rattle.mail_base.specs.declared.ticket.Ticket.{Ticket}
 use Rattle.cluster_world.specs.World.{plan_of, is_up}
-use Rattle.cluster_world.specs.Steps.{AskDid, BeginDid, HasNumbers, IsSound, HasMishap, StandsNot}
+use Rattle.cluster_world.specs.Steps.{AskDid, BeginDid, HasNodes, HasNumbers, IsSound, HasMishap, StandsNot}
 use Rattle.cluster_world.specs.Completes.{IsAnswer, IsBegun}
 use Rattle.cluster_world.specs.declared.world.World.{World}
 use Rattle.cluster_world.specs.declared.step.Said.{Said}
@@ -30,12 +30,12 @@ answers seen faults (Err (NoMemory down)) ticket old new did of_plan up stands =
 
 -- a call at a node that is up and has numbers left begins where the disk has no mishap
 pub begins : {D : Type 0} (seen : D → Option (List ℕ)) (faults : D → ℕ) (result : Result Said StepFault) (node : ℕ) (call : Call) (old new : World D) → BeginDid seen faults result node call old new
-    → node ≤ (plan_of old).nodes → IsTrue (is_up old) → HasNumbers call old → IsSound seen old → (HasMishap seen faults call old new → ⊥) → IsBegun result
+    → HasNodes (plan_of old) node call → IsTrue (is_up old) → HasNumbers call old → IsSound seen old → (HasMishap seen faults call old new → ⊥) → IsBegun result
 begins seen faults (Ok (Begun ticket)) node call old new did of_plan up numbers sound spared = tt
 begins seen faults (Ok Noted) node call old new did of_plan up numbers sound spared = tt
 begins seen faults (Ok (Asked answer)) node call old new did of_plan up numbers sound spared = did
 begins seen faults (Ok (Faulted failed)) node call old new did of_plan up numbers sound spared = spared (did.4 sound)
-begins seen faults (Err NoSuchNode) node call old new did of_plan up numbers sound spared = absurd (omega (arith, did.0, of_plan))
+begins seen faults (Err NoSuchNode) node call old new did of_plan up numbers sound spared = did.0 of_plan
 begins seen faults (Err NodeDown) node call old new did of_plan up numbers sound spared = never old up did.1
 begins seen faults (Err NoSuchTicket) node call old new did of_plan up numbers sound spared = did
 begins seen faults (Err Worn) node call old new did of_plan up numbers sound spared = did.2 numbers

@@ -11,7 +11,7 @@ use Rattle.mail_base.specs.declared.proof.Proof.{Proof}
 use Rattle.mail_base.specs.declared.ticket.Ticket.{Ticket}
 use Rattle.cluster_world.specs.Index.{kept_in, place_in}
 use Rattle.cluster_world.specs.Reads.{MayEndBefore, HasRead, IsPartAt, AnswersLogin, AnswersFetch}
-use Rattle.cluster_world.specs.World.{plan_of, is_up, drawn_of, tickets_of, kept_of, disk_of, gate_of, book_of, standing_of}
+use Rattle.cluster_world.specs.World.{plan_of, is_up, drawn_of, stamps_of, tickets_of, kept_of, disk_of, gate_of, book_of, standing_of}
 use Rattle.cluster_world.specs.Found.{FindsLogin, FindsPart}
 use Rattle.cluster_world.specs.Steps.{IsSound, Finds, StopsReading, call_of, nth_ticket}
 use Rattle.cluster_world.specs.Journal.{end_of}
@@ -26,7 +26,8 @@ use Rattle.cluster_world.specs.declared.world.World.{World}
 use Rattle.cluster_world.specs.declared.journal.JournalFault.{JournalFault}
 use Rattle.cluster_world.specs.declared.journal.JournalFault.TheVariants.{DiskFault, NotAJournal, TooLarge, NoMemory}
 use Rattle.cluster_world.specs.declared.step.Answer.{Answer}
-use Rattle.cluster_world.specs.declared.step.Answer.TheVariants.{Stored, Listed, Wrong, Part, GoneAlready}
+use Rattle.cluster_world.specs.declared.step.Answer.TheVariants.{Stored, Listed, Wrong, Part, GoneAlready, Dropped}
+use Rattle.cluster_world.proofs.Origins.{all_by_node_1, all_stated}
 use Rattle.cluster_world.proofs.Readings.{listed_seen, all_at_node_1, size_at, size_by_place, found_at, length_cut, part_is, told_or_rose}
 
 -- a disk that ends before a place ends before a later one
@@ -66,12 +67,15 @@ module _ {D : Type 0} (seen : D → Option (List ℕ)) (old : World D) where
       by_node_1 = a.2;
       asked_node_1 = a.3;
       held = rw a.4 (all_at_node_1 (kept_of user old));
+      drawn = λ records fits. rw a.4 (all_by_node_1 user records (drawn_of old) (kept_of user old) fits.ids (fits.places user));
+      stated = λ records fits. rw a.4 (all_stated user records (kept_of user old) (fits.places user));
       are = λ records fits. ap (λ (l : List Item). map item_seen l) a.4 ∙ listed_seen (kept_of user old) ∙ fits.lists user;
     },
   )
   finds_login (Wrong stamp) user proof ticket a = a
   finds_login (Part octets whole) user proof ticket a = a
   finds_login GoneAlready user proof ticket a = a
+  finds_login Dropped user proof ticket a = a
 
   -- what a fetch was answered, over the records
   pub finds_part : (answer : Answer) (user : List ℕ) (id : Id) (start most before now : ℕ)
@@ -81,7 +85,7 @@ module _ {D : Type 0} (seen : D → Option (List ℕ)) (old : World D) where
   finds_part (Wrong stamp) user id start most before now a = a
   finds_part (Part octets whole) user id start most before now a = λ records fits.
       let place = a.0 in
-      let found = found_at records id (kept_of user old) place (fits.places user) a.1 in
+      let found = found_at user records id (kept_of user old) place (fits.places user) a.1 in
       record {
         all = found.octets;
         listed = ap (λ (l : List replies.Item). size_in id l) (sym (fits.lists user)) ∙ size_by_place id (kept_of user old) ∙ ap (λ (o : Option Place). size_at o) a.1 ∙ ap (λ (n : ℕ). Some n) (sym a.2);
@@ -92,6 +96,7 @@ module _ {D : Type 0} (seen : D → Option (List ℕ)) (old : World D) where
       }
   finds_part GoneAlready user id start most before now a = λ records fits.
       ap (λ (l : List replies.Item). size_in id l) (sym (fits.lists user)) ∙ size_by_place id (kept_of user old) ∙ ap (λ (o : Option Place). size_at o) a.0
+  finds_part Dropped user id start most before now a = a
 
   -- the count of faults has not fallen
   pub fetched_later : (answer : Answer) (row : List Kept) (id : Id) (start most : ℕ) (told : Option (List ℕ)) (before now : ℕ) → AnswersFetch (Ok answer) row id start most told before now → before ≤ now
@@ -100,18 +105,19 @@ module _ {D : Type 0} (seen : D → Option (List ℕ)) (old : World D) where
   fetched_later (Wrong stamp) row id start most told before now a = absurd a
   fetched_later (Part octets whole) row id start most told before now a = a.4
   fetched_later GoneAlready row id start most told before now a = a.1
+  fetched_later Dropped row id start most told before now a = absurd a
 
   -- a world whose disk tells its octets has a read fail only where that disk failed
   pub has_cause : (user : List ℕ) (id : Id) (start most before now : ℕ) → AnswersFetch (Err DiskFault) (kept_of user old) id start most (seen (disk_of old)) before now
       → IsSound seen old → Rose before now ⊎ (seen (disk_of old) ≡ None)
   has_cause user id start most before now a sound =
-      let found = found_at sound.records id (kept_of user old) a.0 (sound.fits.places user) a.1 in
+      let found = found_at user sound.records id (kept_of user old) a.0 (sound.fits.places user) a.1 in
       told_or_rose (seen (disk_of old)) sound.records (gate_of old) found.octets a.0 before now found.lies sound.holds a.2
 
 -- The answer stands with the next ticket, and nothing was written.
 pub finds : {D : Type 0} (seen : D → Option (List ℕ)) (faults : D → ℕ) (answer : Answer) (disk : D) (old new : World D) → IsTrue (is_up old)
     → seen disk ≡ seen (disk_of old) → faults (disk_of old) ≤ faults disk
-    → (plan_of new ≡ plan_of old) × (is_up new ≡ is_up old) × (drawn_of new ≡ drawn_of old) × (disk_of new ≡ disk)
+    → (plan_of new ≡ plan_of old) × (is_up new ≡ is_up old) × (drawn_of new ≡ drawn_of old) × (stamps_of new ≡ stamps_of old) × (disk_of new ≡ disk)
     × (new.journal ≡ old.journal) × (new.index ≡ old.index) × (book_of new ≡ book_of old)
     → tickets_of new ≡ tickets_of old + 1
     → standing_of new ≡ standing_of old ++ call_of (nth_ticket (tickets_of old + 1)) (Found answer) ∷ []
@@ -120,13 +126,14 @@ finds seen faults answer disk old new up same later rest more stands = record {
   plan = rest.0;
   up = rest.1 ∙ up;
   drawn = rest.2;
+  stamps = rest.3;
   tickets = more;
-  book = rest.6;
-  octets = ap seen rest.3 ∙ same;
-  gate = ap (λ (j : Journal). end_of j) rest.4;
+  book = rest.7;
+  octets = ap seen rest.4 ∙ same;
+  gate = ap (λ (j : Journal). end_of j) rest.5;
   fits = λ records fits. recalls_same records (gate_of old) (gate_of new) (drawn_of old) (drawn_of new) (λ user. kept_of user old) (λ user. kept_of user new)
-      (ap (λ (j : Journal). end_of j) rest.4) rest.2 (λ user. ap (λ (i : Index). kept_in user i) rest.5) fits;
-  later = rw rest.3 later;
+      (ap (λ (j : Journal). end_of j) rest.5) rest.2 (λ user. ap (λ (i : Index). kept_in user i) rest.6) fits;
+  later = rw rest.4 later;
   ticket_is = refl;
   standing = stands;
 }
@@ -134,19 +141,20 @@ finds seen faults answer disk old new up same later rest more stands = record {
 -- The node has gone down as it read.
 pub stops_reading : {D : Type 0} (seen : D → Option (List ℕ)) (faults : D → ℕ) (disk : D) (old new : World D)
     → seen disk ≡ seen (disk_of old) → faults (disk_of old) ≤ faults disk
-    → (plan_of new ≡ plan_of old) × (drawn_of new ≡ drawn_of old) × (tickets_of new ≡ tickets_of old) × (disk_of new ≡ disk)
+    → (plan_of new ≡ plan_of old) × (drawn_of new ≡ drawn_of old) × (stamps_of new ≡ stamps_of old) × (tickets_of new ≡ tickets_of old) × (disk_of new ≡ disk)
     × (new.journal ≡ old.journal) × (new.index ≡ old.index)
     → IsFalse (is_up new) → standing_of new ≡ [] → book_of new ≡ book_of old ++ WentDown 1 ∷ [] → StopsReading seen faults old new
 stops_reading seen faults disk old new same later rest down standing book = record {
   plan = rest.0;
   down = down;
   drawn = rest.1;
-  tickets = rest.2;
+  stamps = rest.2;
+  tickets = rest.3;
   standing = standing;
   book = book;
-  octets = ap seen rest.3 ∙ same;
-  gate = ap (λ (j : Journal). end_of j) rest.4;
+  octets = ap seen rest.4 ∙ same;
+  gate = ap (λ (j : Journal). end_of j) rest.5;
   fits = λ records fits. recalls_same records (gate_of old) (gate_of new) (drawn_of old) (drawn_of new) (λ user. kept_of user old) (λ user. kept_of user new)
-      (ap (λ (j : Journal). end_of j) rest.4) rest.1 (λ user. ap (λ (i : Index). kept_in user i) rest.5) fits;
-  later = rw rest.3 later;
+      (ap (λ (j : Journal). end_of j) rest.5) rest.1 (λ user. ap (λ (i : Index). kept_in user i) rest.6) fits;
+  later = rw rest.4 later;
 }

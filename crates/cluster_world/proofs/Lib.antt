@@ -1,16 +1,21 @@
+pub mod Among
 pub mod Appended
 pub mod Asked
+pub mod Deleting
 pub mod Delivered
 pub mod Down
 pub mod Found
 pub mod Gates
+pub mod Gone
 pub mod Filled
 pub mod Heads
 pub mod Listings
+pub mod Origins
 pub mod Pieces
 pub mod Readings
 pub mod Recalled
 pub mod Rows
 pub mod Shown
+pub mod Stricken
 pub mod Told
 mod Completes

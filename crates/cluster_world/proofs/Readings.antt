@@ -41,7 +41,7 @@ listed_seen (kept ∷ row) = ap (λ (l : List replies.Item). kept_seen kept ∷ 
 
 pub all_at_node_1 : (row : List Kept) → All IsAtNode1 (map listed row)
 all_at_node_1 [] = All-nil IsAtNode1
-all_at_node_1 (kept ∷ row) = All-cons IsAtNode1 (listed kept) (map listed row) (record { stamp = refl; targets = refl; holders = refl }) (all_at_node_1 row)
+all_at_node_1 (kept ∷ row) = All-cons IsAtNode1 (listed kept) (map listed row) (record { targets = refl; holders = refl }) (all_at_node_1 row)
 
 -- one message more is listed
 pub listed_more : (row : List Kept) (i : ℕ) (kept : Kept) → i < length row → kept ≡ get_or row i kept → map listed (take (i + 1) row) ≡ map listed (take i row) ++ listed kept ∷ []
@@ -98,8 +98,8 @@ pub record IsFound (records : List Record) (id : Id) (place : Place) : Type 0 wh
   pub known : octets_in id records ≡ Some octets
   pub lies : Lies octets place (journal_of 1 (payloads_of records))
 
-found_here : (records : List Record) (id : Id) (kept : Kept) → kept.id ≡ id → IsKept records kept → IsFound records id kept.place
-found_here records id kept same is = record {
+found_here : (user : List ℕ) (records : List Record) (id : Id) (kept : Kept) → kept.id ≡ id → IsKept user records kept → IsFound records id kept.place
+found_here user records id kept same is = record {
   octets = is.octets;
   known = subst (λ (i : Id). octets_in i records ≡ Some is.octets) same is.known;
   lies = is.lies;
@@ -110,12 +110,12 @@ found_choice : (records : List Record) (id : Id) (kept : Kept) (place : Place) (
 found_choice records id kept place true more here later at = subst (λ (p : Place). IsFound records id p) (let same : kept.place ≡ place = cc in same) (here refl)
 found_choice records id kept place false more here later at = later at
 
-pub found_at : (records : List Record) (id : Id) (row : List Kept) (place : Place) → All (IsKept records) row → place_in id row ≡ Some place → IsFound records id place
-found_at records id [] place all at = absurd (let never : ◌≡◌ {A = Option Place} None (Some place) = at in cc)
-found_at records id (kept ∷ row) place all at =
+pub found_at : (user : List ℕ) (records : List Record) (id : Id) (row : List Kept) (place : Place) → All (IsKept user records) row → place_in id row ≡ Some place → IsFound records id place
+found_at user records id [] place all at = absurd (let never : ◌≡◌ {A = Option Place} None (Some place) = at in cc)
+found_at user records id (kept ∷ row) place all at =
     found_choice records id kept place (is_same_id kept.id id) (place_in id row)
-    (λ same. found_here records id kept (one_id kept.id id same) (All-head (IsKept records) kept row all))
-    (λ later. found_at records id row place (All-tail (IsKept records) kept row all) later)
+    (λ same. found_here user records id kept (one_id kept.id id same) (All-head (IsKept user records) kept row all))
+    (λ later. found_at user records id row place (All-tail (IsKept user records) kept row all) later)
     at
 
 -- a part of octets that lie between others

@@ -6,7 +6,7 @@ use Rattle.cluster_world.specs.World.{is_up, disk_of, gate_of, ShowsGate}
 use Rattle.cluster_world.specs.Steps.{BeginDid, AskDid, HasBegun, HasFallen, HasBrokenOff}
 use Rattle.cluster_world.specs.declared.world.World.{World}
 use Rattle.cluster_world.specs.declared.step.Call.{Call}
-use Rattle.cluster_world.specs.declared.step.Call.TheVariants.{Deliver, Login, Fetch, Leave}
+use Rattle.cluster_world.specs.declared.step.Call.TheVariants.{Deliver, Login, Fetch, Strike, Leave}
 use Rattle.cluster_world.specs.declared.step.Said.{Said}
 use Rattle.cluster_world.specs.declared.step.Said.TheVariants.{Begun, Noted, Asked, Faulted}
 use Rattle.cluster_world.specs.declared.step.StepFault.{StepFault}
@@ -26,18 +26,21 @@ module _ {D : Type 0} (seen : D → Option (List ℕ)) (faults : D → ℕ) (old
   shown_by_begun (Deliver deliver) ticket up begun = begun.gate
   shown_by_begun (Login user proof) ticket up begun = same_shown begun.1.octets begun.1.gate up
   shown_by_begun (Fetch user id holders start most) ticket up begun = same_shown begun.1.octets begun.1.gate up
+  shown_by_begun (Strike user ids) ticket up begun = begun.gate
   shown_by_begun (Leave user login manager) ticket up begun = absurd begun
 
   down_by_fall : (call : Call) → HasFallen seen faults call old new → IsFalse (is_up new)
   down_by_fall (Deliver deliver) fell = fell.down
   down_by_fall (Login user proof) fell = absurd fell
   down_by_fall (Fetch user id holders start most) fell = fell.down
+  down_by_fall (Strike user ids) fell = fell.down
   down_by_fall (Leave user login manager) fell = absurd fell
 
   down_by_break : (call : Call) → HasBrokenOff seen faults call old new → IsFalse (is_up new)
   down_by_break (Deliver deliver) broke = broke.down
   down_by_break (Login user proof) broke = absurd broke
   down_by_break (Fetch user id holders start most) broke = absurd broke
+  down_by_break (Strike user ids) broke = broke.down
   down_by_break (Leave user login manager) broke = absurd broke
 
   -- the beginning of a call

@@ -2,6 +2,7 @@
 use Rattle.std.specs.Prelude.{◌≡◌, ℕ, ◌≤◌, List, [], ◌∷◌, ◌++◌, ◌+◌, length, flat_map, Option, IfSome, Result, Ok, Err}
 use Rattle.sha2.specs.Sha256.{sha256}
 use Rattle.io_edge.specs.Causes.{Rose}
+use Rattle.mail_model.specs.Identity.{Id}
 use Rattle.mail_model.specs.Told.{Mail}
 use Rattle.mail_model.specs.Mail.{IsDate, IsStored, trace_lines}
 use Rattle.mail_model.specs.Record.{Record, payload_of, payloads_of, framed}
@@ -66,3 +67,8 @@ abbrev pub WroteMail : Result Measure DeliverFault → Option (List ℕ) → Opt
 WroteMail (Ok measure) old new end end' before now mail seq = AppendsMail old new end end' before now mail seq measure
 WroteMail (Err Disk) old new end end' before now mail seq = ((octets : List ℕ) × Stops old new end (Octets (nth_id seq) octets ∷ [])) × (before ≤ now) × Rose before now
 WroteMail (Err NoMemory) old new end end' before now mail seq = IsUntouched old new end end' before now
+
+-- behind records of these messages the disk is settled, and behind those of none it is where it was
+abbrev pub SettledBehind : {D : Type 0} → (D → Type 0) → List Id → D → D → Type 0
+SettledBehind settled [] old new = settled old → settled new
+SettledBehind settled (id ∷ ids) old new = settled new

@@ -1,12 +1,14 @@
 -- When a step does its work, what it leaves settled, and that what a fetch hands out is what was filed.
 use Rattle.std.specs.Prelude.{◌≡◌, ℕ, ◌≤◌, IsTrue, List, [], ◌∷◌, ◌++◌, ⊤, Option, Result, Ok, Err}
+use Rattle.mail_model.specs.Identity.{Id}
 use Rattle.mail_base.specs.declared.ticket.Ticket.{Ticket}
 use Rattle.cluster_world.specs.World.{plan_of, is_up, disk_of, standing_of}
+use Rattle.cluster_world.specs.Appends.{SettledBehind}
 use Rattle.cluster_world.specs.Found.{FindsPart}
-use Rattle.cluster_world.specs.Steps.{HasNumbers, IsSound, HasMishap, StandsNot, call_of}
+use Rattle.cluster_world.specs.Steps.{HasNodes, HasNumbers, IsSound, HasMishap, StandsNot, call_of}
 use Rattle.cluster_world.specs.declared.world.World.{World}
 use Rattle.cluster_world.specs.declared.step.Call.{Call}
-use Rattle.cluster_world.specs.declared.step.Call.TheVariants.{Deliver, Login, Fetch, Leave}
+use Rattle.cluster_world.specs.declared.step.Call.TheVariants.{Deliver, Login, Fetch, Strike, Leave}
 use Rattle.cluster_world.specs.declared.step.Step.{Step}
 use Rattle.cluster_world.specs.declared.step.Step.TheVariants.{Begin, Ask}
 use Rattle.cluster_world.specs.declared.step.Answer.{Answer}
@@ -45,7 +47,7 @@ IsAnswer (Err (NoMemory down)) = ⊤
 -- A call at a node that is up and has numbers left begins where the disk has no mishap, and is answered where it is asked for; want of memory alone is in the way.
 abbrev pub Completes : {D : Type 0} → (D → Option (List ℕ)) → (D → ℕ) → Result Said StepFault → Step → World D → World D → Type 0
 Completes seen faults result (Begin node call) old new =
-    node ≤ (plan_of old).nodes → IsTrue (is_up old) → HasNumbers call old → IsSound seen old → (HasMishap seen faults call old new → ⊥) → IsBegun result
+    HasNodes (plan_of old) node call → IsTrue (is_up old) → HasNumbers call old → IsSound seen old → (HasMishap seen faults call old new → ⊥) → IsBegun result
 Completes seen faults result (Ask ticket) old new =
     ticket.node ≤ (plan_of old).nodes → IsTrue (is_up old) → (StandsNot ticket old → ⊥) → IsAnswer result
 
@@ -56,11 +58,19 @@ SettledByDelivery settled Noted new = ⊤
 SettledByDelivery settled (Asked answer) new = ⊤
 SettledByDelivery settled (Faulted failed) new = ⊤
 
--- What a step that was made leaves settled: every step but a delivery writes nothing.
+-- A deletion that was begun leaves the disk settled: its messages are gone whatever happens. One of no message writes nothing.
+abbrev pub SettledByStrike : {D : Type 0} → (D → Type 0) → Said → List Id → World D → World D → Type 0
+SettledByStrike settled (Begun ticket) ids old new = SettledBehind settled ids (disk_of old) (disk_of new)
+SettledByStrike settled Noted ids old new = ⊤
+SettledByStrike settled (Asked answer) ids old new = ⊤
+SettledByStrike settled (Faulted failed) ids old new = ⊤
+
+-- What a step that was made leaves settled: every step but a delivery and a deletion writes nothing.
 abbrev pub SettledBy : {D : Type 0} → (D → Type 0) → Step → Said → World D → World D → Type 0
 SettledBy settled (Begin node (Deliver deliver)) said old new = SettledByDelivery settled said new
 SettledBy settled (Begin node (Login user proof)) said old new = settled (disk_of old) → settled (disk_of new)
 SettledBy settled (Begin node (Fetch user id holders start most)) said old new = settled (disk_of old) → settled (disk_of new)
+SettledBy settled (Begin node (Strike user ids)) said old new = SettledByStrike settled said ids old new
 SettledBy settled (Begin node (Leave user login manager)) said old new = settled (disk_of old) → settled (disk_of new)
 SettledBy settled (Ask ticket) said old new = settled (disk_of old) → settled (disk_of new)
 

@@ -2,10 +2,11 @@
 use Rattle.std.specs.Prelude.{◌≡◌, ℕ, ◌≤◌, List, [], ◌∷◌, ◌++◌, length, map, All, ⊤, Some}
 use Rattle.mail_model.specs.Identity.{Id}
 use Rattle.mail_model.specs.Identity.Key.{Profile, Message}
-use Rattle.mail_model.specs.Record.{Record, journal_of, payloads_of}
+use Rattle.mail_model.specs.Record.{Record, Member, journal_of, payloads_of}
 use Rattle.mail_model.specs.Record.Record.{Boot, Octets, Stated}
 use Rattle.mail_model.specs.Listing.{octets_in, listing_of}
-use Rattle.mail_model.specs.Site.{nth_id}
+use Rattle.mail_model.specs.Site.{nth_id, nth_stamp, number_in}
+use Rattle.cluster_world.specs.Heads.{here}
 use Rattle.cluster_world.specs.Index.{kept_seen}
 use Rattle.cluster_world.specs.declared.place.Place.{Place}
 use Rattle.cluster_world.specs.declared.index.Kept.{Kept}
@@ -18,8 +19,9 @@ pub record Lies (octets : List ℕ) (place : Place) (whole : List ℕ) : Type 0 
   pub at : place.at ≡ length front
   pub size : place.length ≡ length octets
 
--- the records have octets under this id, and the place in their journal is where these lie
-pub record IsKept (records : List Record) (kept : Kept) : Type 0 where
+-- some record says with this stamp that the user's copy is here, the records have octets under its id, and the place in their journal is where these lie
+pub record IsKept (user : List ℕ) (records : List Record) (kept : Kept) : Type 0 where
+  pub stated : Member (Stated (Message user kept.id) (here (nth_stamp kept.count) 1)) records
   pub octets : List ℕ
   pub known : octets_in kept.id records ≡ Some octets
   pub lies : Lies octets kept.place (journal_of 1 (payloads_of records))
@@ -28,13 +30,13 @@ pub record IsKept (records : List Record) (kept : Kept) : Type 0 where
 abbrev pub IsDrawn : ℕ → Id → Type 0
 IsDrawn n id = (m : ℕ) × (m ≤ n) × (id ≡ nth_id m)
 
--- so is each id of these records
+-- so is each id of these records under which there are octets; and an id that is named may be another's, and is none that is still to be drawn
 abbrev pub AreDrawn : ℕ → List Record → Type 0
 AreDrawn n [] = ⊤
 AreDrawn n (Boot boot ∷ records) = AreDrawn n records
 AreDrawn n (Octets id octets ∷ records) = IsDrawn n id × AreDrawn n records
 AreDrawn n (Stated (Profile user) state ∷ records) = AreDrawn n records
-AreDrawn n (Stated (Message user id) state ∷ records) = IsDrawn n id × AreDrawn n records
+AreDrawn n (Stated (Message user id) state ∷ records) = (number_in id ≤ n) × AreDrawn n records
 
 -- Numbers, a gate and an index that say what these records say: where their journal ends, which ids were drawn, and for each user which messages
 -- there are and where they lie.
@@ -42,4 +44,4 @@ pub record Recalls (records : List Record) (gate drawn : ℕ) (kept : List ℕ �
   pub ends : gate ≡ length (journal_of 1 (payloads_of records))
   pub ids : AreDrawn drawn records
   pub lists : (user : List ℕ) → map kept_seen (kept user) ≡ listing_of user records
-  pub places : (user : List ℕ) → All (IsKept records) (kept user)
+  pub places : (user : List ℕ) → All (IsKept user records) (kept user)

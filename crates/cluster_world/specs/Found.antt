@@ -2,7 +2,10 @@
 use Rattle.std.specs.Prelude.{◌≡◌, ℕ, true, false, List, length, map, All, take, drop, Option, Some, None, IfSome}
 use Rattle.mail_model.specs.Identity.{Id}
 use Rattle.mail_model.specs.Listing.{octets_in, listing_of, size_in}
-use Rattle.mail_model.specs.Record.{Record}
+use Rattle.mail_model.specs.Identity.Key.{Message}
+use Rattle.mail_model.specs.Record.{Record, Member}
+use Rattle.mail_model.specs.Record.Record.{Stated}
+use Rattle.cluster_world.specs.Heads.{here}
 use Rattle.mail_base.specs.Items.{item_seen}
 use Rattle.mail_base.specs.declared.item.Item.{Item}
 use Rattle.mail_base.specs.declared.proof.Proof.{Proof}
@@ -11,7 +14,11 @@ use Rattle.cluster_world.specs.Reads.{is_right, IsAtNode1}
 use Rattle.cluster_world.specs.World.{plan_of, disk_of, Fits, WorldHolds}
 use Rattle.cluster_world.specs.declared.world.World.{World}
 use Rattle.cluster_world.specs.declared.step.Answer.{Answer}
-use Rattle.cluster_world.specs.declared.step.Answer.TheVariants.{Stored, Listed, Wrong, Part, GoneAlready}
+use Rattle.cluster_world.specs.declared.step.Answer.TheVariants.{Stored, Listed, Wrong, Part, GoneAlready, Dropped}
+
+-- some record says with the stamp of the listing that the user's copy is here
+abbrev pub IsStated : List ℕ → List Record → Item → Type 0
+IsStated user records item = Member (Stated (Message user item.id) (here item.stamp 1)) records
 
 -- The maildrop is listed: node 1 alone was asked and manages the login, and these are the user's messages, in the order in which they came.
 pub record Lists {D : Type 0} (user : List ℕ) (login : Ticket) (manager asked : ℕ) (items : List Item) (ticket : Ticket) (old : World D) : Type 0 where
@@ -20,6 +27,10 @@ pub record Lists {D : Type 0} (user : List ℕ) (login : Ticket) (manager asked 
   pub asked_node_1 : asked ≡ 1
   pub held : All IsAtNode1 items
   pub are : (records : List Record) → Fits records old → map item_seen items ≡ listing_of user records
+  -- each is listed with the stamp of its state
+  pub stated : (records : List Record) → Fits records old → All (IsStated user records) items
+  -- and was drawn by node 1
+  pub drawn : (records : List Record) → Fits records old → All (λ item. item.id.node ≡ 1) items
 
 -- what a login finds: the listing exactly where the proof is right
 abbrev pub FindsLogin : {D : Type 0} → Answer → List ℕ → Proof → Ticket → World D → Type 0
@@ -28,6 +39,7 @@ FindsLogin (Listed login manager asked items) user proof ticket old = (is_right 
 FindsLogin (Wrong stamp) user proof ticket old = (is_right (plan_of old) user proof ≡ false) × (stamp ≡ record { count = 0; boot = 0; node = 0 })
 FindsLogin (Part octets whole) user proof ticket old = ⊥
 FindsLogin GoneAlready user proof ticket old = ⊥
+FindsLogin Dropped user proof ticket old = ⊥
 
 -- The octets are this part of those that were filed under the id: as many as the part has, and where the disk tells what it holds the same.
 pub record IsPartOf {D : Type 0} (seen : D → Option (List ℕ)) (octets : List ℕ) (whole : ℕ) (user : List ℕ) (id : Id) (start most : ℕ) (records : List Record) (old : World D) : Type 0 where
@@ -45,3 +57,4 @@ FindsPart seen (Listed login manager asked items) user wanted start most old = �
 FindsPart seen (Wrong stamp) user wanted start most old = ⊥
 FindsPart seen (Part octets whole) user wanted start most old = (records : List Record) → Fits records old → IsPartOf seen octets whole user wanted start most records old
 FindsPart seen GoneAlready user wanted start most old = (records : List Record) → Fits records old → size_in wanted (listing_of user records) ≡ None
+FindsPart seen Dropped user wanted start most old = ⊥

@@ -1,5 +1,5 @@
 -- The index of a node: where each user's messages lie in its journal.
-use Rattle.std.specs.Prelude.{ℕ, nat_eq, List, [], ◌∷◌, Option, Some, None, if◌then◌else◌}
+use Rattle.std.specs.Prelude.{ℕ, Bool, false, ◌||◌, not, filter, nat_eq, List, [], ◌∷◌, Option, Some, None, if◌then◌else◌}
 use Rattle.std.specs.Ordering.{nat_cmp}
 use Rattle.std.specs.Cmp.Lexicographic.{slice_cmp, pointwise}
 use Rattle.std.specs.BTreeMap as tree
@@ -28,13 +28,26 @@ added_for user [] kept = []
 added_for user (mailbox ∷ mailboxes) kept =
     if pointwise nat_eq mailbox user then kept ∷ added_for user mailboxes kept else added_for user mailboxes kept
 
+-- whether the id is one of these
+abbrev pub is_among : Id → List Id → Bool
+is_among id [] = false
+is_among id (other ∷ ids) = is_same_id other id || is_among id ids
+
+-- the messages of a row that have none of these ids
+abbrev pub without : List Id → List Kept → List Kept
+without ids row = filter (λ kept. not (is_among kept.id ids)) row
+
+-- what is left of the user's messages where those of these ids are taken from their owner
+abbrev pub left_for : List ℕ → List ℕ → List Id → List Kept → List Kept
+left_for user owner ids row = if pointwise nat_eq owner user then without ids row else row
+
 -- a kept message as a session shows it
 abbrev pub kept_seen : Kept → replies.Item
 kept_seen kept = record { id = kept.id; size = kept.place.length }
 
--- a kept message as the node lists it: the state of its copy has the stamp of its number, and node 1 alone is to hold it and holds it
+-- a kept message as the node lists it: node 1 alone is to hold it and holds it
 abbrev pub listed : Kept → Item
-listed kept = record { id = kept.id; stamp = nth_stamp kept.id.seq; targets = 1; holders = 1; length = kept.place.length }
+listed kept = record { id = kept.id; stamp = nth_stamp kept.count; targets = 1; holders = 1; length = kept.place.length }
 
 -- where the first of these messages that has the id lies
 abbrev pub place_in : Id → List Kept → Option Place

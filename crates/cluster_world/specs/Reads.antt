@@ -3,7 +3,6 @@ use Rattle.std.specs.Prelude.{◌≡◌, ◌⊎◌, ℕ, Bool, ◌+◌, ◌-◌,
 use Rattle.io_edge.specs.Causes.{Rose}
 use Rattle.mail_model.specs.Identity.{Id}
 use Rattle.mail_model.specs.Plan.{Plan, opens}
-use Rattle.mail_model.specs.Site.{nth_stamp}
 use Rattle.mail_base.specs.declared.item.Item.{Item}
 use Rattle.mail_base.specs.declared.proof.Proof.{Proof}
 use Rattle.mail_base.specs.declared.proof.Proof.TheVariants.{Pass}
@@ -11,7 +10,7 @@ use Rattle.mail_base.specs.declared.ticket.Ticket.{Ticket}
 use Rattle.cluster_world.specs.Index.{listed, place_in}
 use Rattle.cluster_world.specs.declared.index.Kept.{Kept}
 use Rattle.cluster_world.specs.declared.step.Answer.{Answer}
-use Rattle.cluster_world.specs.declared.step.Answer.TheVariants.{Stored, Listed, Wrong, Part, GoneAlready}
+use Rattle.cluster_world.specs.declared.step.Answer.TheVariants.{Stored, Listed, Wrong, Part, GoneAlready, Dropped}
 use Rattle.cluster_world.specs.declared.place.Place.{Place}
 use Rattle.cluster_world.specs.declared.journal.JournalFault.{JournalFault}
 use Rattle.cluster_world.specs.declared.journal.JournalFault.TheVariants.{DiskFault, NotAJournal, TooLarge, NoMemory}
@@ -24,9 +23,8 @@ secret_in (Pass octets) = octets
 abbrev pub is_right : Plan → List ℕ → Proof → Bool
 is_right plan user proof = opens plan user (secret_in proof)
 
--- the state of the copy has the stamp of its number, and node 1 alone is to hold it and holds it
+-- node 1 alone is to hold the copy and holds it
 pub record IsAtNode1 (item : Item) : Type 0 where
-  pub stamp : item.stamp ≡ nth_stamp item.id.seq
   pub targets : item.targets ≡ 1
   pub holders : item.holders ≡ 1
 
@@ -52,6 +50,7 @@ AnswersLogin (Listed login manager asked items) plan user proof ticket row =
 AnswersLogin (Wrong stamp) plan user proof ticket row = (is_right plan user proof ≡ false) × (stamp ≡ record { count = 0; boot = 0; node = 0 })
 AnswersLogin (Part octets whole) plan user proof ticket row = ⊥
 AnswersLogin GoneAlready plan user proof ticket row = ⊥
+AnswersLogin Dropped plan user proof ticket row = ⊥
 
 -- the octets lie behind so many of those at the place, and are so many at most
 pub record IsPartAt (place : Place) (start most : ℕ) (octets : List ℕ) (seen : Option (List ℕ)) : Type 0 where
@@ -66,6 +65,7 @@ AnswersFetch (Ok (Wrong stamp)) row wanted start most seen before now = ⊥
 AnswersFetch (Ok (Part octets whole)) row wanted start most seen before now =
     (place : Place) × (place_in wanted row ≡ Some place) × (whole ≡ place.length) × IsPartAt place start most octets seen × (before ≤ now)
 AnswersFetch (Ok GoneAlready) row wanted start most seen before now = (place_in wanted row ≡ None) × (before ≤ now)
+AnswersFetch (Ok Dropped) row wanted start most seen before now = ⊥
 AnswersFetch (Err DiskFault) row wanted start most seen before now =
     (place : Place) × (place_in wanted row ≡ Some place) × (Rose before now ⊎ MayEndBefore seen (place.at + place.length)) × (before ≤ now)
 AnswersFetch (Err NotAJournal) row wanted start most seen before now = ⊥

@@ -7,25 +7,28 @@ use Rattle.mail_model.specs.Mail.{IsStored}
 use Rattle.mail_model.specs.Record.{Record}
 use Rattle.mail_model.specs.Book.{BookEntry}
 use Rattle.mail_model.specs.Book.BookEntry.{Acknowledged, WentDown}
-use Rattle.mail_model.specs.Site.{message_records, nth_id, nth_stamp}
+use Rattle.mail_model.specs.Identity.{Id}
+use Rattle.mail_model.specs.Plan.{Plan}
+use Rattle.mail_model.specs.Site.{message_records, gone_records, drawn_through, struck_entries, dropped_entries, nth_id, nth_stamp}
 use Rattle.mail_base.specs.Delivers.{mail_in}
 use Rattle.mail_base.specs.declared.ticket.Ticket.{Ticket}
-use Rattle.cluster_world.specs.World.{plan_of, is_up, drawn_of, tickets_of, disk_of, gate_of, book_of, standing_of, ShowsGate, WorldHolds, Fits, Falls}
+use Rattle.cluster_world.specs.Appends.{HoldsFront}
+use Rattle.cluster_world.specs.World.{plan_of, is_up, drawn_of, stamps_of, tickets_of, disk_of, gate_of, book_of, standing_of, ShowsGate, WorldHolds, Fits, Falls}
 use Rattle.cluster_world.specs.Found.{FindsLogin, FindsPart}
 use Rattle.cluster_world.specs.declared.world.World.{World}
 use Rattle.cluster_world.specs.declared.step.Call.{Call}
-use Rattle.cluster_world.specs.declared.step.Call.TheVariants.{Deliver, Login, Fetch, Leave}
+use Rattle.cluster_world.specs.declared.step.Call.TheVariants.{Deliver, Login, Fetch, Strike, Leave}
 use Rattle.cluster_world.specs.declared.step.Step.{Step}
 use Rattle.cluster_world.specs.declared.step.Step.TheVariants.{Begin, Ask}
 use Rattle.cluster_world.specs.declared.step.Answer.{Answer}
-use Rattle.cluster_world.specs.declared.step.Answer.TheVariants.{Stored}
+use Rattle.cluster_world.specs.declared.step.Answer.TheVariants.{Stored, Dropped}
 use Rattle.cluster_world.specs.declared.step.Said.{Said}
 use Rattle.cluster_world.specs.declared.step.Said.TheVariants.{Begun, Noted, Asked, Faulted}
 use Rattle.cluster_world.specs.declared.step.StepFault.{StepFault}
 use Rattle.cluster_world.specs.declared.step.StepFault.TheVariants.{NoSuchNode, NodeDown, NoSuchTicket, Worn, NoMemory}
 use Rattle.cluster_world.specs.declared.step.Filing.{Filing}
 use Rattle.cluster_world.specs.declared.step.Pending.{Pending}
-use Rattle.cluster_world.specs.declared.step.Pending.TheVariants.{Filed, Found}
+use Rattle.cluster_world.specs.declared.step.Pending.TheVariants.{Filed, Found, Struck}
 use Rattle.cluster_world.specs.declared.step.Standing.{Standing}
 
 -- the n-th ticket of node 1 in its first boot
@@ -54,6 +57,7 @@ pub record IsAsBefore {D : Type 0} (seen : D → Option (List ℕ)) (faults : D 
   pub plan : plan_of new ≡ plan_of old
   pub up : is_up new ≡ is_up old
   pub drawn : drawn_of new ≡ drawn_of old
+  pub stamps : stamps_of new ≡ stamps_of old
   pub tickets : tickets_of new ≡ tickets_of old
   pub standing : standing_of new ≡ standing_of old
   pub book : book_of new ≡ book_of old
@@ -67,6 +71,7 @@ pub record GoesDown {D : Type 0} (seen : D → Option (List ℕ)) (faults : D �
   pub plan : plan_of new ≡ plan_of old
   pub down : IsFalse (is_up new)
   pub drawn : drawn_of new ≡ drawn_of old + 1
+  pub stamps : stamps_of new ≡ stamps_of old + 1
   pub tickets : tickets_of new ≡ tickets_of old
   pub standing : standing_of new ≡ []
   pub book : book_of new ≡ book_of old ++ WentDown 1 ∷ []
@@ -78,6 +83,7 @@ pub record StopsReading {D : Type 0} (seen : D → Option (List ℕ)) (faults : 
   pub plan : plan_of new ≡ plan_of old
   pub down : IsFalse (is_up new)
   pub drawn : drawn_of new ≡ drawn_of old
+  pub stamps : stamps_of new ≡ stamps_of old
   pub tickets : tickets_of new ≡ tickets_of old
   pub standing : standing_of new ≡ []
   pub book : book_of new ≡ book_of old ++ WentDown 1 ∷ []
@@ -91,6 +97,7 @@ pub record Takes {D : Type 0} (seen : D → Option (List ℕ)) (faults : D → �
   pub plan : plan_of new ≡ plan_of old
   pub up : IsTrue (is_up new)
   pub drawn : drawn_of new ≡ drawn_of old + 1
+  pub stamps : stamps_of new ≡ stamps_of old + 1
   pub tickets : tickets_of new ≡ tickets_of old + 1
   pub book : book_of new ≡ book_of old
   pub later : faults (disk_of old) ≤ faults (disk_of new)
@@ -98,9 +105,9 @@ pub record Takes {D : Type 0} (seen : D → Option (List ℕ)) (faults : D → �
   pub octets : List ℕ
   pub stored : IsStored mail (nth_id (drawn_of old + 1)) 0 octets
   pub holds : (records : List Record) → WorldHolds seen records old
-      → WorldHolds seen (records ++ message_records (nth_id (drawn_of old + 1)) (nth_stamp (drawn_of old + 1)) octets mail.mailboxes) new
+      → WorldHolds seen (records ++ message_records (nth_id (drawn_of old + 1)) (nth_stamp (stamps_of old + 1)) octets mail.mailboxes) new
   pub fits : (records : List Record) → Fits records old
-      → Fits (records ++ message_records (nth_id (drawn_of old + 1)) (nth_stamp (drawn_of old + 1)) octets mail.mailboxes) new
+      → Fits (records ++ message_records (nth_id (drawn_of old + 1)) (nth_stamp (stamps_of old + 1)) octets mail.mailboxes) new
   pub ticket_is : ticket ≡ nth_ticket (tickets_of old + 1)
   pub standing : standing_of new ≡ standing_of old ++ call_of ticket (Filed (nth_filing (drawn_of old + 1) octets mail.mailboxes)) ∷ []
 
@@ -109,6 +116,7 @@ pub record Finds {D : Type 0} (seen : D → Option (List ℕ)) (faults : D → �
   pub plan : plan_of new ≡ plan_of old
   pub up : IsTrue (is_up new)
   pub drawn : drawn_of new ≡ drawn_of old
+  pub stamps : stamps_of new ≡ stamps_of old
   pub tickets : tickets_of new ≡ tickets_of old + 1
   pub book : book_of new ≡ book_of old
   pub octets : seen (disk_of new) ≡ seen (disk_of old)
@@ -118,6 +126,35 @@ pub record Finds {D : Type 0} (seen : D → Option (List ℕ)) (faults : D → �
   pub ticket_is : ticket ≡ nth_ticket (tickets_of old + 1)
   pub standing : standing_of new ≡ standing_of old ++ call_of ticket (Found answer) ∷ []
 
+-- The deletion has begun: each of the user's copies is gone on the disk and in memory, the book says that each is to be deleted, and the ticket stands with
+-- their ids.
+pub record Strikes {D : Type 0} (seen : D → Option (List ℕ)) (faults : D → ℕ) (user : List ℕ) (ids : List Id) (ticket : Ticket) (old new : World D) : Type 0 where
+  pub plan : plan_of new ≡ plan_of old
+  pub up : IsTrue (is_up new)
+  pub drawn : drawn_of new ≡ drawn_through (drawn_of old) ids
+  pub stamps : stamps_of new ≡ stamps_of old + length ids
+  pub tickets : tickets_of new ≡ tickets_of old + 1
+  pub book : book_of new ≡ book_of old ++ struck_entries user ids
+  pub later : faults (disk_of old) ≤ faults (disk_of new)
+  pub gate : ShowsGate seen new
+  pub holds : (records : List Record) → WorldHolds seen records old → WorldHolds seen (records ++ gone_records user (stamps_of old) ids) new
+  pub fits : (records : List Record) → Fits records old → Fits (records ++ gone_records user (stamps_of old) ids) new
+  pub ticket_is : ticket ≡ nth_ticket (tickets_of old + 1)
+  pub standing : standing_of new ≡ standing_of old ++ call_of ticket (Struck user ids) ∷ []
+
+-- The node has gone down as copies were deleted: a front of the Gone states is on its disk, its calls are gone, and the book says that each was to be deleted,
+-- and that the node is down.
+pub record StopsStriking {D : Type 0} (seen : D → Option (List ℕ)) (faults : D → ℕ) (user : List ℕ) (ids : List Id) (old new : World D) : Type 0 where
+  pub plan : plan_of new ≡ plan_of old
+  pub down : IsFalse (is_up new)
+  pub drawn : drawn_of new ≡ drawn_through (drawn_of old) ids
+  pub stamps : stamps_of new ≡ stamps_of old + length ids
+  pub tickets : tickets_of new ≡ tickets_of old
+  pub standing : standing_of new ≡ []
+  pub book : book_of new ≡ book_of old ++ struck_entries user ids ++ WentDown 1 ∷ []
+  pub holds : (records : List Record) → WorldHolds seen records old → HoldsFront (seen (disk_of new)) records (gone_records user (stamps_of old) ids)
+  pub later : faults (disk_of old) ≤ faults (disk_of new)
+
 -- what a call has begun that has this ticket
 abbrev pub HasBegun : {D : Type 0} → (D → Option (List ℕ)) → (D → ℕ) → Call → Ticket → World D → World D → Type 0
 HasBegun seen faults (Deliver deliver) ticket old new = Takes seen faults (mail_in deliver) ticket old new
@@ -125,6 +162,7 @@ HasBegun seen faults (Login user proof) ticket old new =
     (answer : Answer) × Finds seen faults ticket answer old new × FindsLogin answer user proof ticket old × (disk_of new ≡ disk_of old)
 HasBegun seen faults (Fetch user id holders start most) ticket old new =
     (answer : Answer) × Finds seen faults ticket answer old new × FindsPart seen answer user id start most old
+HasBegun seen faults (Strike user ids) ticket old new = Strikes seen faults user ids ticket old new
 HasBegun seen faults (Leave user login manager) ticket old new = ⊥
 
 -- the call is only noted
@@ -132,13 +170,23 @@ abbrev pub IsNoted : Call → Type 0
 IsNoted (Deliver deliver) = ⊥
 IsNoted (Login user proof) = ⊥
 IsNoted (Fetch user id holders start most) = ⊥
+IsNoted (Strike user ids) = ⊥
 IsNoted (Leave user login manager) = ⊤
 
--- the node has a number left for each that the call draws: its ticket, and the id of a message
+-- the plan has the node, and the node of each message that is to be deleted
+abbrev pub HasNodes : Plan → ℕ → Call → Type 0
+HasNodes plan node (Deliver deliver) = node ≤ plan.nodes
+HasNodes plan node (Login user proof) = node ≤ plan.nodes
+HasNodes plan node (Fetch user id holders start most) = node ≤ plan.nodes
+HasNodes plan node (Strike user ids) = (node ≤ plan.nodes) × All (λ id. id.node ≤ plan.nodes) ids
+HasNodes plan node (Leave user login manager) = node ≤ plan.nodes
+
+-- the node has a number left for each that the call draws: its ticket, the id of a message, and a stamp for it or for each message that is deleted
 abbrev pub HasNumbers : {D : Type 0} → Call → World D → Type 0
-HasNumbers (Deliver deliver) world = (drawn_of world < last_number) × (tickets_of world < last_number)
+HasNumbers (Deliver deliver) world = (drawn_of world < last_number) × (stamps_of world < last_number) × (tickets_of world < last_number)
 HasNumbers (Login user proof) world = tickets_of world < last_number
 HasNumbers (Fetch user id holders start most) world = tickets_of world < last_number
+HasNumbers (Strike user ids) world = (stamps_of world + length ids ≤ last_number) × (tickets_of world < last_number)
 HasNumbers (Leave user login manager) world = ⊤
 
 -- The disk failed in this call; or it does not tell its octets, and gave fewer than it had been given. It is never asked at a login.
@@ -146,6 +194,7 @@ abbrev pub HasMishap : {D : Type 0} → (D → Option (List ℕ)) → (D → ℕ
 HasMishap seen faults (Deliver deliver) old new = Rose (faults (disk_of old)) (faults (disk_of new))
 HasMishap seen faults (Login user proof) old new = ⊥
 HasMishap seen faults (Fetch user id holders start most) old new = Rose (faults (disk_of old)) (faults (disk_of new)) ⊎ (seen (disk_of old) ≡ None)
+HasMishap seen faults (Strike user ids) old new = Rose (faults (disk_of old)) (faults (disk_of new))
 HasMishap seen faults (Leave user login manager) old new = ⊥
 
 -- what stands on the disk and in memory is what some records say
@@ -159,6 +208,7 @@ abbrev pub HasFallen : {D : Type 0} → (D → Option (List ℕ)) → (D → ℕ
 HasFallen seen faults (Deliver deliver) old new = GoesDown seen faults (mail_in deliver) old new
 HasFallen seen faults (Login user proof) old new = ⊥
 HasFallen seen faults (Fetch user id holders start most) old new = StopsReading seen faults old new
+HasFallen seen faults (Strike user ids) old new = StopsStriking seen faults user ids old new
 HasFallen seen faults (Leave user login manager) old new = ⊥
 
 -- memory ran out in the call, and the node is down
@@ -166,37 +216,48 @@ abbrev pub HasBrokenOff : {D : Type 0} → (D → Option (List ℕ)) → (D → 
 HasBrokenOff seen faults (Deliver deliver) old new = GoesDown seen faults (mail_in deliver) old new
 HasBrokenOff seen faults (Login user proof) old new = ⊥
 HasBrokenOff seen faults (Fetch user id holders start most) old new = ⊥
+HasBrokenOff seen faults (Strike user ids) old new = StopsStriking seen faults user ids old new
 HasBrokenOff seen faults (Leave user login manager) old new = ⊥
 
 -- what the beginning of a call at a node does
 abbrev pub BeginDid : {D : Type 0} → (D → Option (List ℕ)) → (D → ℕ) → Result Said StepFault → ℕ → Call → World D → World D → Type 0
-BeginDid seen faults (Ok (Begun ticket)) node call old new = (node ≤ (plan_of old).nodes) × IsTrue (is_up old) × HasBegun seen faults call ticket old new
-BeginDid seen faults (Ok Noted) node call old new = (node ≤ (plan_of old).nodes) × IsTrue (is_up old) × IsNoted call × (new ≡ old)
+BeginDid seen faults (Ok (Begun ticket)) node call old new = HasNodes (plan_of old) node call × IsTrue (is_up old) × HasBegun seen faults call ticket old new
+BeginDid seen faults (Ok Noted) node call old new = HasNodes (plan_of old) node call × IsTrue (is_up old) × IsNoted call × (new ≡ old)
 BeginDid seen faults (Ok (Asked answer)) node call old new = ⊥
 BeginDid seen faults (Ok (Faulted failed)) node call old new =
-    (node ≤ (plan_of old).nodes) × IsTrue (is_up old) × (failed ≡ 1) × HasFallen seen faults call old new × (IsSound seen old → HasMishap seen faults call old new)
-BeginDid seen faults (Err NoSuchNode) node call old new = ((plan_of old).nodes < node) × (new ≡ old)
-BeginDid seen faults (Err NodeDown) node call old new = (node ≤ (plan_of old).nodes) × IsFalse (is_up old) × (new ≡ old)
+    HasNodes (plan_of old) node call × IsTrue (is_up old) × (failed ≡ 1) × HasFallen seen faults call old new × (IsSound seen old → HasMishap seen faults call old new)
+BeginDid seen faults (Err NoSuchNode) node call old new = (HasNodes (plan_of old) node call → ⊥) × (new ≡ old)
+BeginDid seen faults (Err NodeDown) node call old new = HasNodes (plan_of old) node call × IsFalse (is_up old) × (new ≡ old)
 BeginDid seen faults (Err NoSuchTicket) node call old new = ⊥
-BeginDid seen faults (Err Worn) node call old new = (node ≤ (plan_of old).nodes) × IsTrue (is_up old) × (HasNumbers call old → ⊥) × (new ≡ old)
+BeginDid seen faults (Err Worn) node call old new = HasNodes (plan_of old) node call × IsTrue (is_up old) × (HasNumbers call old → ⊥) × (new ≡ old)
 BeginDid seen faults (Err (NoMemory None)) node call old new = IsTrue (is_up old) × IsAsBefore seen faults old new
 BeginDid seen faults (Err (NoMemory (Some failed))) node call old new = (failed ≡ 1) × IsTrue (is_up old) × HasBrokenOff seen faults call old new
 
--- what became of a call in progress, and what it adds to the book: a message is acknowledged to each of its users, and what was found is handed out
+-- what became of a call in progress, and what it adds to the book: a message is acknowledged to each of its users, what was found is handed out, and each
+-- message that was to be deleted is gone
 abbrev pub Settles : Pending → Answer → List BookEntry → List BookEntry → Type 0
 Settles (Filed filing) answer old new = (answer ≡ Stored filing.id 1) × (new ≡ old ++ entries_for filing 1)
 Settles (Found found) answer old new = (answer ≡ found) × (new ≡ old)
+Settles (Struck user ids) answer old new = (answer ≡ Dropped) × (new ≡ old ++ dropped_entries user ids)
 
 -- how many entries a call in progress adds to the book
 abbrev pub entries_in : Pending → ℕ
 entries_in (Filed filing) = length filing.users
 entries_in (Found answer) = 0
+entries_in (Struck user ids) = length ids
+
+-- the entries that take memory before a call in progress is answered: those of a deletion
+abbrev pub prepared_for : Pending → List BookEntry
+prepared_for (Filed filing) = []
+prepared_for (Found answer) = []
+prepared_for (Struck user ids) = dropped_entries user ids
 
 -- The call is done: its ticket stands no more, and the other calls stand as before.
 pub record IsAnswered {D : Type 0} (ticket : Ticket) (answer : Answer) (old new : World D) : Type 0 where
   pub plan : plan_of new ≡ plan_of old
   pub up : is_up new ≡ is_up old
   pub drawn : drawn_of new ≡ drawn_of old
+  pub stamps : stamps_of new ≡ stamps_of old
   pub tickets : tickets_of new ≡ tickets_of old
   pub disk : disk_of new ≡ disk_of old
   pub gate : gate_of new ≡ gate_of old

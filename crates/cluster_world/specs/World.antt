@@ -8,11 +8,12 @@ use Rattle.mail_model.specs.Mail.{IsStored}
 use Rattle.mail_model.specs.Record.{Record}
 use Rattle.mail_model.specs.Book.{BookEntry}
 use Rattle.mail_model.specs.Record.Record.{Boot}
-use Rattle.mail_model.specs.Site.{message_records, nth_id, nth_stamp}
+use Rattle.mail_model.specs.Site.{message_records, gone_records, drawn_through, nth_id, nth_stamp}
+use Rattle.mail_model.specs.Identity.{Id}
 use Rattle.cluster_world.specs.Journal.{HasGate, IsToldAlike, end_of}
-use Rattle.cluster_world.specs.Index.{kept_in}
+use Rattle.cluster_world.specs.Index.{kept_in, left_for}
 use Rattle.cluster_world.specs.Fits.{Recalls}
-use Rattle.cluster_world.specs.Appends.{RecordsStand, HoldsFront}
+use Rattle.cluster_world.specs.Appends.{RecordsStand, HoldsFront, AppendsAll, Stops}
 use Rattle.cluster_world.specs.Books.{told_by}
 use Rattle.cluster_world.specs.Opens.{BeginFails}
 use Rattle.cluster_world.specs.declared.world.World.{World}
@@ -30,9 +31,13 @@ plan_of world = world.plan
 abbrev pub is_up : {D : Type 0} → World D → Bool
 is_up world = world.up
 
--- how many ids of messages were drawn
+-- the numbers that were drawn for ids of messages, or that an id has which a record names
 abbrev pub drawn_of : {D : Type 0} → World D → ℕ
 drawn_of world = world.drawn
+
+-- how many stamps were drawn
+abbrev pub stamps_of : {D : Type 0} → World D → ℕ
+stamps_of world = world.stamps
 
 -- how many tickets were drawn
 abbrev pub tickets_of : {D : Type 0} → World D → ℕ
@@ -74,6 +79,7 @@ pub record Begins {D : Type 0} (seen : D → Option (List ℕ)) (plan : Plan) (w
   pub plan_is : plan_of world ≡ plan
   pub up : IsTrue (is_up world)
   pub drawn : drawn_of world ≡ 0
+  pub stamps : stamps_of world ≡ 0
   pub tickets : tickets_of world ≡ 0
   pub standing : standing_of world ≡ []
   pub book : book_of world ≡ []
@@ -94,6 +100,7 @@ Opened seen faults (Err refused) plan disk = BeginFails refused.0 (faults disk) 
 -- The message is on the disk, its octets and a state for each of its mailboxes; and in memory it is listed for each of them.
 pub record Files {D : Type 0} (seen : D → Option (List ℕ)) (mail : Mail) (measure : Measure) (old new : World D) : Type 0 where
   pub drawn : drawn_of new ≡ drawn_of old + 1
+  pub stamps : stamps_of new ≡ stamps_of old + 1
   pub up : IsTrue (is_up new)
   pub gate : ShowsGate seen new
   pub octets : List ℕ
@@ -101,14 +108,14 @@ pub record Files {D : Type 0} (seen : D → Option (List ℕ)) (mail : Mail) (me
   pub size : measure.place.length ≡ length octets
   pub digest : measure.digest ≡ sha256 octets
   pub holds : (records : List Record) → WorldHolds seen records old
-      → WorldHolds seen (records ++ message_records (nth_id (drawn_of old + 1)) (nth_stamp (drawn_of old + 1)) octets mail.mailboxes) new
+      → WorldHolds seen (records ++ message_records (nth_id (drawn_of old + 1)) (nth_stamp (stamps_of old + 1)) octets mail.mailboxes) new
   pub fits : (records : List Record) → Fits records old
-      → Fits (records ++ message_records (nth_id (drawn_of old + 1)) (nth_stamp (drawn_of old + 1)) octets mail.mailboxes) new
+      → Fits (records ++ message_records (nth_id (drawn_of old + 1)) (nth_stamp (stamps_of old + 1)) octets mail.mailboxes) new
 
 -- some of the message's records are on the disk behind those that were there
 pub record HoldsSome {D : Type 0} (seen : D → Option (List ℕ)) (mail : Mail) (records : List Record) (old new : World D) : Type 0 where
   pub octets : List ℕ
-  pub front : HoldsFront (seen (disk_of new)) records (message_records (nth_id (drawn_of old + 1)) (nth_stamp (drawn_of old + 1)) octets mail.mailboxes)
+  pub front : HoldsFront (seen (disk_of new)) records (message_records (nth_id (drawn_of old + 1)) (nth_stamp (stamps_of old + 1)) octets mail.mailboxes)
 
 -- The message is not on the disk, or a front of its records is.
 pub record Falls {D : Type 0} (seen : D → Option (List ℕ)) (mail : Mail) (old new : World D) : Type 0 where
@@ -118,6 +125,7 @@ pub record Falls {D : Type 0} (seen : D → Option (List ℕ)) (mail : Mail) (ol
 pub record IsUnwritten {D : Type 0} (seen : D → Option (List ℕ)) (faults : D → ℕ) (old new : World D) : Type 0 where
   pub up : IsTrue (is_up new)
   pub drawn : drawn_of new ≡ drawn_of old
+  pub stamps : stamps_of new ≡ stamps_of old
   pub octets : seen (disk_of new) ≡ seen (disk_of old)
   pub gate : gate_of new ≡ gate_of old
   pub count : faults (disk_of new) ≡ faults (disk_of old)
@@ -128,6 +136,7 @@ pub record Breaks {D : Type 0} (seen : D → Option (List ℕ)) (faults : D → 
   pub falls : Falls seen mail old new
   pub down : IsFalse (is_up new)
   pub drawn : drawn_of new ≡ drawn_of old + 1
+  pub stamps : stamps_of new ≡ stamps_of old + 1
   pub later : faults (disk_of old) ≤ faults (disk_of new)
 
 -- what filing a message leaves; a node that stays up after a refusal has its disk as it was
@@ -135,3 +144,25 @@ abbrev pub Delivers : {D : Type 0} → (D → Option (List ℕ)) → (D → ℕ)
 Delivers seen faults (Ok measure) mail old new = Files seen mail measure old new × (faults (disk_of old) ≤ faults (disk_of new))
 Delivers seen faults (Err deliver.Disk) mail old new = Breaks seen faults mail old new × Rose (faults (disk_of old)) (faults (disk_of new))
 Delivers seen faults (Err deliver.NoMemory) mail old new = IsUnwritten seen faults old new ⊎ Breaks seen faults mail old new
+
+-- Each of the user's copies is gone on the disk and in memory.
+pub record Deleted {D : Type 0} (seen : D → Option (List ℕ)) (faults : D → ℕ) (user : List ℕ) (ids : List Id) (old new : World D) : Type 0 where
+  pub up : IsTrue (is_up new)
+  pub drawn : drawn_of new ≡ drawn_through (drawn_of old) ids
+  pub stamps : stamps_of new ≡ stamps_of old + length ids
+  pub appends : AppendsAll (seen (disk_of old)) (seen (disk_of new)) (gate_of old) (gate_of new) (faults (disk_of old)) (faults (disk_of new)) (gone_records user (stamps_of old) ids)
+  pub left : (other : List ℕ) → kept_of other new ≡ left_for other user ids (kept_of other old)
+
+-- a front of the Gone states may be there, and the node is down
+pub record DeletedSome {D : Type 0} (seen : D → Option (List ℕ)) (faults : D → ℕ) (user : List ℕ) (ids : List Id) (old new : World D) : Type 0 where
+  pub down : IsFalse (is_up new)
+  pub drawn : drawn_of new ≡ drawn_through (drawn_of old) ids
+  pub stamps : stamps_of new ≡ stamps_of old + length ids
+  pub stops : Stops (seen (disk_of old)) (seen (disk_of new)) (gate_of old) (gone_records user (stamps_of old) ids)
+  pub later : faults (disk_of old) ≤ faults (disk_of new)
+
+-- what a deletion leaves; a node that stays up after a refusal has its disk as it was
+abbrev pub Deletes : {D : Type 0} → (D → Option (List ℕ)) → (D → ℕ) → Result (Unit {0}) DeliverFault → List ℕ → List Id → World D → World D → Type 0
+Deletes seen faults (Ok _) user ids old new = Deleted seen faults user ids old new
+Deletes seen faults (Err deliver.Disk) user ids old new = DeletedSome seen faults user ids old new × Rose (faults (disk_of old)) (faults (disk_of new))
+Deletes seen faults (Err deliver.NoMemory) user ids old new = IsUnwritten seen faults old new ⊎ DeletedSome seen faults user ids old new

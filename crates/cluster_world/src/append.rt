@@ -2,16 +2,17 @@
 ghost use Rattle.std.specs.Prelude.{◌≡◌, ◌+◌, ◌≤◌, ◌<◌, ◌++◌, ◌∷◌, [], List, ℕ, length, drop, IfOk, OnOk, IsErrOf};
 ghost use Rattle.sha2.specs.Sha256.{sha256};
 ghost use Rattle.mail_model.specs.Record.{Record, payload_of};
-ghost use Rattle.mail_model.specs.Site.{copies_of, nth_id, nth_stamp};
+ghost use Rattle.mail_model.specs.Site.{copies_of, gone_records, nth_id, nth_stamp};
+ghost use Rattle.cluster_world.specs.Steps.{last_number};
 ghost use Rattle.mail_base.specs.Delivers.{mail_in, IsWithinLimits};
 ghost use Rattle.cluster_world.specs.Index.{kept_in, added_for};
 ghost use Rattle.cluster_world.specs.Journal.{HasGate, IsToldAlike, end_of, largest};
-ghost use Rattle.cluster_world.specs.Appends.{Wrote, IsUntouched, IsHead, WroteMail};
+ghost use Rattle.cluster_world.specs.Appends.{Wrote, IsUntouched, IsHead, WroteMail, SettledBehind};
 
 use crate::index::{Index, Kept};
 use crate::journal::{Journal, JournalFault};
 use crate::place::Place;
-use crate::record::{here_payload, octets_head};
+use crate::record::{gone_payload, here_payload, octets_head};
 use crate::trace::{Trace, trace_into};
 use io_edge::Disk;
 use mail_base::{Deliver, MsgId, Name, NodeNo, Stamp};
@@ -83,44 +84,99 @@ fn append_record<D: Disk>(
     }
 }
 
-/// Appends the state that one user's copy of the message is here.
+/// Appends the state that one user's copy of the message is here, with the stamp of this count.
 fn append_copy<D: Disk>(
     alloc: Global,
     journal: &mut Journal,
     disk: &mut D,
     user: &Name,
     seq: u64,
+    count: u64,
 ) -> Result<Place, DeliverFault>
     requires gate { HasGate (D.seen disk.old) (end_of journal.old) }
     requires drawn { 0 < seq }
     ensures wrote { Wrote result (D.seen disk.old) (D.seen disk.new) (end_of journal.old) (end_of journal.new)
-        (D.faults disk.old) (D.faults disk.new) (copies_of (nth_id seq) (nth_stamp seq) (user.now ∷ [])) }
+        (D.faults disk.old) (D.faults disk.new) (copies_of (nth_id seq) (nth_stamp count) (user.now ∷ [])) }
     ensures settled { OnOk result (D.settled disk.new) }
     ensures told { IsToldAlike (D.seen disk.old) (D.seen disk.new) }
 {
-    let Ok(payload) = here_payload(alloc, user, id_of(seq), Stamp::new(seq, 1, 1), 1) else {
+    let Ok(payload) = here_payload(alloc, user, id_of(seq), Stamp::new(count, 1, 1), 1) else {
         return Err(DeliverFault::NoMemory);
     };
     append_record(alloc, journal, disk, &payload, &[])
 }
 
-/// Appends a state for each user, in order.
+/// Appends the state that the user's copy of the message is gone, with the stamp behind that of this count.
+fn append_one_gone<D: Disk>(
+    alloc: Global,
+    journal: &mut Journal,
+    disk: &mut D,
+    user: &Name,
+    id: MsgId,
+    before: u64,
+) -> Result<Place, DeliverFault>
+    requires gate { HasGate (D.seen disk.old) (end_of journal.old) }
+    requires stamps { before < last_number }
+    ensures wrote { Wrote result (D.seen disk.old) (D.seen disk.new) (end_of journal.old) (end_of journal.new)
+        (D.faults disk.old) (D.faults disk.new) (gone_records user.now before (id ∷ [])) }
+    ensures settled { OnOk result (D.settled disk.new) }
+    ensures untouched { IsErrOf result DeliverFault.NoMemory
+        → IsUntouched (D.seen disk.old) (D.seen disk.new) (end_of journal.old) (end_of journal.new)
+        (D.faults disk.old) (D.faults disk.new) }
+    ensures told { IsToldAlike (D.seen disk.old) (D.seen disk.new) }
+{
+    let Ok(payload) = gone_payload(alloc, user, id, Stamp::new(before + 1, 1, 1), 1) else {
+        return Err(DeliverFault::NoMemory);
+    };
+    append_record(alloc, journal, disk, &payload, &[])
+}
+
+/// Appends the state that the user's copy is gone for each of these messages, in order, each with a stamp of its own; so
+/// many were drawn before.
+pub(crate) fn append_gone<D: Disk>(
+    alloc: Global,
+    journal: &mut Journal,
+    disk: &mut D,
+    user: &Name,
+    ids: &[MsgId],
+    before: u64,
+) -> Result<(), DeliverFault>
+    requires gate { HasGate (D.seen disk.old) (end_of journal.old) }
+    requires stamps { before + length ids.now ≤ last_number }
+    ensures wrote { Wrote result (D.seen disk.old) (D.seen disk.new) (end_of journal.old) (end_of journal.new)
+        (D.faults disk.old) (D.faults disk.new) (gone_records user.now before ids.now) }
+    ensures settled { OnOk result (SettledBehind D.settled ids.now disk.old disk.new) }
+    ensures untouched { IsErrOf result DeliverFault.NoMemory → end_of journal.new ≡ end_of journal.old
+        → IsUntouched (D.seen disk.old) (D.seen disk.new) (end_of journal.old) (end_of journal.new)
+        (D.faults disk.old) (D.faults disk.new) }
+    ensures told { IsToldAlike (D.seen disk.old) (D.seen disk.new) }
+{
+    let mut count = before;
+    for id in ids {
+        append_one_gone(alloc, journal, disk, user, *id, count)?;
+        count += 1;
+    }
+    Ok(())
+}
+
+/// Appends a state for each user, in order, all with the stamp of this count.
 pub(crate) fn append_copies<D: Disk>(
     alloc: Global,
     journal: &mut Journal,
     disk: &mut D,
     users: &[Name],
     seq: u64,
+    count: u64,
 ) -> Result<(), DeliverFault>
     requires gate { HasGate (D.seen disk.old) (end_of journal.old) }
     requires drawn { 0 < seq }
     ensures wrote { Wrote result (D.seen disk.old) (D.seen disk.new) (end_of journal.old) (end_of journal.new)
-        (D.faults disk.old) (D.faults disk.new) (copies_of (nth_id seq) (nth_stamp seq) users.now) }
+        (D.faults disk.old) (D.faults disk.new) (copies_of (nth_id seq) (nth_stamp count) users.now) }
     ensures settled { OnOk result (D.settled disk.old → D.settled disk.new) }
     ensures told { IsToldAlike (D.seen disk.old) (D.seen disk.new) }
 {
     for user in users {
-        append_copy(alloc, journal, disk, user, seq)?;
+        append_copy(alloc, journal, disk, user, seq, count)?;
     }
     Ok(())
 }
@@ -172,13 +228,14 @@ fn measure_of(head: &[u8], text: &[u8], place: Place) -> Measure
     }
 }
 
-/// The message of this number, whose octets lie at the place, as it is kept.
-fn kept_at(seq: u64, place: Place) -> Kept
+/// The message of this number, whose states have the stamp of this count and whose octets lie at the place, as it is kept.
+fn kept_at(seq: u64, count: u64, place: Place) -> Kept
     requires { 0 < seq }
-    ensures { result ≡ record { id = nth_id seq; place = place } }
+    ensures { result ≡ record { id = nth_id seq; count = count; place = place } }
 {
     Kept {
         id: id_of(seq),
+        count,
         place,
     }
 }
@@ -212,18 +269,19 @@ pub(crate) fn append_listed<D: Disk>(
     index: &mut Index,
     users: &[Name],
     seq: u64,
+    count: u64,
     place: Place,
 ) -> Result<(), DeliverFault>
     requires gate { HasGate (D.seen disk.old) (end_of journal.old) }
     requires drawn { 0 < seq }
     ensures wrote { Wrote result (D.seen disk.old) (D.seen disk.new) (end_of journal.old) (end_of journal.new)
-        (D.faults disk.old) (D.faults disk.new) (copies_of (nth_id seq) (nth_stamp seq) users.now) }
+        (D.faults disk.old) (D.faults disk.new) (copies_of (nth_id seq) (nth_stamp count) users.now) }
     ensures kept { OnOk result ((user : List ℕ) → kept_in user index.new ≡ kept_in user index.old
-        ++ added_for user users.now (record { id = nth_id seq; place = place })) }
+        ++ added_for user users.now (record { id = nth_id seq; count = count; place = place })) }
     ensures settled { OnOk result (D.settled disk.old → D.settled disk.new) }
     ensures told { IsToldAlike (D.seen disk.old) (D.seen disk.new) }
 {
-    append_copies(alloc, journal, disk, users, seq)?;
-    index.add(alloc, users, &kept_at(seq, place))?;
+    append_copies(alloc, journal, disk, users, seq, count)?;
+    index.add(alloc, users, &kept_at(seq, count, place))?;
     Ok(())
 }

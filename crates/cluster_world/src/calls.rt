@@ -7,7 +7,7 @@ ghost use Rattle.cluster_world.specs.Appends.{Wrote};
 ghost use Rattle.cluster_world.specs.Opens.{Begun};
 ghost use Rattle.cluster_world.specs.Index.{kept_in, added_for};
 ghost use Rattle.cluster_world.specs.Journal.{IsToldAlike};
-ghost use Rattle.cluster_world.specs.World.{plan_of, is_up, drawn_of, tickets_of, kept_of, disk_of, gate_of, book_of, standing_of, ShowsGate, Opened, OpenedAlike, Delivers};
+ghost use Rattle.cluster_world.specs.World.{plan_of, is_up, drawn_of, stamps_of, tickets_of, kept_of, disk_of, gate_of, book_of, standing_of, ShowsGate, Opened, OpenedAlike, Delivers};
 ghost use Rattle.cluster_world.specs.Books.{told_by, spare_of};
 ghost use Rattle.cluster_world.specs.Steps.{BeginDid, AskDid, Stepped, StandsNot, HasNumbers, Settles, entries_for, entries_in, nth_ticket, last_number, call_of};
 ghost use Rattle.cluster_world.specs.Completes.{Completes, FetchedAsFiled, SettledBy, SettledByDelivery};
@@ -30,7 +30,7 @@ impl<D: Disk> World<D> {
         ensures said { result ≡ Said.Begun (nth_ticket (tickets_of self.old + 1)) }
         ensures standing { standing_of self.new ≡ standing_of self.old ++ call_of (nth_ticket (tickets_of self.old + 1)) pending ∷ [] }
         ensures tickets { tickets_of self.new ≡ tickets_of self.old + 1 }
-        ensures rest { (plan_of self.new ≡ plan_of self.old) × (is_up self.new ≡ is_up self.old) × (drawn_of self.new ≡ drawn_of self.old)
+        ensures rest { (plan_of self.new ≡ plan_of self.old) × (is_up self.new ≡ is_up self.old) × (drawn_of self.new ≡ drawn_of self.old) × (stamps_of self.new ≡ stamps_of self.old)
             × (disk_of self.new ≡ disk_of self.old) × (self.new.journal ≡ self.old.journal) × (self.new.index ≡ self.old.index) × (self.new.book ≡ self.old.book) }
     {
         self.tickets += 1;
@@ -47,7 +47,7 @@ impl<D: Disk> World<D> {
         ensures down { IsFalse (is_up self.new) }
         ensures standing { standing_of self.new ≡ [] }
         ensures book { book_of self.new ≡ book_of self.old ++ WentDown 1 ∷ [] }
-        ensures rest { (plan_of self.new ≡ plan_of self.old) × (drawn_of self.new ≡ drawn_of self.old) × (tickets_of self.new ≡ tickets_of self.old)
+        ensures rest { (plan_of self.new ≡ plan_of self.old) × (drawn_of self.new ≡ drawn_of self.old) × (stamps_of self.new ≡ stamps_of self.old) × (tickets_of self.new ≡ tickets_of self.old)
             × (disk_of self.new ≡ disk_of self.old) × (self.new.journal ≡ self.old.journal) × (self.new.index ≡ self.old.index) }
     {
         self.up = false;

@@ -7,7 +7,7 @@ ghost use Rattle.cluster_world.specs.Appends.{Wrote};
 ghost use Rattle.cluster_world.specs.Opens.{Begun};
 ghost use Rattle.cluster_world.specs.Index.{kept_in, added_for};
 ghost use Rattle.cluster_world.specs.Journal.{IsToldAlike};
-ghost use Rattle.cluster_world.specs.World.{plan_of, is_up, drawn_of, tickets_of, kept_of, disk_of, gate_of, book_of, standing_of, ShowsGate, Opened, OpenedAlike, Delivers};
+ghost use Rattle.cluster_world.specs.World.{plan_of, is_up, drawn_of, stamps_of, tickets_of, kept_of, disk_of, gate_of, book_of, standing_of, ShowsGate, Opened, OpenedAlike, Delivers};
 ghost use Rattle.cluster_world.specs.Books.{told_by, spare_of};
 ghost use Rattle.cluster_world.specs.Steps.{BeginDid, AskDid, Stepped, StandsNot, HasNumbers, Settles, entries_for, entries_in, nth_ticket, last_number, call_of};
 ghost use Rattle.cluster_world.specs.Completes.{Completes, FetchedAsFiled, SettledBy, SettledByDelivery};
@@ -43,6 +43,7 @@ impl<D: Disk> World<D> {
         requires gate { ShowsGate D.seen self.old }
         requires small { IsWithinLimits deliver.now }
         requires drawn { drawn_of self.old < last_number }
+        requires stamps { stamps_of self.old < last_number }
         ensures delivers { Delivers D.seen D.faults result (mail_in deliver.now) self.old self.new }
         ensures settled { OnOk result (D.settled (disk_of self.new)) }
         ensures told { IsToldAlike (D.seen (disk_of self.old)) (D.seen (disk_of self.new)) }
@@ -55,12 +56,14 @@ impl<D: Disk> World<D> {
         match append_octets(alloc, &mut self.journal, &mut self.disk, deliver, seq) {
             Ok(measure) => {
                 self.drawn = seq;
+                self.stamps += 1;
                 self.file_copies(alloc, deliver, measure.place)?;
                 Ok(measure)
             }
             Err(DeliverFault::NoMemory) => Err(DeliverFault::NoMemory),
             Err(DeliverFault::Disk) => {
                 self.drawn = seq;
+                self.stamps += 1;
                 self.up = false;
                 Err(DeliverFault::Disk)
             }
@@ -79,14 +82,15 @@ impl<D: Disk> World<D> {
         requires drawn { 0 < drawn_of self.old }
         requires up { IsTrue (is_up self.old) }
         ensures wrote { Wrote result (D.seen (disk_of self.old)) (D.seen (disk_of self.new)) (gate_of self.old) (gate_of self.new)
-            (D.faults (disk_of self.old)) (D.faults (disk_of self.new)) (copies_of (nth_id (drawn_of self.old)) (nth_stamp (drawn_of self.old)) deliver.now.users) }
+            (D.faults (disk_of self.old)) (D.faults (disk_of self.new)) (copies_of (nth_id (drawn_of self.old)) (nth_stamp (stamps_of self.old)) deliver.now.users) }
         ensures kept { OnOk result ((user : List ℕ) → kept_of user self.new ≡ kept_of user self.old
-            ++ added_for user deliver.now.users (record { id = nth_id (drawn_of self.old); place = place })) }
+            ++ added_for user deliver.now.users (record { id = nth_id (drawn_of self.old); count = stamps_of self.old; place = place })) }
         ensures settled { OnOk result (D.settled (disk_of self.old) → D.settled (disk_of self.new)) }
         ensures told { IsToldAlike (D.seen (disk_of self.old)) (D.seen (disk_of self.new)) }
         ensures up { is_up self.new ≡ is_ok result }
         ensures plan { plan_of self.new ≡ plan_of self.old }
         ensures drawn { drawn_of self.new ≡ drawn_of self.old }
+        ensures stamps { stamps_of self.new ≡ stamps_of self.old }
         ensures tickets { tickets_of self.new ≡ tickets_of self.old }
         ensures standing { self.new.standing ≡ self.old.standing }
         ensures book { self.new.book ≡ self.old.book }
@@ -98,6 +102,7 @@ impl<D: Disk> World<D> {
             &mut self.index,
             deliver.users.as_slice(),
             self.drawn,
+            self.stamps,
             place,
         );
         self.up = filed.is_ok();
@@ -109,6 +114,7 @@ impl<D: Disk> World<D> {
         requires up { IsTrue (is_up self.old) }
         requires gate { ShowsGate D.seen self.old }
         requires drawn { drawn_of self.old < last_number }
+        requires stamps { stamps_of self.old < last_number }
         requires tickets { tickets_of self.old < last_number }
         ensures did { (node : ℕ) → node ≤ (plan_of self.old).nodes → BeginDid D.seen D.faults result node (Call.Deliver deliver) self.old self.new }
         ensures settled { IfOk result (λ said. SettledByDelivery D.settled said self.new) }

@@ -3,7 +3,7 @@ ghost use Rattle.std.specs.Prelude.{◌≡◌, ◌++◌, ◌∷◌, [], List, �
 ghost use Rattle.std.specs.Ordering.{nat_cmp};
 ghost use Rattle.std.specs.Cmp.Lexicographic.{pointwise, slice_cmp};
 ghost use Rattle.std.specs.BTreeMap.{get};
-ghost use Rattle.cluster_world.specs.Index.{kept_in, added_for};
+ghost use Rattle.cluster_world.specs.Index.{kept_in, added_for, is_among, left_for, without};
 
 use crate::place::Place;
 use mail_base::{MsgId, Name};
@@ -15,6 +15,8 @@ use std::collections::BTreeMap;
 pub(crate) struct Kept {
     /// The message's id.
     pub(crate) id: MsgId,
+    /// The count of the stamp of the state that says that it is here.
+    pub(crate) count: u64,
     /// Where its octets lie in the journal, its trace lines with them.
     pub(crate) place: Place,
 }
@@ -31,8 +33,28 @@ fn again(kept: &Kept) -> Kept
 {
     Kept {
         id: kept.id,
+        count: kept.count,
         place: kept.place,
     }
+}
+
+// Whether the id is one of these.
+fn is_among(id: MsgId, ids: &[MsgId]) -> bool
+    ensures { result ≡ is_among id ids.now }
+{
+    for other in ids {
+        if *other == id {
+            return true;
+        }
+    }
+    false
+}
+
+// Takes the messages of these ids out of the row.
+fn take_out(row: &mut Vec<Kept>, ids: &[MsgId])
+    ensures { row.new.items ≡ without ids.now row.old.items }
+{
+    row.retain(|kept| !is_among(kept.id, ids));
 }
 
 impl Index {
@@ -92,6 +114,15 @@ impl Index {
             self.make_room(alloc, user)?;
         }
         Ok(())
+    }
+
+    /// Takes the messages of these ids out of the user's. It takes no memory.
+    pub(crate) fn remove(&mut self, user: &Name, ids: &[MsgId])
+        ensures { (other : List ℕ) → kept_in other self.new ≡ left_for other user.now ids.now (kept_in other self.old) }
+    {
+        if let Some(row) = self.rows.get_mut(user) {
+            take_out(row, ids);
+        }
     }
 
     // Puts the message behind the others of this user.

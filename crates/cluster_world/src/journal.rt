@@ -134,6 +134,13 @@ fn fill<D: Disk>(disk: &mut D, at: u64, into: &mut [u8]) -> Result<(), Failed>
 }
 
 impl Journal {
+    /// The place of the closed gate that ends it.
+    pub(crate) fn gate(&self) -> u64
+        ensures { result ≡ end_of self.now }
+    {
+        self.end
+    }
+
     /// A new journal of the node: its header and a closed gate, on an empty disk, where they stand whatever happens.
     pub fn create<D: Disk>(
         alloc: Global,

@@ -31,7 +31,7 @@ fn listed(kept: Kept) -> Item
 {
     Item {
         id: kept.id,
-        stamp: Stamp::new(kept.id.seq(), 1, 1),
+        stamp: Stamp::new(kept.count, 1, 1),
         targets: NodeSet::from_mask(1),
         holders: NodeSet::from_mask(1),
         length: kept.place.length,

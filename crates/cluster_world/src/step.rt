@@ -4,7 +4,7 @@ ghost use Rattle.cluster_world.specs.Steps.{nth_ticket};
 
 use crate::append::first_node;
 use mail_base::{
-    Deliver, Items, MsgId, Name, Names, NodeNo, NodeSet, Octets, Proof, Stamp, Ticket,
+    Deliver, Ids, Items, MsgId, Name, Names, NodeNo, NodeSet, Octets, Proof, Stamp, Ticket,
 };
 use std::alloc::AllocError;
 
@@ -32,6 +32,13 @@ pub enum Call {
         from: u64,
         /// How many octets to give at most.
         most: u64,
+    },
+    /// Deletes the user's copies of messages.
+    Strike {
+        /// From whose maildrop.
+        user: Name,
+        /// The ids of the messages: of any node of the plan, and whether the maildrop has them or not.
+        ids: Ids,
     },
     /// Ends a login.
     Leave {
@@ -96,6 +103,8 @@ pub enum Answer {
     },
     /// The user's maildrop has no such message.
     GoneAlready,
+    /// The user's copies of all the messages are gone, on the disk of node 1.
+    Dropped,
 }
 
 /// The answer of a step that was made.
@@ -117,13 +126,13 @@ pub enum Said {
 /// Why a step was refused, the first of these that fits. All but `NoMemory` leave the world as it was.
 #[derive(Clone, Copy, Debug, PartialEq, Eq)]
 pub enum StepFault {
-    /// The plan has no such node.
+    /// The plan has no such node, or not that of a message that is to be deleted.
     NoSuchNode,
     /// The node is down.
     NodeDown,
     /// The ticket does not stand.
     NoSuchTicket,
-    /// The node has no number left for the call: none for its ticket, or for its message.
+    /// The node has too few numbers left for the call: for its ticket, its message, or the stamps of its states.
     Worn,
     /// Want of memory. The world is as it was; or this node is down, with some of the step's records on its disk.
     NoMemory {
@@ -177,6 +186,13 @@ pub enum Pending {
     Filed(Filing),
     /// A login or a fetch found this.
     Found(Answer),
+    /// A deletion wrote that the user's copies of these messages are gone.
+    Struck {
+        /// Whose copies they were.
+        user: Name,
+        /// The ids of the messages.
+        ids: Ids,
+    },
 }
 
 /// A call in progress.

@@ -3,11 +3,13 @@ ghost use Rattle.std.specs.Prelude.{◌≤◌, ◌<◌, length, IfOk, OnOk, IsTr
 ghost use Rattle.mail_base.specs.Delivers.{IsWithinLimits};
 ghost use Rattle.cluster_world.specs.World.{ShowsGate, is_up};
 
+mod full_disk;
 mod reading;
+mod striking;
 
 use crate::{
     Answer, Call, Entry, Journal, OpenFault, Said, Step, StepFault, Trace, TraceFault, World,
-    boot_payload, here_payload, octets_head, trace_into,
+    boot_payload, gone_payload, here_payload, octets_head, trace_into,
 };
 use io_edge::faulty::FaultyDisk;
 use io_edge::{Disk, PlainDisk};
@@ -153,6 +155,7 @@ fn is_first_stored(said: &Result<Said, StepFault>) -> bool {
         Answer::Wrong { .. } => false,
         Answer::Part { .. } => false,
         Answer::GoneAlready => false,
+        Answer::Dropped => false,
     }
 }
 
@@ -186,6 +189,12 @@ fn is_acked(entry: &Entry, name: &[u8]) -> bool {
                 && *digest == DIGEST
                 && confirmers.mask() == 1
         }
+        Entry::Struck { user: _, id: _ } => false,
+        Entry::Dropped {
+            user: _,
+            id: _,
+            confirmers: _,
+        } => false,
         Entry::Down { node: _ } => false,
     }
 }
@@ -229,6 +238,11 @@ fn payloads_are_spelt(rt: HostRuntime) -> Result<(), Fail> {
     assert_eq!(rt;
         state.as_slice(),
         b"\x04\x02\x03bob\x01\0\0\0\x01\0\0\0\0\0\0\0\x01\x01\0\0\0\0\0\0\0\x01\0\0\0\x01\x01\0\x01".as_slice()
+    );
+    let state = gone_payload(alloc, &bob(alloc)?, first_id(), Stamp::new(2, 1, 1), 1)?;
+    assert_eq!(rt;
+        state.as_slice(),
+        b"\x04\x02\x03bob\x01\0\0\0\x01\0\0\0\0\0\0\0\x01\x02\0\0\0\0\0\0\0\x02\0\0\0\x01\x01\0\x01".as_slice()
     );
     Ok(())
 }

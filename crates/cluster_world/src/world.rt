@@ -1,5 +1,5 @@
 //! A world of one node.
-ghost use Rattle.std.specs.Prelude.{◌≡◌, ◌+◌, ◌≤◌, ◌<◌, ◌++◌, ◌∷◌, [], ◌&&◌, List, ℕ, length, nat_eq, vec_len, vec_capacity, slice_get, ◌-◌, ◌^◌, IfOk, OnOk, is_ok, IfSome, None, IsTrue, IsFalse};
+ghost use Rattle.std.specs.Prelude.{◌≡◌, ◌+◌, ◌≤◌, ◌<◌, ◌++◌, ◌∷◌, [], ◌&&◌, List, ℕ, length, nat_eq, vec_len, vec_capacity, slice_get, ◌-◌, ◌^◌, IfOk, OnOk, is_ok, IfSome, None, IsTrue, IsFalse, ◌↔◌, All, map};
 ghost use Rattle.mail_model.specs.Site.{copies_of, nth_id, nth_stamp};
 ghost use Rattle.mail_model.specs.Book.BookEntry.{WentDown};
 ghost use Rattle.mail_base.specs.Delivers.{mail_in, IsWithinLimits};
@@ -7,19 +7,19 @@ ghost use Rattle.cluster_world.specs.Appends.{Wrote};
 ghost use Rattle.cluster_world.specs.Opens.{Begun};
 ghost use Rattle.cluster_world.specs.Index.{kept_in, added_for};
 ghost use Rattle.cluster_world.specs.Journal.{IsToldAlike};
-ghost use Rattle.cluster_world.specs.World.{plan_of, is_up, drawn_of, tickets_of, kept_of, disk_of, gate_of, book_of, standing_of, ShowsGate, Opened, OpenedAlike, Delivers};
-ghost use Rattle.cluster_world.specs.Books.{told_by, spare_of};
-ghost use Rattle.cluster_world.specs.Steps.{BeginDid, AskDid, Stepped, StandsNot, HasNumbers, Settles, entries_for, entries_in, nth_ticket, last_number, call_of};
+ghost use Rattle.cluster_world.specs.World.{plan_of, is_up, drawn_of, stamps_of, tickets_of, kept_of, disk_of, gate_of, book_of, standing_of, ShowsGate, Opened, OpenedAlike, Delivers};
+ghost use Rattle.cluster_world.specs.Books.{entry_of, told_by, spare_of};
+ghost use Rattle.cluster_world.specs.Steps.{BeginDid, AskDid, Stepped, StandsNot, HasNodes, HasNumbers, Settles, entries_for, entries_in, prepared_for, nth_ticket, last_number, call_of};
 ghost use Rattle.cluster_world.specs.Completes.{Completes, FetchedAsFiled, SettledBy, SettledByDelivery};
 
 use crate::append::first_node;
-use crate::book::{Book, Entry};
+use crate::book::{Book, Entry, dropped};
 use crate::index::Index;
 use crate::journal::{Journal, JournalFault};
 use crate::record::boot_payload;
 use crate::step::{Answer, Call, Filing, Pending, Said, Standing, Step, StepFault};
 use io_edge::Disk;
-use mail_base::{NodeNo, NodeSet, Plan, Ticket};
+use mail_base::{MsgId, NodeNo, NodeSet, Plan, Ticket};
 use std::alloc::{AllocError, Global};
 
 /// Why a world was not opened.
@@ -105,17 +105,34 @@ fn entries_of(pending: &Pending) -> usize
     match pending {
         Pending::Filed(filing) => filing.users.len(),
         Pending::Found(_) => 0,
+        Pending::Struck { user: _, ids } => ids.len(),
     }
 }
 
-/// What the call is answered; a delivery goes into the book.
-fn settle(book: &mut Book, pending: Pending) -> Answer
-    requires { entries_in pending ≤ spare_of book.old }
+/// The entries that a deletion becomes once it is answered, since they take memory; and none of another call.
+fn prepared(alloc: Global, pending: &Pending) -> Result<Vec<Entry>, AllocError>
+    ensures { IfOk result (λ entries. map entry_of entries.items ≡ prepared_for pending.now) }
+{
+    match pending {
+        Pending::Filed(_) => Ok(Vec::new(alloc)),
+        Pending::Found(_) => Ok(Vec::new(alloc)),
+        Pending::Struck { user, ids } => dropped(alloc, user, ids.as_slice()),
+    }
+}
+
+/// What the call is answered; a delivery goes into the book, and the entries that were prepared for a deletion.
+fn settle(book: &mut Book, pending: Pending, entries: Vec<Entry>) -> Answer
+    requires room { entries_in pending ≤ spare_of book.old }
+    requires prepared { map entry_of entries.items ≡ prepared_for pending }
     ensures { Settles pending result (told_by book.old) (told_by book.new) }
 {
     match pending {
         Pending::Filed(filing) => acknowledge(book, filing, NodeSet::from_mask(1)),
         Pending::Found(answer) => answer,
+        Pending::Struck { .. } => {
+            book.add_all(entries);
+            Answer::Dropped
+        }
     }
 }
 
@@ -126,8 +143,10 @@ pub struct World<D> {
     pub(crate) disk: D,
     pub(crate) journal: Journal,
     pub(crate) up: bool,
-    // the ids of messages that were drawn
+    // the numbers that were drawn for ids of messages, or that an id has which a record names
     pub(crate) drawn: u64,
+    // the stamps that were drawn
+    pub(crate) stamps: u64,
     // the tickets that were drawn
     pub(crate) tickets: u64,
     // where the messages lie
@@ -152,6 +171,7 @@ impl<D: Disk> World<D> {
                 journal,
                 up: true,
                 drawn: 0,
+                stamps: 0,
                 tickets: 0,
                 index: Index::new(alloc),
                 standing: Vec::new(alloc),
@@ -190,6 +210,29 @@ impl<D: Disk> World<D> {
     }
 }
 
+/// Whether the plan has the nodes of all these ids.
+fn has_origins(plan: &Plan, ids: &[MsgId]) -> bool
+    ensures { IsTrue result ↔ All (λ id. id.node ≤ (plan.now).nodes) ids.now }
+{
+    ids.iter().all(|id| id.node().number() <= plan.nodes)
+}
+
+/// Whether the plan has the node, and each node that the call names.
+fn has_nodes(plan: &Plan, node: NodeNo, call: &Call) -> bool
+    ensures known { IsTrue result → HasNodes plan.now node call.now }
+    ensures unknown { IsFalse result → HasNodes plan.now node call.now → ⊥ }
+{
+    match call {
+        Call::Deliver(_) => node.number() <= plan.nodes,
+        Call::Login { .. } => node.number() <= plan.nodes,
+        Call::Fetch { .. } => node.number() <= plan.nodes,
+        Call::Strike { user: _, ids } => {
+            node.number() <= plan.nodes && has_origins(plan, ids.as_slice())
+        }
+        Call::Leave { .. } => node.number() <= plan.nodes,
+    }
+}
+
 impl<D: Disk> World<D> {
     // Whether the node has no number left for the call.
     fn is_worn(&self, call: &Call) -> bool
@@ -197,9 +240,14 @@ impl<D: Disk> World<D> {
         ensures fresh { IsFalse result → HasNumbers call.now self.now }
     {
         match call {
-            Call::Deliver(_) => self.drawn == u64::MAX || self.tickets == u64::MAX,
+            Call::Deliver(_) => {
+                self.drawn == u64::MAX || self.stamps == u64::MAX || self.tickets == u64::MAX
+            }
             Call::Login { .. } => self.tickets == u64::MAX,
             Call::Fetch { .. } => self.tickets == u64::MAX,
+            Call::Strike { user: _, ids } => {
+                ids.len() as u64 > u64::MAX - self.stamps || self.tickets == u64::MAX
+            }
             Call::Leave { .. } => false,
         }
     }
@@ -209,7 +257,7 @@ impl<D: Disk> World<D> {
         requires up { IsTrue (is_up self.old) }
         requires gate { ShowsGate D.seen self.old }
         requires numbers { HasNumbers call self.old }
-        ensures did { (node : ℕ) → node ≤ (plan_of self.old).nodes → BeginDid D.seen D.faults result node call self.old self.new }
+        ensures did { (node : ℕ) → HasNodes (plan_of self.old) node call → BeginDid D.seen D.faults result node call self.old self.new }
         ensures settled { (node : ℕ) → IfOk result (λ said. SettledBy D.settled (Step.Begin node call) said self.old self.new) }
         ensures told { IsToldAlike (D.seen (disk_of self.old)) (D.seen (disk_of self.new)) }
     {
@@ -223,6 +271,7 @@ impl<D: Disk> World<D> {
                 from,
                 most,
             } => self.fetch(alloc, user, id, holders, from, most),
+            Call::Strike { user, ids } => self.strike(alloc, user, ids),
             // There is no lock that would be let go.
             Call::Leave { .. } => Ok(Said::Noted),
         }
@@ -235,7 +284,7 @@ impl<D: Disk> World<D> {
         ensures settled { IfOk result (λ said. SettledBy D.settled (Step.Begin node call) said self.old self.new) }
         ensures told { IsToldAlike (D.seen (disk_of self.old)) (D.seen (disk_of self.new)) }
     {
-        if node.number() > self.plan.nodes {
+        if !has_nodes(&self.plan, node, &call) {
             return Err(StepFault::NoSuchNode);
         }
         if !self.up {
@@ -259,7 +308,7 @@ impl<D: Disk> World<D> {
     }
 
     // Asks for a call: it is done, and a message goes into the book.
-    fn ask(&mut self, ticket: Ticket) -> Result<Said, StepFault>
+    fn ask(&mut self, alloc: Global, ticket: Ticket) -> Result<Said, StepFault>
         ensures did { AskDid D.seen D.faults result ticket self.old self.new }
         ensures disk { disk_of self.new ≡ disk_of self.old }
     {
@@ -272,10 +321,11 @@ impl<D: Disk> World<D> {
         let Some(place) = self.place_of(ticket) else {
             return Err(StepFault::NoSuchTicket);
         };
+        let entries = prepared(alloc, &self.standing[place].pending)?;
         self.book
             .reserve(entries_of(&self.standing[place].pending))?;
         let standing = self.standing.remove(place);
-        Ok(Said::Asked(settle(&mut self.book, standing.pending)))
+        Ok(Said::Asked(settle(&mut self.book, standing.pending, entries)))
     }
 
     /// Makes one step: begins a call at a node, or asks for one and ends it.
@@ -288,18 +338,23 @@ impl<D: Disk> World<D> {
     ///   where the proof is right.
     /// - A fetch reads the octets that it is to give, and no others. Its answer is `GoneAlready` exactly where the user's
     ///   listing does not have the id.
+    /// - A deletion puts the state that the user's copy is gone on the disk for each of its ids, in order, each with a stamp
+    ///   of its own. That costs four disk calls for each. The user's listings then have none of these messages, and no
+    ///   fetch of the user's finds them; other users' copies stay. The book has an entry for each as the call begins, also
+    ///   where the disk fails in it, or memory runs out behind the first that was written.
     /// - A `Leave` changes nothing, and is `Noted`.
     ///
     /// `Faulted` comes only where the disk failed, or ended before a message's octets do, which a disk that tells its
     /// octets never does; then the node is down and its calls are gone.
     ///
     /// An ask for a call that stands ends it, and the ticket stands no more: the book has an entry for each user of a
-    /// delivery, in order, and what a login or a fetch found is handed out. It makes no disk call.
+    /// delivery, or for each message that was deleted, in order, and what a login or a fetch found is handed out. It makes
+    /// no disk call.
     ///
     /// # Errors
     ///
     /// The first that fits of `NoSuchNode`, `NodeDown`, `NoSuchTicket` and `Worn`, exactly where they say, and nothing is
-    /// changed; or `NoMemory`: nothing is changed, or the node is down with a front of the message's records on its disk.
+    /// changed; or `NoMemory`: nothing is changed, or the node is down with a front of the call's records on its disk.
     pub fn step(&mut self, alloc: Global, step: Step) -> Result<Said, StepFault>
         requires gate { IsTrue (is_up self.old) → ShowsGate D.seen self.old }
         ensures stepped { Stepped D.seen D.faults result step self.old self.new }
@@ -311,7 +366,7 @@ impl<D: Disk> World<D> {
     {
         match step {
             Step::Begin { node, call } => self.begin(alloc, node, call),
-            Step::Ask { ticket } => self.ask(ticket),
+            Step::Ask { ticket } => self.ask(alloc, ticket),
         }
     }
 }

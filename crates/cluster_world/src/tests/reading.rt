@@ -18,7 +18,12 @@ use std::test::Fail;
 const ODD: [u8; 8] = [0x00, 0x7f, 0x80, 0xff, 0x0d, 0x00, 0x0d, 0x0a];
 
 // Begins the call at the first node, and asks for it by the ticket of this number.
-fn answer<D: Disk>(alloc: Global, world: &mut World<D>, seq: u64, call: Call) -> Option<Answer>
+pub(super) fn answer<D: Disk>(
+    alloc: Global,
+    world: &mut World<D>,
+    seq: u64,
+    call: Call,
+) -> Option<Answer>
     requires { IsTrue (is_up world.old) → ShowsGate D.seen world.old }
     ensures { IsTrue (is_up world.new) → ShowsGate D.seen world.new }
 {
@@ -38,14 +43,20 @@ fn answer<D: Disk>(alloc: Global, world: &mut World<D>, seq: u64, call: Call) ->
     }
 }
 
-fn login(alloc: Global, user: &[u8], secret: &[u8]) -> Result<Call, AllocError> {
+pub(super) fn login(alloc: Global, user: &[u8], secret: &[u8]) -> Result<Call, AllocError> {
     Ok(Call::Login {
         user: name(alloc, user)?,
         proof: Proof::Pass(Octets::from_vec(secret.to_vec(alloc)?)),
     })
 }
 
-fn fetch(alloc: Global, user: &[u8], seq: u64, from: u64, most: u64) -> Result<Call, AllocError> {
+pub(super) fn fetch(
+    alloc: Global,
+    user: &[u8],
+    seq: u64,
+    from: u64,
+    most: u64,
+) -> Result<Call, AllocError> {
     let holders = NodeSet::from_mask(1);
     Ok(Call::Fetch {
         user: name(alloc, user)?,
@@ -76,6 +87,7 @@ fn is_wrong<D: Disk>(
         Answer::Wrong { stamp } => Ok(stamp == Stamp::new(0, 0, 0)),
         Answer::Part { .. } => Ok(false),
         Answer::GoneAlready => Ok(false),
+        Answer::Dropped => Ok(false),
     }
 }
 
@@ -89,7 +101,7 @@ fn is_listed(item: &Item, seq: u64) -> bool {
 }
 
 // Whether bob's login of the ticket's number lists these messages.
-fn lists<D: Disk>(
+pub(super) fn lists<D: Disk>(
     alloc: Global,
     world: &mut World<D>,
     seq: u64,
@@ -120,11 +132,18 @@ fn lists<D: Disk>(
         Answer::Wrong { .. } => Ok(false),
         Answer::Part { .. } => Ok(false),
         Answer::GoneAlready => Ok(false),
+        Answer::Dropped => Ok(false),
     }
 }
 
 // Whether the fetch of the ticket's number gives these octets, of a message of 137.
-fn gives<D: Disk>(alloc: Global, world: &mut World<D>, seq: u64, call: Call, wanted: &[u8]) -> bool
+pub(super) fn gives<D: Disk>(
+    alloc: Global,
+    world: &mut World<D>,
+    seq: u64,
+    call: Call,
+    wanted: &[u8],
+) -> bool
     requires { IsTrue (is_up world.old) → ShowsGate D.seen world.old }
     ensures { IsTrue (is_up world.new) → ShowsGate D.seen world.new }
 {
@@ -137,11 +156,12 @@ fn gives<D: Disk>(alloc: Global, world: &mut World<D>, seq: u64, call: Call, wan
         Answer::Wrong { .. } => false,
         Answer::Part { octets, whole } => octets.as_slice() == wanted && whole == 137,
         Answer::GoneAlready => false,
+        Answer::Dropped => false,
     }
 }
 
 // Whether the fetch of the ticket's number finds no message.
-fn is_gone<D: Disk>(alloc: Global, world: &mut World<D>, seq: u64, call: Call) -> bool
+pub(super) fn is_gone<D: Disk>(alloc: Global, world: &mut World<D>, seq: u64, call: Call) -> bool
     requires { IsTrue (is_up world.old) → ShowsGate D.seen world.old }
     ensures { IsTrue (is_up world.new) → ShowsGate D.seen world.new }
 {
@@ -154,11 +174,12 @@ fn is_gone<D: Disk>(alloc: Global, world: &mut World<D>, seq: u64, call: Call) -
         Answer::Wrong { .. } => false,
         Answer::Part { .. } => false,
         Answer::GoneAlready => true,
+        Answer::Dropped => false,
     }
 }
 
 // A message for these users, the second of whom may be left out.
-fn odd(alloc: Global, first: &[u8], second: &[u8]) -> Result<Deliver, AllocError>
+pub(super) fn odd(alloc: Global, first: &[u8], second: &[u8]) -> Result<Deliver, AllocError>
     ensures { IfOk result IsWithinLimits }
 {
     let mut users = Names::new(alloc);
@@ -177,7 +198,7 @@ fn odd(alloc: Global, first: &[u8], second: &[u8]) -> Result<Deliver, AllocError
 
 // Stores three messages: the first for bob and amy, the second for amy, the third for bob. Their trace lines have 129
 // octets and their texts 8.
-fn store_three<D: Disk>(alloc: Global, world: &mut World<D>) -> Result<(), AllocError>
+pub(super) fn store_three<D: Disk>(alloc: Global, world: &mut World<D>) -> Result<(), AllocError>
     requires { IsTrue (is_up world.old) → ShowsGate D.seen world.old }
     ensures { IsTrue (is_up world.new) → ShowsGate D.seen world.new }
 {

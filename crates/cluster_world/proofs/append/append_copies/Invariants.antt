@@ -8,7 +8,7 @@ use Rattle.cluster_world.proofs.append.append_copies.Given as goal
 abbrev pub invariant-loop-user : goal.invariant-loop-user
 invariant-loop-user g l = record {
   appended : AppendsAll (g.D.Disk.seen l.initial.disk) (g.D.Disk.seen l.disk) (end_of l.initial.journal) (end_of l.journal)
-      (g.D.Disk.faults l.initial.disk) (g.D.Disk.faults l.disk) (copies_of (nth_id l.seq) (nth_stamp l.seq) (take l.user-index l.users));
+      (g.D.Disk.faults l.initial.disk) (g.D.Disk.faults l.disk) (copies_of (nth_id l.seq) (nth_stamp l.count) (take l.user-index l.users));
   told : is_some (g.D.Disk.seen l.disk) ≡ is_some (g.D.Disk.seen l.initial.disk);
   settled : g.D.Disk.settled l.initial.disk → g.D.Disk.settled l.disk;
 }

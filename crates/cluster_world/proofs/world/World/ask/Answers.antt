@@ -15,6 +15,7 @@ returns-clause-did g c =
         plan = refl;
         up = refl;
         drawn = refl;
+        stamps = refl;
         tickets = refl;
         disk = refl;
         gate = refl;

@@ -26,7 +26,7 @@ returns-in-Ok-clause-did g c = λ node within.
         answer,
         finds g.D.Disk.seen g.D.Disk.faults answer c.fetch_answer.new.disk old c.stand.new.self c.requires.up found.seen
             (fetched_later g.D.Disk.seen old answer _ _ _ _ _ _ _ found.answer)
-            (rest.0, rest.1, rest.2, rest.3, rest.4, rest.5, ap (λ (b : Book). told_by b) rest.6 ∙ ap (map entry_of) c.in_ok-reserve.ensures.entries) stand.tickets
+            (rest.0, rest.1, rest.2, rest.3, rest.4, rest.5, rest.6, ap (λ (b : Book). told_by b) rest.7 ∙ ap (map entry_of) c.in_ok-reserve.ensures.entries) stand.tickets
             (stand.standing ∙ ap (λ (l : List Standing). l ++ call_of ticket (Found answer) ∷ []) c.in_ok-reserve-2.ensures.items),
         finds_part g.D.Disk.seen old answer c.args.user c.args.id c.args.from c.args.most _ _ (rw row at found.answer),
       ),
@@ -43,5 +43,5 @@ returns-in-Err-DiskFault-clause-did g c = λ node within.
       c.first_node.ensures,
       stops_reading g.D.Disk.seen g.D.Disk.faults c.fetch_answer.new.disk old c.go_down.new.self c.in-Err-DiskFault.ensures.seen failed.3 down.rest down.down down.standing
           (down.book ∙ ap (λ (l : List BookEntry). l ++ WentDown 1 ∷ []) (ap (map entry_of) c.in_ok-reserve.ensures.entries)),
-      λ sound. rw down.rest.3 (has_cause g.D.Disk.seen old c.args.user c.args.id c.args.from c.args.most _ _ (rw row at failed) sound),
+      λ sound. rw down.rest.4 (has_cause g.D.Disk.seen old c.args.user c.args.id c.args.from c.args.most _ _ (rw row at failed) sound),
     )

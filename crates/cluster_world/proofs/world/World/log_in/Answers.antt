@@ -23,9 +23,9 @@ returns-clause-did g c = λ node within.
       (
         answer,
         finds g.D.Disk.seen g.D.Disk.faults answer old.disk old c.stand.new.self c.requires.up refl (omega arith)
-            (rest.0, rest.1, rest.2, rest.3, rest.4, rest.5, ap (λ (b : Book). told_by b) rest.6) stand.tickets
+            (rest.0, rest.1, rest.2, rest.3, rest.4, rest.5, rest.6, ap (λ (b : Book). told_by b) rest.7) stand.tickets
             (stand.standing ∙ ap (λ (l : List Standing). l ++ call_of ticket (Found answer) ∷ []) c.in_ok-reserve.ensures.items),
         finds_login g.D.Disk.seen old answer c.args.user c.args.proof ticket answered,
-        rest.3,
+        rest.4,
       ),
     )

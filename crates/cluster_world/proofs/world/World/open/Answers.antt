@@ -13,6 +13,7 @@ returns-in-Ok-clause-opened g c =
         plan_is = refl;
         up = refl;
         drawn = refl;
+        stamps = refl;
         tickets = refl;
         standing = c.new-in-Ok.ensures.items;
         book = ap (map entry_of) c.new-in-Ok-2.ensures;

@@ -21,6 +21,7 @@ returns-in_err-reserve-3-clause-did g c = λ node within.
         plan = refl;
         up = refl;
         drawn = refl;
+        stamps = refl;
         tickets = refl;
         standing = c.in_ok-reserve-2.ensures.items;
         book = ap (map entry_of) c.in_ok-reserve.ensures.entries;
@@ -35,7 +36,7 @@ pub returns-in-Ok-clause-did : goal.returns-in-Ok-clause-did
 returns-in-Ok-clause-did g c = λ node within.
     let old = c.args.self.now in
     let mid = record old { book = c.reserve.new.self; standing = c.reserve-2.new.self; index = c.reserve-3.new.self } in
-    let same : IsReserved old mid = record { plan = refl; drawn = refl; tickets = refl; disk = refl; gate = refl; entries = c.in_ok-reserve.ensures.entries; kept = c.in_ok-reserve-3.ensures } in
+    let same : IsReserved old mid = record { plan = refl; drawn = refl; stamps = refl; tickets = refl; disk = refl; gate = refl; entries = c.in_ok-reserve.ensures.entries; kept = c.in_ok-reserve-3.ensures } in
     let filed = c.in-Ok.ensures in
     let stand = c.stand.ensures in
     let number = tickets_of c.file.new.self + 1 in
@@ -52,16 +53,16 @@ pub returns-in-Err-Disk-clause-did : goal.returns-in-Err-Disk-clause-did
 returns-in-Err-Disk-clause-did g c = λ node within.
     let old = c.args.self.now in
     let mid = record old { book = c.reserve.new.self; standing = c.reserve-2.new.self; index = c.reserve-3.new.self } in
-    let same : IsReserved old mid = record { plan = refl; drawn = refl; tickets = refl; disk = refl; gate = refl; entries = c.in_ok-reserve.ensures.entries; kept = c.in_ok-reserve-3.ensures } in
+    let same : IsReserved old mid = record { plan = refl; drawn = refl; stamps = refl; tickets = refl; disk = refl; gate = refl; entries = c.in_ok-reserve.ensures.entries; kept = c.in_ok-reserve-3.ensures } in
     let filed = rw c.in-Err-Disk.field-0-is at c.in-Err-Disk.ensures.delivers in
     let down = c.go_down.ensures in
     let mail = mail_in c.args.deliver in
-    let rose = rises g.D.Disk.seen g.D.Disk.faults mail old mid c.file.new.self c.go_down.new.self same filed.1 down.rest.3 in (
+    let rose = rises g.D.Disk.seen g.D.Disk.faults mail old mid c.file.new.self c.go_down.new.self same filed.1 down.rest.4 in (
       within,
       c.requires.up,
       c.first_node.ensures,
       goes_down g.D.Disk.seen g.D.Disk.faults mail old mid c.file.new.self c.go_down.new.self
-          same filed.0 c.in-Err-Disk.ensures.plan c.in-Err-Disk.ensures.tickets c.in-Err-Disk.ensures.book (down.rest.0, down.rest.1, down.rest.2, down.rest.3) down.down down.standing down.book,
+          same filed.0 c.in-Err-Disk.ensures.plan c.in-Err-Disk.ensures.tickets c.in-Err-Disk.ensures.book (down.rest.0, down.rest.1, down.rest.2, down.rest.3, down.rest.4) down.down down.standing down.book,
       λ sound. rose,
     )
 
@@ -69,11 +70,11 @@ pub returns-in-Err-NoMemory-clause-did : goal.returns-in-Err-NoMemory-clause-did
 returns-in-Err-NoMemory-clause-did g c = λ node within.
     let old = c.args.self.now in
     let mid = record old { book = c.reserve.new.self; standing = c.reserve-2.new.self; index = c.reserve-3.new.self } in
-    let same : IsReserved old mid = record { plan = refl; drawn = refl; tickets = refl; disk = refl; gate = refl; entries = c.in_ok-reserve.ensures.entries; kept = c.in_ok-reserve-3.ensures } in
+    let same : IsReserved old mid = record { plan = refl; drawn = refl; stamps = refl; tickets = refl; disk = refl; gate = refl; entries = c.in_ok-reserve.ensures.entries; kept = c.in_ok-reserve-3.ensures } in
     let filed = rw c.in-Err-NoMemory.field-0-is at c.in-Err-NoMemory.ensures.delivers in
     let mail = mail_in c.args.deliver in (
       c.requires.up,
-      as_before g.D.Disk.seen g.D.Disk.faults mail old mid c.file.new.self c.file.new.self same c.in_ok-reserve-2.ensures.items refl c.requires.up
+      as_before g.D.Disk.seen g.D.Disk.faults old mid c.file.new.self same c.in_ok-reserve-2.ensures.items refl c.requires.up
           (wrote_none g.D.Disk.seen g.D.Disk.faults mail old mid c.file.new.self c.file.new.self c.if-self.true filed)
           c.in-Err-NoMemory.ensures.plan c.in-Err-NoMemory.ensures.tickets c.in-Err-NoMemory.ensures.standing c.in-Err-NoMemory.ensures.book,
     )
@@ -82,7 +83,7 @@ pub returns-clause-did : goal.returns-clause-did
 returns-clause-did g c = λ node within.
     let old = c.args.self.now in
     let mid = record old { book = c.reserve.new.self; standing = c.reserve-2.new.self; index = c.reserve-3.new.self } in
-    let same : IsReserved old mid = record { plan = refl; drawn = refl; tickets = refl; disk = refl; gate = refl; entries = c.in_ok-reserve.ensures.entries; kept = c.in_ok-reserve-3.ensures } in
+    let same : IsReserved old mid = record { plan = refl; drawn = refl; stamps = refl; tickets = refl; disk = refl; gate = refl; entries = c.in_ok-reserve.ensures.entries; kept = c.in_ok-reserve-3.ensures } in
     let filed = rw c.in-Err-NoMemory.field-0-is at c.in-Err-NoMemory.ensures.delivers in
     let down = c.go_down-in-Err-NoMemory-2.ensures in
     let mail = mail_in c.args.deliver in
@@ -91,5 +92,5 @@ returns-clause-did g c = λ node within.
       c.requires.up,
       goes_down g.D.Disk.seen g.D.Disk.faults mail old mid c.file.new.self new
           same (wrote_some g.D.Disk.seen g.D.Disk.faults mail old mid c.file.new.self new c.if-self.false filed)
-          c.in-Err-NoMemory.ensures.plan c.in-Err-NoMemory.ensures.tickets c.in-Err-NoMemory.ensures.book (down.rest.0, down.rest.1, down.rest.2, down.rest.3) down.down down.standing down.book,
+          c.in-Err-NoMemory.ensures.plan c.in-Err-NoMemory.ensures.tickets c.in-Err-NoMemory.ensures.book (down.rest.0, down.rest.1, down.rest.2, down.rest.3, down.rest.4) down.down down.standing down.book,
     )

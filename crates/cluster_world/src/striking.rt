@@ -1,0 +1,127 @@
+//! How a world deletes a user's copies of messages: on its disk, in its index and in its book.
+ghost use Rattle.std.specs.Prelude.{◌≡◌, ◌+◌, ◌≤◌, ◌<◌, ℕ, length, nat_lt, if◌then◌else◌, IfOk, OnOk, IsTrue};
+ghost use Rattle.mail_model.specs.Site.{number_in, drawn_through};
+ghost use Rattle.cluster_world.specs.Appends.{SettledBehind};
+ghost use Rattle.cluster_world.specs.Journal.{IsToldAlike};
+ghost use Rattle.cluster_world.specs.World.{plan_of, is_up, stamps_of, tickets_of, disk_of, ShowsGate, Deletes};
+ghost use Rattle.cluster_world.specs.Steps.{BeginDid, HasNodes, last_number};
+ghost use Rattle.cluster_world.specs.Completes.{SettledByStrike};
+
+use crate::append::{DeliverFault, append_gone, first_node};
+use crate::book::struck;
+use crate::step::{Call, Pending, Said, StepFault};
+use crate::world::World;
+use io_edge::Disk;
+use mail_base::{Ids, MsgId, Name};
+use std::alloc::Global;
+
+/// The number of an id of node 1 in its first boot; 0 of any other.
+fn number_in(id: MsgId) -> u64
+    ensures { result ≡ number_in id }
+{
+    if id.node().number() == 1 && id.boot() == 1 {
+        id.seq()
+    } else {
+        0
+    }
+}
+
+/// The greater of the number and that of the id.
+fn raised(drawn: u64, id: MsgId) -> u64
+    ensures { result ≡ (if nat_lt drawn (number_in id) then number_in id else drawn) }
+{
+    let number = number_in(id);
+    if drawn < number { number } else { drawn }
+}
+
+/// The greatest number that was drawn, or that one of these ids has.
+fn drawn_through(drawn: u64, ids: &[MsgId]) -> u64
+    ensures { result ≡ drawn_through drawn ids.now }
+{
+    let mut greatest = drawn;
+    for id in ids {
+        greatest = raised(greatest, *id);
+    }
+    greatest
+}
+
+impl<D: Disk> World<D> {
+    // Writes that the user's copies of these messages are gone, each with the next stamp, and takes the messages out of the
+    // user's row. An id that is named here is not drawn again. The node goes down where some of that may be written.
+    fn delete(&mut self, alloc: Global, user: &Name, ids: &[MsgId]) -> Result<(), DeliverFault>
+        requires up { IsTrue (is_up self.old) }
+        requires gate { ShowsGate D.seen self.old }
+        requires stamps { stamps_of self.old + length ids.now ≤ last_number }
+        ensures deletes { Deletes D.seen D.faults result user.now ids.now self.old self.new }
+        ensures settled { OnOk result (SettledBehind D.settled ids.now (disk_of self.old) (disk_of self.new)) }
+        ensures told { IsToldAlike (D.seen (disk_of self.old)) (D.seen (disk_of self.new)) }
+        ensures plan { plan_of self.new ≡ plan_of self.old }
+        ensures tickets { tickets_of self.new ≡ tickets_of self.old }
+        ensures standing { self.new.standing ≡ self.old.standing }
+        ensures book { self.new.book ≡ self.old.book }
+    {
+        let end = self.journal.gate();
+        let before = self.stamps;
+        let drawn = drawn_through(self.drawn, ids);
+        let stamps = before + ids.len() as u64;
+        match append_gone(alloc, &mut self.journal, &mut self.disk, user, ids, before) {
+            Ok(()) => {
+                self.drawn = drawn;
+                self.stamps = stamps;
+                self.index.remove(user, ids);
+                Ok(())
+            }
+            Err(DeliverFault::NoMemory) if self.journal.gate() == end => {
+                Err(DeliverFault::NoMemory)
+            }
+            Err(DeliverFault::NoMemory) => {
+                self.drawn = drawn;
+                self.stamps = stamps;
+                self.up = false;
+                Err(DeliverFault::NoMemory)
+            }
+            Err(DeliverFault::Disk) => {
+                self.drawn = drawn;
+                self.stamps = stamps;
+                self.up = false;
+                Err(DeliverFault::Disk)
+            }
+        }
+    }
+
+    // Deletes the user's copies of these messages, where the node is up and has numbers left.
+    pub(crate) fn strike(&mut self, alloc: Global, user: Name, ids: Ids) -> Result<Said, StepFault>
+        requires up { IsTrue (is_up self.old) }
+        requires gate { ShowsGate D.seen self.old }
+        requires stamps { stamps_of self.old + length ids ≤ last_number }
+        requires tickets { tickets_of self.old < last_number }
+        ensures did { (node : ℕ) → HasNodes (plan_of self.old) node (Call.Strike user ids)
+            → BeginDid D.seen D.faults result node (Call.Strike user ids) self.old self.new }
+        ensures settled { IfOk result (λ said. SettledByStrike D.settled said ids self.old self.new) }
+        ensures told { IsToldAlike (D.seen (disk_of self.old)) (D.seen (disk_of self.new)) }
+    {
+        // So that the book can tell of the deletion whatever becomes of it.
+        let entries = struck(alloc, &user, ids.as_slice())?;
+        self.book.reserve(entries.len() + 1)?;
+        self.standing.reserve(1)?;
+        match self.delete(alloc, &user, ids.as_slice()) {
+            Ok(()) => {
+                self.book.add_all(entries);
+                Ok(self.stand(Pending::Struck { user, ids }))
+            }
+            Err(DeliverFault::Disk) => {
+                self.book.add_all(entries);
+                self.go_down(alloc);
+                Ok(Said::Faulted(first_node()))
+            }
+            Err(DeliverFault::NoMemory) if self.up => Err(StepFault::NoMemory { down: None }),
+            Err(DeliverFault::NoMemory) => {
+                self.book.add_all(entries);
+                self.go_down(alloc);
+                Err(StepFault::NoMemory {
+                    down: Some(first_node()),
+                })
+            }
+        }
+    }
+}

@@ -1,0 +1,232 @@
+// Deletions.
+ghost use Rattle.std.specs.Prelude.{IsTrue};
+ghost use Rattle.cluster_world.specs.World.{ShowsGate, is_up};
+
+use super::full_disk::FullDisk;
+use super::reading::{answer, fetch, gives, is_gone, lists, login, odd, store_three};
+use super::{begin, first_node, id_of, is_begun, is_faulted, is_refused, name, plan, step};
+use crate::{Answer, Call, Entry, Step, StepFault, World};
+use io_edge::faulty::FaultyDisk;
+use io_edge::{Disk, PlainDisk};
+use mail_base::{Ids, MsgId, NodeNo, Stamp};
+use std::alloc::{AllocError, Global};
+use std::test::Fail;
+
+fn ids_of(alloc: Global, numbers: &[u64]) -> Result<Ids, AllocError> {
+    let mut ids = Ids::new(alloc);
+    for number in numbers {
+        ids.push(id_of(*number))?;
+    }
+    Ok(ids)
+}
+
+fn strike(alloc: Global, user: &[u8], numbers: &[u64]) -> Result<Call, AllocError> {
+    let user = name(alloc, user)?;
+    let ids = ids_of(alloc, numbers)?;
+    Ok(Call::Strike { user, ids })
+}
+
+// Whether the deletion of the ticket's number is done.
+fn drops<D: Disk>(alloc: Global, world: &mut World<D>, seq: u64, call: Call) -> bool
+    requires { IsTrue (is_up world.old) → ShowsGate D.seen world.old }
+    ensures { IsTrue (is_up world.new) → ShowsGate D.seen world.new }
+{
+    let Some(answer) = answer(alloc, world, seq, call) else {
+        return false;
+    };
+    match answer {
+        Answer::Stored { .. } => false,
+        Answer::Listed { .. } => false,
+        Answer::Wrong { .. } => false,
+        Answer::Part { .. } => false,
+        Answer::GoneAlready => false,
+        Answer::Dropped => true,
+    }
+}
+
+// The number of the message that the delivery of the ticket's number stored; 0 where it did not.
+fn stored<D: Disk>(alloc: Global, world: &mut World<D>, seq: u64, call: Call) -> u64
+    requires { IsTrue (is_up world.old) → ShowsGate D.seen world.old }
+    ensures { IsTrue (is_up world.new) → ShowsGate D.seen world.new }
+{
+    let Some(answer) = answer(alloc, world, seq, call) else {
+        return 0;
+    };
+    match answer {
+        Answer::Stored { id, confirmers: _ } => id.seq(),
+        Answer::Listed { .. } => 0,
+        Answer::Wrong { .. } => 0,
+        Answer::Part { .. } => 0,
+        Answer::GoneAlready => 0,
+        Answer::Dropped => 0,
+    }
+}
+
+// Whether bob's copy of the message is to be deleted by this entry.
+fn is_struck(entry: &Entry, number: u64) -> bool {
+    match entry {
+        Entry::Acked { .. } => false,
+        Entry::Struck { user, id } => user.octets() == b"bob".as_slice() && *id == id_of(number),
+        Entry::Dropped { .. } => false,
+        Entry::Down { node: _ } => false,
+    }
+}
+
+// Whether the deletion of bob's copy of the message is confirmed by this entry.
+fn is_dropped(entry: &Entry, number: u64) -> bool {
+    match entry {
+        Entry::Acked { .. } => false,
+        Entry::Struck { .. } => false,
+        Entry::Dropped {
+            user,
+            id,
+            confirmers,
+        } => user.octets() == b"bob".as_slice() && *id == id_of(number) && confirmers.mask() == 1,
+        Entry::Down { node: _ } => false,
+    }
+}
+
+// Whether the book says behind four copies that bob's first and third message are to be deleted, and then, where the node
+// went down, that it did.
+fn books_both(entries: &[Entry], down: bool) -> bool {
+    match entries {
+        [_, _, _, _, first, third] => !down && is_struck(first, 1) && is_struck(third, 3),
+        [_, _, _, _, first, third, last] => {
+            down && is_struck(first, 1)
+                && is_struck(third, 3)
+                && matches!(last, Entry::Down { node } if *node == first_node())
+        }
+        _ => false,
+    }
+}
+
+fn is_open(octets: &[u8], gate: usize) -> bool {
+    gate < octets.len() && octets[gate] == 0xa5
+}
+
+#[test]
+fn messages_are_deleted(rt: HostRuntime) -> Result<(), Fail> {
+    let alloc = rt.alloc();
+    let Ok(mut world) = World::open(alloc, plan(alloc)?, PlainDisk::new(alloc)) else {
+        panic!(rt; "no world");
+    };
+    store_three(alloc, &mut world)?;
+    assert!(rt; drops(alloc, &mut world, 4, strike(alloc, b"bob", &[1])?));
+    assert!(rt; lists(alloc, &mut world, 5, &[3])?);
+    assert!(rt; is_gone(alloc, &mut world, 6, fetch(alloc, b"bob", 1, 0, 1)?));
+    assert!(rt; gives(alloc, &mut world, 7, fetch(alloc, b"amy", 1, 0, 1)?, b"R"));
+    let entries = world.book().entries();
+    assert_eq!(rt; entries.len(), 6);
+    assert!(rt; is_struck(&entries[4], 1) && is_dropped(&entries[5], 1));
+    // A header of 16 octets, a record of 10, three of 156, five of 40, and a closed gate.
+    assert_eq!(rt; world.close().octets.len(), 695);
+    Ok(())
+}
+
+#[test]
+fn number_that_a_record_names_is_not_drawn(rt: HostRuntime) -> Result<(), Fail> {
+    let alloc = rt.alloc();
+    let Ok(mut world) = World::open(alloc, plan(alloc)?, PlainDisk::new(alloc)) else {
+        panic!(rt; "no world");
+    };
+    assert!(rt; drops(alloc, &mut world, 1, strike(alloc, b"bob", &[9, 2])?));
+    let call = Call::Deliver(odd(alloc, b"bob", b"")?);
+    assert_eq!(rt; stored(alloc, &mut world, 2, call), 10);
+    assert!(rt; is_gone(alloc, &mut world, 3, fetch(alloc, b"bob", 9, 0, 1)?));
+    let call = login(alloc, b"bob", b"open sesame")?;
+    let Some(Answer::Listed { items, .. }) = answer(alloc, &mut world, 4, call) else {
+        panic!(rt; "not listed");
+    };
+    assert_eq!(rt; items.len(), 1);
+    assert!(rt; items.as_slice()[0].stamp == Stamp::new(3, 1, 1));
+    Ok(())
+}
+
+#[test]
+fn node_of_each_message_is_of_the_plan(rt: HostRuntime) -> Result<(), Fail> {
+    let alloc = rt.alloc();
+    let Ok(mut world) = World::open(alloc, plan(alloc)?, PlainDisk::new(alloc)) else {
+        panic!(rt; "no world");
+    };
+    let mut ids = ids_of(alloc, &[1])?;
+    ids.push(MsgId::new(NodeNo::new(2).unwrap(), 1, 1).unwrap())?;
+    let user = name(alloc, b"bob")?;
+    let call = Call::Strike { user, ids };
+    let node = first_node();
+    let said = step(alloc, &mut world, Step::Begin { node, call });
+    assert!(rt; is_refused(&said, StepFault::NoSuchNode));
+    let said = begin(alloc, &mut world, 1);
+    assert!(rt; is_begun(&said, 1));
+    Ok(())
+}
+
+#[test]
+fn each_fault_of_a_deletion_leaves_a_front(rt: HostRuntime) -> Result<(), Fail> {
+    let alloc = rt.alloc();
+    // Six calls open the world, and twelve, eight and eight store the messages. Four write each state.
+    for call in 35..44u64 {
+        let disk = FaultyDisk::new(PlainDisk::new(alloc), call);
+        let Ok(mut world) = World::open(alloc, plan(alloc)?, disk) else {
+            panic!(rt; "no world");
+        };
+        store_three(alloc, &mut world)?;
+        let call_made = strike(alloc, b"bob", &[1, 3])?;
+        let node = first_node();
+        let said = step(
+            alloc,
+            &mut world,
+            Step::Begin {
+                node,
+                call: call_made,
+            },
+        );
+        let down = call < 43;
+        assert!(rt;
+            is_faulted(&said) == down && is_begun(&said, 4) != down,
+            "at {call}"
+        );
+        assert!(rt; world.is_up(first_node()) != down, "at {call}");
+        assert!(rt; books_both(world.book().entries(), down), "at {call}");
+        let disk = world.close();
+        let octets = disk.inner.octets.as_slice();
+        assert!(rt; is_open(octets, 654) == (call > 37), "at {call}");
+        assert!(rt; is_open(octets, 694) == (call > 41), "at {call}");
+        assert!(rt; !is_open(octets, 734), "at {call}");
+    }
+    Ok(())
+}
+
+#[test]
+fn deletion_finds_no_memory(rt: HostRuntime) -> Result<(), Fail> {
+    let alloc = rt.alloc();
+    // Two calls make room to open the world, and three, two and two for the messages.
+    for left in 9..12u64 {
+        let inner = PlainDisk::new(alloc);
+        let Ok(mut world) = World::open(alloc, plan(alloc)?, FullDisk { inner, left }) else {
+            panic!(rt; "no world");
+        };
+        store_three(alloc, &mut world)?;
+        let call = strike(alloc, b"bob", &[1, 3])?;
+        let node = first_node();
+        let said = step(alloc, &mut world, Step::Begin { node, call });
+        let unwritten = is_refused(&said, StepFault::NoMemory { down: None });
+        let down = Some(first_node());
+        let broken = is_refused(&said, StepFault::NoMemory { down });
+        assert!(rt;
+            unwritten == (left == 9) && broken == (left == 10),
+            "at {left}"
+        );
+        assert!(rt; is_begun(&said, 4) == (left == 11), "at {left}");
+        assert!(rt; world.is_up(first_node()) != broken, "at {left}");
+        let entries = world.book().entries();
+        assert!(rt;
+            entries.len() == 4 || books_both(entries, broken),
+            "at {left}"
+        );
+        assert!(rt;
+            !unwritten || lists(alloc, &mut world, 4, &[1, 3])?,
+            "at {left}"
+        );
+    }
+    Ok(())
+}
