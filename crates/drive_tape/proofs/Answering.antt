@@ -8,8 +8,8 @@ use Rattle.io_edge.proofs.Known.{appends_none, appends_more}
 use Rattle.mail_model.specs.Lines.{HasNoLf}
 use Rattle.mail_model.specs.Transcript as transcript
 use Rattle.mail_model.specs.Transcript.{entry_line, written_of}
-use Rattle.mail_model.specs.Site.{Site, session_at}
-use Rattle.mail_model.specs.Steps.{Hears, HearsSome, IsIdle, all_of}
+use Rattle.mail_model.specs.Site.{Site, Call, session_at}
+use Rattle.mail_model.specs.Steps.{Hears, HearsSome, Calls, IsIdle, all_of}
 use Rattle.mail_model.specs.Runs.{RunsShort, LeavesUnit, LeavesHearing}
 use Rattle.mail_model.proofs.OneLine.{hears_lines}
 use Rattle.cluster_world.specs.declared.world.World.{World}
@@ -82,13 +82,13 @@ left_hearing held0 held1 held2 k first now last written on left wrote = (
 
 -- what a unit leaves where memory ran out
 abbrev MayHaveHeard : ℕ → Site → Site → Type 0
-MayHaveHeard k now last = (last ≡ now) ⊎ ((entries : List transcript.Entry) × Hears now k entries last) ⊎ RunsShort now last
+MayHaveHeard k now last = (last ≡ now) ⊎ ((entries : List transcript.Entry) × Hears now k entries last) ⊎ ((call : Call) × Calls now k call × RunsShort now call last)
 
 short_unit : (k : ℕ) (now last : Site) → MayHaveHeard k now last → LeavesUnit now k [] last
 short_unit k now last left = ⊎_elim (λ (same : last ≡ now). inl (refl, same))
-    (λ (more : ((entries : List transcript.Entry) × Hears now k entries last) ⊎ RunsShort now last). ⊎_elim
+    (λ (more : ((entries : List transcript.Entry) × Hears now k entries last) ⊎ ((call : Call) × Calls now k call × RunsShort now call last)). ⊎_elim
     (λ (heard : (entries : List transcript.Entry) × Hears now k entries last). inr (inl (heard.0, heard.0, heard.1, refl)))
-    (λ (short : RunsShort now last). inr (inr (refl, short))) more)
+    (λ (short : (call : Call) × Calls now k call × RunsShort now call last). inr (inr (inl (refl, short)))) more)
     left
 
 pub hear_stops : {D : Type 0} (seen : D → Option (List ℕ)) (faults : D → ℕ) (held0 held1 : Option (List ℕ)) (k : ℕ) (cluster0 cluster1 cluster2 : Cluster D) (stop : Stop)

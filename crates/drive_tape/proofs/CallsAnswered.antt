@@ -13,7 +13,7 @@ use Rattle.mail_base.specs.declared.deliver.Deliver.{Deliver}
 use Rattle.mail_base.specs.declared.ticket.Ticket.{Ticket}
 use Rattle.cluster_world.specs.Journal.{IsToldAlike, HasGate}
 use Rattle.cluster_world.specs.Appends.{RecordsStand}
-use Rattle.cluster_world.specs.World.{is_up, drawn_of, standing_of, disk_of, gate_of, book_of, WorldHolds, Fits}
+use Rattle.cluster_world.specs.World.{is_up, drawn_of, stamps_of, standing_of, disk_of, gate_of, book_of, WorldHolds, Fits}
 use Rattle.cluster_world.specs.Steps.{Finds, IsAnswered, Settles, BeginDid, call_of, nth_filing, nth_ticket, entries_for}
 use Rattle.cluster_world.specs.declared.world.World.{World}
 use Rattle.cluster_world.specs.declared.step.Answer.{Answer}
@@ -33,7 +33,7 @@ alone_in [] behind x y is = (cc, cc)
 alone_in (b ∷ before) behind x y is = absurd (omega (arith, ap length is, length-append before (y ∷ behind)))
 
 -- the call that stood alone is settled, and none stands
-settled : {D : Type 0} (ticket : Ticket) (pending : Pending) (answer : Answer) (mid new : World D) → standing_of mid ≡ call_of ticket pending ∷ []
+pub settled : {D : Type 0} (ticket : Ticket) (pending : Pending) (answer : Answer) (mid new : World D) → standing_of mid ≡ call_of ticket pending ∷ []
     → IsAnswered ticket answer mid new → (standing_of new ≡ []) × (Settles pending answer (book_of mid) (book_of new))
 settled ticket pending answer mid new stands a =
     let found = alone_in a.before a.behind (call_of ticket pending) (call_of ticket a.pending) (sym stands ∙ a.stood) in
@@ -57,8 +57,12 @@ stands_still seen other records gate place same at stands =
 module _ {D : Type 0} (seen : D → Option (List ℕ)) (faults : D → ℕ) (start : World D) (at : Site) (old new : World D) (is : IsAt seen faults start at old)
     (up : IsTrue (is_up old)) (told : IsToldAlike (seen (disk_of old)) (seen (disk_of new))) where
   -- the records once the message of number n + 1 is stored
-  abbrev stored_records : Mail → List ℕ → ℕ → List Record
-  stored_records mail octets n = at.records ++ message_records (nth_id (n + 1)) (nth_stamp (n + 1)) octets mail.mailboxes
+  abbrev stored_records : Mail → List ℕ → ℕ → ℕ → List Record
+  stored_records mail octets n m = at.records ++ message_records (nth_id (n + 1)) (nth_stamp (m + 1)) octets mail.mailboxes
+
+  -- what is said of the numbers of the world is said of those of the site
+  numbered : (P : ℕ → ℕ → Type 0) → P (drawn_of old) (stamps_of old) → P at.drawn at.stamps
+  numbered P said = subst (λ (m : ℕ). P at.drawn m) is.stamps (subst (λ (n : ℕ). P n (stamps_of old)) is.drawn said)
 
   -- a message that was delivered is stored
   pub stored_at : (deliver : Deliver) (answer : Answer) → IsAsked seen faults (call.Deliver deliver) answer old new
@@ -70,8 +74,8 @@ module _ {D : Type 0} (seen : D → Option (List ℕ)) (faults : D → ℕ) (sta
       let done = settled by.ticket (Filed (nth_filing (drawn_of old + 1) t.octets mail.mailboxes)) answer by.mid new
       (t.standing ∙ ap (λ (l : List Standing). l ++ call_of by.ticket (Filed (nth_filing (drawn_of old + 1) t.octets mail.mailboxes)) ∷ []) is.standing) a in
       let disk : seen (disk_of new) ≡ seen (disk_of by.mid) = ap seen a.disk in
-      let holds : WorldHolds seen (stored_records mail t.octets at.drawn) new =
-      subst (λ (n : ℕ). WorldHolds seen (stored_records mail t.octets n) new) is.drawn
+      let holds : WorldHolds seen (stored_records mail t.octets at.drawn at.stamps) new =
+      numbered (λ n m. WorldHolds seen (stored_records mail t.octets n m) new)
       (stands_still _ _ _ _ _ disk a.gate (t.holds at.records (is.holds up))) in
       let own : by.ticket ≡ nth_ticket (at.tickets + 1) = t.ticket_is ∙ ap (λ (n : ℕ). nth_ticket (n + 1)) is.tickets in (
         t.octets,
@@ -81,11 +85,12 @@ module _ {D : Type 0} (seen : D → Option (List ℕ)) (faults : D → ℕ) (sta
           tells = is.tells;
           up = a.up ∙ t.up ∙ sym up ∙ is.up;
           drawn = a.drawn ∙ t.drawn ∙ ap (λ (n : ℕ). n + 1) is.drawn;
+          stamps = a.stamps ∙ t.stamps ∙ ap (λ (n : ℕ). n + 1) is.stamps;
           tickets = a.tickets ∙ t.tickets ∙ ap (λ (n : ℕ). n + 1) is.tickets;
           standing = done.0;
           gate = λ _. shows_still _ _ _ _ disk a.gate t.gate;
           holds = λ _. holds;
-          fits = λ _. subst (λ (n : ℕ). Fits (stored_records mail t.octets n) new) is.drawn (a.fits _ (t.fits at.records (is.fits up)));
+          fits = λ _. numbered (λ n m. Fits (stored_records mail t.octets n m) new) (a.fits _ (t.fits at.records (is.fits up)));
           since = record {
             made = makes_both seen faults start at old is.since.made (Delivers mail) (call.Deliver deliver) refl by.ticket by.mid new by.begun own (Ok (Asked answer)) by.asked;
             book = done.1.1 ∙ ap (λ (es : List BookEntry). es ++ entries_for (nth_filing (drawn_of old + 1) t.octets mail.mailboxes) 1) (t.book ∙ is.since.book)
@@ -116,6 +121,7 @@ module _ {D : Type 0} (seen : D → Option (List ℕ)) (faults : D → ℕ) (sta
           tells = is.tells;
           up = a.up ∙ f.up ∙ sym up ∙ is.up;
           drawn = a.drawn ∙ f.drawn ∙ is.drawn;
+          stamps = a.stamps ∙ f.stamps ∙ is.stamps;
           tickets = a.tickets ∙ f.tickets ∙ ap (λ (n : ℕ). n + 1) is.tickets;
           standing = settles.0;
           gate = λ _. shows_still _ _ _ _ disk gate (is.gate up);

@@ -21,6 +21,7 @@ left_at seen faults start at old new is up one own same = subst (λ (w : World _
   tells = is.tells;
   up = is.up;
   drawn = is.drawn;
+  stamps = is.stamps;
   tickets = is.tickets;
   standing = is.standing;
   gate = is.gate;

@@ -15,7 +15,7 @@ use Rattle.mail_model.specs.Site as site
 use Rattle.mail_model.specs.Site.{Site, Conversation, session_at, replace, count_on}
 use Rattle.mail_model.specs.Site.Call.{LogsIn, Fetches}
 use Rattle.mail_model.specs.Site.Conversation.{OnPop}
-use Rattle.mail_model.specs.Steps.{Leads, said_lines, login_answer, login_after}
+use Rattle.mail_model.specs.Steps.{Leads, OutcomeCalls, said_lines, login_answer, login_after}
 use Rattle.mail_base.specs.Items.{item_seen}
 use Rattle.dot_text.specs.Dots.{AreLines}
 use Rattle.pop_session.specs.Messages as pop
@@ -30,7 +30,7 @@ use Rattle.drive_tape.specs.Entries.{entries_of}
 use Rattle.drive_tape.specs.Talks.{Converse}
 use Rattle.drive_tape.specs.Calls.{IsAt, LoggedIn, HasFetched, answered_by}
 use Rattle.drive_tape.specs.Cluster.{Shows}
-use Rattle.drive_tape.specs.Leads.{CallDid, Enters, FetchesMail}
+use Rattle.drive_tape.specs.Leads.{CallDid, Only, Enters, FetchesMail}
 use Rattle.drive_tape.proofs.Since.{at_moved}
 use Rattle.drive_tape.proofs.Talks.{at_place, set_same}
 use Rattle.drive_tape.proofs.Standing.{count_set}
@@ -73,7 +73,7 @@ module _ {D : Type 0} (seen : D → Option (List ℕ)) (faults : D → ℕ) (sta
   -- the secret is wrong
   pub stays_out : (E F : Type 0) (result : Result (List Entry) E) (reply : List (List ℕ)) (old new : Cluster D) → Shows seen faults start old at → at.up ≡ true → new.sessions ≡ old.sessions
       → LoggedIn {E = F} seen faults start (Ok None) user secret at new.world → reply ≡ answer_reply Wrong → IfOk result (λ entries. entries_of entries ≡ said_lines k reply)
-      → CallDid seen faults start result (Leads at k stage known more (AsksLogin user secret)) at new
+      → CallDid seen faults start result (OutcomeCalls known (AsksLogin user secret)) (Leads at k stage known more (AsksLogin user secret)) at new
   stays_out E F result reply old new shows up same logged wrong says =
       let is = wrong_login logged.0 in
       let now = answered Wrong known in
@@ -81,7 +81,7 @@ module _ {D : Type 0} (seen : D → Option (List ℕ)) (faults : D → ℕ) (sta
       let still : replace at.sessions k now ≡ at.sessions = set_same at.sessions (k - 1) now (at_place at.sessions k now here) in
       let talks : Converse old.sessions.talkers.items (replace at.sessions k now) = rw still shows.talks in
       let Told : List (List ℕ) → Type 0 = λ l. Leads at k stage known more (AsksLogin user secret) (said_lines k l) last in
-      tells seen faults start (Leads at k stage known more (AsksLogin user secret)) at last (said_lines k reply) result new
+      tells seen faults start (OutcomeCalls known (AsksLogin user secret)) (Leads at k stage known more (AsksLogin user secret)) at last (said_lines k reply) result new
       (subst Told (sym wrong) (login_leads Wrong known is.0 is.1))
       (shows_by seen faults start new last (at_moved seen faults start (answered_by at (LogsIn user secret)) new.world (replace at.sessions k now) at.acks logged.1) up
       (rw same talks) (ap (λ s. s.standing) same ∙ shows.count ∙ sym (stands_still stage known)))
@@ -95,7 +95,7 @@ module _ {D : Type 0} (seen : D → Option (List ℕ)) (faults : D → ℕ) (sta
       → Leads at k stage known more (AsksLogin user secret) (said_lines k (answer_reply (Listed (map item_seen entered.items)))) (entered_site at k user secret (entered_now entered))
       → IsAt seen faults start (entered_site at k user secret (entered_now entered)) new.world → at.up ≡ true → new.sessions.standing ≡ count_on at.sessions
       → IfOk result (λ entries. Enters (entries_of entries) k name entered stage more at.sessions new.sessions)
-      → CallDid seen faults start result (Leads at k stage known more (AsksLogin user secret)) at new
+      → CallDid seen faults start result (OutcomeCalls known (AsksLogin user secret)) (Leads at k stage known more (AsksLogin user secret)) at new
   let_in (Ok entries) name entered new same leads is up count enters =
       let last = entered_site at k user secret (entered_now entered) in
       let Told : List transcript.Entry → Type 0 = λ es. Leads at k stage known more (AsksLogin user secret) es last in
@@ -111,7 +111,7 @@ module _ {D : Type 0} (seen : D → Option (List ℕ)) (faults : D → ℕ) (sta
       → session_at sessions k ≡ Some (OnPop stage known more) → entered.ticket ≡ nth_ticket entered.ticket.seq
       → IfOk result (λ entries. Enters (entries_of entries) k name entered stage more sessions new.sessions))
       → new.sessions.standing ≡ old.sessions.standing
-      → CallDid seen faults start result (Leads at k stage known more (AsksLogin user secret)) at new
+      → CallDid seen faults start result (OutcomeCalls known (AsksLogin user secret)) (Leads at k stage known more (AsksLogin user secret)) at new
   is_in E F result name entered old new mid shows up same world logged_mid enters count =
       let logged = subst (λ (w : World D). LoggedIn {E = F} seen faults start (Ok (Some entered)) user secret at w) (sym world) logged_mid in
       let seq : entered.ticket.seq ≡ at.tickets + 1 = ap (λ (t : Ticket). t.seq) logged.1 in
@@ -126,9 +126,9 @@ module _ {D : Type 0} (seen : D → Option (List ℕ)) (faults : D → ℕ) (sta
 module _ {D : Type 0} (seen : D → Option (List ℕ)) (faults : D → ℕ) (start : World D) (k : ℕ) (user : List ℕ) (id : Id) (at : Site) where
   pub shown : (E F : Type 0) (octets : List ℕ) (reply : List (List ℕ)) (result : Result (List Entry) E) (old new : Cluster D) → Shows seen faults start old at → at.up ≡ true → new.sessions ≡ old.sessions
       → HasFetched {E = F} seen faults start (Ok (fetched.Whole octets)) user id at new.world → pop.ShowsMessage octets reply → IfOk result (λ entries. entries_of entries ≡ said_lines k reply)
-      → CallDid seen faults start result (FetchesMail at k user id) at new
+      → CallDid seen faults start result (Only (Fetches user id)) (FetchesMail at k user id) at new
   shown E F octets reply result old new shows up same found message says =
-      tells seen faults start (FetchesMail at k user id) at (answered_by at (Fetches user id)) (said_lines k reply) result new
+      tells seen faults start (Only (Fetches user id)) (FetchesMail at k user id) at (answered_by at (Fetches user id)) (said_lines k reply) result new
       (inl (record {
         octets = octets;
         as_filed = found.0;
@@ -142,8 +142,8 @@ module _ {D : Type 0} (seen : D → Option (List ℕ)) (faults : D → ℕ) (sta
 
   pub gone : (E F : Type 0) (reply : List (List ℕ)) (result : Result (List Entry) E) (old new : Cluster D) → Shows seen faults start old at → at.up ≡ true → new.sessions ≡ old.sessions
       → HasFetched {E = F} seen faults start (Ok fetched.Gone) user id at new.world → reply ≡ answer_reply GoneAlready → IfOk result (λ entries. entries_of entries ≡ said_lines k reply)
-      → CallDid seen faults start result (FetchesMail at k user id) at new
+      → CallDid seen faults start result (Only (Fetches user id)) (FetchesMail at k user id) at new
   gone E F reply result old new shows up same found is says =
-      tells seen faults start (FetchesMail at k user id) at (answered_by at (Fetches user id)) (said_lines k reply) result new
+      tells seen faults start (Only (Fetches user id)) (FetchesMail at k user id) at (answered_by at (Fetches user id)) (said_lines k reply) result new
       (inr (inl (record { gone = found.0; says = ap (said_lines k) is; new_site = refl })))
       (shows_by seen faults start new (answered_by at (Fetches user id)) found.1 up (rw same shows.talks) (rw same shows.count)) says

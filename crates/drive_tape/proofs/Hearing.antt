@@ -5,14 +5,15 @@ use Rattle.mail_model.specs.Transcript as transcript
 use Rattle.mail_model.specs.Site as site
 use Rattle.mail_model.specs.Site.{Site, Conversation, Call, session_at, replace, is_on, protocol_of, down_entries, all_over, count_on}
 use Rattle.mail_model.specs.Site.Conversation.{OnSmtp, OnPop}
-use Rattle.mail_model.specs.Steps.{Hears, Falls, IsIdle}
+use Rattle.mail_model.specs.Record.{Record}
+use Rattle.mail_model.specs.Steps.{Hears, Calls, MayWrite, Falls, IsIdle}
 use Rattle.mail_model.specs.Runs.{RunsShort}
 use Rattle.cluster_world.specs.World.{is_up, plan_of}
 use Rattle.cluster_world.specs.declared.world.World.{World}
 use Rattle.drive_tape.specs.declared.cluster.Cluster.{Cluster}
 use Rattle.drive_tape.specs.declared.sessions.Sessions.{Sessions}
 use Rattle.drive_tape.specs.declared.talker.Heard.{Heard}
-use Rattle.drive_tape.specs.declared.talker.Heard.TheVariants.{Idle, Said, Closed, Files, Shown, Left, LogsIn, Fetches}
+use Rattle.drive_tape.specs.declared.talker.Heard.TheVariants.{Idle, Said, Closed, Files, Shown, Left, LogsIn, Fetches, Deletes}
 use Rattle.drive_tape.specs.Talks.{Converse, Leads, SessionsHear, closes}
 use Rattle.drive_tape.specs.Calls.{IsSince, fallen_by}
 use Rattle.drive_tape.specs.Cluster.{Shows}
@@ -32,6 +33,7 @@ is_idle (Shown reply) = false
 is_idle (Left reply login) = false
 is_idle (LogsIn user secret) = false
 is_idle (Fetches user id) = false
+is_idle (Deletes user ids) = false
 
 -- the site with another conversation of session k
 abbrev pub behind_site : Site → ℕ → Conversation → Site
@@ -55,6 +57,7 @@ goes plan (OnSmtp talk pending) after (Shown reply) busy leads = absurd leads
 goes plan (OnSmtp talk pending) after (Left reply login) busy leads = absurd leads
 goes plan (OnSmtp talk pending) after (LogsIn user secret) busy leads = absurd leads
 goes plan (OnSmtp talk pending) after (Fetches user id) busy leads = absurd leads
+goes plan (OnSmtp talk pending) after (Deletes user ids) busy leads = absurd leads
 goes plan (OnPop stage known pending) after Idle busy leads = absurd (cc)
 goes plan (OnPop stage known pending) after (Said reply) busy leads = absurd leads
 goes plan (OnPop stage known pending) after (Closed reply) busy leads = absurd leads
@@ -63,6 +66,7 @@ goes plan (OnPop stage known pending) after (Shown reply) busy leads = goes_on _
 goes plan (OnPop stage known pending) after (Left reply login) busy leads = goes_on _ after _ (Left reply login) refl refl refl leads.after_is
 goes plan (OnPop stage known pending) after (LogsIn user secret) busy leads = goes_on _ after _ (LogsIn user secret) refl refl refl leads.after_is
 goes plan (OnPop stage known pending) after (Fetches user id) busy leads = goes_on _ after _ (Fetches user id) refl refl refl leads.goes.after_is
+goes plan (OnPop stage known pending) after (Deletes user ids) busy leads = goes_on _ after _ (Deletes user ids) refl refl refl leads.goes.after_is
 goes plan (site.Conversation.Over protocol) after heard busy leads = absurd (let no : true ≡ false = sym (ap is_idle leads.0) ∙ busy in cc)
 
 -- Session k heard this, and the cluster is at the site behind it.
@@ -120,6 +124,14 @@ heard_none {D} seen faults start old sessions at plan k shows up hear count = �
     (rw found.2 same.1, shows_moved seen faults start old sessions at at.sessions shows (sym shows.at.up ∙ up) talks (count ∙ shows.count)))
     hear
 
+-- what a call may write is of no session
+wrote_behind : (call : Call) (at : Site) (sessions : List Conversation) (added : List Record) → MayWrite call (record at { sessions = sessions }) added → MayWrite call at added
+wrote_behind (site.Call.Delivers mail) at sessions added wrote = wrote
+wrote_behind (site.Call.LogsIn user secret) at sessions added wrote = wrote
+wrote_behind (site.Call.Fetches user id) at sessions added wrote = wrote
+wrote_behind (site.Call.Strikes user ids) at sessions added wrote = wrote
+wrote_behind (site.Call.Leaves login) at sessions added wrote = wrote
+
 -- the fall of the node behind what a session heard is one before it
 pub falls_behind : (at : Site) (k : ℕ) (one after : Conversation) (call : Call) (entries : List transcript.Entry) (last : Site) → session_at at.sessions k ≡ Some one
     → is_on after ≡ is_on one → protocol_of after ≡ protocol_of one → Falls (behind_site at k after) call entries last → Falls at call entries last
@@ -127,28 +139,30 @@ falls_behind at k one after call entries last here on alike falls =
     let place = at_place at.sessions k one here in
     record {
       added = falls.added;
-      wrote = falls.wrote;
+      wrote = wrote_behind call at (replace at.sessions k after) falls.added falls.wrote;
+      stamps = falls.stamps;
       tickets = falls.tickets;
       says = falls.says ∙ ap (λ (l : List transcript.Entry). transcript.Entry.Event (codes "fault 1") ∷ l) (down_set 1 at.sessions (k - 1) one after place on alike);
       new_site = falls.new_site
-          ∙ ap (λ (l : List Conversation). record (fallen_by at call falls.added falls.tickets) { sessions = l }) (over_set at.sessions (k - 1) one after place alike);
+          ∙ ap (λ (l : List Conversation). record (fallen_by at call falls.added falls.stamps falls.tickets) { sessions = l }) (over_set at.sessions (k - 1) one after place alike);
     }
 
 -- memory ran out behind what a session heard
-short_behind : {D : Type 0} (seen : D → Option (List ℕ)) (faults : D → ℕ) (start : World D) (at : Site) (k : ℕ) (after : Conversation) (last : Site) (world : World D)
-    → RunsShort (behind_site at k after) last → IsSince seen faults start last world → (other : Site) × RunsShort at other × IsSince seen faults start other world
-short_behind {D} seen faults start at k after last world short since =
+short_behind : {D : Type 0} (seen : D → Option (List ℕ)) (faults : D → ℕ) (start : World D) (at : Site) (k : ℕ) (after : Conversation) (call : Call) (last : Site) (world : World D)
+    → RunsShort (behind_site at k after) call last → IsSince seen faults start last world → (other : Site) × RunsShort at call other × IsSince seen faults start other world
+short_behind {D} seen faults start at k after call last world short since =
     let other = record last { sessions = at.sessions } in (
       other,
       record {
-        call = short.call;
         added = short.added;
-        wrote = short.wrote;
+        wrote = wrote_behind call at (replace at.sessions k after) short.added short.wrote;
         drawn = short.drawn;
+        noted = short.noted;
+        stamps = short.stamps;
         tickets = short.tickets;
         downs = short.downs;
         asks = short.asks;
-        drew = short.drew;
+        began = short.began;
         went = short.went;
         asked = short.asked;
         new_site = ap (λ (s : Site). record s { sessions = at.sessions }) short.new_site;
@@ -163,14 +177,15 @@ module _ {D : Type 0} (seen : D → Option (List ℕ)) (faults : D → ℕ) (sta
       → (last : Site) × Hears at k entries last × Shows seen faults start new last
   called entries did = (did.0, hears entries did.0 did.1, did.2)
 
-  pub not_called : StopsShort seen faults start LeadsTo (behind_site at k after) new.world → StopsShort seen faults start (Hears at k) at new.world
-  not_called did = ⊎_elim
+  pub not_called : (MayBegin : Call → Type 0) → ((call : Call) → MayBegin call → Calls at k call) → StopsShort seen faults start MayBegin LeadsTo (behind_site at k after) new.world
+      → StopsShort seen faults start (Calls at k) (Hears at k) at new.world
+  not_called MayBegin calls did = ⊎_elim
       (λ (same : did.0 ≡ behind_site at k after).
       (at, inl refl, since_moved seen faults start (behind_site at k after) new.world at.sessions at.acks (subst (λ (s : Site). IsSince seen faults start s new.world) same did.2)))
-      (λ (more : ((entries : List transcript.Entry) × LeadsTo entries did.0) ⊎ RunsShort (behind_site at k after) did.0). ⊎_elim
+      (λ (more : ((entries : List transcript.Entry) × LeadsTo entries did.0) ⊎ ((call : Call) × MayBegin call × RunsShort (behind_site at k after) call did.0)). ⊎_elim
       (λ (led : (entries : List transcript.Entry) × LeadsTo entries did.0). (did.0, inr (inl (led.0, hears led.0 did.0 led.1)), did.2))
-      (λ (short : RunsShort (behind_site at k after) did.0).
-      let other = short_behind seen faults start at k after did.0 new.world short did.2 in
-      (other.0, inr (inr other.1), other.2))
+      (λ (short : (call : Call) × MayBegin call × RunsShort (behind_site at k after) call did.0).
+      let other = short_behind seen faults start at k after short.0 did.0 new.world short.2 did.2 in
+      (other.0, inr (inr (short.0, calls short.0 short.1, other.1)), other.2))
       more)
       did.1

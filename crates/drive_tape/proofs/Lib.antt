@@ -6,6 +6,7 @@ mod CallsFallen
 mod CallsLeft
 mod CallsRead
 mod CallsShort
+mod CallsStruck
 mod Talkers
 mod Since
 mod Talks
@@ -14,6 +15,7 @@ mod Taking
 mod Hearing
 mod Mailing
 mod Reading
+mod Deleting
 mod Calling
 mod Entering
 mod Orders
@@ -22,5 +24,7 @@ pub mod Runs
 pub mod Parts
 mod Answering
 pub mod Turn
+mod Driven
 mod Booked
+mod Marked
 mod Heads

@@ -8,10 +8,10 @@ use Rattle.mail_model.specs.Session.{Talk, reply_text, after_unit, carries_mail}
 use Rattle.mail_model.specs.Session.Unit.{Text}
 use Rattle.mail_model.specs.Told.{Mail, mail_of}
 use Rattle.mail_model.specs.Site as site
-use Rattle.mail_model.specs.Site.{Site, Conversation, replace, closed_event}
+use Rattle.mail_model.specs.Site.{Site, Call, Conversation, replace, closed_event}
 use Rattle.mail_model.specs.Site.Conversation.{OnSmtp, OnPop}
 use Rattle.mail_model.specs.Site.Call.{Delivers}
-use Rattle.mail_model.specs.Steps.{Hears, Replies, Falls, Stores, IsNext}
+use Rattle.mail_model.specs.Steps.{Hears, Calls, Replies, Falls, Stores, IsNext}
 use Rattle.mail_base.specs.declared.deliver.Deliver.{Deliver}
 use Rattle.mail_base.specs.Delivers.{mail_in}
 use Rattle.smtp_session.specs.declared.reply.Reply.{Reply}
@@ -20,7 +20,7 @@ use Rattle.cluster_world.specs.declared.world.World.{World}
 use Rattle.drive_tape.specs.declared.cluster.Cluster.{Cluster}
 use Rattle.drive_tape.specs.declared.talker.Heard.TheVariants as heard
 use Rattle.drive_tape.specs.Talks.{Leads, AnswersUnit, HandsOver}
-use Rattle.drive_tape.specs.Leads.{FilesMail, TellsStored}
+use Rattle.drive_tape.specs.Leads.{Only, FilesMail, TellsStored}
 use Rattle.drive_tape.proofs.Hearing.{Behind, behind_site, falls_behind}
 
 pub holds_at : {X : Type 0} (Y : Type 0) (b : Bool) → b ≡ true → X → MatchBool b X Y
@@ -112,3 +112,20 @@ module _ {D : Type 0} (seen : D → Option (List ℕ)) (faults : D → ℕ) (sta
   pub files_hears : (deliver : Deliver) (b : Behind seen faults start at k (heard.Files deliver) cluster) (entries : List transcript.Entry) (last : Site)
       → FilesMail (behind_site at k b.after) k (mail_in deliver) entries last → Hears at k entries last
   files_hears deliver b entries last filed = files_leads deliver b.one b.after entries last b.here b.leads filed
+
+  -- and the call that it led to is that of the session
+  files_call : (deliver : Deliver) (one after : Conversation) (call : Call) → site.session_at at.sessions k ≡ Some one
+      → Leads at.plan one (heard.Files deliver) after → Only (Delivers (mail_in deliver)) call → Calls at k call
+  files_call deliver (OnSmtp talk pending) after call here h is = inl (
+    talk,
+    h.lines,
+    h.more,
+    record { pending = pending; here = here; is_unit = h.is; whole = h.whole },
+    ap not h.small,
+    is ∙ ap Delivers h.mail,
+  )
+  files_call deliver (OnPop stage known pending) after call here leads is = absurd leads
+  files_call deliver (site.Conversation.Over protocol) after call here leads is = absurd (let no = leads.0 in cc)
+
+  pub files_calls : (deliver : Deliver) (b : Behind seen faults start at k (heard.Files deliver) cluster) (call : Call) → Only (Delivers (mail_in deliver)) call → Calls at k call
+  files_calls deliver b call is = files_call deliver b.one b.after call b.here b.leads is

@@ -7,28 +7,35 @@ use Rattle.mail_model.specs.Maildrop as maildrop
 use Rattle.mail_model.specs.Maildrop.{Stage, Outcome, line_outcome, after_line, after_answer}
 use Rattle.mail_model.specs.Maildrop.Outcome.{Answered, AsksLogin, AsksMessage}
 use Rattle.mail_model.specs.Site as site
-use Rattle.mail_model.specs.Site.{Site, Conversation, session_at, replace, closed_event}
+use Rattle.mail_model.specs.Site.{Site, Call, Conversation, session_at, replace, closed_event}
 use Rattle.mail_model.specs.Site.Conversation.{OnSmtp, OnPop}
 use Rattle.mail_model.specs.Site.Call.{Fetches}
 use Rattle.mail_model.specs.Steps as steps
-use Rattle.mail_model.specs.Steps.{Hears, Falls, said_lines, leaving, login_answer, login_after}
+use Rattle.mail_model.specs.Steps.{Hears, Calls, Falls, OutcomeCalls, said_lines, leaving, login_answer, login_after}
 use Rattle.cluster_world.specs.declared.world.World.{World}
 use Rattle.drive_tape.specs.declared.cluster.Cluster.{Cluster}
 use Rattle.drive_tape.specs.declared.talker.Login.{Login}
 use Rattle.drive_tape.specs.declared.talker.Heard.TheVariants as heard
 use Rattle.drive_tape.specs.Calls.{answered_by}
 use Rattle.drive_tape.specs.Talks.{Leads, LineLeads, Leaves, AsksFor, IsOwn}
-use Rattle.drive_tape.specs.Leads.{LeavesDrop, FetchesMail, TellsMessage, TellsGone}
+use Rattle.drive_tape.specs.Leads.{Only, LeavesDrop, FetchesMail, TellsMessage, TellsGone}
 use Rattle.drive_tape.proofs.Talks.{set_twice, replaced}
 use Rattle.drive_tape.proofs.Hearing.{Behind, behind_site, falls_behind}
 
 -- a line was heard
-heard_line : (at : Site) (k : ℕ) (stage : Stage) (known : Option site.Login) (pending : List ℕ) (outcome : Outcome) (entries : List transcript.Entry) (last : Site)
+pub heard_line : (at : Site) (k : ℕ) (stage : Stage) (known : Option site.Login) (pending : List ℕ) (outcome : Outcome) (entries : List transcript.Entry) (last : Site)
     → session_at at.sessions k ≡ Some (OnPop stage known pending) → (h : LineLeads at.plan stage pending outcome)
     → steps.Leads at k (after_line stage h.line) known h.more outcome entries last → Hears at k entries last
 heard_line at k stage known pending outcome entries last here h leads =
     let Of : Outcome → Type 0 = λ o. steps.Leads at k (after_line stage h.line) known h.more o entries last in
     inr (stage, known, h.line, h.more, record { pending = pending; here = here; one = h.one; whole = h.whole }, subst Of (sym h.leads) leads)
+
+-- a line that was heard makes this call
+pub heard_call : (at : Site) (k : ℕ) (stage : Stage) (known : Option site.Login) (pending : List ℕ) (outcome : Outcome) (call : Call)
+    → session_at at.sessions k ≡ Some (OnPop stage known pending) → LineLeads at.plan stage pending outcome → OutcomeCalls known outcome call → Calls at k call
+heard_call at k stage known pending outcome call here h calls =
+    let Of : Outcome → Type 0 = λ o. OutcomeCalls known o call in
+    inr (stage, known, h.line, h.more, record { pending = pending; here = here; one = h.one; whole = h.whole }, subst Of (sym h.leads) calls)
 
 -- the site behind an answer to a login, of a session that asked
 logged_in : (at : Site) (k : ℕ) (was : Conversation) (stage : Stage) (known : Option site.Login) (more user secret : List ℕ) (entries : List transcript.Entry) (last : Site)
@@ -103,6 +110,7 @@ module _ {D : Type 0} (seen : D → Option (List ℕ)) (faults : D → ℕ) (sta
     pub more : List ℕ
     pub here : session_at (replace at.sessions k after) k ≡ Some (OnPop stage known more)
     pub hears : (entries : List transcript.Entry) (last : Site) → steps.Leads (behind_site at k after) k stage known more (AsksLogin user secret) entries last → Hears at k entries last
+    pub calls : (call : Call) → OutcomeCalls known (AsksLogin user secret) call → Calls at k call
 
   login_at : (user secret : List ℕ) (one after : Conversation) → session_at at.sessions k ≡ Some one → Leads at.plan one (heard.LogsIn user secret) after → AtLogin user secret after
   login_at user secret (OnSmtp talk pending) after here leads = absurd leads
@@ -113,6 +121,7 @@ module _ {D : Type 0} (seen : D → Option (List ℕ)) (faults : D → ℕ) (sta
     here = replaced at.sessions k (OnPop stage known pending) after here ∙ ap Some leads.after_is;
     hears = λ entries last led. heard_line at k stage known pending (AsksLogin user secret) entries last here leads.heard
         (logged_in at k after (after_line stage leads.heard.line) known leads.heard.more user secret entries last led);
+    calls = λ call is. heard_call at k stage known pending (AsksLogin user secret) call here leads.heard is;
   }
   login_at user secret (site.Conversation.Over protocol) after here leads = absurd (let no = leads.0 in cc)
 
@@ -141,3 +150,15 @@ module _ {D : Type 0} (seen : D → Option (List ℕ)) (faults : D → ℕ) (sta
   pub fetches_hears : (user : List ℕ) (id : Id) (b : Behind seen faults start at k (heard.Fetches user id) cluster) (entries : List transcript.Entry) (last : Site)
       → FetchesMail (behind_site at k b.after) k user id entries last → Hears at k entries last
   fetches_hears user id b entries last found = fetches_leads user id b.one b.after entries last b.here b.leads found
+
+  fetches_call : (user : List ℕ) (id : Id) (one after : Conversation) (call : Call) → session_at at.sessions k ≡ Some one → Leads at.plan one (heard.Fetches user id) after
+      → Only (Fetches user id) call → Calls at k call
+  fetches_call user id (OnSmtp talk pending) after call here leads is = absurd leads
+  fetches_call user id (OnPop stage known pending) after call here h is =
+      let OfKnown : Option site.Login → Type 0 = λ l. OutcomeCalls l (AsksMessage h.number id) call in
+      heard_call at k stage known pending (AsksMessage h.number id) call here h.goes.heard
+      (subst OfKnown (sym h.known_is) (is ∙ ap (λ (u : List ℕ). Fetches u id) h.user_is))
+  fetches_call user id (site.Conversation.Over protocol) after call here leads is = absurd (let no = leads.0 in cc)
+
+  pub fetches_calls : (user : List ℕ) (id : Id) (b : Behind seen faults start at k (heard.Fetches user id) cluster) (call : Call) → Only (Fetches user id) call → Calls at k call
+  fetches_calls user id b call is = fetches_call user id b.one b.after call b.here b.leads is

@@ -18,6 +18,7 @@ at_moved seen faults start site world sessions acks at = record {
   tells = at.tells;
   up = at.up;
   drawn = at.drawn;
+  stamps = at.stamps;
   tickets = at.tickets;
   standing = at.standing;
   gate = at.gate;

@@ -47,6 +47,7 @@ begins {D} seen faults plan cluster none count begun =
         tells = refl;
         up = begun.up;
         drawn = begun.drawn;
+        stamps = begun.stamps;
         tickets = begun.tickets;
         standing = begun.standing;
         gate = λ up. begun.gate;

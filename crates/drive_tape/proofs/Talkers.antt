@@ -8,11 +8,11 @@ use Rattle.mail_model.specs.Session.{Talk, reply_text, after_unit, is_long_line}
 use Rattle.mail_model.specs.Session.Unit.{Text}
 use Rattle.mail_model.specs.Tape as tape
 use Rattle.mail_model.specs.Pop.{Command, Fault, pop_command_of}
-use Rattle.mail_model.specs.Pop.Command.{User, Pass, Stat, Listing, Uidl, Retr, Quit}
+use Rattle.mail_model.specs.Pop.Command.{User, Pass, Stat, Listing, Uidl, Retr, Dele, Quit}
 use Rattle.mail_model.specs.Pop.Fault.{UnknownVerb, BadArgument, BadNumber}
 use Rattle.mail_model.specs.Maildrop as maildrop
-use Rattle.mail_model.specs.Maildrop.{Stage, line_outcome, command_outcome, after_line}
-use Rattle.mail_model.specs.Maildrop.Outcome.{AsksMessage, AsksLogin}
+use Rattle.mail_model.specs.Maildrop.{Stage, Outcome, line_outcome, command_outcome, after_line}
+use Rattle.mail_model.specs.Maildrop.Outcome.{Answered, AsksMessage, AsksLogin, AsksDeletion}
 use Rattle.mail_model.specs.Site as site
 use Rattle.mail_model.specs.Site.Conversation.{OnSmtp, OnPop}
 use Rattle.mail_base.specs.declared.deliver.Deliver.{Deliver}
@@ -64,43 +64,52 @@ module _ (plan : Plan) (old new : SmtpSession) where
 -- a line enters no session by itself
 entered_still : (stage : Stage) (line : List ℕ) (login : Option Login) → IsEntered stage login → IsEntered (after_line stage line) login
 entered_still (maildrop.Stage.Authorization user) line login entered = entered
-entered_still (maildrop.Stage.Transaction items) line None entered = entered
-entered_still (maildrop.Stage.Transaction items) line (Some login) entered = entered
+entered_still (maildrop.Stage.Transaction slots) line None entered = entered
+entered_still (maildrop.Stage.Transaction slots) line (Some login) entered = entered
 
--- before the login no command asks for a message
-unasked_command : (plan : Plan) (user : Option (List ℕ)) (command : Result Command Fault) (number : ℕ) (id : Id)
-    → command_outcome plan (maildrop.Stage.Authorization user) command ≡ AsksMessage number id → ⊥
-unasked_command plan user (Err UnknownVerb) number id is = cc
-unasked_command plan user (Err BadArgument) number id is = cc
-unasked_command plan user (Err BadNumber) number id is = cc
-unasked_command plan user (Ok (User name)) number id is = cc
-unasked_command plan None (Ok (Pass secret)) number id is = cc
-unasked_command plan (Some name) (Ok (Pass secret)) number id is = asked (is_user plan name) is
+-- whether what a line leads to is done for a user alone
+abbrev is_for_user : Outcome → Bool
+is_for_user (Answered lines) = false
+is_for_user (maildrop.Outcome.Closed lines) = false
+is_for_user (AsksLogin user secret) = false
+is_for_user (AsksMessage number id) = true
+is_for_user (AsksDeletion ids) = true
+
+-- before the login no command leads to that
+for_none_command : (plan : Plan) (user : Option (List ℕ)) (command : Result Command Fault) → is_for_user (command_outcome plan (maildrop.Stage.Authorization user) command) ≡ false
+for_none_command plan user (Err UnknownVerb) = refl
+for_none_command plan user (Err BadArgument) = refl
+for_none_command plan user (Err BadNumber) = refl
+for_none_command plan user (Ok (User name)) = refl
+for_none_command plan None (Ok (Pass secret)) = refl
+for_none_command plan (Some name) (Ok (Pass secret)) = asked (is_user plan name)
   where
-    asked : (known : Bool) → cond known (AsksLogin name secret) (maildrop.said maildrop.wrong_text) ≡ AsksMessage number id → ⊥
-    asked true is = cc
-    asked false is = cc
-unasked_command plan user (Ok Stat) number id is = cc
-unasked_command plan user (Ok (Listing wanted)) number id is = cc
-unasked_command plan user (Ok (Uidl wanted)) number id is = cc
-unasked_command plan user (Ok (Retr wanted)) number id is = cc
-unasked_command plan user (Ok Quit) number id is = cc
+    asked : (known : Bool) → is_for_user (cond known (AsksLogin name secret) (maildrop.said maildrop.wrong_text)) ≡ false
+    asked true = refl
+    asked false = refl
+for_none_command plan user (Ok Stat) = refl
+for_none_command plan user (Ok (Listing wanted)) = refl
+for_none_command plan user (Ok (Uidl wanted)) = refl
+for_none_command plan user (Ok (Retr wanted)) = refl
+for_none_command plan user (Ok (Dele wanted)) = refl
+for_none_command plan user (Ok Quit) = refl
 
 -- nor does a line
-unasked : (plan : Plan) (user : Option (List ℕ)) (line : List ℕ) (number : ℕ) (id : Id) → line_outcome plan (maildrop.Stage.Authorization user) line ≡ AsksMessage number id → ⊥
-unasked plan user line number id is = by_length (is_long_line line) is
+for_none : (plan : Plan) (user : Option (List ℕ)) (line : List ℕ) → is_for_user (line_outcome plan (maildrop.Stage.Authorization user) line) ≡ false
+for_none plan user line = by_length (is_long_line line)
   where
     by_length : (long : Bool)
-        → cond long (maildrop.said (codes "-ERR line too long")) (command_outcome plan (maildrop.Stage.Authorization user) (pop_command_of line)) ≡ AsksMessage number id → ⊥
-    by_length true is = cc
-    by_length false is = unasked_command plan user (pop_command_of line) number id is
+        → is_for_user (cond long (maildrop.said (codes "-ERR line too long")) (command_outcome plan (maildrop.Stage.Authorization user) (pop_command_of line))) ≡ false
+    by_length true = refl
+    by_length false = for_none_command plan user (pop_command_of line)
 
--- a session that asks for a message has a login
-has_login : (plan : Plan) (stage : Stage) (line : List ℕ) (login : Option Login) (number : ℕ) (id : Id) → IsEntered stage login
-    → AsksMessage number id ≡ line_outcome plan stage line → login ≡ None → ⊥
-has_login plan (maildrop.Stage.Authorization user) line login number id entered leads none = unasked plan user line number id (sym leads)
-has_login plan (maildrop.Stage.Transaction items) line None number id entered leads none = entered
-has_login plan (maildrop.Stage.Transaction items) line (Some login) number id entered leads none = cc
+-- a session that asks for a message, or has some deleted, has a login
+has_login : (plan : Plan) (stage : Stage) (line : List ℕ) (login : Option Login) (outcome : Outcome) → IsEntered stage login → is_for_user outcome ≡ true
+    → outcome ≡ line_outcome plan stage line → login ≡ None → ⊥
+has_login plan (maildrop.Stage.Authorization user) line login outcome entered asks leads none =
+    let both : true ≡ false = sym asks ∙ ap is_for_user leads ∙ for_none plan user line in cc
+has_login plan (maildrop.Stage.Transaction slots) line None outcome entered asks leads none = entered
+has_login plan (maildrop.Stage.Transaction slots) line (Some login) outcome entered asks leads none = cc
 
 -- a POP3 session with this login
 module _ (plan : Plan) (old new : PopSession) (login : Option Login) where
@@ -164,7 +173,27 @@ module _ (plan : Plan) (old new : PopSession) (login : Option Login) where
   pub reader_unasked : (number : ℕ) (id : Id) → login ≡ None → HearsAs (pop_heard.Fetches number id) → ReaderLeads plan old login heard.Idle new login
   reader_unasked number id none hears stage known pending reads =
       let h = hears stage pending reads.follows in
-      absurd (has_login plan stage h.line login number id reads.entered h.leads none)
+      absurd (has_login plan stage h.line login (AsksMessage number id) reads.entered refl h.leads none)
+
+  pub reader_deletes : (own : Login) (user : List ℕ) (ids : List Id) → login ≡ Some own → user ≡ own.user
+      → HearsAs (pop_heard.Deletes ids) → ReaderLeads plan old login (heard.Deletes user ids) new (Some own)
+  reader_deletes own user ids is same hears stage known pending reads =
+      let h = hears stage pending reads.follows in
+      let Of : Option Login → Type 0 = λ l. Reads new l (after_line stage h.line) known h.more in (
+        OnPop (after_line stage h.line) known h.more,
+        record {
+          login = login_seen own;
+          known_is = sym reads.login_is ∙ ap (option_map login_seen) is;
+          user_is = same;
+          goes = record { heard = record { line = h.line; more = h.more; one = h.first; whole = h.whole; leads = sym h.leads }; after_is = refl };
+        },
+        subst Of is (behind stage known pending h.line h.more reads h.follows),
+      )
+
+  pub reader_undeleted : (ids : List Id) → login ≡ None → HearsAs (pop_heard.Deletes ids) → ReaderLeads plan old login heard.Idle new login
+  reader_undeleted ids none hears stage known pending reads =
+      let h = hears stage pending reads.follows in
+      absurd (has_login plan stage h.line login (AsksDeletion ids) reads.entered refl h.leads none)
 
 -- a session of either kind
 pub next_mail : (plan : Plan) (old new : SmtpSession) (heard : Heard) (one : site.Conversation) (last : Talker) → Matches (Smtp old) one → MailLeads plan old heard new

@@ -7,12 +7,14 @@ use Rattle.cluster_world.specs.declared.world.World.{World}
 use Rattle.cluster_world.specs.declared.step.Answer.{Answer}
 use Rattle.cluster_world.specs.declared.step.Call.{Call}
 use Rattle.cluster_world.specs.declared.step.Said.TheVariants.{Begun, Asked, Faulted}
-use Rattle.cluster_world.specs.declared.step.StepFault.TheVariants.{Worn, NoMemory}
+use Rattle.cluster_world.specs.declared.step.StepFault.TheVariants.{NoSuchNode, Worn, NoMemory}
 
--- memory was wanting as the call began, or one of the numbers that it draws
+-- memory was wanting as the call began, or one of the numbers that it draws, or the node of a message
 abbrev pub BeganShort : {D : Type 0} → (D → Option (List ℕ)) → (D → ℕ) → Call → World D → World D → Type 0
 BeganShort seen faults call old new =
-    BeginDid seen faults (Err Worn) 1 call old new ⊎ ((down : Option ℕ) × BeginDid seen faults (Err (NoMemory down)) 1 call old new)
+    BeginDid seen faults (Err Worn) 1 call old new
+    ⊎ BeginDid seen faults (Err NoSuchNode) 1 call old new
+    ⊎ ((down : Option ℕ) × BeginDid seen faults (Err (NoMemory down)) 1 call old new)
 
 -- the call has begun and has this ticket; or the disk failed; or memory or a number was wanting
 abbrev pub Began : {D E : Type 0} → (D → Option (List ℕ)) → (D → ℕ) → Result (Option Ticket) E → Call → World D → World D → Type 0

@@ -2,8 +2,8 @@
 use Rattle.std.specs.Prelude.{◌≡◌, ◌⊎◌, ℕ, true, false, List, [], Option, Some, None, Result, Ok, Err}
 use Rattle.mail_model.specs.Tape as tape
 use Rattle.mail_model.specs.Transcript as transcript
-use Rattle.mail_model.specs.Site.{Site, refusal, session_at, count_on, all_over}
-use Rattle.mail_model.specs.Steps.{TakesUp, Hears, IsIdle}
+use Rattle.mail_model.specs.Site.{Site, Call, refusal, session_at, count_on, all_over}
+use Rattle.mail_model.specs.Steps.{TakesUp, Hears, Calls, IsIdle}
 use Rattle.mail_model.specs.Runs.{RunsShort}
 use Rattle.cluster_world.specs.World.{plan_of, is_up, ShowsGate}
 use Rattle.cluster_world.specs.declared.world.World.{World}
@@ -50,4 +50,5 @@ abbrev pub HeardNext : {D E : Type 0} → (D → Option (List ℕ)) → (D → �
 HeardNext seen faults start (Ok None) k old new = IsIdle (session_at old.sessions k) × Shows seen faults start new old
 HeardNext seen faults start (Ok (Some entries)) k old new = (site : Site) × Hears old k (entries_of entries) site × Shows seen faults start new site
 HeardNext seen faults start (Err _) k old new =
-    (last : Site) × ((last ≡ old) ⊎ ((entries : List transcript.Entry) × Hears old k entries last) ⊎ RunsShort old last) × IsSince seen faults start last new.world
+    (last : Site) × ((last ≡ old) ⊎ ((entries : List transcript.Entry) × Hears old k entries last) ⊎ ((begun : Call) × Calls old k begun × RunsShort old begun last))
+    × IsSince seen faults start last new.world

@@ -28,7 +28,7 @@ use Rattle.drive_tape.specs.declared.talker.Login.{Login}
 use Rattle.drive_tape.specs.declared.talker.Talker.{Talker}
 use Rattle.drive_tape.specs.declared.talker.Talker.TheVariants.{Smtp, Pop, Over}
 use Rattle.drive_tape.specs.declared.talker.Heard.{Heard}
-use Rattle.drive_tape.specs.declared.talker.Heard.TheVariants.{Idle, Said, Closed, Files, Shown, Left, LogsIn, Fetches}
+use Rattle.drive_tape.specs.declared.talker.Heard.TheVariants.{Idle, Said, Closed, Files, Shown, Left, LogsIn, Fetches, Deletes}
 
 -- a login, as the site has it
 abbrev pub login_seen : Login → site.Login
@@ -41,8 +41,8 @@ IsOwn login = IfSome login (λ own. own.ticket ≡ nth_ticket own.ticket.seq)
 -- a session is logged in exactly where it is in TRANSACTION
 abbrev pub IsEntered : Stage → Option Login → Type 0
 IsEntered (maildrop.Stage.Authorization user) login = login ≡ None
-IsEntered (maildrop.Stage.Transaction items) None = ⊥
-IsEntered (maildrop.Stage.Transaction items) (Some login) = ⊤
+IsEntered (maildrop.Stage.Transaction slots) None = ⊥
+IsEntered (maildrop.Stage.Transaction slots) (Some login) = ⊤
 
 -- a POP3 session that stands, as the site has it
 pub record Reads (session : PopSession) (login : Option Login) (stage : Stage) (known : Option site.Login) (pending : List ℕ) : Type 0 where
@@ -123,6 +123,7 @@ LeadsMail plan talk pending (Shown reply) after = ⊥
 LeadsMail plan talk pending (Left reply login) after = ⊥
 LeadsMail plan talk pending (LogsIn user secret) after = ⊥
 LeadsMail plan talk pending (Fetches user id) after = ⊥
+LeadsMail plan talk pending (Deletes user ids) after = ⊥
 
 -- the first line of the octets leads to this
 pub record LineLeads (plan : Plan) (stage : Stage) (pending : List ℕ) (outcome : maildrop.Outcome) : Type 0 where
@@ -152,6 +153,13 @@ pub record AsksFor (plan : Plan) (stage : Stage) (known : Option site.Login) (pe
   pub user_is : user ≡ login.user
   pub goes : GoesOn plan stage known pending (maildrop.Outcome.AsksMessage number id) after
 
+-- the first line asks that these messages of the user who is logged in be deleted
+pub record AsksToDelete (plan : Plan) (stage : Stage) (known : Option site.Login) (pending : List ℕ) (user : List ℕ) (ids : List Id) (after : Conversation) : Type 0 where
+  pub login : site.Login
+  pub known_is : known ≡ Some login
+  pub user_is : user ≡ login.user
+  pub goes : GoesOn plan stage known pending (maildrop.Outcome.AsksDeletion ids) after
+
 -- what the next line of a POP3 session leads to, and where that leaves it
 abbrev pub LeadsReader : Plan → Stage → Option site.Login → List ℕ → Heard → Conversation → Type 0
 LeadsReader plan stage known pending Idle after = HasNoCrlf pending × (after ≡ OnPop stage known pending)
@@ -162,6 +170,7 @@ LeadsReader plan stage known pending (Shown reply) after = GoesOn plan stage kno
 LeadsReader plan stage known pending (Left reply login) after = Leaves plan stage known pending reply login after
 LeadsReader plan stage known pending (LogsIn user secret) after = GoesOn plan stage known pending (maildrop.Outcome.AsksLogin user secret) after
 LeadsReader plan stage known pending (Fetches user id) after = AsksFor plan stage known pending user id after
+LeadsReader plan stage known pending (Deletes user ids) after = AsksToDelete plan stage known pending user ids after
 
 -- what the next octets of a session lead to, and where that leaves it
 abbrev pub Leads : Plan → Conversation → Heard → Conversation → Type 0
@@ -179,6 +188,7 @@ closes (Shown reply) = false
 closes (Left reply login) = true
 closes (LogsIn user secret) = false
 closes (Fetches user id) = false
+closes (Deletes user ids) = false
 
 -- the session behind what it heard
 abbrev pub after_heard : Heard → Talker → Talker

@@ -3,7 +3,7 @@ ghost use Rattle.std.specs.Prelude.{◌≡◌, ◌++◌, ◌∷◌, [], List, ma
 ghost use Rattle.mail_model.specs.Transcript as transcript;
 ghost use Rattle.mail_model.specs.Site.{closed_event};
 ghost use Rattle.mail_model.specs.Steps.{greeting, said_lines};
-ghost use Rattle.mail_model.specs.PopReplies.{down_text};
+ghost use Rattle.mail_model.specs.PopReplies.{down_text, listed_slots};
 ghost use Rattle.mail_base.specs.Items.{item_seen};
 ghost use Rattle.smtp_session.specs.Replies.{text_of};
 ghost use Rattle.tape_lines.specs.Orders.{protocol_seen};
@@ -193,7 +193,7 @@ pub(crate) fn falls(alloc: Global, talkers: &[Talker]) -> Result<Row<Entry>, All
 
 /// The messages that a session is to list: the id of each, and how many octets it has.
 pub(crate) fn listing_of(alloc: Global, items: &Items) -> Result<Listing, AllocError>
-    ensures { IfOk result (λ listing. listing ≡ map item_seen items.now) }
+    ensures { IfOk result (λ listing. listing ≡ listed_slots (map item_seen items.now)) }
 {
     let mut listing = Listing::new(alloc);
     for item in items.as_slice() {

@@ -1,5 +1,5 @@
 // The calls that the program makes of a world of one node.
-ghost use Rattle.std.specs.Prelude.{◌≡◌, ◌<◌, ◌^◌, IsTrue, true, List, ℕ};
+ghost use Rattle.std.specs.Prelude.{◌≡◌, ◌<◌, ◌^◌, IsTrue, IfOk, true, List, ℕ};
 ghost use Rattle.mail_model.specs.Site.{Site, Login};
 ghost use Rattle.mail_base.specs.Delivers.{mail_in};
 ghost use Rattle.cluster_world.specs.Journal.{IsToldAlike};
@@ -8,11 +8,11 @@ ghost use Rattle.cluster_world.specs.Steps.{IsNoted, nth_ticket};
 ghost use Rattle.cluster_world.specs.declared.world.World.{World as AWorld};
 ghost use Rattle.drive_tape.specs.declared.calls.Fetched.TheVariants as fetched;
 ghost use Rattle.drive_tape.specs.Asked.{Began, Stands, AskedFor, Answered};
-ghost use Rattle.drive_tape.specs.Calls.{IsAt, Delivered, LoggedIn, HasFetched, HasLeft};
+ghost use Rattle.drive_tape.specs.Calls.{IsAt, Delivered, LoggedIn, HasFetched, HasDeleted, HasLeft};
 
 use cluster_world::{Answer, Call, Said, Step, StepFault, World};
 use io_edge::Disk;
-use mail_base::{Deliver, Items, MsgId, Name, NodeNo, NodeSet, Octets, Proof, Ticket};
+use mail_base::{Deliver, Ids, Items, MsgId, Name, NodeNo, NodeSet, Octets, Proof, Ticket};
 use std::alloc::{AllocError, Global};
 
 /// What became of a message.
@@ -40,6 +40,15 @@ pub enum Fetched {
     Whole(Octets),
     /// The user's mailbox has no such message.
     Gone,
+    /// The disk failed, and the node is down.
+    Fallen,
+}
+
+/// What became of a deletion.
+#[derive(Clone, Copy, Debug, PartialEq, Eq)]
+pub enum Deletion {
+    /// Each of the messages is gone.
+    Dropped,
     /// The disk failed, and the node is down.
     Fallen,
 }
@@ -73,10 +82,11 @@ fn begin<D: Disk>(
         Err(StepFault::NoMemory { .. }) => Err(AllocError),
         // All numbers of 64 bits are used up, which no tape is long enough for: it is answered as want of memory.
         Err(StepFault::Worn) => Err(AllocError),
-        // The node is the plan's one and is up, the call has a ticket, and only an ask is answered.
+        // So is a message of another node than the plan's one, which has none in any listing.
+        Err(StepFault::NoSuchNode) => Err(AllocError),
+        // The node is up, the call has a ticket, and only an ask is answered.
         Ok(Said::Noted) => unreachable!(),
         Ok(Said::Asked(_)) => unreachable!(),
-        Err(StepFault::NoSuchNode) => unreachable!(),
         Err(StepFault::NodeDown) => unreachable!(),
         Err(StepFault::NoSuchTicket) => unreachable!(),
     }
@@ -184,6 +194,7 @@ pub fn log_in<D: Disk>(
         Some(Answer::Stored { .. }) => Ok(None),
         Some(Answer::Part { .. }) => Ok(None),
         Some(Answer::GoneAlready) => Ok(None),
+        Some(Answer::Dropped) => Ok(None),
         // No disk fails in a login.
         None => unreachable!(),
     }
@@ -233,7 +244,37 @@ pub fn fetch<D: Disk>(
         Some(Answer::Stored { .. }) => Ok(Fetched::Gone),
         Some(Answer::Listed { .. }) => Ok(Fetched::Gone),
         Some(Answer::Wrong { .. }) => Ok(Fetched::Gone),
+        Some(Answer::Dropped) => Ok(Fetched::Gone),
         None => Ok(Fetched::Fallen),
+    }
+}
+
+/// Deletes the user's copies of the messages: begins the deletion at node 1, and asks for it. Each of them is then gone
+/// on the disk, and the book says that it was to be deleted and that it was; or the disk failed, and the node is down.
+///
+/// # Errors
+///
+/// Want of memory. No message is gone; or all of them are, and the book says only that they were to be deleted; or the
+/// node is down, and some are. Also where the node has used up its numbers, which no tape is long enough for, and where
+/// a message is of another node.
+pub fn strike<D: Disk>(
+    world: &mut World<D>,
+    alloc: Global,
+    user: Name,
+    ids: Ids,
+) -> Result<Deletion, AllocError>
+    requires one { (plan_of world.old).nodes ≡ 1 }
+    requires up { IsTrue (is_up world.old) }
+    requires gate { ShowsGate D.seen world.old }
+    ensures deleted { (start : AWorld D) (site : Site) → IsAt D.seen D.faults start site world.old
+        → HasDeleted D.seen D.faults start result user ids site world.new }
+    ensures up { IfOk result (λ became. became ≡ Deletion.Dropped → IsTrue (is_up world.new)) }
+    ensures plan { plan_of world.new ≡ plan_of world.old }
+    ensures gate { is_up world.new ≡ true → ShowsGate D.seen world.new }
+{
+    match answer(world, alloc, Call::Strike { user, ids })? {
+        Some(_) => Ok(Deletion::Dropped),
+        None => Ok(Deletion::Fallen),
     }
 }
 

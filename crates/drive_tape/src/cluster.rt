@@ -5,6 +5,7 @@ ghost use Rattle.mail_model.specs.Transcript as transcript;
 ghost use Rattle.mail_model.specs.Maildrop.{Outcome as MaildropOutcome, Stage};
 ghost use Rattle.mail_model.specs.Plan.{Plan};
 ghost use Rattle.mail_model.specs.Site.{Site, Conversation, Login as SeenLogin, opening, session_at};
+ghost use Rattle.mail_model.specs.Site.Call.{Delivers, Fetches, Strikes};
 ghost use Rattle.mail_model.specs.Site.Conversation.{OnPop};
 ghost use Rattle.cluster_world.specs.Steps.{nth_ticket};
 ghost use Rattle.tape_lines.specs.Orders.{protocol_seen};
@@ -15,19 +16,19 @@ ghost use Rattle.drive_tape.specs.Calls.{IsAt};
 ghost use Rattle.drive_tape.specs.Entries.{entries_of};
 ghost use Rattle.drive_tape.specs.Talks.{Converse, IsOwn};
 ghost use Rattle.drive_tape.specs.Cluster.{IsReady, Shows, TookUp, HeardNext, gives_none, rest_in};
-ghost use Rattle.drive_tape.specs.Leads.{CallDid, FilesMail, HasLeftBy, LeavesDrop, AnswersLine, Enters, FetchesMail, talker_entries};
+ghost use Rattle.drive_tape.specs.Leads.{CallDid, Only, NoCall, FilesMail, HasLeftBy, HasParted, LeavesDrop, AnswersLine, Enters, FetchesMail, DeletesMail, talker_entries};
 ghost use Rattle.drive_tape.specs.declared.talker.Talker.TheVariants as talker;
 
 use crate::answers::{
     falls, first_node, greets, listing_of, says, says_and_closes, shows, shows_and_closes,
 };
-use crate::calls::{Entered, Fetched, Outcome, deliver, fetch, leave, log_in};
+use crate::calls::{Deletion, Entered, Fetched, Outcome, deliver, fetch, leave, log_in, strike};
 use crate::sessions::Sessions;
 use crate::talker::{Heard, Login};
 use crate::{Entry, Row, TapeFault};
 use cluster_world::World;
 use io_edge::Disk;
-use mail_base::{Deliver, MsgId, Name, NodeNo, Octets, Plan};
+use mail_base::{Deliver, Ids, MsgId, Name, NodeNo, Octets, Plan};
 use smtp_session::Reply;
 use std::alloc::{AllocError, Global};
 use tape_lines::Protocol;
@@ -201,12 +202,13 @@ impl<D: Disk> Cluster<D> {
 
     /// The session of this number hears the next unit or line of the octets that it was given, where one is whole, and
     /// this is what that gives: the lines of its reply, and behind the reply to `QUIT` that it is closed. A message is on
-    /// the disk before its session is told so, and one that is read is read before it is shown; or the disk failed, and
-    /// that and the end of all sessions is given. Nothing is given where no unit is whole.
+    /// the disk before its session is told so, one that is read is read before it is shown, and those that a session
+    /// marked are gone before its `QUIT` is answered; or the disk failed, and that and the end of all sessions is given.
+    /// Nothing is given where no unit is whole.
     ///
     /// # Errors
     ///
-    /// Want of memory. The unit may then be heard, and its message on the disk whole or in part.
+    /// Want of memory. The unit may then be heard, and what it writes on the disk whole or in part.
     pub fn hear(&mut self, alloc: Global, session: u64) -> Result<Option<Row<Entry>>, AllocError>
         requires ready { IsReady D.seen self.old }
         ensures ready { IsReady D.seen self.new }
@@ -227,6 +229,7 @@ impl<D: Disk> Cluster<D> {
             Heard::Left { reply, login } => Ok(Some(self.leave(alloc, session, reply, login)?)),
             Heard::LogsIn { user, secret } => Ok(Some(self.log_in(alloc, session, user, secret)?)),
             Heard::Fetches { user, id } => Ok(Some(self.fetch(alloc, session, user, id)?)),
+            Heard::Deletes { user, ids } => Ok(Some(self.delete(alloc, session, user, ids)?)),
         }
     }
 
@@ -263,7 +266,7 @@ impl<D: Disk> Cluster<D> {
         requires up { IsTrue (is_up self.old.world) }
         ensures ready { IsReady D.seen self.new }
         ensures filed { (start : SeenWorld D) (at : Site) → Shows D.seen D.faults start self.old at
-            → CallDid D.seen D.faults start result (FilesMail at session (mail_in message)) at self.new }
+            → CallDid D.seen D.faults start result (Only (Delivers (mail_in message))) (FilesMail at session (mail_in message)) at self.new }
         ensures rest { OnOk result (rest_in session self.new ≤ rest_in session self.old) }
     {
         match deliver(&mut self.world, alloc, message)? {
@@ -284,7 +287,7 @@ impl<D: Disk> Cluster<D> {
         requires up { IsTrue (is_up self.old.world) }
         ensures ready { IsReady D.seen self.new }
         ensures left { (start : SeenWorld D) (at : Site) → IsOwn login → Shows D.seen D.faults start self.old at
-            → CallDid D.seen D.faults start result (LeavesDrop at session reply login) at self.new }
+            → CallDid D.seen D.faults start result NoCall (LeavesDrop at session reply login) at self.new }
         ensures sessions { self.new.sessions ≡ self.old.sessions }
     {
         take_leave(&mut self.world, alloc, login)?;
@@ -346,7 +349,7 @@ impl<D: Disk> Cluster<D> {
         requires up { IsTrue (is_up self.old.world) }
         ensures ready { IsReady D.seen self.new }
         ensures fetched { (start : SeenWorld D) (at : Site) → Shows D.seen D.faults start self.old at
-            → CallDid D.seen D.faults start result (FetchesMail at session user id) at self.new }
+            → CallDid D.seen D.faults start result (Only (Fetches user id)) (FetchesMail at session user id) at self.new }
         ensures rest { OnOk result (rest_in session self.new ≤ rest_in session self.old) }
     {
         match fetch(&mut self.world, alloc, user, id)? {
@@ -358,5 +361,43 @@ impl<D: Disk> Cluster<D> {
             Fetched::Gone => shows(alloc, session, pop_session::Reply::gone(alloc)?),
             Fetched::Fallen => self.fall(alloc),
         }
+    }
+
+    // Deletes the messages of the user that the session marked, and ends it; or the disk fails, and the node is down.
+    fn delete(
+        &mut self,
+        alloc: Global,
+        session: u64,
+        user: Name,
+        ids: Ids,
+    ) -> Result<Row<Entry>, AllocError>
+        requires ready { IsReady D.seen self.old }
+        requires up { IsTrue (is_up self.old.world) }
+        ensures ready { IsReady D.seen self.new }
+        ensures deleted { (start : SeenWorld D) (at : Site) (stage : Stage) (own : SeenLogin) (more : List ℕ)
+            → session_at at.sessions session ≡ Some (OnPop stage (Some own) more) → user ≡ own.user → Shows D.seen D.faults start self.old at
+            → CallDid D.seen D.faults start result (Only (Strikes user ids)) (DeletesMail at session own ids) at self.new }
+        ensures rest { OnOk result (rest_in session self.new ≤ rest_in session self.old) }
+    {
+        match strike(&mut self.world, alloc, user, ids)? {
+            Deletion::Dropped => self.part(alloc, session),
+            Deletion::Fallen => self.fall(alloc),
+        }
+    }
+
+    // The session, whose messages are deleted, ends: the node is told that it leaves, and then it is told that all is done.
+    fn part(&mut self, alloc: Global, session: u64) -> Result<Row<Entry>, AllocError>
+        requires ready { IsReady D.seen self.old }
+        requires up { IsTrue (is_up self.old.world) }
+        ensures ready { IsReady D.seen self.new }
+        ensures parted { (start : SeenWorld D) (at : Site) (stage : Stage) (own : SeenLogin) (more : List ℕ)
+            → session_at at.sessions session ≡ Some (OnPop stage (Some own) more) → Shows D.seen D.faults start self.old at
+            → HasParted D.seen D.faults start result session own at self.new }
+        ensures rest { rest_in session self.new ≤ rest_in session self.old }
+    {
+        let own = self.sessions.end(session);
+        take_leave(&mut self.world, alloc, own)?;
+        // Not before the node was told: where memory runs out, the session has left all the same.
+        shows_and_closes(alloc, session, pop_session::Reply::dropped(alloc)?)
     }
 }

@@ -6,13 +6,13 @@ ghost use Rattle.mail_model.specs.Plan.{Plan};
 ghost use Rattle.mail_model.specs.Runs.{LeavesHearing};
 ghost use Rattle.mail_model.specs.Site.{Site, opening};
 ghost use Rattle.mail_model.specs.Transcript.{entry_line};
-ghost use Rattle.cluster_world.specs.World.{book_of};
+ghost use Rattle.cluster_world.specs.World.{book_of, disk_of};
 ghost use Rattle.cluster_world.specs.declared.world.World.{World as SeenWorld};
 ghost use Rattle.drive_tape.specs.Cluster.{IsReady, Shows};
 ghost use Rattle.drive_tape.specs.Lines.{LineDid, IsOwnStop, given_by};
 ghost use Rattle.drive_tape.specs.Answering.{Writes, AnswersAll, GivesAll, LeavesTaken};
 ghost use Rattle.drive_tape.specs.Drive.{ShowsTurn, DrivesWorld, MayHaveStepped, stop_of, NamesLine};
-ghost use Rattle.drive_tape.specs.Booked.{BooksAsTold};
+ghost use Rattle.drive_tape.specs.Booked.{BooksAsTold, StrikesAsMarked, DropsGone};
 ghost use Rattle.drive_tape.specs.Reads.{most_pending};
 
 use crate::cluster::{Cluster, StepStop};
@@ -209,8 +209,8 @@ pub(crate) fn at_line(stop: Stop, number: u64) -> Drove
 /// The answer is `Ended` behind the line `end`. `BadTape(n, fault)` comes where line n is refused, and nothing is done for
 /// it; `ReadFault` where the source failed before a line was whole; `WriteFault(n)` where the sink failed at what line n
 /// gives, of which a front was written: what gave it is done, and no unit behind it was heard; `NoMemory(n)` where memory
-/// ran out at line n, of which some units may be done, and of the next nothing, all, or a part of its message's records may
-/// stand on the disk.
+/// ran out at line n, of which some units may be done, and of the next nothing, all, or a part of its message's records, or
+/// of the states of the messages that it deletes, may stand on the disk.
 pub fn drive<S: Source, K: Sink, D: Disk>(
     alloc: Global,
     reader: &mut LineReader,
@@ -228,6 +228,12 @@ pub fn drive<S: Source, K: Sink, D: Disk>(
     ensures acknowledged_as_told { (start : SeenWorld D) (plan : Plan) (tells : Bool) → plan.nodes ≡ 1 → Shows D.seen D.faults start cluster.old (opening plan tells)
         → BooksAsTold (S.left source.old) (S.left source.new) (K.contents sink.old) (K.contents sink.new)
         reader.old.pending.items result plan (book_of cluster.new.world) }
+    ensures struck_as_marked { (start : SeenWorld D) (plan : Plan) (tells : Bool) → plan.nodes ≡ 1 → Shows D.seen D.faults start cluster.old (opening plan tells)
+        → StrikesAsMarked (S.left source.old) (S.left source.new) (K.contents sink.old) (K.contents sink.new)
+        reader.old.pending.items (book_of cluster.new.world) }
+    ensures dropped_are_gone { (start : SeenWorld D) (plan : Plan) (tells : Bool) → plan.nodes ≡ 1 → plan.confirm ≡ 1 → Shows D.seen D.faults start cluster.old (opening plan tells)
+        → DropsGone (S.left source.old) (S.left source.new) (K.contents sink.old) (K.contents sink.new)
+        reader.old.pending.items plan (book_of cluster.new.world) (D.seen (disk_of cluster.new.world)) }
     ensures read_later { S.faults source.old ≤ S.faults source.new }
     ensures write_later { K.faults sink.old ≤ K.faults sink.new }
     ensures read_fault { stop_of result ≡ Stop.ReadFault → Rose (S.faults source.old) (S.faults source.new) }

@@ -31,6 +31,10 @@
 //!   disk, and one asks for it, by which it is in the book. Then its session is told `250 stored`.
 //! - `PASS` behind a good USER is a login, and `RETR` of a message of the listing is a fetch of it: one
 //!   step begins each, and one asks for what it found.
+//! - `QUIT` of a session that marked messages by `DELE` is a deletion of these: one step begins it, behind
+//!   whose last sync they are gone from the disk, and one asks for it, by which the book says that each is
+//!   dropped. Then the session ends, leaves, and is told `+OK bye`. A session that ends in another way, as by
+//!   `close` or because its node goes down, deletes nothing.
 //! - the end of a session that was let in, by QUIT or `close`, is a leave.
 //!
 //! Where the disk fails in one of these, the node is down from then on: in place of the reply come
@@ -62,7 +66,8 @@
 //! Behind `WriteFault` a front of what the line gives was written, the last line of it perhaps in part;
 //! what the unit does whose line was not written stands all the same, and the units behind it were not
 //! heard. `NoMemory` may come at any point of a line's work, so the message of a unit may stand on the
-//! disk whole or in part, and nobody was told that it is stored. No stop takes back what was done before.
+//! disk whole or in part, and nobody was told that it is stored; or some or all of the messages of a `QUIT`
+//! may be gone, and nobody was told so. No stop takes back what was done before.
 //!
 //! LIMITS
 //!
@@ -80,12 +85,13 @@
 //! begin with the lines that were handled, what was written is what they give and at most a front of what
 //! one more gives, the answer is why it went no further, the world made the steps of these lines and no
 //! others, and its disk and its book hold what the run leaves. The book then has the messages that were
-//! answered `250 stored`, as they were told.
+//! answered `250 stored`, as they were told; and it has the deletions of the messages that were marked by
+//! sessions whose `QUIT` was reached, of which those that it says are dropped are gone from the disk.
 //!
 //! WHAT IT DOES NOT DO
 //!
 //! It opens no disk, source or sink, tries nothing again and buffers nothing that is written. It does not
-//! start a node that is down, deletes no message and locks no maildrop. It writes no line for a stop:
+//! start a node that is down, and locks no maildrop. It writes no line for a stop:
 //! that, and the status of the program, are its caller's. No time limit.
 #![tactic(auto)]
 

@@ -1,9 +1,10 @@
 // All sessions of a tape, in order of `open`.
-ghost use Rattle.std.specs.Prelude.{◌≡◌, ◌⊎◌, ◌+◌, ◌-◌, ◌<◌, ◌∷◌, ◌++◌, [], List, ℕ, true, length, map, OnOk, IfOk, IfSome, if◌then◌else◌, Option, Some, None};
+ghost use Rattle.std.specs.Prelude.{◌≡◌, ◌⊎◌, ◌+◌, ◌-◌, ◌<◌, ◌≤◌, ◌∷◌, ◌++◌, [], List, ℕ, true, length, map, OnOk, IfOk, IfSome, if◌then◌else◌, Option, Some, None};
 ghost use Rattle.std.specs.Option.{option_map};
 ghost use Rattle.mail_model.specs.Maildrop as maildrop;
 ghost use Rattle.mail_model.specs.Maildrop.{after_answer, answer_reply};
 ghost use Rattle.mail_model.specs.Site.{Conversation, session_at, replace, refused_session, protocol_of};
+ghost use Rattle.mail_model.specs.PopReplies.{Item as SeenItem, listed_slots};
 ghost use Rattle.mail_model.specs.Site as site;
 ghost use Rattle.mail_model.specs.Steps.{with_octets, opened_session};
 ghost use Rattle.tape_lines.specs.Orders.{protocol_seen};
@@ -101,8 +102,8 @@ impl Sessions {
         }
     }
 
-    /// What the next of the octets of this session leads to. With QUIT it has ended. Behind anything but
-    /// `Heard::Idle` it holds fewer octets.
+    /// What the next of the octets of this session leads to. With QUIT it has ended, unless messages are to be deleted
+    /// first. Behind anything but `Heard::Idle` it holds fewer octets.
     ///
     /// # Errors
     ///
@@ -120,7 +121,8 @@ impl Sessions {
         Ok(heard)
     }
 
-    /// The client of this session, which stands, has closed it: it has ended. Its login, where it had one.
+    /// This session, which stands, has ended, as its client closed it or its messages were deleted. Its login, where it
+    /// had one.
     pub fn end(&mut self, number: u64) -> Option<Login>
         ensures ended { (old : List Conversation) (one : Conversation) → Converse self.old.talkers.items old → session_at old number ≡ Some one
             → Converse self.new.talkers.items (replace old number (site.Conversation.Over (protocol_of one))) }
@@ -128,6 +130,7 @@ impl Sessions {
             → option_map login_seen result ≡ login_in one }
         ensures own { (old : List Conversation) → Converse self.old.talkers.items old → IsOwn result }
         ensures count { self.new.standing ≡ self.old.standing - 1 }
+        ensures rest { rest_at number self.new.talkers.items ≤ rest_at number self.old.talkers.items }
     {
         self.standing = self.standing.saturating_sub(1);
         let place = self.place_of(number)?;
@@ -147,10 +150,11 @@ impl Sessions {
         login: Login,
         listing: Listing,
     ) -> Result<Reply, AllocError>
-        ensures reply { (old : List Conversation) (stage : maildrop.Stage) (known : Option site.Login) (pending : List ℕ) → Converse self.old.talkers.items old → session_at old number ≡ Some (site.Conversation.OnPop stage known pending)
-            → IfOk result (λ reply. reply ≡ answer_reply (maildrop.Answer.Listed listing)) }
-        ensures ok { OnOk result ((old : List Conversation) (stage : maildrop.Stage) (known : Option site.Login) (pending : List ℕ) → Converse self.old.talkers.items old → session_at old number ≡ Some (site.Conversation.OnPop stage known pending) → IsOwn (Some login)
-            → Converse self.new.talkers.items (replace old number (site.Conversation.OnPop (after_answer stage (maildrop.Answer.Listed listing)) (Some (login_seen login)) pending))) }
+        ensures reply { (items : List SeenItem) (old : List Conversation) (stage : maildrop.Stage) (known : Option site.Login) (pending : List ℕ) → Converse self.old.talkers.items old → session_at old number ≡ Some (site.Conversation.OnPop stage known pending)
+            → IfOk result (λ reply. reply ≡ answer_reply (maildrop.Answer.Listed items)) }
+        ensures ok { OnOk result ((items : List SeenItem) (old : List Conversation) (stage : maildrop.Stage) (known : Option site.Login) (pending : List ℕ) → listing ≡ listed_slots items
+            → Converse self.old.talkers.items old → session_at old number ≡ Some (site.Conversation.OnPop stage known pending) → IsOwn (Some login)
+            → Converse self.new.talkers.items (replace old number (site.Conversation.OnPop (after_answer stage (maildrop.Answer.Listed items)) (Some (login_seen login)) pending))) }
         ensures count { self.new.standing ≡ self.old.standing }
         ensures rest { OnOk result (rest_at number self.new.talkers.items ≡ rest_at number self.old.talkers.items) }
     {

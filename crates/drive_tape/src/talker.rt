@@ -3,6 +3,7 @@ ghost use Rattle.std.specs.Prelude.{◌≡◌, ◌⊎◌, ◌<◌, ℕ, List, Op
 ghost use Rattle.std.specs.Option.{option_map};
 ghost use Rattle.mail_model.specs.Maildrop as maildrop;
 ghost use Rattle.mail_model.specs.Maildrop.{after_answer, answer_reply};
+ghost use Rattle.mail_model.specs.PopReplies.{Item as SeenItem, listed_slots};
 ghost use Rattle.mail_model.specs.Site.{Conversation};
 ghost use Rattle.mail_model.specs.Steps.{with_octets, opened_session};
 ghost use Rattle.smtp_session.specs.Talks as mail;
@@ -11,7 +12,7 @@ ghost use Rattle.tape_lines.specs.Orders.{protocol_seen};
 ghost use Rattle.mail_model.specs.Site as site;
 ghost use Rattle.drive_tape.specs.Talks.{after_heard, Matches, Leads, MailLeads, ReaderLeads, IsOwn, login_in, login_seen, talker_rest};
 
-use mail_base::{Deliver, MsgId, Name, Octets, Plan, Ticket};
+use mail_base::{Deliver, Ids, MsgId, Name, Octets, Plan, Ticket};
 use pop_session::{Listing, Reply};
 use std::alloc::{AllocError, Global};
 use tape_lines::Protocol;
@@ -75,6 +76,13 @@ pub enum Heard {
         /// The message.
         id: MsgId,
     },
+    /// These messages of the user are to be deleted, and then the session ends.
+    Deletes {
+        /// The user.
+        user: Name,
+        /// The messages.
+        ids: Ids,
+    },
 }
 
 // The next unit of an SMTP session.
@@ -94,7 +102,7 @@ fn hear_mail(
     }
 }
 
-// The next line of a POP3 session with this login. A session that asks for a message has one.
+// The next line of a POP3 session with this login. A session that asks for a message, or has some deleted, has one.
 fn hear_reader(
     session: &mut pop_session::Session,
     login: &mut Option<Login>,
@@ -116,6 +124,13 @@ fn hear_reader(
             Some(login) => Ok(Heard::Fetches {
                 user: login.user.copy()?,
                 id,
+            }),
+            None => Ok(Heard::Idle),
+        },
+        pop_session::Heard::Deletes { ids } => match login {
+            Some(login) => Ok(Heard::Deletes {
+                user: login.user.copy()?,
+                ids,
             }),
             None => Ok(Heard::Idle),
         },
@@ -158,8 +173,8 @@ impl Talker {
         }
     }
 
-    /// What the next of its octets leads to. With QUIT it has ended. Behind anything but `Heard::Idle` it holds
-    /// fewer octets.
+    /// What the next of its octets leads to. With QUIT it has ended, unless messages are to be deleted first. Behind
+    /// anything but `Heard::Idle` it holds fewer octets.
     ///
     /// # Errors
     ///
@@ -194,15 +209,17 @@ impl Talker {
             | Heard::Files(_)
             | Heard::Shown(_)
             | Heard::LogsIn { .. }
-            | Heard::Fetches { .. } => {}
+            | Heard::Fetches { .. }
+            | Heard::Deletes { .. } => {}
         }
     }
 
-    /// Its client has closed it: it has ended. Its login, where it had one.
+    /// It has ended, as its client closed it or its messages were deleted. Its login, where it had one.
     pub fn end(&mut self) -> Option<Login>
         ensures ended { (one : Conversation) → Matches self.old one → Matches self.new (site.Conversation.Over (site.protocol_of one)) }
         ensures login { (one : Conversation) → Matches self.old one → option_map login_seen result ≡ login_in one }
         ensures own { (one : Conversation) → Matches self.old one → IsOwn result }
+        ensures rest { talker_rest self.new ≡ 0 }
     {
         match std::mem::replace(self, Talker::Over) {
             Talker::Smtp(_) => None,
@@ -223,10 +240,11 @@ impl Talker {
         login: Login,
         listing: Listing,
     ) -> Result<Reply, AllocError>
-        ensures reply { (stage : maildrop.Stage) (known : Option site.Login) (pending : List ℕ) → Matches self.old (site.Conversation.OnPop stage known pending)
-            → IfOk result (λ reply. reply ≡ answer_reply (maildrop.Answer.Listed listing)) }
-        ensures ok { OnOk result ((stage : maildrop.Stage) (known : Option site.Login) (pending : List ℕ) → Matches self.old (site.Conversation.OnPop stage known pending) → IsOwn (Some login)
-            → Matches self.new (site.Conversation.OnPop (after_answer stage (maildrop.Answer.Listed listing)) (Some (login_seen login)) pending)) }
+        ensures reply { (items : List SeenItem) (stage : maildrop.Stage) (known : Option site.Login) (pending : List ℕ) → Matches self.old (site.Conversation.OnPop stage known pending)
+            → IfOk result (λ reply. reply ≡ answer_reply (maildrop.Answer.Listed items)) }
+        ensures ok { OnOk result ((items : List SeenItem) (stage : maildrop.Stage) (known : Option site.Login) (pending : List ℕ) → listing ≡ listed_slots items
+            → Matches self.old (site.Conversation.OnPop stage known pending) → IsOwn (Some login)
+            → Matches self.new (site.Conversation.OnPop (after_answer stage (maildrop.Answer.Listed items)) (Some (login_seen login)) pending)) }
         ensures rest { OnOk result (talker_rest self.new ≡ talker_rest self.old) }
     {
         match self {

@@ -27,17 +27,36 @@ fn joined(alloc: Global, front: &[u8], rest: &[u8]) -> Result<Vec<u8>, AllocErro
     Ok(octets)
 }
 
-// What the book says: how many copies were acknowledged, and how many times a node went down.
-fn counts(book: &[BookEntry]) -> (u32, u32) {
-    let mut acked = 0u32;
-    let mut down = 0u32;
+// What the book says: how many copies were acknowledged, were to be deleted, and were dropped, and how many times a node
+// went down.
+#[derive(Clone, Copy, Debug, PartialEq, Eq)]
+struct Counts {
+    acked: u32,
+    struck: u32,
+    dropped: u32,
+    down: u32,
+}
+
+fn none() -> Counts {
+    Counts {
+        acked: 0,
+        struck: 0,
+        dropped: 0,
+        down: 0,
+    }
+}
+
+fn counted_in(book: &[BookEntry]) -> Counts {
+    let mut found = none();
     for entry in book {
         match entry {
-            BookEntry::Acked { .. } => acked = acked.saturating_add(1),
-            BookEntry::Down { .. } => down = down.saturating_add(1),
+            BookEntry::Acked { .. } => found.acked = found.acked.saturating_add(1),
+            BookEntry::Struck { .. } => found.struck = found.struck.saturating_add(1),
+            BookEntry::Dropped { .. } => found.dropped = found.dropped.saturating_add(1),
+            BookEntry::Down { .. } => found.down = found.down.saturating_add(1),
         }
     }
-    (acked, down)
+    found
 }
 
 // What the tape leads to on that disk, and the counts of the book.
@@ -46,21 +65,21 @@ fn run<S: Source, K: Sink, D: Disk + Drop>(
     source: &mut S,
     sink: &mut K,
     disk: D,
-) -> (Drove, (u32, u32))
+) -> (Drove, Counts)
     requires { IfSome (D.seen disk) (λ held. held ≡ []) }
 {
     let mut reader = LineReader::new(alloc);
     let head = match read_plan(alloc, &mut reader, source) {
         Ok(head) => head,
-        Err(answer) => return (answer, (0, 0)),
+        Err(answer) => return (answer, none()),
     };
     let from = head.lines;
     let Ok(world) = World::open(alloc, head.plan, disk) else {
-        return (Drove::NoMemory(from), (0, 0));
+        return (Drove::NoMemory(from), none());
     };
     let mut cluster = Cluster::new(alloc, world);
     let answer = drive(alloc, &mut reader, source, sink, &mut cluster, from);
-    let counted = counts(cluster.world.book().entries());
+    let counted = counted_in(cluster.world.book().entries());
     let _disk = cluster.close();
     (answer, counted)
 }
@@ -70,12 +89,14 @@ fn a_message_is_stored_or_the_disk_fails(rt: HostRuntime) -> Result<(), Fail> {
     let alloc = rt.alloc();
     let stored: &[u8] = b"1 250 stored\n2 220 node1 Porcupine ready\n";
     let fallen: &[u8] = b"* fault 1\n1 421 node1 down\n* 1 closed\n";
+    let whole = Counts { acked: 2, ..none() };
+    let gone = Counts { down: 1, ..none() };
     // The opening makes six disk calls, and the message for two mailboxes twelve.
-    let cases: [(u64, Drove, &[u8], (u32, u32)); 4] = [
-        (0, Drove::Ended, stored, (2, 0)),
-        (7, Drove::BadTape(18, TapeFault::NodeDown), fallen, (0, 1)),
-        (18, Drove::BadTape(18, TapeFault::NodeDown), fallen, (0, 1)),
-        (19, Drove::Ended, stored, (2, 0)),
+    let cases: [(u64, Drove, &[u8], Counts); 4] = [
+        (0, Drove::Ended, stored, whole),
+        (7, Drove::BadTape(18, TapeFault::NodeDown), fallen, gone),
+        (18, Drove::BadTape(18, TapeFault::NodeDown), fallen, gone),
+        (19, Drove::Ended, stored, whole),
     ];
     for (call, wanted, transcript, counted) in cases {
         let front = joined(alloc, PLAN, MESSAGE)?;
@@ -89,6 +110,56 @@ fn a_message_is_stored_or_the_disk_fails(rt: HostRuntime) -> Result<(), Fail> {
         assert_eq!(rt;
             sink.held.as_slice(),
             joined(alloc, ASKED, transcript)?.as_slice()
+        );
+    }
+    Ok(())
+}
+
+// The reader of one of them has it deleted; and one that closes its session has not.
+const DELETED: &[u8] =
+    b"open pop 1\nsay 2 USER alice\nsay 2 PASS a\nsay 2 DELE 1\nopen pop 1\nsay 3 USER carol\nsay 3 PASS c\nsay 3 DELE 1\nclose 3\nsay 2 QUIT\nend\n";
+
+const MARKED: &[u8] =
+    b"1 250 stored\n2 +OK node1 ready <1.2.0@node1>\n2 +OK send PASS\n2 +OK maildrop open\n2 +OK message 1 deleted\n3 +OK node1 ready <1.3.0@node1>\n3 +OK send PASS\n3 +OK maildrop open\n3 +OK message 1 deleted\n";
+
+#[test]
+fn a_marked_message_is_deleted_or_the_disk_fails(rt: HostRuntime) -> Result<(), Fail> {
+    let alloc = rt.alloc();
+    let dropped: &[u8] = b"2 +OK bye\n* 2 closed\n";
+    let fallen: &[u8] =
+        b"* fault 1\n1 421 node1 down\n* 1 closed\n2 -ERR [SYS/TEMP] node1 down\n* 2 closed\n";
+    let whole = Counts {
+        acked: 2,
+        struck: 1,
+        dropped: 1,
+        down: 0,
+    };
+    let down = Counts {
+        acked: 2,
+        struck: 1,
+        dropped: 0,
+        down: 1,
+    };
+    // The Gone state takes four disk calls, behind the eighteen before it.
+    let cases: [(u64, &[u8], Counts); 4] = [
+        (0, dropped, whole),
+        (19, fallen, down),
+        (22, fallen, down),
+        (23, dropped, whole),
+    ];
+    for (call, transcript, counted) in cases {
+        let front = joined(alloc, PLAN, MESSAGE)?;
+        let tape = joined(alloc, &front, DELETED)?;
+        let mut sink = VecSink::new(alloc);
+        let disk = FaultyDisk::new(PlainDisk::new(alloc), call);
+        assert_eq!(rt;
+            run(alloc, &mut SliceSource::new(&tape), &mut sink, disk),
+            (Drove::Ended, counted)
+        );
+        let asked = joined(alloc, ASKED, MARKED)?;
+        assert_eq!(rt;
+            sink.held.as_slice(),
+            joined(alloc, &asked, transcript)?.as_slice()
         );
     }
     Ok(())

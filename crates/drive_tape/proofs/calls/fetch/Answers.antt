@@ -12,7 +12,7 @@ returns-in_err-octets-clause-fetched g c = λ start site is.
     let p = err_from_is_err_and c.from_residual.result c.from_residual.ensures.1 in
     let short = rw c.from_mask-holders.ensures at c.in_err-octets.ensures.answered in
     rw p.1 (reading_short g.D.Disk.seen g.D.Disk.faults start site _ _ is c.requires.up c.answer.ensures.told
-    (Fetches c.args.user c.args.id) (call.Fetch c.args.user c.args.id 1 0 18446744073709551615) (refl, refl, refl, refl, refl) refl refl (λ broken. absurd broken)
+    (Fetches c.args.user c.args.id) (call.Fetch c.args.user c.args.id 1 0 18446744073709551615) (refl, refl, refl, refl, refl) refl (λ broken. absurd broken)
     (λ ticket mid begun. (begun.0, begun.1)) short)
 
 pub returns-in-Some-Part-clause-fetched : goal.returns-in-Some-Part-clause-fetched

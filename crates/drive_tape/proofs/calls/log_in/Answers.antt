@@ -11,7 +11,7 @@ pub returns-in_err-login-clause-logged_in : goal.returns-in_err-login-clause-log
 returns-in_err-login-clause-logged_in g c = λ start site is.
     let p = err_from_is_err_and c.from_residual.result c.from_residual.ensures.1 in
     rw p.1 (reading_short g.D.Disk.seen g.D.Disk.faults start site _ _ is c.requires.up c.answer.ensures.told
-    (LogsIn c.args.user c.args.secret) (call.Login c.args.user (Pass c.args.secret)) (refl, refl) refl refl (λ broken. absurd broken)
+    (LogsIn c.args.user c.args.secret) (call.Login c.args.user (Pass c.args.secret)) (refl, refl) refl (λ broken. absurd broken)
     (λ ticket mid begun. (begun.0, begun.1)) c.in_err-login.ensures.answered)
 
 pub returns-in-Some-Listed-clause-logged_in : goal.returns-in-Some-Listed-clause-logged_in

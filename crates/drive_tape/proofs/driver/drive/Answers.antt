@@ -1,7 +1,10 @@
 use Rattle.std.proofs.Common.{arith, ◌≡◌, ◌+◌, ◌^◌, length}
 use Rattle.mail_model.specs.Site.{opening}
 use Rattle.drive_tape.proofs.Runs.{start, goes_on, stops}
+use Rattle.mail_model.proofs.DeletedLaw.{runs_strike_as_marked}
+use Rattle.mail_model.proofs.GoneLaw.{runs_drop_gone}
 use Rattle.drive_tape.proofs.Booked.{booked}
+use Rattle.drive_tape.proofs.Marked.{marked, dropped}
 use Rattle.drive_tape.proofs.driver.drive.Goals as goal
 
 pub loop-handled-init : goal.loop-handled-init
@@ -35,3 +38,15 @@ pub returns-in-Err-clause-acknowledged_as_told : goal.returns-in-Err-clause-ackn
 returns-in-Err-clause-acknowledged_as_told g c began plan tells one shows =
     booked g.D.Disk.seen g.D.Disk.faults began _ _ _ _ _ _ plan tells _ _ one
     (stops g.D.Disk.seen g.D.Disk.faults _ _ _ _ _ _ _ _ _ _ _ _ _ _ _ _ _ _ c.loop-handled.invariant.progress c.in-Err.ensures.turned c.at_line.ensures.stop c.at_line.ensures.number began (opening plan tells) shows)
+
+pub returns-in-Err-clause-struck_as_marked : goal.returns-in-Err-clause-struck_as_marked
+returns-in-Err-clause-struck_as_marked g c began plan tells one shows =
+    marked g.D.Disk.seen g.D.Disk.faults began _ _ _ _ _ _ plan tells _ _ one
+    (stops g.D.Disk.seen g.D.Disk.faults _ _ _ _ _ _ _ _ _ _ _ _ _ _ _ _ _ _ c.loop-handled.invariant.progress c.in-Err.ensures.turned c.at_line.ensures.stop c.at_line.ensures.number began (opening plan tells) shows)
+    runs_strike_as_marked
+
+pub returns-in-Err-clause-dropped_are_gone : goal.returns-in-Err-clause-dropped_are_gone
+returns-in-Err-clause-dropped_are_gone g c began plan tells one confirms shows =
+    dropped g.D.Disk.seen g.D.Disk.faults began _ _ _ _ _ _ plan tells _ _ one
+    (stops g.D.Disk.seen g.D.Disk.faults _ _ _ _ _ _ _ _ _ _ _ _ _ _ _ _ _ _ c.loop-handled.invariant.progress c.in-Err.ensures.turned c.at_line.ensures.stop c.at_line.ensures.number began (opening plan tells) shows)
+    runs_drop_gone confirms

@@ -1,5 +1,5 @@
 use Rattle.std.proofs.Common.{None}
-use Rattle.drive_tape.proofs.Talkers.{reader_idle, reader_shown, reader_left, reader_logs_in, reader_fetches, reader_unasked}
+use Rattle.drive_tape.proofs.Talkers.{reader_idle, reader_shown, reader_left, reader_logs_in, reader_fetches, reader_unasked, reader_deletes, reader_undeleted}
 use Rattle.drive_tape.proofs.talker.hear_reader.Goals as goal
 
 pub returns-in-Idle-clause-leads : goal.returns-in-Idle-clause-leads
@@ -22,3 +22,11 @@ returns-in-None-clause-leads c =
 pub returns-in-Closed-clause-leads : goal.returns-in-Closed-clause-leads
 returns-in-Closed-clause-leads c =
     rw c.take.ensures.value (reader_left c.args.plan.now c.args.session.now c.next.new.self c.args.login.now _ None (rw c.in-Closed.is at c.in_ok-next.ensures.ok))
+
+pub returns-in_ok-copy-in-Some-login-clause-leads : goal.returns-in_ok-copy-in-Some-login-clause-leads
+returns-in_ok-copy-in-Some-login-clause-leads c =
+    reader_deletes c.args.plan.now c.args.session.now c.next.new.self c.args.login.now _ _ _ c.in-Some-login.is c.in_ok-copy-in-Some-login.ensures (rw c.in-Deletes.is at c.in_ok-next.ensures.ok)
+
+pub returns-in-None-login-clause-leads : goal.returns-in-None-login-clause-leads
+returns-in-None-login-clause-leads c =
+    reader_undeleted c.args.plan.now c.args.session.now c.next.new.self c.args.login.now _ c.in-None-login.is (rw c.in-Deletes.is at c.in_ok-next.ensures.ok)

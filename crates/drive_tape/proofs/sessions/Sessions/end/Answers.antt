@@ -1,7 +1,7 @@
-use Rattle.std.proofs.Common.{◌≡◌, Some, refl}
+use Rattle.std.proofs.Common.{◌≡◌, Some, refl, arith}
 use Rattle.std.specs.Prelude.{slice_get}
 use Rattle.std.proofs.lemmas.Option.{slice_get_read}
-use Rattle.drive_tape.proofs.Talks.{talker_at, matches_at, talker_set, none_here}
+use Rattle.drive_tape.proofs.Talks.{talker_at, matches_at, talker_set, none_here, rest_set}
 use Rattle.drive_tape.proofs.sessions.Sessions.end.Goals as goal
 
 pub returns-in_err-place-clause-ended : goal.returns-in_err-place-clause-ended
@@ -29,3 +29,10 @@ returns-clause-own c old all =
     let there : slice_get c.args.self.now.talkers.items c.in_ok-place.place ≡ Some c.index_mut.result.now = slice_get_read _ _ _ _ refl place.1 c.index_mut.ensures.value in
     let found = talker_at c.args.self.now.talkers.items old c.args.number c.in_ok-place.place c.index_mut.result.now place.0 all there in
     c.end.ensures.own found.0 found.2
+
+pub returns-clause-rest : goal.returns-clause-rest
+returns-clause-rest c =
+    let place = c.in_ok-place.ensures.some in
+    let there : slice_get c.args.self.now.talkers.items c.in_ok-place.place ≡ Some c.index_mut.result.now = slice_get_read _ _ _ _ refl place.1 c.index_mut.ensures.value in
+    let now = rest_set c.args.self.now.talkers.items c.args.number c.in_ok-place.place c.index_mut.result.now c.end.new.self place.0 there in
+    omega (arith, now, c.end.ensures.rest)
