@@ -1,4 +1,4 @@
--- The promises to senders and to readers, from what the work on a tape did and the last line.
+-- The promises to senders, to readers and to those who delete, from what the work on a tape did and the last line.
 use Rattle.std.proofs.Common.{◌≡◌, ◌≢◌, ℕ, List, [], ◌∷◌, ◌++◌, length, map, flat_map, All, Option, Some, None, Ok, refl, sym, ap, ◌∙◌, subst, arith, append_assoc, length-append, inl, inr, ⊎_elim, codes}
 use Rattle.std.specs.Prelude.{◌⊎◌, IfSome, is_some}
 use Rattle.std.specs.Fmt.{decimal}
@@ -18,9 +18,11 @@ use Rattle.mail_model.specs.Steps.{Runs, all_of}
 use Rattle.mail_model.specs.Runs.{IsEnding}
 use Rattle.mail_model.specs.Stored.{StoredStands, stored_sessions}
 use Rattle.mail_model.specs.Shown.{lines_to}
+use Rattle.mail_model.specs.Deleted.{DeletedByQuit}
 use Rattle.mail_model.proofs.OneLine.{by_test, decimal_no_lf, runs_lines}
 use Rattle.mail_model.proofs.Promise.{runs_keep_stored}
 use Rattle.mail_model.proofs.ShownLaw.{runs_show_as_filed}
+use Rattle.mail_model.proofs.DeletedLaw.{runs_delete_by_quit}
 use Rattle.drive_tape.specs.declared.drove.Drove.{Drove}
 use Rattle.drive_tape.specs.declared.drove.Drove.TheVariants as drove
 use Rattle.drive_tape.specs.declared.plan_head.PlanHead.{PlanHead}
@@ -39,6 +41,7 @@ use Rattle.porcupine_server.specs.Endings.{ending_of, status_of, last_entries, F
 use Rattle.porcupine_server.specs.Works.{Works, NoPlan, NoStore, Ran, Served, IsBeforeRun}
 use Rattle.porcupine_server.specs.Kept.{IsTape, KeepsStored}
 use Rattle.porcupine_server.specs.Seen.{HasWhatWasShown, ShowsStored}
+use Rattle.porcupine_server.specs.Gone.{DeletesByQuit}
 
 abbrev IsNoLf : ℕ → Type 0
 IsNoLf x = x ≢ 10
@@ -142,8 +145,8 @@ lasts held0 held1 ending status finishes = ⊎_elim
     nothing [] (entry ∷ missing) cut is part = absurd (omega (arith, ap length is))
     nothing (entry ∷ front) missing cut is part = absurd (omega (arith, ap length is))
 
--- Both promises, of one reading of the octets.
-record KeepsBoth {D : Type 0} (seen : D → Option (List ℕ)) (returned0 returned1 : Option (List (ℕ × ℕ × D))) (left0 left1 held0 held1 : Option (List ℕ)) : Type 0 where
+-- All promises, of one reading of the octets.
+record KeepsAll {D : Type 0} (seen : D → Option (List ℕ)) (returned0 returned1 : Option (List (ℕ × ℕ × D))) (left0 left1 held0 held1 : Option (List ℕ)) : Type 0 where
   read : List ℕ
   written : List ℕ
   entries : List Entry
@@ -152,11 +155,12 @@ record KeepsBoth {D : Type 0} (seen : D → Option (List ℕ)) (returned0 return
   transcript : IsTranscript written entries
   promise : (((sessions : List (Protocol × ℕ)) → stored_sessions sessions entries ≡ []) × ((k : ℕ) → lines_to k entries ≡ []))
       ⊎ ((given : D) × (plan : Plan) × (lines : List (List ℕ)) × Adds returned0 returned1 (0, 1, given) × IsTape read plan lines
-      × StoredStands plan lines entries (seen given ∷ []) × IfSome (seen given) (HasWhatWasShown lines entries))
+      × StoredStands plan lines entries (seen given ∷ []) × IfSome (seen given) (HasWhatWasShown lines entries)
+      × DeletedByQuit plan lines entries (seen given ∷ []))
 
 -- no run line was handled
 kept_nothing : {D : Type 0} (seen : D → Option (List ℕ)) (returned0 returned1 : Option (List (ℕ × ℕ × D))) (left0 left1 held0 middle held1 : Option (List ℕ)) (ending : Ending) (read : List ℕ)
-    → Consumes left0 left1 read → middle ≡ held0 → Last middle held1 ending → KeepsBoth seen returned0 returned1 left0 left1 held0 held1
+    → Consumes left0 left1 read → middle ≡ held0 → Last middle held1 ending → KeepsAll seen returned0 returned1 left0 left1 held0 held1
 kept_nothing seen returned0 returned1 left0 left1 held0 middle held1 ending read took none last = record {
   read = read;
   written = written_of last.front ++ last.cut;
@@ -224,7 +228,7 @@ module _ {D : Type 0} (seen : D → Option (List ℕ)) (returned0 returned1 : Op
       )
 
   kept_with : (ending : List Entry) (cut : List ℕ) → d.written ++ (written_of last.front ++ last.cut) ≡ written_of ((all_of d.outputs ++ d.stopped.front) ++ ending) ++ cut
-      → AreLines ending → HasNoLf cut → IsEnding ending → KeepsBoth seen returned0 returned1 left0 left1 held0 held1
+      → AreLines ending → HasNoLf cut → IsEnding ending → KeepsAll seen returned0 returned1 left0 left1 held0 held1
   kept_with ending cut whole each rest ends =
       let go = reads.did in
       let served = go.4 in
@@ -261,10 +265,11 @@ module _ {D : Type 0} (seen : D → Option (List ℕ)) (returned0 returned1 : Op
           },
           runs_keep_stored head.plan (is_some (seen given)) d.lines (lines_in d.others) d.outputs d.mid d.last d.stopped.front ending (seen given) served.0 served.2 d.runs d.stopped.off ends held,
           shown_with ending ends,
+          runs_delete_by_quit head.plan (is_some (seen given)) d.lines (lines_in d.others) d.outputs d.mid d.last d.stopped.front ending (seen given) served.0 served.2 d.runs d.stopped.off ends held,
         );
       }
 
-  kept_run : KeepsBoth seen returned0 returned1 left0 left1 held0 held1
+  kept_run : KeepsAll seen returned0 returned1 left0 left1 held0 held1
   kept_run = ⊎_elim
       (λ (may : MayHaveStepped (stop_of answer)).
       let none = last.none (cut_is_last answer may) in
@@ -287,9 +292,9 @@ module _ {D : Type 0} (seen : D → Option (List ℕ)) (returned0 returned1 : Op
           ∙ join_last (all_of d.outputs) d.stopped.front last.front last.cut
 
 -- whatever the work did
-kept_both : {D : Type 0} (seen : D → Option (List ℕ)) (faults : D → ℕ) (handed0 handed1 returned0 returned1 : Option (List (ℕ × ℕ × D))) (left0 left1 held0 middle held1 : Option (List ℕ)) (ending : Ending) (status : ℕ)
-    → Works seen faults handed0 handed1 returned0 returned1 left0 left1 held0 middle ending → Finishes middle held1 ending status → KeepsBoth seen returned0 returned1 left0 left1 held0 held1
-kept_both seen faults handed0 handed1 returned0 returned1 left0 left1 held0 middle held1 ending status works finishes = ⊎_elim
+kept_all : {D : Type 0} (seen : D → Option (List ℕ)) (faults : D → ℕ) (handed0 handed1 returned0 returned1 : Option (List (ℕ × ℕ × D))) (left0 left1 held0 middle held1 : Option (List ℕ)) (ending : Ending) (status : ℕ)
+    → Works seen faults handed0 handed1 returned0 returned1 left0 left1 held0 middle ending → Finishes middle held1 ending status → KeepsAll seen returned0 returned1 left0 left1 held0 held1
+kept_all seen faults handed0 handed1 returned0 returned1 left0 left1 held0 middle held1 ending status works finishes = ⊎_elim
     (λ (none : NoPlan left0 left1 held0 middle ending). kept_nothing seen returned0 returned1 left0 left1 held0 middle held1 ending none.reads.read none.reads.took none.none last)
     (λ (some : NoStore left0 left1 held0 middle ending ⊎ Served seen faults handed0 handed1 returned0 returned1 left0 left1 held0 middle ending). ⊎_elim
     (λ (none : NoStore left0 left1 held0 middle ending). kept_nothing seen returned0 returned1 left0 left1 held0 middle held1 ending none.reads.read none.reads.took none.none last)
@@ -299,7 +304,7 @@ kept_both seen faults handed0 handed1 returned0 returned1 left0 left1 held0 midd
     last : Last middle held1 ending
     last = lasts middle held1 ending status finishes
 
-    by_serving : Served seen faults handed0 handed1 returned0 returned1 left0 left1 held0 middle ending → KeepsBoth seen returned0 returned1 left0 left1 held0 held1
+    by_serving : Served seen faults handed0 handed1 returned0 returned1 left0 left1 held0 middle ending → KeepsAll seen returned0 returned1 left0 left1 held0 held1
     by_serving served = ⊎_elim
         (λ (none : (left1 ≡ served.between) × (middle ≡ held0) × IsBeforeRun ending).
         kept_nothing seen returned0 returned1 left0 left1 held0 middle held1 ending served.reads.read (subst (λ (left : Option (List ℕ)). Consumes left0 left served.reads.read) (sym none.0) served.reads.took) none.1 last)
@@ -310,29 +315,41 @@ kept_both seen faults handed0 handed1 returned0 returned1 left0 left1 held0 midd
 
 module _ {D : Type 0} (seen : D → Option (List ℕ)) (faults : D → ℕ) (handed0 handed1 returned0 returned1 : Option (List (ℕ × ℕ × D))) (left0 left1 held0 middle held1 : Option (List ℕ)) (ending : Ending) (status : ℕ)
     (works : Works seen faults handed0 handed1 returned0 returned1 left0 left1 held0 middle ending) (finishes : Finishes middle held1 ending status) where
-  both : KeepsBoth seen returned0 returned1 left0 left1 held0 held1
-  both = kept_both seen faults handed0 handed1 returned0 returned1 left0 left1 held0 middle held1 ending status works finishes
+  all : KeepsAll seen returned0 returned1 left0 left1 held0 held1
+  all = kept_all seen faults handed0 handed1 returned0 returned1 left0 left1 held0 middle held1 ending status works finishes
 
   -- the promise to senders
   pub kept : KeepsStored seen returned0 returned1 left0 left1 held0 held1
   kept = record {
-    read = both.read;
-    written = both.written;
-    entries = both.entries;
-    took = both.took;
-    gave = both.gave;
-    transcript = both.transcript;
-    promise = ⊎_elim (λ none. inl none.0) (λ some. inr (some.0, some.1, some.2, some.3, some.4, some.5)) both.promise;
+    read = all.read;
+    written = all.written;
+    entries = all.entries;
+    took = all.took;
+    gave = all.gave;
+    transcript = all.transcript;
+    promise = ⊎_elim (λ none. inl none.0) (λ some. inr (some.0, some.1, some.2, some.3, some.4, some.5)) all.promise;
   }
 
   -- the promise to readers
   pub shown : ShowsStored seen returned0 returned1 left0 left1 held0 held1
   shown = record {
-    read = both.read;
-    written = both.written;
-    entries = both.entries;
-    took = both.took;
-    gave = both.gave;
-    transcript = both.transcript;
-    promise = ⊎_elim (λ none. inl none.1) (λ some. inr (some.0, some.1, some.2, some.3, some.4, some.6)) both.promise;
+    read = all.read;
+    written = all.written;
+    entries = all.entries;
+    took = all.took;
+    gave = all.gave;
+    transcript = all.transcript;
+    promise = ⊎_elim (λ none. inl none.1) (λ some. inr (some.0, some.1, some.2, some.3, some.4, some.6)) all.promise;
+  }
+
+  -- the promise to those who delete
+  pub deleted : DeletesByQuit seen returned0 returned1 left0 left1 held0 held1
+  deleted = record {
+    read = all.read;
+    written = all.written;
+    entries = all.entries;
+    took = all.took;
+    gave = all.gave;
+    transcript = all.transcript;
+    promise = ⊎_elim (λ none. inl none.1) (λ some. inr (some.0, some.1, some.2, some.3, some.4, some.7)) all.promise;
   }

@@ -5,3 +5,4 @@ pub mod Works
 pub mod Complete
 pub mod Kept
 pub mod Seen
+pub mod Gone

@@ -9,6 +9,7 @@ ghost use Rattle.porcupine_server.specs.Works.{Serves, Works, Follows};
 ghost use Rattle.porcupine_server.specs.Complete.{IsGoodTape};
 ghost use Rattle.porcupine_server.specs.Kept.{KeepsStored};
 ghost use Rattle.porcupine_server.specs.Seen.{ShowsStored};
+ghost use Rattle.porcupine_server.specs.Gone.{DeletesByQuit};
 ghost use Rattle.porcupine_server.specs.declared.ending.Ending.TheVariants as endings;
 
 use crate::ending::{Ending, finish};
@@ -112,6 +113,8 @@ pub fn porcupine<S: Source, K: Sink, Y: Yard>(
     ensures stored_stands { IsDrive words.now → KeepsStored Y.Store.seen (Y.returned yard.old) (Y.returned yard.new)
         (S.left source.old) (S.left source.new) (K.contents sink.old) (K.contents sink.new) }
     ensures shown_as_filed { IsDrive words.now → ShowsStored Y.Store.seen (Y.returned yard.old) (Y.returned yard.new)
+        (S.left source.old) (S.left source.new) (K.contents sink.old) (K.contents sink.new) }
+    ensures deleted_by_quit { IsDrive words.now → DeletesByQuit Y.Store.seen (Y.returned yard.old) (Y.returned yard.new)
         (S.left source.old) (S.left source.new) (K.contents sink.old) (K.contents sink.new) }
     ensures transcript_follows { IsDrive words.now → Follows Y.Store.seen Y.Store.faults (Y.handed yard.old) (Y.handed yard.new)
         (Y.returned yard.old) (Y.returned yard.new) (S.left source.old) (S.left source.new) (K.contents sink.old) (K.contents sink.new) result }

@@ -266,8 +266,6 @@ say 2 RETR 0
   2 -ERR no such message
 say 2 RETR 3
   2 -ERR no such message
-say 2 DELE 1
-  2 -ERR unknown command
 say 2 TOP 1 0
   2 -ERR unknown command
 say 2 USER bob

@@ -12,6 +12,8 @@ pub(super) struct Journal {
     octets: Vec<u8>,
     /// The number of the last message.
     number: u64,
+    /// The count of the last stamp.
+    count: u64,
 }
 
 impl Journal {
@@ -21,6 +23,7 @@ impl Journal {
             alloc,
             octets: joined(alloc, &[b"PORCUPN1", b"\0\x01\0\0\0\0\0\0"])?,
             number: 0,
+            count: 0,
         };
         journal.record(b"\x01\0\0\0\x01")?;
         Ok(journal)
@@ -52,10 +55,12 @@ impl Journal {
         )
     }
 
-    // The last message is here for this user. Node 1 in its boot 1 stamped it with its number.
-    fn copy(&mut self, id: &[u8], user: &[u8]) -> Result<(), Fail> {
+    // A state of the user's copy of a message, with the last stamp: it is here (1) or gone (2). Node 1 in its boot 1
+    // stamped it, and is its target.
+    fn state(&mut self, id: &[u8], user: &[u8], value: u8) -> Result<(), Fail> {
         let length = [u8::try_from(user.len())?];
-        let count = self.number.to_be_bytes();
+        let value = [value];
+        let count = self.count.to_be_bytes();
         let payload = joined(
             self.alloc,
             &[
@@ -63,7 +68,7 @@ impl Journal {
                 &length,
                 user,
                 id,
-                b"\x01",
+                &value,
                 &count,
                 b"\0\0\0\x01\x01\0\x01",
             ],
@@ -71,7 +76,12 @@ impl Journal {
         self.record(&payload)
     }
 
-    /// The next message: its octets, and its copy of each user.
+    // The id of this message of node 1 in its boot 1.
+    fn id(&self, number: u64) -> Result<Vec<u8>, AllocError> {
+        joined(self.alloc, &[b"\x01\0\0\0\x01", &number.to_be_bytes()])
+    }
+
+    /// The next message: its octets, and its copy of each user, all with the next stamp.
     pub(super) fn message(
         &mut self,
         sender: &[u8],
@@ -80,13 +90,26 @@ impl Journal {
         text: &[u8],
     ) -> Result<(), Fail> {
         self.number = self.number.saturating_add(1);
-        let id = joined(self.alloc, &[b"\x01\0\0\0\x01", &self.number.to_be_bytes()])?;
+        self.count = self.count.saturating_add(1);
+        let id = self.id(self.number)?;
         let trace = self.trace(sender, helo)?;
         self.record(&joined(self.alloc, &[b"\x03", &id, &trace, text])?)?;
         for user in users {
-            self.copy(&id, user)?;
+            self.state(&id, user, 1)?;
         }
         Ok(())
+    }
+
+    /// The user's copy of this message is gone, with the next stamp.
+    pub(super) fn gone(&mut self, user: &[u8], number: u64) -> Result<(), Fail> {
+        self.count = self.count.saturating_add(1);
+        let id = self.id(number)?;
+        self.state(&id, user, 2)
+    }
+
+    /// The store begins with the journal.
+    pub(super) fn is_front(&self, rt: &impl Abort, store: &[u8]) {
+        assert!(rt; store.starts_with(&self.octets));
     }
 
     /// The store holds the journal, and one closed gate behind it.
