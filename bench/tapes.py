@@ -1,13 +1,14 @@
 #!/usr/bin/env python3
-"""Runs the built program over tapes of many messages and of large ones, and prints two tables.
+"""Runs the built program over tapes of many messages and of large ones, and prints three tables.
 
     ./porcupine drive < examples/first.tape    # builds the program
     bench/tapes.py
 
-It asserts nothing. Each tape is one session that sends all its messages to one mailbox; for the second
-table a POP3 session follows that logs in, asks for STAT, LIST and UIDL, and reads each message. The time is
-that of the whole run, the start of the program among it, and for reading what the run takes longer than
-that of the same tape without the reader; the memory is the peak resident set of the process.
+It asserts nothing. Each tape is one session that sends all its messages to one mailbox. For the second
+table a POP3 session follows that logs in, asks for STAT, LIST and UIDL, and reads each message; for the
+third one that logs in, marks each message by DELE, and quits. The time is that of the whole run, the start
+of the program among it, and for reading and deleting what the run takes longer than that of the same tape
+without the POP3 session; the memory is the peak resident set of the process.
 """
 
 import os
@@ -28,23 +29,30 @@ CASES = [
     (1_000, 102_400),
     (10, 10_485_760),
 ]
+DELETIONS = [1_000, 10_000, 30_000]
+LOGIN = b"open pop 1\nsay 2 USER alice\nsay 2 PASS tanstaaf\n"
 
 
-def write_tape(path, messages, octets, reads=False):
-    """Writes the tape, and says how many lines it has."""
+def reading(messages):
+    """The lines of a reader."""
+    return LOGIN + b"say 2 STAT\nsay 2 LIST\nsay 2 UIDL\n" + b"".join(b"say 2 RETR %d\n" % n for n in range(1, messages + 1))
+
+
+def deleting(messages):
+    """The lines of an owner who deletes all."""
+    return LOGIN + b"".join(b"say 2 DELE %d\n" % n for n in range(1, messages + 1)) + b"say 2 QUIT\n"
+
+
+def write_tape(path, messages, octets, behind=b""):
+    """Writes the tape, with these lines behind those of the sender, and says how many lines it has."""
     text_lines = octets // 64
     message = COMMANDS + LINE * text_lines + b"say 1 .\n"
     with open(path, "wb") as tape:
         tape.write(PLAN + b"open smtp 1\nsay 1 HELO c.example\n")
         for _ in range(messages):
             tape.write(message)
-        tape.write(b"say 1 QUIT\n")
-        if reads:
-            tape.write(b"open pop 1\nsay 2 USER alice\nsay 2 PASS tanstaaf\nsay 2 STAT\nsay 2 LIST\nsay 2 UIDL\n")
-            for number in range(1, messages + 1):
-                tape.write(b"say 2 RETR %d\n" % number)
-        tape.write(b"end\n")
-    return 6 + 2 + messages * (4 + text_lines) + 2 + (6 + messages if reads else 0)
+        tape.write(b"say 1 QUIT\n" + behind + b"end\n")
+    return 6 + 2 + messages * (4 + text_lines) + 2 + behind.count(b"\n")
 
 
 def run(path):
@@ -59,11 +67,11 @@ def run(path):
     return time.perf_counter() - begun, usage.ru_maxrss, os.waitstatus_to_exitcode(status)
 
 
-def timed(messages, octets, reads=False):
+def timed(messages, octets, behind=b""):
     """Writes a tape and runs the program on it: how many lines it has, and what the run gave."""
     with tempfile.TemporaryDirectory() as folder:
         path = os.path.join(folder, "tape")
-        return write_tape(path, messages, octets, reads), *run(path)
+        return write_tape(path, messages, octets, behind), *run(path)
 
 
 def print_sending():
@@ -77,12 +85,12 @@ def print_sending():
         )
 
 
-def print_reading():
-    """What it costs to show them."""
+def print_behind(cases, lines_of):
+    """What it costs longer where these lines stand behind those of the sender."""
     print(f"{'messages':>9} {'octets':>11} {'seconds':>8} {'us/message':>11} {'peak MiB':>9} status")
-    for messages, octets in CASES:
+    for messages, octets in cases:
         _, sending, _, _ = timed(messages, octets)
-        _, seconds, peak, status = timed(messages, octets, reads=True)
+        _, seconds, peak, status = timed(messages, octets, lines_of(messages))
         print(
             f"{messages:>9,} {octets:>11,} {seconds - sending:>8.2f}"
             f" {(seconds - sending) / messages * 1e6:>11.1f} {peak / 1024:>9.1f} {status}"
@@ -93,7 +101,9 @@ def main():
     print("taking messages in")
     print_sending()
     print("reading them back")
-    print_reading()
+    print_behind(CASES, reading)
+    print("deleting them")
+    print_behind([(messages, 1_024) for messages in DELETIONS], deleting)
 
 
 if __name__ == "__main__":
