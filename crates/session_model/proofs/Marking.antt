@@ -1,0 +1,168 @@
+-- The slots of a session that reads mail are as its exchanges left them.
+use Rattle.std.proofs.Common.{◌≡◌, ⊎_elim, ℕ, false, List, [], ◌∷◌, ◌++◌, length, map, Option, Some, None, get_or, refl, sym, ap, ap₂, ◌∙◌, subst, arith}
+use Rattle.std.specs.Prelude.{Ok}
+use Rattle.std.proofs.lemmas.List.{map-append}
+use Rattle.mail_model.specs.Identity.{Id}
+use Rattle.mail_model.specs.Plan.{Plan}
+use Rattle.mail_model.specs.Session.{Unit}
+use Rattle.mail_model.specs.Session.Unit.{Line, Text}
+use Rattle.mail_model.specs.Pop.{pop_command_of}
+use Rattle.mail_model.specs.Pop.Command.{Pass, Retr}
+use Rattle.mail_model.specs.PopReplies.{Item, Slot, one_line, listed_slots, octets_text, dotted_line, last_line}
+use Rattle.mail_model.specs.Maildrop.{Outcome, line_outcome, named_in, deleted_in, wrong_text, entered_text, gone_text, later_text}
+use Rattle.mail_model.specs.Maildrop.Stage.{Authorization, Transaction}
+use Rattle.mail_model.specs.Maildrop.Outcome.{Answered, Closed, AsksLogin, AsksMessage, AsksDeletion}
+use Rattle.mail_model.specs.Site as site
+use Rattle.mail_model.specs.Told.{IsUnit}
+use Rattle.mail_model.proofs.ShownCuts.{bad_answers}
+use Rattle.mail_model.proofs.ShownReplies.{exchange}
+use Rattle.mail_model.proofs.DeletedNumbers.{says_first}
+use Rattle.mail_model.proofs.DeletedReplies.{Quiet, Tells, dele_number}
+use Rattle.mail_model.proofs.DeletedOutcomes.{LeadsBefore, LeadsBehind, before, behind, bad, pass_quiet, unmarked_tells, retr_tells, gone_tells}
+use Rattle.mail_model.proofs.DeletedSessions.{Unknown, Known, unknown_more, logs_in, known_more}
+use Rattle.session_model.specs.Calls.{Answer}
+use Rattle.session_model.specs.Calls.Call.{Login, Fetch, Strike}
+use Rattle.session_model.specs.Calls.Answer.{Listed, Wrong, Part, GoneAlready, Failed}
+use Rattle.session_model.specs.Talk.{State, Exchange, IsNext, IsLed, Awaits, line_lead, lead_of, stands, stands_by, asked}
+use Rattle.session_model.specs.Talk.State.{Mailing, Entering, Reading}
+use Rattle.session_model.specs.Talk.Standing.{Hearing}
+use Rattle.session_model.specs.Reading.{ListsOnce, all_seen, seen, line_of}
+
+-- the login of a user
+abbrev pub login_as : List ℕ → site.Login
+login_as user = record { user = user; ticket = 0 }
+
+-- what the exchanges so far are to a session that reads mail and hears
+abbrev pub IsAsSeen : State → List Exchange → Type 0
+IsAsSeen (Mailing talk) been = ⊥
+IsAsSeen (Entering named) been = Unknown named (all_seen been)
+IsAsSeen (Reading user slots) been = Known slots (Some (login_as user)) (all_seen been)
+
+-- all of them, with one more
+pub seen_more : (been : List Exchange) (one : Exchange) → all_seen (been ++ one ∷ []) ≡ all_seen been ++ seen one ∷ []
+seen_more been one = map-append seen been (one ∷ [])
+
+-- that a node could not answer shows and marks nothing
+pub later_quiet : (line : List ℕ) → Quiet line (one_line later_text)
+later_quiet line = record {
+  answers = record {
+    whole = bad_answers line later_text refl;
+    goes_on = record {
+      not_down = λ node e. let letter : 116 ≡ 110 = ap (λ (l : List (List ℕ)). get_or (get_or l 0 []) 16 0) e in omega (arith, letter);
+      not_bye = λ e. let first : 45 ≡ 43 = ap (λ (l : List (List ℕ)). get_or (get_or l 0 []) 0 0) e in omega (arith, first);
+    };
+  };
+  unmarked = λ n marks. let first : 45 ≡ 43 = ap (λ (l : List (List ℕ)). get_or (get_or l 0 []) 0 0) marks.1 in omega (arith, first);
+  unshown = λ n id shows. ⊎_elim
+      (λ all. ⊎_elim (λ e. says_first later_text n id (omega arith) e) (λ none. none) all.1)
+      (λ one. let first : 45 ≡ 43 = ap (λ (l : List (List ℕ)). get_or (get_or l 0 []) 0 0) one.1 in omega (arith, first)) shows;
+}
+
+-- a session before its login
+module _ (plan : Plan) (node : ℕ) (named : Option (List ℕ)) (been : List Exchange) (unknown : Unknown named (all_seen been))
+    (line : List ℕ) (one : Exchange) (lists : ListsOnce one) (is : one.unit ≡ Line line) where
+  -- a line that shows and marks nothing
+  quiet_entering : (reply : List (List ℕ)) → one.reply ≡ reply → Quiet line reply → IsAsSeen (Entering (named_in line)) (been ++ one ∷ [])
+  quiet_entering reply says quiet =
+      subst (Unknown (named_in line)) (ap₂ (λ (l : List ℕ) (r : List (List ℕ)). all_seen been ++ exchange l r ∷ []) (ap line_of (sym is)) (sym says) ∙ sym (seen_more been one))
+      (unknown_more named (all_seen been) line reply unknown quiet)
+
+  -- a login that is let in
+  entered : (name secret : List ℕ) (items : List Item) → named ≡ Some name → pop_command_of line ≡ Ok (Pass secret) → one.call ≡ Some (Login name secret) → one.answer ≡ Some (Listed items)
+      → one.reply ≡ one_line entered_text → IsAsSeen (Reading name (listed_slots items)) (been ++ one ∷ [])
+  entered name secret items is_named asked call there says =
+      subst (Known (listed_slots items) (Some (login_as name)))
+      (ap₂ (λ (l : List ℕ) (r : List (List ℕ)). all_seen been ++ exchange l r ∷ []) (ap line_of (sym is)) (sym says) ∙ sym (seen_more been one))
+      (logs_in name secret line (all_seen been) (login_as name) items (subst (λ (n : Option (List ℕ)). Unknown n (all_seen been)) is_named unknown) asked refl
+      (pass_quiet line secret asked) (lists name secret items call there))
+
+  -- the answer to a login
+  login_seen : (name secret : List ℕ) → named ≡ Some name → pop_command_of line ≡ Ok (Pass secret) → one.call ≡ Some (Login name secret) → (answer : Option Answer) → one.answer ≡ answer
+      → Awaits (Login name secret) answer one.reply → (state : State) → asked (Entering (named_in line)) (Login name secret) answer ≡ Hearing state
+      → IsAsSeen state (been ++ one ∷ [])
+  login_seen name secret is_named pass call None there says state e = cc
+  login_seen name secret is_named pass call (Some (Listed items)) there says state e =
+      let same : Reading name (listed_slots items) ≡ state = cc in
+      subst (λ (s : State). IsAsSeen s (been ++ one ∷ [])) same (entered name secret items is_named pass call there says)
+  login_seen name secret is_named pass call (Some Wrong) there says state e =
+      let same : Entering (named_in line) ≡ state = cc in
+      subst (λ (s : State). IsAsSeen s (been ++ one ∷ [])) same (quiet_entering (one_line wrong_text) says (bad line wrong_text (refl, refl, refl)))
+  login_seen name secret is_named pass call (Some Failed) there says state e =
+      let same : Entering (named_in line) ≡ state = cc in
+      subst (λ (s : State). IsAsSeen s (been ++ one ∷ [])) same (quiet_entering (one_line later_text) says (later_quiet line))
+  login_seen name secret is_named pass call (Some answer) there says state e = absurd says
+
+  -- whatever the line leads to
+  outcome_seen : (outcome : Outcome) → LeadsBefore named line outcome → IsLed (line_lead [] outcome) one → (state : State)
+      → stands plan (Entering named) (record one { unit = Line line }) (line_lead [] outcome) ≡ Hearing state → IsAsSeen state (been ++ one ∷ [])
+  outcome_seen (Answered lines) leads led state e =
+      let same : Entering (named_in line) ≡ state = cc in
+      subst (λ (s : State). IsAsSeen s (been ++ one ∷ [])) same (quiet_entering lines led.2 leads)
+  outcome_seen (Closed lines) leads led state e = cc
+  outcome_seen (AsksLogin name secret) leads led state e = login_seen name secret leads.0 leads.1 led.0 one.answer refl led.1 state e
+  outcome_seen (AsksMessage number id) leads led state e = absurd leads
+  outcome_seen (AsksDeletion ids) leads led state e = absurd leads
+
+-- a session behind its login
+module _ (plan : Plan) (node : ℕ) (user : List ℕ) (slots : List Slot) (been : List Exchange) (known : Known slots (Some (login_as user)) (all_seen been))
+    (line : List ℕ) (one : Exchange) (is : one.unit ≡ Line line) where
+  -- a reply that shows and marks what the line does
+  tells_reading : (reply : List (List ℕ)) → one.reply ≡ reply → Tells slots line reply → IsAsSeen (Reading user (deleted_in slots line)) (been ++ one ∷ [])
+  tells_reading reply says tells =
+      subst (Known (deleted_in slots line) (Some (login_as user)))
+      (ap₂ (λ (l : List ℕ) (r : List (List ℕ)). all_seen been ++ exchange l r ∷ []) (ap line_of (sym is)) (sym says) ∙ sym (seen_more been one))
+      (known_more slots (Some (login_as user)) (all_seen been) line reply known tells)
+
+  -- the answer to RETR
+  fetch_seen : (number : ℕ) (id : Id) → pop_command_of line ≡ Ok (Retr number) → (answer : Option Answer) → Awaits (Fetch user id) answer one.reply → (state : State)
+      → asked (Reading user (deleted_in slots line)) (Fetch user id) answer ≡ Hearing state → IsAsSeen state (been ++ one ∷ [])
+  fetch_seen number id retr None says state e = cc
+  fetch_seen number id retr (Some (Part octets)) says state e =
+      let same : Reading user (deleted_in slots line) ≡ state = cc in
+      subst (λ (s : State). IsAsSeen s (been ++ one ∷ [])) same
+      (tells_reading (octets_text (length octets) ∷ map dotted_line says.lines ++ last_line) says.says (retr_tells slots line number (length octets) says.lines retr))
+  fetch_seen number id retr (Some GoneAlready) says state e =
+      let same : Reading user (deleted_in slots line) ≡ state = cc in
+      subst (λ (s : State). IsAsSeen s (been ++ one ∷ [])) same (tells_reading (one_line gone_text) says (gone_tells slots line number retr))
+  fetch_seen number id retr (Some Failed) says state e =
+      let same : Reading user (deleted_in slots line) ≡ state = cc in
+      subst (λ (s : State). IsAsSeen s (been ++ one ∷ [])) same
+      (tells_reading (one_line later_text) says (unmarked_tells slots line (one_line later_text) (ap dele_number retr) (later_quiet line)))
+  fetch_seen number id retr (Some answer) says state e = absurd says
+
+  -- behind a deletion it hears nothing
+  strike_over : (ids : List Id) (answer : Option Answer) (state : State) → asked (Reading user (deleted_in slots line)) (Strike user ids) answer ≡ Hearing state → ⊥
+  strike_over ids None state e = cc
+  strike_over ids (Some answer) state e = cc
+
+  -- whatever the line leads to
+  outcome_seen_behind : (outcome : Outcome) → LeadsBehind slots line outcome → IsLed (line_lead user outcome) one → (state : State)
+      → stands plan (Reading user slots) (record one { unit = Line line }) (line_lead user outcome) ≡ Hearing state → IsAsSeen state (been ++ one ∷ [])
+  outcome_seen_behind (Answered lines) leads led state e =
+      let same : Reading user (deleted_in slots line) ≡ state = cc in
+      subst (λ (s : State). IsAsSeen s (been ++ one ∷ [])) same (tells_reading lines led.2 leads)
+  outcome_seen_behind (Closed lines) leads led state e = cc
+  outcome_seen_behind (AsksLogin name secret) leads led state e = absurd leads
+  outcome_seen_behind (AsksMessage number id) leads led state e = fetch_seen number id leads one.answer led.1 state e
+  outcome_seen_behind (AsksDeletion ids) leads led state e = absurd (strike_over ids one.answer state e)
+
+-- each exchange
+pub step_seen : (plan : Plan) (node : ℕ) (been : List Exchange) (state : State) (there left : List ℕ) (one : Exchange) (next : State) → IsAsSeen state been → ListsOnce one
+    → IsNext plan node state there one left → stands_by plan node state one ≡ Hearing next → IsAsSeen next (been ++ one ∷ [])
+step_seen plan node been (Mailing talk) there left one next as_seen lists n e = absurd as_seen
+step_seen plan node been (Entering named) there left one next as_seen lists n e = by_unit one.unit refl
+  where
+    by_unit : (unit : Unit) → one.unit ≡ unit → IsAsSeen next (been ++ one ∷ [])
+    by_unit (Text lines) is = absurd (subst (IsUnit false) is n.is_unit)
+    by_unit (Line line) is =
+        outcome_seen plan node named been as_seen line one lists is (line_outcome plan (Authorization named) line) (before plan named line)
+        (subst (λ (u : Unit). IsLed (lead_of plan node (Entering named) u) one) is n.led) next
+        (ap (λ (u : Unit). stands plan (Entering named) (record one { unit = u }) (lead_of plan node (Entering named) u)) (sym is) ∙ e)
+step_seen plan node been (Reading user slots) there left one next as_seen lists n e = by_unit one.unit refl
+  where
+    by_unit : (unit : Unit) → one.unit ≡ unit → IsAsSeen next (been ++ one ∷ [])
+    by_unit (Text lines) is = absurd (subst (IsUnit false) is n.is_unit)
+    by_unit (Line line) is =
+        outcome_seen_behind plan node user slots been as_seen line one is (line_outcome plan (Transaction slots) line) (behind slots line plan)
+        (subst (λ (u : Unit). IsLed (lead_of plan node (Reading user slots) u) one) is n.led) next
+        (ap (λ (u : Unit). stands plan (Reading user slots) (record one { unit = u }) (lead_of plan node (Reading user slots) u)) (sym is) ∙ e)

@@ -1,0 +1,89 @@
+-- The first promise, from the sessions of a tape and what is true of `Stored`.
+use Rattle.std.proofs.Common.{◌≡◌, ⊎_elim, ℕ, List, [], ◌∷◌, ◌++◌, Option, refl, sym, ap, ◌∙◌, subst, arith, slice_get}
+use Rattle.std.proofs.lemmas.List.Concat.{flat_map-append}
+use Rattle.mail_model.specs.Plan.{Plan}
+use Rattle.mail_model.specs.Tape.{Protocol}
+use Rattle.mail_model.specs.Tape.Protocol.{Smtp}
+use Rattle.mail_model.specs.Transcript.{Entry}
+use Rattle.mail_model.proofs.Sessions.{get_more}
+use Rattle.session_model.specs.Talk.{Exchange, Standing, Goes, opening, farewell, replies}
+use Rattle.session_model.specs.Talk.Standing.{Hearing, Waiting, EndedByQuit, EndedDown, EndedClosed}
+use Rattle.session_model.specs.Mailing.{Filing, filing_of, filings, stored_lines}
+use Rattle.session_model.specs.Sessions.{Session, IsCut, IsSession, exchanges_of}
+use Rattle.session_model.specs.Facts.{AllStand}
+use Rattle.session_model.specs.Promises.{IsTold, TrueAnswersStand}
+use Rattle.session_model.proofs.Mailing.{lines_both, stored_as_told}
+use Rattle.session_model.proofs.Cuts.{IsShort, goes_front, of_mail}
+
+-- a front of lines of which none is `250 stored`
+front_lines : (part missing lines : List (List ℕ)) → lines ≡ part ++ missing → stored_lines lines ≡ 0 → stored_lines part ≡ 0
+front_lines part missing lines cut none = let both = lines_both part missing in omega (arith, both, none, ap stored_lines cut)
+
+-- what a session says last is none
+last_lines : (node : ℕ) (standing : Standing) → stored_lines (farewell Smtp node standing) ≡ 0
+last_lines node (Hearing state) = refl
+last_lines node (Waiting told call) = refl
+last_lines node EndedByQuit = refl
+last_lines node EndedDown = refl
+last_lines node EndedClosed = refl
+
+-- a part of a short reply that is not all of it is nothing
+no_part : (reply part missing : List (List ℕ)) → IsShort reply → reply ≡ part ++ missing → (missing ≡ [] → ⊥) → part ≡ []
+no_part reply [] missing short cut some = refl
+no_part reply (line ∷ part) missing short cut some = absurd (⊎_elim
+    (λ none. let e : [] ≡ line ∷ (part ++ missing) = sym none ∙ cut in cc)
+    (λ one. let e : one.0 ∷ [] ≡ line ∷ (part ++ missing) = sym one.1 ∙ cut in
+    let later : [] ≡ part ++ missing = cc in some (behind part missing later)) short)
+  where
+    behind : (a b : List (List ℕ)) → [] ≡ a ++ b → b ≡ []
+    behind [] b e = sym e
+    behind (x ∷ a) b e = cc
+
+-- so what a client got in part is none
+part_lines : (plan : Plan) (node : ℕ) (octets : List ℕ) (whole others : List Exchange) (before : Standing) (rest : List ℕ) (standing : Standing) (part missing : List (List ℕ))
+    → Goes plan node (Hearing (opening Smtp)) octets (whole ++ others) before rest → IsCut others (farewell Smtp node standing) part missing → stored_lines part ≡ 0
+part_lines plan node octets whole [] before rest standing part missing g cut = front_lines part missing (farewell Smtp node standing) cut (last_lines node standing)
+part_lines plan node octets whole (one ∷ []) before rest standing part missing g cut =
+    ap stored_lines (no_part one.reply part missing (of_mail plan node octets whole [] one before rest g).0 cut.0 cut.1)
+part_lines plan node octets whole (one ∷ other ∷ more) before rest standing part missing g cut = absurd cut
+
+-- what a front of the messages has
+front_stand : (plan : Plan) (entries : List Entry) (stores : List (Option (List ℕ))) (k node : ℕ) (a b : List Filing) → AllStand plan entries stores k node (a ++ b)
+    → AllStand plan entries stores k node a
+front_stand plan entries stores k node [] b all = tt
+front_stand plan entries stores k node (filing ∷ a) b all = (all.0, all.1, front_stand plan entries stores k node a b all.2)
+
+-- the messages of two lists of exchanges
+pub filings_both : (whole others : List Exchange) → filings (whole ++ others) ≡ filings whole ++ filings others
+filings_both whole others = flat_map-append (λ (one : Exchange). filing_of one.call one.answer) whole others
+
+-- one that takes mail was told so
+pub told_so : (plan : Plan) (lines : List (List ℕ)) (entries : List Entry) (k : ℕ) (session : Session) → IsSession plan lines entries k session → session.protocol ≡ Smtp
+    → IsTold plan entries k session
+told_so plan lines entries k session is smtp =
+    let goes : Goes plan session.node (Hearing (opening Smtp)) session.octets (exchanges_of session) is.talk.before session.rest =
+    subst (λ (p : Protocol). Goes plan session.node (Hearing (opening p)) session.octets (exchanges_of session) is.talk.before session.rest) smtp is.talk.goes in
+    let front = goes_front plan session.node (Hearing (opening Smtp)) session.octets session.whole session.others is.talk.before session.rest goes in
+    let told = stored_as_told plan session.node session.octets session.whole front.0 front.1 front.2 in
+    let none : stored_lines is.gets.part ≡ 0 = part_lines plan session.node session.octets session.whole session.others is.talk.before session.rest session.standing is.gets.part is.gets.missing goes
+    (subst (λ (p : Protocol). IsCut session.others (farewell p session.node session.standing) is.gets.part is.gets.missing) smtp is.gets.cut) in
+    let both = lines_both (replies session.whole) is.gets.part in
+    record {
+      in_text = told.0.0;
+      rest = front.1;
+      units = told.0.1;
+      messages = told.1;
+      lines = ap stored_lines is.gets.are ∙ omega (arith, both, none, told.2);
+    }
+
+pub true_answers_stand : TrueAnswersStand
+true_answers_stand plan lines entries stores sessions are facts = record {
+  told = λ k session at smtp. told_so plan lines entries k session (are.each k session at) smtp;
+  stand = λ k session at.
+      front_stand plan entries stores k session.node (filings session.whole) (filings session.others)
+      (subst (AllStand plan entries stores k session.node) (filings_both session.whole session.others) (facts.stand k session at));
+  own_ids = λ k l i j session other one two at at_too there there_too same.
+      facts.own_ids k l i j session other one two at at_too
+      (ap (λ (f : List Filing). slice_get f i) (filings_both session.whole session.others) ∙ get_more (filings session.whole) (filings session.others) i one there)
+      (ap (λ (f : List Filing). slice_get f j) (filings_both other.whole other.others) ∙ get_more (filings other.whole) (filings other.others) j two there_too) same;
+}

@@ -1,0 +1,5 @@
+use Rattle.session_model.proofs.Drives.{driven_is_shown}
+use Rattle.session_model.proofs.laws.driven_is_shown.Goals as goal
+
+pub returns : goal.returns
+returns c = driven_is_shown

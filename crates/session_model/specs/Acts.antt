@@ -1,0 +1,123 @@
+-- What is done for the lines of a tape, act by act, with what each act writes. Nothing else writes a line of a session.
+use Rattle.std.specs.Prelude.{◌≡◌, ℕ, ◌+◌, ◌-◌, List, [], ◌∷◌, ◌++◌, length, map, flat_map, All, ⊤, Some, None, slice_set}
+use Rattle.mail_model.specs.Plan.{Plan}
+use Rattle.mail_model.specs.Lines.{sent_line}
+use Rattle.mail_model.specs.Tape.{Protocol, Order, tape_order}
+use Rattle.mail_model.specs.Tape.Order.{Open, Say, Feed, Close, End}
+use Rattle.mail_model.specs.Transcript.{Entry}
+use Rattle.mail_model.specs.Transcript.Entry.{Said, Event}
+use Rattle.mail_model.specs.Site.{closed_event}
+use Rattle.mail_model.specs.Steps.{said_lines}
+use Rattle.mail_model.specs.Told.{sent, fed_to}
+use Rattle.mail_model.specs.Stored.{opened}
+use Rattle.session_model.specs.Calls.{Call, Answer, IsReply}
+use Rattle.session_model.specs.Talk.{State, Exchange, Standing, IsNext, IsOn, opening, stands_by, answered, down_line}
+use Rattle.session_model.specs.Talk.Standing.{Hearing, Waiting, EndedByQuit, EndedDown, EndedClosed}
+use Rattle.session_model.specs.Moves.{with_answer}
+use Rattle.session_model.specs.Sessions.{Session, session_at}
+
+-- what one session does
+pub data Deed : Type 0 where
+  IsFed : (octets : List ℕ) → Deed
+  Hears : (one : Exchange) → Deed
+  IsAnswered : (call : Call) (answer : Answer) (reply : List (List ℕ)) → Deed
+  Falls : Deed
+  Closes : Deed
+
+-- how it then is, and the lines that it says
+abbrev pub Did : Plan → Session → Deed → List (List ℕ) → Session → Type 0
+Did plan old (IsFed more) said new = IsOn old.standing × (said ≡ []) × (new ≡ record old { octets = old.octets ++ more; rest = old.rest ++ more })
+Did plan old (Hears one) said new =
+    (state : State) × (left : List ℕ) × (old.standing ≡ Hearing state) × IsNext plan old.node state old.rest one left × (said ≡ one.reply)
+    × (new ≡ record old { whole = old.whole ++ one ∷ []; standing = stands_by plan old.node state one; rest = left }) × (one.answer ≡ None)
+Did plan old (IsAnswered call answer reply) said new =
+    (before : List Exchange) × (one : Exchange) × (state : State) × (old.whole ≡ before ++ one ∷ []) × (old.standing ≡ Waiting state call)
+    × IsReply call answer reply × (said ≡ reply)
+    × (new ≡ record old { whole = before ++ with_answer one answer reply ∷ []; standing = answered state call answer })
+Did plan old Falls said new = IsOn old.standing × (said ≡ down_line old.protocol old.node ∷ []) × (new ≡ record old { standing = EndedDown })
+Did plan old Closes said new = IsOn old.standing × (said ≡ []) × (new ≡ record old { standing = EndedClosed })
+
+-- a session that was opened
+abbrev pub opened_session : Protocol → ℕ → Session
+opened_session protocol node =
+    record { protocol = protocol; node = node; octets = []; whole = []; others = []; standing = Hearing (opening protocol); rest = [] }
+
+-- that the server ended it
+abbrev pub closing : ℕ → Deed → Standing → List Entry
+closing k Closes standing = []
+closing k deed EndedByQuit = closed_event k ∷ []
+closing k deed EndedDown = closed_event k ∷ []
+closing k deed standing = []
+
+-- a session is opened and greeted, session k does something, or something happens in the cluster
+pub data Act : Type 0 where
+  Opens : (protocol : Protocol) (node : ℕ) (greeting : List ℕ) → Act
+  Does : (k : ℕ) (deed : Deed) → Act
+  Notes : (events : List (List ℕ)) → Act
+
+-- the sessions, with this one in place of session k
+abbrev pub replace : List Session → ℕ → Session → List Session
+replace sessions k session = slice_set sessions (k - 1) session
+
+-- what an act writes, and how the sessions then are
+abbrev pub Acted : Plan → List Session → Act → List Entry → List Session → Type 0
+Acted plan old (Opens protocol node greeting) entries new =
+    (entries ≡ Said (length old + 1) greeting ∷ []) × (new ≡ old ++ opened_session protocol node ∷ [])
+Acted plan old (Does k deed) entries new =
+    (before : Session) × (behind : Session) × (said : List (List ℕ)) × (session_at old k ≡ Some before) × Did plan before deed said behind
+    × (entries ≡ said_lines k said ++ closing k deed behind.standing) × (new ≡ replace old k behind)
+Acted plan old (Notes events) entries new = (entries ≡ map Event events) × (new ≡ old)
+
+-- acts, one after another
+abbrev pub ActedAll : Plan → List Session → List Act → List (List Entry) → List Session → Type 0
+ActedAll plan old [] [] new = new ≡ old
+ActedAll plan old (act ∷ acts) (entries ∷ more) new = (mid : List Session) × Acted plan old act entries mid × ActedAll plan mid acts more new
+ActedAll plan old [] (entries ∷ more) new = ⊥
+ActedAll plan old (act ∷ acts) [] new = ⊥
+
+-- which sessions acts open
+abbrev pub opened_by : Act → List (Protocol × ℕ)
+opened_by (Opens protocol node greeting) = (protocol, node) ∷ []
+opened_by (Does k deed) = []
+opened_by (Notes events) = []
+
+-- and what they feed to session k
+abbrev pub fed_by : ℕ → Act → List ℕ
+fed_by k (Opens protocol node greeting) = []
+fed_by k (Does session (IsFed octets)) = fed_to k session octets
+fed_by k (Does session deed) = []
+fed_by k (Notes events) = []
+
+-- the acts are those of these lines: they open and feed what the lines do, and nothing else
+pub record AreActsOf (lines : List (List ℕ)) (acts : List Act) : Type 0 where
+  pub opens : opened lines ≡ flat_map opened_by acts
+  pub feeds : (k : ℕ) → sent k lines ≡ flat_map (fed_by k) acts
+
+-- an act that opens and feeds nothing
+pub record IsQuiet (act : Act) : Type 0 where
+  pub opens : opened_by act ≡ []
+  pub feeds : (k : ℕ) → fed_by k act ≡ []
+
+-- what a line begins with; what comes behind it opens and feeds nothing
+abbrev pub BeginsWith : Order → List Act → Type 0
+BeginsWith (Open protocol node) acts = (greeting : List ℕ) × (more : List Act) × (acts ≡ Opens protocol node greeting ∷ more) × All IsQuiet more
+BeginsWith (Say k text) acts = (more : List Act) × (acts ≡ Does k (IsFed (sent_line text)) ∷ more) × All IsQuiet more
+BeginsWith (Feed k octets) acts = (more : List Act) × (acts ≡ Does k (IsFed octets) ∷ more) × All IsQuiet more
+BeginsWith (Close k) acts = (more : List Act) × (acts ≡ Does k Closes ∷ more) × All IsQuiet more
+BeginsWith End acts = ⊥
+
+-- the last reply of a session is parted into what was written and what was not
+pub record IsParted (session parted : Session) : Type 0 where
+  pub same : parted ≡ record session { whole = parted.whole; others = parted.others }
+  pub exchanges : parted.whole ++ parted.others ≡ session.whole ++ session.others
+
+-- each of these lines is handled by these acts
+abbrev pub AreHandled : List (List ℕ) → List (List Act) → Type 0
+AreHandled [] [] = ⊤
+AreHandled (line ∷ lines) (acts ∷ more) = (order : Order) × (tape_order line ≡ Some order) × BeginsWith order acts × AreHandled lines more
+AreHandled [] (acts ∷ more) = ⊥
+AreHandled (line ∷ lines) [] = ⊥
+
+-- then all these acts are those of the lines
+abbrev pub HandledAreActs : Type 0
+HandledAreActs = (lines : List (List ℕ)) (acts : List (List Act)) → AreHandled lines acts → AreActsOf lines (flat_map (λ l. l) acts)

@@ -1,0 +1,116 @@
+-- A cluster of one node, by its calls: what each leaves on its disk, and what it answers.
+use Rattle.std.specs.Prelude.{◌≡◌, ◌≢◌, ℕ, ◌+◌, true, false, List, [], ◌∷◌, ◌++◌, length, map, flat_map, ⊤, AllPairs, Option, Some, None, IfSome}
+use Rattle.mail_model.specs.Plan.{Plan, opens}
+use Rattle.mail_model.specs.Session.{Told}
+use Rattle.mail_model.specs.Told.{mail_of}
+use Rattle.mail_model.specs.Mail.{IsStored}
+use Rattle.mail_model.specs.Tape.Protocol.{Smtp}
+use Rattle.mail_model.specs.Stored.{opened, kind_at}
+use Rattle.mail_model.specs.Transcript.{Entry}
+use Rattle.mail_model.specs.Record.{Record}
+use Rattle.mail_model.specs.Record.Record.{Boot}
+use Rattle.mail_model.specs.Listing.{octets_in, listing_of, size_in}
+use Rattle.mail_model.specs.Site.{HoldsRecords, nth_id, nth_stamp, message_records, gone_records, drawn_through}
+use Rattle.session_model.specs.Calls.{Call, Answer}
+use Rattle.session_model.specs.Calls.Call.{Deliver, Login, Fetch, Strike}
+use Rattle.session_model.specs.Calls.Answer.{Stored, Listed, Wrong, Part, GoneAlready, Dropped}
+use Rattle.session_model.specs.Logs.{Asked, Answered}
+use Rattle.session_model.specs.Owes.{OwesStored, OwesDeletions, OwesParts}
+
+-- the numbers that it drew, and its records
+pub record Node : Type 0 where
+  pub drawn : ℕ
+  pub stamps : ℕ
+  pub records : List Record
+
+-- with the record of its first boot
+abbrev pub first_node : Node
+first_node = record { drawn = 0; stamps = 0; records = Boot 1 ∷ [] }
+
+-- a call, and its answer, where one was given
+pub record Served : Type 0 where
+  pub session : ℕ
+  pub call : Call
+  pub answer : Option Answer
+
+-- what a call may write that has no answer, since the disk or memory failed: a front of what it would
+abbrev pub MayLeave : Node → Call → List Record → Type 0
+MayLeave old (Deliver mail) added = (octets : List ℕ) × (missing : List Record) × IsStored mail (nth_id (old.drawn + 1)) 0 octets
+    × (message_records (nth_id (old.drawn + 1)) (nth_stamp (old.stamps + 1)) octets mail.mailboxes ≡ added ++ missing)
+MayLeave old (Strike user ids) added = (missing : List Record) × (gone_records user old.stamps ids ≡ added ++ missing)
+MayLeave old (Login user secret) added = added ≡ []
+MayLeave old (Fetch user id) added = added ≡ []
+
+-- the numbers that are drawn, or named
+abbrev pub drawn_by : Call → ℕ → ℕ
+drawn_by (Deliver mail) drawn = drawn + 1
+drawn_by (Strike user ids) drawn = drawn_through drawn ids
+drawn_by (Login user secret) drawn = drawn
+drawn_by (Fetch user id) drawn = drawn
+
+-- what a call leaves
+abbrev pub Serves : Plan → Node → Call → Option Answer → Node → Type 0
+Serves plan old call None new = (added : List Record) × (stamps : ℕ) × MayLeave old call added
+    × (new ≡ record { drawn = drawn_by call old.drawn; stamps = stamps; records = old.records ++ added })
+Serves plan old (Deliver mail) (Some (Stored id)) new = (octets : List ℕ) × (id ≡ nth_id (old.drawn + 1)) × IsStored mail (nth_id (old.drawn + 1)) 0 octets
+    × (new ≡ record {
+      drawn = old.drawn + 1;
+      stamps = old.stamps + 1;
+      records = old.records ++ message_records (nth_id (old.drawn + 1)) (nth_stamp (old.stamps + 1)) octets mail.mailboxes;
+    })
+Serves plan old (Login user secret) (Some (Listed items)) new = (opens plan user secret ≡ true) × (items ≡ listing_of user old.records) × (new ≡ old)
+Serves plan old (Login user secret) (Some Wrong) new = (opens plan user secret ≡ false) × (new ≡ old)
+Serves plan old (Fetch user id) (Some (Part part)) new = (octets_in id old.records ≡ Some part) × (new ≡ old)
+Serves plan old (Fetch user id) (Some GoneAlready) new = (size_in id (listing_of user old.records) ≡ None) × (new ≡ old)
+Serves plan old (Strike user ids) (Some Dropped) new =
+    new ≡ record { drawn = drawn_through old.drawn ids; stamps = old.stamps + length ids; records = old.records ++ gone_records user old.stamps ids }
+Serves plan old call answer new = ⊥
+
+-- all calls, one after another
+abbrev pub ServesAll : Plan → Node → List Served → Node → Type 0
+ServesAll plan old [] new = new ≡ old
+ServesAll plan old (one ∷ more) new = (mid : Node) × Serves plan old one.call one.answer mid × ServesAll plan mid more new
+
+-- a message as a session tells it, with each mailbox once
+abbrev pub IsSoundMail : Call → Type 0
+IsSoundMail (Deliver mail) = (talk : Told) × (lines : List (List ℕ)) × (mail ≡ mail_of talk lines) × AllPairs (λ one other. one ≢ other) mail.mailboxes
+IsSoundMail (Login user secret) = ⊤
+IsSoundMail (Fetch user id) = ⊤
+IsSoundMail (Strike user ids) = ⊤
+
+abbrev pub AreSoundMails : List Served → Type 0
+AreSoundMails [] = ⊤
+AreSoundMails (one ∷ more) = IsSoundMail one.call × AreSoundMails more
+
+-- what was asked, and what was answered
+abbrev pub asked_of : List Served → List Asked
+asked_of served = map (λ one. record { session = one.session; call = one.call }) served
+
+abbrev pub told_of : ℕ → Call → Option Answer → List Answered
+told_of k call None = []
+told_of k call (Some answer) = record { session = k; call = call; answer = answer } ∷ []
+
+abbrev pub answered_of : List Served → List Answered
+answered_of served = flat_map (λ one. told_of one.session one.call one.answer) served
+
+-- One node gives what a cluster owes.
+abbrev pub OneNodeOwes : Type 0
+OneNodeOwes = (plan : Plan) (entries : List Entry) (served : List Served) (last : Node) (store : Option (List ℕ)) → plan.nodes ≡ 1 → plan.confirm ≡ 1
+    → AreSoundMails served → ServesAll plan first_node served last → IfSome store (HoldsRecords last.records)
+    → OwesDeletions plan entries (store ∷ []) (last.records ∷ []) (asked_of served) (answered_of served) × OwesParts (λ id. octets_in id last.records) (answered_of served)
+
+-- a session of the node that takes mail asked for each message
+abbrev pub IsTaken : List (List ℕ) → ℕ → Call → Type 0
+IsTaken lines k (Deliver mail) = kind_at (opened lines) k ≡ Some (Smtp, 1)
+IsTaken lines k (Login user secret) = ⊤
+IsTaken lines k (Fetch user id) = ⊤
+IsTaken lines k (Strike user ids) = ⊤
+
+abbrev pub AreTaken : List (List ℕ) → List Served → Type 0
+AreTaken lines [] = ⊤
+AreTaken lines (one ∷ more) = IsTaken lines one.session one.call × AreTaken lines more
+
+abbrev pub OneNodeStores : Type 0
+OneNodeStores = (plan : Plan) (lines : List (List ℕ)) (entries : List Entry) (served : List Served) (last : Node) (store : Option (List ℕ)) → plan.nodes ≡ 1 → plan.confirm ≡ 1
+    → AreTaken lines served → ServesAll plan first_node served last → IfSome store (HoldsRecords last.records)
+    → OwesStored plan lines entries (store ∷ []) (answered_of served)

@@ -1,0 +1,78 @@
+-- The promises to clients, over the sessions of a tape, the entries of its transcript and what the stores given back hold.
+use Rattle.std.specs.Prelude.{◌≡◌, ℕ, ◌<◌, ◌^◌, Bool, false, List, [], ◌∷◌, ◌++◌, drop, length, map, Option, Some}
+use Rattle.std.specs.Fmt.{decimal}
+use Rattle.mail_model.specs.Identity.{Id, id_text}
+use Rattle.mail_model.specs.Plan.{Plan}
+use Rattle.mail_model.specs.Tape.Protocol.{Smtp, Pop}
+use Rattle.mail_model.specs.Transcript.{Entry}
+use Rattle.mail_model.specs.Session.{silent}
+use Rattle.mail_model.specs.Record.{Record}
+use Rattle.mail_model.specs.PopReplies.{one_line}
+use Rattle.mail_model.specs.Maildrop.{bye_text}
+use Rattle.mail_model.specs.Told.{Answers, told_from}
+use Rattle.mail_model.specs.Shown.{lines_to, ShowsId, ShowsSize, ShowsOctets}
+use Rattle.mail_model.specs.Deleted.{IsMarked, AreGoneOn}
+use Rattle.session_model.specs.Talk.{Exchange, replies}
+use Rattle.session_model.specs.Mailing.{filings, pairs, stored_lines}
+use Rattle.session_model.specs.Reading.{QuitsMarked, IsQuitUnit, all_seen, seen}
+use Rattle.session_model.specs.Sessions.{Session, AreSessions, session_at, exchanges_of}
+use Rattle.session_model.specs.Facts.{AllStand, OwnIds, IsGoneIn, IsIn, StoredAreTrue, DroppedAreTrue, PartsAreTrue}
+
+-- What the client of session k was told: the units that it sent, each with its reply, the messages that these tell, and a line `250 stored` for each.
+pub record IsTold (plan : Plan) (entries : List Entry) (k : ℕ) (session : Session) : Type 0 where
+  pub in_text : Bool
+  pub rest : List ℕ
+  pub units : Answers false session.octets (pairs session.whole) in_text rest
+  pub messages : map (λ filing. filing.mail) (filings session.whole) ≡ told_from plan silent (pairs session.whole)
+  pub lines : stored_lines (drop 1 (lines_to k entries)) ≡ length (filings session.whole)
+
+-- Each line `250 stored` of a session that takes mail answers the message that it should, which stands under an id of its own.
+pub record StoredStands (plan : Plan) (entries : List Entry) (stores : List (Option (List ℕ))) (sessions : List Session) : Type 0 where
+  pub told : (k : ℕ) (session : Session) → session_at sessions k ≡ Some session → session.protocol ≡ Smtp → IsTold plan entries k session
+  pub stand : (k : ℕ) (session : Session) → session_at sessions k ≡ Some session → AllStand plan entries stores k session.node (filings session.whole)
+  pub own_ids : OwnIds (λ session. filings session.whole) sessions
+
+-- The client of session k said QUIT, as this user, behind exchanges whose replies it got whole, in which it marked the messages of these ids.
+pub record Deletes (entries : List Entry) (k : ℕ) (session : Session) (user : List ℕ) (ids : List Id) (quit : Exchange) : Type 0 where
+  pub before : List Exchange
+  pub tail : List (List ℕ)
+  pub are : exchanges_of session ≡ before ++ quit ∷ []
+  pub got : drop 1 (lines_to k entries) ≡ replies before ++ tail
+  pub marked : QuitsMarked before quit user ids
+
+-- Only a QUIT deletes, and one that was answered `+OK bye` has deleted.
+pub record DeletedByQuit (plan : Plan) (entries : List Entry) (stores : List (Option (List ℕ))) (disks : List (List Record)) (sessions : List Session) : Type 0 where
+  -- a copy that is gone was marked by its owner, whose QUIT was reached
+  pub only : (n : ℕ) (user : List ℕ) (id : Id) → IsGoneIn disks n user id
+      → (k : ℕ) × (session : Session) × (ids : List Id) × (quit : Exchange) × (session_at sessions k ≡ Some session) × (session.protocol ≡ Pop)
+      × Deletes entries k session user ids quit × IsIn id ids
+  -- where a client was told `+OK bye`, all that it marked is gone
+  pub bye : (k : ℕ) (session : Session) (before : List Exchange) (quit : Exchange) (n : ℕ) → session_at sessions k ≡ Some session → session.protocol ≡ Pop
+      → session.whole ≡ before ++ quit ∷ [] → IsQuitUnit quit.unit → quit.reply ≡ one_line bye_text → IsMarked n (all_seen before)
+      → (user : List ℕ) × (ids : List Id) × Deletes entries k session user ids quit
+      × ((id : Id) → IsIn id ids → (nodes : List ℕ) × AreGoneOn plan entries stores user id nodes)
+
+-- the octets that are filed under the id of this text
+abbrev pub AreFiled : (Id → Option (List ℕ)) → List ℕ → List ℕ → Type 0
+AreFiled filed text octets = (id : Id) × (id_text id ≡ text) × (filed id ≡ Some octets)
+
+-- Where UIDL shows an id for a number, each size that LIST shows for it is the number of the octets filed under the id, and what RETR shows are these octets.
+abbrev pub ShownAsFiled : (Id → Option (List ℕ)) → List Session → Type 0
+ShownAsFiled filed sessions = (k : ℕ) (session : Session) → session_at sessions k ≡ Some session → session.protocol ≡ Pop
+    → (n : ℕ) (text : List ℕ) (before behind : List Exchange) (one : Exchange) → n < 10 ^ 63 → session.whole ≡ before ++ one ∷ behind → ShowsId n text (seen one)
+    → (before_it behind_it : List Exchange) (other : Exchange) → session.whole ≡ before_it ++ other ∷ behind_it
+    → ((size : List ℕ) → ShowsSize n size (seen other) → (octets : List ℕ) × AreFiled filed text octets × (size ≡ decimal (length octets)))
+    × ((octets : List ℕ) → ShowsOctets n octets (seen other) → AreFiled filed text octets)
+
+-- The promises follow for every tape and every status from the sessions and from facts about answers.
+abbrev pub TrueAnswersStand : Type 0
+TrueAnswersStand = (plan : Plan) (lines : List (List ℕ)) (entries : List Entry) (stores : List (Option (List ℕ))) (sessions : List Session)
+    → AreSessions plan lines entries sessions → StoredAreTrue plan entries stores sessions → StoredStands plan entries stores sessions
+
+abbrev pub TrueAnswersDelete : Type 0
+TrueAnswersDelete = (plan : Plan) (lines : List (List ℕ)) (entries : List Entry) (stores : List (Option (List ℕ))) (disks : List (List Record)) (sessions : List Session)
+    → AreSessions plan lines entries sessions → DroppedAreTrue plan entries stores disks sessions → DeletedByQuit plan entries stores disks sessions
+
+abbrev pub TrueAnswersShow : Type 0
+TrueAnswersShow = (plan : Plan) (lines : List (List ℕ)) (entries : List Entry) (filed : Id → Option (List ℕ)) (sessions : List Session)
+    → AreSessions plan lines entries sessions → PartsAreTrue filed sessions → ShownAsFiled filed sessions

@@ -1,0 +1,156 @@
+// Laws over talks.
+ghost use Rattle.session_model.specs.Moves.{Begins, IsFed, HearsNext, IsAnswered, FallsDown, IsClosed, OneTalk};
+ghost use Rattle.session_model.specs.Mailing.{StoredAsTold, AsksAsTold};
+ghost use Rattle.session_model.specs.Reading.{StrikesAtQuit, QuitStrikes};
+ghost use Rattle.session_model.specs.Showing.{ShownAsListed};
+ghost use Rattle.session_model.specs.Acts.{HandledAreActs};
+ghost use Rattle.session_model.specs.Runs.{ActsAreShown};
+ghost use Rattle.session_model.specs.Books.{BooksAcknowledge, BooksStrike};
+ghost use Rattle.session_model.specs.Owes.{OwedStoredAreTrue, OwedDeletionsAreTrue, OwedPartsAreTrue};
+ghost use Rattle.session_model.specs.Alone.{OneNodePromises};
+ghost use Rattle.session_model.specs.Drives.{DrivenIsShown};
+ghost use Rattle.session_model.specs.Readings.{OneReading};
+ghost use Rattle.session_model.specs.Instance.{SmallTape};
+ghost use Rattle.session_model.specs.OneNode.{OneNodeOwes, OneNodeStores};
+ghost use Rattle.session_model.specs.Promises.{TrueAnswersStand, TrueAnswersDelete, TrueAnswersShow};
+
+/// A session that was opened has said nothing but its greeting.
+pub fn begins()
+    ensures { Begins }
+{}
+
+/// Octets that come change no exchange.
+pub fn is_fed()
+    ensures { IsFed }
+{}
+
+/// The next unit is heard.
+pub fn hears_next()
+    ensures { HearsNext }
+{}
+
+/// The node answers a call, or it is given up.
+pub fn is_answered()
+    ensures { IsAnswered }
+{}
+
+/// The node goes down.
+pub fn falls_down()
+    ensures { FallsDown }
+{}
+
+/// The client closes the session.
+pub fn is_closed()
+    ensures { IsClosed }
+{}
+
+/// What a session was fed and was answered fixes what it said.
+pub fn one_talk()
+    ensures { OneTalk }
+{}
+
+/// The messages that were stored are those that the client was told to be.
+pub fn stored_as_told()
+    ensures { StoredAsTold }
+{}
+
+/// A deletion is asked for only at QUIT, for exactly what the session marked.
+pub fn strikes_at_quit()
+    ensures { StrikesAtQuit }
+{}
+
+/// And each QUIT behind a mark asks for one.
+pub fn quit_strikes()
+    ensures { QuitStrikes }
+{}
+
+/// What a session shows of its messages is what its login and its fetches were answered with.
+pub fn shown_as_listed()
+    ensures { ShownAsListed }
+{}
+
+/// Where each Stored is true, each message that was answered `250 stored` stands.
+pub fn true_answers_stand()
+    ensures { TrueAnswersStand }
+{}
+
+/// Where each Dropped is true, only a QUIT deletes, and one that was answered `+OK bye` has deleted.
+pub fn true_answers_delete()
+    ensures { TrueAnswersDelete }
+{}
+
+/// Where listings and parts are true, readers were shown what is filed.
+pub fn true_answers_show()
+    ensures { TrueAnswersShow }
+{}
+
+/// However the work on a tape is left off, its transcript shows the sessions that its acts
+/// made, with what these asked and were answered.
+pub fn acts_are_shown()
+    ensures { ActsAreShown }
+{}
+
+/// The acts of handled lines open and feed what the lines do.
+pub fn handled_are_acts()
+    ensures { HandledAreActs }
+{}
+
+/// Where the book of a cluster is that of the calls, its copies are those of what clients were told.
+pub fn books_acknowledge()
+    ensures { BooksAcknowledge }
+{}
+
+/// And its deletions are those of what clients marked.
+pub fn books_strike()
+    ensures { BooksStrike }
+{}
+
+/// What a cluster owes of deletions is true in the sessions that asked for them.
+pub fn owed_deletions_are_true()
+    ensures { OwedDeletionsAreTrue }
+{}
+
+/// What it owes of listings and parts is true in the sessions that were shown them.
+pub fn owed_parts_are_true()
+    ensures { OwedPartsAreTrue }
+{}
+
+/// One node gives what a cluster owes.
+pub fn one_node_owes()
+    ensures { OneNodeOwes }
+{}
+
+/// What a cluster owes of messages is true in the sessions that were told so.
+pub fn owed_stored_are_true()
+    ensures { OwedStoredAreTrue }
+{}
+
+/// One node gives what a cluster owes of messages.
+pub fn one_node_stores()
+    ensures { OneNodeStores }
+{}
+
+/// A message that a session asks to be stored is that of a transaction.
+pub fn asks_as_told()
+    ensures { AsksAsTold }
+{}
+
+/// The three promises to clients hold of one node, for every tape and however the work on it is left off.
+pub fn one_node_promises()
+    ensures { OneNodePromises }
+{}
+
+/// However a tape is driven, its transcript shows its sessions.
+pub fn driven_is_shown()
+    ensures { DrivenIsShown }
+{}
+
+/// What a client sent and got has one reading.
+pub fn one_reading()
+    ensures { OneReading }
+{}
+
+/// A small tape meets every premise, by any plan.
+pub fn small_tape()
+    ensures { SmallTape }
+{}
