@@ -9,7 +9,7 @@ use Rattle.mail_model.specs.Identity.{Id}
 use Rattle.mail_model.specs.Identity.Key.{Profile, Message}
 use Rattle.mail_model.specs.PopReplies as replies
 use Rattle.mail_model.specs.Record.{Record, journal_of, payloads_of}
-use Rattle.mail_model.specs.Record.Record.{Boot, Octets, Stated}
+use Rattle.mail_model.specs.Record.Record.{Boot, Promise, Retired, Octets, Stated}
 use Rattle.mail_model.specs.Listing.{is_same_id, octets_in, item_of, is_here, has_gone, items_in, listing_of}
 use Rattle.mail_model.specs.Site.{gone_records, number_in, drawn_through}
 use Rattle.cluster_world.specs.Index.{kept_seen, is_among, without, left_for}
@@ -98,6 +98,8 @@ module _ (owner user : List ℕ) (count : ℕ) (ids : List Id) where
   left_items : (all records : List Record) → items_in user (all ++ added) records ≡ filter (stays own ids) (items_in user all records)
   left_items all [] = refl
   left_items all (Boot boot ∷ records) = left_items all records
+  left_items all (Promise epoch ∷ records) = left_items all records
+  left_items all (Retired key state ∷ records) = left_items all records
   left_items all (Octets id octets ∷ records) = left_items all records
   left_items all (Stated (Profile name) state ∷ records) = left_items all records
   left_items all (Stated (Message name id) state ∷ records) =
@@ -144,6 +146,8 @@ through_above n (id ∷ ids) =
 drawn_below : (n m : ℕ) (records : List Record) → n ≤ m → AreDrawn n records → AreDrawn m records
 drawn_below n m [] le drawn = tt
 drawn_below n m (Boot boot ∷ records) le drawn = drawn_below n m records le drawn
+drawn_below n m (Promise epoch ∷ records) le drawn = drawn_below n m records le drawn
+drawn_below n m (Retired key state ∷ records) le drawn = drawn_below n m records le drawn
 drawn_below n m (Octets id octets ∷ records) le drawn = ((drawn.0.0, (let low = drawn.0.1 in omega (arith, le)), drawn.0.2), drawn_below n m records le drawn.1)
 drawn_below n m (Stated (Profile user) state ∷ records) le drawn = drawn_below n m records le drawn
 drawn_below n m (Stated (Message user id) state ∷ records) le drawn = ((let low = drawn.0 in omega (arith, le)), drawn_below n m records le drawn.1)
@@ -158,6 +162,8 @@ drawn_gone owner n count (id ∷ ids) = (
 drawn_both : (n : ℕ) (records more : List Record) → AreDrawn n records → AreDrawn n more → AreDrawn n (records ++ more)
 drawn_both n [] more drawn others = others
 drawn_both n (Boot boot ∷ records) more drawn others = drawn_both n records more drawn others
+drawn_both n (Promise epoch ∷ records) more drawn others = drawn_both n records more drawn others
+drawn_both n (Retired key state ∷ records) more drawn others = drawn_both n records more drawn others
 drawn_both n (Octets id octets ∷ records) more drawn others = (drawn.0, drawn_both n records more drawn.1 others)
 drawn_both n (Stated (Profile user) state ∷ records) more drawn others = drawn_both n records more drawn others
 drawn_both n (Stated (Message user id) state ∷ records) more drawn others = (drawn.0, drawn_both n records more drawn.1 others)

@@ -7,7 +7,7 @@ use Rattle.mail_model.specs.Identity.{Id, Stamp, Value}
 use Rattle.mail_model.specs.Identity.Key.{Profile, Message}
 use Rattle.mail_model.specs.PopReplies as replies
 use Rattle.mail_model.specs.Record.{Record}
-use Rattle.mail_model.specs.Record.Record.{Boot, Octets, Stated}
+use Rattle.mail_model.specs.Record.Record.{Boot, Promise, Retired, Octets, Stated}
 use Rattle.mail_model.specs.Listing.{is_same_id, octets_in, item_of, is_here, is_gone, has_gone, items_in, listing_of}
 use Rattle.mail_model.specs.Site.{copies_of, message_records, nth_id, number_in}
 use Rattle.cluster_world.specs.Index.{kept_seen, added_for}
@@ -27,6 +27,8 @@ choice false octets a b x e = e
 pub octets_in-append : (id : Id) (records more : List Record) → octets_in id (records ++ more) ≡ first_of (octets_in id records) (octets_in id more)
 octets_in-append id [] more = refl
 octets_in-append id (Boot boot ∷ records) more = octets_in-append id records more
+octets_in-append id (Promise epoch ∷ records) more = octets_in-append id records more
+octets_in-append id (Retired key state ∷ records) more = octets_in-append id records more
 octets_in-append id (Octets other octets ∷ records) more = choice (is_same_id other id) octets _ _ _ (octets_in-append id records more)
 octets_in-append id (Stated key state ∷ records) more = octets_in-append id records more
 
@@ -52,6 +54,8 @@ named_by_drawn n id drawn = let low = drawn.1 in omega (arith, ap number_in draw
 none_yet : (n : ℕ) (records : List Record) → AreDrawn n records → octets_in (nth_id (n + 1)) records ≡ None
 none_yet n [] drawn = refl
 none_yet n (Boot boot ∷ records) drawn = none_yet n records drawn
+none_yet n (Promise epoch ∷ records) drawn = none_yet n records drawn
+none_yet n (Retired key state ∷ records) drawn = none_yet n records drawn
 none_yet n (Octets id octets ∷ records) drawn =
     ap (λ (b : Bool). if b then Some octets else octets_in (nth_id (n + 1)) records) (other_than n id (named_by_drawn n id drawn.0)) ∙ none_yet n records drawn.1
 none_yet n (Stated (Profile user) state ∷ records) drawn = none_yet n records drawn
@@ -65,6 +69,8 @@ either_or false b c = refl
 pub has_gone-append : (user : List ℕ) (id : Id) (records more : List Record) → has_gone user id (records ++ more) ≡ (has_gone user id records || has_gone user id more)
 has_gone-append user id [] more = refl
 has_gone-append user id (Boot boot ∷ records) more = has_gone-append user id records more
+has_gone-append user id (Promise epoch ∷ records) more = has_gone-append user id records more
+has_gone-append user id (Retired key state ∷ records) more = has_gone-append user id records more
 has_gone-append user id (Octets other octets ∷ records) more = has_gone-append user id records more
 has_gone-append user id (Stated (Profile name) state ∷ records) more = has_gone-append user id records more
 has_gone-append user id (Stated (Message name other) state ∷ records) more =
@@ -89,6 +95,8 @@ or_none false = refl
 not_yet_gone : (user : List ℕ) (n : ℕ) (records : List Record) → AreDrawn n records → has_gone user (nth_id (n + 1)) records ≡ false
 not_yet_gone user n [] drawn = refl
 not_yet_gone user n (Boot boot ∷ records) drawn = not_yet_gone user n records drawn
+not_yet_gone user n (Promise epoch ∷ records) drawn = not_yet_gone user n records drawn
+not_yet_gone user n (Retired key state ∷ records) drawn = not_yet_gone user n records drawn
 not_yet_gone user n (Octets id octets ∷ records) drawn = not_yet_gone user n records drawn.1
 not_yet_gone user n (Stated (Profile name) state ∷ records) drawn = not_yet_gone user n records drawn
 not_yet_gone user n (Stated (Message name id) state ∷ records) drawn =
@@ -119,6 +127,8 @@ shown user name id value gone octets = if pointwise nat_eq name user && is_here 
 pub items_in-append : (user : List ℕ) (all records more : List Record) → items_in user all (records ++ more) ≡ items_in user all records ++ items_in user all more
 items_in-append user all [] more = refl
 items_in-append user all (Boot boot ∷ records) more = items_in-append user all records more
+items_in-append user all (Promise epoch ∷ records) more = items_in-append user all records more
+items_in-append user all (Retired key state ∷ records) more = items_in-append user all records more
 items_in-append user all (Octets id own ∷ records) more = items_in-append user all records more
 items_in-append user all (Stated (Profile name) state ∷ records) more = items_in-append user all records more
 items_in-append user all (Stated (Message name id) state ∷ records) more =
@@ -156,6 +166,8 @@ module _ (n : ℕ) (stamp : Stamp) (octets : List ℕ) (mailboxes : List (List �
   same_items : (user : List ℕ) (all records : List Record) → AreDrawn n records → items_in user (all ++ new_records) records ≡ items_in user all records
   same_items user all [] drawn = refl
   same_items user all (Boot boot ∷ records) drawn = same_items user all records drawn
+  same_items user all (Promise epoch ∷ records) drawn = same_items user all records drawn
+  same_items user all (Retired key state ∷ records) drawn = same_items user all records drawn
   same_items user all (Octets id own ∷ records) drawn = same_items user all records drawn.1
   same_items user all (Stated (Profile name) state ∷ records) drawn = same_items user all records drawn
   same_items user all (Stated (Message name id) state ∷ records) drawn =
@@ -201,6 +213,8 @@ module _ (n : ℕ) (stamp : Stamp) (octets : List ℕ) (mailboxes : List (List �
   pub drawn_more : (records : List Record) → AreDrawn n records → AreDrawn (n + 1) (records ++ new_records)
   drawn_more [] drawn = ((n + 1, omega arith, refl), drawn_copies mailboxes)
   drawn_more (Boot boot ∷ records) drawn = drawn_more records drawn
+  drawn_more (Promise epoch ∷ records) drawn = drawn_more records drawn
+  drawn_more (Retired key state ∷ records) drawn = drawn_more records drawn
   drawn_more (Octets id own ∷ records) drawn = (drawn_later id drawn.0, drawn_more records drawn.1)
   drawn_more (Stated (Profile user) state ∷ records) drawn = drawn_more records drawn
   drawn_more (Stated (Message user id) state ∷ records) drawn = (let low = drawn.0 in omega arith, drawn_more records drawn.1)

@@ -6,7 +6,7 @@ use Rattle.mail_model.specs.Identity.{Id}
 use Rattle.mail_model.specs.Identity.Key.{Profile, Message}
 use Rattle.mail_model.specs.Listing.{is_same_id, octets_in}
 use Rattle.mail_model.specs.Record.{Record}
-use Rattle.mail_model.specs.Record.Record.{Boot, Octets, Stated}
+use Rattle.mail_model.specs.Record.Record.{Boot, Promise, Retired, Octets, Stated}
 use Rattle.mail_base.specs.declared.item.Item.{Item}
 use Rattle.cluster_world.specs.Fits.{AreDrawn, IsKept}
 use Rattle.cluster_world.specs.Found.{IsStated}
@@ -22,6 +22,8 @@ choice P false own more octets here later found = later found
 drawn_by_1 : (n : ℕ) (id : Id) (octets : List ℕ) (records : List Record) → AreDrawn n records → octets_in id records ≡ Some octets → id.node ≡ 1
 drawn_by_1 n id octets [] drawn known = absurd (let never : ◌≡◌ {A = Option (List ℕ)} None (Some octets) = known in cc)
 drawn_by_1 n id octets (Boot boot ∷ records) drawn known = drawn_by_1 n id octets records drawn known
+drawn_by_1 n id octets (Promise epoch ∷ records) drawn known = drawn_by_1 n id octets records drawn known
+drawn_by_1 n id octets (Retired key state ∷ records) drawn known = drawn_by_1 n id octets records drawn known
 drawn_by_1 n id octets (Octets other own ∷ records) drawn known =
     choice (id.node ≡ 1) (is_same_id other id) own (octets_in id records) octets
     (λ same. sym (ap (λ (i : Id). i.node) (one_id other id same)) ∙ ap (λ (i : Id). i.node) drawn.0.2)

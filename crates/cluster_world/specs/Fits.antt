@@ -3,7 +3,7 @@ use Rattle.std.specs.Prelude.{◌≡◌, ℕ, ◌≤◌, List, [], ◌∷◌, �
 use Rattle.mail_model.specs.Identity.{Id}
 use Rattle.mail_model.specs.Identity.Key.{Profile, Message}
 use Rattle.mail_model.specs.Record.{Record, Member, journal_of, payloads_of}
-use Rattle.mail_model.specs.Record.Record.{Boot, Octets, Stated}
+use Rattle.mail_model.specs.Record.Record.{Boot, Promise, Retired, Octets, Stated}
 use Rattle.mail_model.specs.Listing.{octets_in, listing_of}
 use Rattle.mail_model.specs.Site.{nth_id, nth_stamp, number_in}
 use Rattle.cluster_world.specs.Heads.{here}
@@ -34,6 +34,8 @@ IsDrawn n id = (m : ℕ) × (m ≤ n) × (id ≡ nth_id m)
 abbrev pub AreDrawn : ℕ → List Record → Type 0
 AreDrawn n [] = ⊤
 AreDrawn n (Boot boot ∷ records) = AreDrawn n records
+AreDrawn n (Promise epoch ∷ records) = AreDrawn n records
+AreDrawn n (Retired key state ∷ records) = AreDrawn n records
 AreDrawn n (Octets id octets ∷ records) = IsDrawn n id × AreDrawn n records
 AreDrawn n (Stated (Profile user) state ∷ records) = AreDrawn n records
 AreDrawn n (Stated (Message user id) state ∷ records) = (number_in id ≤ n) × AreDrawn n records
