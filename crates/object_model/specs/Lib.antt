@@ -1,0 +1,10 @@
+pub mod Lists
+pub mod Sets
+pub mod Keys
+pub mod States
+pub mod Merge
+pub mod Said
+pub mod UpdateLog
+pub mod Letters
+pub mod Mishaps
+pub mod Laws
