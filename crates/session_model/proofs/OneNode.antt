@@ -10,7 +10,7 @@ use Rattle.mail_model.specs.Plan.{Plan}
 use Rattle.mail_model.specs.Mail.{IsStored}
 use Rattle.mail_model.specs.PopReplies.{Item}
 use Rattle.mail_model.specs.Record.{Record, SaysGone}
-use Rattle.mail_model.specs.Record.Record.{Boot, Octets, Stated}
+use Rattle.mail_model.specs.Record.Record.{Boot, Promise, Retired, Octets, Stated}
 use Rattle.mail_model.specs.Listing.{octets_in}
 use Rattle.mail_model.specs.Deleted.{IsCopyOf}
 use Rattle.mail_model.specs.Site.{nth_id, nth_stamp, message_records, gone_records, drawn_through}
@@ -64,6 +64,8 @@ true_more records more call answer is = tt
 closed_front : (records more : List Record) → AreClosed (records ++ more) → AreClosed records
 closed_front [] more all = tt
 closed_front (Boot boot ∷ records) more all = closed_front records more all
+closed_front (Promise epoch ∷ records) more all = closed_front records more all
+closed_front (Retired key state ∷ records) more all = closed_front records more all
 closed_front (Octets id octets ∷ records) more all = (all.0, closed_front records more all.1)
 closed_front (Stated key state ∷ records) more all = closed_front records more all
 
@@ -71,6 +73,8 @@ closed_front (Stated key state ∷ records) more all = closed_front records more
 closed_both : (records more : List Record) → AreClosed records → AreClosed more → AreClosed (records ++ more)
 closed_both [] more a b = b
 closed_both (Boot boot ∷ records) more a b = closed_both records more a b
+closed_both (Promise epoch ∷ records) more a b = closed_both records more a b
+closed_both (Retired key state ∷ records) more a b = closed_both records more a b
 closed_both (Octets id octets ∷ records) more a b = (a.0, closed_both records more a.1 b)
 closed_both (Stated key state ∷ records) more a b = closed_both records more a b
 
