@@ -7,7 +7,6 @@ use Rattle.std.proofs.lemmas.Bool.{cases_eq}
 use Rattle.mail_model.specs.Plan.{Plan}
 use Rattle.mail_model.specs.Tape.{Protocol}
 use Rattle.mail_model.specs.Transcript.{Entry}
-use Rattle.mail_model.specs.Transcript.Entry.{Event}
 use Rattle.mail_model.specs.Steps.{said_lines, all_of}
 use Rattle.mail_model.specs.Shown.{lines_to}
 use Rattle.mail_model.proofs.Sessions.{get_set, get_set_other, map_set, get_push, get_push_other, by_number, fed_other}
@@ -16,7 +15,7 @@ use Rattle.session_model.specs.Talk.{Standing}
 use Rattle.session_model.specs.Talk.Standing.{Hearing, Waiting, EndedByQuit, EndedDown, EndedClosed}
 use Rattle.session_model.specs.Sessions.{Session, session_at}
 use Rattle.session_model.specs.Acts.{Act, Deed, Acted, ActedAll, opened_session, replace, closing, opened_by, fed_by}
-use Rattle.session_model.specs.Acts.Act.{Opens, Does, Notes}
+use Rattle.session_model.specs.Acts.Act.{Opens, Does, Faults, StillWaits, Leaves}
 use Rattle.session_model.specs.Acts.Deed.{IsFed, Hears, IsAnswered, Falls, Closes}
 use Rattle.session_model.proofs.Moves.{begins}
 use Rattle.session_model.proofs.Did.{Speaks, did_speaks, did_kind, did_feed}
@@ -92,10 +91,6 @@ closing_silent j k Falls EndedByQuit = refl
 closing_silent j k Falls EndedDown = refl
 closing_silent j k Falls EndedClosed = refl
 
-pub events_silent : (j : ℕ) (events : List (List ℕ)) → lines_to j (map Event events) ≡ []
-events_silent j [] = refl
-events_silent j (event ∷ events) = events_silent j events
-
 -- what session k says
 pub does_own : (k : ℕ) (said : List (List ℕ)) (deed : Deed) (standing : Standing) → lines_to k (said_lines k said ++ closing k deed standing) ≡ said
 does_own k said deed standing =
@@ -163,6 +158,14 @@ module _ (plan : Plan) (acts : List Act) (entries : List Entry) (old : List Sess
       (act_push (fed_by j) acts act ∙ ap (λ (l : List ℕ). flat_map (fed_by j) acts ++ l) no_feed ∙ append-nil (flat_map (fed_by j) acts))
       (lines_both j entries more ∙ ap (λ (l : List (List ℕ)). lines_to j entries ++ l) no_lines ∙ append-nil (lines_to j entries)) same (kept.each j)
 
+  -- an act that leaves all sessions alone
+  keeps_all : (act : Act) (more : List Entry) (new : List Session) → opened_by act ≡ [] → ((j : ℕ) → fed_by j act ≡ []) → ((j : ℕ) → lines_to j more ≡ []) → new ≡ old
+      → Kept plan (acts ++ act ∷ []) (entries ++ more) new
+  keeps_all act more new no_open no_feed no_lines is = record {
+    kinds = act_push opened_by acts act ∙ ap (λ (l : List (Protocol × ℕ)). flat_map opened_by acts ++ l) no_open ∙ append-nil (flat_map opened_by acts) ∙ kept.kinds ∙ ap (map kind_of) (sym is);
+    each = λ j. alone act more new j (no_feed j) (no_lines j) (ap (λ (l : List Session). session_at l j) is);
+  }
+
   -- whatever act
   pub acted_keeps : (act : Act) (more : List Entry) (new : List Session) → Acted plan old act more new → Kept plan (acts ++ act ∷ []) (entries ++ more) new
   acted_keeps (Opens protocol node greeting) more new (says, is) = record {
@@ -183,10 +186,9 @@ module _ (plan : Plan) (acts : List Act) (entries : List Entry) (old : List Sess
           (lines_both j entries more ∙ ap₂ ◌++◌ before.1 (ap (lines_to j) says ∙ ap (λ (n : ℕ). lines_to j (said_lines n (greeting ∷ []))) (sym same) ∙ own_lines j (greeting ∷ [])))
           (ap (λ (l : List Session). session_at l j) is ∙ ap (session_at (old ++ opened_session protocol node ∷ [])) same ∙ pushed old (opened_session protocol node))
           (greeting, [], refl, opened_now plan protocol node, refl)
-  acted_keeps (Notes events) more new (says, is) = record {
-    kinds = act_push opened_by acts (Notes events) ∙ append-nil (flat_map opened_by acts) ∙ kept.kinds ∙ ap (map kind_of) (sym is);
-    each = λ j. alone (Notes events) more new j refl (ap (lines_to j) says ∙ events_silent j events) (ap (λ (l : List Session). session_at l j) is);
-  }
+  acted_keeps (Faults node) more new (says, is) = keeps_all (Faults node) more new refl (λ j. refl) (λ j. ap (lines_to j) says) is
+  acted_keeps (StillWaits k) more new (says, is) = keeps_all (StillWaits k) more new refl (λ j. refl) (λ j. ap (lines_to j) says) is
+  acted_keeps (Leaves k user) more new (says, is) = keeps_all (Leaves k user) more new refl (λ j. refl) (λ j. ap (lines_to j) says) is
   acted_keeps (Does k deed) more new (before, behind, said, at, did, says, is) = record {
     kinds = act_push opened_by acts (Does k deed) ∙ append-nil (flat_map opened_by acts) ∙ kept.kinds
         ∙ sym (map_replaced old kind_of k before behind at (ap₂ (λ (p : Protocol) (n : ℕ). (p, n)) kind.0 kind.1)) ∙ ap (map kind_of) (sym is);

@@ -54,17 +54,17 @@ served_sound lines (one ∷ served) has =
     ((first.0, later.0), (first.1, later.1))
 
 pub one_node_promises : OneNodePromises
-one_node_promises plan lines entries acts sessions served last store one sure shows at_node_1 asked answered serves holds =
+one_node_promises plan tells lines entries acts sessions served last store one sure shows at_node_1 asked answered serves holds =
     let sound = served_sound lines served (λ k call among. call_asked plan lines entries acts sessions shows at_node_1 k call
     (subst (Among (record { session = k; call = call })) asked among)) in
-    let owes = one_node_owes plan entries served last store one sure sound.0 serves holds in
-    let stores = one_node_stores plan lines entries served last store one sure sound.1 serves holds in (
+    let owes = one_node_owes plan tells entries served last store one sure sound.0 serves holds in
+    let stores = one_node_stores plan tells lines entries served last store one sure sound.1 serves holds in (
       true_answers_stand plan lines entries (store ∷ []) sessions shows.are
           (owed_stored_are_true plan lines entries (store ∷ []) acts sessions shows (subst (OwesStored plan lines entries (store ∷ [])) answered stores)),
       true_answers_delete plan lines entries (store ∷ []) (last.records ∷ []) sessions shows.are
           (owed_deletions_are_true plan lines entries (store ∷ []) (last.records ∷ []) acts sessions shows
           (subst (OwesDeletions plan entries (store ∷ []) (last.records ∷ []) (flat_map asked_by acts)) answered
           (subst (λ (l : List Asked). OwesDeletions plan entries (store ∷ []) (last.records ∷ []) l (answered_of served)) asked owes.0))),
-      true_answers_show plan lines entries _ sessions shows.are
-          (owed_parts_are_true plan lines entries _ acts sessions shows (subst (OwesParts _) answered owes.1)),
+      λ told. true_answers_show plan lines entries _ sessions shows.are
+          (owed_parts_are_true plan lines entries _ acts sessions shows (subst (OwesParts _) answered (owes.1 told))),
     )

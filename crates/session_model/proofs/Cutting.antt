@@ -15,9 +15,9 @@ use Rattle.session_model.specs.Calls.{Call, Answer}
 use Rattle.session_model.specs.Logs.{IsLogged, calls_of, answers_of, asked_by, answered_by, asked_in, answered_in}
 use Rattle.session_model.specs.Runs.{ActsAreShown}
 use Rattle.session_model.proofs.Logs.{Logged, AreLogged, all_logged, acted_logged, none_logged, logged_whole}
-use Rattle.session_model.specs.Acts.Act.{Opens, Does, Notes}
+use Rattle.session_model.specs.Acts.Act.{Opens, Does, Faults, StillWaits, Leaves}
 use Rattle.session_model.proofs.Did.{IsShown, whole_shown, unparted, did_cut, did_kind, did_feed}
-use Rattle.session_model.proofs.Acts.{Spoken, Kept, kind_of, at_first, act_push, acted_keeps, opened_now, replaced, replaced_other, map_replaced, pushed, pushed_other, none_behind, does_own, does_other, feed_other, events_silent}
+use Rattle.session_model.proofs.Acts.{Spoken, Kept, kind_of, at_first, act_push, acted_keeps, opened_now, replaced, replaced_other, map_replaced, pushed, pushed_other, none_behind, does_own, does_other, feed_other}
 
 -- a session, or none, by what acts fed it and by those of its lines that were written
 abbrev pub Shown : Plan → List ℕ → List (List ℕ) → Option Session → Type 0
@@ -67,6 +67,17 @@ module _ (plan : Plan) (acts : List Act) (entries : List Entry) (old : List Sess
       let none : drop 1 lines ≡ [] = ⊎_elim (λ e. ap (drop 1) e) (λ e. ap (drop 1) e) few in
       (subst (λ (l : List (List ℕ)). IsShown plan l (opened_session protocol node)) (sym none) (whole_shown plan [] (opened_session protocol node) (opened_now plan protocol node)), refl)
 
+  -- an act that leaves all sessions alone
+  all_alone : (act : Act) (more : List Entry) (new : List Session) → Acted plan old act more new → more ≡ front ++ missing → ((j : ℕ) → fed_by j act ≡ []) → ((j : ℕ) → lines_to j more ≡ [])
+      → new ≡ old → IsCutOff plan (acts ++ act ∷ []) (entries ++ front) new
+  all_alone act more new acted cut no_feed no_lines is = record {
+    sessions = new;
+    kinds = (acted_keeps plan acts entries old kept act more new acted).kinds;
+    each = λ j. left_alone act more new j cut (no_feed j) (no_lines j) (ap (λ (l : List Session). session_at l j) is);
+    same_number = λ j none. none;
+    parted = none_parted new;
+  }
+
   -- whatever act
   acted_cut : (act : Act) (more : List Entry) (new : List Session) → Acted plan old act more new → more ≡ front ++ missing → IsCutOff plan (acts ++ act ∷ []) (entries ++ front) new
   acted_cut (Opens protocol node greeting) more new (says, is) cut = record {
@@ -91,13 +102,9 @@ module _ (plan : Plan) (acts : List Act) (entries : List Entry) (old : List Sess
           (lines_both j entries front ∙ ap (λ (l : List (List ℕ)). l ++ lines_to j front) before.1)
           (ap (λ (l : List Session). session_at l j) is ∙ ap (session_at (old ++ opened_session protocol node ∷ [])) same ∙ pushed old (opened_session protocol node))
           (greeted protocol node greeting (lines_to j front) (front_of_one greeting (lines_to j front) (lines_to j missing) (sym all)))
-  acted_cut (Notes events) more new (says, is) cut = record {
-    sessions = new;
-    kinds = (acted_keeps plan acts entries old kept (Notes events) more new (says, is)).kinds;
-    each = λ j. left_alone (Notes events) more new j cut refl (ap (lines_to j) says ∙ events_silent j events) (ap (λ (l : List Session). session_at l j) is);
-    same_number = λ j none. none;
-    parted = none_parted new;
-  }
+  acted_cut (Faults node) more new (says, is) cut = all_alone (Faults node) more new (says, is) cut (λ j. refl) (λ j. ap (lines_to j) says) is
+  acted_cut (StillWaits k) more new (says, is) cut = all_alone (StillWaits k) more new (says, is) cut (λ j. refl) (λ j. ap (lines_to j) says) is
+  acted_cut (Leaves k user) more new (says, is) cut = all_alone (Leaves k user) more new (says, is) cut (λ j. refl) (λ j. ap (lines_to j) says) is
   acted_cut (Does k deed) more new (before, behind, said, at, did, says, is) cut = record {
     sessions = replace old k session;
     kinds = act_push opened_by acts (Does k deed) ∙ append-nil (flat_map opened_by acts) ∙ kept.kinds

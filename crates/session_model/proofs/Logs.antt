@@ -14,7 +14,7 @@ use Rattle.session_model.specs.Talk.Standing.{Hearing, Waiting}
 use Rattle.session_model.specs.Moves.{with_answer}
 use Rattle.session_model.specs.Sessions.{Session, session_at, exchanges_of}
 use Rattle.session_model.specs.Acts.{Act, Deed, Did, Acted, ActedAll, opened_session}
-use Rattle.session_model.specs.Acts.Act.{Opens, Does, Notes}
+use Rattle.session_model.specs.Acts.Act.{Opens, Does, Faults, StillWaits, Leaves}
 use Rattle.session_model.specs.Acts.Deed.{IsFed, Hears, IsAnswered, Falls, Closes}
 use Rattle.session_model.specs.Logs.{Asked, Answered, IsLogged, call_in, answer_in, calls_of, answers_of, asked_by, answered_by, asked_in, answered_in}
 use Rattle.session_model.proofs.Chains.{goes_at}
@@ -177,7 +177,9 @@ module _ (plan : Plan) (acts : List Act) (entries : List Entry) (old : List Sess
 
   -- whatever act
   pub acted_logged : (act : Act) (more : List Entry) (new : List Session) → Acted plan old act more new → AreLogged (acts ++ act ∷ []) new
-  acted_logged (Notes events) more new (says, is) j = log_alone (Notes events) new j refl refl (ap (λ (l : List Session). session_at l j) is)
+  acted_logged (Faults node) more new (says, is) j = log_alone (Faults node) new j refl refl (ap (λ (l : List Session). session_at l j) is)
+  acted_logged (StillWaits k) more new (says, is) j = log_alone (StillWaits k) new j refl refl (ap (λ (l : List Session). session_at l j) is)
+  acted_logged (Leaves k user) more new (says, is) j = log_alone (Leaves k user) new j refl refl (ap (λ (l : List Session). session_at l j) is)
   acted_logged (Opens protocol node greeting) more new (says, is) j = ⊎_elim
       (λ same.
       let before : Logged (asked_in j (flat_map asked_by acts)) (answered_in j (flat_map answered_by acts)) None =

@@ -1,5 +1,5 @@
 -- One node gives what a cluster owes of messages.
-use Rattle.std.proofs.Common.{◌≡◌, ◌+◌, ℕ, List, [], ◌∷◌, ◌++◌, flat_map, Option, Some, None, sym, ap, ◌∙◌, subst, arith, append_assoc, append-nil}
+use Rattle.std.proofs.Common.{◌≡◌, ⊎_elim, ◌+◌, Bool, ℕ, List, [], ◌∷◌, ◌++◌, flat_map, Option, Some, None, sym, ap, ◌∙◌, subst, arith, append_assoc, append-nil}
 use Rattle.mail_model.specs.Identity.{Id}
 use Rattle.mail_model.specs.Plan.{Plan}
 use Rattle.mail_model.specs.Tape.{Protocol}
@@ -12,7 +12,7 @@ use Rattle.session_model.specs.Calls.{Call, Answer}
 use Rattle.session_model.specs.Calls.Call.{Deliver, Login, Fetch, Strike}
 use Rattle.session_model.specs.Calls.Answer.{Stored, Listed, Wrong, Part, GoneAlready, Dropped}
 use Rattle.session_model.specs.Books.{acks_by}
-use Rattle.session_model.specs.OneNode.{Node, Served, Serves, ServesAll, IsTaken, AreTaken, OneNodeStores, first_node, told_of, answered_of}
+use Rattle.session_model.specs.OneNode.{Node, Served, LeavesSome, Serves, ServesAll, IsTaken, AreTaken, OneNodeStores, first_node, told_of, answered_of}
 use Rattle.std.proofs.lemmas.List.Concat.{flat_map-append}
 
 -- what holds of the node behind the answers that it gave
@@ -52,21 +52,26 @@ strike_keeps kinds old new acks user ids added missing keeps whole drawn records
     (keeps_so kinds new acks (drawn_through old.drawn ids) (old.records ++ added) drawn records (ours_gone old.drawn old.records added missing user old.stamps ids keeps.ours whole)
     (acks_later 0 old.drawn (drawn_through old.drawn ids) kinds old.records added acks (through_rises old.drawn ids) keeps.stand))
 
-module _ (plan : Plan) (lines : List (List ℕ)) where
-  -- one call
-  serves_keeps : (k : ℕ) (old new : Node) (call : Call) (answer : Option Answer) (acks : List Ack) → Keeps (opened lines) old acks → IsTaken lines k call → Serves plan old call answer new
-      → Keeps (opened lines) new (acks ++ acks_of k call answer)
-  serves_keeps k old new (Deliver mail) None acks keeps taken (added, stamps, (octets, missing, stored, whole), is) =
+module _ (plan : Plan) (tells : Bool) (lines : List (List ℕ)) where
+  -- a call that has no answer
+  leaves_keeps : (k : ℕ) (old new : Node) (call : Call) (acks : List Ack) → Keeps (opened lines) old acks → IsTaken lines k call → LeavesSome old call new → Keeps (opened lines) new (acks ++ [])
+  leaves_keeps k old new (Deliver mail) acks keeps taken (added, stamps, (octets, missing, stored, whole), is) =
       subst (Keeps (opened lines) new) (sym (append-nil acks))
       (keeps_so (opened lines) new acks (old.drawn + 1) (old.records ++ added) (ap (λ (n : Node). n.drawn) is) (ap (λ (n : Node). n.records) is)
       (ours_more old.drawn (nth_stamp (old.stamps + 1)) old.records added missing octets mail.mailboxes keeps.ours whole)
       (acks_later 0 old.drawn (old.drawn + 1) (opened lines) old.records added acks (omega arith) keeps.stand))
-  serves_keeps k old new (Strike user ids) None acks keeps taken (added, stamps, (missing, whole), is) =
+  leaves_keeps k old new (Strike user ids) acks keeps taken (added, stamps, (missing, whole), is) =
       strike_keeps (opened lines) old new acks user ids added missing keeps whole (ap (λ (n : Node). n.drawn) is) (ap (λ (n : Node). n.records) is)
-  serves_keeps k old new (Login user secret) None acks keeps taken (added, stamps, none, is) =
+  leaves_keeps k old new (Login user secret) acks keeps taken (added, stamps, none, is) =
       quiet_keeps (opened lines) old new acks added keeps none (ap (λ (n : Node). n.drawn) is) (ap (λ (n : Node). n.records) is)
-  serves_keeps k old new (Fetch user id) None acks keeps taken (added, stamps, none, is) =
+  leaves_keeps k old new (Fetch user id) acks keeps taken (added, stamps, none, is) =
       quiet_keeps (opened lines) old new acks added keeps none (ap (λ (n : Node). n.drawn) is) (ap (λ (n : Node). n.records) is)
+
+  -- one call
+  serves_keeps : (k : ℕ) (old new : Node) (call : Call) (answer : Option Answer) (acks : List Ack) → Keeps (opened lines) old acks → IsTaken lines k call → Serves plan tells old call answer new
+      → Keeps (opened lines) new (acks ++ acks_of k call answer)
+  serves_keeps k old new call None acks keeps taken serves = ⊎_elim
+      (λ is. same_keeps (opened lines) old new acks keeps is) (λ some. leaves_keeps k old new call acks keeps taken some) serves
   serves_keeps k old new (Deliver mail) (Some (Stored id)) acks keeps taken (octets, id_is, stored, is) =
       let added : List Record = message_records (nth_id (old.drawn + 1)) (nth_stamp (old.stamps + 1)) octets mail.mailboxes in
       let ack_is : record { session = k; mail = mail; id = nth_id (old.drawn + 1); seconds = 0 } ∷ [] ≡ acks_of k (Deliver mail) (Some (Stored id)) =
@@ -85,18 +90,18 @@ module _ (plan : Plan) (lines : List (List ℕ)) where
   serves_keeps k old new call answer acks keeps taken s = absurd s
 
   -- all calls
-  all_keep : (old last : Node) (acks : List Ack) (served : List Served) → Keeps (opened lines) old acks → AreTaken lines served → ServesAll plan old served last
+  all_keep : (old last : Node) (acks : List Ack) (served : List Served) → Keeps (opened lines) old acks → AreTaken lines served → ServesAll plan tells old served last
       → Keeps (opened lines) last (acks ++ flat_map acks_by (answered_of served))
   all_keep old last acks [] keeps taken is = same_keeps (opened lines) old last acks keeps is
-  all_keep old last acks (one ∷ served) keeps taken (mid, serves, rest) =
+  all_keep old last acks (one ∷ served) keeps taken (mid, serves, none_later, rest) =
       subst (Keeps (opened lines) last)
       (append_assoc acks (acks_of one.session one.call one.answer) (flat_map acks_by (answered_of served))
       ∙ ap (λ (l : List Ack). acks ++ l) (sym (flat_map-append acks_by (told_of one.session one.call one.answer) (answered_of served))))
       (all_keep mid last (acks ++ acks_of one.session one.call one.answer) served (serves_keeps one.session old mid one.call one.answer acks keeps taken.0 serves) taken.1 rest)
 
 pub one_node_stores : OneNodeStores
-one_node_stores plan lines entries served last store one sure taken serves holds =
-    let keeps = all_keep plan lines first_node last [] served (record { ours = (tt, tt); stand = omega arith }) taken serves in
+one_node_stores plan tells lines entries served last store one sure taken serves holds =
+    let keeps = all_keep plan tells lines first_node last [] served (record { ours = (tt, tt); stand = omega arith }) taken serves in
     record {
       stand = each_stands plan one sure last.drawn last.records store holds lines entries 0 (flat_map acks_by (answered_of served)) keeps.stand;
       other_ids = other_ids 0 last.drawn (opened lines) last.records (flat_map acks_by (answered_of served)) keeps.stand;

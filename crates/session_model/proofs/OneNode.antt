@@ -1,5 +1,5 @@
 -- One node gives what a cluster owes: of deletions, and of listings and parts.
-use Rattle.std.proofs.Common.{◌≡◌, ◌≢◌, inl, inr, ⊎_elim, ◌+◌, ◌≤◌, ℕ, zero, suc, List, [], ◌∷◌, ◌++◌, length, map, flat_map, AllPairs, Option, Some, None, refl, sym, ap, ◌∙◌, subst, arith, append_assoc, append-nil, slice_get}
+use Rattle.std.proofs.Common.{◌≡◌, ◌≢◌, inl, inr, ⊎_elim, ◌+◌, ◌≤◌, ℕ, zero, suc, List, [], ◌∷◌, ◌++◌, length, map, flat_map, AllPairs, Option, Some, None, refl, sym, ap, ◌∙◌, subst, arith, append_assoc, append-nil, slice_get, Bool, true}
 use Rattle.std.specs.Prelude.{⊤}
 use Rattle.std.proofs.lemmas.Option.{none-some}
 use Rattle.mail_model.specs.Identity.{Id, Stamp}
@@ -30,7 +30,7 @@ use Rattle.session_model.specs.Facts.{IsIn, IsGoneIn}
 use Rattle.session_model.specs.Logs.{Answered}
 use Rattle.session_model.specs.Books.{Among, struck_by}
 use Rattle.session_model.specs.Owes.{AmongAnswers}
-use Rattle.session_model.specs.OneNode.{Node, Served, Serves, ServesAll, IsSoundMail, AreSoundMails, OneNodeOwes, first_node, asked_of, told_of, answered_of}
+use Rattle.session_model.specs.OneNode.{Node, Served, Serves, ServesAll, LeavesSome, IsSoundMail, AreSoundMails, OneNodeOwes, first_node, asked_of, told_of, answered_of}
 
 -- the copies that calls asked to be deleted
 abbrev struck_in : List Served → List (List ℕ × Id)
@@ -43,20 +43,27 @@ record Sound (node : Node) (struck : List (List ℕ × Id)) : Type 0 where
   pub gone : (user : List ℕ) (id : Id) → SaysGone (Message user id) node.records → IsCopyOf user id struck
 
 -- what an answer says is so in these records
-abbrev IsTrueOf : List Record → Call → Option Answer → Type 0
-IsTrueOf records (Strike user ids) (Some Dropped) = (id : Id) → IsIn id ids → SaysGone (Message user id) records
-IsTrueOf records (Login user secret) (Some (Listed items)) = AllPairs (λ (a b : Id). a ≢ b) (map (λ (item : Item). item.id) items)
+abbrev IsTrueOf : Bool → List Record → Call → Option Answer → Type 0
+IsTrueOf tells records (Strike user ids) (Some Dropped) = (id : Id) → IsIn id ids → SaysGone (Message user id) records
+IsTrueOf tells records (Login user secret) (Some (Listed items)) = AllPairs (λ (a b : Id). a ≢ b) (map (λ (item : Item). item.id) items)
     × ((i : ℕ) (item : Item) → slice_get items i ≡ Some item → (octets : List ℕ) × (octets_in item.id records ≡ Some octets) × (item.size ≡ length octets))
-IsTrueOf records (Fetch user id) (Some (Part part)) = (octets_in id records ≡ Some part) × (closed part ≡ part)
-IsTrueOf records call answer = ⊤
+IsTrueOf tells records (Fetch user id) (Some (Part part)) = tells ≡ true → (octets_in id records ≡ Some part) × (closed part ≡ part)
+IsTrueOf tells records call answer = ⊤
 
 -- and stays so
-true_more : (records more : List Record) (call : Call) (answer : Option Answer) → IsTrueOf records call answer → IsTrueOf (records ++ more) call answer
-true_more records more (Strike user ids) (Some Dropped) is = λ id within. gone_front (Message user id) records more (is id within)
-true_more records more (Login user secret) (Some (Listed items)) is =
+true_more : (tells : Bool) (records more : List Record) (call : Call) (answer : Option Answer) → IsTrueOf tells records call answer → IsTrueOf tells (records ++ more) call answer
+true_more tells records more (Strike user ids) (Some Dropped) is = λ id within. gone_front (Message user id) records more (is id within)
+true_more tells records more (Login user secret) (Some (Listed items)) is =
     (is.0, λ i item at. let has = is.1 i item at in (has.0, held_more item.id records more has.0 has.1, has.2))
-true_more records more (Fetch user id) (Some (Part part)) is = (held_more id records more part is.0, is.1)
-true_more records more call answer is = tt
+true_more tells records more (Fetch user id) (Some (Part part)) is = λ told. let held = is told in (held_more id records more part held.0, held.1)
+true_more tells records more call answer is = tt
+
+-- a call that has no answer says nothing
+nothing_told : (tells : Bool) (records : List Record) (call : Call) → IsTrueOf tells records call None
+nothing_told tells records (Deliver mail) = tt
+nothing_told tells records (Login user secret) = tt
+nothing_told tells records (Fetch user id) = tt
+nothing_told tells records (Strike user ids) = tt
 
 -- one call
 
@@ -137,10 +144,10 @@ none_adds old new call same drawn = record {
 }
 
 -- What a call does: it adds records, and its answer is true.
-record Done (old new : Node) (call : Call) (answer : Option Answer) : Type 0 where
+record Done (tells : Bool) (old new : Node) (call : Call) (answer : Option Answer) : Type 0 where
   pub added : List Record
   pub adds : Adds old new call added
-  pub true_of : IsTrueOf new.records call answer
+  pub true_of : IsTrueOf tells new.records call answer
 
 -- the messages of a listing
 listed_at : (items : List Item) (messages : List shown.Message) (records : List Record) → items_for messages ≡ items → AreHeld messages records
@@ -153,121 +160,127 @@ listed_at items (message ∷ messages) records are held zero item at =
 listed_at items (message ∷ messages) records are held (suc i) item at =
     listed_at (items_for messages) messages records refl held.1 i item (ap (λ (l : List Item). slice_get l (suc i)) are ∙ at)
 
--- whatever call
-serves_done : (plan : Plan) (old new : Node) (call : Call) (answer : Option Answer) (struck : List (List ℕ × Id)) → Sound old struck → IsSoundMail call → Serves plan old call answer new
-    → Done old new call answer
-serves_done plan old new (Deliver mail) None struck sound mail_sound (added, stamps, (octets, missing, stored, whole), is) = record {
+-- whatever call that has no answer
+leaves_done : (tells : Bool) (old new : Node) (call : Call) (struck : List (List ℕ × Id)) → Sound old struck → IsSoundMail call → LeavesSome old call new → Done tells old new call None
+leaves_done tells old new (Deliver mail) struck sound mail_sound (added, stamps, (octets, missing, stored, whole), is) = record {
   added = added;
   adds = message_adds old new (Deliver mail) octets added missing mail refl mail_sound stored whole (ap (λ (n : Node). n.records) is) (ap (λ (n : Node). n.drawn) is);
   true_of = tt;
 }
-serves_done plan old new (Strike user ids) None struck sound mail_sound (added, stamps, (missing, whole), is) = record {
+leaves_done tells old new (Strike user ids) struck sound mail_sound (added, stamps, (missing, whole), is) = record {
   added = added;
   adds = strike_adds old new user ids added missing whole (ap (λ (n : Node). n.records) is) (ap (λ (n : Node). n.drawn) is);
   true_of = tt;
 }
-serves_done plan old new (Login user secret) None struck sound mail_sound (added, stamps, none, is) = record {
+leaves_done tells old new (Login user secret) struck sound mail_sound (added, stamps, none, is) = record {
   added = [];
   adds = none_adds old new (Login user secret) (ap (λ (n : Node). n.records) is ∙ ap (λ (l : List Record). old.records ++ l) none ∙ append-nil old.records) (ap (λ (n : Node). n.drawn) is);
   true_of = tt;
 }
-serves_done plan old new (Fetch user id) None struck sound mail_sound (added, stamps, none, is) = record {
+leaves_done tells old new (Fetch user id) struck sound mail_sound (added, stamps, none, is) = record {
   added = [];
   adds = none_adds old new (Fetch user id) (ap (λ (n : Node). n.records) is ∙ ap (λ (l : List Record). old.records ++ l) none ∙ append-nil old.records) (ap (λ (n : Node). n.drawn) is);
   true_of = tt;
 }
-serves_done plan old new (Deliver mail) (Some (Stored id)) struck sound mail_sound (octets, id_is, stored, is) =
+
+-- whatever call
+serves_done : (plan : Plan) (tells : Bool) (old new : Node) (call : Call) (answer : Option Answer) (struck : List (List ℕ × Id)) → Sound old struck → IsSoundMail call → Serves plan tells old call answer new
+    → Done tells old new call answer
+serves_done plan tells old new call None struck sound mail_sound serves = ⊎_elim
+    (λ is. record { added = []; adds = none_adds old new call (ap (λ (n : Node). n.records) is) (ap (λ (n : Node). n.drawn) is); true_of = nothing_told tells new.records call })
+    (λ some. leaves_done tells old new call struck sound mail_sound some) serves
+serves_done plan tells old new (Deliver mail) (Some (Stored id)) struck sound mail_sound (octets, id_is, stored, is) =
     let added : List Record = message_records (nth_id (old.drawn + 1)) (nth_stamp (old.stamps + 1)) octets mail.mailboxes in
     record {
       added = added;
       adds = message_adds old new (Deliver mail) octets added [] mail refl mail_sound stored (sym (append-nil added)) (ap (λ (n : Node). n.records) is) (ap (λ (n : Node). n.drawn) is);
       true_of = tt;
     }
-serves_done plan old new (Login user secret) (Some (Listed items)) struck sound mail_sound (opened, items_are, is) =
+serves_done plan tells old new (Login user secret) (Some (Listed items)) struck sound mail_sound (opened, items_are, is) =
     let listed = listing_listed user old.records in
     record {
       added = [];
       adds = none_adds old new (Login user secret) (ap (λ (n : Node). n.records) is) (ap (λ (n : Node). n.drawn) is);
-      true_of = subst (λ (n : Node). IsTrueOf n.records (Login user secret) (Some (Listed items))) (sym is) (
+      true_of = subst (λ (n : Node). IsTrueOf tells n.records (Login user secret) (Some (Listed items))) (sym is) (
         subst (λ (l : List Item). AllPairs (λ (a b : Id). a ≢ b) (map (λ (item : Item). item.id) l)) (sym items_are) (listing_once user old.records sound.here.once),
         listed_at items listed.messages old.records (listed.are ∙ sym items_are) listed.held,
       );
     }
-serves_done plan old new (Login user secret) (Some Wrong) struck sound mail_sound (opened, is) = record {
+serves_done plan tells old new (Login user secret) (Some Wrong) struck sound mail_sound (opened, is) = record {
   added = [];
   adds = none_adds old new (Login user secret) (ap (λ (n : Node). n.records) is) (ap (λ (n : Node). n.drawn) is);
   true_of = tt;
 }
-serves_done plan old new (Fetch user id) (Some (Part part)) struck sound mail_sound (held, is) = record {
+serves_done plan tells old new (Fetch user id) (Some (Part part)) struck sound mail_sound (held, is) = record {
   added = [];
   adds = none_adds old new (Fetch user id) (ap (λ (n : Node). n.records) is) (ap (λ (n : Node). n.drawn) is);
-  true_of = subst (λ (n : Node). IsTrueOf n.records (Fetch user id) (Some (Part part))) (sym is) (held, held_closed id old.records part sound.closed held);
+  true_of = subst (λ (n : Node). IsTrueOf tells n.records (Fetch user id) (Some (Part part))) (sym is) (λ told. let there = held told in (there, held_closed id old.records part sound.closed there));
 }
-serves_done plan old new (Fetch user id) (Some GoneAlready) struck sound mail_sound (gone, is) = record {
+serves_done plan tells old new (Fetch user id) (Some GoneAlready) struck sound mail_sound (gone, is) = record {
   added = [];
   adds = none_adds old new (Fetch user id) (ap (λ (n : Node). n.records) is) (ap (λ (n : Node). n.drawn) is);
   true_of = tt;
 }
-serves_done plan old new (Strike user ids) (Some Dropped) struck sound mail_sound is =
+serves_done plan tells old new (Strike user ids) (Some Dropped) struck sound mail_sound is =
     let added : List Record = gone_records user old.stamps ids in
     record {
       added = added;
       adds = strike_adds old new user ids added [] (sym (append-nil added)) (ap (λ (n : Node). n.records) is) (ap (λ (n : Node). n.drawn) is);
-      true_of = subst (λ (n : Node). IsTrueOf n.records (Strike user ids) (Some Dropped)) (sym is)
+      true_of = subst (λ (n : Node). IsTrueOf tells n.records (Strike user ids) (Some Dropped)) (sym is)
           (λ id within. gone_behind (Message user id) old.records added (gone_of_copies user old.stamps ids user id (is_copy user id ids within)));
     }
   where
     is_copy : (name : List ℕ) (id : Id) (all : List Id) → IsIn id all → IsCopyOf name id (copies_by name all)
     is_copy name id [] within = absurd within
     is_copy name id (other ∷ all) within = ⊎_elim (λ same. inl (ap (λ (i : Id). (name, i)) same)) (λ later. inr (is_copy name id all later)) within
-serves_done plan old new call answer struck sound mail_sound serves = absurd serves
+serves_done plan tells old new call answer struck sound mail_sound serves = absurd serves
 
 -- all calls
 
 -- what all answers say is so
-abbrev AreTrueOf : List Record → List Served → Type 0
-AreTrueOf records [] = ⊤
-AreTrueOf records (one ∷ more) = IsTrueOf records one.call one.answer × AreTrueOf records more
+abbrev AreTrueOf : Bool → List Record → List Served → Type 0
+AreTrueOf tells records [] = ⊤
+AreTrueOf tells records (one ∷ more) = IsTrueOf tells records one.call one.answer × AreTrueOf tells records more
 
 -- What all calls did.
-record AllDone (old last : Node) (struck : List (List ℕ × Id)) (served : List Served) : Type 0 where
+record AllDone (tells : Bool) (old last : Node) (struck : List (List ℕ × Id)) (served : List Served) : Type 0 where
   pub sound : Sound last (struck ++ struck_in served)
   pub more : List Record
   pub grows : last.records ≡ old.records ++ more
-  pub true_of : AreTrueOf last.records served
+  pub true_of : AreTrueOf tells last.records served
 
-serves_all : (plan : Plan) (old last : Node) (struck : List (List ℕ × Id)) (served : List Served) → Sound old struck → AreSoundMails served → ServesAll plan old served last
-    → AllDone old last struck served
-serves_all plan old last struck [] sound mails is = record {
+serves_all : (plan : Plan) (tells : Bool) (old last : Node) (struck : List (List ℕ × Id)) (served : List Served) → Sound old struck → AreSoundMails served → ServesAll plan tells old served last
+    → AllDone tells old last struck served
+serves_all plan tells old last struck [] sound mails is = record {
   sound = subst (λ (n : Node). Sound n (struck ++ [])) (sym is) (subst (Sound old) (sym (append-nil struck)) sound);
   more = [];
   grows = ap (λ (n : Node). n.records) is ∙ sym (append-nil old.records);
   true_of = tt;
 }
-serves_all plan old last struck (one ∷ served) sound mails (mid, serves, rest) =
-    let done = serves_done plan old mid one.call one.answer struck sound mails.0 serves in
-    let later = serves_all plan mid last (struck ++ struck_by one.call) served (adds_sound old mid one.call done.added struck sound done.adds) mails.1 rest in
+serves_all plan tells old last struck (one ∷ served) sound mails (mid, serves, none_later, rest) =
+    let done = serves_done plan tells old mid one.call one.answer struck sound mails.0 serves in
+    let later = serves_all plan tells mid last (struck ++ struck_by one.call) served (adds_sound old mid one.call done.added struck sound done.adds) mails.1 rest in
     record {
       sound = subst (Sound last) (append_assoc struck (struck_by one.call) (struck_in served)) later.sound;
       more = done.added ++ later.more;
       grows = later.grows ∙ ap (λ (l : List Record). l ++ later.more) done.adds.grows ∙ append_assoc old.records done.added later.more;
       true_of = (
-        subst (λ (r : List Record). IsTrueOf r one.call one.answer) (sym later.grows) (true_more mid.records later.more one.call one.answer done.true_of),
+        subst (λ (r : List Record). IsTrueOf tells r one.call one.answer) (sym later.grows) (true_more tells mid.records later.more one.call one.answer done.true_of),
         later.true_of,
       );
     }
 
 -- an answer of the log is so
-answer_is : (records : List Record) (served : List Served) → AreTrueOf records served → (k : ℕ) (call : Call) (answer : Answer)
-    → AmongAnswers (record { session = k; call = call; answer = answer }) (answered_of served) → IsTrueOf records call (Some answer)
-answer_is records [] all k call answer among = absurd among
-answer_is records (one ∷ served) all k call answer among = by_answer one.answer all.0 (answer_is records served all.1 k call answer) among
+answer_is : (tells : Bool) (records : List Record) (served : List Served) → AreTrueOf tells records served → (k : ℕ) (call : Call) (answer : Answer)
+    → AmongAnswers (record { session = k; call = call; answer = answer }) (answered_of served) → IsTrueOf tells records call (Some answer)
+answer_is tells records [] all k call answer among = absurd among
+answer_is tells records (one ∷ served) all k call answer among = by_answer one.answer all.0 (answer_is tells records served all.1 k call answer) among
   where
-    by_answer : (given : Option Answer) → IsTrueOf records one.call given → (AmongAnswers (record { session = k; call = call; answer = answer }) (answered_of served) → IsTrueOf records call (Some answer))
-        → AmongAnswers (record { session = k; call = call; answer = answer }) (told_of one.session one.call given ++ answered_of served) → IsTrueOf records call (Some answer)
+    by_answer : (given : Option Answer) → IsTrueOf tells records one.call given → (AmongAnswers (record { session = k; call = call; answer = answer }) (answered_of served) → IsTrueOf tells records call (Some answer))
+        → AmongAnswers (record { session = k; call = call; answer = answer }) (told_of one.session one.call given ++ answered_of served) → IsTrueOf tells records call (Some answer)
     by_answer None is rest m = rest m
     by_answer (Some given) is rest m = ⊎_elim
-        (λ same. subst (λ (a : Answered). IsTrueOf records a.call (Some a.answer)) same is)
+        (λ same. subst (λ (a : Answered). IsTrueOf tells records a.call (Some a.answer)) same is)
         (λ later. rest later) m
 
 -- a copy that was to be deleted is that of a call
@@ -306,20 +319,20 @@ first_sound = record {
     boots user id stamp targets is = cc
 
 pub one_node_owes : OneNodeOwes
-one_node_owes plan entries served last store one sure mails serves holds =
-    let all = serves_all plan first_node last [] served first_sound mails serves in (
+one_node_owes plan tells entries served last store one sure mails serves holds =
+    let all = serves_all plan tells first_node last [] served first_sound mails serves in (
       record {
         asks = λ n user id gone. struck_asked user id served (all.sound.gone user id (gone_here n user id gone));
         gone = λ k user ids id among within. (
           1 ∷ [],
           gone_on_one plan entries last.records one sure store holds user id
-              (answer_is last.records served all.true_of k (Strike user ids) Dropped among id within),
+              (answer_is tells last.records served all.true_of k (Strike user ids) Dropped among id within),
         );
-        once = λ k user secret items among. (answer_is last.records served all.true_of k (Login user secret) (Listed items) among).0;
+        once = λ k user secret items among. (answer_is tells last.records served all.true_of k (Login user secret) (Listed items) among).0;
       },
-      record {
-        sizes = λ k user secret items among. (answer_is last.records served all.true_of k (Login user secret) (Listed items) among).1;
-        parts = λ k user id part among. answer_is last.records served all.true_of k (Fetch user id) (Part part) among;
+      λ told. record {
+        sizes = λ k user secret items among. (answer_is tells last.records served all.true_of k (Login user secret) (Listed items) among).1;
+        parts = λ k user id part among. answer_is tells last.records served all.true_of k (Fetch user id) (Part part) among told;
       },
     )
   where

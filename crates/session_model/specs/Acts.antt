@@ -1,9 +1,11 @@
 -- What is done for the lines of a tape, act by act, with what each act writes. Nothing else writes a line of a session.
-use Rattle.std.specs.Prelude.{◌≡◌, ℕ, ◌+◌, ◌-◌, List, [], ◌∷◌, ◌++◌, length, map, flat_map, All, ⊤, Some, None, slice_set}
+use Rattle.std.specs.Prelude.{◌≡◌, ℕ, ◌+◌, ◌-◌, List, [], ◌∷◌, ◌++◌, length, flat_map, Some, None, slice_set, codes}
+use Rattle.std.specs.Fmt.{decimal}
 use Rattle.mail_model.specs.Plan.{Plan}
-use Rattle.mail_model.specs.Lines.{sent_line}
-use Rattle.mail_model.specs.Tape.{Protocol, Order, tape_order}
-use Rattle.mail_model.specs.Tape.Order.{Open, Say, Feed, Close, End}
+use Rattle.mail_model.specs.Smtp.{greeting_text}
+use Rattle.mail_model.specs.PopReplies.{ready_text}
+use Rattle.mail_model.specs.Tape.{Protocol}
+use Rattle.mail_model.specs.Tape.Protocol.{Smtp, Pop}
 use Rattle.mail_model.specs.Transcript.{Entry}
 use Rattle.mail_model.specs.Transcript.Entry.{Said, Event}
 use Rattle.mail_model.specs.Site.{closed_event}
@@ -37,6 +39,11 @@ Did plan old (IsAnswered call answer reply) said new =
 Did plan old Falls said new = IsOn old.standing × (said ≡ down_line old.protocol old.node ∷ []) × (new ≡ record old { standing = EndedDown })
 Did plan old Closes said new = IsOn old.standing × (said ≡ []) × (new ≡ record old { standing = EndedClosed })
 
+-- the greeting of a session of this number, at a node in this boot and at these seconds
+abbrev pub greeting_of : Protocol → ℕ → ℕ → ℕ → ℕ → List ℕ
+greeting_of Smtp node boot number seconds = greeting_text node
+greeting_of Pop node boot number seconds = ready_text node boot number seconds
+
 -- a session that was opened
 abbrev pub opened_session : Protocol → ℕ → Session
 opened_session protocol node =
@@ -49,15 +56,22 @@ closing k deed EndedByQuit = closed_event k ∷ []
 closing k deed EndedDown = closed_event k ∷ []
 closing k deed standing = []
 
--- a session is opened and greeted, session k does something, or something happens in the cluster
+-- What is done: a session is opened and greeted; session k does something; that the disk of a node failed is noted; session k is asked and still waits; or session
+-- k, whose last line was written, leaves its node as this user.
 pub data Act : Type 0 where
   Opens : (protocol : Protocol) (node : ℕ) (greeting : List ℕ) → Act
   Does : (k : ℕ) (deed : Deed) → Act
-  Notes : (events : List (List ℕ)) → Act
+  Faults : (node : ℕ) → Act
+  StillWaits : (k : ℕ) → Act
+  Leaves : (k : ℕ) (user : List ℕ) → Act
 
 -- the sessions, with this one in place of session k
 abbrev pub replace : List Session → ℕ → Session → List Session
 replace sessions k session = slice_set sessions (k - 1) session
+
+-- that the disk of a node failed
+abbrev pub fault_event : ℕ → Entry
+fault_event node = Event (codes "fault " ++ decimal node)
 
 -- what an act writes, and how the sessions then are
 abbrev pub Acted : Plan → List Session → Act → List Entry → List Session → Type 0
@@ -66,7 +80,9 @@ Acted plan old (Opens protocol node greeting) entries new =
 Acted plan old (Does k deed) entries new =
     (before : Session) × (behind : Session) × (said : List (List ℕ)) × (session_at old k ≡ Some before) × Did plan before deed said behind
     × (entries ≡ said_lines k said ++ closing k deed behind.standing) × (new ≡ replace old k behind)
-Acted plan old (Notes events) entries new = (entries ≡ map Event events) × (new ≡ old)
+Acted plan old (Faults node) entries new = (entries ≡ fault_event node ∷ []) × (new ≡ old)
+Acted plan old (StillWaits k) entries new = (entries ≡ []) × (new ≡ old)
+Acted plan old (Leaves k user) entries new = (entries ≡ []) × (new ≡ old)
 
 -- acts, one after another
 abbrev pub ActedAll : Plan → List Session → List Act → List (List Entry) → List Session → Type 0
@@ -79,45 +95,25 @@ ActedAll plan old (act ∷ acts) [] new = ⊥
 abbrev pub opened_by : Act → List (Protocol × ℕ)
 opened_by (Opens protocol node greeting) = (protocol, node) ∷ []
 opened_by (Does k deed) = []
-opened_by (Notes events) = []
+opened_by (Faults node) = []
+opened_by (StillWaits session) = []
+opened_by (Leaves session user) = []
 
 -- and what they feed to session k
 abbrev pub fed_by : ℕ → Act → List ℕ
 fed_by k (Opens protocol node greeting) = []
 fed_by k (Does session (IsFed octets)) = fed_to k session octets
 fed_by k (Does session deed) = []
-fed_by k (Notes events) = []
+fed_by k (Faults node) = []
+fed_by k (StillWaits session) = []
+fed_by k (Leaves session user) = []
 
 -- the acts are those of these lines: they open and feed what the lines do, and nothing else
 pub record AreActsOf (lines : List (List ℕ)) (acts : List Act) : Type 0 where
   pub opens : opened lines ≡ flat_map opened_by acts
   pub feeds : (k : ℕ) → sent k lines ≡ flat_map (fed_by k) acts
 
--- an act that opens and feeds nothing
-pub record IsQuiet (act : Act) : Type 0 where
-  pub opens : opened_by act ≡ []
-  pub feeds : (k : ℕ) → fed_by k act ≡ []
-
--- what a line begins with; what comes behind it opens and feeds nothing
-abbrev pub BeginsWith : Order → List Act → Type 0
-BeginsWith (Open protocol node) acts = (greeting : List ℕ) × (more : List Act) × (acts ≡ Opens protocol node greeting ∷ more) × All IsQuiet more
-BeginsWith (Say k text) acts = (more : List Act) × (acts ≡ Does k (IsFed (sent_line text)) ∷ more) × All IsQuiet more
-BeginsWith (Feed k octets) acts = (more : List Act) × (acts ≡ Does k (IsFed octets) ∷ more) × All IsQuiet more
-BeginsWith (Close k) acts = (more : List Act) × (acts ≡ Does k Closes ∷ more) × All IsQuiet more
-BeginsWith End acts = ⊥
-
 -- the last reply of a session is parted into what was written and what was not
 pub record IsParted (session parted : Session) : Type 0 where
   pub same : parted ≡ record session { whole = parted.whole; others = parted.others }
   pub exchanges : parted.whole ++ parted.others ≡ session.whole ++ session.others
-
--- each of these lines is handled by these acts
-abbrev pub AreHandled : List (List ℕ) → List (List Act) → Type 0
-AreHandled [] [] = ⊤
-AreHandled (line ∷ lines) (acts ∷ more) = (order : Order) × (tape_order line ≡ Some order) × BeginsWith order acts × AreHandled lines more
-AreHandled [] (acts ∷ more) = ⊥
-AreHandled (line ∷ lines) [] = ⊥
-
--- then all these acts are those of the lines
-abbrev pub HandledAreActs : Type 0
-HandledAreActs = (lines : List (List ℕ)) (acts : List (List Act)) → AreHandled lines acts → AreActsOf lines (flat_map (λ l. l) acts)

@@ -1,5 +1,5 @@
 -- The promises of a cluster of one node, for every tape and however the work on it is left off.
-use Rattle.std.specs.Prelude.{◌≡◌, ℕ, List, [], ◌∷◌, flat_map, Option, Some, IfSome}
+use Rattle.std.specs.Prelude.{◌≡◌, ℕ, Bool, true, List, [], ◌∷◌, flat_map, Option, Some, IfSome}
 use Rattle.mail_model.specs.Plan.{Plan}
 use Rattle.mail_model.specs.Tape.{Protocol}
 use Rattle.mail_model.specs.Transcript.{Entry}
@@ -19,8 +19,9 @@ AreAtNode1 lines = (k : ℕ) (kind : Protocol × ℕ) → kind_at (opened lines)
 
 -- The node served the calls of the acts and gave their answers.
 abbrev pub OneNodePromises : Type 0
-OneNodePromises = (plan : Plan) (lines : List (List ℕ)) (entries : List Entry) (acts : List Act) (sessions : List Session) (served : List Served) (last : Node) (store : Option (List ℕ))
+OneNodePromises = (plan : Plan) (tells : Bool) (lines : List (List ℕ)) (entries : List Entry) (acts : List Act) (sessions : List Session) (served : List Served) (last : Node) (store : Option (List ℕ))
     → plan.nodes ≡ 1 → plan.confirm ≡ 1 → Shows plan lines entries acts sessions → AreAtNode1 lines
     → asked_of served ≡ flat_map asked_by acts → answered_of served ≡ flat_map answered_by acts
-    → ServesAll plan first_node served last → IfSome store (HoldsRecords last.records)
-    → StoredStands plan entries (store ∷ []) sessions × DeletedByQuit plan entries (store ∷ []) (last.records ∷ []) sessions × ShownAsFiled (λ id. octets_in id last.records) sessions
+    → ServesAll plan tells first_node served last → IfSome store (HoldsRecords last.records)
+    → StoredStands plan entries (store ∷ []) sessions × DeletedByQuit plan entries (store ∷ []) (last.records ∷ []) sessions
+    × (tells ≡ true → ShownAsFiled (λ id. octets_in id last.records) sessions)

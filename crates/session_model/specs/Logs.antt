@@ -4,7 +4,7 @@ use Rattle.session_model.specs.Calls.{Call, Answer}
 use Rattle.session_model.specs.Talk.{Exchange}
 use Rattle.session_model.specs.Sessions.{Session, session_at, exchanges_of}
 use Rattle.session_model.specs.Acts.{Act}
-use Rattle.session_model.specs.Acts.Act.{Opens, Does, Notes}
+use Rattle.session_model.specs.Acts.Act.{Opens, Does, Faults, StillWaits, Leaves}
 use Rattle.session_model.specs.Acts.Deed.{Hears, IsAnswered}
 
 -- a call that session k asked
@@ -41,14 +41,18 @@ abbrev pub asked_by : Act → List Asked
 asked_by (Opens protocol node greeting) = []
 asked_by (Does k (Hears one)) = flat_map (λ call. record { session = k; call = call } ∷ []) (call_in one.call)
 asked_by (Does k deed) = []
-asked_by (Notes events) = []
+asked_by (Faults node) = []
+asked_by (StillWaits session) = []
+asked_by (Leaves session user) = []
 
 -- and what it answers
 abbrev pub answered_by : Act → List Answered
 answered_by (Opens protocol node greeting) = []
 answered_by (Does k (IsAnswered call answer reply)) = record { session = k; call = call; answer = answer } ∷ []
 answered_by (Does k deed) = []
-answered_by (Notes events) = []
+answered_by (Faults node) = []
+answered_by (StillWaits session) = []
+answered_by (Leaves session user) = []
 
 -- those of session k
 abbrev pub asked_in : ℕ → List Asked → List Call

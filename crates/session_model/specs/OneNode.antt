@@ -1,5 +1,5 @@
 -- A cluster of one node, by its calls: what each leaves on its disk, and what it answers.
-use Rattle.std.specs.Prelude.{◌≡◌, ◌≢◌, ℕ, ◌+◌, true, false, List, [], ◌∷◌, ◌++◌, length, map, flat_map, ⊤, AllPairs, Option, Some, None, IfSome}
+use Rattle.std.specs.Prelude.{◌≡◌, ◌≢◌, ◌⊎◌, ℕ, ◌+◌, Bool, true, false, List, [], ◌∷◌, ◌++◌, length, map, flat_map, ⊤, AllPairs, Option, Some, None, IfSome}
 use Rattle.mail_model.specs.Plan.{Plan, opens}
 use Rattle.mail_model.specs.Session.{Told}
 use Rattle.mail_model.specs.Told.{mail_of}
@@ -48,28 +48,33 @@ drawn_by (Strike user ids) drawn = drawn_through drawn ids
 drawn_by (Login user secret) drawn = drawn
 drawn_by (Fetch user id) drawn = drawn
 
--- what a call leaves
-abbrev pub Serves : Plan → Node → Call → Option Answer → Node → Type 0
-Serves plan old call None new = (added : List Record) × (stamps : ℕ) × MayLeave old call added
+-- a call that has no answer: memory ran out before anything was done, or in its midst, or the disk failed
+abbrev pub LeavesSome : Node → Call → Node → Type 0
+LeavesSome old call new = (added : List Record) × (stamps : ℕ) × MayLeave old call added
     × (new ≡ record { drawn = drawn_by call old.drawn; stamps = stamps; records = old.records ++ added })
-Serves plan old (Deliver mail) (Some (Stored id)) new = (octets : List ℕ) × (id ≡ nth_id (old.drawn + 1)) × IsStored mail (nth_id (old.drawn + 1)) 0 octets
+
+-- What a call leaves; the disk may tell what it holds, and what a read of one that does not gives is not known.
+abbrev pub Serves : Plan → Bool → Node → Call → Option Answer → Node → Type 0
+Serves plan tells old call None new = (new ≡ old) ⊎ LeavesSome old call new
+Serves plan tells old (Deliver mail) (Some (Stored id)) new = (octets : List ℕ) × (id ≡ nth_id (old.drawn + 1)) × IsStored mail (nth_id (old.drawn + 1)) 0 octets
     × (new ≡ record {
       drawn = old.drawn + 1;
       stamps = old.stamps + 1;
       records = old.records ++ message_records (nth_id (old.drawn + 1)) (nth_stamp (old.stamps + 1)) octets mail.mailboxes;
     })
-Serves plan old (Login user secret) (Some (Listed items)) new = (opens plan user secret ≡ true) × (items ≡ listing_of user old.records) × (new ≡ old)
-Serves plan old (Login user secret) (Some Wrong) new = (opens plan user secret ≡ false) × (new ≡ old)
-Serves plan old (Fetch user id) (Some (Part part)) new = (octets_in id old.records ≡ Some part) × (new ≡ old)
-Serves plan old (Fetch user id) (Some GoneAlready) new = (size_in id (listing_of user old.records) ≡ None) × (new ≡ old)
-Serves plan old (Strike user ids) (Some Dropped) new =
+Serves plan tells old (Login user secret) (Some (Listed items)) new = (opens plan user secret ≡ true) × (items ≡ listing_of user old.records) × (new ≡ old)
+Serves plan tells old (Login user secret) (Some Wrong) new = (opens plan user secret ≡ false) × (new ≡ old)
+Serves plan tells old (Fetch user id) (Some (Part part)) new = (tells ≡ true → octets_in id old.records ≡ Some part) × (new ≡ old)
+Serves plan tells old (Fetch user id) (Some GoneAlready) new = (size_in id (listing_of user old.records) ≡ None) × (new ≡ old)
+Serves plan tells old (Strike user ids) (Some Dropped) new =
     new ≡ record { drawn = drawn_through old.drawn ids; stamps = old.stamps + length ids; records = old.records ++ gone_records user old.stamps ids }
-Serves plan old call answer new = ⊥
+Serves plan tells old call answer new = ⊥
 
--- all calls, one after another
-abbrev pub ServesAll : Plan → Node → List Served → Node → Type 0
-ServesAll plan old [] new = new ≡ old
-ServesAll plan old (one ∷ more) new = (mid : Node) × Serves plan old one.call one.answer mid × ServesAll plan mid more new
+-- All calls, one after another; behind one that has no answer none is served.
+abbrev pub ServesAll : Plan → Bool → Node → List Served → Node → Type 0
+ServesAll plan tells old [] new = new ≡ old
+ServesAll plan tells old (one ∷ more) new =
+    (mid : Node) × Serves plan tells old one.call one.answer mid × (one.answer ≡ None → more ≡ []) × ServesAll plan tells mid more new
 
 -- a message as a session tells it, with each mailbox once
 abbrev pub IsSoundMail : Call → Type 0
@@ -95,9 +100,10 @@ answered_of served = flat_map (λ one. told_of one.session one.call one.answer) 
 
 -- One node gives what a cluster owes.
 abbrev pub OneNodeOwes : Type 0
-OneNodeOwes = (plan : Plan) (entries : List Entry) (served : List Served) (last : Node) (store : Option (List ℕ)) → plan.nodes ≡ 1 → plan.confirm ≡ 1
-    → AreSoundMails served → ServesAll plan first_node served last → IfSome store (HoldsRecords last.records)
-    → OwesDeletions plan entries (store ∷ []) (last.records ∷ []) (asked_of served) (answered_of served) × OwesParts (λ id. octets_in id last.records) (answered_of served)
+OneNodeOwes = (plan : Plan) (tells : Bool) (entries : List Entry) (served : List Served) (last : Node) (store : Option (List ℕ)) → plan.nodes ≡ 1 → plan.confirm ≡ 1
+    → AreSoundMails served → ServesAll plan tells first_node served last → IfSome store (HoldsRecords last.records)
+    → OwesDeletions plan entries (store ∷ []) (last.records ∷ []) (asked_of served) (answered_of served)
+    × (tells ≡ true → OwesParts (λ id. octets_in id last.records) (answered_of served))
 
 -- a session of the node that takes mail asked for each message
 abbrev pub IsTaken : List (List ℕ) → ℕ → Call → Type 0
@@ -111,6 +117,6 @@ AreTaken lines [] = ⊤
 AreTaken lines (one ∷ more) = IsTaken lines one.session one.call × AreTaken lines more
 
 abbrev pub OneNodeStores : Type 0
-OneNodeStores = (plan : Plan) (lines : List (List ℕ)) (entries : List Entry) (served : List Served) (last : Node) (store : Option (List ℕ)) → plan.nodes ≡ 1 → plan.confirm ≡ 1
-    → AreTaken lines served → ServesAll plan first_node served last → IfSome store (HoldsRecords last.records)
+OneNodeStores = (plan : Plan) (tells : Bool) (lines : List (List ℕ)) (entries : List Entry) (served : List Served) (last : Node) (store : Option (List ℕ)) → plan.nodes ≡ 1 → plan.confirm ≡ 1
+    → AreTaken lines served → ServesAll plan tells first_node served last → IfSome store (HoldsRecords last.records)
     → OwesStored plan lines entries (store ∷ []) (answered_of served)

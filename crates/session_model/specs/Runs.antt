@@ -6,6 +6,7 @@ use Rattle.mail_model.specs.Steps.{all_of}
 use Rattle.session_model.specs.Sessions.{Session, AreSessions, session_at}
 use Rattle.session_model.specs.Acts.{Act, Acted, ActedAll, AreActsOf, IsParted}
 use Rattle.session_model.specs.Logs.{AreLogged, asked_by, answered_by}
+use Rattle.session_model.specs.Run.{Stop, Made, IsDriven}
 
 -- The sessions of the run lines that were handled, as the transcript shows them, with all that they asked and were answered.
 pub record Shows (plan : Plan) (lines : List (List ℕ)) (entries : List Entry) (acts : List Act) (sessions : List Session) : Type 0 where
@@ -18,3 +19,9 @@ ActsAreShown = (plan : Plan) (lines : List (List ℕ)) (acts : List Act) (act : 
     → ActedAll plan [] acts outputs mid → Acted plan mid act entries last → entries ≡ front ++ missing → AreActsOf lines (acts ++ act ∷ [])
     → (sessions : List Session) × Shows plan lines (all_of outputs ++ front) (acts ++ act ∷ []) sessions
     × ((k : ℕ) (session : Session) → session_at sessions k ≡ Some session → (whole : Session) × (session_at last k ≡ Some whole) × IsParted whole session)
+
+-- However a tape is driven, its transcript shows its sessions.
+abbrev pub DrivenIsShown : Type 0
+DrivenIsShown = (plan : Plan) (stop : Stop) (handled left : List (List ℕ)) (acts others : List (List Act)) (made : List Made) (entries : List Entry) (last : List Session)
+    → IsDriven plan stop handled left acts others made entries last
+    → (sessions : List Session) × Shows plan (handled ++ left) entries (flat_map (λ a. a) (acts ++ others)) sessions

@@ -3,14 +3,11 @@ ghost use Rattle.session_model.specs.Moves.{Begins, IsFed, HearsNext, IsAnswered
 ghost use Rattle.session_model.specs.Mailing.{StoredAsTold, AsksAsTold};
 ghost use Rattle.session_model.specs.Reading.{StrikesAtQuit, QuitStrikes};
 ghost use Rattle.session_model.specs.Showing.{ShownAsListed};
-ghost use Rattle.session_model.specs.Acts.{HandledAreActs};
-ghost use Rattle.session_model.specs.Runs.{ActsAreShown};
+ghost use Rattle.session_model.specs.Runs.{ActsAreShown, DrivenIsShown};
 ghost use Rattle.session_model.specs.Books.{BooksAcknowledge, BooksStrike};
 ghost use Rattle.session_model.specs.Owes.{OwedStoredAreTrue, OwedDeletionsAreTrue, OwedPartsAreTrue};
 ghost use Rattle.session_model.specs.Alone.{OneNodePromises};
-ghost use Rattle.session_model.specs.Drives.{DrivenIsShown};
 ghost use Rattle.session_model.specs.Readings.{OneReading};
-ghost use Rattle.session_model.specs.Instance.{SmallTape};
 ghost use Rattle.session_model.specs.OneNode.{OneNodeOwes, OneNodeStores};
 ghost use Rattle.session_model.specs.Promises.{TrueAnswersStand, TrueAnswersDelete, TrueAnswersShow};
 
@@ -90,11 +87,6 @@ pub fn acts_are_shown()
     ensures { ActsAreShown }
 {}
 
-/// The acts of handled lines open and feed what the lines do.
-pub fn handled_are_acts()
-    ensures { HandledAreActs }
-{}
-
 /// Where the book of a cluster is that of the calls, its copies are those of what clients were told.
 pub fn books_acknowledge()
     ensures { BooksAcknowledge }
@@ -148,9 +140,4 @@ pub fn driven_is_shown()
 /// What a client sent and got has one reading.
 pub fn one_reading()
     ensures { OneReading }
-{}
-
-/// A small tape meets every premise, by any plan.
-pub fn small_tape()
-    ensures { SmallTape }
 {}

@@ -1,0 +1,226 @@
+-- However a tape is driven, its transcript shows its sessions.
+use Rattle.std.proofs.Common.{◌≡◌, ℕ, List, [], ◌∷◌, ◌++◌, flat_map, Option, Some, None, refl, sym, ap, ap₂, ◌∙◌, subst, append_assoc, append-nil}
+use Rattle.std.proofs.lemmas.List.Concat.{flat_map-append}
+use Rattle.mail_model.specs.Plan.{Plan}
+use Rattle.mail_model.specs.Tape.{Order, tape_order}
+use Rattle.mail_model.specs.Tape.Order.{Open, Say, Feed, Close, End}
+use Rattle.mail_model.specs.Transcript.{Entry}
+use Rattle.mail_model.specs.Steps.{all_of}
+use Rattle.mail_model.specs.Told as told
+use Rattle.mail_model.specs.Stored.{opened_at}
+use Rattle.mail_model.specs.Shown.{lines_to}
+use Rattle.session_model.specs.Sessions.{Session, session_at}
+use Rattle.session_model.specs.Logs.{IsLogged, asked_by, answered_by, asked_in, answered_in}
+use Rattle.session_model.proofs.Acts.{Kept, Spoken, at_first}
+use Rattle.session_model.proofs.Logs.{Logged, AreLogged, all_logged, none_logged, logged_whole}
+use Rattle.session_model.specs.Acts.{Act, Acted, ActedAll, AreActsOf, opened_by, fed_by}
+use Rattle.session_model.specs.Acts.Act.{Does, Faults, StillWaits, Leaves}
+use Rattle.session_model.specs.Acts.Deed.{Hears, IsAnswered, Falls, Closes}
+use Rattle.session_model.specs.Turns.{Turn, Next, Goes, Starts}
+use Rattle.session_model.specs.Turns.Turn.{Hearing, Beginning, Falling, Asking}
+use Rattle.session_model.specs.Run.{Stop, Made, IsBegun, AreHandled, IsLeftOff}
+use Rattle.session_model.specs.Runs.{Shows, DrivenIsShown}
+use Rattle.session_model.proofs.Cutting.{Shown, spoken_shown, acts_are_shown}
+
+-- an act that opens and feeds nothing
+record IsQuiet (act : Act) : Type 0 where
+  pub opens : opened_by act ≡ []
+  pub feeds : (k : ℕ) → fed_by k act ≡ []
+
+-- each act behind the first of a line is quiet
+next_quiet : (turn next : Turn) (sessions : List Session) (act : Act) → Next turn sessions act next → IsQuiet act
+next_quiet turn next sessions (Does k (Hears one)) is = record { opens = refl; feeds = λ k. refl }
+next_quiet turn next sessions (Does k (IsAnswered call answer reply)) is = record { opens = refl; feeds = λ k. refl }
+next_quiet turn next sessions (Does k Falls) is = record { opens = refl; feeds = λ k. refl }
+next_quiet turn next sessions (Does k Closes) is = record { opens = refl; feeds = λ k. refl }
+next_quiet turn next sessions (Faults node) is = record { opens = refl; feeds = λ k. refl }
+next_quiet turn next sessions (StillWaits k) is = record { opens = refl; feeds = λ k. refl }
+next_quiet turn next sessions (Leaves k user) is = record { opens = refl; feeds = λ k. refl }
+next_quiet (Hearing k onward) next sessions act is = absurd is
+next_quiet (Beginning k onward) next sessions act is = absurd is
+next_quiet (Falling k node onward) next sessions act is = absurd is
+next_quiet (Asking k) next sessions act is = absurd is
+
+-- What acts made: they were done one after another, and open and feed nothing.
+record IsMade (plan : Plan) (old : List Session) (acts : List Act) (outputs : List (List Entry)) (new : List Session) : Type 0 where
+  pub done : ActedAll plan old acts outputs new
+  pub opens : flat_map opened_by acts ≡ []
+  pub feeds : (k : ℕ) → flat_map (fed_by k) acts ≡ []
+
+goes_made : (plan : Plan) (turn last : Turn) (old new : List Session) (acts : List Act) (outputs : List (List Entry)) → Goes plan turn old acts outputs last new → IsMade plan old acts outputs new
+goes_made plan turn last old new [] [] (same, is) = record { done = is; opens = refl; feeds = λ k. refl }
+goes_made plan turn last old new (act ∷ acts) (entries ∷ outputs) (next, mid, is, acted, goes) =
+    let quiet = next_quiet turn next old act is in
+    let later = goes_made plan next last mid new acts outputs goes in
+    record {
+      done = (mid, acted, later.done);
+      opens = ap₂ ◌++◌ quiet.opens later.opens;
+      feeds = λ k. ap₂ ◌++◌ (quiet.feeds k) (later.feeds k);
+    }
+goes_made plan turn last old new [] (entries ∷ outputs) goes = absurd goes
+goes_made plan turn last old new (act ∷ acts) [] goes = absurd goes
+
+-- the first act of a line opens what the line does
+starts_opens : (order : Order) (sessions : List Session) (act : Act) (turn : Turn) → Starts order sessions act turn → opened_at (Some order) ≡ opened_by act
+starts_opens (Open protocol node) sessions act turn (is, next) = sym (ap opened_by is)
+starts_opens (Say k text) sessions act turn (is, next) = sym (ap opened_by is)
+starts_opens (Feed k octets) sessions act turn (is, next) = sym (ap opened_by is)
+starts_opens (Close k) sessions act turn (is, idle, next) = sym (ap opened_by is)
+starts_opens End sessions act turn starts = absurd starts
+
+-- and feeds it
+starts_feeds : (j : ℕ) (order : Order) (sessions : List Session) (act : Act) (turn : Turn) → Starts order sessions act turn → told.fed_by j (Some order) ≡ fed_by j act
+starts_feeds j (Open protocol node) sessions act turn (is, next) = sym (ap (fed_by j) is)
+starts_feeds j (Say k text) sessions act turn (is, next) = sym (ap (fed_by j) is)
+starts_feeds j (Feed k octets) sessions act turn (is, next) = sym (ap (fed_by j) is)
+starts_feeds j (Close k) sessions act turn (is, idle, next) = sym (ap (fed_by j) is)
+starts_feeds j End sessions act turn starts = absurd starts
+
+-- What the acts of lines made: they were done one after another, and open and feed what the lines do.
+record AreMade (plan : Plan) (old : List Session) (lines : List (List ℕ)) (acts : List Act) (outputs : List (List Entry)) (new : List Session) : Type 0 where
+  pub done : ActedAll plan old acts outputs new
+  pub acts_of : AreActsOf lines acts
+
+-- a line that was begun
+begun_made : (plan : Plan) (down : List ℕ) (old new : List Session) (line : List ℕ) (acts : List Act) (outputs : List (List Entry)) (turn : Turn)
+    → IsBegun plan down old line acts outputs turn new → AreMade plan old (line ∷ []) acts outputs new
+begun_made plan down old new line acts outputs turn begun =
+    let later = goes_made plan begun.next turn begun.mid new begun.more begun.others begun.goes in
+    subst (λ (a : List Act). AreMade plan old (line ∷ []) a outputs new) (sym begun.acts_are)
+    (subst (λ (o : List (List Entry)). AreMade plan old (line ∷ []) (begun.first ∷ begun.more) o new) (sym begun.outputs_are) (record {
+      done = (begun.mid, begun.acted, later.done);
+      acts_of = record {
+        opens = append-nil (opened_at (tape_order line)) ∙ ap opened_at begun.spelled ∙ starts_opens begun.order old begun.first begun.next begun.starts
+            ∙ sym (append-nil (opened_by begun.first)) ∙ ap (λ l. opened_by begun.first ++ l) (sym later.opens);
+        feeds = λ k. append-nil (told.fed_by k (tape_order line)) ∙ ap (told.fed_by k) begun.spelled ∙ starts_feeds k begun.order old begun.first begun.next begun.starts
+            ∙ sym (append-nil (fed_by k begun.first)) ∙ ap (λ l. fed_by k begun.first ++ l) (sym (later.feeds k));
+      };
+    }))
+
+-- acts, and others behind them
+acted_both : (plan : Plan) (old mid new : List Session) (acts more : List Act) (outputs others : List (List Entry)) → ActedAll plan old acts outputs mid → ActedAll plan mid more others new
+    → ActedAll plan old (acts ++ more) (outputs ++ others) new
+acted_both plan old mid new [] more [] others done later = subst (λ (s : List Session). ActedAll plan s more others new) done later
+acted_both plan old mid new (act ∷ acts) more (entries ∷ outputs) others (next, acted, done) later = (next, acted, acted_both plan next mid new acts more outputs others done later)
+acted_both plan old mid new [] more (entries ∷ outputs) others done later = absurd done
+acted_both plan old mid new (act ∷ acts) more [] others done later = absurd done
+
+-- the acts of some lines, and of others
+acts_both : (lines more : List (List ℕ)) (acts others : List Act) → AreActsOf lines acts → AreActsOf more others → AreActsOf (lines ++ more) (acts ++ others)
+acts_both lines more acts others first later = record {
+  opens = flat_map-append (λ line. opened_at (tape_order line)) lines more ∙ ap₂ ◌++◌ first.opens later.opens ∙ sym (flat_map-append opened_by acts others);
+  feeds = λ k. flat_map-append (λ line. told.fed_by k (tape_order line)) lines more ∙ ap₂ ◌++◌ (first.feeds k) (later.feeds k) ∙ sym (flat_map-append (fed_by k) acts others);
+}
+
+made_both : (plan : Plan) (old mid new : List Session) (lines more : List (List ℕ)) (acts others : List Act) (outputs says : List (List Entry)) → AreMade plan old lines acts outputs mid
+    → AreMade plan mid more others says new → AreMade plan old (lines ++ more) (acts ++ others) (outputs ++ says) new
+made_both plan old mid new lines more acts others outputs says first later = record {
+  done = acted_both plan old mid new acts others outputs says first.done later.done;
+  acts_of = acts_both lines more acts others first.acts_of later.acts_of;
+}
+
+-- nothing was made
+none_made : (plan : Plan) (old new : List Session) → new ≡ old → AreMade plan old [] [] [] new
+none_made plan old new is = record { done = is; acts_of = record { opens = refl; feeds = λ k. refl } }
+
+-- all lines that were handled
+handled_made : (plan : Plan) (down : List ℕ) (old new : List Session) (lines : List (List ℕ)) (by_line : List (List Act)) (outputs : List (List (List Entry)))
+    → AreHandled plan down old lines by_line outputs new → AreMade plan old lines (flat_map (λ a. a) by_line) (flat_map (λ o. o) outputs) new
+handled_made plan down old new [] [] [] is = none_made plan old new is
+handled_made plan down old new (line ∷ lines) (acts ∷ by_line) (says ∷ outputs) (mid, one, more) =
+    made_both plan old mid new (line ∷ []) lines acts (flat_map (λ a. a) by_line) says (flat_map (λ o. o) outputs) (begun_made plan down old mid line acts says one.last one.begun)
+    (handled_made plan _ mid new lines by_line outputs more)
+handled_made plan down old new lines by_line outputs h = absurd h
+
+-- what was written of all lines
+all_written : (outputs : List (List (List Entry))) → flat_map all_of outputs ≡ all_of (flat_map (λ o. o) outputs)
+all_written [] = refl
+all_written (says ∷ outputs) = ap (λ (l : List Entry). all_of says ++ l) (all_written outputs) ∙ sym (flat_map-append (λ (e : List Entry). e) says (flat_map (λ o. o) outputs))
+
+-- The last of some acts.
+record IsLast (plan : Plan) (old : List Session) (acts : List Act) (before : List (List Entry)) (says : List Entry) (new : List Session) : Type 0 where
+  pub been : List Act
+  pub act : Act
+  pub mid : List Session
+  pub are : acts ≡ been ++ act ∷ []
+  pub done : ActedAll plan old been before mid
+  pub acted : Acted plan mid act says new
+
+last_of : (plan : Plan) (old new : List Session) (acts : List Act) (before : List (List Entry)) (says : List Entry) → ActedAll plan old acts (before ++ says ∷ []) new
+    → IsLast plan old acts before says new
+last_of plan old new (act ∷ []) [] says (mid, acted, is) =
+    record { been = []; act = act; mid = old; are = refl; done = refl; acted = subst (λ (s : List Session). Acted plan old act says s) (sym is) acted }
+last_of plan old new (act ∷ acts) (entries ∷ before) says (mid, acted, done) =
+    let later = last_of plan mid new acts before says done in
+    record { been = act ∷ later.been; act = later.act; mid = later.mid; are = ap (λ (l : List Act). act ∷ l) later.are; done = (mid, acted, later.done); acted = later.acted }
+last_of plan old new (act ∷ other ∷ acts) [] says (mid, acted, done) = absurd done
+last_of plan old new [] [] says done = absurd done
+last_of plan old new [] (entries ∷ before) says done = absurd done
+
+whole_shows : (plan : Plan) (lines : List (List ℕ)) (acts : List Act) (outputs : List (List Entry)) (last : List Session) → ActedAll plan [] acts outputs last → AreActsOf lines acts
+    → Shows plan lines (all_of outputs) acts last
+whole_shows plan lines acts outputs last done acts_of = record {
+  are = record {
+    kinds = acts_of.opens ∙ all.0.kinds;
+    each = λ k session at.
+        let shown : Shown plan (flat_map (fed_by k) acts) (lines_to k (all_of outputs)) (Some session) =
+        subst (Shown plan (flat_map (fed_by k) acts) (lines_to k (all_of outputs))) at
+        (spoken_shown plan (flat_map (fed_by k) acts) (lines_to k (all_of outputs)) (session_at last k) (all.0.each k)) in
+        record { talk = shown.0.talk; fed = shown.1 ∙ sym (acts_of.feeds k); gets = shown.0.gets };
+  };
+  logged = λ k. by_session k (session_at last k) refl;
+}
+  where
+    all : Kept plan acts (all_of outputs) last × AreLogged acts last
+    all = all_logged plan [] acts [] [] last outputs (at_first plan) none_logged done
+
+    by_session : (k : ℕ) (there : Option Session) → session_at last k ≡ there → IsLogged (asked_in k (flat_map asked_by acts)) (answered_in k (flat_map answered_by acts)) (session_at last k)
+    by_session k None none =
+        subst (IsLogged (asked_in k (flat_map asked_by acts)) (answered_in k (flat_map answered_by acts))) (sym none)
+        (subst (Logged (asked_in k (flat_map asked_by acts)) (answered_in k (flat_map answered_by acts))) none (all.1 k))
+    by_session k (Some session) at =
+        let spoken : Spoken plan (flat_map (fed_by k) acts) (lines_to k (all_of outputs)) (Some session) =
+        subst (Spoken plan (flat_map (fed_by k) acts) (lines_to k (all_of outputs))) at (all.0.each k) in
+        subst (IsLogged (asked_in k (flat_map asked_by acts)) (answered_in k (flat_map answered_by acts))) (sym at)
+        (logged_whole _ _ session spoken.3.none (subst (Logged (asked_in k (flat_map asked_by acts)) (answered_in k (flat_map answered_by acts))) at (all.1 k)))
+
+-- Lines that were handled, and behind them none, or one that was left off.
+module _ (plan : Plan) (stop : Stop) (down : List ℕ) (lines : List (List ℕ)) (mid last : List Session) (acts : List Act) (outputs : List (List Entry))
+    (made : AreMade plan [] lines acts outputs mid) where
+  off_shows : (left : List (List ℕ)) (others : List (List Act)) (tail : List Entry) (extra : List Made) → IsLeftOff plan down stop mid left others tail extra last
+      → (sessions : List Session) × Shows plan (lines ++ left) (all_of outputs ++ tail) (acts ++ flat_map (λ a. a) others) sessions
+  off_shows [] [] tail extra (none, no_step, is, whole) = (
+    mid,
+    subst (λ (t : List Entry). Shows plan (lines ++ []) (all_of outputs ++ t) (acts ++ []) mid) (sym none)
+        (subst (λ (l : List (List ℕ)). Shows plan l (all_of outputs ++ []) (acts ++ []) mid) (sym (append-nil lines))
+        (subst (λ (a : List Act). Shows plan lines (all_of outputs ++ []) a mid) (sym (append-nil acts))
+        (subst (λ (e : List Entry). Shows plan lines e acts mid) (sym (append-nil (all_of outputs))) (whole_shows plan lines acts outputs mid made.done made.acts_of)))),
+  )
+  off_shows (line ∷ []) (more ∷ []) tail extra (turn, cut, asked) =
+      let one = begun_made plan down mid last line more (cut.before ++ cut.says ∷ []) turn cut.begun in
+      let end = last_of plan mid last more cut.before cut.says one.done in
+      let are : (acts ++ end.been) ++ end.act ∷ [] ≡ acts ++ (more ++ []) =
+      append_assoc acts end.been (end.act ∷ []) ∙ ap (λ (l : List Act). acts ++ l) (sym end.are ∙ sym (append-nil more)) in
+      let all : AreActsOf (lines ++ line ∷ []) (acts ++ (more ++ [])) =
+      acts_both lines (line ∷ []) acts (more ++ []) made.acts_of (subst (AreActsOf (line ∷ [])) (sym (append-nil more)) one.acts_of) in
+      let shown = acts_are_shown plan (lines ++ line ∷ []) (acts ++ end.been) end.act (outputs ++ cut.before) cut.says cut.front cut.missing end.mid last
+      (acted_both plan [] mid end.mid acts end.been outputs cut.before made.done end.done) end.acted cut.cut (subst (AreActsOf (lines ++ line ∷ [])) (sym are) all) in
+      let same : all_of (outputs ++ cut.before) ++ cut.front ≡ all_of outputs ++ tail =
+      ap (λ (l : List Entry). l ++ cut.front) (flat_map-append (λ (e : List Entry). e) outputs cut.before) ∙ append_assoc (all_of outputs) (all_of cut.before) cut.front
+      ∙ ap (λ (l : List Entry). all_of outputs ++ l) (sym cut.written) in (
+        shown.0,
+        subst (λ (e : List Entry). Shows plan (lines ++ line ∷ []) e (acts ++ (more ++ [])) shown.0) same
+            (subst (λ (a : List Act). Shows plan (lines ++ line ∷ []) (all_of (outputs ++ cut.before) ++ cut.front) a shown.0) are shown.1),
+      )
+  off_shows left others tail extra off = absurd off
+
+pub driven_is_shown : DrivenIsShown
+driven_is_shown plan stop handled left acts others made entries last driven =
+    let before = handled_made plan [] [] driven.mid handled acts driven.outputs driven.are in
+    let shown = off_shows plan stop _ handled driven.mid last (flat_map (λ a. a) acts) (flat_map (λ o. o) driven.outputs) before left others driven.tail driven.extra driven.off in
+    let same : all_of (flat_map (λ o. o) driven.outputs) ++ driven.tail ≡ entries = ap (λ (l : List Entry). l ++ driven.tail) (sym (all_written driven.outputs)) ∙ sym driven.written in (
+      shown.0,
+      subst (λ (e : List Entry). Shows plan (handled ++ left) e (flat_map (λ a. a) (acts ++ others)) shown.0) same
+          (subst (λ (a : List Act). Shows plan (handled ++ left) (all_of (flat_map (λ o. o) driven.outputs) ++ driven.tail) a shown.0)
+          (sym (flat_map-append (λ (a : List Act). a) acts others)) shown.1),
+    )

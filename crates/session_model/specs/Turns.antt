@@ -1,0 +1,99 @@
+-- What each line of a tape leads to: which acts, one after another, and where they end.
+use Rattle.std.specs.Prelude.{◌≡◌, ℕ, ◌+◌, ◌<◌, ◌≤◌, List, [], ◌∷◌, length, ⊤, Option, Some, None}
+use Rattle.mail_model.specs.Plan.{Plan}
+use Rattle.mail_model.specs.Lines.{sent_line}
+use Rattle.mail_model.specs.Tape.{Order}
+use Rattle.mail_model.specs.Tape.Order.{Open, Say, Feed, Close, End}
+use Rattle.mail_model.specs.Transcript.{Entry}
+use Rattle.session_model.specs.Calls.{Call}
+use Rattle.session_model.specs.Talk.{State, Standing, IsIdle, IsOn, leave_of}
+use Rattle.session_model.specs.Sessions.{Session, session_at, exchanges_of}
+use Rattle.session_model.specs.Acts.{Act, Acted, greeting_of}
+use Rattle.session_model.specs.Acts.Act.{Opens, Does, Faults, StillWaits, Leaves}
+use Rattle.session_model.specs.Acts.Deed.{IsFed, Hears, IsAnswered, Falls, Closes}
+
+-- What is under way: session k hears; its call has just begun; the sessions of a node that failed fall, from number k on; or the sessions that wait are asked,
+-- from number k on. Behind the first three they are asked from number `onward` on.
+pub data Turn : Type 0 where
+  Hearing : (k onward : ℕ) → Turn
+  Beginning : (k onward : ℕ) → Turn
+  Falling : (k node onward : ℕ) → Turn
+  Asking : (k : ℕ) → Turn
+
+-- the session waits for an answer
+abbrev pub Waits : Option Session → Type 0
+Waits None = ⊥
+Waits (Some session) = (state : State) × (call : Call) × (session.standing ≡ Standing.Waiting state call)
+
+-- it is at this node
+abbrev pub IsAtNode : ℕ → Option Session → Type 0
+IsAtNode node None = ⊥
+IsAtNode node (Some session) = session.node ≡ node
+
+-- it is at this node and has not ended
+abbrev pub StandsAt : ℕ → Option Session → Type 0
+StandsAt node None = ⊥
+StandsAt node (Some session) = (session.node ≡ node) × IsOn session.standing
+
+-- whose leave it still has to ask
+abbrev pub to_leave : Option Session → Option (List ℕ)
+to_leave None = None
+to_leave (Some session) = leave_of (exchanges_of session) session.standing
+
+-- it has nothing to do before it is fed or answered
+abbrev pub IsAtRest : Option Session → Type 0
+IsAtRest None = ⊤
+IsAtRest (Some session) = IsIdle session.standing session.rest
+
+-- session k is the first of them, from this number on, of which this is so
+pub record IsFirst (is_so : Option Session → Type 0) (sessions : List Session) (from k : ℕ) : Type 0 where
+  pub later : from ≤ k
+  pub here : is_so (session_at sessions k)
+  pub none : (j : ℕ) → from ≤ j → j < k → is_so (session_at sessions j) → ⊥
+
+-- it is so of none of them, from this number on
+abbrev pub IsNone : (Option Session → Type 0) → List Session → ℕ → Type 0
+IsNone is_so sessions from = (j : ℕ) → from ≤ j → is_so (session_at sessions j) → ⊥
+
+-- what was under way is done, and sessions that wait are to be asked from this number on
+abbrev pub IsReady : Turn → List Session → ℕ → Type 0
+IsReady (Hearing k onward) sessions from = (from ≡ onward) × IsAtRest (session_at sessions k) × (to_leave (session_at sessions k) ≡ None)
+IsReady (Beginning k onward) sessions from = from ≡ onward
+IsReady (Falling k node onward) sessions from = (from ≡ onward) × IsNone (StandsAt node) sessions k
+IsReady (Asking k) sessions from = from ≡ k
+
+-- what is under way once session k heard a unit
+abbrev pub after_unit : ℕ → ℕ → Option Call → Turn
+after_unit k onward None = Hearing k onward
+after_unit k onward (Some call) = Beginning k onward
+
+-- The next act, and what is under way behind it. A session hears until it rests or waits, and leaves once it has ended by QUIT or its client closed it. Its node
+-- may fail as a call begins: then all sessions of the node fall. The sessions that wait are asked in rising order, and one that is answered hears on.
+abbrev pub Next : Turn → List Session → Act → Turn → Type 0
+Next (Hearing k onward) sessions (Does j (Hears one)) next = (j ≡ k) × (next ≡ after_unit k onward one.call)
+Next (Hearing k onward) sessions (Leaves j user) next = (j ≡ k) × (to_leave (session_at sessions k) ≡ Some user) × (next ≡ Asking onward)
+Next (Beginning k onward) sessions (Faults node) next = IsAtNode node (session_at sessions k) × (next ≡ Falling 1 node onward)
+Next (Falling k node onward) sessions (Does j Falls) next = IsFirst (StandsAt node) sessions k j × (next ≡ Falling (j + 1) node onward)
+Next turn sessions (StillWaits j) next = (from : ℕ) × IsReady turn sessions from × IsFirst Waits sessions from j × (next ≡ Asking (j + 1))
+Next turn sessions (Does j (IsAnswered call answer reply)) next = (from : ℕ) × IsReady turn sessions from × IsFirst Waits sessions from j × (next ≡ Hearing j j)
+Next turn sessions act next = ⊥
+
+-- acts, one after another, with what each writes
+abbrev pub Goes : Plan → Turn → List Session → List Act → List (List Entry) → Turn → List Session → Type 0
+Goes plan turn old [] [] last new = (last ≡ turn) × (new ≡ old)
+Goes plan turn old (act ∷ acts) (entries ∷ outputs) last new =
+    (next : Turn) × (mid : List Session) × Next turn old act next × Acted plan old act entries mid × Goes plan next mid acts outputs last new
+Goes plan turn old [] (entries ∷ outputs) last new = ⊥
+Goes plan turn old (act ∷ acts) [] last new = ⊥
+
+-- nothing is under way, and nobody is left to be asked
+abbrev pub IsDone : Turn → List Session → Type 0
+IsDone turn sessions = (from : ℕ) × IsReady turn sessions from × IsNone Waits sessions from
+
+-- what a line begins with, and what is under way behind it
+abbrev pub Starts : Order → List Session → Act → Turn → Type 0
+Starts (Open protocol node) sessions act turn = (act ≡ Opens protocol node (greeting_of protocol node 1 (length sessions + 1) 0)) × (turn ≡ Asking 1)
+Starts (Say k text) sessions act turn = (act ≡ Does k (IsFed (sent_line text))) × (turn ≡ Hearing k 1)
+Starts (Feed k octets) sessions act turn = (act ≡ Does k (IsFed octets)) × (turn ≡ Hearing k 1)
+Starts (Close k) sessions act turn = (act ≡ Does k Closes) × (Waits (session_at sessions k) → ⊥) × (turn ≡ Hearing k 1)
+Starts End sessions act turn = ⊥
