@@ -5,3 +5,4 @@ pub mod Sending
 pub mod Once
 pub mod RoundTrip
 pub mod Worked
+mod Letting

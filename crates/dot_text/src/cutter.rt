@@ -1,51 +1,60 @@
 // Lines out of octets as they come.
-ghost use Rattle.std.specs.Prelude.{◌≡◌, ◌≤◌, ◌++◌, ◌∷◌, [], List, ℕ, length, take, drop, MatchOption, OnOk, OnErr};
+ghost use Rattle.std.specs.Prelude.{◌≡◌, ◌≤◌, ◌<◌, ◌+◌, ◌^◌, ◌++◌, ◌∷◌, [], List, ℕ, false, length, take, drop, MatchOption, OnOk, OnErr};
 ghost use Rattle.mail_model.specs.Lines.{HasNoCrlf};
 ghost use Rattle.dot_text.specs.Cuts.{Taken, Cuts, HasNoneBefore, IsFirstCrlf};
 ghost use Rattle.dot_text.specs.Cuts.Taken.{Skipped};
-ghost use Rattle.dot_text.specs.Cuts.{taken_octets};
-ghost use Rattle.dot_text.specs.Shown.{Gives, GivesNone, IsKind};
+ghost use Rattle.dot_text.specs.Shown.{ends_in_cr, Finds, FindsNone, LetsGo, IsKind, line_length, behind_line};
 
 use std::alloc::{AllocError, Global};
 use std::marker::Model;
 
-/// Whether a line that was cut off keeps the limit of its cutter. `LineCutter::line` has its octets.
+/// The next line of a cutter: how many of the octets that it holds stand before the CRLF, and whether the
+/// line keeps the limit.
 #[derive(Clone, Copy, Debug, PartialEq, Eq)]
 pub enum Line {
-    /// With its CRLF it has at most as many octets as the limit.
-    Whole,
-    /// With its CRLF it has more.
-    Long,
+    /// With its CRLF it has at most as many octets as the limit. These are all of them.
+    Whole(usize),
+    /// With its CRLF it has more. Its first octets may have been let go.
+    Long(usize),
 }
 
-/// Cuts octets that come in pieces into lines, which end in CRLF (RFC 5321, section 2.3.8). A contract sees
-/// the limit, the line that was given last, the octets that can be put back, and those that no line has
-/// given yet.
+impl Line {
+    /// How many of the octets that the cutter holds stand before the CRLF.
+    pub fn length(self) -> usize
+        ensures { result ≡ line_length self }
+    {
+        match self {
+            Line::Whole(length) => length,
+            Line::Long(length) => length,
+        }
+    }
+}
+
+/// Cuts octets that come in pieces into lines, which end in CRLF (RFC 5321, section 2.3.8). Of a line that is
+/// longer than the limit no more is held than a CR. A contract sees the limit, the octets that are held, and
+/// whether those before them, of the same line, were let go.
 #[derive(Debug, Drop)]
 pub struct LineCutter {
     limit: usize,
     octets: Vec<u8>,
-    // where the line that was given last begins, and how many octets it has
-    line_at: usize,
-    line_len: usize,
-    // where the octets begin that were taken off last; the start where something was fed since
-    last: usize,
-    // where the octets begin that no line has given yet
+    // where the octets begin that no line has taken yet
     start: usize,
     // how many of those were looked at, and begin no CRLF
     seen: usize,
+    // whether octets of their first line were let go
+    past: bool,
 }
 
 impl Model for LineCutter {
-    ghost use Rattle.std.specs.Prelude.{◌+◌, ◌-◌, ◌≤◌, length, take, drop};
+    ghost use Rattle.std.specs.Prelude.{◌+◌, ◌≤◌, length, drop};
     ghost use Rattle.dot_text.specs.Cuts.{HasNoneBefore};
     ghost use Rattle.dot_text.specs.Shown.{Shown};
 
     ghost Value = { Shown };
 
-    ghost view = { λ c. record { limit = c.limit; line = take c.line_len (drop c.line_at c.octets.items); last = take (c.start - c.last) (drop c.last c.octets.items); rest = drop c.start c.octets.items } };
+    ghost view = { λ c. record { limit = c.limit; past = c.past; rest = drop c.start c.octets.items } };
 
-    ghost invariant = { λ c. (c.line_at + c.line_len ≤ length c.octets.items) × (c.start ≤ length c.octets.items) × (c.last ≤ c.start) × HasNoneBefore (drop c.start c.octets.items) c.seen };
+    ghost invariant = { λ c. (2 ≤ c.limit) × (c.start ≤ length c.octets.items) × HasNoneBefore (drop c.start c.octets.items) c.seen };
 }
 
 // Where the first CRLF begins. None begins before the place `seen`.
@@ -61,128 +70,122 @@ fn crlf_at(octets: &[u8], seen: usize) -> Option<usize>
     None
 }
 
-// Whether a line of so many octets, those of its CRLF among them, keeps the limit.
-fn kind_of(count: usize, limit: usize) -> Line
-    ensures { IsKind result limit count }
+// A line of which so many octets are held before the CRLF, and others were let go where it is `past`.
+fn kind_of(length: usize, limit: usize, past: bool) -> Line
+    requires { length + 2 < 2 ^ 64 }
+    ensures { IsKind result length limit past }
 {
-    if count <= limit {
-        Line::Whole
+    if past || length + 2 > limit {
+        Line::Long(length)
     } else {
-        Line::Long
+        Line::Whole(length)
     }
+}
+
+// Whether the last octet is a CR.
+fn ends_in_cr(octets: &[u8]) -> bool
+    ensures { result ≡ ends_in_cr octets.now }
+{
+    !octets.is_empty() && octets[octets.len() - 1] == b'\r'
 }
 
 impl LineCutter {
     /// A cutter that was fed nothing. A line keeps the limit where it has at most `limit` octets with its
     /// CRLF (RFC 5321, section 4.5.3.1.4, asks for 512 at least). It takes no memory.
     pub fn new(alloc: Global, limit: usize) -> LineCutter
-        ensures limit { result.limit ≡ limit }
-        ensures line { result.line ≡ [] }
-        ensures last { result.last ≡ [] }
-        ensures rest { result.rest ≡ [] }
-        ensures shows { Cuts [] [] result.rest }
+        requires { 2 ≤ limit }
+        ensures { result ≡ record { limit = limit; past = false; rest = [] } }
     {
         LineCutter {
             limit,
             octets: Vec::new(alloc),
-            line_at: 0,
-            line_len: 0,
-            last: 0,
             start: 0,
             seen: 0,
+            past: false,
         }
     }
 
-    /// Takes up the next octets, as many as memory holds. The line that was given last is let go, and nothing
-    /// can be put back.
+    /// Takes up the next octets, as many as memory holds.
     ///
     /// # Errors
     ///
     /// Only want of memory; the cutter is then as before.
     pub fn feed(&mut self, piece: &[u8]) -> Result<(), AllocError>
-        ensures limit { self.new.limit ≡ self.old.limit }
-        ensures line { OnOk result (self.new.line ≡ []) }
-        ensures last { OnOk result (self.new.last ≡ []) }
-        ensures rest { OnOk result (self.new.rest ≡ self.old.rest ++ piece.now) }
-        ensures shows { OnOk result ((fed : List ℕ) (taken : List Taken) → Cuts fed taken self.old.rest → Cuts (fed ++ piece.now) taken self.new.rest) }
+        ensures ok { OnOk result (self.new ≡ record self.old { rest = self.old.rest ++ piece.now }) }
+        ensures shows { OnOk result ((fed : List ℕ) (taken : List Taken) (pending : List ℕ) → Cuts fed taken pending → Cuts (fed ++ piece.now) taken (pending ++ piece.now)) }
         ensures err { OnErr result (self.new ≡ self.old) }
     {
         self.octets.extend_from_slice(piece)?;
-        self.line_at = 0;
-        self.line_len = 0;
-        self.last = self.start;
         let left = self.octets.len() - self.start;
         if left <= self.start {
             self.octets.rotate_left(self.start);
             self.octets.truncate(left);
             self.start = 0;
-            self.last = 0;
         }
         Ok(())
     }
 
-    /// Cuts the next line off, and says whether it keeps the limit; `line` has its octets until the next
-    /// `feed`. `None` exactly where no whole line is left; nothing is changed then. It takes no memory.
-    pub fn next(&mut self) -> Option<Line>
-        ensures { MatchOption result (GivesNone self.old self.new) (λ line. Gives self.old line self.new) }
+    // Lets the octets of a line go that is too long already, all but a CR, which may be that of its CRLF.
+    fn let_go(&mut self)
+        requires { HasNoCrlf self.old.rest }
+        ensures { LetsGo self.old self.new }
+    {
+        let rest = &self.octets[self.start..];
+        if !self.past && rest.len() < self.limit {
+            return;
+        }
+        let keeps = ends_in_cr(rest);
+        if keeps {
+            self.octets[0] = b'\r';
+        }
+        self.octets.truncate(usize::from(keeps));
+        self.start = 0;
+        self.seen = 0;
+        self.past = true;
+    }
+
+    /// Finds the next line, and says whether it keeps the limit. The octets of one that does begin the rest.
+    /// Nothing is taken: `take` does that. `None` exactly where no whole line is left; what is held of a line
+    /// that is too long already is then let go. It takes no memory.
+    pub fn find(&mut self) -> Option<Line>
+        ensures { MatchOption result (FindsNone self.old self.new) (λ line. Finds self.old line self.new) }
     {
         let rest = &self.octets[self.start..];
         match crlf_at(rest, self.seen) {
             None => {
                 self.seen = rest.len().saturating_sub(1);
+                self.let_go();
                 None
             }
-            Some(len) => {
-                self.line_at = self.start;
-                self.line_len = len;
-                self.last = self.start;
-                self.start += len + 2;
-                self.seen = 0;
-                Some(kind_of(len + 2, self.limit))
-            }
+            Some(length) => Some(kind_of(length, self.limit, self.past)),
         }
     }
 
-    /// The octets of the line that was given last, without its CRLF, whether it keeps the limit or not. A
-    /// lone CR or LF is one of them. There are none before the first line and behind a `feed`.
-    pub fn line(&self) -> &[u8]
-        ensures { result.now ≡ self.now.line }
+    /// Takes the line away that was found, with its CRLF; the next one begins behind it. It takes no memory.
+    pub fn take(&mut self, line: Line)
+        requires { line_length line + 2 ≤ length self.old.rest }
+        ensures { self.new ≡ behind_line self.old line }
     {
-        &self.octets[self.line_at..self.line_at + self.line_len]
+        self.start += line.length() + 2;
+        self.seen = 0;
+        self.past = false;
     }
 
-    /// The octets that were fed, no line has given yet, and were not skipped.
+    /// The octets that were fed, no line has taken yet, and were not let go or skipped.
     pub fn rest(&self) -> &[u8]
         ensures { result.now ≡ self.now.rest }
     {
         &self.octets[self.start..]
     }
 
-    /// Takes the first octets of the rest away, no more than it has; the next line begins behind them. The
-    /// line that was given last stays. It takes no memory.
+    /// Takes the first octets of the rest away, no more than it has; the next line begins behind them, unless
+    /// octets of it were let go. It takes no memory.
     pub fn skip(&mut self, count: usize)
         requires { count ≤ length self.old.rest }
-        ensures limit { self.new.limit ≡ self.old.limit }
-        ensures line { self.new.line ≡ self.old.line }
-        ensures last { self.new.last ≡ take count self.old.rest }
-        ensures rest { self.new.rest ≡ drop count self.old.rest }
+        ensures rest { self.new ≡ record self.old { rest = drop count self.old.rest } }
         ensures shows { (fed : List ℕ) (taken : List Taken) → Cuts fed taken self.old.rest → Cuts fed (taken ++ Skipped (take count self.old.rest) ∷ []) self.new.rest }
     {
-        self.last = self.start;
         self.start += count;
         self.seen = self.seen.saturating_sub(count);
-    }
-
-    /// Puts back what was taken off last, a line with its CRLF or octets that were skipped, where nothing was
-    /// fed or put back since; else nothing is changed. The line that was given last stays. It takes no memory.
-    pub fn put_back(&mut self)
-        ensures limit { self.new.limit ≡ self.old.limit }
-        ensures line { self.new.line ≡ self.old.line }
-        ensures last { self.new.last ≡ [] }
-        ensures rest { self.new.rest ≡ self.old.last ++ self.old.rest }
-        ensures shows { (fed : List ℕ) (taken : List Taken) (last : Taken) → Cuts fed (taken ++ last ∷ []) self.old.rest → taken_octets last ≡ self.old.last → Cuts fed taken self.new.rest }
-    {
-        self.start = self.last;
-        self.seen = 0;
     }
 }

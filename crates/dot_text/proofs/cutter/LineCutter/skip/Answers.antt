@@ -13,8 +13,7 @@ invariant_of-self c =
     let Before : ℕ → Type 0 = λ n. HasNoneBefore (drop (old.start + c.args.count) old.octets.items) n in (
       c.self.invariant.0,
       omega (arith, c.requires, rest, length-drop old.start old.octets.items, c.self.invariant.1),
-      omega arith,
-      subst Before (sym c.saturating_sub-self-inside.ensures) (seen_skipped old.octets.items old.start c.args.count old.seen c.self.invariant.3),
+      subst Before (sym c.saturating_sub-self-inside.ensures) (seen_skipped old.octets.items old.start c.args.count old.seen c.self.invariant.2),
     )
 
 pub returns-clause-shows : goal.returns-clause-shows
