@@ -1,13 +1,13 @@
 -- Octets of a line that is too long, which are let go.
-use Rattle.std.proofs.Common.{◌≡◌, ◌≢◌, ◌+◌, ◌-◌, ◌<◌, ◌≤◌, ◌^◌, ℕ, Bool, true, false, nat_lt, nat_eq, List, [], ◌∷◌, ◌++◌, length, take, drop, get_or, refl, sym, ap, ap₂, subst, ◌∙◌, arith, append_assoc, inl, inr}
-use Rattle.std.specs.Prelude.{slice_index, MatchBool, ◌⊎◌, ◌&&◌}
+use Rattle.std.proofs.Common.{◌≡◌, ◌≢◌, ◌+◌, ◌-◌, ◌<◌, ◌≤◌, ℕ, Bool, true, false, nat_lt, nat_eq, List, [], ◌∷◌, ◌++◌, length, take, drop, get_or, refl, sym, ap, ap₂, subst, ◌∙◌, arith, append_assoc, inl, inr}
+use Rattle.std.specs.Prelude.{slice_index, slice_set, MatchBool, ◌⊎◌, ◌&&◌}
 use Rattle.std.proofs.lemmas.List.{append-nil, drop_more, length-drop, get_or-drop, get_or_append_left, get_or-append_right, get_or-take, length-take-le, length-append, take-append-drop}
 use Rattle.std.proofs.lemmas.Bool.{cases_lt, ltb-true, lt-ltb, eqb-true}
 use Rattle.std.proofs.Math.Seq.{drop-length}
 use Rattle.mail_model.specs.Lines.{HasNoCrlf, sent_line}
 use Rattle.dot_text.specs.Cuts.{Taken, Cuts, IsFirstCrlf}
 use Rattle.dot_text.specs.Cuts.Taken.{Given}
-use Rattle.dot_text.specs.Shown.{Shown, Pending, Gives, IsKind, IsLine, Stays, line_length, ends_in_cr}
+use Rattle.dot_text.specs.Shown.{Shown, Pending, Gives, Finds, IsKind, IsLine, Stays, LetsGo, line_length, ends_in_cr}
 use Rattle.dot_text.specs.declared.cutter.Line.{Line}
 use Rattle.dot_text.specs.declared.cutter.Line.TheVariants.{Whole, Long}
 use Rattle.dot_text.proofs.Crlf.{none_front, no_line}
@@ -61,12 +61,12 @@ pending_fed limit past rest piece pending was = record {
 
 -- the last octet is none of a CRLF
 not_cr : (octets : List ℕ) → ends_in_cr octets ≡ false → (k : ℕ) → k + 1 ≡ length octets → slice_index octets k ≡ 13 → ⊥
-not_cr octets no k last cr =
+not_cr octets other k last cr =
     let some : nat_lt 0 (length octets) ≡ true = lt-ltb 0 (length octets) (omega (arith, last)) in
     let at : length octets - 1 ≡ k = omega (arith, last) in
     let same : slice_index octets (length octets - 1) ≡ 13 = ap (slice_index octets) at ∙ cr in
-    let yes_it : ends_in_cr octets ≡ true = ap₂ (λ (a : Bool) (x : ℕ). a && nat_eq x 13) some same in
-    let clash : true ≡ false = sym yes_it ∙ no in
+    let is_cr : ends_in_cr octets ≡ true = ap₂ (λ (a : Bool) (x : ℕ). a && nat_eq x 13) some same in
+    let clash : true ≡ false = sym is_cr ∙ other in
     cc
 
 -- of what is long already
@@ -79,7 +79,7 @@ grown limit false gone more count enough (inr is) long = omega (arith, is, enoug
 -- all octets are let go
 pub all_gone : (limit : ℕ) (past : Bool) (rest pending : List ℕ) → HasNoCrlf rest → ends_in_cr rest ≡ false → (past ≡ true) ⊎ (limit ≤ length rest)
     → Pending (record { limit = limit; past = past; rest = rest }) pending → Pending (record { limit = limit; past = true; rest = [] }) pending
-all_gone limit past rest pending none_in no how was = record {
+all_gone limit past rest pending none_in other how was = record {
   gone = was.gone ++ rest;
   whole = was.whole ∙ sym (append-nil (was.gone ++ rest));
   none = joined was.gone rest was.none was.seam none_in;
@@ -96,7 +96,7 @@ all_gone limit past rest pending none_in no how was = record {
         omega (arith, all, last, inside, some)
     by_rest k last cr (inr behind) =
         let all = length-append was.gone rest in
-        not_cr rest no (k - length was.gone) (omega (arith, all, last, behind)) (sym (get_or-append_right was.gone rest (length was.gone) k 0 refl behind) ∙ cr)
+        not_cr rest other (k - length was.gone) (omega (arith, all, last, behind)) (sym (get_or-append_right was.gone rest (length was.gone) k 0 refl behind) ∙ cr)
 
 -- octets that end in a CR
 cr_last : (octets : List ℕ) → ends_in_cr octets ≡ true → (front : List ℕ) × (octets ≡ front ++ 13 ∷ [])
@@ -151,10 +151,15 @@ is_long : (limit : ℕ) (past : Bool) (gone : List ℕ) → past ≡ true → Ma
 is_long limit true gone is long = long
 is_long limit false gone is long = cc
 
+-- so many octets of it are held
+at_place : (place limit : ℕ) (past : Bool) (kind : Line) → IsKind kind place limit past → line_length kind ≡ place
+at_place place limit past (Whole count) how = how.0
+at_place place limit past (Long count) how = how.0
+
 -- The first line, which ends at this place of the octets that are held.
 module _ (limit : ℕ) (past : Bool) (rest : List ℕ) (place : ℕ) (is : IsFirstCrlf rest place) (pending : List ℕ)
     (was : Pending (record { limit = limit; past = past; rest = rest }) pending) where
-  line : List ℕ
+  abbrev line : List ℕ
   line = was.gone ++ take place rest
 
   seam_here : 0 < place → IsSeam was.gone (take place rest)
@@ -178,7 +183,7 @@ module _ (limit : ℕ) (past : Bool) (rest : List ℕ) (place : ℕ) (is : IsFir
   count_of : length (sent_line line) ≡ length was.gone + place + 2
   count_of =
       let within : place ≤ length rest = omega (arith, is.within) in
-      omega (arith, length-append line (13 ∷ 10 ∷ []), length-append was.gone (take place rest), length-take-le place rest within)
+      length-append line (13 ∷ 10 ∷ []) ∙ omega (arith, length-append was.gone (take place rest), length-take-le place rest within)
 
   line_is : (kind : Line) → IsKind kind place limit past → IsLine (record { limit = limit; past = past; rest = rest }) kind line
   line_is (Whole count) how =
@@ -189,13 +194,9 @@ module _ (limit : ℕ) (past : Bool) (rest : List ℕ) (place : ℕ) (is : IsFir
   line_is (Long count) (same, inl long) = omega (arith, count_of, is_long limit past was.gone long was.long)
   line_is (Long count) (same, inr long) = omega (arith, count_of, long)
 
-  at_place : (kind : Line) → IsKind kind place limit past → line_length kind ≡ place
-  at_place (Whole count) how = how.0
-  at_place (Long count) how = how.0
-
   pub gives : (kind : Line) → IsKind kind place limit past → Gives (record { limit = limit; past = past; rest = rest }) kind pending
   gives kind how =
-      let behind : drop (place + 2) rest ≡ drop (line_length kind + 2) rest = ap (λ (n : ℕ). drop (n + 2) rest) (sym (at_place kind how)) in
+      let behind : drop (place + 2) rest ≡ drop (line_length kind + 2) rest = ap (λ (n : ℕ). drop (n + 2) rest) (sym (at_place place limit past kind how)) in
       let cut : pending ≡ sent_line line ++ drop (line_length kind + 2) rest = octets ∙ ap (λ (l : List ℕ). sent_line line ++ l) behind in
       record {
         line = line;
@@ -204,3 +205,51 @@ module _ (limit : ℕ) (past : Bool) (rest : List ℕ) (place : ℕ) (is : IsFir
         is = line_is kind how;
         shows = λ fed taken cuts. cuts_taken fed taken (Given line) pending (drop (line_length kind + 2) rest) cut (first, tt) cuts;
       }
+
+-- the same of a cutter
+abbrev pub cutter_of : ℕ → Bool → List ℕ → Shown
+cutter_of limit past rest = record { limit = limit; past = past; rest = rest }
+
+pub lets_all_go : (limit : ℕ) (past : Bool) (rest now : List ℕ) (old : Shown) → 2 ≤ limit → cutter_of limit past rest ≡ old → HasNoCrlf old.rest → ends_in_cr rest ≡ false
+    → (past ≡ true) ⊎ (limit ≤ length rest) → now ≡ [] → LetsGo old (cutter_of limit true now)
+lets_all_go limit past rest now old some is none_in other how empty =
+    let At : Shown → Type 0 = λ s. LetsGo s (cutter_of limit true now) in
+    let Behind : List ℕ → Type 0 = λ l. LetsGo (cutter_of limit past rest) (cutter_of limit true l) in
+    let none : HasNoCrlf rest = subst HasNoCrlf (ap (λ (s : Shown). s.rest) (sym is)) none_in in
+    subst At is (subst Behind (sym empty) (record { limit = refl; short = omega (arith, some); pends = λ pending was. all_gone limit past rest pending none other how was }))
+
+pub lets_go_but_cr : (limit : ℕ) (past : Bool) (rest now : List ℕ) (old : Shown) → 2 ≤ limit → cutter_of limit past rest ≡ old → HasNoCrlf old.rest → ends_in_cr rest ≡ true
+    → (past ≡ true) ⊎ (limit ≤ length rest) → now ≡ 13 ∷ [] → LetsGo old (cutter_of limit true now)
+lets_go_but_cr limit past rest now old some is none_in cr how one =
+    let At : Shown → Type 0 = λ s. LetsGo s (cutter_of limit true now) in
+    let Behind : List ℕ → Type 0 = λ l. LetsGo (cutter_of limit past rest) (cutter_of limit true l) in
+    let none : HasNoCrlf rest = subst HasNoCrlf (ap (λ (s : Shown). s.rest) (sym is)) none_in in
+    subst At is (subst Behind (sym one) (record { limit = refl; short = omega (arith, some); pends = λ pending was. gone_but_cr limit past rest pending none cr how was }))
+
+-- octets that end in a CR are some
+pub ends_within : (octets : List ℕ) → ends_in_cr octets ≡ true → 0 < length octets
+ends_within octets is =
+    let cut = cr_last octets is in
+    omega (arith, ap (λ (l : List ℕ). length l) cut.1, length-append cut.0 (13 ∷ []))
+
+-- a line was found
+pub found_at : (limit : ℕ) (past : Bool) (rest : List ℕ) (place : ℕ) → IsFirstCrlf rest place → (kind : Line) → IsKind kind place limit past
+    → Finds (cutter_of limit past rest) kind (cutter_of limit past rest)
+found_at limit past rest place is kind how = record {
+  same = refl;
+  within = omega (arith, at_place place limit past kind how, is.within);
+  gives = λ pending was. gives limit past rest place is pending was kind how;
+}
+
+-- the first octet was set to a CR, and is alone
+pub set_first : (octets : List ℕ) → 0 < length octets → take 1 (slice_set octets 0 13) ≡ 13 ∷ []
+set_first [] some = absurd (omega (arith, some))
+set_first (x ∷ xs) some = refl
+
+-- octets more were fed
+pub fed_pends : (limit : ℕ) (past : Bool) (rest piece now : List ℕ) (old new : Shown) (pending : List ℕ) → cutter_of limit past rest ≡ old → new ≡ cutter_of limit past now → now ≡ rest ++ piece
+    → Pending old pending → Pending new (pending ++ piece)
+fed_pends limit past rest piece now old new pending from is grew was =
+    let From : Shown → Type 0 = λ s. Pending s pending in
+    let To : Shown → Type 0 = λ s. Pending s (pending ++ piece) in
+    subst To (sym (is ∙ ap (cutter_of limit past) grew)) (pending_fed limit past rest piece pending (subst From (sym from) was))

@@ -1,9 +1,9 @@
 // Lines out of octets as they come.
-ghost use Rattle.std.specs.Prelude.{◌≡◌, ◌≤◌, ◌<◌, ◌+◌, ◌^◌, ◌++◌, ◌∷◌, [], List, ℕ, false, length, take, drop, MatchOption, OnOk, OnErr};
+ghost use Rattle.std.specs.Prelude.{◌≡◌, ◌⊎◌, true, MatchBool, ◌≤◌, ◌<◌, ◌+◌, ◌^◌, ◌++◌, ◌∷◌, [], List, ℕ, false, length, take, drop, MatchOption, OnOk, OnErr};
 ghost use Rattle.mail_model.specs.Lines.{HasNoCrlf};
 ghost use Rattle.dot_text.specs.Cuts.{Taken, Cuts, HasNoneBefore, IsFirstCrlf};
 ghost use Rattle.dot_text.specs.Cuts.Taken.{Skipped};
-ghost use Rattle.dot_text.specs.Shown.{ends_in_cr, Finds, FindsNone, LetsGo, IsKind, line_length, behind_line};
+ghost use Rattle.dot_text.specs.Shown.{ends_in_cr, Pending, Finds, FindsNone, LetsGo, IsKind, line_length, behind_line};
 
 use std::alloc::{AllocError, Global};
 use std::marker::Model;
@@ -82,6 +82,13 @@ fn kind_of(length: usize, limit: usize, past: bool) -> Line
     }
 }
 
+// Whether a line that has no CRLF yet is too long already, where so many octets of it are held.
+fn is_over(past: bool, held: usize, limit: usize) -> bool
+    ensures { MatchBool result ((past ≡ true) ⊎ (limit ≤ held)) (held < limit) }
+{
+    past || held >= limit
+}
+
 // Whether the last octet is a CR.
 fn ends_in_cr(octets: &[u8]) -> bool
     ensures { result ≡ ends_in_cr octets.now }
@@ -112,17 +119,25 @@ impl LineCutter {
     /// Only want of memory; the cutter is then as before.
     pub fn feed(&mut self, piece: &[u8]) -> Result<(), AllocError>
         ensures ok { OnOk result (self.new ≡ record self.old { rest = self.old.rest ++ piece.now }) }
+        ensures pends { OnOk result ((pending : List ℕ) → Pending self.old pending → Pending self.new (pending ++ piece.now)) }
         ensures shows { OnOk result ((fed : List ℕ) (taken : List Taken) (pending : List ℕ) → Cuts fed taken pending → Cuts (fed ++ piece.now) taken (pending ++ piece.now)) }
         ensures err { OnErr result (self.new ≡ self.old) }
     {
         self.octets.extend_from_slice(piece)?;
+        self.compact();
+        Ok(())
+    }
+
+    // Moves the octets that are held to the front, where as many were taken before them.
+    fn compact(&mut self)
+        ensures { self.new ≡ self.old }
+    {
         let left = self.octets.len() - self.start;
         if left <= self.start {
             self.octets.rotate_left(self.start);
             self.octets.truncate(left);
             self.start = 0;
         }
-        Ok(())
     }
 
     // Lets the octets of a line go that is too long already, all but a CR, which may be that of its CRLF.
@@ -131,17 +146,19 @@ impl LineCutter {
         ensures { LetsGo self.old self.new }
     {
         let rest = &self.octets[self.start..];
-        if !self.past && rest.len() < self.limit {
+        if !is_over(self.past, rest.len(), self.limit) {
             return;
         }
         let keeps = ends_in_cr(rest);
-        if keeps {
-            self.octets[0] = b'\r';
-        }
-        self.octets.truncate(usize::from(keeps));
         self.start = 0;
         self.seen = 0;
         self.past = true;
+        if keeps {
+            self.octets[0] = b'\r';
+            self.octets.truncate(1);
+        } else {
+            self.octets.clear();
+        }
     }
 
     /// Finds the next line, and says whether it keeps the limit. The octets of one that does begin the rest.
@@ -166,7 +183,8 @@ impl LineCutter {
         requires { line_length line + 2 ≤ length self.old.rest }
         ensures { self.new ≡ behind_line self.old line }
     {
-        self.start += line.length() + 2;
+        let start = self.start;
+        self.start = start + (line.length() + 2);
         self.seen = 0;
         self.past = false;
     }

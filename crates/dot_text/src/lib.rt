@@ -2,9 +2,9 @@
 //!
 //! SUMMARY
 //!
-//! `LineCutter` cuts the octets of a connection into lines: `feed(piece)` takes octets up, `next()` cuts
-//! the next line off, `line()` has its octets, `rest()` the octets that no line has given yet, `skip(count)`
-//! takes some of those away, and `put_back()` gives back what was taken last. `Undotter` reads a text that ends with a line that is one
+//! `LineCutter` cuts the octets of a connection into lines: `feed(piece)` takes octets up, `find()` finds
+//! the next line, `rest()` has the octets that no line has taken yet, that line first, `take(line)` takes the
+//! line away, and `skip(count)` octets of any kind. `Undotter` reads a text that ends with a line that is one
 //! period: `feed(piece, out)` puts behind `out` what the piece gives, and says whether the text goes on
 //! or where it ended. `dot_into(out, text)` writes such a text.
 //!
@@ -18,12 +18,15 @@
 //! A session feeds a piece, and takes lines until there is none:
 //!
 //!     cutter.feed(piece)?;
-//!     while let Some(kind) = cutter.next() {
-//!         match kind {
-//!             Line::Whole => hear(cutter.line())?,
-//!             Line::Long => refuse()?,
+//!     while let Some(line) = cutter.find() {
+//!         match line {
+//!             Line::Whole(length) => hear(&cutter.rest()[..length])?,
+//!             Line::Long(_) => refuse()?,
 //!         }
+//!         cutter.take(line);
 //!     }
+//!
+//! A line is taken once it was heard, so one that could not be heard for want of memory is found again.
 //!
 //! Where a line asks for a text, it feeds `cutter.rest()` to an undotter, and skips the octets that were
 //! used: all of them at `Cut::More`, and `used` of them at `Cut::Ended(used)`.
@@ -35,13 +38,14 @@
 //! of the calls say that they take steps of what the laws speak of.
 //!
 //! Feeding is linear in the octets: none is looked at again for each piece, and what is pending is
-//! moved only where as many octets were taken off before it. A line, the rest and a skip take no memory
+//! moved only where as many octets were taken off before it. To find or take a line and to skip takes no memory
 //! and move nothing.
 //!
 //! DIAGNOSTICS
 //!
 //! Only want of memory, an `AllocError`. The call has then changed nothing that its caller sees, and may
-//! be made again. A line that passes the limit of its cutter is given as `Line::Long`, once it is whole.
+//! be made again. A line that passes the limit of its cutter is found as `Line::Long`, once it is whole. What
+//! is held of it before that is let go as it comes.
 //!
 //! STANDS ON
 //!
@@ -49,9 +53,8 @@
 //!
 //! WHAT IT DOES NOT DO
 //!
-//! It keeps a line that has no CRLF yet, however long: a caller that bounds its memory looks at the
-//! length of the rest and skips, or gives up. It bounds no text and no line of one. It reads and writes
-//! no socket.
+//! It does not bound what is fed at once: lines that are whole are held until they are taken. It bounds no
+//! text and no line of one. It reads and writes no socket.
 #![tactic(auto)]
 
 mod cutter;

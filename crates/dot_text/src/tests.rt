@@ -1,4 +1,5 @@
 // Lines and texts that were worked by hand, cut at every place.
+ghost use Rattle.std.specs.Prelude.{◌≤◌};
 ghost use Rattle.dot_text.specs.Worked.{Received, Sent};
 
 use crate::{
@@ -29,23 +30,26 @@ fn laws_are_said() {
     texts_are_sent_in_one_way();
 }
 
-fn mark(kind: Line) -> u8 {
-    match kind {
-        Line::Whole => b'|',
-        Line::Long => b'!',
-    }
-}
-
-// The lines of the octets, with `|` behind each or `!` behind a long one, and the rest.
-fn lines_of(alloc: Global, limit: usize, pieces: [&[u8]; 2]) -> Result<Vec<u8>, AllocError> {
+// The lines of the octets, with `|` behind each, or `!` in place of a long one, and the rest.
+fn lines_of(alloc: Global, limit: usize, pieces: [&[u8]; 2]) -> Result<Vec<u8>, AllocError>
+    requires { 2 ≤ limit }
+{
     let mut cutter = LineCutter::new(alloc, limit);
     let mut out = Vec::new(alloc);
     for piece in pieces {
         cutter.feed(piece)?;
         for _ in 0..9u8 {
-            if let Some(kind) = cutter.next() {
-                out.extend_from_slice(cutter.line())?;
-                out.push(mark(kind))?;
+            match cutter.find() {
+                None => {}
+                Some(Line::Long(length)) => {
+                    out.push(b'!')?;
+                    cutter.take(Line::Long(length));
+                }
+                Some(Line::Whole(length)) => {
+                    out.extend_from_slice(&cutter.rest()[..length])?;
+                    out.push(b'|')?;
+                    cutter.take(Line::Whole(length));
+                }
             }
         }
     }
@@ -55,13 +59,15 @@ fn lines_of(alloc: Global, limit: usize, pieces: [&[u8]; 2]) -> Result<Vec<u8>, 
 
 #[test]
 fn cuts_lines(rt: HostRuntime) -> Result<(), AllocError> {
-    let cases: [(&[u8], &[u8]); 6] = [
+    let cases: [(&[u8], &[u8]); 8] = [
         (b"", b""),
         (b"a\r\nb\r\n", b"a|b|"),
         (b"\r\n\r\nab", b"||ab"),
         (b"a\nb\rc\r\r\nd\n\r", b"a\nb\rc\r|d\n\r"),
-        (b"123456\r\n1234567\r\n1\r\n", b"123456|1234567!1|"),
-        (b"123456789", b"123456789"),
+        (b"123456\r\n1234567\r\n1\r\n", b"123456|!1|"),
+        (b"1234567890123\r\r\n\r\n", b"!|"),
+        (b"1234567", b"1234567"),
+        (b"1234567890123\r", b"\r"),
     ];
     for (at, (octets, wanted)) in cases.iter().enumerate() {
         for cut in 0..=octets.len() {
@@ -77,21 +83,35 @@ fn cuts_lines(rt: HostRuntime) -> Result<(), AllocError> {
 fn skips_octets(rt: HostRuntime) -> Result<(), AllocError> {
     let mut cutter = LineCutter::new(rt.alloc(), 100);
     cutter.feed(b"DATA\r\nabc\r\nx\r")?;
-    assert_eq!(rt; cutter.next(), Some(Line::Whole));
-    assert_eq!(rt; cutter.line(), b"DATA".as_slice());
+    assert_eq!(rt; cutter.find(), Some(Line::Whole(4)));
+    assert_eq!(rt; cutter.find(), Some(Line::Whole(4)));
+    if cutter.rest().len() > 6 {
+        cutter.take(Line::Whole(4));
+    }
     assert_eq!(rt; cutter.rest(), b"abc\r\nx\r".as_slice());
-    assert_eq!(rt; cutter.line(), b"DATA".as_slice());
     if cutter.rest().len() > 4 {
         cutter.skip(4);
     }
-    assert_eq!(rt; cutter.next(), None);
+    assert_eq!(rt; cutter.find(), None);
     cutter.feed(b"\n")?;
-    assert_eq!(rt; cutter.next(), Some(Line::Whole));
-    assert_eq!(rt; cutter.line(), b"\nx".as_slice());
-    cutter.put_back();
+    assert_eq!(rt; cutter.find(), Some(Line::Whole(2)));
     assert_eq!(rt; cutter.rest(), b"\nx\r\n".as_slice());
-    assert_eq!(rt; cutter.next(), Some(Line::Whole));
-    assert_eq!(rt; cutter.rest(), b"".as_slice());
+    Ok(())
+}
+
+// A line that never ends: no more of it is held than the limit.
+#[test]
+fn lets_a_long_line_go(rt: HostRuntime) -> Result<(), AllocError> {
+    let mut cutter = LineCutter::new(rt.alloc(), 1024);
+    for _ in 0..100u8 {
+        cutter.feed(&[b'x'; 1000])?;
+        assert_eq!(rt; cutter.find(), None);
+        assert!(rt; cutter.rest().len() < 1024);
+    }
+    cutter.feed(b"\r")?;
+    assert_eq!(rt; cutter.find(), None);
+    cutter.feed(b"\nQUIT\r\n")?;
+    assert_eq!(rt; cutter.find(), Some(Line::Long(0)));
     Ok(())
 }
 

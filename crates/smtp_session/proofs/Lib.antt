@@ -1,4 +1,5 @@
 mod Choices
 mod Closes
 mod Mails
+mod Lines
 mod Units

@@ -4,7 +4,7 @@ use Rattle.std.specs.Prelude.{unwrap_or}
 use Rattle.std.specs.Option.{option_map}
 use Rattle.std.proofs.lemmas.Bool.{lt-ltb, le-ltb}
 use Rattle.mail_model.specs.Session as model
-use Rattle.mail_model.specs.Session.{Talk, undotted, is_large}
+use Rattle.mail_model.specs.Session.{undotted, is_large}
 use Rattle.mail_model.specs.Told.{Mail, mail_of, unnamed, unaddressed}
 use Rattle.smtp_session.specs.declared.envelope.Greeting.{Greeting}
 use Rattle.smtp_session.specs.declared.told.Told.{Told}

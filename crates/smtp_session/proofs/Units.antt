@@ -1,28 +1,52 @@
--- What a session follows behind a line, and behind octets of a text.
-use Rattle.std.proofs.Common.{◌≡◌, ◌<◌, ◌≤◌, ℕ, Bool, true, false, List, [], ◌∷◌, ◌++◌, length, take, drop, refl, sym, ap, ap₂, subst, ◌∙◌, arith, append_assoc}
-use Rattle.std.proofs.lemmas.List.{append-nil, length-append, take-append-drop}
+-- What a session follows behind a line, behind octets of a text, and behind what it had to say.
+use Rattle.std.proofs.Common.{◌≡◌, ◌<◌, ◌≤◌, ◌+◌, ℕ, Bool, true, false, cond, List, [], ◌∷◌, ◌++◌, length, take, drop, Option, Some, None, refl, sym, ap, ap₂, subst, ◌∙◌, arith, append_assoc}
+use Rattle.std.proofs.lemmas.List.{append-nil, length-append, take-append-drop, length-drop}
 use Rattle.std.proofs.lemmas.Bool.{lt-ltb, le-ltb}
-use Rattle.mail_model.specs.Lines.{sent_line}
+use Rattle.mail_model.specs.Lines.{HasNoCrlf, sent_line}
+use Rattle.mail_model.specs.Smtp.{greeting_text}
 use Rattle.mail_model.specs.Plan.{Plan}
-use Rattle.mail_model.specs.Session.{Talk, undotted, is_long_line}
+use Rattle.mail_model.specs.Session as model
+use Rattle.mail_model.specs.Session.{undotted, is_long_line, is_quit_line, is_large, reply_text, after_unit}
 use Rattle.mail_model.specs.Session.Unit.{Line, Text}
-use Rattle.mail_model.specs.Told.{IsUnit, HasNoUnit, unit_octets}
-use Rattle.dot_text.specs.Shown.{Shown, Gives}
+use Rattle.mail_model.specs.Told.{IsUnit, HasNoUnit, unit_octets, Mail, mail_of}
+use Rattle.mail_model.specs.PopReplies.{one_line}
+use Rattle.session_model.specs.Calls as calls
+use Rattle.session_model.specs.Calls.Call as call
+use Rattle.session_model.specs.Talk.{State, Exchange, Standing, Lead, IsNext, stands, stands_by, lead_of, IsLed, in_text, answered}
+use Rattle.session_model.specs.Moves.{with_answer}
+use Rattle.session_model.specs.Talk.Lead as lead
+use Rattle.std.proofs.lemmas.List.Elements.{All-cons, All-nil}
+use Rattle.session_model.specs.Talk.State.{Mailing}
+use Rattle.session_model.specs.Talk.Standing.{Hearing, Waiting, EndedByQuit}
+use Rattle.session_model.specs.Sessions.{Session}
+use Rattle.call_tickets.specs.Moves as moves
+use Rattle.call_tickets.specs.Moves.{Due, Moves, HearsNothing}
+use Rattle.call_tickets.specs.Moves.Due.{Nothing, Greeting}
+use Rattle.call_tickets.specs.declared.step.Move.{Move}
+use Rattle.call_tickets.specs.declared.step.Move.TheVariants.{Said, Begin, Wait, Idle, End}
+use Rattle.dot_text.specs.Shown.{Shown, Pending, Finds, FindsNone, Gives, IsLine, behind_line, line_length}
 use Rattle.dot_text.specs.Places.{Undots, Feeds}
 use Rattle.dot_text.specs.declared.undotter.Undotter.{Undotter}
 use Rattle.dot_text.specs.declared.undotter.Cut.TheVariants.{More, Ended}
+use Rattle.dot_text.specs.declared.cutter.Line.{Line as Found}
 use Rattle.dot_text.specs.declared.cutter.Line.TheVariants.{Whole, Long}
-use Rattle.smtp_session.specs.declared.session.Session.{Session}
-use Rattle.smtp_session.specs.declared.session.Heard.{Heard}
-use Rattle.smtp_session.specs.declared.session.Heard.TheVariants.{Idle, Said, Closed, Files}
+use Rattle.smtp_session.specs.declared.session.SmtpSession.{SmtpSession}
+use Rattle.smtp_session.specs.declared.session.Turn.{Turn}
+use Rattle.smtp_session.specs.declared.session.Turn.TheVariants as turn
 use Rattle.smtp_session.specs.declared.told.Told.{Told}
-use Rattle.smtp_session.specs.declared.reply.Reply.TheVariants.{LineTooLong}
-use Rattle.smtp_session.specs.Texts.{IsText}
-use Rattle.smtp_session.specs.Talks.{Follows, talk_of}
-use Rattle.smtp_session.specs.Hears.{Hears, HearsLine, EndsText, Answers}
+use Rattle.smtp_session.specs.declared.told.Heard.{Heard}
+use Rattle.smtp_session.specs.declared.told.Heard.TheVariants.{GoesOn, Ends}
+use Rattle.smtp_session.specs.declared.reply.Reply.{Reply}
+use Rattle.smtp_session.specs.declared.reply.Reply.TheVariants.{Ready, LineTooLong}
+use Rattle.smtp_session.specs.Replies.{text_of}
+use Rattle.smtp_session.specs.Texts.{IsText, Settles}
+use Rattle.smtp_session.specs.Talks.{talk_of}
+use Rattle.smtp_session.specs.Hears.{HearsLine, reply_in}
+use Rattle.smtp_session.specs.Follows.{Follows, Reads, Stands, Goes, EndsText, IsDue, Turns, left, held, IsBounded}
+use Rattle.smtp_session.proofs.Lines.{all_one, one_line_of}
 
-abbrev session : Told → Shown → Undotter → List ℕ × Bool → Session
-session told cutter undotter text = record { told = told; cutter = cutter; undotter = undotter; text = text }
+abbrev pub session : ℕ → Turn → Told → Shown → Undotter → List ℕ × Bool → SmtpSession
+session node now told cutter undotter text = record { node = node; turn = now; told = told; cutter = cutter; undotter = undotter; text = text }
 
 -- a line with its CRLF that passes the limit, and one that keeps it
 pub is_long : (line : List ℕ) (limit : ℕ) → limit ≡ 1024 → limit < length (sent_line line) → is_long_line line ≡ true
@@ -31,170 +55,238 @@ is_long line limit is long = lt-ltb 1022 (length line) (omega (arith, is, long, 
 pub is_short : (line : List ℕ) (limit : ℕ) → limit ≡ 1024 → length (sent_line line) ≤ limit → is_long_line line ≡ false
 is_short line limit is short = le-ltb 1022 (length line) (omega (arith, is, short, length-append line (13 ∷ 10 ∷ [])))
 
+-- octets of which none were let go are pending
+pub all_pending : (limit : ℕ) (rest : List ℕ) → Pending (record { limit = limit; past = false; rest = rest }) rest
+all_pending limit rest = record { gone = []; whole = refl; none = λ k within. absurd (omega arith); seam = λ k last. absurd (omega (arith, last)); long = refl }
+
 -- behind a unit, where no octet of a text was read
-begins : (talk : Talk) (told : Told) (cutter : Shown) (undotter : Undotter) (text : List ℕ × Bool) → talk_of told ≡ talk → cutter.limit ≡ 1024
-    → Undots undotter [] [] → IsText text [] → Follows (session told cutter undotter text) talk cutter.rest
-begins talk told cutter undotter text is limit undots empty = record {
-  told = is;
-  limit = limit;
+pub begins : (inside : Bool) (limit : ℕ) (rest : List ℕ) (undotter : Undotter) (text : List ℕ × Bool) → limit ≡ 1024 → Undots undotter [] [] → IsText text [] → length text.0 ≤ 16777216
+    → Reads inside (record { limit = limit; past = false; rest = rest }) undotter text rest
+begins inside limit rest undotter text is undots empty short = record {
   taken = [];
   given = [];
+  pending = rest;
   whole = refl;
+  pends = all_pending limit rest;
   undots = undots;
-  text = empty;
-  none = λ _. (refl, refl);
+  text_is = empty;
+  short = short;
+  limit = is;
+  inside = λ _. refl;
+  outside = λ _. (refl, refl);
 }
 
--- outside a text
-module _ (plan : Plan) (talk : Talk) (pending : List ℕ) (told : Told) (old new : Shown) (undotter : Undotter) (text : List ℕ × Bool)
-    (follows : Follows (session told old undotter text) talk pending) (command : told.in_text ≡ false) where
-  outside : talk.in_text ≡ false
-  outside = ap (λ (t : Talk). t.in_text) (sym follows.told) ∙ command
+-- outside a text nothing was read
+module _ (cutter : Shown) (undotter : Undotter) (text : List ℕ × Bool) (rest : List ℕ) (inside : Bool) (reads : Reads inside cutter undotter text rest) (outside : inside ≡ false) where
+  pub whole_outside : rest ≡ reads.pending
+  whole_outside = reads.whole ∙ ap (λ (l : List ℕ). l ++ reads.pending) (reads.outside outside).0
 
-  none : (follows.taken ≡ []) × (follows.given ≡ [])
-  none = follows.none outside
-
-  behind : (later : Talk) (heard : Told) → talk_of heard ≡ later → new.limit ≡ old.limit → Follows (session heard new undotter text) later new.rest
-  behind later heard is limit =
-      let OfTaken : List ℕ → Type 0 = λ l. Undots undotter l follows.given in
+  pub undots_outside : Undots undotter [] []
+  undots_outside =
+      let OfTaken : List ℕ → Type 0 = λ l. Undots undotter l reads.given in
       let OfGiven : List ℕ → Type 0 = λ l. Undots undotter [] l in
-      let InText : List ℕ → Type 0 = λ l. IsText text l in
-      begins later heard new undotter text is (limit ∙ follows.limit)
-      (subst OfGiven none.1 (subst OfTaken none.0 follows.undots)) (subst InText none.1 follows.text)
+      subst OfGiven (reads.outside outside).1 (subst OfTaken (reads.outside outside).0 reads.undots)
 
-  is_line : (line : List ℕ) → IsUnit false (Line line) → IsUnit talk.in_text (Line line)
-  is_line line is = let Of : Bool → Type 0 = λ b. IsUnit b (Line line) in subst Of (sym outside) is
+  pub text_outside : IsText text []
+  text_outside = let InText : List ℕ → Type 0 = λ l. IsText text l in subst InText (reads.outside outside).1 reads.text_is
 
-  whole : (line : List ℕ) → old.rest ≡ sent_line line ++ new.rest → pending ≡ unit_octets (Line line) ++ new.rest
-  whole line cut = follows.whole ∙ ap (λ (l : List ℕ). l ++ old.rest) none.0 ∙ cut
+  -- the line was found, and taken
+  pub reads_behind : (line : Found) (later : Bool) → Reads later (behind_line cutter line) undotter text (behind_line cutter line).rest
+  reads_behind line later = begins later cutter.limit (behind_line cutter line).rest undotter text reads.limit undots_outside text_outside reads.short
 
-  pub long_line : Gives old Long new → Answers plan talk pending LineTooLong false (session told new undotter text)
-  long_line gives =
-      let long = is_long new.line old.limit follows.limit gives.kind in record {
-        unit = Line new.line;
-        more = new.rest;
-        is = is_line new.line gives.first;
-        whole = whole new.line gives.octets;
-        no_mail = refl;
-        last = rw long refl;
-        says = λ n. rw long refl;
-        follows = λ n. rw long (behind talk told follows.told gives.limit);
+-- A unit that asks nothing was heard, in a session that takes mail.
+module _ (plan : Plan) (plain : Session) (talk : model.Told) (unit : model.Unit) (more text octets : List ℕ) (follows : Session → Due → Type 0)
+    (hearing : plain.standing ≡ Hearing (Mailing talk)) (is : IsUnit talk.in_text unit) (whole : plain.rest ≡ unit_octets unit ++ more) where
+  abbrev pub standing_behind : Bool → Standing
+  standing_behind quits = cond quits EndedByQuit (Hearing (Mailing (after_unit plan talk unit text)))
+
+  led : (quits : Bool) → IsLed (cond quits (lead.Ends (one_line text)) (lead.Says (one_line text))) (record { unit = unit; call = None; answer = None; reply = one_line text })
+  led true = (refl, refl, refl)
+  led false = (refl, refl, refl)
+
+  stood : (quits : Bool) → stands plan (Mailing talk) (record { unit = unit; call = None; answer = None; reply = one_line text }) (cond quits (lead.Ends (one_line text)) (lead.Says (one_line text)))
+      ≡ standing_behind quits
+  stood true = refl
+  stood false = refl
+
+  pub heard_says : (quits : Bool) → lead_of plan plain.node (Mailing talk) unit ≡ cond quits (lead.Ends (one_line text)) (lead.Says (one_line text))
+      → HasNoCrlf text → octets ≡ sent_line text
+      → ((whole : List Exchange) → follows (record plain { whole = whole; standing = standing_behind quits; rest = more }) Nothing)
+      → moves.Heard follows plan plain None octets
+  heard_says quits leads line says goes_on =
+      let one : Exchange = record { unit = unit; call = None; answer = None; reply = one_line text } in
+      let Led : Lead → Type 0 = λ l. IsLed l one in
+      let next : IsNext plan plain.node (Mailing talk) plain.rest one more = record { is_unit = is; whole = whole; led = subst Led (sym leads) (led quits) } in
+      let now : stands_by plan plain.node (Mailing talk) one ≡ standing_behind quits = ap (stands plan (Mailing talk) one) leads ∙ stood quits in
+      let At : Standing → Type 0 = λ s. follows (record plain { whole = plain.whole ++ one ∷ []; standing = s; rest = more }) Nothing in
+      record {
+        one = one;
+        after = record plain { whole = plain.whole ++ one ∷ []; standing = stands_by plan plain.node (Mailing talk) one; rest = more };
+        did = (Mailing talk, more, hearing, next, refl, refl, refl);
+        asks = refl;
+        says = says ∙ sym (append-nil (sent_line text));
+        lines = All-cons HasNoCrlf text [] line (All-nil HasNoCrlf);
+        goes_on = subst At (sym now) (goes_on (plain.whole ++ one ∷ []));
       }
 
-  pub short_line : Gives old Whole new → is_long_line new.line ≡ false
-  short_line gives = is_short new.line old.limit follows.limit gives.kind
+  -- a unit that asks was heard
+  pub heard_asks : (asked : calls.Call) → lead_of plan plain.node (Mailing talk) unit ≡ lead.Asks asked → octets ≡ []
+      → ((one : Exchange) → follows (record plain { whole = plain.whole ++ one ∷ []; standing = Waiting (Mailing (after_unit plan talk unit [])) asked; rest = more }) Nothing)
+      → moves.Heard follows plan plain (Some asked) octets
+  heard_asks asked leads says goes_on =
+      let one : Exchange = record { unit = unit; call = Some asked; answer = None; reply = [] } in
+      let Led : Lead → Type 0 = λ l. IsLed l one in
+      let next : IsNext plan plain.node (Mailing talk) plain.rest one more = record { is_unit = is; whole = whole; led = subst Led (sym leads) (refl, refl) } in
+      let now : stands_by plan plain.node (Mailing talk) one ≡ Waiting (Mailing (after_unit plan talk unit [])) asked = ap (stands plan (Mailing talk) one) leads in
+      let At : Standing → Type 0 = λ s. follows (record plain { whole = plain.whole ++ one ∷ []; standing = s; rest = more }) Nothing in
+      record {
+        one = one;
+        after = record plain { whole = plain.whole ++ one ∷ []; standing = stands_by plan plain.node (Mailing talk) one; rest = more };
+        did = (Mailing talk, more, hearing, next, refl, refl, refl);
+        asks = refl;
+        says = says;
+        lines = All-nil HasNoCrlf;
+        goes_on = subst At (sym now) (goes_on one);
+      }
 
-  told_line : Gives old Whole new → (heard : Heard) (later : Told) → HearsLine plan talk new.line heard (talk_of later)
-      → Hears plan talk pending heard (session later new undotter text)
-  told_line gives Idle later hears = absurd hears
-  told_line gives (Said reply) later (goes_on, replied) = record {
-    unit = Line new.line;
-    more = new.rest;
-    is = is_line new.line gives.first;
-    whole = whole new.line gives.octets;
-    no_mail = refl;
-    last = goes_on;
-    says = λ n. (replied n).0;
-    follows = λ n. behind _ later (replied n).1 gives.limit;
-  }
-  told_line gives (Closed reply) later (ends, replied) = record {
-    unit = Line new.line;
-    more = new.rest;
-    is = is_line new.line gives.first;
-    whole = whole new.line gives.octets;
-    no_mail = refl;
-    last = ends;
-    says = λ n. (replied n).0;
-    follows = λ n. behind _ later (replied n).1 gives.limit;
-  }
-  told_line gives (Files deliver) later hears = absurd hears
+-- a session that has nothing to say, and hears
+at_nothing : (follows : Session → Due → Type 0) (greeting : List ℕ) (plan : Plan) (plain : Session) (due : Due) (move : Move) (octets : List ℕ) → due ≡ Nothing
+    → Moves follows greeting plan plain Nothing move octets → Moves follows greeting plan plain due move octets
+at_nothing follows greeting plan plain due move octets is did =
+    let At : Due → Type 0 = λ d. Moves follows greeting plan plain d move octets in subst At (sym is) did
 
-  pub hears_line : Gives old Whole new → (heard : Heard) (later : Told) → HearsLine plan (talk_of told) new.line heard (talk_of later)
-      → Hears plan talk pending heard (session later new undotter text)
-  hears_line gives heard later hears =
-      let OfTalk : Talk → Type 0 = λ t. HearsLine plan t new.line heard (talk_of later) in
-      told_line gives heard later (subst OfTalk follows.told hears)
+-- outside a text no unit is whole where no line is
+no_unit : (inside : Bool) (rest : List ℕ) → inside ≡ false → ((line more : List ℕ) → rest ≡ sent_line line ++ more → ⊥) → HasNoUnit inside rest
+no_unit true rest is none = cc
+no_unit false rest is none (Line line) more unit same = none line more same
+no_unit false rest is none (Text lines) more unit same = unit
 
--- in a text
-module _ (plan : Plan) (talk : Talk) (pending : List ℕ) (told : Told) (old new : Shown) (undotter behind : Undotter) (text now : List ℕ × Bool) (more : List ℕ)
-    (follows : Follows (session told old undotter text) talk pending) (command : told.in_text ≡ true)
-    (grows : (given : List ℕ) → IsText text given → IsText now (given ++ more)) where
-  inside : talk.in_text ≡ true
-  inside = ap (λ (t : Talk). t.in_text) (sym follows.told) ∙ command
+-- whose turn it is, and how the session then stands
+stands_behind : (quits : Bool) (now : Turn) (node : ℕ) (talk told : model.Told) (plain : Session) (whole : List Exchange) (rest : List ℕ) → now ≡ cond quits turn.Ended turn.Hears → talk ≡ told
+    → Stands now node talk (record plain { whole = whole; standing = cond quits EndedByQuit (Hearing (Mailing told)); rest = rest }) Nothing
+stands_behind true now node talk told plain whole rest is same =
+    let At : Turn → Type 0 = λ t. Stands t node talk (record plain { whole = whole; standing = EndedByQuit; rest = rest }) Nothing in subst At (sym is) (refl, tt)
+stands_behind false now node talk told plain whole rest is same =
+    let At : Turn → Type 0 = λ t. Stands t node talk (record plain { whole = whole; standing = Hearing (Mailing told); rest = rest }) Nothing in
+    subst At (sym is) (refl, ap (λ t. Hearing (Mailing t)) (sym same))
 
-  pub goes_on : ((fed given : List ℕ) → Undots undotter fed given → Feeds More behind fed old.rest (given ++ more))
-      → new.limit ≡ old.limit → new.rest ≡ [] → HasNoUnit talk.in_text pending × Follows (session told new behind now) talk pending
-  goes_on feeds limit all =
-      let read = feeds follows.taken follows.given follows.undots in
-      let OfPending : List ℕ → Type 0 = λ l. HasNoUnit true l in
-      let OfText : Bool → Type 0 = λ b. HasNoUnit b pending in (
-        subst OfText (sym inside) (subst OfPending (sym follows.whole) read.1),
+-- The next command line.
+module _ (plan : Plan) (node : ℕ) (told : Told) (undotter : Undotter) (text : List ℕ × Bool) (outside : told.in_text ≡ false) (old new : Shown) where
+  abbrev before : SmtpSession
+  before = session node turn.Hears told old undotter text
+
+  is_line : (line : List ℕ) → HasNoCrlf line → IsUnit (talk_of told).in_text (Line line)
+  is_line line none = let Of : Bool → Type 0 = λ b. IsUnit b (Line line) in subst Of (sym outside) none
+
+  -- no line is whole
+  pub hears_none : FindsNone old new → Goes plan before Idle [] (session node turn.Hears told new undotter text)
+  hears_none finds plain due follows =
+      let reads = follows.reads in
+      let stays = finds.stays reads.pending reads.pends in
+      let rest_is = whole_outside old undotter text plain.rest told.in_text reads outside in
+      let Of : List ℕ → Type 0 = λ l. HasNoUnit told.in_text l in
+      let At : Standing → Type 0 = λ s. HearsNothing s plain.rest in
+      at_nothing _ _ plan plain due Idle [] follows.stands.0 (
+        subst At (sym follows.stands.1) (subst Of (sym rest_is) (no_unit told.in_text reads.pending outside stays.no_line)),
+        refl,
         record {
-          told = follows.told;
-          limit = limit ∙ follows.limit;
-          taken = follows.taken ++ old.rest;
-          given = follows.given ++ more;
-          whole = follows.whole ∙ sym (append-nil (follows.taken ++ old.rest)) ∙ ap (λ (l : List ℕ). (follows.taken ++ old.rest) ++ l) (sym all);
-          undots = read.0;
-          text = grows follows.given follows.text;
-          none = λ other. let both : true ≡ false = sym inside ∙ other in cc;
+          speaks = follows.speaks;
+          node = follows.node;
+          reads = record {
+            taken = reads.taken;
+            given = reads.given;
+            pending = reads.pending;
+            whole = reads.whole;
+            pends = stays.pends;
+            undots = reads.undots;
+            text_is = reads.text_is;
+            short = reads.short;
+            limit = finds.limit ∙ reads.limit;
+            inside = λ other. let both : true ≡ false = sym other ∙ outside in cc;
+            outside = reads.outside;
+          };
+          stands = (refl, follows.stands.1);
         },
       )
 
-  -- the text ended at an octet of the rest
-  module _ (used : ℕ) (ends : (fed given : List ℕ) → Undots undotter fed given → Feeds (Ended used) behind fed old.rest (given ++ more)) where
-    abbrev read : Feeds (Ended used) behind follows.taken old.rest (follows.given ++ more)
-    read = ends follows.taken follows.given follows.undots
+  -- a line was heard: this is its reply
+  module _ (found : Found) (finds : Finds old found old) (is : new ≡ behind_line old found) (reply : Reply) (quits : Bool) (later : Told) (now : Turn) where
+    pub hears_reply : ((line : List ℕ) → HasNoCrlf line → IsLine old found line → old.limit ≡ 1024 →
+        (is_quit_line line ≡ quits) × ((n : ℕ) → (text_of reply n ≡ reply_text plan n (talk_of told) (Line line)) × (talk_of later ≡ after_unit plan (talk_of told) (Line line) (reply_text plan n (talk_of told) (Line line)))))
+        → now ≡ cond quits turn.Ended turn.Hears → Goes plan before Said (sent_line (text_of reply node)) (session node now later new undotter text)
+    hears_reply means turns plain due follows =
+        let reads = follows.reads in
+        let gives = finds.gives reads.pending reads.pends in
+        let meaning = means gives.line gives.first gives.is reads.limit in
+        let rest_is = whole_outside old undotter text plain.rest told.in_text reads outside ∙ gives.octets in
+        let says = (meaning.1 plain.node).0 in
+        let told_is = (meaning.1 plain.node).1 in
+        let text_is : text_of reply plain.node ≡ text_of reply node = ap (text_of reply) follows.node in
+        let more : List ℕ = (behind_line old found).rest in
+        let leads : lead_of plan plain.node (Mailing (talk_of told)) (Line gives.line) ≡ cond quits (lead.Ends (one_line (text_of reply plain.node))) (lead.Says (one_line (text_of reply plain.node))) =
+        ap₂ (λ (b : Bool) (t : List ℕ). cond b (lead.Ends (one_line t)) (lead.Says (one_line t))) meaning.0 (sym says) in
+        at_nothing _ _ plan plain due Said _ follows.stands.0
+        (heard_says plan plain (talk_of told) (Line gives.line) more (text_of reply plain.node) _ (Follows (session node now later new undotter text)) follows.stands.1 (is_line gives.line gives.first) rest_is
+        quits leads (one_line_of reply plain.node) (ap sent_line (sym text_is)) (λ whole. record {
+          speaks = follows.speaks;
+          node = follows.node;
+          reads = subst OfCutter (sym is) (reads_behind old undotter text plain.rest told.in_text reads outside found later.in_text);
+          stands = stands_behind quits now node (talk_of later) (after_unit plan (talk_of told) (Line gives.line) (text_of reply plain.node)) plain whole more turns
+          (told_is ∙ ap (after_unit plan (talk_of told) (Line gives.line)) (sym says));
+        }))
+      where
+        OfCutter : Shown → Type 0
+        OfCutter c = Reads later.in_text c undotter text (behind_line old found).rest
 
-    abbrev pub lines : List (List ℕ)
-    lines = read.0.lines
+  -- one that is too long
+  pub hears_long : (length : ℕ) → Finds old (Long length) old → new ≡ behind_line old (Long length)
+      → Goes plan before Said (sent_line (text_of LineTooLong node)) (session node turn.Hears told new undotter text)
+  hears_long length finds is =
+      hears_reply (Long length) finds is LineTooLong false told turn.Hears (λ line none kind limit.
+      let long : is_long_line line ≡ true = is_long line old.limit limit kind in
+      (rw long refl, λ n. rw long (refl, refl))) refl
 
-    pub is_read : IsText now (undotted lines)
-    is_read = let Of : List ℕ → Type 0 = λ l. IsText now l in subst Of read.0.gives (grows follows.given follows.text)
+  -- and one that keeps the limit
+  pub hears_short : (length : ℕ) → Finds old (Whole length) old → new ≡ behind_line old (Whole length) → (heard : Heard) (later : Told) (now : Turn)
+      → (old.limit ≡ 1024 → is_long_line (take length old.rest) ≡ false → HearsLine plan (talk_of told) (take length old.rest) heard (talk_of later)) → Turns heard now
+      → Goes plan before Said (sent_line (text_of (reply_in heard) node)) (session node now later new undotter text)
+  hears_short length finds is (GoesOn reply) later now hears turns =
+      hears_reply (Whole length) finds is reply false later now (λ line none kind limit.
+      let At : List ℕ → Type 0 = λ l. HearsLine plan (talk_of told) l (GoesOn reply) (talk_of later) in
+      let Short : List ℕ → Type 0 = λ l. is_long_line l ≡ false in
+      subst At (sym kind.0) (hears limit (subst Short kind.0 (is_short line old.limit limit kind.1)))) turns
+  hears_short length finds is (Ends reply) later now hears turns =
+      hears_reply (Whole length) finds is reply true later now (λ line none kind limit.
+      let At : List ℕ → Type 0 = λ l. HearsLine plan (talk_of told) l (Ends reply) (talk_of later) in
+      let Short : List ℕ → Type 0 = λ l. is_long_line l ≡ false in
+      subst At (sym kind.0) (hears limit (subst Short kind.0 (is_short line old.limit limit kind.1)))) turns
 
-    is_text : IsUnit talk.in_text (Text lines)
-    is_text = let Of : Bool → Type 0 = λ b. IsUnit b (Text lines) in subst Of (sym inside) read.0.are
+-- What is to be said before it hears on.
+answered_mail : (talk : model.Told) (mail : Mail) (answer : calls.Answer) → answered (Mailing talk) (call.Deliver mail) answer ≡ Hearing (Mailing talk)
+answered_mail talk mail answer = refl
 
-    whole_text : new.rest ≡ drop used old.rest → pending ≡ unit_octets (Text lines) ++ new.rest
-    whole_text rest =
-        follows.whole
-        ∙ ap (λ (l : List ℕ). follows.taken ++ l) (sym (take-append-drop used old.rest))
-        ∙ sym (append_assoc follows.taken (take used old.rest) (drop used old.rest))
-        ∙ ap₂ (λ (a b : List ℕ). a ++ b) read.0.whole (sym rest)
-
-    after : (later : Talk) (heard : Told) → talk_of heard ≡ later → new.limit ≡ old.limit → Follows (session heard new behind ([], false)) later new.rest
-    after later heard is limit = begins later heard new behind ([], false) is (limit ∙ follows.limit) read.1 (refl, omega arith)
-
-    told_text : (heard : Heard) (later : Told) → EndsText plan talk lines heard (talk_of later) → new.limit ≡ old.limit → new.rest ≡ drop used old.rest
-        → Hears plan talk pending heard (session later new behind ([], false))
-    told_text Idle later hears limit rest = absurd hears
-    told_text (Said reply) later hears limit rest = record {
-      unit = Text lines;
-      more = new.rest;
-      is = is_text;
-      whole = whole_text rest;
-      no_mail = rw hears.large refl;
-      last = refl;
-      says = λ n. (hears.replied n).0;
-      follows = λ n. after _ later (hears.replied n).1 limit;
-    }
-    told_text (Closed reply) later hears limit rest = absurd hears
-    told_text (Files deliver) later hears limit rest = record {
-      lines = lines;
-      more = new.rest;
-      is = is_text;
-      whole = whole_text rest;
-      small = hears.small;
-      mail = hears.mail;
-      limits = hears.limits;
-      few = hears.few;
-      follows = after _ later hears.told limit;
-    }
-
-    pub hears_text : (heard : Heard) (later : Told) (last : Undotter) (empty : List ℕ × Bool) → EndsText plan (talk_of told) lines heard (talk_of later)
-        → new.limit ≡ old.limit → new.rest ≡ drop used old.rest → last ≡ behind → empty ≡ ([], false) → Hears plan talk pending heard (session later new last empty)
-    hears_text heard later last empty hears limit rest same none =
-        let OfTalk : Talk → Type 0 = λ t. EndsText plan t lines heard (talk_of later) in
-        let Behind : Undotter → Type 0 = λ u. Hears plan talk pending heard (session later new u empty) in
-        let InText : List ℕ × Bool → Type 0 = λ t. Hears plan talk pending heard (session later new behind t) in
-        subst Behind (sym same) (subst InText (sym none) (told_text heard later (subst OfTalk follows.told hears) limit rest))
+pub said_due : (plan : Plan) (node : ℕ) (told : Told) (cutter : Shown) (undotter : Undotter) (text : List ℕ × Bool) (now : Turn) (reply : Reply) → IsDue now reply
+    → Goes plan (session node now told cutter undotter text) Said (sent_line (text_of reply node)) (session node turn.Hears told cutter undotter text)
+said_due plan node told cutter undotter text turn.Greets reply is plain due follows =
+    let At : Due → Type 0 = λ d. Moves (Follows (session node turn.Hears told cutter undotter text)) (greeting_text node) plan plain d Said (sent_line (text_of reply node)) in
+    subst At (sym follows.stands.0) (record {
+      says = ap (λ r. sent_line (text_of r node)) is;
+      line = one_line_of Ready node;
+      goes_on = record { speaks = follows.speaks; node = follows.node; reads = follows.reads; stands = (refl, follows.stands.1) };
+    })
+said_due plan node told cutter undotter text turn.Hears reply is plain due follows = absurd is
+said_due plan node told cutter undotter text turn.Waits reply is plain due follows = absurd is
+said_due plan node told cutter undotter text (turn.Replies other) reply is plain due follows =
+    let answer = follows.stands.0 in
+    let waits = follows.stands.1 in
+    let At : Due → Type 0 = λ d. Moves (Follows (session node turn.Hears told cutter undotter text)) (greeting_text node) plan plain d Said (sent_line (text_of reply node)) in
+    subst At (sym follows.stands.2) (record {
+      call = call.Deliver waits.mail;
+      reply = one_line (text_of other node);
+      after = record plain { whole = waits.before ++ with_answer waits.one answer (one_line (text_of other node)) ∷ []; standing = answered (Mailing (talk_of told)) (call.Deliver waits.mail) answer };
+      did = (waits.before, waits.one, Mailing (talk_of told), waits.whole, waits.standing, follows.stands.3, refl, refl);
+      says = ap (λ r. sent_line (text_of r node)) is ∙ sym (append-nil (sent_line (text_of other node)));
+      lines = all_one other node;
+      goes_on = record { speaks = follows.speaks; node = follows.node; reads = follows.reads; stands = (refl, answered_mail (talk_of told) waits.mail answer) };
+    })
+said_due plan node told cutter undotter text turn.Ended reply is plain due follows = absurd is

@@ -2,3 +2,4 @@ pub mod Replies
 pub mod Texts
 pub mod Talks
 pub mod Hears
+pub mod Follows

@@ -1,10 +1,15 @@
--- A text so far: its octets, or that it has passed the limit.
-use Rattle.std.specs.Prelude.{◌≡◌, ℕ, ◌<◌, ◌≤◌, Bool, false, List, [], length, take, MatchBool}
+-- A text so far: its octets, or that it has passed the limit and they were let go.
+use Rattle.std.specs.Prelude.{◌≡◌, ℕ, ◌<◌, ◌≤◌, Bool, false, List, [], ◌++◌, length, MatchBool}
 
--- these octets were given to it; nothing of a text that is too large is kept
+-- these octets were given to it
 abbrev pub IsText : List ℕ × Bool → List ℕ → Type 0
-IsText text given = MatchBool text.1 ((text.0 ≡ []) × (16777216 < length given)) ((text.0 ≡ given) × (length given ≤ 16777216))
+IsText text given = MatchBool text.1 ((text.0 ≡ []) × (16777216 < length given)) (text.0 ≡ given)
 
--- what was kept stays in front, unless the text is too large
-abbrev pub KeepsFront : List ℕ × Bool → List ℕ × Bool → Type 0
-KeepsFront old new = new.1 ≡ false → (old.1 ≡ false) × (take (length old.0) new.0 ≡ old.0)
+-- these octets more were given to it, which are kept where none were let go
+abbrev pub Grows : List ℕ × Bool → List ℕ → List ℕ × Bool → Type 0
+Grows old more new = MatchBool old.1 (new ≡ old) (new ≡ (old.0 ++ more, false))
+
+-- it is still the text of what was given to it, and no more than the limit is kept
+pub record Settles (old new : List ℕ × Bool) : Type 0 where
+  pub short : length new.0 ≤ 16777216
+  pub is : (given : List ℕ) → IsText old given → IsText new given

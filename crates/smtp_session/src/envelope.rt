@@ -2,7 +2,7 @@
 ghost use Rattle.std.specs.Prelude.{◌≤◌, length};
 
 use crate::Reply;
-use mail_base::{Name, Names, Octets};
+use mail_base::{Name, Names, NodeNo, Octets};
 use std::alloc::{AllocError, Global};
 
 /// What HELO said (RFC 5321, section 4.1.1.1).
@@ -25,7 +25,8 @@ pub struct Envelope {
 }
 
 impl Envelope {
-    ghost use Rattle.std.specs.Prelude.{◌≡◌, ℕ, Some, IfOk, OnErr, if◌then◌else◌};
+    ghost use Rattle.std.specs.Prelude.{◌≡◌, ◌++◌, ℕ, Some, IfOk, OnErr, if◌then◌else◌};
+    ghost use Rattle.mail_model.specs.Lines.{sent_line};
     ghost use Rattle.mail_model.specs.Session.{recipient_text, is_accepted, with_mailbox};
     ghost use Rattle.mail_model.specs.Told.{unaddressed};
     ghost use Rattle.smtp_session.specs.Replies.{text_of};
@@ -42,24 +43,38 @@ impl Envelope {
     }
 
     /// One mailbox more, where it is not in the envelope and there is room (RFC 5321, section 4.1.1.3).
-    /// The reply says which.
+    /// The reply of the node says which, and is appended.
     ///
     /// # Errors
     ///
-    /// Only want of memory; the envelope is then as before.
-    pub fn accept(&mut self, mailbox: Name) -> Result<Reply, AllocError>
+    /// Only want of memory; the envelope and `out` are then as before.
+    pub fn accept(
+        &mut self,
+        alloc: Global,
+        node: NodeNo,
+        mailbox: Name,
+        out: &mut Vec<u8>,
+    ) -> Result<Reply, AllocError>
         ensures ok { IfOk result (λ reply. (n : ℕ) → (text_of reply n ≡ recipient_text (Some mailbox) self.old.mailboxes)
             × (envelope_of self.new ≡ (if is_accepted (recipient_text (Some mailbox) self.old.mailboxes) then with_mailbox (envelope_of self.old) mailbox else envelope_of self.old))) }
+        ensures said { IfOk result (λ reply. out.new.items ≡ out.old.items ++ sent_line (text_of reply node)) }
         ensures sender { self.new.sender ≡ self.old.sender }
-        ensures err { OnErr result (self.new ≡ self.old) }
+        ensures err { OnErr result ((self.new ≡ self.old) × (out.new.items ≡ out.old.items)) }
     {
         if self.mailboxes.contains(&mailbox) {
-            return Ok(Reply::RecipientOk);
+            return Reply::RecipientOk.said(alloc, node, out);
         }
         if self.mailboxes.len() >= 100 {
-            return Ok(Reply::TooManyRecipients);
+            return Reply::TooManyRecipients.said(alloc, node, out);
         }
-        self.mailboxes.push(mailbox)?;
-        Ok(Reply::RecipientOk)
+        let kept = out.len();
+        let reply = Reply::RecipientOk.said(alloc, node, out)?;
+        match self.mailboxes.push(mailbox) {
+            Ok(()) => Ok(reply),
+            Err(error) => {
+                out.truncate(kept);
+                Err(error)
+            }
+        }
     }
 }

@@ -73,13 +73,12 @@
 mod envelope;
 mod reply;
 mod session;
-#[cfg(test)]
-mod tests;
 mod text;
 mod told;
 
-pub use envelope::{Envelope, Greeting};
 pub use reply::Reply;
-pub use session::{Heard, Session};
-pub use text::Text;
-pub use told::Told;
+pub use session::SmtpSession;
+
+use envelope::{Envelope, Greeting};
+use text::Text;
+use told::Told;

@@ -1,6 +1,7 @@
 // The replies of a session.
-ghost use Rattle.std.specs.Prelude.{◌≡◌, ◌++◌, OnOk, OnErr};
+ghost use Rattle.std.specs.Prelude.{◌≡◌, ◌++◌, IfOk, OnOk, OnErr};
 ghost use Rattle.std.specs.Fmt.{decimal};
+ghost use Rattle.mail_model.specs.Lines.{sent_line};
 ghost use Rattle.smtp_session.specs.Replies.{text_of};
 
 use mail_base::NodeNo;
@@ -10,7 +11,7 @@ use std::alloc::{AllocError, Global};
 /// three digits.
 #[derive(Clone, Copy, Debug, PartialEq, Eq)]
 pub enum Reply {
-    /// 220, before the first line of a session (RFC 5321, section 3.1). `Session::next` never answers it.
+    /// 220, before the first line of a session (RFC 5321, section 3.1).
     Ready,
     /// 250 to HELO (section 4.1.1.1): the node's name.
     Hello,
@@ -34,11 +35,13 @@ pub enum Reply {
     SendText,
     /// 552 at the end of a text of more than 16,777,216 octets (section 4.5.3.1.9).
     TooLarge,
-    /// 250 at the end of a text, once the message is stored (section 4.1.1.4). `Session::next` never answers it.
+    /// 250 at the end of a text, once the message is stored (section 4.1.1.4).
     Stored,
+    /// 451 at the end of a text whose message could not be stored, or may not be (section 4.2.2).
+    NotStored,
     /// 221 to QUIT (section 4.1.1.10).
     Closing,
-    /// 421: the node leaves the session (section 3.8). `Session::next` never answers it.
+    /// 421: the node leaves the session (section 3.8).
     Down,
 }
 
@@ -88,6 +91,36 @@ impl Reply {
             ),
             Reply::TooLarge => out.extend_from_slice(b"552 message too large"),
             Reply::Stored => out.extend_from_slice(b"250 stored"),
+            Reply::NotStored => out.extend_from_slice(b"451 not stored, try again"),
         }
+    }
+
+    /// Appends the reply of that node as it is sent: its text and CRLF.
+    ///
+    /// # Errors
+    ///
+    /// Only want of memory; the octets are then as before.
+    pub fn line_into(self, alloc: Global, node: NodeNo, out: &mut Vec<u8>) -> Result<(), AllocError>
+        ensures ok { OnOk result (out.new.items ≡ out.old.items ++ sent_line (text_of self node)) }
+        ensures err { OnErr result (out.new.items ≡ out.old.items) }
+    {
+        let mut line = Vec::new(alloc);
+        self.text_into(alloc, node, &mut line)?;
+        line.extend_from_slice(b"\r\n")?;
+        out.extend_from_slice(&line)
+    }
+
+    /// The same, and gives the reply back.
+    pub(crate) fn said(
+        self,
+        alloc: Global,
+        node: NodeNo,
+        out: &mut Vec<u8>,
+    ) -> Result<Reply, AllocError>
+        ensures ok { IfOk result (λ reply. (reply ≡ self) × (out.new.items ≡ out.old.items ++ sent_line (text_of self node))) }
+        ensures err { OnErr result (out.new.items ≡ out.old.items) }
+    {
+        self.line_into(alloc, node, out)?;
+        Ok(self)
     }
 }

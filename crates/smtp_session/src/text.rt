@@ -1,7 +1,7 @@
 // The text of a message as its octets come.
-ghost use Rattle.std.specs.Prelude.{◌≡◌, ◌≤◌, ◌++◌, [], List, ℕ, Bool, true, false, length, take, IfOk, OnErr};
+ghost use Rattle.std.specs.Prelude.{◌≡◌, ◌≤◌, ◌++◌, ◌||◌, [], List, ℕ, Bool, true, false, nat_lt, length, take, IfOk, OnErr};
 ghost use Rattle.dot_text.specs.Places.{Undots, Feeds, IsWithin};
-ghost use Rattle.smtp_session.specs.Texts.{IsText, KeepsFront};
+ghost use Rattle.smtp_session.specs.Texts.{Grows, Settles};
 
 use dot_text::{Cut, Undotter};
 use mail_base::Octets;
@@ -11,22 +11,21 @@ use std::marker::Model;
 // how many octets a text may have once the periods are taken off
 const LIMIT: usize = 16_777_216;
 
-/// A text so far: its octets without the periods that lead its lines, at most 16,777,216. One that passes
-/// the limit is not kept. A contract sees its octets and whether it has passed the limit.
+/// A text so far: its octets without the periods that lead its lines. Of one that has passed the limit of
+/// 16,777,216 octets nothing is kept, once it was `settle`d. A contract sees the octets, and whether they were
+/// let go.
 #[derive(Debug, Drop)]
 pub struct Text {
     octets: Vec<u8>,
-    large: bool,
+    gone: bool,
 }
 
 impl Model for Text {
-    ghost use Rattle.std.specs.Prelude.{List, ℕ, Bool, length, ◌≤◌};
+    ghost use Rattle.std.specs.Prelude.{List, ℕ, Bool};
 
     ghost Value = { List ℕ × Bool };
 
-    ghost view = { λ t. (t.octets.items, t.large) };
-
-    ghost invariant = { λ t. length t.octets.items ≤ 16777216 };
+    ghost view = { λ t. (t.octets.items, t.gone) };
 }
 
 impl Text {
@@ -36,15 +35,15 @@ impl Text {
     {
         Text {
             octets: Vec::new(alloc),
-            large: false,
+            gone: false,
         }
     }
 
     /// Whether the text has passed the limit of 16,777,216 octets.
     pub fn is_large(&self) -> bool
-        ensures { result ≡ self.now.1 }
+        ensures { result ≡ (self.now.1 || nat_lt 16777216 (length self.now.0)) }
     {
-        self.large
+        self.gone || self.octets.len() > LIMIT
     }
 
     /// How many octets are kept.
@@ -54,10 +53,9 @@ impl Text {
         self.octets.len()
     }
 
-    /// The octets that were kept: none of a text that has passed the limit. It takes no memory.
+    /// The octets that were kept. It takes no memory.
     pub fn into_octets(self) -> Octets
-        ensures octets { result ≡ self.0 }
-        ensures short { length result ≤ 16777216 }
+        ensures { result ≡ self.0 }
     {
         Octets::from_vec(self.octets)
     }
@@ -70,7 +68,7 @@ impl Text {
     }
 
     /// Takes up what the undotter gives of the next octets, up to the end of the text (RFC 5321, section
-    /// 4.5.2), and says where that is. The octets of a text that passes the limit are let go.
+    /// 4.5.2), and says where that is.
     ///
     /// # Errors
     ///
@@ -81,21 +79,24 @@ impl Text {
         undotter: &mut Undotter,
         piece: &[u8],
     ) -> Result<Cut, AllocError>
-        ensures ok { IfOk result (λ cut. (more : List ℕ) × ((given : List ℕ) → IsText self.old given → IsText self.new (given ++ more))
-            × ((fed given : List ℕ) → Undots undotter.old fed given → Feeds cut undotter.new fed piece.now (given ++ more))) }
-        ensures kept { IfOk result (λ cut. KeepsFront self.old self.new) }
+        ensures ok { IfOk result (λ cut. (more : List ℕ) × Grows self.old more self.new × ((fed given : List ℕ) → Undots undotter.old fed given → Feeds cut undotter.new fed piece.now (given ++ more))) }
         ensures used { IfOk result (λ cut. IsWithin cut piece.now) }
         ensures err { OnErr result ((self.new ≡ self.old) × (undotter.new ≡ undotter.old)) }
     {
-        if self.large {
+        if self.gone {
             let mut passed = Vec::new(alloc);
             return undotter.feed(piece, &mut passed);
         }
-        let cut = undotter.feed(piece, &mut self.octets)?;
+        undotter.feed(piece, &mut self.octets)
+    }
+
+    /// Lets the octets of a text go that has passed the limit. It takes no memory.
+    pub fn settle(&mut self, alloc: Global)
+        ensures { Settles self.old self.new }
+    {
         if self.octets.len() > LIMIT {
             self.octets = Vec::new(alloc);
-            self.large = true;
+            self.gone = true;
         }
-        Ok(cut)
     }
 }

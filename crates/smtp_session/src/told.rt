@@ -1,6 +1,7 @@
 // What a session has been told, and what a command makes of it.
-ghost use Rattle.std.specs.Prelude.{◌≡◌, ◌≤◌, List, ℕ, true, false, length, unwrap_or, Ok, OnErr, IfOk, if◌then◌else◌};
+ghost use Rattle.std.specs.Prelude.{◌≡◌, ◌≤◌, ◌++◌, List, ℕ, true, false, length, unwrap_or, Ok, OnErr, IfOk, if◌then◌else◌};
 ghost use Rattle.std.specs.Option.{option_map};
+ghost use Rattle.mail_model.specs.Lines.{sent_line};
 ghost use Rattle.mail_model.specs.Smtp as smtp;
 ghost use Rattle.mail_model.specs.Session.{silent, is_long_line, is_quit, after_unit};
 ghost use Rattle.mail_model.specs.Session.Unit.{Text as OfText};
@@ -9,12 +10,21 @@ ghost use Rattle.mail_model.specs.Told.{unnamed, unaddressed};
 ghost use Rattle.smtp_wire.specs.Seen.{seen, IsWithinLimits};
 ghost use Rattle.smtp_session.specs.Replies.{text_of};
 ghost use Rattle.smtp_session.specs.Talks.{talk_of, greeting_of, envelope_of, Does};
-ghost use Rattle.smtp_session.specs.Hears.{HearsLine, Addresses};
+ghost use Rattle.smtp_session.specs.Hears.{HearsLine, Addresses, reply_in};
 
-use crate::{Envelope, Greeting, Heard, Reply};
-use mail_base::{Names, Octets, Plan};
+use crate::{Envelope, Greeting, Reply};
+use mail_base::{Names, NodeNo, Octets, Plan};
 use smtp_wire::{Command, SmtpFault, read_command};
 use std::alloc::{AllocError, Global};
+
+/// What a command line leads to.
+#[derive(Clone, Copy, Debug, PartialEq, Eq)]
+pub enum Heard {
+    /// Its reply, behind which the session goes on.
+    GoesOn(Reply),
+    /// Its reply, which ends the session.
+    Ends(Reply),
+}
 
 /// What a session has been told (RFC 5321, section 3.3).
 #[derive(Debug, Drop)]
@@ -40,81 +50,116 @@ impl Told {
     }
 
     // HELO begins anew (RFC 5321, section 4.1.1.1). Unchanged on refusal.
-    fn greet(&mut self, alloc: Global, name: &[u8]) -> Result<Reply, AllocError>
+    fn greet(
+        &mut self,
+        alloc: Global,
+        node: NodeNo,
+        name: &[u8],
+        out: &mut Vec<u8>,
+    ) -> Result<Reply, AllocError>
         requires { length name.now ≤ 255 }
         ensures ok { IfOk result (λ reply. (plan : Plans) → Does plan (talk_of self.old) (Ok (smtp.Command.Helo name.now)) reply (talk_of self.new)) }
-        ensures err { OnErr result (self.new ≡ self.old) }
+        ensures said { IfOk result (λ reply. out.new.items ≡ out.old.items ++ sent_line (text_of reply node)) }
+        ensures err { OnErr result ((self.new ≡ self.old) × (out.new.items ≡ out.old.items)) }
     {
         let name = Octets::from_vec(name.to_vec(alloc)?);
+        let reply = Reply::Hello.said(alloc, node, out)?;
         self.greeting = Some(Greeting { name });
         self.envelope = None;
-        Ok(Reply::Hello)
+        Ok(reply)
     }
 
     // MAIL begins a transaction (RFC 5321, section 4.1.1.2). Unchanged on refusal.
-    fn begin(&mut self, alloc: Global, sender: &[u8]) -> Result<Reply, AllocError>
+    fn begin(
+        &mut self,
+        alloc: Global,
+        node: NodeNo,
+        sender: &[u8],
+        out: &mut Vec<u8>,
+    ) -> Result<Reply, AllocError>
         requires { length sender.now ≤ 512 }
         ensures ok { IfOk result (λ reply. (plan : Plans) → Does plan (talk_of self.old) (Ok (smtp.Command.Mail sender.now)) reply (talk_of self.new)) }
-        ensures err { OnErr result (self.new ≡ self.old) }
+        ensures said { IfOk result (λ reply. out.new.items ≡ out.old.items ++ sent_line (text_of reply node)) }
+        ensures err { OnErr result ((self.new ≡ self.old) × (out.new.items ≡ out.old.items)) }
     {
         if self.greeting.is_none() || self.envelope.is_some() {
-            return Ok(Reply::BadOrder);
+            return Reply::BadOrder.said(alloc, node, out);
         }
         let sender = Octets::from_vec(sender.to_vec(alloc)?);
+        let reply = Reply::SenderOk.said(alloc, node, out)?;
         self.envelope = Some(Envelope {
             sender,
             mailboxes: Names::new(alloc),
         });
-        Ok(Reply::SenderOk)
+        Ok(reply)
     }
 
-    // DATA asks for the text (RFC 5321, section 4.1.1.4).
-    fn ask_text(&mut self) -> Reply
-        ensures does { (plan : Plans) → Does plan (talk_of self.old) (Ok smtp.Command.Data) result (talk_of self.new) }
+    // DATA asks for the text (RFC 5321, section 4.1.1.4). Unchanged on refusal.
+    fn ask_text(
+        &mut self,
+        alloc: Global,
+        node: NodeNo,
+        out: &mut Vec<u8>,
+    ) -> Result<Reply, AllocError>
+        ensures ok { IfOk result (λ reply. (plan : Plans) → Does plan (talk_of self.old) (Ok smtp.Command.Data) reply (talk_of self.new)) }
+        ensures said { IfOk result (λ reply. out.new.items ≡ out.old.items ++ sent_line (text_of reply node)) }
+        ensures err { OnErr result ((self.new ≡ self.old) × (out.new.items ≡ out.old.items)) }
     {
         match &self.envelope {
             Some(envelope) if !envelope.mailboxes.is_empty() => {
+                let reply = Reply::SendText.said(alloc, node, out)?;
                 self.in_text = true;
-                Reply::SendText
+                Ok(reply)
             }
-            _ => Reply::BadOrder,
+            _ => Reply::BadOrder.said(alloc, node, out),
         }
     }
 
-    // Does what the command says. Unchanged on refusal.
+    // Does what the command says, and appends its reply. Unchanged on refusal.
     fn obey(
         &mut self,
         alloc: Global,
         plan: &Plan,
+        node: NodeNo,
         command: &Result<Command<'_>, SmtpFault>,
+        out: &mut Vec<u8>,
     ) -> Result<Reply, AllocError>
         requires { IfOk command.now IsWithinLimits }
         ensures ok { IfOk result (λ reply. Does plan.now (talk_of self.old) (seen command.now) reply (talk_of self.new)) }
-        ensures err { OnErr result (self.new ≡ self.old) }
+        ensures said { IfOk result (λ reply. out.new.items ≡ out.old.items ++ sent_line (text_of reply node)) }
+        ensures err { OnErr result ((self.new ≡ self.old) × (out.new.items ≡ out.old.items)) }
     {
         match command {
-            Err(SmtpFault::UnknownVerb) => Ok(Reply::UnknownCommand),
-            Err(SmtpFault::BadArgument) => Ok(Reply::BadArgument),
-            Ok(Command::Helo { name }) => Ok(self.greet(alloc, name)?),
-            Ok(Command::Mail { sender }) => Ok(self.begin(alloc, sender)?),
-            Ok(Command::Rcpt { path }) => Ok(address(&mut self.envelope, alloc, plan, path)?),
-            Ok(Command::Data) => Ok(self.ask_text()),
-            Ok(Command::Quit) => Ok(Reply::Closing),
+            Err(SmtpFault::UnknownVerb) => Reply::UnknownCommand.said(alloc, node, out),
+            Err(SmtpFault::BadArgument) => Reply::BadArgument.said(alloc, node, out),
+            Ok(Command::Helo { name }) => Ok(self.greet(alloc, node, name, out)?),
+            Ok(Command::Mail { sender }) => Ok(self.begin(alloc, node, sender, out)?),
+            Ok(Command::Rcpt { path }) => Ok(address(&mut self.envelope, alloc, plan, node, path, out)?),
+            Ok(Command::Data) => Ok(self.ask_text(alloc, node, out)?),
+            Ok(Command::Quit) => Reply::Closing.said(alloc, node, out),
         }
     }
 
-    /// Hears a command line, given without its CRLF. Where it has at most 1,022 octets, what it leads to is
-    /// what the definition of a session says (RFC 5321, section 4.1.4).
+    /// Hears a command line, given without its CRLF, and appends the reply of the node. Where the line has at
+    /// most 1,022 octets, what it leads to is what the definition of a session says (RFC 5321, section 4.1.4).
     ///
     /// # Errors
     ///
     /// Only want of memory; nothing is changed then.
-    pub fn hear(&mut self, alloc: Global, plan: &Plan, line: &[u8]) -> Result<Heard, AllocError>
+    pub fn hear(
+        &mut self,
+        alloc: Global,
+        plan: &Plan,
+        node: NodeNo,
+        line: &[u8],
+        out: &mut Vec<u8>,
+    ) -> Result<Heard, AllocError>
         ensures ok { is_long_line line.now ≡ false → IfOk result (λ heard. HearsLine plan.now (talk_of self.old) line.now heard (talk_of self.new)) }
-        ensures err { OnErr result (self.new ≡ self.old) }
+        ensures said { IfOk result (λ heard. out.new.items ≡ out.old.items ++ sent_line (text_of (reply_in heard) node)) }
+        ensures err { OnErr result ((self.new ≡ self.old) × (out.new.items ≡ out.old.items)) }
     {
         let command = read_command(line);
-        let reply = self.obey(alloc, plan, &command)?;
+        let reply = self.obey(alloc, plan, node, &command, out)?;
         Ok(heard_of(&command, reply))
     }
 
@@ -146,11 +191,12 @@ impl Told {
 
 // What the reply to a command leads to: QUIT ends the session.
 fn heard_of(command: &Result<Command<'_>, SmtpFault>, reply: Reply) -> Heard
-    ensures { result ≡ (if is_quit (seen command.now) then Heard.Closed reply else Heard.Said reply) }
+    ensures heard { result ≡ (if is_quit (seen command.now) then Heard.Ends reply else Heard.GoesOn reply) }
+    ensures reply { reply_in result ≡ reply }
 {
     match command {
-        Ok(Command::Quit) => Heard::Closed(reply),
-        _ => Heard::Said(reply),
+        Ok(Command::Quit) => Heard::Ends(reply),
+        _ => Heard::GoesOn(reply),
     }
 }
 
@@ -159,16 +205,19 @@ fn address(
     envelope: &mut Option<Envelope>,
     alloc: Global,
     plan: &Plan,
+    node: NodeNo,
     path: &[u8],
+    out: &mut Vec<u8>,
 ) -> Result<Reply, AllocError>
     ensures ok { IfOk result (λ reply. (n : ℕ) → Addresses plan.now (option_map envelope_of envelope.old) path.now (text_of reply n) (option_map envelope_of envelope.new)) }
-    ensures err { OnErr result (envelope.new ≡ envelope.old) }
+    ensures said { IfOk result (λ reply. out.new.items ≡ out.old.items ++ sent_line (text_of reply node)) }
+    ensures err { OnErr result ((envelope.new ≡ envelope.old) × (out.new.items ≡ out.old.items)) }
 {
     match envelope {
-        None => Ok(Reply::BadOrder),
+        None => Reply::BadOrder.said(alloc, node, out),
         Some(envelope) => match plan.mailbox(alloc, path)? {
-            None => Ok(Reply::NoSuchMailbox),
-            Some(mailbox) => Ok(envelope.accept(mailbox)?),
+            None => Reply::NoSuchMailbox.said(alloc, node, out),
+            Some(mailbox) => Ok(envelope.accept(alloc, node, mailbox, out)?),
         },
     }
 }

@@ -1,23 +1,13 @@
-use Rattle.std.proofs.Common.{arith, ◌≡◌, ℕ, ◌-◌, List, ◌++◌, length, take, drop, sym, ap, subst, ◌∙◌}
+use Rattle.std.proofs.Common.{arith, ◌≡◌, ℕ, Bool, List, ◌++◌, length, drop, sym, ap, subst, ◌∙◌}
 use Rattle.std.proofs.lemmas.List.{drop-append-le, length-append}
 use Rattle.dot_text.specs.Cuts.{HasNoneBefore}
-use Rattle.dot_text.proofs.Cutting.{seen_fed, moved, cuts_fed}
+use Rattle.dot_text.specs.Shown.{Shown, Pending}
+use Rattle.dot_text.proofs.Cutting.{seen_fed}
+use Rattle.dot_text.proofs.Letting.{fed_pends, cutter_of}
 use Rattle.dot_text.proofs.cutter.LineCutter.feed.Goals as goal
 
-pub invariant_of-self-then-left-self : goal.invariant_of-self-then-left-self
-invariant_of-self-then-left-self c =
-    let old = c.self.inside in
-    let fed : c.extend_from_slice.new.self.items ≡ old.octets.items ++ c.args.piece.now = c.in_ok-extend_from_slice.ensures.items in
-    let left : c.len.result - old.start ≡ length c.extend_from_slice.new.self.items - old.start = omega (arith, c.len.ensures, c.extend_from_slice.new.self.ok.0) in
-    let all = drop-append-le old.start old.octets.items c.args.piece.now c.self.invariant.1 in
-    let is : c.truncate.new.self.items ≡ drop old.start old.octets.items ++ c.args.piece.now =
-    c.truncate.ensures.items ∙ ap (λ (l : List ℕ). take (c.len.result - old.start) l) c.rotate_left.ensures.items
-    ∙ moved c.extend_from_slice.new.self.items old.start (c.len.result - old.start) left ∙ ap (λ (l : List ℕ). drop old.start l) fed ∙ all in
-    let Before : List ℕ → Type 0 = λ l. HasNoneBefore l old.seen in
-    (c.self.invariant.0, omega arith, subst Before (sym is) (seen_fed (drop old.start old.octets.items) c.args.piece.now old.seen c.self.invariant.2))
-
-pub invariant_of-self-else-left-self : goal.invariant_of-self-else-left-self
-invariant_of-self-else-left-self c =
+pub invariant_of-self-2 : goal.invariant_of-self-2
+invariant_of-self-2 c =
     let old = c.self.inside in
     let fed : c.extend_from_slice.new.self.items ≡ old.octets.items ++ c.args.piece.now = c.in_ok-extend_from_slice.ensures.items in
     let all = drop-append-le old.start old.octets.items c.args.piece.now c.self.invariant.1 in
@@ -28,3 +18,20 @@ invariant_of-self-else-left-self c =
       omega (arith, ap (λ (l : List ℕ). length l) fed, length-append old.octets.items c.args.piece.now, c.self.invariant.1),
       subst Before (sym is) (seen_fed (drop old.start old.octets.items) c.args.piece.now old.seen c.self.invariant.2),
     )
+
+pub returns-clause-ok : goal.returns-clause-ok
+returns-clause-ok c =
+    let old = c.self.inside in
+    let fed : c.extend_from_slice.new.self.items ≡ old.octets.items ++ c.args.piece.now = c.in_ok-extend_from_slice.ensures.items in
+    let is : drop old.start c.extend_from_slice.new.self.items ≡ drop old.start old.octets.items ++ c.args.piece.now =
+    ap (λ (l : List ℕ). drop old.start l) fed ∙ drop-append-le old.start old.octets.items c.args.piece.now c.self.invariant.1 in
+    c.compact.ensures ∙ ap (cutter_of old.limit old.past) is ∙ ap (λ (s : Shown). cutter_of s.limit s.past (s.rest ++ c.args.piece.now)) c.self.view_is
+
+pub returns-clause-pends : goal.returns-clause-pends
+returns-clause-pends c pending was =
+    let old = c.self.inside in
+    let fed : c.extend_from_slice.new.self.items ≡ old.octets.items ++ c.args.piece.now = c.in_ok-extend_from_slice.ensures.items in
+    let is : drop old.start c.extend_from_slice.new.self.items ≡ drop old.start old.octets.items ++ c.args.piece.now =
+    ap (λ (l : List ℕ). drop old.start l) fed ∙ drop-append-le old.start old.octets.items c.args.piece.now c.self.invariant.1 in
+    fed_pends old.limit old.past (drop old.start old.octets.items) c.args.piece.now (drop old.start c.extend_from_slice.new.self.items) c.args.self.now c.compact.new.self pending
+    c.self.view_is c.compact.ensures is was
