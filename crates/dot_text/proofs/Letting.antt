@@ -210,13 +210,19 @@ module _ (limit : ℕ) (past : Bool) (rest : List ℕ) (place : ℕ) (is : IsFir
 abbrev pub cutter_of : ℕ → Bool → List ℕ → Shown
 cutter_of limit past rest = record { limit = limit; past = past; rest = rest }
 
+-- octets that end in a CR are some
+pub ends_within : (octets : List ℕ) → ends_in_cr octets ≡ true → 0 < length octets
+ends_within octets is =
+    let cut = cr_last octets is in
+    omega (arith, ap (λ (l : List ℕ). length l) cut.1, length-append cut.0 (13 ∷ []))
+
 pub lets_all_go : (limit : ℕ) (past : Bool) (rest now : List ℕ) (old : Shown) → 2 ≤ limit → cutter_of limit past rest ≡ old → HasNoCrlf old.rest → ends_in_cr rest ≡ false
     → (past ≡ true) ⊎ (limit ≤ length rest) → now ≡ [] → LetsGo old (cutter_of limit true now)
 lets_all_go limit past rest now old some is none_in other how empty =
     let At : Shown → Type 0 = λ s. LetsGo s (cutter_of limit true now) in
     let Behind : List ℕ → Type 0 = λ l. LetsGo (cutter_of limit past rest) (cutter_of limit true l) in
     let none : HasNoCrlf rest = subst HasNoCrlf (ap (λ (s : Shown). s.rest) (sym is)) none_in in
-    subst At is (subst Behind (sym empty) (record { limit = refl; short = omega (arith, some); pends = λ pending was. all_gone limit past rest pending none other how was }))
+    subst At is (subst Behind (sym empty) (record { limit = refl; short = omega (arith, some); fewer = omega arith; pends = λ pending was. all_gone limit past rest pending none other how was }))
 
 pub lets_go_but_cr : (limit : ℕ) (past : Bool) (rest now : List ℕ) (old : Shown) → 2 ≤ limit → cutter_of limit past rest ≡ old → HasNoCrlf old.rest → ends_in_cr rest ≡ true
     → (past ≡ true) ⊎ (limit ≤ length rest) → now ≡ 13 ∷ [] → LetsGo old (cutter_of limit true now)
@@ -224,13 +230,7 @@ lets_go_but_cr limit past rest now old some is none_in cr how one =
     let At : Shown → Type 0 = λ s. LetsGo s (cutter_of limit true now) in
     let Behind : List ℕ → Type 0 = λ l. LetsGo (cutter_of limit past rest) (cutter_of limit true l) in
     let none : HasNoCrlf rest = subst HasNoCrlf (ap (λ (s : Shown). s.rest) (sym is)) none_in in
-    subst At is (subst Behind (sym one) (record { limit = refl; short = omega (arith, some); pends = λ pending was. gone_but_cr limit past rest pending none cr how was }))
-
--- octets that end in a CR are some
-pub ends_within : (octets : List ℕ) → ends_in_cr octets ≡ true → 0 < length octets
-ends_within octets is =
-    let cut = cr_last octets is in
-    omega (arith, ap (λ (l : List ℕ). length l) cut.1, length-append cut.0 (13 ∷ []))
+    subst At is (subst Behind (sym one) (record { limit = refl; short = omega (arith, some); fewer = omega (arith, ends_within rest cr); pends = λ pending was. gone_but_cr limit past rest pending none cr how was }))
 
 -- a line was found
 pub found_at : (limit : ℕ) (past : Bool) (rest : List ℕ) (place : ℕ) → IsFirstCrlf rest place → (kind : Line) → IsKind kind place limit past

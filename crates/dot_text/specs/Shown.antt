@@ -68,10 +68,12 @@ pub record Stays (new : Shown) (pending : List ℕ) : Type 0 where
 pub record FindsNone (old new : Shown) : Type 0 where
   pub limit : new.limit ≡ old.limit
   pub short : length new.rest < old.limit
+  pub fewer : length new.rest ≤ length old.rest
   pub stays : (pending : List ℕ) → Pending old pending → Stays new pending
 
 -- What is held has no CRLF. It is shorter than the limit, or was let go but for a CR.
 pub record LetsGo (old new : Shown) : Type 0 where
   pub limit : new.limit ≡ old.limit
   pub short : length new.rest < old.limit
+  pub fewer : length new.rest ≤ length old.rest
   pub pends : (pending : List ℕ) → Pending old pending → Pending new pending

@@ -1,9 +1,18 @@
--- A mark, as the slot of an index is written.
-use Rattle.std.proofs.Common.{◌≡◌, ℕ, ◌+◌, zero, suc, Bool, true, false, not, List, [], ◌∷◌, length, sum_by, refl, sym, ◌∙◌, ap, arith, ◌<◌, ◌≤◌, slice_set, slice_index_or}
+-- A mark, as the slot of an index is written; and slots as the definition of a session sees them.
+use Rattle.std.proofs.Common.{◌≡◌, ℕ, ◌+◌, zero, suc, Bool, true, false, not, List, [], ◌∷◌, length, map, sum_by, Option, Some, None, slice_get, option_and_then, refl, sym, ◌∙◌, ap, arith, ◌<◌, ◌≤◌, slice_set, slice_index_or}
 use Rattle.std.specs.List.{filter}
+use Rattle.std.specs.Option.{option_map}
 use Rattle.std.proofs.lemmas.List.Sums.{sum_by-cons}
-use Rattle.mail_model.specs.PopReplies.{Item, Slot, unmarked}
-use Rattle.mail_model.specs.Maildrop.{marked_at}
+use Rattle.mail_base.specs.declared.item.Item.{Item}
+use Rattle.mail_base.specs.Items.{item_seen}
+use Rattle.mail_model.specs.Identity.{Id}
+use Rattle.mail_model.specs.PopReplies as model
+use Rattle.mail_model.specs.PopReplies.{unmarked, marked_ids, listed_slots}
+use Rattle.mail_model.specs.Maildrop as drop
+use Rattle.mail_model.specs.Maildrop.{unmarked_in}
+use Rattle.call_tickets.specs.Seen.{ids_in}
+use Rattle.pop_session.specs.declared.listing.Slot.{Slot}
+use Rattle.pop_session.specs.Slots.{slot_seen, slots_seen, items_in, marked_items, marked_at, listed_slot}
 
 -- the slot with its mark
 abbrev pub with_its_mark : Slot → Slot
@@ -22,25 +31,62 @@ none_is_marked [] at past = refl
 none_is_marked (slot ∷ slots) zero past = absurd (omega (arith, past))
 none_is_marked (slot ∷ slots) (suc at) past = ap (λ (behind : List Slot). slot ∷ behind) (none_is_marked slots at (omega (arith, past)))
 
+-- the definition marks the same slot
+pub marked_alike : (slots : List Slot) (at : ℕ) → slots_seen (marked_at slots at) ≡ drop.marked_at (slots_seen slots) at
+marked_alike [] at = refl
+marked_alike (slot ∷ slots) zero = refl
+marked_alike (slot ∷ slots) (suc at) = ap (λ (behind : List model.Slot). slot_seen slot ∷ behind) (marked_alike slots at)
+
+-- and the messages stay
+pub items_stay : (slots : List Slot) (at : ℕ) → items_in (marked_at slots at) ≡ items_in slots
+items_stay [] at = refl
+items_stay (slot ∷ slots) zero = refl
+items_stay (slot ∷ slots) (suc at) = ap (λ (behind : List Item). slot.item ∷ behind) (items_stay slots at)
+
+-- the slot of an index
+pub seen_at : (slots : List Slot) (at : ℕ) → slice_get (slots_seen slots) at ≡ option_map slot_seen (slice_get slots at)
+seen_at [] at = refl
+seen_at (slot ∷ slots) zero = refl
+seen_at (slot ∷ slots) (suc at) = seen_at slots at
+
+-- a listing that was just told
+pub listed_alike : (items : List Item) → slots_seen (map listed_slot items) ≡ listed_slots (map item_seen items)
+listed_alike [] = refl
+listed_alike (item ∷ items) = ap (λ (behind : List model.Slot). record { item = item_seen item; marked = false } ∷ behind) (listed_alike items)
+
+pub listed_items : (items : List Item) → items_in (map listed_slot items) ≡ items
+listed_items [] = refl
+listed_items (item ∷ items) = ap (λ (behind : List Item). item ∷ behind) (listed_items items)
+
+-- the ids of the messages that are marked
+pub marked_are : (slots : List Slot) → ids_in (marked_items slots) ≡ marked_ids (slots_seen slots)
+marked_are [] = refl
+marked_are (slot ∷ slots) = by_mark slot.item slot.marked (marked_are slots)
+  where
+    by_mark : (item : Item) (marked : Bool) → ids_in (marked_items slots) ≡ marked_ids (slots_seen slots) →
+        ids_in (marked_items (record { item = item; marked = marked } ∷ slots)) ≡ marked_ids (slots_seen (record { item = item; marked = marked } ∷ slots))
+    by_mark item true behind = ap (λ (ids : List Id). item.id ∷ ids) behind
+    by_mark item false behind = behind
+
 -- as many messages are not marked as a filter leaves
-pub unmarked_count : (slots : List Slot) → length (filter (λ slot. not slot.marked) slots) ≡ length (unmarked slots)
+pub unmarked_count : (slots : List Slot) → length (filter (λ slot. not slot.marked) slots) ≡ length (unmarked (slots_seen slots))
 unmarked_count [] = refl
 unmarked_count (slot ∷ slots) = by_mark slot.item slot.marked (unmarked_count slots)
   where
-    by_mark : (item : Item) (marked : Bool) → length (filter (λ (slot : Slot). not slot.marked) slots) ≡ length (unmarked slots) →
-        length (filter (λ (slot : Slot). not slot.marked) (record { item = item; marked = marked } ∷ slots)) ≡ length (unmarked (record { item = item; marked = marked } ∷ slots))
+    by_mark : (item : Item) (marked : Bool) → length (filter (λ (slot : Slot). not slot.marked) slots) ≡ length (unmarked (slots_seen slots)) →
+        length (filter (λ (slot : Slot). not slot.marked) (record { item = item; marked = marked } ∷ slots)) ≡ length (unmarked (slots_seen (record { item = item; marked = marked } ∷ slots)))
     by_mark item true behind = behind
     by_mark item false behind = ap suc behind
 
 -- and their octets are those of the slots that it leaves
-pub unmarked_octets : (slots : List Slot) → sum_by (λ slot. slot.item.size) (filter (λ slot. not slot.marked) slots) ≡ sum_by (λ item. item.size) (unmarked slots)
+pub unmarked_octets : (slots : List Slot) → sum_by (λ slot. slot.item.length) (filter (λ slot. not slot.marked) slots) ≡ sum_by (λ item. item.size) (unmarked (slots_seen slots))
 unmarked_octets [] = refl
 unmarked_octets (slot ∷ slots) = by_mark slot.item slot.marked (unmarked_octets slots)
   where
-    by_mark : (item : Item) (marked : Bool) → sum_by (λ (slot : Slot). slot.item.size) (filter (λ (slot : Slot). not slot.marked) slots) ≡ sum_by (λ (item : Item). item.size) (unmarked slots) →
-        sum_by (λ (slot : Slot). slot.item.size) (filter (λ (slot : Slot). not slot.marked) (record { item = item; marked = marked } ∷ slots)) ≡ sum_by (λ (item : Item). item.size) (unmarked (record { item = item; marked = marked } ∷ slots))
+    by_mark : (item : Item) (marked : Bool) → sum_by (λ (slot : Slot). slot.item.length) (filter (λ (slot : Slot). not slot.marked) slots) ≡ sum_by (λ (item : model.Item). item.size) (unmarked (slots_seen slots)) →
+        sum_by (λ (slot : Slot). slot.item.length) (filter (λ (slot : Slot). not slot.marked) (record { item = item; marked = marked } ∷ slots)) ≡ sum_by (λ (item : model.Item). item.size) (unmarked (slots_seen (record { item = item; marked = marked } ∷ slots)))
     by_mark held true behind = behind
     by_mark held false behind =
-        sum_by-cons (λ (slot : Slot). slot.item.size) (record { item = held; marked = false }) (filter (λ (slot : Slot). not slot.marked) slots)
-        ∙ ap (λ n. held.size + n) behind
-        ∙ sym (sum_by-cons (λ (item : Item). item.size) held (unmarked slots))
+        sum_by-cons (λ (slot : Slot). slot.item.length) (record { item = held; marked = false }) (filter (λ (slot : Slot). not slot.marked) slots)
+        ∙ ap (λ n. held.length + n) behind
+        ∙ sym (sum_by-cons (λ (item : model.Item). item.size) (item_seen held) (unmarked (slots_seen slots)))

@@ -1,41 +1,166 @@
--- What a session has been told, which octets wait in it, and what hearing the next line leads to (RFC 1939, sections 3 to 7).
-use Rattle.std.specs.Prelude.{◌≡◌, ℕ, List, ◌++◌, length, Option, Some, None}
+-- Which session of the definitions a value is.
+use Rattle.std.specs.Prelude.{◌≡◌, ℕ, ◌+◌, ◌<◌, ◌≤◌, List, [], ◌∷◌, ◌++◌, length, ⊤, Option, Some, None, slice_get}
+use Rattle.std.specs.Option.{option_map}
 use Rattle.mail_model.specs.Plan.{Plan}
-use Rattle.mail_model.specs.Lines.{HasNoCrlf, sent_line}
-use Rattle.mail_model.specs.Maildrop.{Stage, Outcome, line_outcome, after_line}
-use Rattle.pop_session.specs.Shown.{stage_of, outcome_of}
-use Rattle.pop_session.specs.declared.session.Session.{Session}
-use Rattle.pop_session.specs.declared.stage.Heard.{Heard}
+use Rattle.mail_model.specs.PopReplies.{ready_text}
+use Rattle.mail_model.specs.Tape.Protocol.{Pop}
+use Rattle.session_model.specs.Calls as calls
+use Rattle.session_model.specs.Talk.{State, Exchange, entered_as}
+use Rattle.session_model.specs.Talk.Standing.{Hearing, Waiting}
+use Rattle.session_model.specs.Sessions.{Session}
+use Rattle.call_tickets.specs.Moves as moves
+use Rattle.call_tickets.specs.Moves.{Moves, IsBusy, HasEnded}
+use Rattle.call_tickets.specs.declared.step.Move.{Move}
+use Rattle.call_tickets.specs.declared.step.Move.TheVariants.{Begin, Idle}
+use Rattle.call_tickets.specs.declared.call.Call.{Call}
+use Rattle.call_tickets.specs.declared.call.Call.TheVariants as tickets
+use Rattle.call_tickets.specs.declared.answer.Answer.{Answer}
+use Rattle.call_tickets.specs.declared.answer.Answer.TheVariants as answers
+use Rattle.mail_base.specs.declared.item.Item.{Item}
+use Rattle.dot_text.specs.Shown.{Pending}
+use Rattle.pop_session.specs.declared.session.PopSession.{PopSession}
+use Rattle.pop_session.specs.declared.session.Turn.{Turn}
+use Rattle.pop_session.specs.declared.session.Turn.TheVariants.{Greets, Hears, Waits, Replies, Ended}
+use Rattle.pop_session.specs.declared.due.Asked.{Asked}
+use Rattle.pop_session.specs.declared.due.Due.{Due}
+use Rattle.pop_session.specs.declared.due.Due.TheVariants.{Entered, Shown, Said, Last}
+use Rattle.pop_session.specs.declared.stage.Login.{Login}
+use Rattle.pop_session.specs.declared.stage.Stage.{Stage}
+use Rattle.pop_session.specs.Slots.{items_in, marked_items}
+use Rattle.pop_session.specs.Shown.{state_of, login_in, listed_in, slots_in}
+use Rattle.pop_session.specs.Dues.{IsAsked, Says}
 
--- how many octets were fed that no line has taken yet
-abbrev pub waiting : Session → ℕ
-waiting session = length session.cutter.rest
+-- it waits for the answer to a call
+pub record WaitsFor (state : State) (plain : Session) : Type 0 where
+  pub call : calls.Call
+  pub standing : plain.standing ≡ Waiting state call
+  pub before : List Exchange
+  pub one : Exchange
+  pub whole : plain.whole ≡ before ++ one ∷ []
+  pub asks : one.call ≡ Some call
+  pub unanswered : one.answer ≡ None
 
--- The session has been told this, and these octets were fed to it that no line has taken yet.
-pub record Follows (session : Session) (stage : Stage) (pending : List ℕ) : Type 0 where
-  pub told : stage_of session.stage ≡ stage
+-- how the session stands, and what it has to say, by whose turn it is
+abbrev pub Stands : Turn → State → Session → moves.Due → Type 0
+Stands Greets state plain due = (due ≡ moves.Due.Greeting) × (plain.standing ≡ Hearing state)
+Stands Hears state plain due = (due ≡ moves.Due.Nothing) × (plain.standing ≡ Hearing state)
+Stands (Waits asked) state plain due = (waits : WaitsFor state plain) × (due ≡ moves.Due.Nothing) × IsAsked asked waits.call
+Stands (Replies says) state plain due = (answer : calls.Answer) × (waits : WaitsFor state plain) × (due ≡ moves.Due.Reply answer) × Says says waits.call answer
+Stands Ended state plain due = (due ≡ moves.Due.Nothing) × HasEnded plain.standing
+
+-- the user of a login
+abbrev pub user_of : Option Login → Option (List ℕ)
+user_of login = option_map (λ known. known.user) login
+
+-- The value is this session, and has this to say before it hears on.
+pub record Follows (session : PopSession) (plain : Session) (due : moves.Due) : Type 0 where
+  pub speaks : plain.protocol ≡ Pop
+  pub node : plain.node ≡ session.node
   pub limit : session.cutter.limit ≡ 1024
-  pub waits : pending ≡ session.cutter.rest
+  pub pends : Pending session.cutter plain.rest
+  pub entered : entered_as plain.whole ≡ user_of (login_in session.stage)
+  pub stands : Stands session.turn (state_of session.stage) plain due
 
--- The first line of the octets was heard and leads to this, and the session goes on behind it.
-pub record HearsFirst (plan : Plan) (stage : Stage) (pending : List ℕ) (outcome : Outcome) (new : Session) : Type 0 where
-  pub line : List ℕ
-  pub more : List ℕ
-  pub first : HasNoCrlf line
-  pub whole : pending ≡ sent_line line ++ more
-  pub leads : outcome ≡ line_outcome plan stage line
-  pub follows : Follows new (after_line stage line) more
+-- the line that it opens with
+abbrev pub greeting_of : PopSession → List ℕ
+greeting_of session = ready_text session.node session.boot session.number session.seconds
 
--- no line of the octets is whole, and the session is as it was
-pub record HearsNone (stage : Stage) (pending : List ℕ) (new : Session) : Type 0 where
-  pub none : HasNoCrlf pending
-  pub follows : Follows new stage pending
+-- what a move does, whichever session of the definitions the value is
+abbrev pub Goes : Plan → PopSession → Move → List ℕ → PopSession → Type 0
+Goes plan old move octets new = (plain : Session) (due : moves.Due) → Follows old plain due → Moves (Follows new) (greeting_of old) plan plain due move octets
 
--- what hearing leads to, where the session was told this and these octets wait; nothing, where no line is whole
-abbrev pub HearsAt : Plan → Stage → List ℕ → Option Outcome → Session → Type 0
-HearsAt plan stage pending None new = HearsNone stage pending new
-HearsAt plan stage pending (Some outcome) new = HearsFirst plan stage pending outcome new
+-- the login that it was told, from the answer on
+abbrev pub told_login : Turn → Stage → Option Login
+told_login (Replies (Entered login items)) stage = Some login
+told_login (Replies (Shown octets)) stage = login_in stage
+told_login (Replies (Said text)) stage = login_in stage
+told_login (Replies (Last text)) stage = login_in stage
+told_login Greets stage = login_in stage
+told_login Hears stage = login_in stage
+told_login (Waits asked) stage = login_in stage
+told_login Ended stage = login_in stage
 
--- the same by what the call gives
-abbrev pub Hears : Plan → Stage → List ℕ → Heard → Session → Type 0
-Hears plan stage pending heard new = HearsAt plan stage pending (outcome_of heard) new
+-- and the messages of its listing
+abbrev pub told_items : Turn → Stage → List Item
+told_items (Replies (Entered login items)) stage = items
+told_items (Replies (Shown octets)) stage = listed_in stage
+told_items (Replies (Said text)) stage = listed_in stage
+told_items (Replies (Last text)) stage = listed_in stage
+told_items Greets stage = listed_in stage
+told_items Hears stage = listed_in stage
+told_items (Waits asked) stage = listed_in stage
+told_items Ended stage = listed_in stage
+
+abbrev pub login_of : PopSession → Option Login
+login_of session = told_login session.turn session.stage
+
+abbrev pub items_of : PopSession → List Item
+items_of session = told_items session.turn session.stage
+
+-- The call that a session asks names its login and what it was listed: a fetch asks the nodes that hold one of its messages for all octets of it, and a
+-- deletion has all that are marked, each as it was listed.
+abbrev pub IsOwnCall : PopSession → Call → Type 0
+IsOwnCall session (tickets.Deliver deliver) = ⊥
+IsOwnCall session (tickets.Login user proof) = ⊤
+IsOwnCall session (tickets.Fetch user id holders from most) = (at : ℕ) × (item : Item) × (slice_get (items_of session) at ≡ Some item) × (id ≡ item.id) × (holders ≡ item.holders)
+IsOwnCall session (tickets.Strike user items) = items ≡ marked_items (slots_in session.stage)
+IsOwnCall session (tickets.Leave user login manager) = ⊥
+
+abbrev pub IsOwnMove : PopSession → Move → Type 0
+IsOwnMove session (Begin call) = IsOwnCall session call
+IsOwnMove session move = ⊤
+
+-- how much it has to say before it hears on
+abbrev pub due_count : Turn → ℕ
+due_count Greets = 1
+due_count Hears = 0
+due_count (Waits asked) = 0
+due_count (Replies says) = 1
+due_count Ended = 0
+
+-- how much is left to be done: octets that no line has taken, and what is to be said
+abbrev pub left : PopSession → ℕ
+left session = length session.cutter.rest + due_count session.turn
+
+-- how many octets of its client it holds
+abbrev pub held : PopSession → ℕ
+held session = length session.cutter.rest
+
+-- What a move did, with the octets that it said: what the definitions say; behind one after which another may come at once less is left; a session that is
+-- idle holds less than 1,024 octets of its client; it stays in as whom it was let in, with what it was listed, and asks of that alone.
+pub record Moved (plan : Plan) (old : PopSession) (move : Move) (octets : List ℕ) (new : PopSession) : Type 0 where
+  pub goes : Goes plan old move octets new
+  pub less : IsBusy move → left new < left old
+  pub bounded : (plain : Session) (due : moves.Due) → Follows old plain due → move ≡ Idle → held new < 1024
+  pub own : IsOwnMove old move
+  pub login : login_of new ≡ login_of old
+  pub items : items_of new ≡ items_of old
+
+-- the Leave of a login
+abbrev pub leave_of : Option Login → Option Call
+leave_of None = None
+leave_of (Some login) = Some (tickets.Leave login.user login.ticket login.manager)
+
+-- the call that fetches this message of the user
+abbrev pub fetch_of : List ℕ → Item → Call
+fetch_of user item = tickets.Fetch user item.id item.holders 0 18446744073709551615
+
+-- whose turn it is once a line was heard, and the move that this was
+abbrev pub Begins : Heard → Turn × Move → Type 0
+Begins (heard.Said reply) next = (next.0 ≡ Hears) × (next.1 ≡ move.Said)
+Begins (heard.Ended reply) next = (next.0 ≡ Ended) × (next.1 ≡ move.Said)
+Begins (heard.LogsIn user kept secret) next = (next.0 ≡ Waits (asked.Login kept)) × (next.1 ≡ Begin (tickets.Login user (Pass secret)))
+Begins (heard.Fetches user number item) next = (next.0 ≡ Waits asked.Message) × (next.1 ≡ Begin (fetch_of user item))
+Begins (heard.Deletes user items) next = (next.0 ≡ Waits asked.Deletion) × (next.1 ≡ Begin (tickets.Strike user items))
+
+-- it has something to say to the answer of its call
+abbrev pub HasReply : Turn → Type 0
+HasReply Greets = ⊥
+HasReply Hears = ⊥
+HasReply (Waits asked) = ⊥
+HasReply (Replies says) = ⊤
+HasReply Ended = ⊥
+
+-- the session with this listing, where its user was let in
+abbrev pub entered : Turn → Stage → List Slot → Stage
+entered (Replies (Entered login items)) stage listing = stage.Transaction login listing

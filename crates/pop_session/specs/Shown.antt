@@ -1,28 +1,74 @@
--- What a session has been told, and what it heard, as the definition of a session sees them.
-use Rattle.std.specs.Prelude.{◌≡◌, ℕ, List, Option, Some, None, Result}
+-- What a session has been told, and what a line led to, as the definition of a session sees them.
+use Rattle.std.specs.Prelude.{◌≡◌, ℕ, List, [], Option, Some, None, Result, ⊤, slice_get}
 use Rattle.mail_model.specs.Plan.{Plan}
 use Rattle.mail_model.specs.Pop.{Command, Fault}
 use Rattle.mail_model.specs.Maildrop as model
 use Rattle.mail_model.specs.Maildrop.{Outcome, line_outcome, after_line, marked_by}
-use Rattle.mail_model.specs.Maildrop.Outcome.{Answered, AsksLogin, AsksMessage, AsksDeletion}
+use Rattle.mail_model.specs.Maildrop.Outcome.{Answered, Closed, AsksLogin, AsksMessage, AsksDeletion}
+use Rattle.session_model.specs.Talk.{State}
+use Rattle.session_model.specs.Talk.State.{Entering, Reading}
+use Rattle.mail_base.specs.declared.item.Item.{Item}
+use Rattle.call_tickets.specs.Seen.{ids_in}
+use Rattle.pop_session.specs.declared.listing.Slot.{Slot}
+use Rattle.pop_session.specs.declared.stage.Login.{Login}
 use Rattle.pop_session.specs.declared.stage.Stage.{Stage}
 use Rattle.pop_session.specs.declared.stage.Stage.TheVariants.{Authorization, Transaction}
 use Rattle.pop_session.specs.declared.stage.Heard.{Heard}
-use Rattle.pop_session.specs.declared.stage.Heard.TheVariants.{Idle, Said, Closed, LogsIn, Fetches, Deletes}
+use Rattle.pop_session.specs.declared.stage.Heard.TheVariants.{Said, Ended, LogsIn, Fetches, Deletes}
+use Rattle.pop_session.specs.Slots.{slots_seen, items_in, marked_items}
 
--- what a session has been told
+-- what a session has been told, as a table of commands sees it
 abbrev pub stage_of : Stage → model.Stage
 stage_of (Authorization user) = model.Stage.Authorization user
-stage_of (Transaction listing) = model.Stage.Transaction listing
+stage_of (Transaction login listing) = model.Stage.Transaction (slots_seen listing)
 
--- nothing where no line was heard
-abbrev pub outcome_of : Heard → Option Outcome
-outcome_of Idle = None
-outcome_of (Said reply) = Some (Answered reply)
-outcome_of (Closed reply) = Some (model.Outcome.Closed reply)
-outcome_of (LogsIn user secret) = Some (AsksLogin user secret)
-outcome_of (Fetches number id) = Some (AsksMessage number id)
-outcome_of (Deletes ids) = Some (AsksDeletion ids)
+-- and as a session does
+abbrev pub state_of : Stage → State
+state_of (Authorization user) = Entering user
+state_of (Transaction login listing) = Reading login.user (slots_seen listing)
+
+-- the login, from TRANSACTION on
+abbrev pub login_in : Stage → Option Login
+login_in (Authorization user) = None
+login_in (Transaction login listing) = Some login
+
+-- the messages of its listing
+abbrev pub listed_in : Stage → List Item
+listed_in (Authorization user) = []
+listed_in (Transaction login listing) = items_in listing
+
+-- what the line leads to
+abbrev pub outcome_of : Heard → Outcome
+outcome_of (Said reply) = Answered reply
+outcome_of (Ended reply) = Closed reply
+outcome_of (LogsIn user kept secret) = AsksLogin user secret
+outcome_of (Fetches user number item) = AsksMessage number item.id
+outcome_of (Deletes user items) = AsksDeletion (ids_in items)
+
+-- the lines that are said at once
+abbrev pub reply_in : Heard → List (List ℕ)
+reply_in (Said reply) = reply
+reply_in (Ended reply) = reply
+reply_in (LogsIn user kept secret) = []
+reply_in (Fetches user number item) = []
+reply_in (Deletes user items) = []
+
+-- What is asked is of this user, and of messages as they were listed: the one that is fetched is one of them, and those that are deleted are all that are marked.
+abbrev pub IsOwn : List ℕ → List Slot → Heard → Type 0
+IsOwn name listing (Said reply) = ⊤
+IsOwn name listing (Ended reply) = ⊤
+IsOwn name listing (LogsIn user kept secret) = kept ≡ user
+IsOwn name listing (Fetches user number item) = (user ≡ name) × ((at : ℕ) × (slice_get (items_in listing) at ≡ Some item))
+IsOwn name listing (Deletes user items) = (user ≡ name) × (items ≡ marked_items listing)
+
+-- the user whom it was let in as, and its listing
+abbrev pub name_in : Stage → List ℕ
+name_in (Authorization user) = []
+name_in (Transaction login listing) = login.user
+
+abbrev pub slots_in : Stage → List Slot
+slots_in (Authorization user) = []
+slots_in (Transaction login listing) = listing
 
 -- What a session has been told once a line was heard that is not too long, by the user whom the line names and by what it says.
 abbrev pub told_by : model.Stage → Option (List ℕ) → Result Command Fault → model.Stage
@@ -36,5 +82,8 @@ told_long (model.Stage.Transaction slots) = model.Stage.Transaction slots
 
 -- the line leads to what it should, and the session has then been told what it should
 pub record HearsLine (plan : Plan) (old : Stage) (line : List ℕ) (heard : Heard) (new : Stage) : Type 0 where
-  pub outcome : outcome_of heard ≡ Some (line_outcome plan (stage_of old) line)
+  pub outcome : outcome_of heard ≡ line_outcome plan (stage_of old) line
   pub told : stage_of new ≡ after_line (stage_of old) line
+  pub own : IsOwn (name_in old) (slots_in old) heard
+  pub login : login_in new ≡ login_in old
+  pub items : listed_in new ≡ listed_in old

@@ -1,31 +1,14 @@
 // The messages of a maildrop, as they were listed at the login, and what was marked since.
-ghost use Rattle.std.specs.Prelude.{◌≡◌, ◌<◌, ◌≤◌, ◌^◌, ◌∷◌, ◌++◌, [], IfOk, OnOk, OnErr, length, sum_by, filter, not};
-ghost use Rattle.std.specs.Option.{option_copied};
-ghost use Rattle.mail_model.specs.PopReplies.{listed_slots, marked_ids};
-ghost use Rattle.mail_model.specs.Maildrop.{message_at, marked_at, with_mark};
+ghost use Rattle.std.specs.Prelude.{◌≡◌, ◌<◌, ◌≤◌, ◌^◌, ◌∷◌, ◌++◌, [], ℕ, Some, IfSome, IfOk, slice_get, length, map, sum_by};
+ghost use Rattle.std.specs.Option.{option_copied, option_map};
+ghost use Rattle.mail_model.specs.PopReplies.{unmarked};
+ghost use Rattle.mail_model.specs.Maildrop.{message_at, with_mark};
+ghost use Rattle.mail_base.specs.Items.{item_seen};
+ghost use Rattle.pop_session.specs.Slots.{slots_seen, items_in, marked_items, listed_slot, marked_at};
 
-use mail_base::{Ids, MsgId};
+use mail_base::{Item, Items};
 use std::alloc::{AllocError, Global};
 use std::marker::Model;
-
-/// One message of a listing.
-#[derive(Clone, Copy, Debug)]
-pub struct Item {
-    /// Its id, which UIDL shows (RFC 1939, section 7).
-    pub id: MsgId,
-    /// How many octets it has as it is stored, with its trace lines.
-    pub length: u64,
-}
-
-impl Model for Item {
-    ghost use Rattle.mail_model.specs.PopReplies as replies;
-
-    ghost Value = { replies.Item };
-
-    ghost view = { λ i. record { id = i.id; size = i.length } };
-
-    ghost inverse = { λ i. record { id = i.id; length = i.size } };
-}
 
 /// One place of a listing.
 #[derive(Clone, Copy, Debug)]
@@ -36,32 +19,18 @@ pub(crate) struct Slot {
     pub(crate) marked: bool,
 }
 
-impl Model for Slot {
-    ghost use Rattle.mail_model.specs.PopReplies as replies;
-
-    ghost Value = { replies.Slot };
-
-    ghost view = { λ s. record { item = s.item; marked = s.marked } };
-
-    ghost inverse = { λ s. record { item = s.item; marked = s.marked } };
-}
-
 /// The messages of a maildrop, numbered from 1 (RFC 1939, section 5). A contract sees the list of their
 /// slots, each with its message and whether that is marked.
 #[derive(Debug, Drop)]
-pub struct Listing {
+pub(crate) struct Listing {
     held: Vec<Slot>,
 }
 
 impl Model for Listing {
     ghost use Rattle.std.specs.Prelude.{List};
-    ghost use Rattle.std.specs.Coded.{coded_list};
-    ghost use Rattle.mail_model.specs.PopReplies as replies;
-    ghost use Rattle.pop_session.specs.Codes.{slot_code};
+    ghost use Rattle.pop_session.specs.declared.listing.Slot as slots;
 
-    ghost Value = { List replies.Slot };
-
-    ghost coded = { coded_list slot_code };
+    ghost Value = { List slots.Slot };
 
     ghost view = { λ l. l.held.items };
 }
@@ -77,29 +46,22 @@ fn mark_at(slots: &mut [Slot], at: usize)
 }
 
 impl Listing {
-    /// No messages. It takes no memory.
-    pub fn new(alloc: Global) -> Listing
-        ensures { result ≡ [] }
-    {
-        Listing {
-            held: Vec::new(alloc),
-        }
-    }
-
-    /// Puts a message behind the others. It is not marked.
+    /// The messages that were listed, none of which is marked.
     ///
     /// # Errors
     ///
-    /// Only want of memory; the listing is then as before.
-    pub fn push(&mut self, item: Item) -> Result<(), AllocError>
-        ensures ok { OnOk result (self.new ≡ self.old ++ listed_slots (item ∷ [])) }
-        ensures err { OnErr result (self.new ≡ self.old) }
+    /// Only want of memory.
+    pub(crate) fn listed(alloc: Global, items: &Items) -> Result<Listing, AllocError>
+        ensures { IfOk result (λ listing. listing ≡ map listed_slot items.now) }
     {
-        self.held.push(Slot {
-            item,
-            marked: false,
-        })?;
-        Ok(())
+        let mut held = Vec::new(alloc);
+        for item in items.as_slice() {
+            held.push(Slot {
+                item: *item,
+                marked: false,
+            })?;
+        }
+        Ok(Listing { held })
     }
 
     /// The slots, the first of which has the number 1.
@@ -109,17 +71,21 @@ impl Listing {
         &self.held
     }
 
-    /// The message of this number; nothing at 0, behind the last, and where it is marked.
-    pub fn message(&self, number: u32) -> Option<&Item>
-        ensures { option_copied result ≡ message_at self.now number }
+    /// The message of this number; nothing at 0, after the last, and where it is marked.
+    #[tactic(auto, using(crate::proofs::Marks::seen_at))]
+    pub(crate) fn message(&self, number: u32) -> Option<&Item>
+        ensures message { option_map item_seen (option_copied result) ≡ message_at (slots_seen self.now) number }
+        ensures own { IfSome result (λ item. (at : ℕ) × (slice_get (items_in self.now) at ≡ Some item.now)) }
     {
         let slot = self.held.get((number as usize).checked_sub(1)?)?;
         if slot.marked { None } else { Some(&slot.item) }
     }
 
     /// Marks the message of this number, where there is one (RFC 1939, section 5).
+    #[tactic(auto, using(crate::proofs::Marks::marked_alike, crate::proofs::Marks::items_stay))]
     pub(crate) fn mark(&mut self, number: u32)
-        ensures { self.new ≡ with_mark self.old number }
+        ensures marks { slots_seen self.new ≡ with_mark (slots_seen self.old) number }
+        ensures items { items_in self.new ≡ items_in self.old }
     {
         if let Some(at) = (number as usize).checked_sub(1) {
             mark_at(&mut self.held, at);
@@ -127,15 +93,17 @@ impl Listing {
     }
 
     /// How many messages are not marked.
+    #[tactic(auto, using(crate::proofs::Marks::unmarked_count))]
     pub(crate) fn count(&self) -> usize
-        ensures { result ≡ length (filter (λ slot. not slot.marked) self.now) }
+        ensures { result ≡ length (unmarked (slots_seen self.now)) }
     {
         self.held.iter().filter(|slot| !slot.marked).count()
     }
 
     /// How many octets these have together.
+    #[tactic(auto, using(crate::proofs::Marks::unmarked_octets))]
     pub(crate) fn octets(&self) -> u128
-        ensures { result ≡ sum_by (λ slot. slot.item.size) (filter (λ slot. not slot.marked) self.now) }
+        ensures { result ≡ sum_by (λ item. item.size) (unmarked (slots_seen self.now)) }
     {
         self.held
             .iter()
@@ -144,16 +112,16 @@ impl Listing {
             .sum()
     }
 
-    /// The ids of the marked messages, in the order of the listing.
-    pub(crate) fn marked_ids(&self, alloc: Global) -> Result<Ids, AllocError>
-        ensures { IfOk result (λ ids. ids ≡ marked_ids self.now) }
+    /// The marked messages, in the order of the listing.
+    pub(crate) fn marked_items(&self, alloc: Global) -> Result<Items, AllocError>
+        ensures { IfOk result (λ items. items ≡ marked_items self.now) }
     {
-        let mut ids = Ids::new(alloc);
+        let mut items = Items::new(alloc);
         for slot in &self.held {
             if slot.marked {
-                ids.push(slot.item.id)?;
+                items.push(slot.item)?;
             }
         }
-        Ok(ids)
+        Ok(items)
     }
 }

@@ -1,22 +1,22 @@
 // The replies of a session.
-ghost use Rattle.std.specs.Prelude.{◌≡◌, ℕ, List, ◌++◌, ◌∷◌, [], codes, IfOk, OnOk, OnErr};
+ghost use Rattle.std.specs.Prelude.{◌≡◌, ℕ, List, ◌++◌, ◌∷◌, [], flat_map, codes, IfOk, OnOk, OnErr};
+ghost use Rattle.mail_model.specs.Lines.{sent_line};
 ghost use Rattle.mail_model.specs.PopReplies.{one_line, ready_text, down_text, size_line, id_line, octets_text, stat_text, deleted_text, listing_reply};
-ghost use Rattle.dot_text.specs.Dots.{Dots};
-ghost use Rattle.pop_session.specs.Messages.{AreCut, ShowsMessage};
-ghost use Rattle.mail_model.specs.Maildrop as maildrop;
-ghost use Rattle.mail_model.specs.Maildrop.{answer_reply};
+ghost use Rattle.mail_base.specs.Items.{item_seen};
+ghost use Rattle.pop_session.specs.Slots.{slots_seen};
+ghost use Rattle.pop_session.specs.Messages.{ShowsPartIn};
 
+use crate::listing::Listing;
 use crate::text::{with_number, with_text};
-use crate::{Item, Listing};
-use dot_text::{LineCutter, dot_into, lines_are_all};
-use mail_base::{NodeNo, Octets};
+use dot_text::dot_into;
+use mail_base::{Item, NodeNo, Octets};
 use std::alloc::{AllocError, Global};
 use std::marker::Model;
 
-/// What a session answers (RFC 1939, section 3): one line or several, without their CRLF, each behind
+/// The reply to a command line (RFC 1939, section 3): one line or several, without their CRLF, each after
 /// the other. A contract sees the lines.
 #[derive(Debug, Drop)]
-pub struct Reply {
+pub(crate) struct Reply {
     held: Vec<Octets>,
 }
 
@@ -30,7 +30,7 @@ impl Model for Reply {
 
 // What LIST shows of a message (RFC 1939, section 5).
 fn size_line(alloc: Global, number: u64, item: &Item) -> Result<Vec<u8>, AllocError>
-    ensures { IfOk result (λ line. line.items ≡ size_line number item.now) }
+    ensures { IfOk result (λ line. line.items ≡ size_line number (item_seen item.now)) }
 {
     let line = with_number(Vec::new(alloc), alloc, u128::from(number))?;
     with_number(with_text(line, b" ")?, alloc, u128::from(item.length))
@@ -38,7 +38,7 @@ fn size_line(alloc: Global, number: u64, item: &Item) -> Result<Vec<u8>, AllocEr
 
 // What UIDL shows of a message (RFC 1939, section 7).
 fn id_line(alloc: Global, number: u64, item: &Item) -> Result<Vec<u8>, AllocError>
-    ensures { IfOk result (λ line. line.items ≡ id_line number item.now) }
+    ensures { IfOk result (λ line. line.items ≡ id_line number (item_seen item.now)) }
 {
     let line = with_number(Vec::new(alloc), alloc, u128::from(number))?;
     with_text(with_text(line, b" ")?, item.id.id_text(alloc)?.as_bytes())
@@ -50,17 +50,6 @@ fn octets_line(alloc: Global, octets: u128) -> Result<Vec<u8>, AllocError>
 {
     let line = with_number(b"+OK ".to_vec(alloc)?, alloc, octets)?;
     with_text(line, b" octets")
-}
-
-// A cutter that was fed a message as it is sent (RFC 1939, section 3).
-fn as_sent(alloc: Global, octets: &[u8]) -> Result<LineCutter, AllocError>
-    ensures { IfOk result (λ cutter. Dots octets.now cutter.rest) }
-{
-    let mut sent = Vec::new(alloc);
-    dot_into(&mut sent, octets)?;
-    let mut cutter = LineCutter::new(alloc, usize::MAX);
-    cutter.feed(&sent)?;
-    Ok(cutter)
 }
 
 impl Reply {
@@ -92,18 +81,33 @@ impl Reply {
         self.push(line.to_vec(alloc)?)
     }
 
-    /// The lines, the first of which begins with `+OK` or `-ERR`.
-    pub fn lines(&self) -> &[Octets]
-        ensures { result.now ≡ self.now }
+    // Appends the lines, each with its CRLF.
+    fn push_into(&self, out: &mut Vec<u8>) -> Result<(), AllocError>
+        ensures ok { OnOk result (out.new.items ≡ out.old.items ++ flat_map sent_line self.now) }
+        ensures err { OnErr result ((more : List ℕ) × (out.new.items ≡ out.old.items ++ more)) }
     {
-        &self.held
+        for line in &self.held {
+            out.extend_from_slice(line.as_slice())?;
+            out.extend_from_slice(b"\r\n")?;
+        }
+        Ok(())
     }
 
-    /// The lines, moved out. It takes no memory.
-    pub fn into_lines(self) -> Vec<Octets>
-        ensures { result.items ≡ self }
+    /// Appends the lines, each with its CRLF.
+    ///
+    /// # Errors
+    ///
+    /// Only want of memory; the octets are then as before.
+    pub(crate) fn lines_into(&self, out: &mut Vec<u8>) -> Result<(), AllocError>
+        ensures ok { OnOk result (out.new.items ≡ out.old.items ++ flat_map sent_line self.now) }
+        ensures err { OnErr result (out.new.items ≡ out.old.items) }
     {
-        self.held
+        let kept = out.len();
+        let done = self.push_into(out);
+        if done.is_err() {
+            out.truncate(kept);
+        }
+        done
     }
 
     /// The reply of this one line.
@@ -111,125 +115,6 @@ impl Reply {
         ensures { IfOk result (λ reply. reply ≡ one_line text.now) }
     {
         Reply::of_line(alloc, text.to_vec(alloc)?)
-    }
-
-    /// Opens a session (RFC 1939, section 4): the node and its boot, the number of the session, and the
-    /// seconds at its opening.
-    ///
-    /// # Errors
-    ///
-    /// Only want of memory.
-    pub fn ready(
-        alloc: Global,
-        node: NodeNo,
-        boot: u32,
-        session: u64,
-        seconds: u64,
-    ) -> Result<Reply, AllocError>
-        ensures { IfOk result (λ reply. reply ≡ one_line (ready_text node boot session seconds)) }
-    {
-        let number = u128::from(node.number());
-        let line = with_number(b"+OK node".to_vec(alloc)?, alloc, number)?;
-        let line = with_number(with_text(line, b" ready <")?, alloc, u128::from(boot))?;
-        let line = with_number(with_text(line, b".")?, alloc, u128::from(session))?;
-        let line = with_number(with_text(line, b".")?, alloc, u128::from(seconds))?;
-        let line = with_number(with_text(line, b"@node")?, alloc, number)?;
-        Reply::of_line(alloc, with_text(line, b">")?)
-    }
-
-    /// Before a session is ended because its node goes down.
-    ///
-    /// # Errors
-    ///
-    /// Only want of memory.
-    pub fn down(alloc: Global, node: NodeNo) -> Result<Reply, AllocError>
-        ensures { IfOk result (λ reply. reply ≡ one_line (down_text node)) }
-    {
-        let line = b"-ERR [SYS/TEMP] node".to_vec(alloc)?;
-        let line = with_number(line, alloc, u128::from(node.number()))?;
-        Reply::of_line(alloc, with_text(line, b" down")?)
-    }
-
-    /// To a login whose secret is wrong (RFC 1939, section 7).
-    ///
-    /// # Errors
-    ///
-    /// Only want of memory.
-    pub fn wrong(alloc: Global) -> Result<Reply, AllocError>
-        ensures { IfOk result (λ reply. reply ≡ answer_reply maildrop.Answer.Wrong) }
-    {
-        Reply::said(alloc, b"-ERR name or secret is wrong")
-    }
-
-    // The lines that the cutter gives, each behind the other.
-    fn push_lines(&mut self, alloc: Global, cutter: &mut LineCutter) -> Result<(), AllocError>
-        ensures { OnOk result ((lines : List (List ℕ)) × (self.new ≡ self.old ++ lines) × AreCut cutter.old.rest lines cutter.new.rest) }
-    {
-        'lines: while let Some(_) = cutter.next() {
-            self.push_copy(alloc, cutter.line())?;
-        }
-        Ok(())
-    }
-
-    /// To RETR of a message of these octets (RFC 1939, sections 3 and 5): how many they are, its lines, a
-    /// period that leads one doubled, and the line that is one period. A line is what stands before CRLF; a
-    /// lone CR or LF is an octet of it. What follows the last CRLF is a line too, where it is not empty.
-    ///
-    /// # Errors
-    ///
-    /// Only want of memory.
-    pub fn message(alloc: Global, octets: &[u8]) -> Result<Reply, AllocError>
-        ensures { IfOk result (λ reply. ShowsMessage octets.now reply) }
-    {
-        let mut reply = Reply::of_line(alloc, octets_line(alloc, octets.len() as u128)?)?;
-        let mut cutter = as_sent(alloc, octets)?;
-        reply.push_lines(alloc, &mut cutter)?;
-        lines_are_all();
-        Ok(reply)
-    }
-
-    /// To RETR of a message that was deleted since the login.
-    ///
-    /// # Errors
-    ///
-    /// Only want of memory.
-    pub fn gone(alloc: Global) -> Result<Reply, AllocError>
-        ensures { IfOk result (λ reply. reply ≡ answer_reply maildrop.Answer.GoneAlready) }
-    {
-        Reply::said(alloc, b"-ERR message was deleted")
-    }
-
-    /// To QUIT whose deletions are done (RFC 1939, section 6).
-    ///
-    /// # Errors
-    ///
-    /// Only want of memory.
-    pub fn dropped(alloc: Global) -> Result<Reply, AllocError>
-        ensures { IfOk result (λ reply. reply ≡ answer_reply maildrop.Answer.Dropped) }
-    {
-        Reply::said(alloc, b"+OK bye")
-    }
-
-    /// To QUIT, where it is not known that every marked message was deleted (RFC 1939, section 6; RFC 3206).
-    ///
-    /// # Errors
-    ///
-    /// Only want of memory.
-    pub fn remaining(alloc: Global) -> Result<Reply, AllocError>
-        ensures { IfOk result (λ reply. reply ≡ answer_reply maildrop.Answer.Remaining) }
-    {
-        Reply::said(alloc, b"-ERR [SYS/TEMP] some messages may remain")
-    }
-
-    /// To a login, or to RETR, that the node can't answer now (RFC 3206).
-    ///
-    /// # Errors
-    ///
-    /// Only want of memory.
-    pub fn later(alloc: Global) -> Result<Reply, AllocError>
-        ensures { IfOk result (λ reply. reply ≡ answer_reply maildrop.Answer.Later) }
-    {
-        Reply::said(alloc, b"-ERR [SYS/TEMP] try again later")
     }
 
     /// To DELE of the message of this number (RFC 1939, section 5).
@@ -241,9 +126,8 @@ impl Reply {
     }
 
     /// To STAT (RFC 1939, section 5).
-    #[tactic(auto, using(crate::proofs::Marks::unmarked_count, crate::proofs::Marks::unmarked_octets))]
     pub(crate) fn count(alloc: Global, listing: &Listing) -> Result<Reply, AllocError>
-        ensures { IfOk result (λ reply. reply ≡ one_line (stat_text listing.now)) }
+        ensures { IfOk result (λ reply. reply ≡ one_line (stat_text (slots_seen listing.now))) }
     {
         let line = with_number(b"+OK ".to_vec(alloc)?, alloc, listing.count() as u128)?;
         let line = with_number(with_text(line, b" ")?, alloc, listing.octets())?;
@@ -252,7 +136,7 @@ impl Reply {
 
     /// To LIST of one message (RFC 1939, section 5).
     pub(crate) fn size(alloc: Global, number: u32, item: &Item) -> Result<Reply, AllocError>
-        ensures { IfOk result (λ reply. reply ≡ one_line (codes "+OK " ++ size_line number item.now)) }
+        ensures { IfOk result (λ reply. reply ≡ one_line (codes "+OK " ++ size_line number (item_seen item.now))) }
     {
         let line = size_line(alloc, u64::from(number), item)?;
         Reply::of_line(alloc, with_text(b"+OK ".to_vec(alloc)?, &line)?)
@@ -260,7 +144,7 @@ impl Reply {
 
     /// To UIDL of one message (RFC 1939, section 7).
     pub(crate) fn id(alloc: Global, number: u32, item: &Item) -> Result<Reply, AllocError>
-        ensures { IfOk result (λ reply. reply ≡ one_line (codes "+OK " ++ id_line number item.now)) }
+        ensures { IfOk result (λ reply. reply ≡ one_line (codes "+OK " ++ id_line number (item_seen item.now))) }
     {
         let line = id_line(alloc, u64::from(number), item)?;
         Reply::of_line(alloc, with_text(b"+OK ".to_vec(alloc)?, &line)?)
@@ -268,7 +152,7 @@ impl Reply {
 
     /// To LIST of every message (RFC 1939, section 5).
     pub(crate) fn sizes(alloc: Global, listing: &Listing) -> Result<Reply, AllocError>
-        ensures { IfOk result (λ reply. reply ≡ listing_reply (codes "+OK listing") size_line listing.now) }
+        ensures { IfOk result (λ reply. reply ≡ listing_reply (codes "+OK listing") size_line (slots_seen listing.now)) }
     {
         let mut reply = Reply::said(alloc, b"+OK listing")?;
         for (at, slot) in listing.slots().iter().enumerate() {
@@ -282,7 +166,7 @@ impl Reply {
 
     /// To UIDL of every message (RFC 1939, section 7).
     pub(crate) fn ids(alloc: Global, listing: &Listing) -> Result<Reply, AllocError>
-        ensures { IfOk result (λ reply. reply ≡ listing_reply (codes "+OK unique ids") id_line listing.now) }
+        ensures { IfOk result (λ reply. reply ≡ listing_reply (codes "+OK unique ids") id_line (slots_seen listing.now)) }
     {
         let mut reply = Reply::said(alloc, b"+OK unique ids")?;
         for (at, slot) in listing.slots().iter().enumerate() {
@@ -293,4 +177,86 @@ impl Reply {
         reply.push_copy(alloc, b".")?;
         Ok(reply)
     }
+}
+
+/// Appends the line that opens a session, with its CRLF (RFC 1939, section 4): the node and its boot, the
+/// number of the session, and the seconds at its opening.
+///
+/// # Errors
+///
+/// Only want of memory; the octets are then as before.
+pub(crate) fn ready_into(
+    out: &mut Vec<u8>,
+    alloc: Global,
+    node: NodeNo,
+    boot: u32,
+    number: u64,
+    seconds: u64,
+) -> Result<(), AllocError>
+    ensures ok { OnOk result (out.new.items ≡ out.old.items ++ sent_line (ready_text node boot number seconds)) }
+    ensures err { OnErr result (out.new.items ≡ out.old.items) }
+{
+    let at = u128::from(node.number());
+    let line = with_number(b"+OK node".to_vec(alloc)?, alloc, at)?;
+    let line = with_number(with_text(line, b" ready <")?, alloc, u128::from(boot))?;
+    let line = with_number(with_text(line, b".")?, alloc, u128::from(number))?;
+    let line = with_number(with_text(line, b".")?, alloc, u128::from(seconds))?;
+    let line = with_number(with_text(line, b"@node")?, alloc, at)?;
+    line_into(out, &with_text(line, b">")?)
+}
+
+/// Appends the last line of a session whose node goes down, with its CRLF.
+///
+/// # Errors
+///
+/// Only want of memory; the octets are then as before.
+pub(crate) fn down_into(out: &mut Vec<u8>, alloc: Global, node: NodeNo) -> Result<(), AllocError>
+    ensures ok { OnOk result (out.new.items ≡ out.old.items ++ sent_line (down_text node)) }
+    ensures err { OnErr result (out.new.items ≡ out.old.items) }
+{
+    let line = b"-ERR [SYS/TEMP] node".to_vec(alloc)?;
+    let line = with_number(line, alloc, u128::from(node.number()))?;
+    line_into(out, &with_text(line, b" down")?)
+}
+
+/// Appends the line with its CRLF.
+///
+/// # Errors
+///
+/// Only want of memory; the octets are then as before.
+pub(crate) fn line_into(out: &mut Vec<u8>, line: &[u8]) -> Result<(), AllocError>
+    ensures ok { OnOk result (out.new.items ≡ out.old.items ++ sent_line line.now) }
+    ensures err { OnErr result (out.new.items ≡ out.old.items) }
+{
+    let kept = out.len();
+    out.extend_from_slice(line)?;
+    let done = out.extend_from_slice(b"\r\n");
+    if done.is_err() {
+        out.truncate(kept);
+    }
+    done
+}
+
+/// Appends the reply to RETR of a message of these octets (RFC 1939, sections 3 and 5): how many they are, its
+/// lines, a period that leads one doubled, and the line that is one period. A line is what stands before CRLF; a
+/// lone CR or LF is an octet of it. What follows the last CRLF is a line too, where it is not empty.
+///
+/// # Errors
+///
+/// Only want of memory; `out` is then as before.
+pub(crate) fn message_into(
+    out: &mut Vec<u8>,
+    alloc: Global,
+    octets: &[u8],
+) -> Result<(), AllocError>
+    ensures ok { OnOk result (ShowsPartIn octets.now out.old.items out.new.items) }
+    ensures err { OnErr result (out.new.items ≡ out.old.items) }
+{
+    let kept = out.len();
+    line_into(out, &octets_line(alloc, octets.len() as u128)?)?;
+    let done = dot_into(out, octets);
+    if done.is_err() {
+        out.truncate(kept);
+    }
+    done
 }

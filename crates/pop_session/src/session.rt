@@ -1,90 +1,300 @@
-// One session: octets as they come, and the lines of which they are.
-ghost use Rattle.std.specs.Prelude.{◌≡◌, ◌⊎◌, ◌<◌, ℕ, List, [], ◌++◌, IfOk, OnOk, OnErr};
-ghost use Rattle.mail_model.specs.PopReplies.{listed_slots};
-ghost use Rattle.mail_model.specs.PopReplies as replies;
-ghost use Rattle.mail_model.specs.Maildrop.{opening, after_answer, answer_reply};
-ghost use Rattle.mail_model.specs.Maildrop as maildrop;
-ghost use Rattle.pop_session.specs.Follows.{Follows, Hears, waiting};
+// One session: octets as they come, and what each line of them leads to.
+ghost use Rattle.std.specs.Prelude.{◌≡◌, ◌<◌, ◌≤◌, ◌+◌, ◌^◌, ◌++◌, ℕ, List, None, length, MatchBool, IfOk, OnOk, OnErr};
+ghost use Rattle.mail_model.specs.Plan.{Plan as Plans};
+ghost use Rattle.mail_model.specs.PopReplies.{ready_text};
+ghost use Rattle.mail_model.specs.Tape.Protocol.{Pop};
+ghost use Rattle.session_model.specs.Calls as calls;
+ghost use Rattle.session_model.specs.Calls.{IsReply};
+ghost use Rattle.session_model.specs.Talk.{State, IsOn, entered_as};
+ghost use Rattle.session_model.specs.Talk.Standing.{Waiting};
+ghost use Rattle.session_model.specs.Sessions.{Session};
+ghost use Rattle.session_model.specs.Acts.{opened_session};
+ghost use Rattle.call_tickets.specs.Seen.{given_answer};
+ghost use Rattle.call_tickets.specs.Moves as moves;
+ghost use Rattle.call_tickets.specs.Moves.{Fed, Fell, HasEnded};
+ghost use Rattle.pop_session.specs.Shown.{login_in};
+ghost use Rattle.pop_session.specs.Follows.{Follows, Moved, Begins, Enters, HasReply, HasLogin, Keeps, fetch_of, greeting_of, login_of, leave_of, user_of, left, held};
 
-use crate::stage::Stage;
-use crate::{Heard, Listing, Reply};
-use dot_text::LineCutter;
-use mail_base::Plan;
+use crate::due::{Asked, Due};
+use crate::listing::Listing;
+use crate::reply::{down_into, line_into, message_into, ready_into};
+use crate::stage::{Heard, Stage};
+use call_tickets::{Answer, Call, Move};
+use dot_text::{Line, LineCutter};
+use mail_base::{Item, Name, NodeNo, Plan, Proof};
 use std::alloc::{AllocError, Global};
 
 // The most octets of a line with its CRLF.
 const LIMIT: usize = 1024;
 
-/// A session: what it has been told, and the octets that it was fed and no line has given yet.
+// Whose turn it is, and what a session has to say before it hears on.
 #[derive(Debug, Drop)]
-pub struct Session {
+enum Turn {
+    // It has its greeting to say.
+    Greets,
+    // It hears its next line.
+    Hears,
+    // It waits for the answer to its call.
+    Waits(Asked),
+    // It has this to say to the answer.
+    Replies(Due),
+    // It has ended.
+    Ended,
+}
+
+/// A session: what it has been told, and the octets that it was fed and no line has taken yet.
+#[derive(Debug, Drop)]
+pub struct PopSession {
+    // whose session it is
+    node: NodeNo,
+    // what its greeting names: the boot of the node, the session's number, and the seconds at its opening
+    boot: u32,
+    number: u64,
+    seconds: u64,
+    turn: Turn,
     stage: Stage,
     cutter: LineCutter,
 }
 
-impl Session {
-    /// A session that has been told nothing and fed nothing. It takes no memory.
-    pub fn new(alloc: Global) -> Session
-        ensures { Follows result opening [] }
+// The call that fetches this message of the user.
+fn fetch(user: Name, item: Item) -> Call
+    ensures { result ≡ fetch_of user item }
+{
+    Call::Fetch {
+        user,
+        id: item.id,
+        holders: item.holders,
+        from: 0,
+        most: u64::MAX,
+    }
+}
+
+impl PopSession {
+    /// A session at that node, which has its greeting to say. The greeting names the boot of the node, the
+    /// number of the session, and the seconds at its opening (RFC 1939, section 4). It takes no memory.
+    pub fn new(alloc: Global, node: NodeNo, boot: u32, number: u64, seconds: u64) -> PopSession
+        ensures follows { Follows result (opened_session Pop node) moves.Due.Greeting }
+        ensures greets { greeting_of result ≡ ready_text node boot number seconds }
+        ensures login { login_of result ≡ None }
     {
-        Session {
+        PopSession {
+            node,
+            boot,
+            number,
+            seconds,
+            turn: Turn::Greets,
             stage: Stage::Authorization { user: None },
             cutter: LineCutter::new(alloc, LIMIT),
         }
     }
 
-    /// Takes up the next octets of the client, as many as memory holds. It hears none of them: `next` does.
+    /// Takes up the next octets of the client, however they are cut. Nothing is heard before `next`, but of a
+    /// line that is too long no more than a CR is kept.
     ///
     /// # Errors
     ///
     /// Only want of memory; the session is then as before.
     pub fn feed(&mut self, piece: &[u8]) -> Result<(), AllocError>
-        ensures ok { OnOk result ((stage : maildrop.Stage) (pending : List ℕ) → Follows self.old stage pending → Follows self.new stage (pending ++ piece.now)) }
+        ensures ok { OnOk result ((plain : Session) (due : moves.Due) → Follows self.old plain due → Fed (Follows self.new) plain due piece.now) }
+        ensures stays { Keeps self.old self.new }
+        ensures held { OnOk result (held self.new ≤ held self.old + length piece.now) }
+        ensures left { OnOk result (left self.new ≤ left self.old + length piece.now) }
         ensures err { OnErr result (self.new ≡ self.old) }
     {
-        self.cutter.feed(piece)
+        self.cutter.feed(piece)?;
+        self.cutter.find();
+        Ok(())
     }
 
-    /// Hears the next line of what was fed, where one is whole: what stands before the next CRLF.
-    ///
-    /// What it leads to is what the definition of a session says, and afterwards the session has been
-    /// told what the line tells (RFC 1939, sections 3 to 7). `Heard::Idle` comes exactly where no line is
-    /// whole, and changes nothing; behind any other answer fewer octets wait.
+    /// Makes the session's next move. It says its greeting, or the reply to the answer of its call, or hears the
+    /// next line of what was fed, if one is whole. What that leads to is what the definition of a session says
+    /// (RFC 1939, sections 3 to 7): octets that are appended to `out`, or a call. Where it waits, is idle or has
+    /// ended, it does nothing. What it holds of its client while it is idle is bounded.
     ///
     /// # Errors
     ///
-    /// Only want of memory; the line may then be heard again, also behind a `feed`.
-    pub fn next(&mut self, alloc: Global, plan: &Plan) -> Result<Heard, AllocError>
-        ensures ok { IfOk result (λ heard. (stage : maildrop.Stage) (pending : List ℕ) → Follows self.old stage pending → Hears plan.now stage pending heard self.new) }
-        ensures less { IfOk result (λ heard. (heard ≡ Heard.Idle) ⊎ (waiting self.new < waiting self.old)) }
-        ensures err { OnErr result ((stage : maildrop.Stage) (pending : List ℕ) → Follows self.old stage pending → Follows self.new stage pending) }
+    /// Only want of memory; the session and `out` are then as before.
+    pub fn next(&mut self, alloc: Global, plan: &Plan, out: &mut Vec<u8>) -> Result<Move, AllocError>
+        ensures ok { IfOk result (λ did. (octets : List ℕ) × (out.new.items ≡ out.old.items ++ octets) × Moved plan.now self.old did octets self.new) }
+        ensures err { OnErr result ((self.new ≡ self.old) × (out.new.items ≡ out.old.items)) }
     {
-        let Some(kind) = self.cutter.next() else {
-            return Ok(Heard::Idle);
-        };
-        match self.stage.hear(alloc, plan, kind, self.cutter.line()) {
-            Ok(heard) => Ok(heard),
-            Err(error) => {
-                self.cutter.put_back();
-                Err(error)
+        match &self.turn {
+            Turn::Greets => self.greet(alloc, out),
+            Turn::Hears => self.hear(alloc, plan, out),
+            Turn::Waits(_) => Ok(Move::Wait),
+            Turn::Replies(_) => self.reply(alloc, out),
+            Turn::Ended => Ok(Move::End),
+        }
+    }
+
+    // Says its greeting.
+    fn greet(&mut self, alloc: Global, out: &mut Vec<u8>) -> Result<Move, AllocError>
+        requires { self.old.turn ≡ Turn.Greets }
+        ensures ok { IfOk result (λ did. (octets : List ℕ) × (out.new.items ≡ out.old.items ++ octets) × ((plan : Plans) → Moved plan self.old did octets self.new)) }
+        ensures err { OnErr result ((self.new ≡ self.old) × (out.new.items ≡ out.old.items)) }
+    {
+        ready_into(
+            out,
+            alloc,
+            self.node,
+            self.boot,
+            self.number,
+            self.seconds,
+        )?;
+        self.turn = Turn::Hears;
+        Ok(Move::Said)
+    }
+
+    // Hears the next line, if one is whole.
+    fn hear(&mut self, alloc: Global, plan: &Plan, out: &mut Vec<u8>) -> Result<Move, AllocError>
+        requires { self.old.turn ≡ Turn.Hears }
+        ensures ok { IfOk result (λ did. (octets : List ℕ) × (out.new.items ≡ out.old.items ++ octets) × Moved plan.now self.old did octets self.new) }
+        ensures err { OnErr result ((self.new ≡ self.old) × (out.new.items ≡ out.old.items)) }
+    {
+        match self.cutter.find() {
+            None => Ok(Move::Idle),
+            Some(Line::Long(length)) => {
+                self.stage.hear_long(out)?;
+                self.cutter.take(Line::Long(length));
+                Ok(Move::Said)
+            }
+            Some(Line::Whole(length)) => {
+                let line = &self.cutter.rest()[..length];
+                let heard = self.stage.hear(alloc, plan, line, out)?;
+                self.cutter.take(Line::Whole(length));
+                let (turn, did) = begun(heard);
+                self.turn = turn;
+                Ok(did)
             }
         }
     }
 
-    /// The node answered to a login with the listing: TRANSACTION begins, and nothing is marked (RFC 1939,
-    /// section 5). What was fed and not heard stays.
+    // Says what it has to say to the answer of its call.
+    fn reply(&mut self, alloc: Global, out: &mut Vec<u8>) -> Result<Move, AllocError>
+        requires { HasReply self.old.turn }
+        ensures ok { IfOk result (λ did. (octets : List ℕ) × (out.new.items ≡ out.old.items ++ octets) × ((plan : Plans) → Moved plan self.old did octets self.new)) }
+        ensures err { OnErr result ((self.new ≡ self.old) × (out.new.items ≡ out.old.items)) }
+    {
+        match &self.turn {
+            Turn::Replies(Due::Shown(octets)) => {
+                message_into(out, alloc, octets.as_slice())?;
+                self.turn = Turn::Hears;
+            }
+            Turn::Replies(Due::Said(text)) => {
+                text.line_into(out)?;
+                self.turn = Turn::Hears;
+            }
+            Turn::Replies(Due::Last(text)) => {
+                text.line_into(out)?;
+                self.turn = Turn::Ended;
+            }
+            Turn::Replies(Due::Entered { items, .. }) => {
+                let listing = Listing::listed(alloc, items)?;
+                line_into(out, b"+OK maildrop open")?;
+                self.enter(listing);
+            }
+            Turn::Greets => {}
+            Turn::Hears => {}
+            Turn::Waits(_) => {}
+            Turn::Ended => {}
+        }
+        Ok(Move::Said)
+    }
+
+    // TRANSACTION begins with this listing, where its user is let in (RFC 1939, section 5).
+    fn enter(&mut self, listing: Listing)
+        ensures { Enters self.old listing self.new }
+    {
+        if let Turn::Replies(Due::Entered { login, .. }) = std::mem::replace(&mut self.turn, Turn::Hears)
+        {
+            self.stage = Stage::Transaction { login, listing };
+        }
+    }
+
+    /// Takes the answer to its call; `None` is a call that was given up. The next `next` says the reply to it.
+    /// A session that waits for no answer takes none. It takes no memory: the octets of a message and the
+    /// messages of a listing are moved.
+    pub fn answer(&mut self, answer: Option<Answer>)
+        ensures replies { (plain : Session) (state : State) (call : calls.Call) (reply : List (List ℕ)) → Follows self.old plain moves.Due.Nothing → plain.standing ≡ Waiting state call
+            → IsReply call (given_answer answer) reply → Follows self.new plain (moves.Due.Reply (given_answer answer)) }
+        ensures login { HasLogin answer self.old self.new }
+        ensures left { left self.new ≤ left self.old + 1 }
+    {
+        match std::mem::replace(&mut self.turn, Turn::Ended) {
+            Turn::Waits(asked) => self.turn = Turn::Replies(asked.due(answer)),
+            other => self.turn = other,
+        }
+    }
+
+    /// The node goes down: appends the last line of the session, which has then ended. What it had to say and
+    /// what it waited for is given up.
     ///
     /// # Errors
     ///
-    /// Only want of memory; the session is then as before.
-    pub fn listed(&mut self, alloc: Global, listing: Listing) -> Result<Reply, AllocError>
-        ensures reply { IfOk result (λ reply. (items : List replies.Item) → reply ≡ answer_reply (maildrop.Answer.Listed items)) }
-        ensures ok { OnOk result ((items : List replies.Item) (stage : maildrop.Stage) (pending : List ℕ) → listing ≡ listed_slots items → Follows self.old stage pending → Follows self.new (after_answer stage (maildrop.Answer.Listed items)) pending) }
-        ensures waits { waiting self.new ≡ waiting self.old }
-        ensures err { OnErr result (self.new ≡ self.old) }
+    /// Only want of memory; the session and `out` are then as before.
+    pub fn node_down(&mut self, alloc: Global, out: &mut Vec<u8>) -> Result<(), AllocError>
+        ensures ok { OnOk result ((octets : List ℕ) × (out.new.items ≡ out.old.items ++ octets)
+            × ((plain : Session) (due : moves.Due) → Follows self.old plain due → IsOn plain.standing → Fell (Follows self.new) plain octets)) }
+        ensures err { OnErr result ((self.new ≡ self.old) × (out.new.items ≡ out.old.items)) }
     {
-        let reply = Reply::said(alloc, b"+OK maildrop open")?;
-        self.stage = Stage::Transaction { listing };
-        Ok(reply)
+        down_into(out, alloc, self.node)?;
+        self.turn = Turn::Ended;
+        Ok(())
+    }
+
+    /// The Leave of a session that has ended or is closed; nothing exactly where TRANSACTION never began. Its
+    /// caller begins it once the session's last octets were written, and not where its node went down. It takes
+    /// no memory.
+    pub fn leave(self) -> Option<Call>
+        ensures leaves { result ≡ leave_of (login_in self.stage) }
+        ensures user { (plain : Session) (due : moves.Due) → Follows self plain due → user_of (login_in self.stage) ≡ entered_as plain.whole }
+    {
+        match self.stage {
+            Stage::Authorization { .. } => None,
+            Stage::Transaction { login, .. } => Some(Call::Leave {
+                user: login.user,
+                login: login.ticket,
+                manager: login.manager,
+            }),
+        }
+    }
+
+    /// Whether it has ended: its next move is `Move::End`.
+    pub fn has_ended(&self) -> bool
+        ensures { (plain : Session) (due : moves.Due) → Follows self.now plain due → MatchBool result (HasEnded plain.standing) (IsOn plain.standing) }
+    {
+        matches!(self.turn, Turn::Ended)
+    }
+
+    /// How many octets of its client it holds.
+    pub fn held(&self) -> usize
+        ensures { result ≡ held self.now }
+    {
+        self.cutter.rest().len()
+    }
+}
+
+// Whose turn it is once a line was heard, and the move that this was.
+fn begun(heard: Heard) -> (Turn, Move)
+    ensures { Begins heard result }
+{
+    match heard {
+        Heard::Said(_) => (Turn::Hears, Move::Said),
+        Heard::Ended(_) => (Turn::Ended, Move::Said),
+        Heard::LogsIn { user, kept, secret } => (
+            Turn::Waits(Asked::Login(kept)),
+            Move::Begin(Call::Login {
+                user,
+                proof: Proof::Pass(secret),
+            }),
+        ),
+        Heard::Fetches { user, item, .. } => (
+            Turn::Waits(Asked::Message),
+            Move::Begin(fetch(user, item)),
+        ),
+        Heard::Deletes { user, items } => (
+            Turn::Waits(Asked::Deletion),
+            Move::Begin(Call::Strike { user, items }),
+        ),
     }
 }

@@ -1,17 +1,29 @@
 // What a line leads to, by what its session has been told.
-ghost use Rattle.std.specs.Prelude.{◌≡◌, length, false, Some, IfOk, OnErr};
+ghost use Rattle.std.specs.Prelude.{◌≡◌, ◌++◌, List, ℕ, flat_map, codes, false, IfOk, OnOk, OnErr};
 ghost use Rattle.mail_model.specs.Lines.{sent_line};
 ghost use Rattle.mail_model.specs.Session.{is_long_line};
 ghost use Rattle.mail_model.specs.Maildrop.{said, bad_order, farewell, no_such_message, retr_outcome, dele_outcome, quit_outcome, pass_outcome, before_login, behind_login, list_outcome, uidl_outcome, command_outcome, named_by, marked_by};
 ghost use Rattle.pop_wire.specs.Seen.{seen, command_seen, IsWithinLimits};
-ghost use Rattle.dot_text.specs.Shown.{IsKind};
-ghost use Rattle.pop_session.specs.Shown.{stage_of, outcome_of, told_by, told_long, HearsLine};
+ghost use Rattle.pop_session.specs.declared.listing.Slot.{Slot as Slots};
+ghost use Rattle.pop_session.specs.Slots.{slots_seen, items_in};
+ghost use Rattle.pop_session.specs.Shown.{stage_of, outcome_of, reply_in, told_by, told_long, login_in, listed_in, name_in, slots_in, IsOwn, HearsLine};
 
-use crate::{Listing, Reply};
-use dot_text::Line;
-use mail_base::{Ids, MsgId, Name, Octets, Plan};
+use crate::listing::Listing;
+use crate::reply::Reply;
+use mail_base::{Item, Items, Name, NodeNo, Octets, Plan, Ticket};
 use pop_wire::{PopCommand, PopFault, read_command};
 use std::alloc::{AllocError, Global};
+
+/// By what a session was let in.
+#[derive(Debug, Drop)]
+pub(crate) struct Login {
+    /// Whose maildrop it reads.
+    pub(crate) user: Name,
+    /// By which the login is known.
+    pub(crate) ticket: Ticket,
+    /// The node that manages it.
+    pub(crate) manager: NodeNo,
+}
 
 /// What a session has been told.
 #[derive(Debug, Drop)]
@@ -19,48 +31,56 @@ pub(crate) enum Stage {
     /// Before the login (RFC 1939, section 4): the user whom a good USER named, where its line was the
     /// last.
     Authorization { user: Option<Name> },
-    /// Behind the login (RFC 1939, section 5): the messages of the maildrop, and which of them are marked.
-    Transaction { listing: Listing },
+    /// After it (RFC 1939, section 5): the login, and the messages of the maildrop, with which of them are
+    /// marked.
+    Transaction { login: Login, listing: Listing },
 }
 
-/// What a session heard, and what that leads to.
+/// What a line leads to.
 #[derive(Debug, Drop)]
-pub enum Heard {
-    /// No line is whole, and there is nothing to answer.
-    Idle,
-    /// The line is answered.
+pub(crate) enum Heard {
+    /// Its reply.
     Said(Reply),
-    /// The line is answered, and the session ends.
-    Closed(Reply),
-    /// The node is asked whether this is the user's secret: `listed`, `Reply::wrong` or `Reply::later` comes
-    /// next.
-    LogsIn { user: Name, secret: Octets },
-    /// The node is asked for this message: `Reply::message`, `Reply::gone` or `Reply::later` comes next.
-    Fetches { number: u32, id: MsgId },
-    /// The node is asked to delete these messages, of which there is one at least, in the order of the
-    /// listing. `Reply::dropped` comes next, or `Reply::remaining`, and the session ends.
-    Deletes { ids: Ids },
+    /// Its reply, which ends the session.
+    Ended(Reply),
+    /// The node is asked whether this is the user's secret.
+    LogsIn {
+        /// The user.
+        user: Name,
+        /// The same name, which the session keeps until the answer.
+        kept: Name,
+        /// The octets that were given as the secret.
+        secret: Octets,
+    },
+    /// The node is asked for this message of the user, of this number.
+    Fetches { user: Name, number: u32, item: Item },
+    /// The node is asked to delete these messages of the user, of which there is one at least, in the order of
+    /// the listing.
+    Deletes { user: Name, items: Items },
 }
 
 // A reply of one line.
 fn said(alloc: Global, text: &[u8]) -> Result<Heard, AllocError>
-    ensures { IfOk result (λ heard. outcome_of heard ≡ Some (said text.now)) }
+    ensures outcome { IfOk result (λ heard. outcome_of heard ≡ said text.now) }
+    ensures own { (name : List ℕ) (slots : List Slots) → IfOk result (λ heard. IsOwn name slots heard) }
 {
     Ok(Heard::Said(Reply::said(alloc, text)?))
 }
 
 // The command is none that may come now.
 fn bad_order(alloc: Global) -> Result<Heard, AllocError>
-    ensures { IfOk result (λ heard. outcome_of heard ≡ Some bad_order) }
+    ensures outcome { IfOk result (λ heard. outcome_of heard ≡ bad_order) }
+    ensures own { (name : List ℕ) (slots : List Slots) → IfOk result (λ heard. IsOwn name slots heard) }
 {
     said(alloc, b"-ERR bad order")
 }
 
 // To QUIT with nothing to delete (RFC 1939, sections 4 and 6).
 fn farewell(alloc: Global) -> Result<Heard, AllocError>
-    ensures { IfOk result (λ heard. outcome_of heard ≡ Some farewell) }
+    ensures outcome { IfOk result (λ heard. outcome_of heard ≡ farewell) }
+    ensures own { (name : List ℕ) (slots : List Slots) → IfOk result (λ heard. IsOwn name slots heard) }
 {
-    Ok(Heard::Closed(Reply::said(alloc, b"+OK bye")?))
+    Ok(Heard::Ended(Reply::said(alloc, b"+OK bye")?))
 }
 
 // PASS (RFC 1939, section 7).
@@ -70,16 +90,18 @@ fn log_in(
     plan: &Plan,
     secret: &[u8],
 ) -> Result<Heard, AllocError>
-    ensures { IfOk result (λ heard. outcome_of heard ≡ Some (pass_outcome plan.now user.now secret.now)) }
+    ensures outcome { IfOk result (λ heard. outcome_of heard ≡ pass_outcome plan.now user.now secret.now) }
+    ensures own { (name : List ℕ) (slots : List Slots) → IfOk result (λ heard. IsOwn name slots heard) }
 {
     let Some(user) = user else {
         return bad_order(alloc);
     };
     if !plan.users.has(user) {
-        return Ok(Heard::Said(Reply::wrong(alloc)?));
+        return said(alloc, b"-ERR name or secret is wrong");
     }
     Ok(Heard::LogsIn {
         user: user.copy()?,
+        kept: user.copy()?,
         secret: Octets::from_vec(secret.to_vec(alloc)?),
     })
 }
@@ -91,7 +113,8 @@ fn authorize(
     plan: &Plan,
     command: &PopCommand<'_>,
 ) -> Result<Heard, AllocError>
-    ensures { IfOk result (λ heard. outcome_of heard ≡ Some (before_login plan.now user.now (command_seen command.now))) }
+    ensures outcome { IfOk result (λ heard. outcome_of heard ≡ before_login plan.now user.now (command_seen command.now)) }
+    ensures own { (name : List ℕ) (slots : List Slots) → IfOk result (λ heard. IsOwn name slots heard) }
 {
     match command {
         PopCommand::User { .. } => said(alloc, b"+OK send PASS"),
@@ -107,14 +130,16 @@ fn authorize(
 
 // There is no message of the number that was asked for.
 fn no_such_message(alloc: Global) -> Result<Heard, AllocError>
-    ensures { IfOk result (λ heard. outcome_of heard ≡ Some no_such_message) }
+    ensures outcome { IfOk result (λ heard. outcome_of heard ≡ no_such_message) }
+    ensures own { (name : List ℕ) (slots : List Slots) → IfOk result (λ heard. IsOwn name slots heard) }
 {
     said(alloc, b"-ERR no such message")
 }
 
 // LIST (RFC 1939, section 5).
 fn list(listing: &Listing, alloc: Global, number: Option<u32>) -> Result<Heard, AllocError>
-    ensures { IfOk result (λ heard. outcome_of heard ≡ Some (list_outcome listing.now number)) }
+    ensures outcome { IfOk result (λ heard. outcome_of heard ≡ list_outcome (slots_seen listing.now) number) }
+    ensures own { (name : List ℕ) (slots : List Slots) → IfOk result (λ heard. IsOwn name slots heard) }
 {
     let Some(number) = number else {
         return Ok(Heard::Said(Reply::sizes(alloc, listing)?));
@@ -127,7 +152,8 @@ fn list(listing: &Listing, alloc: Global, number: Option<u32>) -> Result<Heard, 
 
 // UIDL (RFC 1939, section 7).
 fn uidl(listing: &Listing, alloc: Global, number: Option<u32>) -> Result<Heard, AllocError>
-    ensures { IfOk result (λ heard. outcome_of heard ≡ Some (uidl_outcome listing.now number)) }
+    ensures outcome { IfOk result (λ heard. outcome_of heard ≡ uidl_outcome (slots_seen listing.now) number) }
+    ensures own { (name : List ℕ) (slots : List Slots) → IfOk result (λ heard. IsOwn name slots heard) }
 {
     let Some(number) = number else {
         return Ok(Heard::Said(Reply::ids(alloc, listing)?));
@@ -139,21 +165,24 @@ fn uidl(listing: &Listing, alloc: Global, number: Option<u32>) -> Result<Heard, 
 }
 
 // RETR (RFC 1939, section 5).
-fn retr(listing: &Listing, alloc: Global, number: u32) -> Result<Heard, AllocError>
-    ensures { IfOk result (λ heard. outcome_of heard ≡ Some (retr_outcome listing.now number)) }
+fn retr(user: &Name, listing: &Listing, alloc: Global, number: u32) -> Result<Heard, AllocError>
+    ensures outcome { IfOk result (λ heard. outcome_of heard ≡ retr_outcome (slots_seen listing.now) number) }
+    ensures own { IfOk result (λ heard. IsOwn user.now listing.now heard) }
 {
     match listing.message(number) {
         None => no_such_message(alloc),
         Some(item) => Ok(Heard::Fetches {
+            user: user.copy()?,
             number,
-            id: item.id,
+            item: *item,
         }),
     }
 }
 
 // DELE (RFC 1939, section 5). The mark itself comes once this reply stands.
 fn dele(listing: &Listing, alloc: Global, number: u32) -> Result<Heard, AllocError>
-    ensures { IfOk result (λ heard. outcome_of heard ≡ Some (dele_outcome listing.now number)) }
+    ensures outcome { IfOk result (λ heard. outcome_of heard ≡ dele_outcome (slots_seen listing.now) number) }
+    ensures own { (name : List ℕ) (slots : List Slots) → IfOk result (λ heard. IsOwn name slots heard) }
 {
     match listing.message(number) {
         None => no_such_message(alloc),
@@ -162,19 +191,29 @@ fn dele(listing: &Listing, alloc: Global, number: u32) -> Result<Heard, AllocErr
 }
 
 // QUIT behind the login (RFC 1939, section 6).
-fn quit(listing: &Listing, alloc: Global) -> Result<Heard, AllocError>
-    ensures { IfOk result (λ heard. outcome_of heard ≡ Some (quit_outcome listing.now)) }
+fn quit(user: &Name, listing: &Listing, alloc: Global) -> Result<Heard, AllocError>
+    ensures outcome { IfOk result (λ heard. outcome_of heard ≡ quit_outcome (slots_seen listing.now)) }
+    ensures own { IfOk result (λ heard. IsOwn user.now listing.now heard) }
 {
-    let ids = listing.marked_ids(alloc)?;
-    if ids.is_empty() {
+    let items = listing.marked_items(alloc)?;
+    if items.is_empty() {
         return farewell(alloc);
     }
-    Ok(Heard::Deletes { ids })
+    Ok(Heard::Deletes {
+        user: user.copy()?,
+        items,
+    })
 }
 
-// A command behind the login.
-fn transact(listing: &Listing, alloc: Global, command: &PopCommand<'_>) -> Result<Heard, AllocError>
-    ensures { IfOk result (λ heard. outcome_of heard ≡ Some (behind_login listing.now (command_seen command.now))) }
+// A command after the login.
+fn transact(
+    user: &Name,
+    listing: &Listing,
+    alloc: Global,
+    command: &PopCommand<'_>,
+) -> Result<Heard, AllocError>
+    ensures outcome { IfOk result (λ heard. outcome_of heard ≡ behind_login (slots_seen listing.now) (command_seen command.now)) }
+    ensures own { IfOk result (λ heard. IsOwn user.now listing.now heard) }
 {
     match command {
         PopCommand::User { .. } => bad_order(alloc),
@@ -182,9 +221,9 @@ fn transact(listing: &Listing, alloc: Global, command: &PopCommand<'_>) -> Resul
         PopCommand::Stat => Ok(Heard::Said(Reply::count(alloc, listing)?)),
         PopCommand::List { number } => list(listing, alloc, *number),
         PopCommand::Uidl { number } => uidl(listing, alloc, *number),
-        PopCommand::Retr { number } => retr(listing, alloc, *number),
+        PopCommand::Retr { number } => retr(user, listing, alloc, *number),
         PopCommand::Dele { number } => dele(listing, alloc, *number),
-        PopCommand::Quit => quit(listing, alloc),
+        PopCommand::Quit => quit(user, listing, alloc),
     }
 }
 
@@ -195,7 +234,8 @@ fn obey(
     plan: &Plan,
     command: &Result<PopCommand<'_>, PopFault>,
 ) -> Result<Heard, AllocError>
-    ensures { IfOk result (λ heard. outcome_of heard ≡ Some (command_outcome plan.now (stage_of stage.now) (seen command.now))) }
+    ensures outcome { IfOk result (λ heard. outcome_of heard ≡ command_outcome plan.now (stage_of stage.now) (seen command.now)) }
+    ensures own { IfOk result (λ heard. IsOwn (name_in stage.now) (slots_in stage.now) heard) }
 {
     match command {
         Err(PopFault::UnknownVerb) => said(alloc, b"-ERR unknown command"),
@@ -203,7 +243,7 @@ fn obey(
         Err(PopFault::BadNumber) => said(alloc, b"-ERR bad argument"),
         Ok(command) => match stage {
             Stage::Authorization { user } => authorize(user, alloc, plan, command),
-            Stage::Transaction { listing } => transact(listing, alloc, command),
+            Stage::Transaction { login, listing } => transact(&login.user, listing, alloc, command),
         },
     }
 }
@@ -224,7 +264,8 @@ fn named_by(
 
 // DELE marks its message.
 fn mark_by(listing: &mut Listing, command: &Result<PopCommand<'_>, PopFault>)
-    ensures { listing.new ≡ marked_by listing.old (seen command.now) }
+    ensures marks { slots_seen listing.new ≡ marked_by (slots_seen listing.old) (seen command.now) }
+    ensures items { items_in listing.new ≡ items_in listing.old }
 {
     if let Ok(PopCommand::Dele { number }) = command {
         listing.mark(*number);
@@ -235,17 +276,21 @@ impl Stage {
     // The command was obeyed: before the login this user comes in place of the one before, and behind it
     // DELE marks.
     fn tell(&mut self, named: Option<Name>, command: &Result<PopCommand<'_>, PopFault>)
-        ensures { stage_of self.new ≡ told_by (stage_of self.old) named (seen command.now) }
+        ensures told { stage_of self.new ≡ told_by (stage_of self.old) named (seen command.now) }
+        ensures login { login_in self.new ≡ login_in self.old }
+        ensures items { listed_in self.new ≡ listed_in self.old }
     {
         match self {
             Stage::Authorization { user } => *user = named,
-            Stage::Transaction { listing } => mark_by(listing, command),
+            Stage::Transaction { listing, .. } => mark_by(listing, command),
         }
     }
 
     // A line that is too long names nobody.
     fn tell_long(&mut self)
-        ensures { stage_of self.new ≡ told_long (stage_of self.old) }
+        ensures told { stage_of self.new ≡ told_long (stage_of self.old) }
+        ensures login { login_in self.new ≡ login_in self.old }
+        ensures items { listed_in self.new ≡ listed_in self.old }
     {
         match self {
             Stage::Authorization { user } => *user = None,
@@ -253,36 +298,53 @@ impl Stage {
         }
     }
 
-    // Hears a command line that is not too long.
-    fn hear_command(&mut self, alloc: Global, plan: &Plan, line: &[u8]) -> Result<Heard, AllocError>
-        ensures ok { is_long_line line.now ≡ false → IfOk result (λ heard. HearsLine plan.now self.old line.now heard self.new) }
-        ensures err { OnErr result (self.new ≡ self.old) }
-    {
-        let command = read_command(line);
-        let heard = obey(self, alloc, plan, &command)?;
-        let user = named_by(alloc, &command)?;
-        self.tell(user, &command);
-        Ok(heard)
-    }
-
-    /// Hears a line, given without its CRLF, of which the cutter said whether it is too long.
+    /// Hears a command line that is not too long, given without its CRLF, and appends its reply, where it has
+    /// one.
     pub(crate) fn hear(
         &mut self,
         alloc: Global,
         plan: &Plan,
-        kind: Line,
         line: &[u8],
+        out: &mut Vec<u8>,
     ) -> Result<Heard, AllocError>
-        ensures ok { IsKind kind 1024 (length (sent_line line.now)) → IfOk result (λ heard. HearsLine plan.now self.old line.now heard self.new) }
-        ensures err { OnErr result (self.new ≡ self.old) }
+        ensures ok { is_long_line line.now ≡ false → IfOk result (λ heard. HearsLine plan.now self.old line.now heard self.new) }
+        ensures said { IfOk result (λ heard. out.new.items ≡ out.old.items ++ flat_map sent_line (reply_in heard)) }
+        ensures err { OnErr result ((self.new ≡ self.old) × (out.new.items ≡ out.old.items)) }
     {
-        match kind {
-            Line::Long => {
-                let heard = said(alloc, b"-ERR line too long")?;
-                self.tell_long();
-                Ok(heard)
-            }
-            Line::Whole => self.hear_command(alloc, plan, line),
+        let command = read_command(line);
+        let heard = obey(self, alloc, plan, &command)?;
+        let user = named_by(alloc, &command)?;
+        heard.reply_into(out)?;
+        self.tell(user, &command);
+        Ok(heard)
+    }
+
+    /// Hears a line that is too long, and appends its reply.
+    pub(crate) fn hear_long(&mut self, out: &mut Vec<u8>) -> Result<(), AllocError>
+        ensures ok { OnOk result (stage_of self.new ≡ told_long (stage_of self.old)) }
+        ensures login { login_in self.new ≡ login_in self.old }
+        ensures items { listed_in self.new ≡ listed_in self.old }
+        ensures said { OnOk result (out.new.items ≡ out.old.items ++ sent_line (codes "-ERR line too long")) }
+        ensures err { OnErr result ((self.new ≡ self.old) × (out.new.items ≡ out.old.items)) }
+    {
+        out.extend_from_slice(b"-ERR line too long\r\n")?;
+        self.tell_long();
+        Ok(())
+    }
+}
+
+impl Heard {
+    // Appends the lines of its reply, where it has one.
+    fn reply_into(&self, out: &mut Vec<u8>) -> Result<(), AllocError>
+        ensures ok { OnOk result (out.new.items ≡ out.old.items ++ flat_map sent_line (reply_in self.now)) }
+        ensures err { OnErr result (out.new.items ≡ out.old.items) }
+    {
+        match self {
+            Heard::Said(reply) => reply.lines_into(out),
+            Heard::Ended(reply) => reply.lines_into(out),
+            Heard::LogsIn { .. } => Ok(()),
+            Heard::Fetches { .. } => Ok(()),
+            Heard::Deletes { .. } => Ok(()),
         }
     }
 }

@@ -3,3 +3,5 @@ mod Closes
 mod Mails
 mod Lines
 mod Units
+mod Moving
+mod Texts

@@ -1,5 +1,6 @@
 -- No line of a reply has a CRLF in it.
-use Rattle.std.proofs.Common.{◌≡◌, ◌≢◌, ◌+◌, ◌<◌, ℕ, Bool, true, List, [], ◌∷◌, ◌++◌, length, refl, arith}
+use Rattle.std.proofs.Common.{◌≡◌, ◌+◌, ℕ, true, not, nat_eq, List, [], ◌∷◌, ◌++◌, refl}
+use Rattle.std.specs.List.{list_all}
 use Rattle.std.specs.Prelude.{codes, All}
 use Rattle.std.specs.Fmt.{decimal}
 use Rattle.std.proofs.lemmas.List.Elements.{All-cons, All-nil, All-append, All-get_or}
@@ -13,28 +14,34 @@ use Rattle.smtp_session.specs.Replies.{text_of}
 none_of : (line : List ℕ) → HasNoLf line → HasNoCrlf line
 none_of line none k within cr = All-get_or IsNoLf line (k + 1) 0 within none
 
--- a text with the number of a node in it
-named : (node : ℕ) (before behind : List ℕ) → HasNoLf before → HasNoLf behind → HasNoCrlf (before ++ decimal node ++ behind)
+-- a text that is written out, by a test of its octets
+text : (line : List ℕ) → list_all (λ x. not (nat_eq x 10)) line ≡ true → HasNoCrlf line
+text line h = none_of line (by_test line h)
+
+-- one with the number of a node in it
+named : (node : ℕ) (before behind : List ℕ) → list_all (λ x. not (nat_eq x 10)) before ≡ true → list_all (λ x. not (nat_eq x 10)) behind ≡ true
+    → HasNoCrlf (before ++ decimal node ++ behind)
 named node before behind front back =
-    none_of (before ++ decimal node ++ behind) (All-append IsNoLf before (decimal node ++ behind) front (All-append IsNoLf (decimal node) behind (decimal_no_lf node) back))
+    none_of (before ++ decimal node ++ behind) (All-append IsNoLf (before ++ decimal node) behind
+    (All-append IsNoLf before (decimal node) (by_test before front) (decimal_no_lf node)) (by_test behind back))
 
 pub one_line_of : (reply : Reply) (node : ℕ) → HasNoCrlf (text_of reply node)
-one_line_of Ready node = named node (codes "220 node") (codes " Porcupine ready") (by_test _ refl) (by_test _ refl)
-one_line_of Hello node = none_of _ (All-append IsNoLf (codes "250 node") (decimal node) (by_test _ refl) (decimal_no_lf node))
-one_line_of SenderOk node = none_of _ (by_test _ refl)
-one_line_of RecipientOk node = none_of _ (by_test _ refl)
-one_line_of NoSuchMailbox node = none_of _ (by_test _ refl)
-one_line_of TooManyRecipients node = none_of _ (by_test _ refl)
-one_line_of BadOrder node = none_of _ (by_test _ refl)
-one_line_of UnknownCommand node = none_of _ (by_test _ refl)
-one_line_of BadArgument node = none_of _ (by_test _ refl)
-one_line_of LineTooLong node = none_of _ (by_test _ refl)
-one_line_of SendText node = none_of _ (by_test _ refl)
-one_line_of TooLarge node = none_of _ (by_test _ refl)
-one_line_of Stored node = none_of _ (by_test _ refl)
-one_line_of NotStored node = none_of _ (by_test _ refl)
-one_line_of Closing node = named node (codes "221 node") (codes " closing") (by_test _ refl) (by_test _ refl)
-one_line_of Down node = named node (codes "421 node") (codes " down") (by_test _ refl) (by_test _ refl)
+one_line_of Ready node = named node (codes "220 node") (codes " Porcupine ready") refl refl
+one_line_of Hello node = none_of (codes "250 node" ++ decimal node) (All-append IsNoLf (codes "250 node") (decimal node) (by_test (codes "250 node") refl) (decimal_no_lf node))
+one_line_of SenderOk node = text (codes "250 sender ok") refl
+one_line_of RecipientOk node = text (codes "250 recipient ok") refl
+one_line_of NoSuchMailbox node = text (codes "550 no such mailbox") refl
+one_line_of TooManyRecipients node = text (codes "452 too many recipients") refl
+one_line_of BadOrder node = text (codes "503 bad order") refl
+one_line_of UnknownCommand node = text (codes "500 unknown command") refl
+one_line_of BadArgument node = text (codes "501 bad argument") refl
+one_line_of LineTooLong node = text (codes "500 line too long") refl
+one_line_of SendText node = text (codes "354 end with a line that is a single period") refl
+one_line_of TooLarge node = text (codes "552 message too large") refl
+one_line_of Stored node = text (codes "250 stored") refl
+one_line_of NotStored node = text (codes "451 not stored, try again") refl
+one_line_of Closing node = named node (codes "221 node") (codes " closing") refl refl
+one_line_of Down node = named node (codes "421 node") (codes " down") refl refl
 
 pub all_one : (reply : Reply) (node : ℕ) → All HasNoCrlf (text_of reply node ∷ [])
 all_one reply node = All-cons HasNoCrlf (text_of reply node) [] (one_line_of reply node) (All-nil HasNoCrlf)

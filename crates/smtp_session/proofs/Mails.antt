@@ -1,8 +1,8 @@
 -- The message of a text that has ended.
-use Rattle.std.proofs.Common.{◌≡◌, ℕ, Bool, true, false, List, length, Option, Some, None, refl, sym, ap, ◌∙◌}
-use Rattle.std.specs.Prelude.{unwrap_or}
+use Rattle.std.proofs.Common.{◌≡◌, ℕ, Bool, true, false, List, length, Option, Some, None, nat_lt, refl, sym, ap, ◌∙◌}
+use Rattle.std.specs.Prelude.{unwrap_or, ◌||◌}
 use Rattle.std.specs.Option.{option_map}
-use Rattle.std.proofs.lemmas.Bool.{lt-ltb, le-ltb}
+use Rattle.std.proofs.lemmas.Bool.{lt-ltb}
 use Rattle.mail_model.specs.Session as model
 use Rattle.mail_model.specs.Session.{undotted, is_large}
 use Rattle.mail_model.specs.Told.{Mail, mail_of, unnamed, unaddressed}
@@ -12,13 +12,14 @@ use Rattle.smtp_session.specs.Talks.{talk_of, greeting_of}
 use Rattle.smtp_session.specs.Texts.{IsText}
 
 -- a text that has passed the limit, and one that is kept
-pub large_text : (text : List ℕ × Bool) (lines : List (List ℕ)) → text.1 ≡ true → IsText text (undotted lines) → is_large lines ≡ true
+pub large_text : (text : List ℕ × Bool) (lines : List (List ℕ)) → (text.1 || nat_lt 16777216 (length text.0)) ≡ true → IsText text (undotted lines) → is_large lines ≡ true
 large_text (octets, true) lines large is = lt-ltb 16777216 (length (undotted lines)) is.1
-large_text (octets, false) lines large is = cc
+large_text (octets, false) lines large is = ap (λ (l : List ℕ). nat_lt 16777216 (length l)) (sym is) ∙ large
 
-pub small_text : (text : List ℕ × Bool) (lines : List (List ℕ)) → text.1 ≡ false → IsText text (undotted lines) → (text.0 ≡ undotted lines) × (is_large lines ≡ false)
+pub small_text : (text : List ℕ × Bool) (lines : List (List ℕ)) → (text.1 || nat_lt 16777216 (length text.0)) ≡ false → IsText text (undotted lines)
+    → (text.0 ≡ undotted lines) × (is_large lines ≡ false)
 small_text (octets, true) lines small is = cc
-small_text (octets, false) lines small is = (is.0, le-ltb 16777216 (length (undotted lines)) is.1)
+small_text (octets, false) lines small is = (is, ap (λ (l : List ℕ). nat_lt 16777216 (length l)) (sym is) ∙ small)
 
 -- no session was greeted by EHLO
 not_extended : (greeting : Option Greeting) → (unwrap_or (option_map greeting_of greeting) unnamed).extended ≡ false

@@ -11,10 +11,9 @@ use Rattle.mail_model.specs.Session.Unit.{Line, Text}
 use Rattle.mail_model.specs.Told.{IsUnit, HasNoUnit, unit_octets, Mail, mail_of}
 use Rattle.mail_model.specs.PopReplies.{one_line}
 use Rattle.session_model.specs.Calls as calls
-use Rattle.session_model.specs.Calls.Call as call
 use Rattle.session_model.specs.Talk.{State, Exchange, Standing, Lead, IsNext, stands, stands_by, lead_of, IsLed, in_text, answered}
 use Rattle.session_model.specs.Moves.{with_answer}
-use Rattle.session_model.specs.Talk.Lead as lead
+use Rattle.session_model.specs.Talk as talks
 use Rattle.std.proofs.lemmas.List.Elements.{All-cons, All-nil}
 use Rattle.session_model.specs.Talk.State.{Mailing}
 use Rattle.session_model.specs.Talk.Standing.{Hearing, Waiting, EndedByQuit}
@@ -100,16 +99,16 @@ module _ (plan : Plan) (plain : Session) (talk : model.Told) (unit : model.Unit)
   abbrev pub standing_behind : Bool → Standing
   standing_behind quits = cond quits EndedByQuit (Hearing (Mailing (after_unit plan talk unit text)))
 
-  led : (quits : Bool) → IsLed (cond quits (lead.Ends (one_line text)) (lead.Says (one_line text))) (record { unit = unit; call = None; answer = None; reply = one_line text })
+  led : (quits : Bool) → IsLed (cond quits (talks.Lead.Ends (one_line text)) (talks.Lead.Says (one_line text))) (record { unit = unit; call = None; answer = None; reply = one_line text })
   led true = (refl, refl, refl)
   led false = (refl, refl, refl)
 
-  stood : (quits : Bool) → stands plan (Mailing talk) (record { unit = unit; call = None; answer = None; reply = one_line text }) (cond quits (lead.Ends (one_line text)) (lead.Says (one_line text)))
+  stood : (quits : Bool) → stands plan (Mailing talk) (record { unit = unit; call = None; answer = None; reply = one_line text }) (cond quits (talks.Lead.Ends (one_line text)) (talks.Lead.Says (one_line text)))
       ≡ standing_behind quits
   stood true = refl
   stood false = refl
 
-  pub heard_says : (quits : Bool) → lead_of plan plain.node (Mailing talk) unit ≡ cond quits (lead.Ends (one_line text)) (lead.Says (one_line text))
+  pub heard_says : (quits : Bool) → lead_of plan plain.node (Mailing talk) unit ≡ cond quits (talks.Lead.Ends (one_line text)) (talks.Lead.Says (one_line text))
       → HasNoCrlf text → octets ≡ sent_line text
       → ((whole : List Exchange) → follows (record plain { whole = whole; standing = standing_behind quits; rest = more }) Nothing)
       → moves.Heard follows plan plain None octets
@@ -130,7 +129,7 @@ module _ (plan : Plan) (plain : Session) (talk : model.Told) (unit : model.Unit)
       }
 
   -- a unit that asks was heard
-  pub heard_asks : (asked : calls.Call) → lead_of plan plain.node (Mailing talk) unit ≡ lead.Asks asked → octets ≡ []
+  pub heard_asks : (asked : calls.Call) → lead_of plan plain.node (Mailing talk) unit ≡ talks.Lead.Asks asked → octets ≡ []
       → ((one : Exchange) → follows (record plain { whole = plain.whole ++ one ∷ []; standing = Waiting (Mailing (after_unit plan talk unit [])) asked; rest = more }) Nothing)
       → moves.Heard follows plan plain (Some asked) octets
   heard_asks asked leads says goes_on =
@@ -150,14 +149,14 @@ module _ (plan : Plan) (plain : Session) (talk : model.Told) (unit : model.Unit)
       }
 
 -- a session that has nothing to say, and hears
-at_nothing : (follows : Session → Due → Type 0) (greeting : List ℕ) (plan : Plan) (plain : Session) (due : Due) (move : Move) (octets : List ℕ) → due ≡ Nothing
+pub at_nothing : (follows : Session → Due → Type 0) (greeting : List ℕ) (plan : Plan) (plain : Session) (due : Due) (move : Move) (octets : List ℕ) → due ≡ Nothing
     → Moves follows greeting plan plain Nothing move octets → Moves follows greeting plan plain due move octets
 at_nothing follows greeting plan plain due move octets is did =
     let At : Due → Type 0 = λ d. Moves follows greeting plan plain d move octets in subst At (sym is) did
 
 -- outside a text no unit is whole where no line is
 no_unit : (inside : Bool) (rest : List ℕ) → inside ≡ false → ((line more : List ℕ) → rest ≡ sent_line line ++ more → ⊥) → HasNoUnit inside rest
-no_unit true rest is none = cc
+no_unit true rest is none unit more are same = cc
 no_unit false rest is none (Line line) more unit same = none line more same
 no_unit false rest is none (Text lines) more unit same = unit
 
@@ -223,8 +222,8 @@ module _ (plan : Plan) (node : ℕ) (told : Told) (undotter : Undotter) (text : 
         let told_is = (meaning.1 plain.node).1 in
         let text_is : text_of reply plain.node ≡ text_of reply node = ap (text_of reply) follows.node in
         let more : List ℕ = (behind_line old found).rest in
-        let leads : lead_of plan plain.node (Mailing (talk_of told)) (Line gives.line) ≡ cond quits (lead.Ends (one_line (text_of reply plain.node))) (lead.Says (one_line (text_of reply plain.node))) =
-        ap₂ (λ (b : Bool) (t : List ℕ). cond b (lead.Ends (one_line t)) (lead.Says (one_line t))) meaning.0 (sym says) in
+        let leads : lead_of plan plain.node (Mailing (talk_of told)) (Line gives.line) ≡ cond quits (talks.Lead.Ends (one_line (text_of reply plain.node))) (talks.Lead.Says (one_line (text_of reply plain.node))) =
+        ap₂ (λ (b : Bool) (t : List ℕ). cond b (talks.Lead.Ends (one_line t)) (talks.Lead.Says (one_line t))) meaning.0 (sym says) in
         at_nothing _ _ plan plain due Said _ follows.stands.0
         (heard_says plan plain (talk_of told) (Line gives.line) more (text_of reply plain.node) _ (Follows (session node now later new undotter text)) follows.stands.1 (is_line gives.line gives.first) rest_is
         quits leads (one_line_of reply plain.node) (ap sent_line (sym text_is)) (λ whole. record {
@@ -262,7 +261,7 @@ module _ (plan : Plan) (node : ℕ) (told : Told) (undotter : Undotter) (text : 
       subst At (sym kind.0) (hears limit (subst Short kind.0 (is_short line old.limit limit kind.1)))) turns
 
 -- What is to be said before it hears on.
-answered_mail : (talk : model.Told) (mail : Mail) (answer : calls.Answer) → answered (Mailing talk) (call.Deliver mail) answer ≡ Hearing (Mailing talk)
+answered_mail : (talk : model.Told) (mail : Mail) (answer : calls.Answer) → answered (Mailing talk) (calls.Call.Deliver mail) answer ≡ Hearing (Mailing talk)
 answered_mail talk mail answer = refl
 
 pub said_due : (plan : Plan) (node : ℕ) (told : Told) (cutter : Shown) (undotter : Undotter) (text : List ℕ × Bool) (now : Turn) (reply : Reply) → IsDue now reply
@@ -281,9 +280,9 @@ said_due plan node told cutter undotter text (turn.Replies other) reply is plain
     let waits = follows.stands.1 in
     let At : Due → Type 0 = λ d. Moves (Follows (session node turn.Hears told cutter undotter text)) (greeting_text node) plan plain d Said (sent_line (text_of reply node)) in
     subst At (sym follows.stands.2) (record {
-      call = call.Deliver waits.mail;
+      call = calls.Call.Deliver waits.mail;
       reply = one_line (text_of other node);
-      after = record plain { whole = waits.before ++ with_answer waits.one answer (one_line (text_of other node)) ∷ []; standing = answered (Mailing (talk_of told)) (call.Deliver waits.mail) answer };
+      after = record plain { whole = waits.before ++ with_answer waits.one answer (one_line (text_of other node)) ∷ []; standing = answered (Mailing (talk_of told)) (calls.Call.Deliver waits.mail) answer };
       did = (waits.before, waits.one, Mailing (talk_of told), waits.whole, waits.standing, follows.stands.3, refl, refl);
       says = ap (λ r. sent_line (text_of r node)) is ∙ sym (append-nil (sent_line (text_of other node)));
       lines = all_one other node;

@@ -15,7 +15,7 @@ ghost use Rattle.call_tickets.specs.Seen.{given_answer};
 ghost use Rattle.call_tickets.specs.Moves.{Due, Fed, Fell, HasEnded};
 ghost use Rattle.smtp_session.specs.Replies.{text_of};
 ghost use Rattle.smtp_session.specs.Talks.{talk_of};
-ghost use Rattle.smtp_session.specs.Follows.{Follows, Moved, EndsText, IsDue, Turns, left, held};
+ghost use Rattle.smtp_session.specs.Follows.{Follows, Moved, EndsText, HasFewUsers, IsDue, Turns, due_count, left, held};
 ghost use Rattle.smtp_session.specs.Texts.{IsText};
 
 use crate::told::Heard;
@@ -213,6 +213,8 @@ impl SmtpSession {
         ensures ok { IfOk result (λ did. (octets : List ℕ) × (out.new.items ≡ out.old.items ++ octets)
             × ((plan : Plans) (lines : List (List ℕ)) → IsText self.old.text (undotted lines) → EndsText plan self.old.node (talk_of self.old.told) lines did octets (talk_of self.new.told) self.old.turn self.new.turn)) }
         ensures text { OnOk result (self.new.text ≡ ([], false)) }
+        ensures few { IfOk result HasFewUsers }
+        ensures quiet { OnOk result (due_count self.new.turn ≤ due_count self.old.turn) }
         ensures same { (self.new.node ≡ self.old.node) × (self.new.cutter ≡ self.old.cutter) × (self.new.undotter ≡ self.old.undotter) }
         ensures err { OnErr result ((self.new ≡ self.old) × (out.new.items ≡ out.old.items)) }
     {

@@ -17,6 +17,7 @@ returns-in-None c =
     record {
       limit = lets.limit;
       short = lets.short;
+      fewer = lets.fewer;
       stays = λ pending was. stays c.args.self.now c.let_go.new.self pending (subst HasNoCrlf (ap (λ (s : Shown). s.rest) c.self.view_is) none) was (lets.pends pending was);
     }
 

@@ -23,7 +23,7 @@ returns-in_ok-address-in-Ok-Rcpt-clause-ok c n =
     let told : Option Envelope → Talk = λ envelope. record (talk_of c.args.self.now) { envelope = envelope } in
     rw is (did.0, cond_under told _ _ _ _ did.1)
 
-pub returns-in-Ok-Data-clause-ok : goal.returns-in-Ok-Data-clause-ok
-returns-in-Ok-Data-clause-ok c n =
+pub returns-in_ok-ask_text-in-Ok-Data-clause-ok : goal.returns-in_ok-ask_text-in-Ok-Data-clause-ok
+returns-in_ok-ask_text-in-Ok-Data-clause-ok c n =
     let is : seen c.args.command.now ≡ Ok smtp.Command.Data = search rules in
-    rw is (c.ask_text.ensures.does c.args.plan.now n)
+    rw is (c.in_ok-ask_text-in-Ok-Data.ensures.ok c.args.plan.now n)

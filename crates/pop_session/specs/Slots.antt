@@ -1,0 +1,31 @@
+-- The places of a listing, as the definition of a session sees them.
+use Rattle.std.specs.Prelude.{ℕ, zero, suc, true, false, List, [], ◌∷◌, map, if◌then◌else◌}
+use Rattle.mail_base.specs.declared.item.Item.{Item}
+use Rattle.mail_base.specs.Items.{item_seen}
+use Rattle.mail_model.specs.PopReplies as model
+use Rattle.pop_session.specs.declared.listing.Slot.{Slot}
+
+abbrev pub slot_seen : Slot → model.Slot
+slot_seen slot = record { item = item_seen slot.item; marked = slot.marked }
+
+abbrev pub slots_seen : List Slot → List model.Slot
+slots_seen slots = map slot_seen slots
+
+-- the messages, as they were listed
+abbrev pub items_in : List Slot → List Item
+items_in slots = map (λ slot. slot.item) slots
+
+-- those that are marked
+abbrev pub marked_items : List Slot → List Item
+marked_items [] = []
+marked_items (slot ∷ slots) = if slot.marked then slot.item ∷ marked_items slots else marked_items slots
+
+-- a place whose message is not marked yet
+abbrev pub listed_slot : Item → Slot
+listed_slot item = record { item = item; marked = false }
+
+-- the slots with this one marked, the first being 0; where there is none nothing changes
+abbrev pub marked_at : List Slot → ℕ → List Slot
+marked_at [] n = []
+marked_at (slot ∷ slots) zero = record slot { marked = true } ∷ slots
+marked_at (slot ∷ slots) (suc n) = slot ∷ marked_at slots n

@@ -1,0 +1,151 @@
+// What is said to the answer of a call.
+ghost use Rattle.std.specs.Prelude.{◌≡◌, ◌++◌, ℕ, List, OnOk, OnErr};
+ghost use Rattle.mail_model.specs.Lines.{sent_line};
+ghost use Rattle.session_model.specs.Calls as calls;
+ghost use Rattle.session_model.specs.Calls.{IsReply};
+ghost use Rattle.mail_model.specs.Identity.{Id};
+ghost use Rattle.call_tickets.specs.Seen.{given_answer};
+ghost use Rattle.pop_session.specs.Dues.{text_of, IsAsked, Says};
+
+use crate::reply::line_into;
+use crate::stage::Login;
+use call_tickets::Answer;
+use mail_base::{Items, Name, Octets};
+use std::alloc::AllocError;
+
+/// What a session waits for.
+#[derive(Debug, Drop)]
+pub(crate) enum Asked {
+    /// That this user is let in.
+    Login(Name),
+    /// A message.
+    Message,
+    /// That messages are deleted.
+    Deletion,
+}
+
+/// A reply of one line to the answer of a call.
+#[derive(Clone, Copy, Debug, PartialEq, Eq)]
+pub(crate) enum Text {
+    /// To a login whose secret is wrong (RFC 1939, section 7).
+    Wrong,
+    /// To a login, or to RETR, that the node can't answer now (RFC 3206).
+    Later,
+    /// To RETR of a message that was deleted since the login.
+    Gone,
+    /// To QUIT whose deletions are done (RFC 1939, section 6).
+    Bye,
+    /// To QUIT, where it is not known that every marked message was deleted (RFC 1939, section 6; RFC 3206).
+    Remaining,
+}
+
+/// What a session has to say to the answer of its call.
+#[derive(Debug, Drop)]
+pub(crate) enum Due {
+    /// The user is let in, and these are the messages of the maildrop.
+    Entered {
+        /// The login.
+        login: Login,
+        /// The messages.
+        items: Items,
+    },
+    /// The message has these octets.
+    Shown(Octets),
+    /// This line, after which the session goes on.
+    Said(Text),
+    /// This line, which ends the session.
+    Last(Text),
+}
+
+impl Text {
+    /// Appends the line with its CRLF.
+    ///
+    /// # Errors
+    ///
+    /// Only want of memory; the octets are then as before.
+    pub(crate) fn line_into(self, out: &mut Vec<u8>) -> Result<(), AllocError>
+        ensures ok { OnOk result (out.new.items ≡ out.old.items ++ sent_line (text_of self)) }
+        ensures err { OnErr result (out.new.items ≡ out.old.items) }
+    {
+        match self {
+            Text::Wrong => line_into(out, b"-ERR name or secret is wrong"),
+            Text::Later => line_into(out, b"-ERR [SYS/TEMP] try again later"),
+            Text::Gone => line_into(out, b"-ERR message was deleted"),
+            Text::Bye => line_into(out, b"+OK bye"),
+            Text::Remaining => line_into(out, b"-ERR [SYS/TEMP] some messages may remain"),
+        }
+    }
+}
+
+// To a login.
+fn login_due(user: Name, answer: Option<Answer>) -> Due
+    ensures { (secret : List ℕ) (reply : List (List ℕ)) → IsReply (calls.Call.Login user secret) (given_answer answer) reply → Says result (calls.Call.Login user secret) (given_answer answer) }
+{
+    match answer {
+        Some(Answer::Listed {
+            login,
+            manager,
+            items,
+            ..
+        }) => Due::Entered {
+            login: Login {
+                user,
+                ticket: login,
+                manager,
+            },
+            items,
+        },
+        Some(Answer::Wrong { .. }) => Due::Said(Text::Wrong),
+        Some(Answer::Failed(_)) => Due::Said(Text::Later),
+        None => Due::Said(Text::Later),
+        Some(Answer::Stored { .. }) => Due::Said(Text::Later),
+        Some(Answer::Part { .. }) => Due::Said(Text::Later),
+        Some(Answer::GoneAlready) => Due::Said(Text::Later),
+        Some(Answer::Dropped { .. }) => Due::Said(Text::Later),
+    }
+}
+
+// To RETR.
+fn message_due(answer: Option<Answer>) -> Due
+    ensures { (user : List ℕ) (id : Id) (reply : List (List ℕ)) → IsReply (calls.Call.Fetch user id) (given_answer answer) reply → Says result (calls.Call.Fetch user id) (given_answer answer) }
+{
+    match answer {
+        Some(Answer::Part { octets, .. }) => Due::Shown(octets),
+        Some(Answer::GoneAlready) => Due::Said(Text::Gone),
+        Some(Answer::Failed(_)) => Due::Said(Text::Later),
+        None => Due::Said(Text::Later),
+        Some(Answer::Stored { .. }) => Due::Said(Text::Later),
+        Some(Answer::Listed { .. }) => Due::Said(Text::Later),
+        Some(Answer::Wrong { .. }) => Due::Said(Text::Later),
+        Some(Answer::Dropped { .. }) => Due::Said(Text::Later),
+    }
+}
+
+// To a QUIT with marks.
+fn deletion_due(answer: &Option<Answer>) -> Due
+    ensures { (user : List ℕ) (ids : List Id) (reply : List (List ℕ)) → IsReply (calls.Call.Strike user ids) (given_answer answer.now) reply → Says result (calls.Call.Strike user ids) (given_answer answer.now) }
+{
+    match answer {
+        Some(Answer::Dropped { .. }) => Due::Last(Text::Bye),
+        Some(Answer::Failed(_)) => Due::Last(Text::Remaining),
+        None => Due::Last(Text::Remaining),
+        Some(Answer::Stored { .. }) => Due::Last(Text::Remaining),
+        Some(Answer::Listed { .. }) => Due::Last(Text::Remaining),
+        Some(Answer::Wrong { .. }) => Due::Last(Text::Remaining),
+        Some(Answer::Part { .. }) => Due::Last(Text::Remaining),
+        Some(Answer::GoneAlready) => Due::Last(Text::Remaining),
+    }
+}
+
+impl Asked {
+    /// What is to be said to this answer. It takes no memory.
+    pub(crate) fn due(self, answer: Option<Answer>) -> Due
+        ensures { (call : calls.Call) (reply : List (List ℕ)) → IsAsked self call → IsReply call (given_answer answer) reply → Says result call (given_answer answer) }
+    {
+        match self {
+            Asked::Login(user) => login_due(user, answer),
+            Asked::Message => message_due(answer),
+            Asked::Deletion => deletion_due(&answer),
+        }
+    }
+}
