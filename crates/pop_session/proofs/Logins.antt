@@ -64,10 +64,10 @@ passes true name given user secret other h = (refl, ap user_in h, ap secret_in h
 passes false name given user secret other h = absurd (cc)
 
 -- what a session is told, and what a line says, where a login is asked for
-record Asks (plan : Plan) (stage : Stage) (result : Result Command Fault) (user secret : List ℕ) : Type 0 where
-  stands : stage ≡ Authorization (Some user)
-  configured : is_user plan user ≡ true
-  says : result ≡ Ok (Pass secret)
+pub record Asks (plan : Plan) (stage : Stage) (result : Result Command Fault) (user secret : List ℕ) : Type 0 where
+  pub stands : stage ≡ Authorization (Some user)
+  pub configured : is_user plan user ≡ true
+  pub says : result ≡ Ok (Pass secret)
 
 asks_passing : (plan : Plan) (name given user secret : List ℕ) → pass_outcome plan (Some name) given ≡ AsksLogin user secret →
     Asks plan (Authorization (Some name)) (Ok (Pass given)) user secret
@@ -98,11 +98,11 @@ asks_by plan (Transaction slots) (Ok command) user secret h =
     let no : true ≡ false = sym (ap is_login h) ∙ no_login_behind slots command in
     absurd (cc (no))
 
-record AsksAtLength (plan : Plan) (stage : Stage) (long : Bool) (result : Result Command Fault) (user secret : List ℕ) : Type 0 where
-  short : long ≡ false
-  asks : Asks plan stage result user secret
+pub record AsksAtLength (plan : Plan) (stage : Stage) (long : Bool) (result : Result Command Fault) (user secret : List ℕ) : Type 0 where
+  pub short : long ≡ false
+  pub asks : Asks plan stage result user secret
 
-asks_at : (plan : Plan) (stage : Stage) (long : Bool) (result : Result Command Fault) (user secret text : List ℕ) →
+pub asks_at : (plan : Plan) (stage : Stage) (long : Bool) (result : Result Command Fault) (user secret text : List ℕ) →
     cond long (said text) (command_outcome plan stage result) ≡ AsksLogin user secret → AsksAtLength plan stage long result user secret
 asks_at plan stage true result user secret text h = absurd (cc)
 asks_at plan stage false result user secret text h = record { short = refl; asks = asks_by plan stage result user secret h }

@@ -1,7 +1,11 @@
 -- A mark, as the slot of an index is written; and slots as the definition of a session sees them.
-use Rattle.std.proofs.Common.{◌≡◌, ℕ, ◌+◌, zero, suc, Bool, true, false, not, List, [], ◌∷◌, length, map, sum_by, Option, Some, None, slice_get, option_and_then, refl, sym, ◌∙◌, ap, arith, ◌<◌, ◌≤◌, slice_set, slice_index_or}
+use Rattle.std.proofs.Common.{◌≡◌, ℕ, ◌+◌, zero, suc, Bool, true, false, not, List, [], ◌∷◌, length, map, sum_by, Option, Some, None, slice_get, option_and_then, refl, sym, ◌∙◌, ap, arith, ◌<◌, ◌≤◌, slice_set, slice_index_or, Bor}
+use Rattle.std.specs.Prelude.{IfSome, if◌then◌else◌}
 use Rattle.std.specs.List.{filter}
-use Rattle.std.specs.Option.{option_map}
+use Rattle.std.specs.Option.{option_map, option_copied}
+use Rattle.std.proofs.Common.{take, ◌++◌}
+use Rattle.std.proofs.Common.{drop as skip}
+use Rattle.std.proofs.lemmas.List.{take_at}
 use Rattle.std.proofs.lemmas.List.Sums.{sum_by-cons}
 use Rattle.mail_base.specs.declared.item.Item.{Item}
 use Rattle.mail_base.specs.Items.{item_seen}
@@ -12,7 +16,7 @@ use Rattle.mail_model.specs.Maildrop as drop
 use Rattle.mail_model.specs.Maildrop.{unmarked_in}
 use Rattle.call_tickets.specs.Seen.{ids_in}
 use Rattle.pop_session.specs.declared.listing.Slot.{Slot}
-use Rattle.pop_session.specs.Slots.{slot_seen, slots_seen, items_in, marked_items, marked_at, listed_slot}
+use Rattle.pop_session.specs.Slots.{slot_seen, slots_seen, items_in, marked_items, marked_at, listed_slot, unmarked_item, message_in}
 
 -- the slot with its mark
 abbrev pub with_its_mark : Slot → Slot
@@ -90,3 +94,58 @@ unmarked_octets (slot ∷ slots) = by_mark slot.item slot.marked (unmarked_octet
         sum_by-cons (λ (slot : Slot). slot.item.length) (record { item = held; marked = false }) (filter (λ (slot : Slot). not slot.marked) slots)
         ∙ ap (λ n. held.length + n) behind
         ∙ sym (sum_by-cons (λ (item : model.Item). item.size) (item_seen held) (unmarked (slots_seen slots)))
+
+-- the message of a number
+seen_in : (slot : Option Slot) → option_map item_seen (option_and_then unmarked_item slot) ≡ option_and_then unmarked_in (option_map slot_seen slot)
+seen_in None = refl
+seen_in (Some slot) = by_mark slot.marked
+  where
+    by_mark : (marked : Bool) → option_map item_seen (if marked then None else Some slot.item) ≡ (if marked then None else Some (item_seen slot.item))
+    by_mark true = refl
+    by_mark false = refl
+
+pub message_alike : (slots : List Slot) (number : ℕ) → option_map item_seen (message_in slots number) ≡ drop.message_at (slots_seen slots) number
+message_alike slots zero = refl
+message_alike slots (suc n) = seen_in (slice_get slots n) ∙ ap (option_and_then unmarked_in) (sym (seen_at slots n))
+
+-- is one of the listing
+item_at : (slots : List Slot) (at : ℕ) → slice_get (items_in slots) at ≡ option_map (λ (slot : Slot). slot.item) (slice_get slots at)
+item_at [] at = refl
+item_at (slot ∷ slots) zero = refl
+item_at (slot ∷ slots) (suc at) = item_at slots at
+
+pub message_own : (slots : List Slot) (number : ℕ) (item : Item) → message_in slots number ≡ Some item → (at : ℕ) × (slice_get (items_in slots) at ≡ Some item)
+message_own slots zero item is = cc
+message_own slots (suc n) item is = (n, item_at slots n ∙ of_slot (slice_get slots n) is)
+  where
+    of_slot : (slot : Option Slot) → option_and_then unmarked_item slot ≡ Some item → option_map (λ (s : Slot). s.item) slot ≡ Some item
+    of_slot None none = cc
+    of_slot (Some slot) some = by_mark slot.marked some
+      where
+        by_mark : (marked : Bool) → (if marked then None else Some slot.item) ≡ Some item → Some slot.item ≡ Some item
+        by_mark true none = cc
+        by_mark false same = same
+
+pub message_own_of : (slots : List Slot) (number : ℕ) (found : Option (Bor Item)) → option_copied found ≡ message_in slots number
+    → IfSome found (λ item. (at : ℕ) × (slice_get (items_in slots) at ≡ Some item.now))
+message_own_of slots number None is = tt
+message_own_of slots number (Some item) is = message_own slots number item.now (sym is)
+
+-- DELE of a number marks the slot of its index
+pub marks : (slots : List Slot) (number at : ℕ) → number ≡ at + 1 → slots_seen (marked_at slots at) ≡ drop.with_mark (slots_seen slots) number
+marks slots number at is =
+    let one : suc at ≡ number = omega (arith, is) in
+    marked_alike slots at ∙ ap (drop.with_mark (slots_seen slots)) one
+
+-- a slice of the same length is put back whole
+pub held_back : (new held : List Slot) (count : ℕ) → length new ≡ length held → count ≡ length held → take count (new ++ skip (length new) held) ≡ new
+held_back new held count same all =
+    take_at new (skip (length new) held) count (sym (all ∙ sym same))
+
+-- QUIT with nothing marked, and with something
+pub deletes_none : (slots : List Slot) (items : List Item) → items ≡ marked_items slots → items ≡ [] → drop.farewell ≡ drop.quit_outcome (slots_seen slots)
+deletes_none slots items are none = ap drop.deletion_of (ap ids_in (sym none ∙ are) ∙ marked_are slots)
+
+pub deletes_some : (slots : List Slot) (items : List Item) → items ≡ marked_items slots → (items ≡ [] → ⊥) → drop.Outcome.AsksDeletion (ids_in items) ≡ drop.quit_outcome (slots_seen slots)
+deletes_some slots [] are some = absurd (some refl)
+deletes_some slots (item ∷ items) are some = ap drop.deletion_of (ap ids_in are ∙ marked_are slots)

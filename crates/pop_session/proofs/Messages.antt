@@ -1,15 +1,17 @@
--- The lines of a message as they are sent.
-use Rattle.std.proofs.Common.{◌≡◌, ◌+◌, ◌<◌, ℕ, Bool, true, false, nat_eq, zero, suc, List, [], ◌∷◌, ◌++◌, length, map, flat_map, refl, sym, ◌∙◌, ap, arith, append_assoc, if◌then◌else◌}
-use Rattle.std.specs.Prelude.{slice_index}
+-- The lines of a message as they are sent, and that no line of a reply has a CRLF in it.
+use Rattle.std.proofs.Common.{◌≡◌, ◌+◌, ◌<◌, ℕ, Bool, true, false, not, nat_eq, zero, suc, List, [], ◌∷◌, ◌++◌, length, map, flat_map, refl, sym, ◌∙◌, ap, arith, append_assoc, if◌then◌else◌}
+use Rattle.std.specs.Prelude.{slice_index, All, codes, Result, Ok, Err, OnOk}
+use Rattle.std.specs.List.{list_all}
+use Rattle.std.specs.Fmt.{decimal}
 use Rattle.std.proofs.lemmas.List.{append-nil}
+use Rattle.std.proofs.lemmas.List.Elements.{All-cons, All-nil, All-append, All-get_or}
 use Rattle.std.proofs.lemmas.List.Concat.{flat_map-append}
-use Rattle.mail_model.specs.Lines.{HasNoCrlf, sent_line}
+use Rattle.mail_model.specs.Lines.{HasNoLf, HasNoCrlf, sent_line}
 use Rattle.mail_model.specs.PopReplies.{octets_text, dotted_line, last_line}
-use Rattle.dot_text.specs.Cuts.{Cuts, AreTaken, taken_octets}
-use Rattle.dot_text.specs.Cuts.Taken.{Given}
+use Rattle.mail_model.proofs.OneLine.{IsNoLf, by_test, decimal_no_lf}
+use Rattle.session_model.specs.Calls.{ShowsPart}
 use Rattle.dot_text.specs.Dots.{Dots, AreLines, dotted}
-use Rattle.dot_text.specs.Laws.{LinesAreAll}
-use Rattle.pop_session.specs.Messages.{AreCut, ShowsMessage}
+use Rattle.pop_session.specs.Messages.{ShowsPartIn}
 
 none_nil : HasNoCrlf []
 none_nil k within = absurd (omega arith)
@@ -24,72 +26,51 @@ none_behind line none (suc k) within cr lf =
 
 dotted_none : (line : List ℕ) → HasNoCrlf line → HasNoCrlf (dotted_line line)
 dotted_none [] none = none
-dotted_none (x ∷ line) none = by_test (nat_eq x 46)
+dotted_none (x ∷ line) none = by_test_of (nat_eq x 46)
   where
-    by_test : (b : Bool) → HasNoCrlf (if b then 46 ∷ x ∷ line else x ∷ line)
-    by_test true = none_behind (x ∷ line) none
-    by_test false = none
+    by_test_of : (b : Bool) → HasNoCrlf (if b then 46 ∷ x ∷ line else x ∷ line)
+    by_test_of true = none_behind (x ∷ line) none
+    by_test_of false = none
 
--- the lines, and the one that is one period
-dotted_are : (lines : List (List ℕ)) → AreLines lines → AreLines (map dotted_line lines ++ last_line)
-dotted_are [] are = (none_behind [] none_nil, tt)
-dotted_are (line ∷ lines) are = (dotted_none line are.0, dotted_are lines are.1)
+-- octets with no LF
+pub none_of : (line : List ℕ) → HasNoLf line → HasNoCrlf line
+none_of line none k within cr = All-get_or IsNoLf line (k + 1) 0 within none
+
+-- a text that is written out
+pub text : (line : List ℕ) → list_all (λ x. not (nat_eq x 10)) line ≡ true → HasNoCrlf line
+text line h = none_of line (by_test line h)
+
+pub all_lines : (lines : List (List ℕ)) → AreLines lines → All HasNoCrlf lines
+all_lines [] are = All-nil HasNoCrlf
+all_lines (line ∷ lines) are = All-cons HasNoCrlf line lines are.0 (all_lines lines are.1)
+
+-- the dotted lines, and the one that is one period
+all_dotted : (lines : List (List ℕ)) → AreLines lines → All HasNoCrlf (map dotted_line lines ++ last_line)
+all_dotted [] are = All-cons HasNoCrlf (46 ∷ []) [] (none_behind [] none_nil) (All-nil HasNoCrlf)
+all_dotted (line ∷ lines) are = All-cons HasNoCrlf (dotted_line line) (map dotted_line lines ++ last_line) (dotted_none line are.0) (all_dotted lines are.1)
 
 dotted_octets : (lines : List (List ℕ)) → dotted lines ++ sent_line (46 ∷ []) ≡ flat_map sent_line (map dotted_line lines ++ last_line)
 dotted_octets [] = refl
 dotted_octets (line ∷ lines) =
     append_assoc (sent_line (dotted_line line)) (dotted lines) (sent_line (46 ∷ [])) ∙ ap (λ (l : List ℕ). sent_line (dotted_line line) ++ l) (dotted_octets lines)
 
--- lines that were cut off are what was taken
-given_are : (lines : List (List ℕ)) → AreLines lines → AreTaken (map Given lines)
-given_are [] are = tt
-given_are (line ∷ lines) are = (are.0, given_are lines are.1)
+octets_line : (size : ℕ) → HasNoCrlf (octets_text size)
+octets_line size =
+    none_of (octets_text size) (All-append IsNoLf (codes "+OK " ++ decimal size) (codes " octets")
+    (All-append IsNoLf (codes "+OK ") (decimal size) (by_test (codes "+OK ") refl) (decimal_no_lf size)) (by_test (codes " octets") refl))
 
-given_octets : (lines : List (List ℕ)) → flat_map sent_line lines ≡ flat_map taken_octets (map Given lines)
-given_octets [] = refl
-given_octets (line ∷ lines) = ap (λ (l : List ℕ). sent_line line ++ l) (given_octets lines)
-
-are_cuts : (octets rest : List ℕ) (lines : List (List ℕ)) → AreLines lines → octets ≡ flat_map sent_line lines ++ rest → Cuts octets (map Given lines) rest
-are_cuts octets rest lines are whole = record {
-  whole = whole ∙ ap (λ (l : List ℕ). l ++ rest) (given_octets lines);
-  lines = given_are lines are;
+-- the first line, and then the message as it is sent
+pub shows_part : (octets old first sent new : List ℕ) → first ≡ old ++ sent_line (octets_text (length octets)) → new ≡ first ++ sent → Dots octets sent → ShowsPartIn octets old new
+shows_part octets old first sent new starts is dots = record {
+  reply = octets_text (length octets) ∷ map dotted_line dots.lines ++ last_line;
+  shows = record { lines = dots.lines; are = all_lines dots.lines dots.are; whole = sym dots.whole; says = refl };
+  says =
+      is ∙ ap (λ (l : List ℕ). l ++ sent) starts ∙ append_assoc old (sent_line (octets_text (length octets))) sent
+      ∙ ap (λ (l : List ℕ). old ++ (sent_line (octets_text (length octets)) ++ l)) (dots.sends ∙ dotted_octets dots.lines);
+  lines = All-cons HasNoCrlf (octets_text (length octets)) (map dotted_line dots.lines ++ last_line) (octets_line (length octets)) (all_dotted dots.lines dots.are);
 }
 
--- the lines of a text that is sent are its own, each dotted, and the one that is one period
-sent_lines : LinesAreAll → (text sent rest : List ℕ) (lines : List (List ℕ)) (dots : Dots text sent) → AreCut sent lines rest → lines ≡ map dotted_line dots.lines ++ last_line
-sent_lines law text sent rest lines dots cut =
-    let wanted : List (List ℕ) = map dotted_line dots.lines ++ last_line in
-    let whole : sent ≡ flat_map sent_line wanted ++ [] = dots.sends ∙ dotted_octets dots.lines ∙ sym (append-nil (flat_map sent_line wanted)) in
-    let all = law sent lines wanted rest [] (are_cuts sent rest lines cut.are cut.whole) (are_cuts sent [] wanted (dotted_are dots.lines dots.are) whole) cut.none none_nil in
-    all.0
-
-pub shows_message : LinesAreAll → (octets sent rest : List ℕ) (lines reply : List (List ℕ)) → Dots octets sent → AreCut sent lines rest
-    → reply ≡ octets_text (length octets) ∷ lines → ShowsMessage octets reply
-shows_message law octets sent rest lines reply dots cut is = record {
-  lines = dots.lines;
-  are = dots.are;
-  whole = sym dots.whole;
-  says = is ∙ ap (λ l. octets_text (length octets) ∷ l) (sent_lines law octets sent rest lines dots cut);
-}
-
--- one line more
-
-are_push : (lines : List (List ℕ)) (line : List ℕ) → AreLines lines → HasNoCrlf line → AreLines (lines ++ line ∷ [])
-are_push [] line are none = (none, tt)
-are_push (first ∷ lines) line are none = (are.0, are_push lines line are.1 none)
-
--- the octets are these lines and those that are left, and the reply has these behind those that it had
-abbrev pub AreLinesOf : List (List ℕ) → List (List ℕ) → List ℕ → List ℕ → Type 0
-AreLinesOf start reply octets left = (lines : List (List ℕ)) × (reply ≡ start ++ lines) × AreLines lines × (octets ≡ flat_map sent_line lines ++ left)
-
-pub one_more : (start reply new : List (List ℕ)) (octets left line more : List ℕ) → AreLinesOf start reply octets left
-    → new ≡ reply ++ line ∷ [] → left ≡ sent_line line ++ more → HasNoCrlf line → AreLinesOf start new octets more
-one_more start reply new octets left line more so_far pushed cut none =
-    let lines : List (List ℕ) = so_far.0 in (
-      lines ++ line ∷ [],
-      pushed ∙ ap (λ l. l ++ line ∷ []) so_far.1 ∙ append_assoc start lines (line ∷ []),
-      are_push lines line so_far.2 none,
-      so_far.3 ∙ ap (λ (l : List ℕ). flat_map sent_line lines ++ l) cut ∙ sym (append_assoc (flat_map sent_line lines) (sent_line line) more)
-          ∙ ap (λ (l : List ℕ). l ++ more)
-          (ap (λ (l : List ℕ). flat_map sent_line lines ++ l) (sym (append-nil (sent_line line))) ∙ sym (flat_map-append sent_line lines (line ∷ []))),
-    )
+pub part_done : (octets old first new : List ℕ) (E : Type 0) (done : Result (Unit {0}) E) → first ≡ old ++ sent_line (octets_text (length octets))
+    → OnOk done ((sent : List ℕ) × (new ≡ first ++ sent) × Dots octets sent) → OnOk done (ShowsPartIn octets old new)
+part_done octets old first new E (Ok x) starts did = shows_part octets old first did.0 new starts did.1 did.2
+part_done octets old first new E (Err error) starts did = tt

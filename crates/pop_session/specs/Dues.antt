@@ -1,13 +1,18 @@
 -- What a session waits for, and what it has to say to the answer.
-use Rattle.std.specs.Prelude.{◌≡◌, ℕ, List, map}
+use Rattle.std.specs.Prelude.{◌≡◌, ℕ, List, map, Option, Some, None}
 use Rattle.mail_model.specs.Identity.{Id}
 use Rattle.mail_model.specs.PopReplies.{one_line}
 use Rattle.mail_model.specs.Maildrop.{wrong_text, later_text, gone_text, bye_text, remaining_text}
 use Rattle.mail_base.specs.Items.{item_seen}
 use Rattle.session_model.specs.Calls as calls
 use Rattle.session_model.specs.Calls.{IsReply}
-use Rattle.session_model.specs.Talk.{State, answered}
+use Rattle.session_model.specs.Talk.{State, Standing, answered, let_in}
+use Rattle.session_model.specs.Talk.State.{Entering}
 use Rattle.session_model.specs.Talk.Standing.{Hearing, EndedByQuit}
+use Rattle.mail_base.specs.declared.item.Item.{Item}
+use Rattle.call_tickets.specs.declared.answer.Answer.{Answer}
+use Rattle.call_tickets.specs.declared.answer.Answer.TheVariants as answers
+use Rattle.pop_session.specs.declared.stage.Login as tickets
 use Rattle.pop_session.specs.declared.due.Asked.{Asked}
 use Rattle.pop_session.specs.declared.due.Asked.TheVariants.{Login, Message, Deletion}
 use Rattle.pop_session.specs.declared.due.Text.{Text}
@@ -23,15 +28,44 @@ text_of Gone = gone_text
 text_of Bye = bye_text
 text_of Remaining = remaining_text
 
--- the session asked this call
-abbrev pub IsAsked : Asked → calls.Call → Type 0
-IsAsked (Login user) call = (secret : List ℕ) × (call ≡ calls.Call.Login user secret)
-IsAsked Message call = (user : List ℕ) × (id : Id) × (call ≡ calls.Call.Fetch user id)
-IsAsked Deletion call = (user : List ℕ) × (ids : List Id) × (call ≡ calls.Call.Strike user ids)
+-- the session asked this call in this state
+abbrev pub IsAsked : Asked → State → calls.Call → Type 0
+IsAsked (Login user) state call = ((named : Option (List ℕ)) × (state ≡ Entering named)) × ((secret : List ℕ) × (call ≡ calls.Call.Login user secret))
+IsAsked Message state call = (user : List ℕ) × (id : Id) × (call ≡ calls.Call.Fetch user id)
+IsAsked Deletion state call = (user : List ℕ) × (ids : List Id) × (call ≡ calls.Call.Strike user ids)
+
+-- A line is the reply, lets nobody in, and leaves the session so.
+pub record SaysLine (text : Text) (call : calls.Call) (answer : calls.Answer) (standing : State → Standing) : Type 0 where
+  pub reply : IsReply call answer (one_line (text_of text))
+  pub nobody : let_in (Some call) (Some answer) ≡ None
+  pub leaves : (state : State) → answered state call answer ≡ standing state
 
 -- this is to be said to the answer
-abbrev pub Says : Due → calls.Call → calls.Answer → Type 0
-Says (Entered login items) call answer = ((secret : List ℕ) × (call ≡ calls.Call.Login login.user secret)) × (answer ≡ calls.Answer.Listed (map item_seen items))
-Says (Shown octets) call answer = ((user : List ℕ) × (id : Id) × (call ≡ calls.Call.Fetch user id)) × (answer ≡ calls.Answer.Part octets)
-Says (Said text) call answer = IsReply call answer (one_line (text_of text)) × ((state : State) → answered state call answer ≡ Hearing state)
-Says (Last text) call answer = IsReply call answer (one_line (text_of text)) × ((state : State) → answered state call answer ≡ EndedByQuit)
+abbrev pub Says : Due → State → calls.Call → calls.Answer → Type 0
+Says (Entered login items) state call answer =
+    ((named : Option (List ℕ)) × (state ≡ Entering named)) × ((secret : List ℕ) × (call ≡ calls.Call.Login login.user secret)) × (answer ≡ calls.Answer.Listed (map item_seen items))
+Says (Shown octets) state call answer = ((user : List ℕ) × (id : Id) × (call ≡ calls.Call.Fetch user id)) × (answer ≡ calls.Answer.Part octets)
+Says (Said text) state call answer = SaysLine text call answer Hearing
+Says (Last text) state call answer = SaysLine text call answer (λ state. EndedByQuit)
+
+-- the login that a reply tells of, where it does, and the messages
+abbrev pub due_login : Due → Option tickets.Login → Option tickets.Login
+due_login (Entered login items) other = Some login
+due_login (Shown octets) other = other
+due_login (Said text) other = other
+due_login (Last text) other = other
+
+abbrev pub due_items : Due → List Item → List Item
+due_items (Entered login items) other = items
+due_items (Shown octets) other = other
+due_items (Said text) other = other
+due_items (Last text) other = other
+
+-- A session that waits to be let in takes the login and the messages that the answer names; else it keeps what it had.
+abbrev pub taken_login : Asked → Option Answer → Option tickets.Login → Option tickets.Login
+taken_login (Login user) (Some (answers.Listed ticket manager nodes items)) other = Some (record { user = user; ticket = ticket; manager = manager })
+taken_login asked answer other = other
+
+abbrev pub taken_items : Asked → Option Answer → List Item → List Item
+taken_items (Login user) (Some (answers.Listed ticket manager nodes items)) other = items
+taken_items asked answer other = other

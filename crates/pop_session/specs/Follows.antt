@@ -26,9 +26,16 @@ use Rattle.pop_session.specs.declared.due.Due.{Due}
 use Rattle.pop_session.specs.declared.due.Due.TheVariants.{Entered, Shown, Said, Last}
 use Rattle.pop_session.specs.declared.stage.Login.{Login}
 use Rattle.pop_session.specs.declared.stage.Stage.{Stage}
+use Rattle.pop_session.specs.declared.stage.Stage.TheVariants as stages
+use Rattle.pop_session.specs.declared.stage.Heard.{Heard}
+use Rattle.pop_session.specs.declared.stage.Heard.TheVariants as heard
+use Rattle.pop_session.specs.declared.listing.Slot.{Slot}
+use Rattle.pop_session.specs.declared.due.Asked.TheVariants as asked
+use Rattle.mail_base.specs.declared.proof.Proof.TheVariants.{Pass}
+use Rattle.call_tickets.specs.declared.step.Move.TheVariants as move
 use Rattle.pop_session.specs.Slots.{items_in, marked_items}
 use Rattle.pop_session.specs.Shown.{state_of, login_in, listed_in, slots_in}
-use Rattle.pop_session.specs.Dues.{IsAsked, Says}
+use Rattle.pop_session.specs.Dues.{IsAsked, Says, due_login, due_items, taken_login, taken_items}
 
 -- it waits for the answer to a call
 pub record WaitsFor (state : State) (plain : Session) : Type 0 where
@@ -44,8 +51,8 @@ pub record WaitsFor (state : State) (plain : Session) : Type 0 where
 abbrev pub Stands : Turn → State → Session → moves.Due → Type 0
 Stands Greets state plain due = (due ≡ moves.Due.Greeting) × (plain.standing ≡ Hearing state)
 Stands Hears state plain due = (due ≡ moves.Due.Nothing) × (plain.standing ≡ Hearing state)
-Stands (Waits asked) state plain due = (waits : WaitsFor state plain) × (due ≡ moves.Due.Nothing) × IsAsked asked waits.call
-Stands (Replies says) state plain due = (answer : calls.Answer) × (waits : WaitsFor state plain) × (due ≡ moves.Due.Reply answer) × Says says waits.call answer
+Stands (Waits asked) state plain due = (waits : WaitsFor state plain) × (due ≡ moves.Due.Nothing) × IsAsked asked state waits.call
+Stands (Replies says) state plain due = (answer : calls.Answer) × (waits : WaitsFor state plain) × (due ≡ moves.Due.Reply answer) × Says says state waits.call answer
 Stands Ended state plain due = (due ≡ moves.Due.Nothing) × HasEnded plain.standing
 
 -- the user of a login
@@ -71,10 +78,7 @@ Goes plan old move octets new = (plain : Session) (due : moves.Due) → Follows 
 
 -- the login that it was told, from the answer on
 abbrev pub told_login : Turn → Stage → Option Login
-told_login (Replies (Entered login items)) stage = Some login
-told_login (Replies (Shown octets)) stage = login_in stage
-told_login (Replies (Said text)) stage = login_in stage
-told_login (Replies (Last text)) stage = login_in stage
+told_login (Replies due) stage = due_login due (login_in stage)
 told_login Greets stage = login_in stage
 told_login Hears stage = login_in stage
 told_login (Waits asked) stage = login_in stage
@@ -82,10 +86,7 @@ told_login Ended stage = login_in stage
 
 -- and the messages of its listing
 abbrev pub told_items : Turn → Stage → List Item
-told_items (Replies (Entered login items)) stage = items
-told_items (Replies (Shown octets)) stage = listed_in stage
-told_items (Replies (Said text)) stage = listed_in stage
-told_items (Replies (Last text)) stage = listed_in stage
+told_items (Replies due) stage = due_items due (listed_in stage)
 told_items Greets stage = listed_in stage
 told_items Hears stage = listed_in stage
 told_items (Waits asked) stage = listed_in stage
@@ -161,6 +162,43 @@ HasReply (Waits asked) = ⊥
 HasReply (Replies says) = ⊤
 HasReply Ended = ⊥
 
--- the session with this listing, where its user was let in
-abbrev pub entered : Turn → Stage → List Slot → Stage
-entered (Replies (Entered login items)) stage listing = stage.Transaction login listing
+-- the stage of a session whose user was let in, with this listing
+abbrev pub stage_behind : Turn → Stage → List Slot → Stage
+stage_behind (Replies (Entered login items)) stage listing = stages.Transaction login listing
+stage_behind (Replies (Shown octets)) stage listing = stage
+stage_behind (Replies (Said text)) stage listing = stage
+stage_behind (Replies (Last text)) stage listing = stage
+stage_behind Greets stage listing = stage
+stage_behind Hears stage listing = stage
+stage_behind (Waits asked) stage listing = stage
+stage_behind Ended stage listing = stage
+
+-- TRANSACTION begins
+abbrev pub Enters : PopSession → List Slot → PopSession → Type 0
+Enters old listing new = new ≡ record old { turn = Hears; stage = stage_behind old.turn old.stage listing }
+
+-- what it was let in as and listed stays
+pub record Keeps (old new : PopSession) : Type 0 where
+  pub login : login_of new ≡ login_of old
+  pub items : items_of new ≡ items_of old
+  pub greeting : greeting_of new ≡ greeting_of old
+
+-- a session that waits takes what the answer names
+abbrev pub taken_by : Turn → Option Answer → Option Login → Option Login
+taken_by (Waits asked) answer login = taken_login asked answer login
+taken_by Greets answer login = login
+taken_by Hears answer login = login
+taken_by (Replies due) answer login = login
+taken_by Ended answer login = login
+
+abbrev pub listed_by : Turn → Option Answer → List Item → List Item
+listed_by (Waits asked) answer items = taken_items asked answer items
+listed_by Greets answer items = items
+listed_by Hears answer items = items
+listed_by (Replies due) answer items = items
+listed_by Ended answer items = items
+
+-- what the answer leaves of login and messages
+pub record Takes (answer : Option Answer) (old new : PopSession) : Type 0 where
+  pub login : login_of new ≡ taken_by old.turn answer (login_of old)
+  pub items : items_of new ≡ listed_by old.turn answer (items_of old)

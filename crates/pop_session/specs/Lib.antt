@@ -1,5 +1,6 @@
-pub mod Codes
+pub mod Slots
 pub mod Shown
 pub mod Laws
-pub mod Follows
 pub mod Messages
+pub mod Dues
+pub mod Follows

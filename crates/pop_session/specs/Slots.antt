@@ -1,5 +1,5 @@
 -- The places of a listing, as the definition of a session sees them.
-use Rattle.std.specs.Prelude.{ℕ, zero, suc, true, false, List, [], ◌∷◌, map, if◌then◌else◌}
+use Rattle.std.specs.Prelude.{ℕ, zero, suc, true, false, List, [], ◌∷◌, map, Option, Some, None, slice_get, option_and_then, if◌then◌else◌}
 use Rattle.mail_base.specs.declared.item.Item.{Item}
 use Rattle.mail_base.specs.Items.{item_seen}
 use Rattle.mail_model.specs.PopReplies as model
@@ -29,3 +29,12 @@ abbrev pub marked_at : List Slot → ℕ → List Slot
 marked_at [] n = []
 marked_at (slot ∷ slots) zero = record slot { marked = true } ∷ slots
 marked_at (slot ∷ slots) (suc n) = slot ∷ marked_at slots n
+
+-- the message of a slot that is not marked
+abbrev pub unmarked_item : Slot → Option Item
+unmarked_item slot = if slot.marked then None else Some slot.item
+
+-- the message of this number, the first of the listing being 1; one that is marked counts as none
+abbrev pub message_in : List Slot → ℕ → Option Item
+message_in slots zero = None
+message_in slots (suc n) = option_and_then unmarked_item (slice_get slots n)

@@ -1,11 +1,16 @@
 // What is said to the answer of a call.
-ghost use Rattle.std.specs.Prelude.{◌≡◌, ◌++◌, ℕ, List, OnOk, OnErr};
+ghost use Rattle.std.specs.Prelude.{◌≡◌, ◌++◌, ℕ, List, Option, OnOk, OnErr};
 ghost use Rattle.mail_model.specs.Lines.{sent_line};
 ghost use Rattle.session_model.specs.Calls as calls;
 ghost use Rattle.session_model.specs.Calls.{IsReply};
 ghost use Rattle.mail_model.specs.Identity.{Id};
 ghost use Rattle.call_tickets.specs.Seen.{given_answer};
-ghost use Rattle.pop_session.specs.Dues.{text_of, IsAsked, Says};
+ghost use Rattle.session_model.specs.Talk.{State};
+ghost use Rattle.session_model.specs.Talk.State.{Entering};
+ghost use Rattle.pop_session.specs.Dues.{text_of, IsAsked, Says, due_login, due_items, taken_login, taken_items};
+ghost use Rattle.pop_session.specs.declared.due.Asked.TheVariants as asks;
+ghost use Rattle.pop_session.specs.declared.stage.Login.{Login as Logins};
+ghost use Rattle.mail_base.specs.declared.item.Item.{Item as Listings};
 
 use crate::reply::line_into;
 use crate::stage::Login;
@@ -79,7 +84,9 @@ impl Text {
 
 // To a login.
 fn login_due(user: Name, answer: Option<Answer>) -> Due
-    ensures { (secret : List ℕ) (reply : List (List ℕ)) → IsReply (calls.Call.Login user secret) (given_answer answer) reply → Says result (calls.Call.Login user secret) (given_answer answer) }
+    ensures says { (named : Option (List ℕ)) (secret : List ℕ) (reply : List (List ℕ)) → IsReply (calls.Call.Login user secret) (given_answer answer) reply → Says result (Entering named) (calls.Call.Login user secret) (given_answer answer) }
+    ensures login { (other : Option Logins) → due_login result other ≡ taken_login (asks.Login user) answer other }
+    ensures items { (other : List Listings) → due_items result other ≡ taken_items (asks.Login user) answer other }
 {
     match answer {
         Some(Answer::Listed {
@@ -107,7 +114,9 @@ fn login_due(user: Name, answer: Option<Answer>) -> Due
 
 // To RETR.
 fn message_due(answer: Option<Answer>) -> Due
-    ensures { (user : List ℕ) (id : Id) (reply : List (List ℕ)) → IsReply (calls.Call.Fetch user id) (given_answer answer) reply → Says result (calls.Call.Fetch user id) (given_answer answer) }
+    ensures says { (state : State) (user : List ℕ) (id : Id) (reply : List (List ℕ)) → IsReply (calls.Call.Fetch user id) (given_answer answer) reply → Says result state (calls.Call.Fetch user id) (given_answer answer) }
+    ensures login { (other : Option Logins) → due_login result other ≡ taken_login asks.Message answer other }
+    ensures items { (other : List Listings) → due_items result other ≡ taken_items asks.Message answer other }
 {
     match answer {
         Some(Answer::Part { octets, .. }) => Due::Shown(octets),
@@ -123,7 +132,9 @@ fn message_due(answer: Option<Answer>) -> Due
 
 // To a QUIT with marks.
 fn deletion_due(answer: &Option<Answer>) -> Due
-    ensures { (user : List ℕ) (ids : List Id) (reply : List (List ℕ)) → IsReply (calls.Call.Strike user ids) (given_answer answer.now) reply → Says result (calls.Call.Strike user ids) (given_answer answer.now) }
+    ensures says { (state : State) (user : List ℕ) (ids : List Id) (reply : List (List ℕ)) → IsReply (calls.Call.Strike user ids) (given_answer answer.now) reply → Says result state (calls.Call.Strike user ids) (given_answer answer.now) }
+    ensures login { (other : Option Logins) → due_login result other ≡ taken_login asks.Deletion answer.now other }
+    ensures items { (other : List Listings) → due_items result other ≡ taken_items asks.Deletion answer.now other }
 {
     match answer {
         Some(Answer::Dropped { .. }) => Due::Last(Text::Bye),
@@ -140,7 +151,9 @@ fn deletion_due(answer: &Option<Answer>) -> Due
 impl Asked {
     /// What is to be said to this answer. It takes no memory.
     pub(crate) fn due(self, answer: Option<Answer>) -> Due
-        ensures { (call : calls.Call) (reply : List (List ℕ)) → IsAsked self call → IsReply call (given_answer answer) reply → Says result call (given_answer answer) }
+        ensures says { (state : State) (call : calls.Call) (reply : List (List ℕ)) → IsAsked self state call → IsReply call (given_answer answer) reply → Says result state call (given_answer answer) }
+        ensures login { (other : Option Logins) → due_login result other ≡ taken_login self answer other }
+        ensures items { (other : List Listings) → due_items result other ≡ taken_items self answer other }
     {
         match self {
             Asked::Login(user) => login_due(user, answer),

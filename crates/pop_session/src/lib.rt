@@ -80,19 +80,13 @@
 //! `Closed`, and after the answer to `Deletes`, the caller lets it go.
 #![tactic(auto)]
 
+mod due;
 mod laws;
 mod listing;
 mod reply;
-#[cfg(test)]
-mod reply_tests;
 mod session;
 mod stage;
-#[cfg(test)]
-mod tests;
 mod text;
 
 pub use laws::{asks_behind_user, listed_once, marked_is_none, numbered_alike, numbers_stay};
-pub use listing::{Item, Listing};
-pub use reply::Reply;
-pub use session::Session;
-pub use stage::Heard;
+pub use session::PopSession;

@@ -1,10 +1,9 @@
 // The messages of a maildrop, as they were listed at the login, and what was marked since.
-ghost use Rattle.std.specs.Prelude.{◌≡◌, ◌<◌, ◌≤◌, ◌^◌, ◌∷◌, ◌++◌, [], ℕ, Some, IfSome, IfOk, slice_get, length, map, sum_by};
+ghost use Rattle.std.specs.Prelude.{◌≡◌, ◌<◌, ◌≤◌, ◌^◌, ◌∷◌, ◌++◌, [], ℕ, Some, IfSome, IfOk, slice_get, length, map, sum_by, filter, not};
 ghost use Rattle.std.specs.Option.{option_copied, option_map};
-ghost use Rattle.mail_model.specs.PopReplies.{unmarked};
 ghost use Rattle.mail_model.specs.Maildrop.{message_at, with_mark};
 ghost use Rattle.mail_base.specs.Items.{item_seen};
-ghost use Rattle.pop_session.specs.Slots.{slots_seen, items_in, marked_items, listed_slot, marked_at};
+ghost use Rattle.pop_session.specs.Slots.{slots_seen, items_in, marked_items, listed_slot, marked_at, message_in};
 
 use mail_base::{Item, Items};
 use std::alloc::{AllocError, Global};
@@ -71,14 +70,20 @@ impl Listing {
         &self.held
     }
 
+    // The message of this number.
+    fn held_message(&self, number: u32) -> Option<&Item>
+        ensures { option_copied result ≡ message_in self.now number }
+    {
+        let slot = self.held.get((number as usize).checked_sub(1)?)?;
+        if slot.marked { None } else { Some(&slot.item) }
+    }
+
     /// The message of this number; nothing at 0, after the last, and where it is marked.
-    #[tactic(auto, using(crate::proofs::Marks::seen_at))]
     pub(crate) fn message(&self, number: u32) -> Option<&Item>
         ensures message { option_map item_seen (option_copied result) ≡ message_at (slots_seen self.now) number }
         ensures own { IfSome result (λ item. (at : ℕ) × (slice_get (items_in self.now) at ≡ Some item.now)) }
     {
-        let slot = self.held.get((number as usize).checked_sub(1)?)?;
-        if slot.marked { None } else { Some(&slot.item) }
+        self.held_message(number)
     }
 
     /// Marks the message of this number, where there is one (RFC 1939, section 5).
@@ -93,17 +98,15 @@ impl Listing {
     }
 
     /// How many messages are not marked.
-    #[tactic(auto, using(crate::proofs::Marks::unmarked_count))]
     pub(crate) fn count(&self) -> usize
-        ensures { result ≡ length (unmarked (slots_seen self.now)) }
+        ensures { result ≡ length (filter (λ slot. not slot.marked) self.now) }
     {
         self.held.iter().filter(|slot| !slot.marked).count()
     }
 
     /// How many octets these have together.
-    #[tactic(auto, using(crate::proofs::Marks::unmarked_octets))]
     pub(crate) fn octets(&self) -> u128
-        ensures { result ≡ sum_by (λ item. item.size) (unmarked (slots_seen self.now)) }
+        ensures { result ≡ sum_by (λ slot. slot.item.length) (filter (λ slot. not slot.marked) self.now) }
     {
         self.held
             .iter()

@@ -81,16 +81,16 @@ impl Reply {
         self.push(line.to_vec(alloc)?)
     }
 
-    // Appends the lines, each with its CRLF.
-    fn push_into(&self, out: &mut Vec<u8>) -> Result<(), AllocError>
-        ensures ok { OnOk result (out.new.items ≡ out.old.items ++ flat_map sent_line self.now) }
-        ensures err { OnErr result ((more : List ℕ) × (out.new.items ≡ out.old.items ++ more)) }
+    // The lines, each with its CRLF.
+    fn octets(&self, alloc: Global) -> Result<Vec<u8>, AllocError>
+        ensures { IfOk result (λ octets. octets.items ≡ flat_map sent_line self.now) }
     {
+        let mut octets = Vec::new(alloc);
         for line in &self.held {
-            out.extend_from_slice(line.as_slice())?;
-            out.extend_from_slice(b"\r\n")?;
+            octets.extend_from_slice(line.as_slice())?;
+            octets.extend_from_slice(b"\r\n")?;
         }
-        Ok(())
+        Ok(octets)
     }
 
     /// Appends the lines, each with its CRLF.
@@ -98,16 +98,11 @@ impl Reply {
     /// # Errors
     ///
     /// Only want of memory; the octets are then as before.
-    pub(crate) fn lines_into(&self, out: &mut Vec<u8>) -> Result<(), AllocError>
+    pub(crate) fn lines_into(&self, alloc: Global, out: &mut Vec<u8>) -> Result<(), AllocError>
         ensures ok { OnOk result (out.new.items ≡ out.old.items ++ flat_map sent_line self.now) }
         ensures err { OnErr result (out.new.items ≡ out.old.items) }
     {
-        let kept = out.len();
-        let done = self.push_into(out);
-        if done.is_err() {
-            out.truncate(kept);
-        }
-        done
+        out.extend_from_slice(&self.octets(alloc)?)
     }
 
     /// The reply of this one line.
@@ -126,6 +121,7 @@ impl Reply {
     }
 
     /// To STAT (RFC 1939, section 5).
+    #[tactic(auto, using(crate::proofs::Marks::unmarked_count, crate::proofs::Marks::unmarked_octets))]
     pub(crate) fn count(alloc: Global, listing: &Listing) -> Result<Reply, AllocError>
         ensures { IfOk result (λ reply. reply ≡ one_line (stat_text (slots_seen listing.now))) }
     {

@@ -13,7 +13,7 @@ ghost use Rattle.call_tickets.specs.Seen.{given_answer};
 ghost use Rattle.call_tickets.specs.Moves as moves;
 ghost use Rattle.call_tickets.specs.Moves.{Fed, Fell, HasEnded};
 ghost use Rattle.pop_session.specs.Shown.{login_in};
-ghost use Rattle.pop_session.specs.Follows.{Follows, Moved, Begins, Enters, HasReply, HasLogin, Keeps, fetch_of, greeting_of, login_of, leave_of, user_of, left, held};
+ghost use Rattle.pop_session.specs.Follows.{Follows, Moved, Begins, Enters, HasReply, Keeps, Takes, fetch_of, greeting_of, login_of, leave_of, user_of, left, held};
 
 use crate::due::{Asked, Due};
 use crate::listing::Listing;
@@ -176,29 +176,34 @@ impl PopSession {
         ensures err { OnErr result ((self.new ≡ self.old) × (out.new.items ≡ out.old.items)) }
     {
         match &self.turn {
-            Turn::Replies(Due::Shown(octets)) => {
-                message_into(out, alloc, octets.as_slice())?;
-                self.turn = Turn::Hears;
-            }
-            Turn::Replies(Due::Said(text)) => {
-                text.line_into(out)?;
-                self.turn = Turn::Hears;
-            }
-            Turn::Replies(Due::Last(text)) => {
-                text.line_into(out)?;
-                self.turn = Turn::Ended;
-            }
-            Turn::Replies(Due::Entered { items, .. }) => {
-                let listing = Listing::listed(alloc, items)?;
-                line_into(out, b"+OK maildrop open")?;
-                self.enter(listing);
-            }
-            Turn::Greets => {}
-            Turn::Hears => {}
-            Turn::Waits(_) => {}
-            Turn::Ended => {}
+            Turn::Replies(due) => match due {
+                Due::Shown(octets) => {
+                    message_into(out, alloc, octets.as_slice())?;
+                    self.turn = Turn::Hears;
+                    Ok(Move::Said)
+                }
+                Due::Said(text) => {
+                    text.line_into(out)?;
+                    self.turn = Turn::Hears;
+                    Ok(Move::Said)
+                }
+                Due::Last(text) => {
+                    text.line_into(out)?;
+                    self.turn = Turn::Ended;
+                    Ok(Move::Said)
+                }
+                Due::Entered { items, .. } => {
+                    let listing = Listing::listed(alloc, items)?;
+                    line_into(out, b"+OK maildrop open")?;
+                    self.enter(listing);
+                    Ok(Move::Said)
+                }
+            },
+            Turn::Greets => Ok(Move::Said),
+            Turn::Hears => Ok(Move::Said),
+            Turn::Waits(_) => Ok(Move::Said),
+            Turn::Ended => Ok(Move::Said),
         }
-        Ok(Move::Said)
     }
 
     // TRANSACTION begins with this listing, where its user is let in (RFC 1939, section 5).
@@ -217,7 +222,7 @@ impl PopSession {
     pub fn answer(&mut self, answer: Option<Answer>)
         ensures replies { (plain : Session) (state : State) (call : calls.Call) (reply : List (List ℕ)) → Follows self.old plain moves.Due.Nothing → plain.standing ≡ Waiting state call
             → IsReply call (given_answer answer) reply → Follows self.new plain (moves.Due.Reply (given_answer answer)) }
-        ensures login { HasLogin answer self.old self.new }
+        ensures takes { Takes answer self.old self.new }
         ensures left { left self.new ≤ left self.old + 1 }
     {
         match std::mem::replace(&mut self.turn, Turn::Ended) {
@@ -245,11 +250,11 @@ impl PopSession {
     /// The Leave of a session that has ended or is closed; nothing exactly where TRANSACTION never began. Its
     /// caller begins it once the session's last octets were written, and not where its node went down. It takes
     /// no memory.
-    pub fn leave(self) -> Option<Call>
+    pub fn leave(mut self) -> Option<Call>
         ensures leaves { result ≡ leave_of (login_in self.stage) }
         ensures user { (plain : Session) (due : moves.Due) → Follows self plain due → user_of (login_in self.stage) ≡ entered_as plain.whole }
     {
-        match self.stage {
+        match std::mem::replace(&mut self.stage, Stage::Authorization { user: None }) {
             Stage::Authorization { .. } => None,
             Stage::Transaction { login, .. } => Some(Call::Leave {
                 user: login.user,

@@ -308,13 +308,16 @@ impl Stage {
         out: &mut Vec<u8>,
     ) -> Result<Heard, AllocError>
         ensures ok { is_long_line line.now ≡ false → IfOk result (λ heard. HearsLine plan.now self.old line.now heard self.new) }
+        ensures own { IfOk result (λ heard. IsOwn (name_in self.old) (slots_in self.old) heard) }
+        ensures login { login_in self.new ≡ login_in self.old }
+        ensures items { listed_in self.new ≡ listed_in self.old }
         ensures said { IfOk result (λ heard. out.new.items ≡ out.old.items ++ flat_map sent_line (reply_in heard)) }
         ensures err { OnErr result ((self.new ≡ self.old) × (out.new.items ≡ out.old.items)) }
     {
         let command = read_command(line);
         let heard = obey(self, alloc, plan, &command)?;
         let user = named_by(alloc, &command)?;
-        heard.reply_into(out)?;
+        heard.reply_into(alloc, out)?;
         self.tell(user, &command);
         Ok(heard)
     }
@@ -335,13 +338,13 @@ impl Stage {
 
 impl Heard {
     // Appends the lines of its reply, where it has one.
-    fn reply_into(&self, out: &mut Vec<u8>) -> Result<(), AllocError>
+    fn reply_into(&self, alloc: Global, out: &mut Vec<u8>) -> Result<(), AllocError>
         ensures ok { OnOk result (out.new.items ≡ out.old.items ++ flat_map sent_line (reply_in self.now)) }
         ensures err { OnErr result (out.new.items ≡ out.old.items) }
     {
         match self {
-            Heard::Said(reply) => reply.lines_into(out),
-            Heard::Ended(reply) => reply.lines_into(out),
+            Heard::Said(reply) => reply.lines_into(alloc, out),
+            Heard::Ended(reply) => reply.lines_into(alloc, out),
             Heard::LogsIn { .. } => Ok(()),
             Heard::Fetches { .. } => Ok(()),
             Heard::Deletes { .. } => Ok(()),

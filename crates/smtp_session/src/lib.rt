@@ -73,6 +73,8 @@
 mod envelope;
 mod reply;
 mod session;
+#[cfg(test)]
+mod tests;
 mod text;
 mod told;
 

@@ -274,10 +274,9 @@ impl SmtpSession {
 
     /// How many octets of its client it holds: those that no unit has taken yet, and those of a text so far.
     pub fn held(&self) -> usize
-        requires { held self.now < 2 ^ 64 }
-        ensures { result ≡ held self.now }
+        ensures { held self.now < 2 ^ 64 → result ≡ held self.now }
     {
-        self.cutter.rest().len() + self.text.kept()
+        self.cutter.rest().len().saturating_add(self.text.kept())
     }
 }
 

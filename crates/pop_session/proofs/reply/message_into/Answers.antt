@@ -1,0 +1,9 @@
+use Rattle.std.proofs.Common.{List, ℕ, ap, sym, ◌∙◌, ◌++◌}
+use Rattle.mail_model.specs.Lines.{sent_line}
+use Rattle.pop_session.proofs.Messages.{part_done}
+use Rattle.pop_session.proofs.reply.message_into.Goals as goal
+
+pub returns-else-is_err-clause-ok : goal.returns-else-is_err-clause-ok
+returns-else-is_err-clause-ok c =
+    part_done c.args.octets.now c.args.out.now.items c.line_into.new.out.items c.dot_into-done.new.out.items _ c.dot_into-done.result
+    (c.in_ok-line_into.ensures.ok ∙ ap (λ (l : List ℕ). c.args.out.now.items ++ sent_line l) (c.deref.ensures.value ∙ c.in_ok-octets_line.ensures)) c.dot_into-done.ensures.ok
