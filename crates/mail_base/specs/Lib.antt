@@ -1,5 +1,4 @@
 pub mod Answers
-pub mod LowerNames
 pub mod NameFaults
 pub mod Orders
 pub mod Buckets
