@@ -1,10 +1,10 @@
 -- What stood stands after a node has acted.
 use Rattle.std.proofs.Common.{◌≡◌, ◌⊎◌, inl, inr, ⊎_elim, ℕ, ◌<◌, ◌≤◌, List, ◌++◌, Option, Some, None, refl, sym, ap, ◌∙◌, subst, arith}
 use Rattle.mail_model.specs.Identity.{EpochId}
-use Rattle.object_model.specs.Letters.{Membership}
+use Rattle.object_model.specs.Letters.{Membership, Letter}
 use Rattle.object_model.specs.Lists.{Among}
 use Rattle.maps_model.specs.Epochs.{IsBefore, IsAtMost}
-use Rattle.maps_model.specs.Cluster.{OpenGroup, Node, Life, Slot, Letter, slot_at, with_slot, slot_up, epoch_in, epoch_of}
+use Rattle.maps_model.specs.Cluster.{OpenGroup, Node, Life, Slot, slot_at, with_slot, slot_up, epoch_in, epoch_of}
 use Rattle.maps_model.specs.Cluster.Life.{Up, Down, Lost}
 use Rattle.maps_model.specs.Words.{Known, OpensLater, IsOver, IsPast, HasEntered, AllName, IsStillIn, HasJoined, WasIn, JoinStands}
 use Rattle.maps_model.specs.Moves.{NodeInOrder, IsInOrder, Act, WasUp, Begins, WasOpen, Forms, HadInstalled, IsAct}

@@ -2,7 +2,7 @@
 use Rattle.std.proofs.Common.{◌≡◌, ◌⊎◌, inl, inr, ⊎_elim, ℕ, ◌<◌, ◌≤◌, Bool, true, false, List, ◌++◌, Option, Some, refl, sym, ◌∙◌, subst, true≢false, arith}
 use Rattle.mail_model.specs.Identity.{EpochId}
 use Rattle.object_model.specs.Lists.{Among}
-use Rattle.maps_model.specs.Cluster.{Row, Letter}
+use Rattle.object_model.specs.Letters.{Row, Letter}
 use Rattle.maps_model.specs.Words.{IsOneOf, IsReport, IsAck, Fits, HasAtLeast, IsUntold, IsLatest, Agrees}
 use Rattle.maps_model.proofs.Lists.{among_either, same_some}
 
@@ -17,7 +17,7 @@ fits_on row old new full fuller (inl e) f = record {
 }
 fits_on row old new full fuller (inr lt) f = record { bounded = omega (arith, f.bounded, lt); same = λ h. absurd (omega (arith, f.bounded, lt, h)) }
 
-module _ (flying : List Letter) (n own user : ℕ) (a b : EpochId) where
+module _ (flying : List Letter) (n own : ℕ) (user : List ℕ) (a b : EpochId) where
   -- a Report of the node that is on its way
   pub record OnItsWay (row : Row) : Type 0 where
     pub letter : Letter
@@ -30,7 +30,7 @@ module _ (flying : List Letter) (n own user : ℕ) (a b : EpochId) where
   pub data RowOn (old new : Option Row) (version : ℕ) (full : Bool) : Type 0 where
     Stays : new ≡ old → RowOn old new version full
     Takes : (row : Row) → OnItsWay row → new ≡ Some row → ((stood : Row) → old ≡ Some stood → stood.version ≤ row.version) → RowOn old new version full
-    Tells : new ≡ Some (record { version = version; full = full }) → RowOn old new version full
+    Tells : (row : Row) → new ≡ Some row → row.version ≡ version → row.full ≡ full → RowOn old new version full
 
   pub record AckOnItsWay (version : ℕ) : Type 0 where
     pub letter : Letter
@@ -45,7 +45,7 @@ module _ (flying : List Letter) (n own user : ℕ) (a b : EpochId) where
     Acked : AckOnItsWay new → new ≡ old → fuller ≡ full → QuietOn row old new full fuller marked
     Latest : IsLatest row new → QuietOn row old new full fuller marked
 
-module _ (flying out : List Letter) (n own user : ℕ) (x y a b : EpochId) (row0 row1 : Option Row) (v0 v1 : ℕ) (h0 h1 m0 m1 : Bool)
+module _ (flying out : List Letter) (n own : ℕ) (user : List ℕ) (x y a b : EpochId) (row0 row1 : Option Row) (v0 v1 : ℕ) (h0 h1 m0 m1 : Bool)
     (had : Agrees flying n user x y row0 v0 h0 m0)
     (reports_in : (letter : Letter) → Among letter flying → letter.from ≡ n → IsOneOf a b letter.epoch → (boot : ℕ) (row : Row) → IsReport letter user boot row → IsOneOf x y letter.epoch)
     (acks_in : (letter : Letter) → Among letter flying → letter.to ≡ n → IsOneOf a b letter.epoch → (told : ℕ) → IsAck letter user told → IsOneOf x y letter.epoch)
@@ -58,7 +58,7 @@ module _ (flying out : List Letter) (n own user : ℕ) (x y a b : EpochId) (row0
   fits : RowOn flying n own user x y row0 row1 v1 h1 → (row : Row) → row1 ≡ Some row → Fits row v1 h1
   fits (Stays e) row h = fits_on row v0 v1 h0 h1 says (had.fits row (sym e ∙ h))
   fits (Takes taken way e newer) row h = subst (λ r. Fits r v1 h1) (same_some row1 taken row e h) (fits_on taken v0 v1 h0 h1 says (reports taken way))
-  fits (Tells e) row h = subst (λ r. Fits r v1 h1) (same_some row1 (record { version = v1; full = h1 }) row e h) (record { bounded = omega arith; same = λ s. refl })
+  fits (Tells own e v f) row h = subst (λ r. Fits r v1 h1) (same_some row1 own row e h) (record { bounded = omega (arith, v); same = λ s. f })
 
   risen : SaysOn v0 v1 h0 h1 → v0 ≤ v1
   risen (inl e) = omega (arith, e.0)
@@ -67,7 +67,7 @@ module _ (flying out : List Letter) (n own user : ℕ) (x y a b : EpochId) (row0
   at_least : RowOn flying n own user x y row0 row1 v1 h1 → (told : ℕ) → HasAtLeast row0 told → HasAtLeast row1 told
   at_least (Stays e) told h = record { found = h.found; is = e ∙ h.is; not_below = h.not_below }
   at_least (Takes taken way e newer) told h = record { found = taken; is = e; not_below = omega (arith, h.not_below, newer h.found h.is) }
-  at_least (Tells e) told h = record { found = record { version = v1; full = h1 }; is = e; not_below = omega (arith, h.not_below, (had.fits h.found h.is).bounded, risen says) }
+  at_least (Tells own e v f) told h = record { found = own; is = e; not_below = omega (arith, v, h.not_below, (had.fits h.found h.is).bounded, risen says) }
 
   module _ (unmarked : m1 ≡ false) where
     silent : (row : Option Row) (full : Bool) → IsUntold flying n user x y row full → (letter : Letter) → Among letter (flying ++ out) → letter.from ≡ n → IsOneOf a b letter.epoch
@@ -80,12 +80,12 @@ module _ (flying out : List Letter) (n own user : ℕ) (x y a b : EpochId) (row0
     latest : RowOn flying n own user x y row0 row1 v1 h1 → v1 ≡ v0 → IsLatest row0 v0 → IsLatest row1 v1
     latest (Stays e) same l = record { found = l.found; is = e ∙ l.is; latest = l.latest ∙ sym same }
     latest (Takes taken way e newer) same l = record { found = taken; is = e; latest = omega (arith, newer l.found l.is, (reports taken way).bounded, l.latest, same) }
-    latest (Tells e) same l = record { found = record { version = v1; full = h1 }; is = e; latest = refl }
+    latest (Tells own e v f) same l = record { found = own; is = e; latest = v }
 
     untold : RowOn flying n own user x y row0 row1 v1 h1 → h1 ≡ h0 → IsUntold flying n user x y row0 h0 → IsUntold (flying ++ out) n user a b row1 h1 ⊎ IsLatest row1 v1
     untold (Stays e) same u = inl (record { missing = e ∙ u.missing; empty = same ∙ u.empty; silent = silent row0 h0 u })
     untold (Takes taken way e newer) same u = absurd (u.silent way.letter way.inside way.from way.same own taken way.is)
-    untold (Tells e) same u = inr (record { found = record { version = v1; full = h1 }; is = e; latest = refl })
+    untold (Tells own e v f) same u = inr (record { found = own; is = e; latest = v })
 
     reached : (told : ℕ) → v1 ≡ v0 → told ≡ v1 → HasAtLeast row0 told → IsLatest row0 v0
     reached told same is h = record { found = h.found; is = h.is; latest = omega (arith, h.not_below, (had.fits h.found h.is).bounded, same, is) }

@@ -1,8 +1,8 @@
 -- What a node does with marks and rows at an install can always be done: each of its tests is decided.
-use Rattle.std.proofs.Common.{◌≡◌, ◌⊎◌, inl, inr, ⊎_elim, ℕ, Bool, true, false, Option, Some, None, refl, sym, ap, ◌∙◌, subst, true≢false}
+use Rattle.std.proofs.Common.{◌≡◌, ◌⊎◌, inl, inr, ⊎_elim, ℕ, Bool, true, false, List, Option, Some, None, refl, sym, ap, ◌∙◌, subst, true≢false}
 use Rattle.mail_model.specs.Identity.{EpochId}
-use Rattle.object_model.specs.Letters.{Member, Membership}
-use Rattle.maps_model.specs.Cluster.{Row, Node, Disk, member_of, Names, Comes, manager_of}
+use Rattle.object_model.specs.Letters.{Member, Membership, Row}
+use Rattle.maps_model.specs.Cluster.{Node, Disk, member_of, Names, Comes, manager_of}
 use Rattle.maps_model.specs.Rules.{KeepsAny, own_row, IsKept, IsSpared, IsDue, MarkAt, RowAt, Entering}
 use Rattle.maps_model.specs.Rules.MarkAt.{TellsItself, Marks, Spares}
 use Rattle.maps_model.specs.Rules.RowAt.{Tells, Keeps, Drops}
@@ -56,7 +56,7 @@ module _ (own : ℕ) (node : Node) (disk : Disk) (g : Membership) where
           (λ apart. inr (λ c. apart (ap (λ (x : Member). x.boot) (same_some (member_of g.members m) member c.member e c.is) ∙ c.same)))
           (by_number member.boot boot)
 
-  kept : (m boot user : ℕ) → Decided (IsKept own node g m boot user)
+  kept : (m boot : ℕ) (user : List ℕ) → Decided (IsKept own node g m boot user)
   kept m boot user = by node.installed refl
     where
       by : (x : Option Membership) → node.installed ≡ x → Decided (IsKept own node g m boot user)
@@ -74,7 +74,7 @@ module _ (own : ℕ) (node : Node) (disk : Disk) (g : Membership) where
           (λ never. inr (λ k. never (subst (λ (x : Membership). manager_of x user ≡ Some own) (is_old k) k.managed)))
           (by_manager (manager_of old user) own)
 
-  spared : (user : ℕ) → Decided (IsSpared node g user)
+  spared : (user : List ℕ) → Decided (IsSpared node g user)
   spared user = by node.installed (manager_of g user) refl refl
     where
       by : (x : Option Membership) (y : Option ℕ) → node.installed ≡ x → manager_of g user ≡ y → Decided (IsSpared node g user)
@@ -99,7 +99,7 @@ module _ (own : ℕ) (node : Node) (disk : Disk) (g : Membership) where
               (by_epoch member.was old.epoch)
 
   -- a user is due, or has no mark and either no message or a manager that spares it
-  due : (user : ℕ) → IsDue node disk g user ⊎ ((node.marked user ≡ false) × ((disk.holds user ≡ false) ⊎ IsSpared node g user))
+  due : (user : List ℕ) → IsDue node disk g user ⊎ ((node.marked user ≡ false) × ((disk.holds user ≡ false) ⊎ IsSpared node g user))
   due user = ⊎_elim
       (λ marked. inl (inl marked))
       (λ none. ⊎_elim
@@ -108,17 +108,17 @@ module _ (own : ℕ) (node : Node) (disk : Disk) (g : Membership) where
       (by_bool (disk.holds user)))
       (by_bool (node.marked user))
 
-  undue : (user : ℕ) → node.marked user ≡ false → (disk.holds user ≡ false) ⊎ IsSpared node g user → IsDue node disk g user → ⊥
+  undue : (user : List ℕ) → node.marked user ≡ false → (disk.holds user ≡ false) ⊎ IsSpared node g user → IsDue node disk g user → ⊥
   undue user none why (inl marked) = true≢false (sym marked ∙ none)
   undue user none why (inr d) = ⊎_elim (λ empty. true≢false (sym d.0 ∙ empty)) (λ s. d.1 s) why
 
-  mark_at : (user : ℕ) → (marked : Bool) × MarkAt own node disk g user marked
+  mark_at : (user : List ℕ) → (marked : Bool) × MarkAt own node disk g user marked
   mark_at user = ⊎_elim
       (λ managed. (false, TellsItself managed refl))
       (λ other. ⊎_elim (λ is_due. (true, Marks other is_due refl)) (λ no_due. (false, Spares other no_due.0 no_due.1 refl)) (due user))
       (by_manager (manager_of g user) own)
 
-  keep_or_drop : (m boot user : ℕ) → (m ≡ own → boot ≡ node.boot → manager_of g user ≡ Some own → IsDue node disk g user → ⊥) → (IsKept own node g m boot user → m ≡ own → IsDue node disk g user → ⊥)
+  keep_or_drop : (m boot : ℕ) (user : List ℕ) → (m ≡ own → boot ≡ node.boot → manager_of g user ≡ Some own → IsDue node disk g user → ⊥) → (IsKept own node g m boot user → m ≡ own → IsDue node disk g user → ⊥)
       → (row : Option Row) × RowAt own node disk g m boot user row
   keep_or_drop m boot user dropped keeps = ⊎_elim
       (λ k. (node.rows m boot user, Keeps k (keeps k) refl))
@@ -126,12 +126,12 @@ module _ (own : ℕ) (node : Node) (disk : Disk) (g : Membership) where
       (kept m boot user)
 
   module _ (names : Names g own node.boot) where
-    row_at : (m boot user : ℕ) → (row : Option Row) × RowAt own node disk g m boot user row
+    row_at : (m boot : ℕ) (user : List ℕ) → (row : Option Row) × RowAt own node disk g m boot user row
     row_at m boot user = ⊎_elim
         (λ mine. ⊎_elim
         (λ its. ⊎_elim
         (λ managed. ⊎_elim
-        (λ is_due. (Some (own_row node disk user), Tells mine its managed is_due refl))
+        (λ is_due. (Some (own_row own node disk user), Tells mine its managed is_due refl))
         (λ no_due. keep_or_drop m boot user (λ a b c d. undue user no_due.0 no_due.1 d) (λ k a d. undue user no_due.0 no_due.1 d))
         (due user))
         (λ other. keep_or_drop m boot user (λ a b c d. other c) (λ k a d. other k.manages))
@@ -142,7 +142,7 @@ module _ (own : ℕ) (node : Node) (disk : Disk) (g : Membership) where
         (λ apart. keep_or_drop m boot user (λ a b c d. apart a) (λ k a d. apart a))
         (by_number m own)
 
-    pub can_enter : (marked : ℕ → Bool) × ((rows : ℕ → ℕ → ℕ → Option Row) × Entering own node disk g marked rows)
+    pub can_enter : (marked : List ℕ → Bool) × ((rows : ℕ → ℕ → List ℕ → Option Row) × Entering own node disk g marked rows)
     can_enter = (
       λ user. (mark_at user).0,
       (

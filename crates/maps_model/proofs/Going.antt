@@ -1,10 +1,10 @@
 -- A node that goes on in its epoch: rows agree with what it says.
 use Rattle.std.proofs.Common.{◌≡◌, ◌≢◌, inl, ⊎_elim, ℕ, Bool, true, false, List, Option, Some, refl, sym, ap, ◌∙◌, subst, arith}
 use Rattle.mail_model.specs.Identity.{EpochId}
-use Rattle.object_model.specs.Letters.{Membership}
+use Rattle.object_model.specs.Letters.{Membership, Row, Letter}
 use Rattle.object_model.specs.Lists.{Among}
 use Rattle.maps_model.specs.Epochs.{IsBefore}
-use Rattle.maps_model.specs.Cluster.{Row, Node, Disk, Slot, Letter, slot_at, slot_up, epoch_in, epoch_of, Names, manager_of}
+use Rattle.maps_model.specs.Cluster.{Node, Disk, Slot, slot_at, slot_up, epoch_in, epoch_of, Names, manager_of}
 use Rattle.maps_model.specs.Cluster.Life.{Up}
 use Rattle.maps_model.specs.Words.{Known, IsOver, IsOneOf, IsReport, IsAck, HasAtLeast, IsLatest, Agrees, RowFor}
 use Rattle.maps_model.specs.Words.RowFor.{Stands, WillDrop, WillKeep, Ahead}
@@ -23,7 +23,7 @@ use Rattle.maps_model.proofs.Agreeing.{SaysOn, QuietOn, agrees_on}
 use Rattle.maps_model.proofs.Agreeing.QuietOn.{Was, Acked, Latest}
 
 -- where the manager is in the epoch too, its row counts
-pub row_now : (own : ℕ) (other : Node) (g : Membership) (n boot user : ℕ) (row : Option Row) (epoch : EpochId) → RowFor own other g n boot user row epoch → epoch_of other ≡ g.epoch → row ≡ other.rows n boot user
+pub row_now : (own : ℕ) (other : Node) (g : Membership) (n boot : ℕ) (user : List ℕ) (row : Option Row) (epoch : EpochId) → RowFor own other g n boot user row epoch → epoch_of other ≡ g.epoch → row ≡ other.rows n boot user
 row_now own other g n boot user row epoch (Stands e r same) h = r
 row_now own other g n boot user row epoch (WillDrop lt comes never r same) h = absurd (before_not_same (epoch_of other) g.epoch lt h)
 row_now own other g n boot user row epoch (WillKeep lt comes k r same) h = r
@@ -41,7 +41,7 @@ module _ (slots : List Slot) (flying : List Letter) (act : Act) (here : slot_at 
   later : OneEach Slots Letters
   later = one_acted slots flying act here is flew order one
 
-  module _ (n : ℕ) (node : Node) (disk : Disk) (at : slot_at Slots n ≡ Some (slot_up node disk)) (g : Membership) (installed : node.installed ≡ Some g) (user manager : ℕ)
+  module _ (n : ℕ) (node : Node) (disk : Disk) (at : slot_at Slots n ≡ Some (slot_up node disk)) (g : Membership) (installed : node.installed ≡ Some g) (user : List ℕ) (manager : ℕ)
       (managed : manager_of g user ≡ Some manager) (other : Node) (its : Disk) (atm : slot_at Slots manager ≡ Some (slot_up other its))
       (row : Option Row) (epoch : EpochId) (counts : RowFor manager other g n node.boot user row epoch) where
     the_other : manager ≡ act.node → (new : Node) → act.after.life ≡ Up new → new ≡ other
@@ -55,7 +55,7 @@ module _ (slots : List Slot) (flying : List Letter) (act : Act) (here : slot_at 
         let same : node ≡ other = the_other managing node f in
         let its_row : row ≡ other.rows n node.boot user = row_now manager other g n node.boot user row epoch counts (ap epoch_of (sym same) ∙ ap epoch_in installed) in
         let moved : node.rows act.node node.boot user ≡ other.rows n node.boot user = λ i. (same i).rows ((sym mine) i) node.boot user in
-        record { found = own_row node act.after.disk user; is = its_row ∙ sym moved ∙ t.told; latest = refl }
+        record { found = own_row act.node node act.after.disk user; is = its_row ∙ sym moved ∙ t.told; latest = refl }
 
     module _ (old : Node) (disk0 : Disk) (at0 : slot_at slots n ≡ Some (slot_up old disk0)) (inst : old.installed ≡ Some g) (booted : old.boot ≡ node.boot) where
       known0 : Known slots flying g

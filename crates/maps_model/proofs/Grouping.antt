@@ -2,11 +2,11 @@
 use Rattle.std.proofs.Common.{◌≡◌, ◌≢◌, inl, inr, ⊎_elim, ℕ, zero, suc, ◌<◌, Bool, true, false, List, [], ◌∷◌, map, Option, Some, None, refl, sym, ap, ◌∙◌, subst, true≢false, arith, nat_eq, if◌then◌else◌}
 use Rattle.std.proofs.lemmas.Bool.{eq-eqb}
 use Rattle.mail_model.specs.Identity.{EpochId, no_epoch}
-use Rattle.object_model.specs.Letters.{Claim, Member, Membership}
+use Rattle.object_model.specs.Letters.{Claim, Member, Membership, Row, Letter}
 use Rattle.object_model.specs.Lists.{Among}
 use Rattle.maps_model.specs.Epochs.{IsBefore, IsAtMost}
-use Rattle.maps_model.specs.Cluster.{Joined, OpenGroup, Row, Node, Disk, Letter, epoch_of, Names}
-use Rattle.maps_model.specs.Cluster.Body.{Group, Join, Install, Report, ReportAck}
+use Rattle.maps_model.specs.Cluster.{Joined, OpenGroup, Node, Disk, epoch_of, Names}
+use Rattle.object_model.specs.Letters.Body.{Group, Join, Install, Report, ReportAck}
 use Rattle.maps_model.specs.Moves.{NodeInOrder, Act, SendsJoin, IsAct}
 use Rattle.maps_model.specs.Rules.{Reaction, letter_to, others, own_join, promised, next_epoch, start_group, join_letter, join_group, HearsGroup}
 use Rattle.maps_model.specs.Rules.HearsGroup.{Rises, Again, Old}
@@ -22,7 +22,7 @@ plain_group act to epoch apart = record {
   to = apart;
   install = λ g h. by_install g h;
   join = λ e p b was claims h. absurd (by_join e p b was claims h);
-  report = λ user b row r. by_report user b row r.is;
+  report = λ user b row r. by_report row r.is;
   ack = λ user version r. by_ack user version r.is;
 }
   where
@@ -32,10 +32,10 @@ plain_group act to epoch apart = record {
     by_join : (e p : EpochId) (b : ℕ) (was : EpochId) (claims : List Claim) → Group epoch ≡ Join e p b was claims → ⊥
     by_join e p b was claims h = cc
 
-    by_report : (user b : ℕ) (row : Row) → Group epoch ≡ Report user b row → ⊥
-    by_report user b row h = cc
+    by_report : (row : Row) → Group epoch ≡ Report row → ⊥
+    by_report row h = cc
 
-    by_ack : (user version : ℕ) → Group epoch ≡ ReportAck user version → ⊥
+    by_ack : (user : List ℕ) (version : ℕ) → Group epoch ≡ ReportAck user version → ⊥
     by_ack user version h = cc
 
 pub plain_join : (act : Act) (to : ℕ) (epoch promise : EpochId) (b : ℕ) (was : EpochId) (claims : List Claim) → to ≢ act.node → SendsJoin act epoch b was → IsPlain act (letter_to act.node (Join epoch promise b was claims) to)
@@ -44,7 +44,7 @@ plain_join act to epoch promise b was claims apart within = record {
   to = apart;
   install = λ g h. by_install g h;
   join = λ e p c w k h. let q = by_join e p c w k h in subst (λ x. SendsJoin act e c x) q.2 (subst (λ x. SendsJoin act e x was) q.1 (subst (λ x. SendsJoin act x b was) q.0 within));
-  report = λ user c row r. by_report user c row r.is;
+  report = λ user c row r. by_report row r.is;
   ack = λ user version r. by_ack user version r.is;
 }
   where
@@ -54,10 +54,10 @@ plain_join act to epoch promise b was claims apart within = record {
     by_join : (e p : EpochId) (c : ℕ) (w : EpochId) (k : List Claim) → Join epoch promise b was claims ≡ Join e p c w k → (epoch ≡ e) × (b ≡ c) × (was ≡ w)
     by_join e p c w k h = (cc, cc, cc)
 
-    by_report : (user c : ℕ) (row : Row) → Join epoch promise b was claims ≡ Report user c row → ⊥
-    by_report user c row h = cc
+    by_report : (row : Row) → Join epoch promise b was claims ≡ Report row → ⊥
+    by_report row h = cc
 
-    by_ack : (user version : ℕ) → Join epoch promise b was claims ≡ ReportAck user version → ⊥
+    by_ack : (user : List ℕ) (version : ℕ) → Join epoch promise b was claims ≡ ReportAck user version → ⊥
     by_ack user version h = cc
 
 -- one letter goes out

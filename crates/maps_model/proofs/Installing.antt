@@ -3,12 +3,13 @@ use Rattle.std.proofs.Common.{◌≡◌, ◌≢◌, inl, inr, ⊎_elim, ℕ, Boo
 use Rattle.std.specs.Prelude.{flat_map, slice_get}
 use Rattle.std.proofs.lemmas.Bool.{eqb-true, eq-eqb}
 use Rattle.mail_model.specs.Identity.{EpochId}
-use Rattle.object_model.specs.Letters.{Claim, MapRow, Member, Membership}
+use Rattle.object_model.specs.Letters.{Claim, MapRow, Member, Membership, Row, Letter}
 use Rattle.object_model.specs.Lists.{Among}
+use Rattle.mail_base.specs.Buckets.{bucket_at}
 use Rattle.maps_model.specs.Epochs.{IsBefore, IsAtMost}
 use Rattle.maps_model.specs.Assign.{IsIn, IsAssigned, ClaimedRow, FreeRow}
-use Rattle.maps_model.specs.Cluster.{Joined, OpenGroup, Row, Node, Disk, Letter, epoch_of, member_of, Names, bucket_of, manager_in, manager_of}
-use Rattle.maps_model.specs.Cluster.Body.{Join, Install, Report, ReportAck}
+use Rattle.maps_model.specs.Cluster.{Joined, OpenGroup, Node, Disk, epoch_of, member_of, Names, manager_in, manager_of}
+use Rattle.object_model.specs.Letters.Body.{Join, Install, Report, ReportAck}
 use Rattle.maps_model.specs.Words.{IsReport, IsAck}
 use Rattle.maps_model.specs.Moves.{NodeInOrder, Act, Forms, RowFrom, SaysSame, Unmarked, KeepsMaps, IsAct}
 use Rattle.maps_model.specs.Moves.RowFrom.{Kept, Fell, Told}
@@ -29,20 +30,20 @@ not_true false h = refl
 
 -- entering an epoch, whatever becomes of the open group and whatever is sent
 module _ (own : ℕ) (node : Node) (disk : Disk) (heard : Option Letter) (g : Membership) (later : IsBefore (epoch_of node) g.epoch) (group : Option OpenGroup) (out : List Letter)
-    (marked : ℕ → Bool) (rows : ℕ → ℕ → ℕ → Option Row) (entering : Entering own node disk g marked rows) (names : Names g own node.boot) where
+    (marked : List ℕ → Bool) (rows : ℕ → ℕ → List ℕ → Option Row) (entering : Entering own node disk g marked rows) (names : Names g own node.boot) where
   abbrev pub reaction : Reaction
   reaction = record { node = record (entered node g marked rows) { group = group }; disk = disk; out = out }
 
   abbrev act : Act
   act = act_of own node disk reaction heard
 
-  row_from : (m boot user : ℕ) → RowAt own node disk g m boot user (rows m boot user) → RowFrom act node reaction.node m boot user
+  row_from : (m boot : ℕ) (user : List ℕ) → RowAt own node disk g m boot user (rows m boot user) → RowFrom act node reaction.node m boot user
   row_from m boot user (Tells mine its managed due e) = Told mine its e
   row_from m boot user (Keeps k undue e) = Kept g refl later k e
   row_from m boot user (Drops never undue e) = Fell g refl later never e
 
   -- a node that comes itself from the old epoch, and manages the user in both maps, keeps its own row
-  own_kept : (user : ℕ) → manager_of g user ≡ Some own → IsSpared node g user → IsKept own node g own node.boot user
+  own_kept : (user : List ℕ) → manager_of g user ≡ Some own → IsSpared node g user → IsKept own node g own node.boot user
   own_kept user managed s =
       let it : s.manager ≡ own = same_some (manager_of g user) s.manager own s.after managed in
       let member : member_of g.members own ≡ Some s.member = subst (λ k. member_of g.members k ≡ Some s.member) it s.is in
@@ -55,7 +56,7 @@ module _ (own : ℕ) (node : Node) (disk : Disk) (heard : Option Letter) (g : Me
         allowed = s.allowed;
       }
 
-  spares_own : (user : ℕ) → manager_of g user ≡ Some own → (k : IsKept own node g own node.boot user) → IsSpared node g user
+  spares_own : (user : List ℕ) → manager_of g user ≡ Some own → (k : IsKept own node g own node.boot user) → IsSpared node g user
   spares_own user managed k = record {
     old = k.old;
     installed = k.installed;
@@ -68,13 +69,13 @@ module _ (own : ℕ) (node : Node) (disk : Disk) (heard : Option Letter) (g : Me
     allowed = k.allowed;
   }
 
-  undue_is : (user : ℕ) → (IsDue node disk g user → ⊥) → node.marked user ≡ false
+  undue_is : (user : List ℕ) → (IsDue node disk g user → ⊥) → node.marked user ≡ false
   undue_is user undue = not_true (node.marked user) (λ e. undue (inl e))
 
-  said : (user : ℕ) → SaysSame act node reaction.node user
+  said : (user : List ℕ) → SaysSame act node reaction.node user
   said user = record { version = refl; full = refl }
 
-  own_row_at : (user : ℕ) → manager_of g user ≡ Some own → RowAt own node disk g own node.boot user (rows own node.boot user) → Unmarked act node reaction.node user
+  own_row_at : (user : List ℕ) → manager_of g user ≡ Some own → RowAt own node disk g own node.boot user (rows own node.boot user) → Unmarked act node reaction.node user
   own_row_at user managed (Tells mine its m due e) = Own (record {
     manager = λ x h. subst (λ (y : Membership). manager_of y user ≡ Some own) (some_same g x h) managed;
     told = e;
@@ -85,13 +86,13 @@ module _ (own : ℕ) (node : Node) (disk : Disk) (heard : Option Letter) (g : Me
       Spared g refl later (undue_is user is_undue) (said user)
       (inl (not_true (disk.holds user) (λ h. is_undue (inr (h, λ s. never (own_kept user managed s))))))
 
-  unmarked : (user : ℕ) → MarkAt own node disk g user (marked user) → marked user ≡ false → Unmarked act node reaction.node user
+  unmarked : (user : List ℕ) → MarkAt own node disk g user (marked user) → marked user ≡ false → Unmarked act node reaction.node user
   unmarked user (TellsItself managed e) none = own_row_at user managed (entering.keeps own node.boot user)
   unmarked user (Marks other due e) none = absurd (true≢false (sym e ∙ none))
   unmarked user (Spares other undue why e) none = Spared g refl later undue (said user) why
 
-  pub entering_maps : ((letter : Letter) → Among letter out → (user boot : ℕ) (row : Row) → IsReport letter user boot row → ⊥)
-      → ((letter : Letter) → Among letter out → (user version : ℕ) → IsAck letter user version → ⊥) → KeepsMaps act
+  pub entering_maps : ((letter : Letter) → Among letter out → (user : List ℕ) (boot : ℕ) (row : Row) → IsReport letter user boot row → ⊥)
+      → ((letter : Letter) → Among letter out → (user : List ℕ) (version : ℕ) → IsAck letter user version → ⊥) → KeepsMaps act
   entering_maps reports acks = maps_from own node disk reaction heard
       (λ m boot user. row_from m boot user (entering.keeps m boot user)) (λ user. inl (said user)) (λ user. unmarked user (entering.marks user))
       (λ letter m user boot row h. absurd (reports letter m user boot row h))
@@ -100,7 +101,7 @@ module _ (own : ℕ) (node : Node) (disk : Disk) (heard : Option Letter) (g : Me
 -- an Install is heard
 module _ (own : ℕ) (node : Node) (disk : Disk) (letter : Letter) (o : NodeInOrder own node disk) (g : Membership) (body : letter.body ≡ Install g)
     (over : g.epoch.node ≡ own → (group : OpenGroup) → node.group ≡ Some group → IsBefore g.epoch group.epoch) where
-  enters : g.epoch ≡ node.promise → IsBefore (epoch_of node) g.epoch → Names g own node.boot → (marked : ℕ → Bool) (rows : ℕ → ℕ → ℕ → Option Row) → Entering own node disk g marked rows
+  enters : g.epoch ≡ node.promise → IsBefore (epoch_of node) g.epoch → Names g own node.boot → (marked : List ℕ → Bool) (rows : ℕ → ℕ → List ℕ → Option Row) → Entering own node disk g marked rows
       → IsAct (act_of own node disk (record { node = entered node g marked rows; disk = disk; out = [] }) (Some letter))
   enters promised later names marked rows entering =
       let it : Reaction = record { node = entered node g marked rows; disk = disk; out = [] } in
@@ -176,7 +177,7 @@ sent_install own g (join ∷ joins) letter m = ⊎_elim
 module _ (own buckets : ℕ) (node : Node) (disk : Disk) (o : NodeInOrder own node disk) where
   concludes_with : (group : OpenGroup) → node.group ≡ Some group → (rows : List MapRow)
       → IsAssigned (flat_map (λ join. join.claims) group.joins) (map (λ join. join.member) group.joins) buckets group.epoch rows
-      → (marked : ℕ → Bool) (told : ℕ → ℕ → ℕ → Option Row) → Entering own node disk (membership_of group rows) marked told
+      → (marked : List ℕ → Bool) (told : ℕ → ℕ → List ℕ → Option Row) → Entering own node disk (membership_of group rows) marked told
       → IsAct (act_of own node disk (conclude own node disk group rows marked told) None)
   concludes_with group opened rows assigned marked told entering =
       let g = membership_of group rows in
@@ -190,7 +191,7 @@ module _ (own buckets : ℕ) (node : Node) (disk : Disk) (o : NodeInOrder own no
         is = refl;
         installed = refl;
         closed = refl;
-        managers = λ user manager h. managing (flat_map (λ join. join.claims) group.joins) members buckets group.epoch rows assigned (bucket_of user (length rows)) manager h;
+        managers = λ user manager h. managing (flat_map (λ join. join.claims) group.joins) members buckets group.epoch rows assigned (bucket_at user (length rows)) manager h;
         names = λ n boot was comes. let f = found_joined group.joins n comes.member comes.is in (f.0, f.1, f.2, ap (λ (m : Member). m.boot) f.3 ∙ comes.same, ap (λ (m : Member). m.was) f.3 ∙ comes.from);
       } in
       acts own node disk it None
@@ -215,7 +216,7 @@ module _ (own buckets : ℕ) (node : Node) (disk : Disk) (o : NodeInOrder own no
       (λ letter m. let s = sent_install own g group.joins letter m in
       (sym (ap (λ (l : Letter). l.from) s.2), λ same. s.1 (ap (λ (l : Letter). l.to) s.2 ∙ same))))
       (entering_maps own node disk None g p.2 None it.out marked told entering (record { member = j.member; is = j.is; same = j.same })
-      (λ letter m user boot row h. let s = sent_install own g group.joins letter m in not_report g user boot row (ap (λ (l : Letter). l.body) s.2 ∙ h.is))
+      (λ letter m user boot row h. let s = sent_install own g group.joins letter m in not_report g row (ap (λ (l : Letter). l.body) s.2 ∙ h.is))
       (λ letter m user version h. let s = sent_install own g group.joins letter m in not_ack g user version (ap (λ (l : Letter). l.body) s.2 ∙ h.is)))
     where
       install_same : (x y : Membership) → Install x ≡ Install y → x ≡ y
@@ -224,10 +225,10 @@ module _ (own buckets : ℕ) (node : Node) (disk : Disk) (o : NodeInOrder own no
       not_join : (x : Membership) (e p : EpochId) (b : ℕ) (w : EpochId) (k : List Claim) → Install x ≡ Join e p b w k → ⊥
       not_join x e p b w k h = cc
 
-      not_report : (x : Membership) (u b : ℕ) (r : Row) → Install x ≡ Report u b r → ⊥
-      not_report x u b r h = cc
+      not_report : (x : Membership) (r : Row) → Install x ≡ Report r → ⊥
+      not_report x r h = cc
 
-      not_ack : (x : Membership) (u v : ℕ) → Install x ≡ ReportAck u v → ⊥
+      not_ack : (x : Membership) (u : List ℕ) (v : ℕ) → Install x ≡ ReportAck u v → ⊥
       not_ack x u v h = cc
 
   pub concludes : (did : Reaction) → Concludes own buckets node disk did → IsAct (act_of own node disk did None)

@@ -2,11 +2,11 @@
 use Rattle.std.proofs.Common.{◌<◌, ◌≡◌, ◌≢◌, ◌⊎◌, inl, inr, ⊎_elim, ℕ, max, Bool, true, false, List, [], ◌∷◌, map, Option, Some, None, refl, sym, ap, ◌∙◌, subst, arith, nat_eq, nat_lt, if◌then◌else◌}
 use Rattle.std.proofs.lemmas.Bool.Decides.{nat_tests}
 use Rattle.mail_model.specs.Identity.{EpochId}
-use Rattle.object_model.specs.Letters.{Claim, Member}
+use Rattle.object_model.specs.Letters.{Claim, Member, Letter}
 use Rattle.object_model.specs.Lists.{Among}
 use Rattle.maps_model.specs.Epochs.{IsBefore}
-use Rattle.maps_model.specs.Cluster.{Joined, OpenGroup, Node, Disk, Letter, epoch_of, member_of, Names}
-use Rattle.maps_model.specs.Cluster.Body.{Join}
+use Rattle.maps_model.specs.Cluster.{Joined, OpenGroup, Node, Disk, epoch_of, member_of, Names}
+use Rattle.object_model.specs.Letters.Body.{Join}
 use Rattle.maps_model.specs.Moves.{NodeInOrder, IsAct}
 use Rattle.maps_model.specs.Rules.{Reaction, idle, with_join, HearsJoin}
 use Rattle.maps_model.specs.Rules.HearsJoin.{Late, Above, Joins}

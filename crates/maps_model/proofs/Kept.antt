@@ -1,7 +1,8 @@
 -- Each move keeps each part, and so does a list of moves.
 use Rattle.std.proofs.Common.{◌≡◌, inr, List, [], ◌∷◌, Some, sym, ◌∙◌, subst}
 use Rattle.object_model.specs.Lists.{Among}
-use Rattle.maps_model.specs.Cluster.{Slot, Letter, Cluster, slot_at}
+use Rattle.object_model.specs.Letters.{Letter}
+use Rattle.maps_model.specs.Cluster.{Slot, Cluster, slot_at}
 use Rattle.maps_model.specs.Cluster.Life.{Up}
 use Rattle.maps_model.specs.Words.{OpensLater}
 use Rattle.maps_model.specs.Moves.{Act, Move, MayMove, MayMoves, IsReady, after_move, after_moves}

@@ -1,6 +1,7 @@
 -- Members of lists, reads of slots after one of them is written, and tests of numbers.
 use Rattle.std.proofs.Common.{◌≡◌, ◌≢◌, ◌⊎◌, inl, inr, ⊎_elim, ℕ, zero, suc, Bool, true, false, List, [], ◌∷◌, ◌++◌, Option, Some, None, refl, ap, sym, ◌∙◌, true≢false, arith, nat_eq, if◌then◌else◌}
 use Rattle.std.specs.Prelude.{slice_get, slice_set}
+use Rattle.std.specs.Cmp.Lexicographic.{pointwise, bytes_decides}
 use Rattle.std.proofs.lemmas.Bool.{eqb-true, eq-eqb}
 use Rattle.object_model.specs.Lists.{Among}
 use Rattle.maps_model.specs.Cluster.{Slot, slot_at, with_slot, is_node}
@@ -71,6 +72,14 @@ same_or_apart a b = by (nat_eq a b) refl
     by : (t : Bool) → nat_eq a b ≡ t → ((nat_eq a b ≡ true) × (a ≡ b)) ⊎ ((nat_eq a b ≡ false) × (a ≢ b))
     by true e = inl (e, eqb-true a b e)
     by false e = inr (e, λ same. true≢false (sym (eq-eqb a b same) ∙ e))
+
+-- a test of a name tells
+pub one_or_other : (a b : List ℕ) → ((pointwise nat_eq a b ≡ true) × (a ≡ b)) ⊎ ((pointwise nat_eq a b ≡ false) × (a ≢ b))
+one_or_other a b = by (pointwise nat_eq a b) refl
+  where
+    by : (t : Bool) → pointwise nat_eq a b ≡ t → ((pointwise nat_eq a b ≡ true) × (a ≡ b)) ⊎ ((pointwise nat_eq a b ≡ false) × (a ≢ b))
+    by true e = inl (e, (bytes_decides a b).0 e)
+    by false e = inr (e, λ same. true≢false (sym ((bytes_decides a b).1 same) ∙ e))
 
 -- either branch
 pub if_either : {X : Type 0} (P : X → Type 0) (b : Bool) (x y : X) → (b ≡ true → P x) → (b ≡ false → P y) → P (if b then x else y)

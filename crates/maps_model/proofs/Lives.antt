@@ -1,9 +1,9 @@
 -- That a node goes down, is lost, is cut by a fault, or starts, as acts of the machine; and that an opening is sound.
 use Rattle.std.proofs.Common.{◌≡◌, ◌≢◌, ◌⊎◌, inl, inr, ⊎_elim, ℕ, zero, suc, ◌≤◌, [], Option, Some, None, refl, sym, ap, ◌∙◌, subst, arith}
 use Rattle.std.specs.Prelude.{slice_get}
-use Rattle.object_model.specs.Letters.{Membership}
+use Rattle.object_model.specs.Letters.{Membership, Letter}
 use Rattle.maps_model.specs.Epochs.{IsAtMost}
-use Rattle.maps_model.specs.Cluster.{Node, Disk, Life, Slot, Letter, slot_at, slot_up}
+use Rattle.maps_model.specs.Cluster.{Node, Disk, Life, Slot, slot_at, slot_up}
 use Rattle.maps_model.specs.Cluster.Life.{Up, Down, Lost}
 use Rattle.maps_model.specs.Words.{Known}
 use Rattle.maps_model.specs.Moves.{Begins, IsInOrder, IsReady, IsAct}

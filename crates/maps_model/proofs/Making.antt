@@ -1,12 +1,12 @@
 -- How an act of a node that is up is shown to be one of the machine.
 use Rattle.std.proofs.Common.{◌≡◌, ◌≢◌, ◌⊎◌, inl, inr, ℕ, ◌<◌, ◌≤◌, false, List, Option, Some, None, refl, sym, ◌∙◌, subst, arith}
 use Rattle.mail_model.specs.Identity.{EpochId}
-use Rattle.object_model.specs.Letters.{Claim, Membership}
+use Rattle.object_model.specs.Letters.{Claim, Membership, Row, Letter}
 use Rattle.object_model.specs.Lists.{Among}
 use Rattle.maps_model.specs.Epochs.{IsBefore, IsAtMost}
-use Rattle.maps_model.specs.Cluster.{Joined, OpenGroup, Row, Node, Disk, Letter, epoch_in, epoch_of}
+use Rattle.maps_model.specs.Cluster.{Joined, OpenGroup, Node, Disk, epoch_in, epoch_of}
 use Rattle.maps_model.specs.Cluster.Life.{Up, Down, Lost}
-use Rattle.maps_model.specs.Cluster.Body.{Join, Install}
+use Rattle.object_model.specs.Letters.Body.{Join, Install}
 use Rattle.maps_model.specs.Words.{IsReport, IsAck}
 use Rattle.maps_model.specs.Moves.{NodeInOrder, Act, WasUp, Begins, WasOpen, HadInstalled, HadJoin, Forms, Heard, SendsJoin, IsJoin, KeepsMembership, RowFrom, SaysSame, Unmarked, SendsReport, SendsAck, KeepsMaps, IsAct}
 use Rattle.maps_model.specs.Moves.RowFrom.{Stood}
@@ -41,8 +41,8 @@ pub record IsPlain (act : Act) (letter : Letter) : Type 0 where
   pub to : letter.to ≢ act.node
   pub install : (g : Membership) → letter.body ≡ Install g → ⊥
   pub join : (epoch promise : EpochId) (b : ℕ) (was : EpochId) (claims : List Claim) → letter.body ≡ Join epoch promise b was claims → SendsJoin act epoch b was
-  pub report : (user b : ℕ) (row : Row) → IsReport letter user b row → ⊥
-  pub ack : (user version : ℕ) → IsAck letter user version → ⊥
+  pub report : (user : List ℕ) (b : ℕ) (row : Row) → IsReport letter user b row → ⊥
+  pub ack : (user : List ℕ) (version : ℕ) → IsAck letter user version → ⊥
 
 module _ (own : ℕ) (node : Node) (disk : Disk) (did : Reaction) (heard : Option Letter) where
   abbrev pub the_act : Act
@@ -55,24 +55,24 @@ module _ (own : ℕ) (node : Node) (disk : Disk) (did : Reaction) (heard : Optio
   now P p new f = subst P (same_life did.node new f) p
 
   -- what is asked of rows, versions, marks and the letters that carry an epoch
-  pub maps_from : ((m boot user : ℕ) → RowFrom the_act node did.node m boot user) → ((user : ℕ) → SaysSame the_act node did.node user ⊎ (node.version user < did.node.version user))
-      → ((user : ℕ) → did.node.marked user ≡ false → Unmarked the_act node did.node user)
-      → ((letter : Letter) → Among letter did.out → (user boot : ℕ) (row : Row) → IsReport letter user boot row → SendsReport the_act letter user boot row)
-      → ((letter : Letter) → Among letter did.out → (user version : ℕ) → IsAck letter user version → SendsAck the_act letter user version)
+  pub maps_from : ((m boot : ℕ) (user : List ℕ) → RowFrom the_act node did.node m boot user) → ((user : List ℕ) → SaysSame the_act node did.node user ⊎ (node.version user < did.node.version user))
+      → ((user : List ℕ) → did.node.marked user ≡ false → Unmarked the_act node did.node user)
+      → ((letter : Letter) → Among letter did.out → (user : List ℕ) (boot : ℕ) (row : Row) → IsReport letter user boot row → SendsReport the_act letter user boot row)
+      → ((letter : Letter) → Among letter did.out → (user : List ℕ) (version : ℕ) → IsAck letter user version → SendsAck the_act letter user version)
       → KeepsMaps the_act
   maps_from rows versions unmarked reports acks = record {
-    rows = both (λ old new. (m boot user : ℕ) → RowFrom the_act old new m boot user) rows;
-    versions = both (λ old new. (user : ℕ) → SaysSame the_act old new user ⊎ (old.version user < new.version user)) versions;
-    unmarked = both (λ old new. (user : ℕ) → new.marked user ≡ false → Unmarked the_act old new user) unmarked;
+    rows = both (λ old new. (m boot : ℕ) (user : List ℕ) → RowFrom the_act old new m boot user) rows;
+    versions = both (λ old new. (user : List ℕ) → SaysSame the_act old new user ⊎ (old.version user < new.version user)) versions;
+    unmarked = both (λ old new. (user : List ℕ) → new.marked user ≡ false → Unmarked the_act old new user) unmarked;
     reports = reports;
     acks = acks;
   }
 
   -- nothing of the maps changes
-  pub same_maps : did.node.installed ≡ node.installed → ((m boot user : ℕ) → did.node.rows m boot user ≡ node.rows m boot user) → ((user : ℕ) → did.node.version user ≡ node.version user)
-      → ((user : ℕ) → did.node.marked user ≡ node.marked user) → ((user : ℕ) → did.disk.holds user ≡ disk.holds user)
-      → ((letter : Letter) → Among letter did.out → (user boot : ℕ) (row : Row) → IsReport letter user boot row → SendsReport the_act letter user boot row)
-      → ((letter : Letter) → Among letter did.out → (user version : ℕ) → IsAck letter user version → SendsAck the_act letter user version)
+  pub same_maps : did.node.installed ≡ node.installed → ((m boot : ℕ) (user : List ℕ) → did.node.rows m boot user ≡ node.rows m boot user) → ((user : List ℕ) → did.node.version user ≡ node.version user)
+      → ((user : List ℕ) → did.node.marked user ≡ node.marked user) → ((user : List ℕ) → did.disk.holds user ≡ disk.holds user)
+      → ((letter : Letter) → Among letter did.out → (user : List ℕ) (boot : ℕ) (row : Row) → IsReport letter user boot row → SendsReport the_act letter user boot row)
+      → ((letter : Letter) → Among letter did.out → (user : List ℕ) (version : ℕ) → IsAck letter user version → SendsAck the_act letter user version)
       → KeepsMaps the_act
   same_maps installed rows versions marked holds reports acks = maps_from
       (λ m boot user. Stood (sym installed) (rows m boot user))

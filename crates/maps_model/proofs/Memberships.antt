@@ -1,10 +1,10 @@
 -- What a node does keeps the parts on membership.
 use Rattle.std.proofs.Common.{◌≡◌, ◌⊎◌, inl, inr, ⊎_elim, ℕ, ◌<◌, List, Option, Some, None, refl, sym, ap, ◌∙◌, subst, arith}
 use Rattle.mail_model.specs.Identity.{EpochId}
-use Rattle.object_model.specs.Letters.{Membership}
+use Rattle.object_model.specs.Letters.{Membership, Letter}
 use Rattle.object_model.specs.Lists.{Among}
 use Rattle.maps_model.specs.Epochs.{IsAtMost}
-use Rattle.maps_model.specs.Cluster.{Joined, OpenGroup, Node, Slot, Letter, slot_at, slot_up, epoch_in, epoch_of, Names, Comes}
+use Rattle.maps_model.specs.Cluster.{Joined, OpenGroup, Node, Slot, slot_at, slot_up, epoch_in, epoch_of, Names, Comes}
 use Rattle.maps_model.specs.Cluster.Life.{Up}
 use Rattle.maps_model.specs.Words.{Known, IsOver, WasIn, JoinStands}
 use Rattle.maps_model.specs.Moves.{Act, IsAct, NodeInOrder, IsInOrder, Forms, HadJoin, Heard, IsJoin, SendsJoin}

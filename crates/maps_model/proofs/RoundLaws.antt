@@ -1,8 +1,8 @@
 -- Rounds of letters clear marks, and bring nodes into an epoch.
 use Rattle.std.proofs.Common.{◌≡◌, inl, inr, ⊎_elim, ℕ, Bool, true, false, List, [], ◌∷◌, Some, refl, sym, ap, ◌∙◌, arith, nat_lt, if◌then◌else◌}
 use Rattle.std.proofs.lemmas.Bool.{ltb-false}
-use Rattle.object_model.specs.Letters.{Membership}
-use Rattle.maps_model.specs.Cluster.{Joined, Node, Disk, Letter, epoch_of}
+use Rattle.object_model.specs.Letters.{Membership, Letter}
+use Rattle.maps_model.specs.Cluster.{Joined, Node, Disk, epoch_of}
 use Rattle.maps_model.specs.Rules.{Reaction, own_row, ack_letter, promised, with_join, HearsReport, HearsAck}
 use Rattle.maps_model.specs.Rules.HearsGroup.{Rises, Again, Old as OldGroup}
 use Rattle.maps_model.specs.Rules.HearsJoin.{Late, Above, Joins}
@@ -13,16 +13,16 @@ use Rattle.maps_model.specs.RoundLaws.{report_letter, RoundClears, NodesJoin, Ha
 use Rattle.maps_model.proofs.Order.{before_itself, before_before, before_not_same, before_not_most}
 use Rattle.maps_model.proofs.Reporting.{set_here}
 
-module _ (own to user : ℕ) (g : Membership) (node : Node) (disk : Disk) (inst : node.installed ≡ Some g) (manager : Node) (its : Disk) (m_inst : manager.installed ≡ Some g) where
+module _ (own to : ℕ) (user : List ℕ) (g : Membership) (node : Node) (disk : Disk) (inst : node.installed ≡ Some g) (manager : Node) (its : Disk) (m_inst : manager.installed ≡ Some g) where
   abbrev report : Letter
   report = report_letter own to g node disk user
 
-  acked : (heard : Reaction) → HearsReport manager its report user node.boot (own_row node disk user) heard → heard.out ≡ ack_letter report user (own_row node disk user) ∷ []
+  acked : (heard : Reaction) → HearsReport manager its report user node.boot (own_row own node disk user) heard → heard.out ≡ ack_letter report user (own_row own node disk user) ∷ []
   acked heard (StaleReport none e) = absurd (none g m_inst refl)
   acked heard (Takes x i same newer e) = ap (λ (r : Reaction). r.out) e
   acked heard (Older x i same stood at lt e) = ap (λ (r : Reaction). r.out) e
 
-  cleared : (did : Reaction) → HearsAck node disk (ack_letter report user (own_row node disk user)) user (node.version user) did → did.node.marked user ≡ false
+  cleared : (did : Reaction) → HearsAck node disk (ack_letter report user (own_row own node disk user)) user (node.version user) did → did.node.marked user ≡ false
   cleared did (StaleAck none e) = absurd (none g inst refl)
   cleared did (Clears x i same version e) = ap (λ (r : Reaction). r.node.marked user) e ∙ set_here node.marked user false
   cleared did (Other x i same apart e) = absurd (apart refl)

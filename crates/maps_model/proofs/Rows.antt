@@ -1,10 +1,10 @@
 -- What a manager was and had, where the node whose row it is goes on in its epoch.
 use Rattle.std.proofs.Common.{◌≡◌, inl, inr, ⊎_elim, ℕ, ◌<◌, ◌≤◌, List, Option, Some, None, refl, sym, ap, ◌∙◌, subst, arith}
 use Rattle.mail_model.specs.Identity.{EpochId, no_epoch}
-use Rattle.object_model.specs.Letters.{Membership}
+use Rattle.object_model.specs.Letters.{Membership, Row, Letter}
 use Rattle.object_model.specs.Lists.{Among}
 use Rattle.maps_model.specs.Epochs.{IsBefore}
-use Rattle.maps_model.specs.Cluster.{Row, Node, Disk, Slot, Letter, slot_at, slot_up, epoch_in, epoch_of, Names, Comes, manager_of}
+use Rattle.maps_model.specs.Cluster.{Node, Disk, Slot, slot_at, slot_up, epoch_in, epoch_of, Names, Comes, manager_of}
 use Rattle.maps_model.specs.Cluster.Life.{Up}
 use Rattle.maps_model.specs.Words.{Known, IsOneOf, IsReport, IsAck, RowFor}
 use Rattle.maps_model.specs.Words.RowFor.{Stands, WillDrop, WillKeep, Ahead}
@@ -63,7 +63,7 @@ module _ (slots : List Slot) (flying : List Letter) (act : Act) (here : slot_at 
       let at : h.slot ≡ act.before = same_some (slot_at slots act.node) h.slot act.before (subst (λ k. slot_at slots k ≡ Some h.slot) mine h.here) here in
       omega (arith, subst (λ (s : Slot). new.boot ≤ s.disk.boot) at h.begun, b.later)
 
-  module _ (n : ℕ) (node : Node) (disk : Disk) (at : slot_at Slots n ≡ Some (slot_up node disk)) (g : Membership) (installed : node.installed ≡ Some g) (user manager : ℕ) (managed : manager_of g user ≡ Some manager) where
+  module _ (n : ℕ) (node : Node) (disk : Disk) (at : slot_at Slots n ≡ Some (slot_up node disk)) (g : Membership) (installed : node.installed ≡ Some g) (user : List ℕ) (manager : ℕ) (managed : manager_of g user ≡ Some manager) where
     -- what the manager was, and had
     pub record ManagerWas (epoch : EpochId) (row : Option Row) : Type 0 where
       pub old : Node
@@ -87,11 +87,11 @@ module _ (slots : List Slot) (flying : List Letter) (act : Act) (here : slot_at 
         at_before : slot_at slots manager ≡ Some (slot_up w.old act.before.disk)
         at_before = subst (λ k. slot_at slots k ≡ Some (slot_up w.old act.before.disk)) (sym mine) (was w.old w.is)
 
-        own_is : n ≡ act.node → own_row other act.after.disk user ≡ record { version = node.version user; full = disk.holds user }
+        own_is : n ≡ act.node → ((own_row act.node other act.after.disk user).version ≡ node.version user) × ((own_row act.node other act.after.disk user).full ≡ disk.holds user)
         own_is e =
             let s = at_act n node disk at e in
             let same : other ≡ node = same_node other node f (life_of node disk s) in
-            λ i. record { version = (same i).version user; full = (disk_of node disk s i).holds user }
+            (λ i. (same i).version user, λ i. (disk_of node disk s i).holds user)
 
         -- a manager that keeps its membership
         module _ (stays : w.old.installed ≡ other.installed) where
@@ -110,7 +110,7 @@ module _ (slots : List Slot) (flying : List Letter) (act : Act) (here : slot_at 
             same = subst (λ x. IsOneOf g.epoch epoch x) (sym t.heard.holds.1) in_;
             is = t.heard.holds.2;
           }) (e ∙ t.is) t.newer
-          stays_on e in_ (Told m b tells) = Tells (e ∙ tells ∙ ap Some (own_is m))
+          stays_on e in_ (Told m b tells) = Tells (own_row act.node other act.after.disk user) (e ∙ tells) (own_is m).0 (own_is m).1
 
           whole : (had : Option Row) → RowFor manager w.old g n node.boot user had epoch → RowOn flying n node.boot user g.epoch epoch had row (node.version user) (disk.holds user) → ManagerWas epoch row
           whole had counts on = record {

@@ -1,10 +1,10 @@
 -- What a node does keeps what Reports, their acknowledgements and rows speak of.
 use Rattle.std.proofs.Common.{◌≡◌, ◌⊎◌, inl, inr, ⊎_elim, ℕ, List, Some, refl, sym, ap, ◌∙◌, subst}
 use Rattle.mail_model.specs.Identity.{EpochId}
-use Rattle.object_model.specs.Letters.{Membership}
+use Rattle.object_model.specs.Letters.{Membership, Row, Letter}
 use Rattle.object_model.specs.Lists.{Among}
 use Rattle.maps_model.specs.Epochs.{IsBefore, IsAtMost}
-use Rattle.maps_model.specs.Cluster.{Row, Node, Slot, Letter, slot_at, slot_up, epoch_in, epoch_of, Names, Comes, manager_of}
+use Rattle.maps_model.specs.Cluster.{Node, Slot, slot_at, slot_up, epoch_in, epoch_of, Names, Comes, manager_of}
 use Rattle.maps_model.specs.Cluster.Life.{Up}
 use Rattle.maps_model.specs.Words.{Known, IsOver, HasEntered, IsPast, AllName, IsStillIn, IsKeptRow, IsReport}
 use Rattle.maps_model.specs.Moves.{Act, IsAct, WasUp, Begins, RowFrom, SendsReport, SendsAck}
@@ -50,7 +50,7 @@ module _ (slots : List Slot) (flying : List Letter) (act : Act) (here : slot_at 
   over_now : (new : Node) → act.after.life ≡ Up new → (g : Membership) → new.installed ≡ Some g → (epoch : EpochId) → g.epoch ≡ epoch → IsOver Slots epoch
   over_now new e g h epoch same = subst (IsOver Slots) same (later.over g (known_now new e g h))
 
-  reports_enter : (letter : Letter) → Among letter act.out → (user boot : ℕ) (row : Row) → SendsReport act letter user boot row
+  reports_enter : (letter : Letter) → Among letter act.out → (user : List ℕ) (boot : ℕ) (row : Row) → SendsReport act letter user boot row
       → HasEntered Slots letter.from boot letter.epoch × AllName Slots Letters letter.epoch letter.from boot
   reports_enter letter m user boot row s =
       let from = (is.membership.sent letter m).0 in (
@@ -65,13 +65,13 @@ module _ (slots : List Slot) (flying : List Letter) (act : Act) (here : slot_at 
       )
 
   module _ (p : Spoken slots flying) where
-    old_report : (letter : Letter) → Among letter flying → (user boot : ℕ) (row : Row) → IsReport letter user boot row
+    old_report : (letter : Letter) → Among letter flying → (user : List ℕ) (boot : ℕ) (row : Row) → IsReport letter user boot row
         → HasEntered Slots letter.from boot letter.epoch × AllName Slots Letters letter.epoch letter.from boot
     old_report letter m user boot row h = let r = p.reported letter m user boot row h in
         (entered letter.from boot letter.epoch r.0, all_name_more slots flying act here is flew order letter.epoch letter.from boot (p.report_over letter m user boot row h) r.1)
 
     -- an acknowledgement is to the sender of the Report that was heard
-    new_ack : (letter : Letter) (user version : ℕ) → SendsAck act letter user version
+    new_ack : (letter : Letter) (user : List ℕ) (version : ℕ) → SendsAck act letter user version
         → (boot : ℕ) × HasEntered Slots letter.to boot letter.epoch × AllName Slots Letters letter.epoch letter.to boot
     new_ack letter user version s =
         let h = s.heard in
@@ -82,7 +82,7 @@ module _ (slots : List Slot) (flying : List Letter) (act : Act) (here : slot_at 
         )
 
     -- a row that was kept before is kept still
-    kept_more : (n : ℕ) (node other : Node) (m boot user : ℕ) → node.installed ≡ other.installed → node.boot ≡ other.boot → IsKeptRow slots flying n node m boot user → IsKeptRow Slots Letters n other m boot user
+    kept_more : (n : ℕ) (node other : Node) (m boot : ℕ) (user : List ℕ) → node.installed ≡ other.installed → node.boot ≡ other.boot → IsKeptRow slots flying n node m boot user → IsKeptRow Slots Letters n other m boot user
     kept_more n node other m boot user inst booted k = record {
       membership = k.membership;
       installed = sym inst ∙ k.installed;
@@ -124,7 +124,7 @@ module _ (slots : List Slot) (flying : List Letter) (act : Act) (here : slot_at 
     known_old old e g h = inl (record { n = act.node; node = old; disk = act.before.disk; here = was_here slots flying act here is flew order old e; is = h })
 
     -- a row that is kept now
-    kept_now : (old new : Node) → act.before.life ≡ Up old → act.after.life ≡ Up new → (w : WasUp act new) → w.old ≡ old → (m boot user : ℕ) (g : Membership) → new.installed ≡ Some g
+    kept_now : (old new : Node) → act.before.life ≡ Up old → act.after.life ≡ Up new → (w : WasUp act new) → w.old ≡ old → (m boot : ℕ) (user : List ℕ) (g : Membership) → new.installed ≡ Some g
         → IsBefore (epoch_of old) (epoch_of new) → IsKept act.node old g m boot user → IsKeptRow Slots Letters act.node new m boot user
     kept_now old new e f w is_old m boot user g installed before k =
         let names = ((is_in_order slots flying act here is flew order new f).installed g installed).1 in
@@ -148,7 +148,7 @@ module _ (slots : List Slot) (flying : List Letter) (act : Act) (here : slot_at 
           allowed = k.allowed;
         }
 
-    row_from : (old new : Node) → act.before.life ≡ Up old → act.after.life ≡ Up new → (w : WasUp act new) → w.old ≡ old → (m boot user : ℕ) (row : Row) → new.rows m boot user ≡ Some row
+    row_from : (old new : Node) → act.before.life ≡ Up old → act.after.life ≡ Up new → (w : WasUp act new) → w.old ≡ old → (m boot : ℕ) (user : List ℕ) (row : Row) → new.rows m boot user ≡ Some row
         → RowFrom act old new m boot user → HasEntered Slots m boot (epoch_of new) ⊎ IsKeptRow Slots Letters act.node new m boot user
     row_from old new e f w is_old m boot user row h (Stood same stood) = ⊎_elim
         (λ past. inl (subst (HasEntered Slots m boot) (ap epoch_in same) (entered m boot (epoch_of old) past)))
@@ -163,7 +163,7 @@ module _ (slots : List Slot) (flying : List Letter) (act : Act) (here : slot_at 
     row_from old new e f w is_old m boot user row h (Told mine its told) =
         inl (subst (λ n. HasEntered Slots n boot (epoch_of new)) (sym mine) (subst (λ b. HasEntered Slots act.node b (epoch_of new)) (sym its) (entered_now new f)))
 
-    rows_now : (new : Node) → act.after.life ≡ Up new → (m boot user : ℕ) (row : Row) → new.rows m boot user ≡ Some row → HasEntered Slots m boot (epoch_of new) ⊎ IsKeptRow Slots Letters act.node new m boot user
+    rows_now : (new : Node) → act.after.life ≡ Up new → (m boot : ℕ) (user : List ℕ) (row : Row) → new.rows m boot user ≡ Some row → HasEntered Slots m boot (epoch_of new) ⊎ IsKeptRow Slots Letters act.node new m boot user
     rows_now new f m boot user row h = ⊎_elim
         (λ (w : WasUp act new). row_from w.old new w.is f w refl m boot user row h (is.maps.rows w.old new w.is f m boot user))
         (λ (b : Begins act new). absurd (some_none (new.rows m boot user) row h (b.rowless m boot user)))

@@ -1,9 +1,9 @@
 -- A letter that is taken out keeps all parts: each speaks of all letters in flight.
 use Rattle.std.proofs.Common.{inl, inr, ⊎_elim, ℕ, List}
 use Rattle.mail_model.specs.Identity.{EpochId}
-use Rattle.object_model.specs.Letters.{Membership}
+use Rattle.object_model.specs.Letters.{Membership, Letter}
 use Rattle.object_model.specs.Lists.{Among}
-use Rattle.maps_model.specs.Cluster.{Slot, Letter}
+use Rattle.maps_model.specs.Cluster.{Slot}
 use Rattle.maps_model.specs.Words.{Known, AllName, WasIn, JoinStands}
 use Rattle.maps_model.specs.Parts.{Apart, OneEach, Joins, Spoken, Reported, RowsAgree}
 

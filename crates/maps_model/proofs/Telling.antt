@@ -1,10 +1,10 @@
 -- What a node does keeps that Reports fit what their senders say.
 use Rattle.std.proofs.Common.{◌≡◌, ◌⊎◌, inl, inr, ⊎_elim, ℕ, ◌<◌, List, Some, sym, ap, ◌∙◌, subst, arith}
 use Rattle.mail_model.specs.Identity.{EpochId}
-use Rattle.object_model.specs.Letters.{Membership}
+use Rattle.object_model.specs.Letters.{Membership, Row, Letter}
 use Rattle.object_model.specs.Lists.{Among}
 use Rattle.maps_model.specs.Epochs.{IsBefore}
-use Rattle.maps_model.specs.Cluster.{Row, Node, Disk, Slot, Letter, slot_at, slot_up, epoch_of, Names, Comes, manager_of}
+use Rattle.maps_model.specs.Cluster.{Node, Disk, Slot, slot_at, slot_up, epoch_of, Names, Comes, manager_of}
 use Rattle.maps_model.specs.Cluster.Life.{Up}
 use Rattle.maps_model.specs.Words.{Known, IsOver, HasEntered, IsPast, IsReport, IsAck, Fits}
 use Rattle.maps_model.specs.Moves.{Act, IsAct, WasUp, Begins, SaysSame, SendsReport}
@@ -59,7 +59,7 @@ module _ (slots : List Slot) (flying : List Letter) (act : Act) (here : slot_at 
 
   -- No Report of an epoch to which its node has not come is on its way,
   pub none_reported : (n : ℕ) (node : Node) (disk : Disk) → slot_at slots n ≡ Some (slot_up node disk) → (g : Membership) → Known Slots Letters g → Names g n node.boot → IsBefore (epoch_of node) g.epoch
-      → (letter : Letter) → Among letter flying → letter.from ≡ n → letter.epoch ≡ g.epoch → (user boot : ℕ) (row : Row) → IsReport letter user boot row → ⊥
+      → (letter : Letter) → Among letter flying → letter.from ≡ n → letter.epoch ≡ g.epoch → (user : List ℕ) (boot : ℕ) (row : Row) → IsReport letter user boot row → ⊥
   none_reported n node disk at g known names before letter m from epoch user boot row r =
       let p = spoken.reported letter m user boot row r in
       let all = all_name_more slots flying act here is flew order letter.epoch letter.from boot (spoken.report_over letter m user boot row r) p.1 in
@@ -68,25 +68,25 @@ module _ (slots : List Slot) (flying : List Letter) (act : Act) (here : slot_at 
 
   -- and no acknowledgement of one.
   pub none_acked : (n : ℕ) (node : Node) (disk : Disk) → slot_at slots n ≡ Some (slot_up node disk) → (g : Membership) → Known Slots Letters g → Names g n node.boot → IsBefore (epoch_of node) g.epoch
-      → (letter : Letter) → Among letter flying → letter.to ≡ n → letter.epoch ≡ g.epoch → (user told : ℕ) → IsAck letter user told → ⊥
+      → (letter : Letter) → Among letter flying → letter.to ≡ n → letter.epoch ≡ g.epoch → (user : List ℕ) (told : ℕ) → IsAck letter user told → ⊥
   none_acked n node disk at g known names before letter m to epoch user told r =
       let p = spoken.acked letter m user told r in
       let all = all_name_more slots flying act here is flew order letter.epoch letter.to p.0 (spoken.ack_over letter m user told r) p.2 in
       let b = one_boot g n p.0 node.boot (subst (λ k. Names g k p.0) to (all g known (sym epoch))) names in
       not_past n node disk at p.0 g.epoch b before (subst (HasEntered slots n p.0) epoch (subst (λ k. HasEntered slots k p.0 letter.epoch) to p.1))
 
-  pub says_on : (old new : Node) → act.before.life ≡ Up old → act.after.life ≡ Up new → (user : ℕ) → SaysOn (old.version user) (new.version user) (act.before.disk.holds user) (act.after.disk.holds user)
+  pub says_on : (old new : Node) → act.before.life ≡ Up old → act.after.life ≡ Up new → (user : List ℕ) → SaysOn (old.version user) (new.version user) (act.before.disk.holds user) (act.after.disk.holds user)
   says_on old new e f user = ⊎_elim (λ (s : SaysSame act old new user). inl (s.version, s.full)) (λ lt. inr lt) (is.maps.versions old new e f user)
 
   -- a Report that the node sends fits
-  new_fits : (new : Node) → act.after.life ≡ Up new → (letter : Letter) (user boot : ℕ) (row : Row) → SendsReport act letter user boot row → Fits row (new.version user) (act.after.disk.holds user)
+  new_fits : (new : Node) → act.after.life ≡ Up new → (letter : Letter) (user : List ℕ) (boot : ℕ) (row : Row) → SendsReport act letter user boot row → Fits row (new.version user) (act.after.disk.holds user)
   new_fits new e letter user boot row s =
       let mine : s.new ≡ new = same_up s.new new s.is e in
-      let same : row ≡ own_row new act.after.disk user = subst (λ (x : Node). row ≡ own_row x act.after.disk user) mine s.says in
+      let same : row ≡ own_row act.node new act.after.disk user = subst (λ (x : Node). row ≡ own_row act.node x act.after.disk user) mine s.says in
       record { bounded = omega (arith, ap (λ (r : Row). r.version) same); same = λ _. ap (λ (r : Row). r.full) same }
 
   module _ (p : Reported slots flying) where
-    now_fits : (new : Node) → act.after.life ≡ Up new → (letter : Letter) → Among letter flying → letter.from ≡ act.node → (user boot : ℕ) (row : Row) → IsReport letter user boot row → boot ≡ new.boot
+    now_fits : (new : Node) → act.after.life ≡ Up new → (letter : Letter) → Among letter flying → letter.from ≡ act.node → (user : List ℕ) (boot : ℕ) (row : Row) → IsReport letter user boot row → boot ≡ new.boot
         → WasUp act new ⊎ Begins act new → Fits row (new.version user) (act.after.disk.holds user)
     now_fits new f letter m from user boot row r booted (inl w) =
         fits_on row (w.old.version user) (new.version user) (act.before.disk.holds user) (act.after.disk.holds user) (says_on w.old new w.is f user)

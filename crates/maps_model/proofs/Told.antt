@@ -1,17 +1,17 @@
 -- A node that enters an epoch: what its manager has of it, or will have, agrees with what it says.
 use Rattle.std.proofs.Common.{◌≡◌, ◌⊎◌, inl, inr, ⊎_elim, ℕ, Bool, true, false, List, Option, Some, None, refl, sym, ap, ◌∙◌, subst, true≢false, arith}
 use Rattle.mail_model.specs.Identity.{EpochId}
-use Rattle.object_model.specs.Letters.{Member, Membership}
+use Rattle.object_model.specs.Letters.{Member, Membership, Row, Letter}
 use Rattle.object_model.specs.Lists.{Among}
 use Rattle.maps_model.specs.Epochs.{IsBefore}
-use Rattle.maps_model.specs.Cluster.{Row, Node, Disk, Slot, Letter, slot_at, slot_up, epoch_in, epoch_of, member_of, Names, Comes, manager_of}
+use Rattle.maps_model.specs.Cluster.{Node, Disk, Slot, slot_at, slot_up, epoch_in, epoch_of, member_of, Names, Comes, manager_of}
 use Rattle.maps_model.specs.Cluster.Life.{Up}
 use Rattle.maps_model.specs.Words.{Known, HasEntered, IsKeptRow, IsOneOf, IsReport, IsAck, Fits, IsUntold, IsLatest, Agrees, RowFor}
 use Rattle.maps_model.specs.Words.RowFor.{Stands, WillDrop, WillKeep, Ahead}
 use Rattle.maps_model.specs.Moves.{Act, IsAct, WasUp, Begins, RowFrom, TellsItself, Unmarked}
 use Rattle.maps_model.specs.Moves.RowFrom.{Stood, Kept, Fell, Took, Told}
 use Rattle.maps_model.specs.Moves.Unmarked.{Still, Cleared, Own, Spared}
-use Rattle.maps_model.specs.Rules.{KeepsAny, IsKept, IsSpared}
+use Rattle.maps_model.specs.Rules.{own_row, KeepsAny, IsKept, IsSpared}
 use Rattle.maps_model.specs.Parts.{AllInOrder, OneEach, Joins, Spoken, Reported}
 use Rattle.maps_model.specs.Parts as parts
 use Rattle.maps_model.proofs.Order.{before_same, same_before, before_not_same}
@@ -38,7 +38,7 @@ module _ (slots : List Slot) (flying : List Letter) (act : Act) (here : slot_at 
   later : OneEach Slots Letters
   later = one_acted slots flying act here is flew order one
 
-  module _ (n : ℕ) (node : Node) (disk : Disk) (at : slot_at Slots n ≡ Some (slot_up node disk)) (g : Membership) (installed : node.installed ≡ Some g) (user manager : ℕ)
+  module _ (n : ℕ) (node : Node) (disk : Disk) (at : slot_at Slots n ≡ Some (slot_up node disk)) (g : Membership) (installed : node.installed ≡ Some g) (user : List ℕ) (manager : ℕ)
       (managed : manager_of g user ≡ Some manager) (other : Node) (its : Disk) (atm : slot_at Slots manager ≡ Some (slot_up other its))
       (row : Option Row) (epoch : EpochId) (counts : RowFor manager other g n node.boot user row epoch) where
     known : Known Slots Letters g
@@ -152,11 +152,11 @@ module _ (slots : List Slot) (flying : List Letter) (act : Act) (here : slot_at 
             by unmarked (Spared x e lt y same (inl empty)) = inl (untold none (full_is false empty) unmarked)
             by unmarked (Spared x e lt y same (inr s)) = (spared (subst (λ (z : Membership). IsSpared w.old z user) (same_some node.installed x g e installed) s)).unmarked unmarked
 
-        own_now : row ≡ Some (record { version = node.version user; full = disk.holds user }) → Agreement
-        own_now is_own = record {
-          fits = λ r e. subst (λ x. Fits x (node.version user) (disk.holds user)) (same_some row (record { version = node.version user; full = disk.holds user }) r is_own e) (record { bounded = omega arith; same = λ _. refl });
+        own_now : (own : Row) → own.version ≡ node.version user → own.full ≡ disk.holds user → row ≡ Some own → Agreement
+        own_now own v f is_own = record {
+          fits = λ r e. subst (λ x. Fits x (node.version user) (disk.holds user)) (same_some row own r is_own e) (record { bounded = omega (arith, v); same = λ _. f });
           acked = λ letter m to in_ version h. absurd (new_ack_none letter m to in_ version h);
-          unmarked = λ unmarked. inr (record { found = record { version = node.version user; full = disk.holds user }; is = is_own; latest = refl });
+          unmarked = λ unmarked. inr (record { found = own; is = is_own; latest = v });
         }
 
       -- the node's manager is another node
@@ -250,7 +250,7 @@ module _ (slots : List Slot) (flying : List Letter) (act : Act) (here : slot_at 
         itself_manages : row ≡ node.rows n node.boot user → epoch ≡ g.epoch → RowFrom act w.old node n node.boot user → Agreement
         itself_manages r same (Stood e x) = absurd (not_stays e)
         itself_manages r same (Took t) = absurd (not_stays t.within)
-        itself_manages r same (Told a b tells) = own_now same (r ∙ tells ∙ ap Some (λ i. record { version = node.version user; full = (d i).holds user }))
+        itself_manages r same (Told a b tells) = own_now same (own_row act.node node act.after.disk user) refl (λ i. (d i).holds user) (r ∙ tells)
         itself_manages r same (Kept x e lt k kept) = from_old k.old k.installed (k.managed ∙ ap Some (sym managing)) w.old act.before.disk
             (subst (λ j. slot_at slots j ≡ Some (slot_up w.old act.before.disk)) (mine ∙ sym managing) at0)
             (w.old.rows n node.boot user) k.old.epoch (Stands k.installed refl refl) (r ∙ kept)

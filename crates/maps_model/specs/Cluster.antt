@@ -1,7 +1,8 @@
 -- A cluster of several nodes as membership and mail maps see it: lives, disks, and letters in flight.
-use Rattle.std.specs.Prelude.{◌≡◌, ℕ, zero, suc, ◌%◌, Bool, false, nat_eq, List, [], ◌∷◌, length, Option, Some, None, slice_get, slice_set, if◌then◌else◌}
+use Rattle.std.specs.Prelude.{◌≡◌, ℕ, zero, suc, Bool, false, nat_eq, List, [], ◌∷◌, length, Option, Some, None, slice_get, slice_set, if◌then◌else◌}
 use Rattle.mail_model.specs.Identity.{EpochId, no_epoch}
-use Rattle.object_model.specs.Letters.{Claim, MapRow, Member, Membership}
+use Rattle.object_model.specs.Letters.{Claim, Member, MapRow, Membership, Row, Letter}
+use Rattle.mail_base.specs.Buckets.{bucket_at}
 
 -- a node that joined a group, with the buckets that it claims
 pub record Joined : Type 0 where
@@ -13,11 +14,6 @@ pub record OpenGroup : Type 0 where
   pub epoch : EpochId
   pub joins : List Joined
 
--- what a node said of a user: whether it holds a message, with the number of changes so far
-pub record Row : Type 0 where
-  pub version : ℕ
-  pub full : Bool
-
 -- The soft state of a node. `heard` is the greatest count of an epoch that it promised or heard. Of each user it has a version and whether it is marked, and as a manager the rows of each node and boot.
 pub record Node : Type 0 where
   pub boot : ℕ
@@ -25,15 +21,15 @@ pub record Node : Type 0 where
   pub heard : ℕ
   pub group : Option OpenGroup
   pub installed : Option Membership
-  pub version : ℕ → ℕ
-  pub marked : ℕ → Bool
-  pub rows : ℕ → ℕ → ℕ → Option Row
+  pub version : List ℕ → ℕ
+  pub marked : List ℕ → Bool
+  pub rows : ℕ → ℕ → List ℕ → Option Row
 
 -- what a disk says: the last boot, the greatest promise, and the users of whom it holds a message
 pub record Disk : Type 0 where
   pub boot : ℕ
   pub promise : EpochId
-  pub holds : ℕ → Bool
+  pub holds : List ℕ → Bool
 
 -- A node that is down has no soft state. Where an append failed, the next start may find what the disk would say with that record.
 pub data Life : Type 0 where
@@ -44,20 +40,6 @@ pub data Life : Type 0 where
 pub record Slot : Type 0 where
   pub life : Life
   pub disk : Disk
-
-pub data Body : Type 0 where
-  Group : (epoch : EpochId) → Body
-  Join : (epoch promise : EpochId) (boot : ℕ) (was : EpochId) (claims : List Claim) → Body
-  Install : (membership : Membership) → Body
-  Report : (user boot : ℕ) (row : Row) → Body
-  ReportAck : (user version : ℕ) → Body
-
--- A Report and its ReportAck carry the epoch of their sender.
-pub record Letter : Type 0 where
-  pub from : ℕ
-  pub to : ℕ
-  pub epoch : EpochId
-  pub body : Body
 
 pub record Cluster : Type 0 where
   pub slots : List Slot
@@ -102,27 +84,23 @@ pub record Comes (membership : Membership) (n boot : ℕ) (was : EpochId) : Type
   pub same : member.boot ≡ boot
   pub from : member.was ≡ was
 
--- the bucket of a user
-abbrev pub bucket_of : ℕ → ℕ → ℕ
-bucket_of user buckets = user % buckets
-
 abbrev pub manager_in : Option MapRow → Option ℕ
 manager_in None = None
 manager_in (Some row) = Some row.manager
 
 -- who manages a user
-abbrev pub manager_of : Membership → ℕ → Option ℕ
-manager_of membership user = manager_in (slice_get membership.map (bucket_of user (length membership.map)))
+abbrev pub manager_of : Membership → List ℕ → Option ℕ
+manager_of membership user = manager_in (slice_get membership.map (bucket_at user (length membership.map)))
 
 abbrev pub is_node : Option ℕ → ℕ → Bool
 is_node None n = false
 is_node (Some m) n = nat_eq m n
 
 -- whether node n manages the user
-abbrev pub manages : Membership → ℕ → ℕ → Bool
+abbrev pub manages : Membership → ℕ → List ℕ → Bool
 manages membership n user = is_node (manager_of membership user) n
 
-abbrev pub manages_in : Option Membership → ℕ → ℕ → Bool
+abbrev pub manages_in : Option Membership → ℕ → List ℕ → Bool
 manages_in None n user = false
 manages_in (Some membership) n user = manages membership n user
 

@@ -22,27 +22,27 @@ pub record IsQuietMember (slots : List Slot) (membership : Membership) (member :
   pub here : slot_at slots member.node ≡ Some (slot_up node disk)
   pub boot : node.boot ≡ member.boot
   pub installed : node.installed ≡ Some membership
-  pub unmarked : (user : ℕ) → node.marked user ≡ false
+  pub unmarked : (user : List ℕ) → node.marked user ≡ false
 
 abbrev pub IsSettled : List Slot → Membership → Type 0
 IsSettled slots membership = (member : Member) → Among member membership.members → IsQuietMember slots membership member
 
 -- the members of whom a manager has a row that says full
-abbrev pub named : Node → ℕ → List Member → List ℕ
+abbrev pub named : Node → List ℕ → List Member → List ℕ
 named node user [] = []
 named node user (member ∷ members) = if is_full (node.rows member.node member.boot user) then member.node ∷ named node user members else named node user members
 
 -- the members that hold a message of the user
-abbrev pub holds_at : Option Slot → ℕ → Bool
+abbrev pub holds_at : Option Slot → List ℕ → Bool
 holds_at None user = false
 holds_at (Some slot) user = slot.disk.holds user
 
-abbrev pub fragments : List Slot → ℕ → List Member → List ℕ
+abbrev pub fragments : List Slot → List ℕ → List Member → List ℕ
 fragments slots user [] = []
 fragments slots user (member ∷ members) = if holds_at (slot_at slots member.node) user then member.node ∷ fragments slots user members else fragments slots user members
 
 -- in a settled epoch the manager of a user is up, and names exactly the members that hold a message of the user
-pub record NamesFragments (slots : List Slot) (membership : Membership) (user manager : ℕ) : Type 0 where
+pub record NamesFragments (slots : List Slot) (membership : Membership) (user : List ℕ) (manager : ℕ) : Type 0 where
   pub node : Node
   pub disk : Disk
   pub here : slot_at slots manager ≡ Some (slot_up node disk)
@@ -50,4 +50,4 @@ pub record NamesFragments (slots : List Slot) (membership : Membership) (user ma
 
 abbrev pub NamedAreFragments : Type 0
 NamedAreFragments = (w : Cluster) → Sound w → (membership : Membership) → IsSettled w.slots membership → (member : Member) → Among member membership.members
-    → (user manager : ℕ) → manager_of membership user ≡ Some manager → NamesFragments w.slots membership user manager
+    → (user : List ℕ) (manager : ℕ) → manager_of membership user ≡ Some manager → NamesFragments w.slots membership user manager

@@ -1,12 +1,12 @@
 -- The moves that a step is made of: a node acts, or a letter is taken out.
 use Rattle.std.specs.Prelude.{◌≡◌, ◌≢◌, ◌⊎◌, ◌<◌, ◌≤◌, ℕ, true, false, List, [], ◌∷◌, ◌++◌, Option, Some, None, map}
 use Rattle.mail_model.specs.Identity.{EpochId, no_epoch}
-use Rattle.object_model.specs.Letters.{Claim, Membership}
+use Rattle.object_model.specs.Letters.{Claim, Membership, Row, Letter}
 use Rattle.object_model.specs.Lists.{Among}
 use Rattle.maps_model.specs.Epochs.{IsBefore, IsAtMost}
-use Rattle.maps_model.specs.Cluster.{Joined, OpenGroup, Row, Node, Disk, Life, Slot, Letter, Cluster, with_slot, slot_at, epoch_of, Names, Comes, manager_of}
+use Rattle.maps_model.specs.Cluster.{Joined, OpenGroup, Node, Disk, Life, Slot, Cluster, with_slot, slot_at, epoch_of, Names, Comes, manager_of}
 use Rattle.maps_model.specs.Cluster.Life.{Up, Down, Lost}
-use Rattle.maps_model.specs.Cluster.Body.{Join, Install}
+use Rattle.object_model.specs.Letters.Body.{Join, Install}
 use Rattle.maps_model.specs.Words.{ManagersAreMembers, IsReport, IsAck, HasAtLeast}
 use Rattle.maps_model.specs.Rules.{own_row, IsKept, IsSpared}
 
@@ -60,7 +60,7 @@ pub record Begins (act : Act) (new : Node) : Type 0 where
   pub later : act.before.disk.boot < new.boot
   pub without : new.installed ≡ None
   pub unopened : new.group ≡ None
-  pub rowless : (m boot user : ℕ) → new.rows m boot user ≡ None
+  pub rowless : (m boot : ℕ) (user : List ℕ) → new.rows m boot user ≡ None
 
 -- a group is open as it was
 pub record WasOpen (act : Act) (epoch : EpochId) : Type 0 where
@@ -119,34 +119,34 @@ pub record KeepsMembership (act : Act) : Type 0 where
   pub sent : (letter : Letter) → Among letter act.out → (letter.from ≡ act.node) × (letter.to ≢ act.node)
 
 -- Where a row of a manager comes from: it stood in the same epoch, or was dropped, or was told by a Report or by the node itself.
-pub record TookRow (act : Act) (old new : Node) (m boot user : ℕ) : Type 0 where
+pub record TookRow (act : Act) (old new : Node) (m boot : ℕ) (user : List ℕ) : Type 0 where
   pub row : Row
   pub heard : Heard act (λ letter. (letter.from ≡ m) × (letter.epoch ≡ epoch_of new) × IsReport letter user boot row)
   pub within : old.installed ≡ new.installed
   pub is : new.rows m boot user ≡ Some row
   pub newer : (stood : Row) → old.rows m boot user ≡ Some stood → stood.version ≤ row.version
 
-pub data RowFrom (act : Act) (old new : Node) (m boot user : ℕ) : Type 0 where
+pub data RowFrom (act : Act) (old new : Node) (m boot : ℕ) (user : List ℕ) : Type 0 where
   Stood : old.installed ≡ new.installed → new.rows m boot user ≡ old.rows m boot user → RowFrom act old new m boot user
   Kept : (membership : Membership) → new.installed ≡ Some membership → IsBefore (epoch_of old) (epoch_of new) → IsKept act.node old membership m boot user
       → new.rows m boot user ≡ old.rows m boot user → RowFrom act old new m boot user
   Fell : (membership : Membership) → new.installed ≡ Some membership → IsBefore (epoch_of old) (epoch_of new) → (IsKept act.node old membership m boot user → ⊥) → new.rows m boot user ≡ None
       → RowFrom act old new m boot user
   Took : TookRow act old new m boot user → RowFrom act old new m boot user
-  Told : m ≡ act.node → boot ≡ new.boot → new.rows m boot user ≡ Some (own_row new act.after.disk user) → RowFrom act old new m boot user
+  Told : m ≡ act.node → boot ≡ new.boot → new.rows m boot user ≡ Some (own_row act.node new act.after.disk user) → RowFrom act old new m boot user
 
 -- a node says of a user what it said
-pub record SaysSame (act : Act) (old new : Node) (user : ℕ) : Type 0 where
+pub record SaysSame (act : Act) (old new : Node) (user : List ℕ) : Type 0 where
   pub version : new.version user ≡ old.version user
   pub full : act.after.disk.holds user ≡ act.before.disk.holds user
 
 -- the node manages the user, and has told its own row
-pub record TellsItself (act : Act) (new : Node) (user : ℕ) : Type 0 where
+pub record TellsItself (act : Act) (new : Node) (user : List ℕ) : Type 0 where
   pub manager : (membership : Membership) → new.installed ≡ Some membership → manager_of membership user ≡ Some act.node
-  pub told : new.rows act.node new.boot user ≡ Some (own_row new act.after.disk user)
+  pub told : new.rows act.node new.boot user ≡ Some (own_row act.node new act.after.disk user)
 
 -- why a user is not marked
-pub data Unmarked (act : Act) (old new : Node) (user : ℕ) : Type 0 where
+pub data Unmarked (act : Act) (old new : Node) (user : List ℕ) : Type 0 where
   Still : old.installed ≡ new.installed → old.marked user ≡ false → SaysSame act old new user → Unmarked act old new user
   Cleared : old.installed ≡ new.installed → Heard act (λ letter. (letter.epoch ≡ epoch_of new) × IsAck letter user (new.version user)) → SaysSame act old new user → Unmarked act old new user
   Own : TellsItself act new user → Unmarked act old new user
@@ -154,7 +154,7 @@ pub data Unmarked (act : Act) (old new : Node) (user : ℕ) : Type 0 where
       → (act.after.disk.holds user ≡ false) ⊎ IsSpared old membership user → Unmarked act old new user
 
 -- a Report that goes out
-pub record SendsReport (act : Act) (letter : Letter) (user boot : ℕ) (row : Row) : Type 0 where
+pub record SendsReport (act : Act) (letter : Letter) (user : List ℕ) (boot : ℕ) (row : Row) : Type 0 where
   pub new : Node
   pub is : act.after.life ≡ Up new
   pub membership : Membership
@@ -163,10 +163,10 @@ pub record SendsReport (act : Act) (letter : Letter) (user boot : ℕ) (row : Ro
   pub to : manager_of membership user ≡ Some letter.to
   pub booted : boot ≡ new.boot
   pub due : new.marked user ≡ true
-  pub says : row ≡ own_row new act.after.disk user
+  pub says : row ≡ own_row act.node new act.after.disk user
 
 -- a ReportAck that goes out
-pub record SendsAck (act : Act) (letter : Letter) (user version : ℕ) : Type 0 where
+pub record SendsAck (act : Act) (letter : Letter) (user : List ℕ) (version : ℕ) : Type 0 where
   pub new : Node
   pub is : act.after.life ≡ Up new
   pub membership : Membership
@@ -178,11 +178,11 @@ pub record SendsAck (act : Act) (letter : Letter) (user version : ℕ) : Type 0 
   pub has : HasAtLeast (new.rows letter.to boot user) version
 
 pub record KeepsMaps (act : Act) : Type 0 where
-  pub rows : (old new : Node) → act.before.life ≡ Up old → act.after.life ≡ Up new → (m boot user : ℕ) → RowFrom act old new m boot user
-  pub versions : (old new : Node) → act.before.life ≡ Up old → act.after.life ≡ Up new → (user : ℕ) → SaysSame act old new user ⊎ (old.version user < new.version user)
-  pub unmarked : (old new : Node) → act.before.life ≡ Up old → act.after.life ≡ Up new → (user : ℕ) → new.marked user ≡ false → Unmarked act old new user
-  pub reports : (letter : Letter) → Among letter act.out → (user boot : ℕ) (row : Row) → IsReport letter user boot row → SendsReport act letter user boot row
-  pub acks : (letter : Letter) → Among letter act.out → (user version : ℕ) → IsAck letter user version → SendsAck act letter user version
+  pub rows : (old new : Node) → act.before.life ≡ Up old → act.after.life ≡ Up new → (m boot : ℕ) (user : List ℕ) → RowFrom act old new m boot user
+  pub versions : (old new : Node) → act.before.life ≡ Up old → act.after.life ≡ Up new → (user : List ℕ) → SaysSame act old new user ⊎ (old.version user < new.version user)
+  pub unmarked : (old new : Node) → act.before.life ≡ Up old → act.after.life ≡ Up new → (user : List ℕ) → new.marked user ≡ false → Unmarked act old new user
+  pub reports : (letter : Letter) → Among letter act.out → (user : List ℕ) (boot : ℕ) (row : Row) → IsReport letter user boot row → SendsReport act letter user boot row
+  pub acks : (letter : Letter) → Among letter act.out → (user : List ℕ) (version : ℕ) → IsAck letter user version → SendsAck act letter user version
 
 -- what a node may count on
 pub record IsReady (n : ℕ) (before : Slot) (heard : Option Letter) : Type 0 where

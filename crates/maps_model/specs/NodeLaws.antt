@@ -1,8 +1,8 @@
 -- That the rules of a node are acts of the machine.
 use Rattle.std.specs.Prelude.{◌≡◌, ◌≢◌, ◌⊎◌, ℕ, zero, suc, Bool, false, List, [], ◌∷◌, Option, Some, None}
 use Rattle.mail_model.specs.Identity.{EpochId, no_epoch}
-use Rattle.object_model.specs.Letters.{Claim, MapRow, Member, Membership}
-use Rattle.maps_model.specs.Cluster.{Names, Row, Node, Disk, Life, Slot, Letter, slot_up}
+use Rattle.object_model.specs.Letters.{Claim, MapRow, Member, Membership, Row, Letter}
+use Rattle.maps_model.specs.Cluster.{Names, Node, Disk, Life, Slot, slot_up}
 use Rattle.maps_model.specs.Cluster.Life.{Down, Lost}
 use Rattle.maps_model.specs.Rules.{Entering, Reaction, start_group, Concludes, change, Reports, Hears, started, booted}
 use Rattle.maps_model.specs.Moves.{Act, IsReady, IsAct}
@@ -24,10 +24,10 @@ abbrev pub NodesConclude : Type 0
 NodesConclude = (own buckets : ℕ) (node : Node) (disk : Disk) (did : Reaction) → Concludes own buckets node disk did → IsReady own (slot_up node disk) None → IsAct (act_of own node disk did None)
 
 abbrev pub NodesChange : Type 0
-NodesChange = (own : ℕ) (node : Node) (disk : Disk) (user : ℕ) (full : Bool) → IsReady own (slot_up node disk) None → IsAct (act_of own node disk (change own node disk user full) None)
+NodesChange = (own : ℕ) (node : Node) (disk : Disk) (user : List ℕ) (full : Bool) → IsReady own (slot_up node disk) None → IsAct (act_of own node disk (change own node disk user full) None)
 
 abbrev pub NodesReport : Type 0
-NodesReport = (own to : ℕ) (users : List ℕ) (node : Node) (disk : Disk) (did : Reaction) → Reports own to users node disk did → IsReady own (slot_up node disk) None → IsAct (act_of own node disk did None)
+NodesReport = (own to : ℕ) (users : List (List ℕ)) (node : Node) (disk : Disk) (did : Reaction) → Reports own to users node disk did → IsReady own (slot_up node disk) None → IsAct (act_of own node disk did None)
 
 -- A node that goes down may have failed in its work: then its disk may turn out to hold one more record.
 abbrev pub fall_act : ℕ → Slot → Life → Act
@@ -65,7 +65,7 @@ OpeningIsSound = (nodes : ℕ) → Sound (record { slots = fresh_slots nodes; fl
 -- Whoever is named in its boot can enter: each test of marks and rows is decided.
 abbrev pub NodesCanEnter : Type 0
 NodesCanEnter = (own : ℕ) (node : Node) (disk : Disk) (membership : Membership) → Names membership own node.boot
-    → (marked : ℕ → Bool) × ((rows : ℕ → ℕ → ℕ → Option Row) × Entering own node disk membership marked rows)
+    → (marked : List ℕ → Bool) × ((rows : ℕ → ℕ → List ℕ → Option Row) × Entering own node disk membership marked rows)
 
 -- One map is assigned to the same claims, members and buckets.
 abbrev pub OneMap : Type 0

@@ -1,10 +1,10 @@
 -- The parts of the invariant, each over the fields that it reads.
 use Rattle.std.specs.Prelude.{◌≡◌, ◌≢◌, ◌⊎◌, ◌<◌, ℕ, List, Option, Some}
 use Rattle.mail_model.specs.Identity.{EpochId}
-use Rattle.object_model.specs.Letters.{Claim, Membership}
+use Rattle.object_model.specs.Letters.{Claim, Membership, Row, Letter}
 use Rattle.object_model.specs.Lists.{Among}
-use Rattle.maps_model.specs.Cluster.{Joined, OpenGroup, Row, Node, Disk, Slot, Letter, Cluster, slot_at, slot_up, epoch_of, Comes, manager_of}
-use Rattle.maps_model.specs.Cluster.Body.{Join}
+use Rattle.maps_model.specs.Cluster.{Joined, OpenGroup, Node, Disk, Slot, Cluster, slot_at, slot_up, epoch_of, Comes, manager_of}
+use Rattle.object_model.specs.Letters.Body.{Join}
 use Rattle.maps_model.specs.Words.{Known, IsOver, HasEntered, JoinStands, IsKeptRow, AllName, ManagersAreMembers, IsReport, IsAck, Fits, Agrees, RowFor}
 use Rattle.maps_model.specs.Moves.{IsInOrder}
 
@@ -33,26 +33,26 @@ pub record Joins (slots : List Slot) (flying : List Letter) : Type 0 where
 
 -- what speaks of an epoch speaks of one that is over, and of a node that has entered it in its boot of it
 pub record Spoken (slots : List Slot) (flying : List Letter) : Type 0 where
-  pub report_over : (letter : Letter) → Among letter flying → (user boot : ℕ) (row : Row) → IsReport letter user boot row → IsOver slots letter.epoch
-  pub ack_over : (letter : Letter) → Among letter flying → (user version : ℕ) → IsAck letter user version → IsOver slots letter.epoch
-  pub reported : (letter : Letter) → Among letter flying → (user boot : ℕ) (row : Row) → IsReport letter user boot row
+  pub report_over : (letter : Letter) → Among letter flying → (user : List ℕ) (boot : ℕ) (row : Row) → IsReport letter user boot row → IsOver slots letter.epoch
+  pub ack_over : (letter : Letter) → Among letter flying → (user : List ℕ) (version : ℕ) → IsAck letter user version → IsOver slots letter.epoch
+  pub reported : (letter : Letter) → Among letter flying → (user : List ℕ) (boot : ℕ) (row : Row) → IsReport letter user boot row
       → HasEntered slots letter.from boot letter.epoch × AllName slots flying letter.epoch letter.from boot
-  pub acked : (letter : Letter) → Among letter flying → (user version : ℕ) → IsAck letter user version
+  pub acked : (letter : Letter) → Among letter flying → (user : List ℕ) (version : ℕ) → IsAck letter user version
       → (boot : ℕ) × HasEntered slots letter.to boot letter.epoch × AllName slots flying letter.epoch letter.to boot
-  pub rows : (n : ℕ) (node : Node) (disk : Disk) → slot_at slots n ≡ Some (slot_up node disk) → (m boot user : ℕ) (row : Row) → node.rows m boot user ≡ Some row
+  pub rows : (n : ℕ) (node : Node) (disk : Disk) → slot_at slots n ≡ Some (slot_up node disk) → (m boot : ℕ) (user : List ℕ) (row : Row) → node.rows m boot user ≡ Some row
       → HasEntered slots m boot (epoch_of node) ⊎ IsKeptRow slots flying n node m boot user
 
 -- A Report in flight goes to the manager of its epoch, and fits what its sender says in that boot.
 pub record Reported (slots : List Slot) (flying : List Letter) : Type 0 where
-  pub to : (letter : Letter) → Among letter flying → (user boot : ℕ) (row : Row) → IsReport letter user boot row → (membership : Membership) → Known slots flying membership
+  pub to : (letter : Letter) → Among letter flying → (user : List ℕ) (boot : ℕ) (row : Row) → IsReport letter user boot row → (membership : Membership) → Known slots flying membership
       → membership.epoch ≡ letter.epoch → manager_of membership user ≡ Some letter.to
   pub fits : (n : ℕ) (node : Node) (disk : Disk) → slot_at slots n ≡ Some (slot_up node disk) → (letter : Letter) → Among letter flying → letter.from ≡ n
-      → (user boot : ℕ) (row : Row) → IsReport letter user boot row → boot ≡ node.boot → Fits row (node.version user) (disk.holds user)
+      → (user : List ℕ) (boot : ℕ) (row : Row) → IsReport letter user boot row → boot ≡ node.boot → Fits row (node.version user) (disk.holds user)
 
 -- What a manager has, will have or has kept of a node agrees with what the node says.
 pub record RowsAgree (slots : List Slot) (flying : List Letter) : Type 0 where
   pub each : (n : ℕ) (node : Node) (disk : Disk) → slot_at slots n ≡ Some (slot_up node disk) → (membership : Membership) → node.installed ≡ Some membership
-      → (user manager : ℕ) → manager_of membership user ≡ Some manager
+      → (user : List ℕ) (manager : ℕ) → manager_of membership user ≡ Some manager
       → (other : Node) (its : Disk) → slot_at slots manager ≡ Some (slot_up other its)
       → (row : Option Row) (epoch : EpochId) → RowFor manager other membership n node.boot user row epoch
       → Agrees flying n user membership.epoch epoch row (node.version user) (disk.holds user) (node.marked user)

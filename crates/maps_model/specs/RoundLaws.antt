@@ -1,22 +1,22 @@
 -- What rounds of letters do, where both ends are in one epoch and nothing changes in between: they clear marks, and they bring nodes into an epoch.
-use Rattle.std.specs.Prelude.{◌≡◌, ◌≤◌, ℕ, false, List, [], ◌∷◌, Some}
+use Rattle.std.specs.Prelude.{◌≡◌, ◌≤◌, ℕ, false, List, [], ◌∷◌, Some, None}
 use Rattle.mail_model.specs.Identity.{EpochId}
-use Rattle.object_model.specs.Letters.{Claim, Membership}
+use Rattle.object_model.specs.Letters.{Claim, Membership, Letter}
 use Rattle.object_model.specs.Lists.{Among}
 use Rattle.maps_model.specs.Epochs.{IsBefore, IsAtMost}
-use Rattle.maps_model.specs.Cluster.{Joined, OpenGroup, Node, Disk, Letter, epoch_of, Names}
-use Rattle.maps_model.specs.Cluster.Body.{Report}
+use Rattle.maps_model.specs.Cluster.{Joined, OpenGroup, Node, Disk, epoch_of, Names}
+use Rattle.object_model.specs.Letters.Body.{Report}
 use Rattle.maps_model.specs.Rules.{Reaction, own_row, ack_letter, promised, join_letter, HearsGroup, HearsJoin, HearsInstall, HearsReport, HearsAck}
 
-abbrev pub report_letter : ℕ → ℕ → Membership → Node → Disk → ℕ → Letter
-report_letter own to membership node disk user = record { from = own; to = to; epoch = membership.epoch; body = Report user node.boot (own_row node disk user) }
+abbrev pub report_letter : ℕ → ℕ → Membership → Node → Disk → List ℕ → Letter
+report_letter own to membership node disk user = record { from = own; to = to; epoch = membership.epoch; ticket = None; body = Report (own_row own node disk user) }
 
 -- A Report is acknowledged whatever row stands, and the acknowledgement clears the mark.
 abbrev pub RoundClears : Type 0
-RoundClears = (own to user : ℕ) (membership : Membership) (node : Node) (disk : Disk) → node.installed ≡ Some membership
-    → (manager : Node) (its : Disk) → manager.installed ≡ Some membership → (heard : Reaction) → HearsReport manager its (report_letter own to membership node disk user) user node.boot (own_row node disk user) heard
-    → (heard.out ≡ ack_letter (report_letter own to membership node disk user) user (own_row node disk user) ∷ [])
-    × ((cleared : Reaction) → HearsAck node disk (ack_letter (report_letter own to membership node disk user) user (own_row node disk user)) user (node.version user) cleared → cleared.node.marked user ≡ false)
+RoundClears = (own to : ℕ) (user : List ℕ) (membership : Membership) (node : Node) (disk : Disk) → node.installed ≡ Some membership
+    → (manager : Node) (its : Disk) → manager.installed ≡ Some membership → (heard : Reaction) → HearsReport manager its (report_letter own to membership node disk user) user node.boot (own_row own node disk user) heard
+    → (heard.out ≡ ack_letter (report_letter own to membership node disk user) user (own_row own node disk user) ∷ [])
+    × ((cleared : Reaction) → HearsAck node disk (ack_letter (report_letter own to membership node disk user) user (own_row own node disk user)) user (node.version user) cleared → cleared.node.marked user ≡ false)
 
 -- A node that has promised no such epoch yet joins a group.
 abbrev pub NodesJoin : Type 0

@@ -1,12 +1,13 @@
 -- What one node does. It sees its own disk and its letters, and nothing of other nodes.
+use Rattle.std.specs.Cmp.Lexicographic.{pointwise}
 use Rattle.std.specs.Prelude.{◌≡◌, ◌≢◌, ◌⊎◌, ◌≤◌, ◌<◌, ℕ, zero, suc, ◌+◌, max, Bool, true, false, ◌&&◌, nat_eq, nat_lt, List, [], ◌∷◌, map, flat_map, Option, Some, None, if◌then◌else◌}
 use Rattle.mail_model.specs.Identity.{EpochId, no_epoch}
-use Rattle.object_model.specs.Letters.{Claim, MapRow, Member, Membership}
+use Rattle.object_model.specs.Letters.{Claim, MapRow, Member, Membership, Row, Body, Letter}
 use Rattle.object_model.specs.Lists.{Among}
 use Rattle.maps_model.specs.Epochs.{IsBefore, IsAtMost}
 use Rattle.maps_model.specs.Assign.{IsAssigned}
-use Rattle.maps_model.specs.Cluster.{Joined, OpenGroup, Row, Node, Disk, Body, Letter, epoch_of, member_of, Names, Comes, manager_of, manages_in}
-use Rattle.maps_model.specs.Cluster.Body.{Group, Join, Install, Report, ReportAck}
+use Rattle.maps_model.specs.Cluster.{Joined, OpenGroup, Node, Disk, epoch_of, member_of, Names, Comes, manager_of, manages_in}
+use Rattle.object_model.specs.Letters.Body.{Group, Join, Install, Report, ReportAck}
 
 -- what is left of the node and of its disk, and the letters that it sends
 pub record Reaction : Type 0 where
@@ -19,7 +20,7 @@ idle node disk = record { node = node; disk = disk; out = [] }
 
 -- Letters of membership carry no epoch of their sender.
 abbrev pub letter_to : ℕ → Body → ℕ → Letter
-letter_to own body to = record { from = own; to = to; epoch = no_epoch; body = body }
+letter_to own body to = record { from = own; to = to; epoch = no_epoch; ticket = None; body = body }
 
 -- the nodes from n down to 1 without `own`
 abbrev pub others : ℕ → ℕ → List ℕ
@@ -93,15 +94,16 @@ pub data HearsJoin (node : Node) (disk : Disk) (from : ℕ) (epoch promise : Epo
         group = Some (record group { joins = with_join (record { member = record { node = from; boot = boot; was = was }; claims = claims }) group.joins });
       }) disk → HearsJoin node disk from epoch promise boot was claims did
 
-abbrev pub own_row : Node → Disk → ℕ → Row
-own_row node disk user = record { version = node.version user; full = disk.holds user }
+-- what a node says of a user; it has no profile of the user yet
+abbrev pub own_row : ℕ → Node → Disk → List ℕ → Row
+own_row own node disk user = record { user = user; node = own; boot = node.boot; version = node.version user; full = disk.holds user; profile = None }
 
 -- Whether rows and marks are kept at all. Where they are not, put ⊥ here: an install then drops all rows and marks every user that is held.
 abbrev pub KeepsAny : Type 0
 KeepsAny = Unit {0}
 
 -- A manager keeps a row where it manages the user in its old and its new map, and the row's node comes in that boot from the manager's own old epoch.
-pub record IsKept (own : ℕ) (node : Node) (membership : Membership) (m boot user : ℕ) : Type 0 where
+pub record IsKept (own : ℕ) (node : Node) (membership : Membership) (m boot : ℕ) (user : List ℕ) : Type 0 where
   pub old : Membership
   pub installed : node.installed ≡ Some old
   pub managed : manager_of old user ≡ Some own
@@ -110,7 +112,7 @@ pub record IsKept (own : ℕ) (node : Node) (membership : Membership) (m boot us
   pub allowed : KeepsAny
 
 -- A user is spared where its manager is the same in the node's old and new map, and comes from the node's own old epoch.
-pub record IsSpared (node : Node) (membership : Membership) (user : ℕ) : Type 0 where
+pub record IsSpared (node : Node) (membership : Membership) (user : List ℕ) : Type 0 where
   pub old : Membership
   pub installed : node.installed ≡ Some old
   pub manager : ℕ
@@ -122,35 +124,35 @@ pub record IsSpared (node : Node) (membership : Membership) (user : ℕ) : Type 
   pub allowed : KeepsAny
 
 -- whose row is to be told anew at an install: marks made earlier stay
-abbrev pub IsDue : Node → Disk → Membership → ℕ → Type 0
+abbrev pub IsDue : Node → Disk → Membership → List ℕ → Type 0
 IsDue node disk membership user = (node.marked user ≡ true) ⊎ ((disk.holds user ≡ true) × (IsSpared node membership user → ⊥))
 
 -- the mark of a user once the node has installed a membership
-pub data MarkAt (own : ℕ) (node : Node) (disk : Disk) (membership : Membership) (user : ℕ) (marked : Bool) : Type 0 where
+pub data MarkAt (own : ℕ) (node : Node) (disk : Disk) (membership : Membership) (user : List ℕ) (marked : Bool) : Type 0 where
   TellsItself : manager_of membership user ≡ Some own → marked ≡ false → MarkAt own node disk membership user marked
   Marks : (manager_of membership user ≡ Some own → ⊥) → IsDue node disk membership user → marked ≡ true → MarkAt own node disk membership user marked
   Spares : (manager_of membership user ≡ Some own → ⊥) → node.marked user ≡ false → (disk.holds user ≡ false) ⊎ IsSpared node membership user → marked ≡ false → MarkAt own node disk membership user marked
 
 -- a row that a node has once it has installed a membership
-pub data RowAt (own : ℕ) (node : Node) (disk : Disk) (membership : Membership) (m boot user : ℕ) (row : Option Row) : Type 0 where
-  Tells : m ≡ own → boot ≡ node.boot → manager_of membership user ≡ Some own → IsDue node disk membership user → row ≡ Some (own_row node disk user) → RowAt own node disk membership m boot user row
+pub data RowAt (own : ℕ) (node : Node) (disk : Disk) (membership : Membership) (m boot : ℕ) (user : List ℕ) (row : Option Row) : Type 0 where
+  Tells : m ≡ own → boot ≡ node.boot → manager_of membership user ≡ Some own → IsDue node disk membership user → row ≡ Some (own_row own node disk user) → RowAt own node disk membership m boot user row
   Keeps : IsKept own node membership m boot user → (m ≡ own → IsDue node disk membership user → ⊥) → row ≡ node.rows m boot user → RowAt own node disk membership m boot user row
   Drops : (IsKept own node membership m boot user → ⊥) → (m ≡ own → boot ≡ node.boot → manager_of membership user ≡ Some own → IsDue node disk membership user → ⊥) → row ≡ None
       → RowAt own node disk membership m boot user row
 
-abbrev pub entered : Node → Membership → (ℕ → Bool) → (ℕ → ℕ → ℕ → Option Row) → Node
+abbrev pub entered : Node → Membership → (List ℕ → Bool) → (ℕ → ℕ → List ℕ → Option Row) → Node
 entered node membership marked rows = record node { installed = Some membership; marked = marked; rows = rows }
 
 -- what installing makes of marks and rows
-pub record Entering (own : ℕ) (node : Node) (disk : Disk) (membership : Membership) (marked : ℕ → Bool) (rows : ℕ → ℕ → ℕ → Option Row) : Type 0 where
-  pub marks : (user : ℕ) → MarkAt own node disk membership user (marked user)
-  pub keeps : (m boot user : ℕ) → RowAt own node disk membership m boot user (rows m boot user)
+pub record Entering (own : ℕ) (node : Node) (disk : Disk) (membership : Membership) (marked : List ℕ → Bool) (rows : ℕ → ℕ → List ℕ → Option Row) : Type 0 where
+  pub marks : (user : List ℕ) → MarkAt own node disk membership user (marked user)
+  pub keeps : (m boot : ℕ) (user : List ℕ) → RowAt own node disk membership m boot user (rows m boot user)
 
 -- the open group is concluded: those who joined are the members
 abbrev pub membership_of : OpenGroup → List MapRow → Membership
 membership_of group rows = record { epoch = group.epoch; members = map (λ join. join.member) group.joins; map = rows }
 
-abbrev pub conclude : ℕ → Node → Disk → OpenGroup → List MapRow → (ℕ → Bool) → (ℕ → ℕ → ℕ → Option Row) → Reaction
+abbrev pub conclude : ℕ → Node → Disk → OpenGroup → List MapRow → (List ℕ → Bool) → (ℕ → ℕ → List ℕ → Option Row) → Reaction
 conclude own node disk group rows marked told = record {
   node = record (entered node (membership_of group rows) marked told) { group = None };
   disk = disk;
@@ -163,8 +165,8 @@ pub record Concludes (own buckets : ℕ) (node : Node) (disk : Disk) (did : Reac
   pub opened : node.group ≡ Some group
   pub rows : List MapRow
   pub assigned : IsAssigned (flat_map (λ join. join.claims) group.joins) (map (λ join. join.member) group.joins) buckets group.epoch rows
-  pub marked : ℕ → Bool
-  pub told : ℕ → ℕ → ℕ → Option Row
+  pub marked : List ℕ → Bool
+  pub told : ℕ → ℕ → List ℕ → Option Row
   pub entering : Entering own node disk (membership_of group rows) marked told
   pub is : did ≡ conclude own node disk group rows marked told
 
@@ -174,46 +176,46 @@ pub data HearsInstall (own : ℕ) (node : Node) (disk : Disk) (membership : Memb
   NotPromised : IsBefore node.promise membership.epoch → did ≡ idle node disk → HearsInstall own node disk membership did
   NotMember : (Names membership own node.boot → ⊥) → did ≡ idle node disk → HearsInstall own node disk membership did
   Enters : membership.epoch ≡ node.promise → IsBefore (epoch_of node) membership.epoch → Names membership own node.boot
-      → (marked : ℕ → Bool) (rows : ℕ → ℕ → ℕ → Option Row) → Entering own node disk membership marked rows
+      → (marked : List ℕ → Bool) (rows : ℕ → ℕ → List ℕ → Option Row) → Entering own node disk membership marked rows
       → did ≡ record { node = entered node membership marked rows; disk = disk; out = [] } → HearsInstall own node disk membership did
 
 -- a function with another value at one user
-abbrev pub set_at : {X : Type 0} → (ℕ → X) → ℕ → X → ℕ → X
-set_at f user x u = if nat_eq u user then x else f u
+abbrev pub set_at : {X : Type 0} → (List ℕ → X) → List ℕ → X → List ℕ → X
+set_at f user x u = if pointwise nat_eq u user then x else f u
 
-abbrev pub set_row : (ℕ → ℕ → ℕ → Option Row) → ℕ → ℕ → ℕ → Row → ℕ → ℕ → ℕ → Option Row
-set_row rows m boot user row n b u = if nat_eq n m && nat_eq b boot && nat_eq u user then Some row else rows n b u
+abbrev pub set_row : (ℕ → ℕ → List ℕ → Option Row) → ℕ → ℕ → List ℕ → Row → ℕ → ℕ → List ℕ → Option Row
+set_row rows m boot user row n b u = if nat_eq n m && nat_eq b boot && pointwise nat_eq u user then Some row else rows n b u
 
 -- A node comes to hold a message of a user, or holds none any more. It marks the user, or where it is the manager it tells its row.
-abbrev pub change : ℕ → Node → Disk → ℕ → Bool → Reaction
+abbrev pub change : ℕ → Node → Disk → List ℕ → Bool → Reaction
 change own node disk user full =
     let changed = record node { version = set_at node.version user (node.version user + 1) } in
     record {
       node = if manages_in node.installed own user
-          then record changed { rows = set_row node.rows own node.boot user (record { version = node.version user + 1; full = full }) }
+          then record changed { rows = set_row node.rows own node.boot user (record (own_row own node disk user) { version = node.version user + 1; full = full }) }
           else record changed { marked = set_at node.marked user true };
       disk = record disk { holds = set_at disk.holds user full };
       out = [];
     }
 
 -- A node reports some of its marked users to their manager.
-pub record Reports (own to : ℕ) (users : List ℕ) (node : Node) (disk : Disk) (did : Reaction) : Type 0 where
+pub record Reports (own to : ℕ) (users : List (List ℕ)) (node : Node) (disk : Disk) (did : Reaction) : Type 0 where
   pub membership : Membership
   pub within : node.installed ≡ Some membership
   pub other : to ≢ own
-  pub due : (user : ℕ) → Among user users → (node.marked user ≡ true) × (manager_of membership user ≡ Some to)
+  pub due : (user : List ℕ) → Among user users → (node.marked user ≡ true) × (manager_of membership user ≡ Some to)
   pub is : did ≡ record {
     node = node;
     disk = disk;
-    out = map (λ user. record { from = own; to = to; epoch = membership.epoch; body = Report user node.boot (own_row node disk user) }) users;
+    out = map (λ user. record { from = own; to = to; epoch = membership.epoch; ticket = None; body = Report (own_row own node disk user) }) users;
   }
 
 -- the answer to a Report or to whatever carries an epoch
-abbrev pub ack_letter : Letter → ℕ → Row → Letter
-ack_letter letter user row = record { from = letter.to; to = letter.from; epoch = letter.epoch; body = ReportAck user row.version }
+abbrev pub ack_letter : Letter → List ℕ → Row → Letter
+ack_letter letter user row = record { from = letter.to; to = letter.from; epoch = letter.epoch; ticket = None; body = ReportAck user row.version }
 
 -- A Report of another epoch is stale. A row is taken where it is not older than what stands of that node and boot, and it is acknowledged in every case.
-pub data HearsReport (node : Node) (disk : Disk) (letter : Letter) (user boot : ℕ) (row : Row) (did : Reaction) : Type 0 where
+pub data HearsReport (node : Node) (disk : Disk) (letter : Letter) (user : List ℕ) (boot : ℕ) (row : Row) (did : Reaction) : Type 0 where
   Stale : ((membership : Membership) → node.installed ≡ Some membership → membership.epoch ≢ letter.epoch) → did ≡ idle node disk → HearsReport node disk letter user boot row did
   Takes : (membership : Membership) → node.installed ≡ Some membership → membership.epoch ≡ letter.epoch
       → ((stood : Row) → node.rows letter.from boot user ≡ Some stood → stood.version ≤ row.version)
@@ -225,7 +227,7 @@ pub data HearsReport (node : Node) (disk : Disk) (letter : Letter) (user boot : 
       → HearsReport node disk letter user boot row did
 
 -- A ReportAck clears the mark of a user whose version it names.
-pub data HearsAck (node : Node) (disk : Disk) (letter : Letter) (user version : ℕ) (did : Reaction) : Type 0 where
+pub data HearsAck (node : Node) (disk : Disk) (letter : Letter) (user : List ℕ) (version : ℕ) (did : Reaction) : Type 0 where
   Stale : ((membership : Membership) → node.installed ≡ Some membership → membership.epoch ≢ letter.epoch) → did ≡ idle node disk → HearsAck node disk letter user version did
   Clears : (membership : Membership) → node.installed ≡ Some membership → membership.epoch ≡ letter.epoch → node.version user ≡ version
       → did ≡ idle (record node { marked = set_at node.marked user false }) disk → HearsAck node disk letter user version did
@@ -253,5 +255,6 @@ abbrev pub Hears : ℕ → Node → Disk → Letter → Body → Reaction → Ty
 Hears own node disk letter (Group epoch) did = HearsGroup own node disk letter.from epoch did
 Hears own node disk letter (Join epoch promise boot was claims) did = HearsJoin node disk letter.from epoch promise boot was claims did
 Hears own node disk letter (Install membership) did = HearsInstall own node disk membership did
-Hears own node disk letter (Report user boot row) did = HearsReport node disk letter user boot row did
+Hears own node disk letter (Report row) did = HearsReport node disk letter row.user row.boot row did
 Hears own node disk letter (ReportAck user version) did = HearsAck node disk letter user version did
+Hears own node disk letter other did = did ≡ idle node disk

@@ -1,14 +1,14 @@
 -- What the parts of the invariant say of nodes and letters.
 use Rattle.std.specs.Prelude.{◌≡◌, ◌⊎◌, ◌<◌, ◌≤◌, ℕ, Bool, false, List, Option, Some, None}
 use Rattle.mail_model.specs.Identity.{EpochId, no_epoch}
-use Rattle.object_model.specs.Letters.{Membership}
+use Rattle.object_model.specs.Letters.{Membership, Row, Letter}
 use Rattle.object_model.specs.Lists.{Among}
 use Rattle.maps_model.specs.Epochs.{IsBefore, IsAtMost}
 use Rattle.maps_model.specs.Assign.{IsIn}
-use Rattle.maps_model.specs.Cluster.{OpenGroup, Row, Node, Disk, Life, Slot, Letter, slot_at, slot_up, epoch_of, Names, Comes, manager_of}
+use Rattle.maps_model.specs.Cluster.{OpenGroup, Node, Disk, Life, Slot, slot_at, slot_up, epoch_of, Names, Comes, manager_of}
 use Rattle.maps_model.specs.Cluster.Life.{Up, Down, Lost}
 use Rattle.maps_model.specs.Rules.{KeepsAny, IsKept}
-use Rattle.maps_model.specs.Cluster.Body.{Install, Report, ReportAck}
+use Rattle.object_model.specs.Letters.Body.{Install, Report, ReportAck}
 
 -- a node that is up has installed this membership
 pub record Installed (slots : List Slot) (membership : Membership) : Type 0 where
@@ -78,7 +78,7 @@ abbrev pub JoinStands : List Slot → List Letter → ℕ → ℕ → EpochId �
 JoinStands slots flying n boot epoch was = HasJoined slots n boot epoch was × WasIn slots flying n boot was
 
 -- A row that a manager has kept: both came from one epoch, in which it managed the user too.
-pub record IsKeptRow (slots : List Slot) (flying : List Letter) (own : ℕ) (node : Node) (m boot user : ℕ) : Type 0 where
+pub record IsKeptRow (slots : List Slot) (flying : List Letter) (own : ℕ) (node : Node) (m boot : ℕ) (user : List ℕ) : Type 0 where
   pub membership : Membership
   pub installed : node.installed ≡ Some membership
   pub was : EpochId
@@ -91,13 +91,15 @@ pub record IsKeptRow (slots : List Slot) (flying : List Letter) (own : ℕ) (nod
 
 -- whoever manages a user is a member
 abbrev pub ManagersAreMembers : Membership → Type 0
-ManagersAreMembers membership = (user manager : ℕ) → manager_of membership user ≡ Some manager → IsIn membership.members manager
+ManagersAreMembers membership = (user : List ℕ) (manager : ℕ) → manager_of membership user ≡ Some manager → IsIn membership.members manager
 
 -- letters that carry the epoch of their sender
-pub record IsReport (letter : Letter) (user boot : ℕ) (row : Row) : Type 0 where
-  pub is : letter.body ≡ Report user boot row
+pub record IsReport (letter : Letter) (user : List ℕ) (boot : ℕ) (row : Row) : Type 0 where
+  pub is : letter.body ≡ Report row
+  pub of_user : row.user ≡ user
+  pub of_boot : row.boot ≡ boot
 
-pub record IsAck (letter : Letter) (user version : ℕ) : Type 0 where
+pub record IsAck (letter : Letter) (user : List ℕ) (version : ℕ) : Type 0 where
   pub is : letter.body ≡ ReportAck user version
 
 -- A row says at most what its node says, and with the node's own version it says what the node says.
@@ -114,7 +116,7 @@ abbrev pub IsOneOf : EpochId → EpochId → EpochId → Type 0
 IsOneOf a b epoch = (epoch ≡ a) ⊎ (epoch ≡ b)
 
 -- The manager has no row of the user, the node holds no message of it, and no Report of it in these epochs is on its way.
-pub record IsUntold (flying : List Letter) (n user : ℕ) (a b : EpochId) (row : Option Row) (full : Bool) : Type 0 where
+pub record IsUntold (flying : List Letter) (n : ℕ) (user : List ℕ) (a b : EpochId) (row : Option Row) (full : Bool) : Type 0 where
   pub missing : row ≡ None
   pub empty : full ≡ false
   pub silent : (letter : Letter) → Among letter flying → letter.from ≡ n → IsOneOf a b letter.epoch → (boot : ℕ) (told : Row) → IsReport letter user boot told → ⊥
@@ -125,13 +127,13 @@ pub record IsLatest (row : Option Row) (version : ℕ) : Type 0 where
   pub latest : found.version ≡ version
 
 -- The manager's row of node n for a user agrees with what the node says of it, in the node's epoch and in the manager's.
-pub record Agrees (flying : List Letter) (n user : ℕ) (a b : EpochId) (row : Option Row) (version : ℕ) (full marked : Bool) : Type 0 where
+pub record Agrees (flying : List Letter) (n : ℕ) (user : List ℕ) (a b : EpochId) (row : Option Row) (version : ℕ) (full marked : Bool) : Type 0 where
   pub fits : (told : Row) → row ≡ Some told → Fits told version full
   pub acked : (letter : Letter) → Among letter flying → letter.to ≡ n → IsOneOf a b letter.epoch → (told : ℕ) → IsAck letter user told → HasAtLeast row told
   pub unmarked : marked ≡ false → IsUntold flying n user a b row full ⊎ IsLatest row version
 
 -- What counts as the row that a manager has of a node and boot in a membership, and the manager's epoch in which it may still change.
-pub data RowFor (own : ℕ) (node : Node) (membership : Membership) (n boot user : ℕ) (row : Option Row) (epoch : EpochId) : Type 0 where
+pub data RowFor (own : ℕ) (node : Node) (membership : Membership) (n boot : ℕ) (user : List ℕ) (row : Option Row) (epoch : EpochId) : Type 0 where
   -- both are in the epoch
   Stands : node.installed ≡ Some membership → row ≡ node.rows n boot user → epoch ≡ membership.epoch → RowFor own node membership n boot user row epoch
   -- the manager has still to enter it, and will drop the row
