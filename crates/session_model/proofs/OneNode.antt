@@ -28,8 +28,7 @@ use Rattle.session_model.specs.Calls.Call.{Deliver, Login, Fetch, Strike}
 use Rattle.session_model.specs.Calls.Answer.{Stored, Listed, Wrong, Part, GoneAlready, Dropped}
 use Rattle.session_model.specs.Facts.{IsIn, IsGoneIn}
 use Rattle.session_model.specs.Logs.{Answered}
-use Rattle.session_model.specs.Books.{Among, struck_by}
-use Rattle.session_model.specs.Owes.{AmongAnswers}
+use Rattle.session_model.specs.Books.{Among, AmongAnswers, struck_by}
 use Rattle.session_model.specs.OneNode.{Node, Served, Serves, ServesAll, LeavesSome, IsSoundMail, AreSoundMails, OneNodeOwes, first_node, asked_of, told_of, answered_of}
 
 -- the copies that calls asked to be deleted

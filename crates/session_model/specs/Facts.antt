@@ -25,23 +25,6 @@ IsIn id (other ∷ ids) = (other ≡ id) ⊎ IsIn id ids
 abbrev pub ack_of : ℕ → Filing → Ack
 ack_of k filing = record { session = k; mail = filing.mail; id = filing.id; seconds = 0 }
 
--- each of these messages has an id of the session's node, and each mailbox has its copies of it
-abbrev pub AllStand : Plan → List Entry → List (Option (List ℕ)) → ℕ → ℕ → List Filing → Type 0
-AllStand plan entries stores k node [] = ⊤
-AllStand plan entries stores k node (filing ∷ more) =
-    (filing.id.node ≡ node) × StandsForAll plan entries stores (ack_of k filing) filing.mail.mailboxes × AllStand plan entries stores k node more
-
--- no two messages of all sessions have one id
-abbrev pub OwnIds : (Session → List Filing) → List Session → Type 0
-OwnIds filed sessions = (k l i j : ℕ) (session other : Session) (one two : Filing)
-    → session_at sessions k ≡ Some session → session_at sessions l ≡ Some other → slice_get (filed session) i ≡ Some one → slice_get (filed other) j ≡ Some two
-    → one.id ≡ two.id → (k ≡ l) × (i ≡ j)
-
--- each `Stored` has its copies standing
-pub record StoredAreTrue (plan : Plan) (entries : List Entry) (stores : List (Option (List ℕ))) (sessions : List Session) : Type 0 where
-  pub stand : (k : ℕ) (session : Session) → session_at sessions k ≡ Some session → AllStand plan entries stores k session.node (filings (exchanges_of session))
-  pub own_ids : OwnIds (λ session. filings (exchanges_of session)) sessions
-
 -- the session asked that the user's copies of these messages be deleted
 abbrev pub Strikes : Session → List ℕ → List Id → Exchange → Type 0
 Strikes session user ids one = (before : List Exchange) × (behind : List Exchange) × (exchanges_of session ≡ before ++ one ∷ behind) × (one.call ≡ Some (Strike user ids))

@@ -4,12 +4,11 @@ ghost use Rattle.session_model.specs.Mailing.{StoredAsTold, AsksAsTold};
 ghost use Rattle.session_model.specs.Reading.{StrikesAtQuit, QuitStrikes};
 ghost use Rattle.session_model.specs.Showing.{ShownAsListed};
 ghost use Rattle.session_model.specs.Runs.{ActsAreShown, DrivenIsShown};
-ghost use Rattle.session_model.specs.Books.{BooksAcknowledge, BooksStrike};
-ghost use Rattle.session_model.specs.Owes.{OwedStoredAreTrue, OwedDeletionsAreTrue, OwedPartsAreTrue};
-ghost use Rattle.session_model.specs.Alone.{OneNodePromises};
+ghost use Rattle.session_model.specs.Owes.{OwedDeletionsAreTrue, OwedPartsAreTrue};
+ghost use Rattle.session_model.specs.Kept.{OwedIsKept};
 ghost use Rattle.session_model.specs.Readings.{OneReading};
 ghost use Rattle.session_model.specs.OneNode.{OneNodeOwes, OneNodeStores};
-ghost use Rattle.session_model.specs.Promises.{TrueAnswersStand, TrueAnswersDelete, TrueAnswersShow};
+ghost use Rattle.session_model.specs.Promises.{TrueAnswersDelete, TrueAnswersShow};
 
 /// A session that was opened has said nothing but its greeting.
 pub fn begins()
@@ -66,11 +65,6 @@ pub fn shown_as_listed()
     ensures { ShownAsListed }
 {}
 
-/// Where each Stored is true, each message that was answered `250 stored` stands.
-pub fn true_answers_stand()
-    ensures { TrueAnswersStand }
-{}
-
 /// Where each Dropped is true, only a QUIT deletes, and one that was answered `+OK bye` has deleted.
 pub fn true_answers_delete()
     ensures { TrueAnswersDelete }
@@ -85,16 +79,6 @@ pub fn true_answers_show()
 /// made, with what these asked and were answered.
 pub fn acts_are_shown()
     ensures { ActsAreShown }
-{}
-
-/// Where the book of a cluster is that of the calls, its copies are those of what clients were told.
-pub fn books_acknowledge()
-    ensures { BooksAcknowledge }
-{}
-
-/// And its deletions are those of what clients marked.
-pub fn books_strike()
-    ensures { BooksStrike }
 {}
 
 /// What a cluster owes of deletions is true in the sessions that asked for them.
@@ -112,11 +96,6 @@ pub fn one_node_owes()
     ensures { OneNodeOwes }
 {}
 
-/// What a cluster owes of messages is true in the sessions that were told so.
-pub fn owed_stored_are_true()
-    ensures { OwedStoredAreTrue }
-{}
-
 /// One node gives what a cluster owes of messages.
 pub fn one_node_stores()
     ensures { OneNodeStores }
@@ -127,11 +106,6 @@ pub fn asks_as_told()
     ensures { AsksAsTold }
 {}
 
-/// The three promises to clients hold of one node, for every tape and however the work on it is left off.
-pub fn one_node_promises()
-    ensures { OneNodePromises }
-{}
-
 /// However a tape is driven, its transcript shows its sessions.
 pub fn driven_is_shown()
     ensures { DrivenIsShown }
@@ -140,4 +114,10 @@ pub fn driven_is_shown()
 /// What a client sent and got has one reading.
 pub fn one_reading()
     ensures { OneReading }
+{}
+
+/// However a tape is driven, the promises to clients are kept where the cluster gives what it owes
+/// of the calls.
+pub fn owed_is_kept()
+    ensures { OwedIsKept }
 {}
