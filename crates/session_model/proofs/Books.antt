@@ -3,24 +3,15 @@ use Rattle.std.proofs.Common.{◌≡◌, ◌⊎◌, inl, inr, ⊎_elim, ℕ, Boo
 use Rattle.std.proofs.lemmas.List.{map-append}
 use Rattle.std.proofs.lemmas.List.Concat.{flat_map-append}
 use Rattle.std.proofs.lemmas.Bool.{cases_eq, cond-true, cond-false, eq-eqb, ne_eqb}
-use Rattle.mail_model.specs.Identity.{Id}
-use Rattle.mail_model.specs.Tape.{Protocol}
 use Rattle.mail_model.specs.Told.{Mail}
 use Rattle.mail_model.specs.Stored.{Ack, mails_in}
 use Rattle.session_model.specs.Calls.{Call, Answer}
 use Rattle.session_model.specs.Calls.Call.{Deliver, Login, Fetch, Strike}
-use Rattle.session_model.specs.Calls.Answer.{Stored}
-use Rattle.session_model.specs.Talk.{Exchange, Goes, opening, farewell}
-use Rattle.session_model.specs.Talk.Standing.{Hearing}
+use Rattle.session_model.specs.Talk.{Exchange}
 use Rattle.session_model.specs.Mailing.{Filing, filing_of, filings}
-use Rattle.session_model.specs.Sessions.{Session, IsCut, session_at, exchanges_of}
 use Rattle.session_model.specs.Facts.{ack_of}
-use Rattle.session_model.specs.Logs.{Asked, Answered, IsLogged, call_in, answer_in, calls_of, answers_of, asked_by, answered_by, asked_in, answered_in}
-use Rattle.session_model.specs.Promises.{Deletes}
+use Rattle.session_model.specs.Logs.{Asked, Answered, call_in, answer_in, calls_of, answers_of, asked_in, answered_in}
 use Rattle.session_model.specs.Books.{Among, acks_by}
-use Rattle.session_model.proofs.Storing.{told_so, filings_both}
-use Rattle.session_model.proofs.Deleting.{reads_mail, deletes}
-use Rattle.session_model.proofs.Striking.{quit_strikes}
 
 -- messages
 

@@ -1,10 +1,9 @@
 -- What a run did and wrote; its transcript shows its sessions, and tells which messages were acknowledged.
-use Rattle.std.proofs.Common.{◌≡◌, ◌⊎◌, inl, inr, ⊎_elim, ◌+◌, ℕ, Bool, false, List, [], ◌∷◌, ◌++◌, length, flat_map, All, Option, Some, None, refl, sym, ap, ap₂, ◌∙◌, subst, append_assoc, append-nil, nat_eq}
+use Rattle.std.proofs.Common.{◌≡◌, ◌⊎◌, inl, inr, ⊎_elim, ◌+◌, ℕ, false, List, [], ◌∷◌, ◌++◌, length, flat_map, All, Option, Some, None, refl, sym, ap, ap₂, ◌∙◌, subst, append_assoc, append-nil, nat_eq}
 use Rattle.std.specs.Cmp.Lexicographic.{pointwise}
 use Rattle.std.proofs.lemmas.List.Concat.{flat_map-append}
 use Rattle.std.proofs.lemmas.List.Elements.{All-nil, All-cons, All-head, All-tail, All-append}
 use Rattle.mail_model.specs.Plan.{Plan}
-use Rattle.mail_model.specs.Lines.{sent_line}
 use Rattle.mail_model.specs.Smtp.{stored_text}
 use Rattle.mail_model.specs.Tape.{Protocol, Order, tape_order}
 use Rattle.mail_model.specs.Tape.Protocol.{Smtp, Pop}
@@ -16,8 +15,8 @@ use Rattle.mail_model.specs.Told as told
 use Rattle.mail_model.specs.Stored.{Ack, opened_at}
 use Rattle.session_model.specs.Sessions.{Session, session_at}
 use Rattle.session_model.specs.Acts.{Act, Acted, ActedAll, AreActsOf, greeting_of, opened_by, fed_by}
-use Rattle.session_model.specs.Acts.Act.{Opens, Does, Faults, StillWaits, Leaves}
-use Rattle.session_model.specs.Acts.Deed.{IsFed, Hears, IsAnswered, Falls, Closes}
+use Rattle.session_model.specs.Acts.Act.{Does, Faults, StillWaits, Leaves}
+use Rattle.session_model.specs.Acts.Deed.{Hears, IsAnswered, Falls, Closes}
 use Rattle.session_model.specs.Logs.{IsLogged, asked_by, answered_by, asked_in, answered_in}
 use Rattle.session_model.specs.Turns.{Turn, Next, Goes, Starts}
 use Rattle.session_model.specs.Turns.Turn.{Hearing, Beginning, Falling, Asking}
@@ -341,9 +340,11 @@ module _ (plan : Plan) (kinds : List (Protocol × ℕ)) (acts : List Act) (entri
       let opens : kinds ≡ flat_map opened_by end.been ++ flat_map opened_by (end.act ∷ []) = are ∙ ap (flat_map opened_by) end.are ∙ flat_map-append opened_by end.been (end.act ∷ []) in
       let before = all_in_order plan kinds (flat_map opened_by (end.act ∷ [])) [] end.been [] [] end.mid wrote.before (none_in_order plan kinds) both.0 opens end.done in
       let acked = cut_acked plan kinds (flat_map opened_by (end.act ∷ [])) end.been (all_of wrote.before) wrote.says wrote.front wrote.missing end.mid last end.act before
-      (All-head IsGreeted end.act [] both.1) opens end.acted wrote.cut in
-      (acked.0, subst (λ (e : List Entry). AreAcked kinds acts e acked.0) (sym wrote.written)
-      (subst (λ (a : List Act). AreAcked kinds a (all_of wrote.before ++ wrote.front) acked.0) (sym end.are) acked.1))
+      (All-head IsGreeted end.act [] both.1) opens end.acted wrote.cut in (
+        acked.0,
+        subst (λ (e : List Entry). AreAcked kinds acts e acked.0) (sym wrote.written)
+            (subst (λ (a : List Act). AreAcked kinds a (all_of wrote.before ++ wrote.front) acked.0) (sym end.are) acked.1),
+      )
 
   pub wrote_acked : (stop : Stop) → Wrote plan stop acts entries last → (unwritten : List Ack) × MayBeUnwritten stop unwritten × AreAcked kinds acts entries unwritten
   wrote_acked BehindLine wrote = ([], refl, all_acked wrote)

@@ -33,7 +33,7 @@ use Rattle.session_model.specs.Facts.{ack_of}
 use Rattle.session_model.specs.Acts.{Act, Deed, Did, Acted, ActedAll, closing, opened_by, fed_by}
 use Rattle.session_model.specs.Acts.Act.{Opens, Does, Faults, StillWaits, Leaves}
 use Rattle.session_model.specs.Acts.Deed.{IsFed, Hears, IsAnswered, Falls, Closes}
-use Rattle.session_model.specs.Logs.{Answered, answered_by, answered_in, answers_of}
+use Rattle.session_model.specs.Logs.{answered_by, answered_in, answers_of}
 use Rattle.session_model.specs.Books.{AtMostOne, acks_by}
 use Rattle.session_model.proofs.Did.{Speaks, did_speaks, did_kind}
 use Rattle.session_model.proofs.Acts.{Kept, Spoken, kind_of, at_first, act_push, acted_keeps, closing_is, does_other}
@@ -189,7 +189,6 @@ module _ (plan : Plan) (kinds : List (Protocol × ℕ)) (acts : List Act) (entri
           own ∙ ap (λ (l : List Filing). times (length l) k) (none_behind (filings before.whole) (filed_by (answered_in k (answered_by (Does k deed)))) none)
           ∙ sym (stored_read kinds k said (ap is_taking kind ∙ ap (λ (p : Protocol). is_taking (Some (p, before.node))) is))
 
-
   -- whatever act
   acted_order : (act : Act) (more : List Entry) (new : List Session) (others : List (Protocol × ℕ)) → IsGreeted act → Acted plan old act more new
       → kinds ≡ flat_map opened_by acts ++ others → map (λ (ack : Ack). ack.session) (flat_map acks_by (answered_by act)) ≡ stored_sessions kinds more
@@ -333,31 +332,40 @@ cut_acked plan kinds others acts entries says front missing old new act before g
     own = acted_order plan kinds acts entries old before.kept act says new others greeted acted all ∙ ap (stored_sessions kinds) cut ∙ stored_both kinds front missing
 
     none : flat_map acks_by (answered_by act) ≡ [] → (unwritten : List Ack) × AreAcked kinds (acts ++ act ∷ []) (entries ++ front) unwritten
-    none is = ([], record {
-      acks = acks_in acts;
-      few = inl refl;
-      are = sym (acks_push acts act ∙ ap (λ (l : List Ack). acks_in acts ++ l) is);
-      lines_of = before.lines_of ∙ sym (append-nil (stored_sessions kinds entries))
-          ∙ ap (λ (l : List ℕ). stored_sessions kinds entries ++ l) (sym (no_part (stored_sessions kinds front) (stored_sessions kinds missing)
-          (sym own ∙ ap (map (λ (ack : Ack). ack.session)) is))) ∙ sym (stored_both kinds entries front);
-      greeted = first_lines;
-    })
+    none is = (
+      [],
+      record {
+        acks = acks_in acts;
+        few = inl refl;
+        are = sym (acks_push acts act ∙ ap (λ (l : List Ack). acks_in acts ++ l) is);
+        lines_of = before.lines_of ∙ sym (append-nil (stored_sessions kinds entries))
+            ∙ ap (λ (l : List ℕ). stored_sessions kinds entries ++ l) (sym (no_part (stored_sessions kinds front) (stored_sessions kinds missing)
+            (sym own ∙ ap (map (λ (ack : Ack). ack.session)) is))) ∙ sym (stored_both kinds entries front);
+        greeted = first_lines;
+      },
+    )
 
     one : (ack : Ack) × (flat_map acks_by (answered_by act) ≡ ack ∷ []) → (unwritten : List Ack) × AreAcked kinds (acts ++ act ∷ []) (entries ++ front) unwritten
     one (ack, is) = ⊎_elim
-        (λ no_line. (ack ∷ [], record {
-          acks = acks_in acts;
-          few = inr (ack, refl);
-          are = sym (acks_push acts act ∙ ap (λ (l : List Ack). acks_in acts ++ l) is);
-          lines_of = before.lines_of ∙ sym (append-nil (stored_sessions kinds entries)) ∙ ap (λ (l : List ℕ). stored_sessions kinds entries ++ l) (sym no_line) ∙ sym (stored_both kinds entries front);
-          greeted = first_lines;
-        }))
-        (λ line. ([], record {
-          acks = acks_in (acts ++ act ∷ []);
-          few = inl refl;
-          are = append-nil (acks_in (acts ++ act ∷ []));
-          lines_of = ap (map (λ (x : Ack). x.session)) (acks_push acts act ∙ ap (λ (l : List Ack). acks_in acts ++ l) is) ∙ map-append (λ (x : Ack). x.session) (acks_in acts) (ack ∷ [])
-              ∙ ap₂ ◌++◌ before.lines_of (sym line) ∙ sym (stored_both kinds entries front);
-          greeted = first_lines;
-        }))
+        (λ no_line. (
+          ack ∷ [],
+          record {
+            acks = acks_in acts;
+            few = inr (ack, refl);
+            are = sym (acks_push acts act ∙ ap (λ (l : List Ack). acks_in acts ++ l) is);
+            lines_of = before.lines_of ∙ sym (append-nil (stored_sessions kinds entries)) ∙ ap (λ (l : List ℕ). stored_sessions kinds entries ++ l) (sym no_line) ∙ sym (stored_both kinds entries front);
+            greeted = first_lines;
+          },
+        ))
+        (λ line. (
+          [],
+          record {
+            acks = acks_in (acts ++ act ∷ []);
+            few = inl refl;
+            are = append-nil (acks_in (acts ++ act ∷ []));
+            lines_of = ap (map (λ (x : Ack). x.session)) (acks_push acts act ∙ ap (λ (l : List Ack). acks_in acts ++ l) is) ∙ map-append (λ (x : Ack). x.session) (acks_in acts) (ack ∷ [])
+                ∙ ap₂ ◌++◌ before.lines_of (sym line) ∙ sym (stored_both kinds entries front);
+            greeted = first_lines;
+          },
+        ))
         (front_of_one ack.session (stored_sessions kinds front) (stored_sessions kinds missing) (sym (ap (map (λ (x : Ack). x.session)) is) ∙ own))

@@ -1,5 +1,5 @@
 -- Where a cluster gives what it owes, all promises are kept, of the same sessions and the same messages.
-use Rattle.std.proofs.Common.{◌≡◌, ⊎_elim, ◌+◌, ℕ, zero, suc, Bool, true, false, ◌&&◌, List, [], ◌∷◌, ◌++◌, drop, length, map, flat_map, Option, Some, None, refl, sym, ap, ap₂, ◌∙◌, subst, arith, append_assoc, append-nil, nat_eq, if◌then◌else◌}
+use Rattle.std.proofs.Common.{◌≡◌, inl, inr, ⊎_elim, ◌+◌, ℕ, suc, Bool, true, false, ◌&&◌, List, [], ◌∷◌, ◌++◌, drop, length, map, flat_map, Option, Some, None, refl, sym, ap, ap₂, ◌∙◌, subst, arith, append_assoc, append-nil, nat_eq, if◌then◌else◌}
 use Rattle.std.specs.Cmp.Lexicographic.{pointwise}
 use Rattle.std.proofs.lemmas.List.{map-append}
 use Rattle.std.proofs.lemmas.Bool.{cases_eq, cond-true, cond-false, eq-eqb, ne_eqb}
@@ -12,7 +12,7 @@ use Rattle.mail_model.specs.Transcript.Entry.{Said, Event, Refused}
 use Rattle.mail_model.specs.Smtp.{stored_text}
 use Rattle.mail_model.specs.Told.{Mail}
 use Rattle.mail_model.specs.Shown.{lines_to}
-use Rattle.mail_model.specs.Stored.{Ack, EachStands, HaveOtherIds, IsOther, mails_in, opened, stored_sessions, takes_mail, is_taking, kind_at}
+use Rattle.mail_model.specs.Stored.{Ack, EachStands, HaveOtherIds, IsOther, mails_in, opened, stored_sessions, takes_mail, is_taking}
 use Rattle.mail_model.specs.Book.{BookEntry, AreCopies, acked_in}
 use Rattle.mail_model.specs.Deleted.{IsMarked}
 use Rattle.mail_model.specs.Record.{Record}
@@ -25,14 +25,14 @@ use Rattle.session_model.specs.Reading.{IsQuitUnit, all_seen}
 use Rattle.session_model.specs.Mailing.{Filing, filings, stored_lines}
 use Rattle.session_model.specs.Sessions.{Session, Gets, session_at, exchanges_of}
 use Rattle.session_model.specs.Acts.{Act}
-use Rattle.session_model.specs.Logs.{Asked, Answered, IsLogged, calls_of, asked_by, answered_by, asked_in, answered_in}
-use Rattle.session_model.specs.Run.{Stop, Made}
+use Rattle.session_model.specs.Logs.{Asked, calls_of, asked_by, answered_by, asked_in}
+use Rattle.session_model.specs.Run.{Stop}
+use Rattle.session_model.specs.Run.Stop.{BehindLine, SinkFailed, OutOfMemory}
 use Rattle.session_model.specs.Runs.{Shows}
 use Rattle.session_model.specs.Promises.{Deletes, IsTold}
 use Rattle.session_model.specs.Facts.{DroppedAreTrue}
-use Rattle.session_model.specs.Books.{AreBegun, IsBookOf, MayBeUnwritten, StruckAsMarked}
-use Rattle.session_model.specs.Owes.{Owes}
-use Rattle.session_model.specs.Kept.{KeepsPromises, OwedIsKept, IsEnding}
+use Rattle.session_model.specs.Books.{Among, AreBegun, IsBookOf, MayBeUnwritten, StruckAsMarked}
+use Rattle.session_model.specs.Kept.{OwedIsKept, IsEnding}
 use Rattle.session_model.proofs.Acts.{kind_of}
 use Rattle.session_model.proofs.InOrder.{AreAcked, Greeted, acks_in, kind_there, stored_both}
 use Rattle.session_model.proofs.Books.{IsCallIn, among_in, in_among, call_at, at_call, mails, mails_answered, filed_by, filed_all}
@@ -244,6 +244,18 @@ module _ (plan : Plan) (lines : List (List ℕ)) (entries : List Entry) (acts : 
           let pop = reads_mail plan lines entries k session known once user ids there.2 (there.0, there.1, there.3, there.4) in
           (session, there.2, at, deletes plan lines entries k session known once user ids there.2 (there.0, there.1, there.3, there.4) pop)
 
+-- what was begun was asked
+front_asked : (begun more : List Asked) (one : Asked) → Among one begun → Among one (begun ++ more)
+front_asked [] more one is = absurd is
+front_asked (other ∷ begun) more one is = ⊎_elim (λ same. inl same) (λ later. inr (front_asked begun more one later)) is
+
+pub begun_asked : (stop : Stop) (asked begun : List Asked) → AreBegun stop asked begun → (one : Asked) → Among one begun → Among one asked
+begun_asked BehindLine asked begun were one is = subst (Among one) were is
+begun_asked SinkFailed asked begun were one is = subst (Among one) were is
+begun_asked OutOfMemory asked begun were one is = ⊎_elim
+    (λ same. subst (Among one) same is)
+    (λ lacks. subst (Among one) (sym lacks.1) (front_asked begun (lacks.0 ∷ []) one is)) were
+
 pub owed_is_kept : OwedIsKept
 owed_is_kept plan tells stop handled left acts others made entries ending last stores disks filed begun book driven ends were owes = record {
   sessions = sessions;
@@ -303,4 +315,9 @@ owed_is_kept plan tells stop handled left acts others made entries ending last s
     }
 
     facts : DroppedAreTrue plan (entries ++ ending) stores disks sessions
-    facts = owed_deletions_are_true plan lines (entries ++ ending) stores disks done sessions shows owes.deletions
+    facts = owed_deletions_are_true plan lines (entries ++ ending) stores disks done sessions shows (record {
+      asks = λ n user id gone. let found = owes.deletions.asks n user id gone in
+          (found.0, found.1, begun_asked stop (flat_map asked_by done) begun were (record { session = found.0; call = Strike user found.1 }) found.2, found.3);
+      gone = owes.deletions.gone;
+      once = owes.deletions.once;
+    })

@@ -8,7 +8,7 @@ use Rattle.mail_model.specs.Book.BookEntry.{Acknowledged, Dropped}
 use Rattle.mail_model.specs.Site.{HoldsRecords}
 use Rattle.session_model.specs.Sessions.{Session}
 use Rattle.session_model.specs.Acts.{Act}
-use Rattle.session_model.specs.Logs.{Asked, asked_by, answered_by}
+use Rattle.session_model.specs.Logs.{asked_by, answered_by}
 use Rattle.session_model.specs.Run.{Stop, Made, IsDriven}
 use Rattle.session_model.specs.Books.{IsBookOf, AreBegun}
 use Rattle.session_model.specs.OneNode.{Node, Served, ServesAll, first_node, asked_of, answered_of}
@@ -21,12 +21,12 @@ AreByOne (Acknowledged copy ∷ book) = (copy.confirmers ≡ 1) × AreByOne book
 AreByOne (Dropped user id confirmers ∷ book) = (confirmers ≡ 1) × AreByOne book
 AreByOne (entry ∷ book) = AreByOne book
 
--- The node served the calls of the acts and gave their answers; its store holds its records, and the book is that of its calls.
+-- The node served the calls that were begun and gave their answers; its store holds its records, and the book is that of its calls.
 abbrev pub OneNodePromises : Type 0
 OneNodePromises = (plan : Plan) (tells : Bool) (stop : Stop) (handled left : List (List ℕ)) (acts others : List (List Act)) (made : List Made) (entries ending : List Entry) (sessions : List Session)
-    (served : List Served) (last : Node) (store : Option (List ℕ)) (begun : List Asked) (book : List BookEntry) → plan.nodes ≡ 1 → plan.confirm ≡ 1
+    (served : List Served) (last : Node) (store : Option (List ℕ)) (book : List BookEntry) → plan.nodes ≡ 1 → plan.confirm ≡ 1
     → IsDriven plan stop handled left acts others made entries sessions → IsEnding ending
     → ServesAll plan tells first_node served last → IfSome store (HoldsRecords last.records)
-    → asked_of served ≡ flat_map asked_by (flat_map (λ a. a) (acts ++ others)) → answered_of served ≡ flat_map answered_by (flat_map (λ a. a) (acts ++ others))
-    → AreBegun stop (asked_of served) begun → IsBookOf (handled ++ left) begun (answered_of served) book → AreByOne book
-    → KeepsPromises plan tells stop (handled ++ left) (entries ++ ending) (store ∷ []) (last.records ∷ []) (λ id. octets_in id last.records) book (flat_map (λ a. a) (acts ++ others)) begun
+    → AreBegun stop (flat_map asked_by (flat_map (λ a. a) (acts ++ others))) (asked_of served) → answered_of served ≡ flat_map answered_by (flat_map (λ a. a) (acts ++ others))
+    → IsBookOf (handled ++ left) (asked_of served) (answered_of served) book → AreByOne book
+    → KeepsPromises plan tells stop (handled ++ left) (entries ++ ending) (store ∷ []) (last.records ∷ []) (λ id. octets_in id last.records) book (flat_map (λ a. a) (acts ++ others)) (asked_of served)

@@ -1,5 +1,5 @@
 -- What has to be true of the answers that nodes gave, by what the stores hold in the end: the one thing that promises ask of a cluster.
-use Rattle.std.specs.Prelude.{◌≡◌, ◌⊎◌, ℕ, List, [], ◌∷◌, ◌++◌, length, ⊤, Option, Some, slice_get}
+use Rattle.std.specs.Prelude.{◌≡◌, ◌⊎◌, ℕ, List, [], ◌∷◌, ◌++◌, length, Option, Some, slice_get}
 use Rattle.mail_model.specs.Identity.{Id}
 use Rattle.mail_model.specs.Identity.Key.{Message}
 use Rattle.mail_model.specs.Lines.{closed}
@@ -7,12 +7,12 @@ use Rattle.mail_model.specs.Plan.{Plan}
 use Rattle.mail_model.specs.Transcript.{Entry}
 use Rattle.mail_model.specs.PopReplies.{Item}
 use Rattle.mail_model.specs.Record.{Record, SaysGone}
-use Rattle.mail_model.specs.Stored.{Ack, StandsForAll}
+use Rattle.mail_model.specs.Stored.{Ack}
 use Rattle.mail_model.specs.Deleted.{AreGoneOn}
 use Rattle.session_model.specs.Calls.Call.{Login, Fetch, Strike}
 use Rattle.session_model.specs.Calls.Answer.{Listed, Part, Dropped}
 use Rattle.session_model.specs.Talk.{Exchange}
-use Rattle.session_model.specs.Mailing.{Filing, filings}
+use Rattle.session_model.specs.Mailing.{Filing}
 use Rattle.session_model.specs.Reading.{ListsOnce, Each}
 use Rattle.session_model.specs.Sessions.{Session, session_at, exchanges_of}
 

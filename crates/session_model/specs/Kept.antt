@@ -10,7 +10,7 @@ use Rattle.mail_model.specs.Book.{BookEntry}
 use Rattle.mail_model.specs.Deleted.{DroppedAreGone}
 use Rattle.session_model.specs.Sessions.{Session}
 use Rattle.session_model.specs.Acts.{Act}
-use Rattle.session_model.specs.Logs.{Asked, Answered, asked_by, answered_by}
+use Rattle.session_model.specs.Logs.{Asked, asked_by, answered_by}
 use Rattle.session_model.specs.Run.{Stop, Made, IsDriven}
 use Rattle.session_model.specs.Runs.{Shows}
 use Rattle.session_model.specs.Promises.{StoredStands, DeletedByQuit, ShownAsFiled}
@@ -47,6 +47,6 @@ OwedIsKept = (plan : Plan) (tells : Bool) (stop : Stop) (handled left : List (Li
     (stores : List (Option (List ℕ))) (disks : List (List Record)) (filed : Id → Option (List ℕ)) (begun : List Asked) (book : List BookEntry)
     → IsDriven plan stop handled left acts others made entries last → IsEnding ending
     → AreBegun stop (flat_map asked_by (flat_map (λ a. a) (acts ++ others))) begun
-    → Owes plan tells (handled ++ left) (entries ++ ending) stores disks filed (flat_map asked_by (flat_map (λ a. a) (acts ++ others))) begun
-        (flat_map answered_by (flat_map (λ a. a) (acts ++ others))) book
+    → Owes plan tells (handled ++ left) (entries ++ ending) stores disks filed begun
+    (flat_map answered_by (flat_map (λ a. a) (acts ++ others))) book
     → KeepsPromises plan tells stop (handled ++ left) (entries ++ ending) stores disks filed book (flat_map (λ a. a) (acts ++ others)) begun

@@ -1,5 +1,5 @@
--- What a cluster owes of the calls that it was asked and that it answered. It speaks of these two lists and of no session.
-use Rattle.std.specs.Prelude.{◌≡◌, ◌≢◌, ◌⊎◌, ℕ, Bool, true, List, [], ◌∷◌, length, map, flat_map, AllPairs, Option, Some, slice_get}
+-- What a cluster owes of the calls that it began and that it answered. It speaks of these two lists and of no session.
+use Rattle.std.specs.Prelude.{◌≡◌, ◌≢◌, ℕ, Bool, true, List, length, map, flat_map, AllPairs, Option, Some, slice_get}
 use Rattle.mail_model.specs.Identity.{Id}
 use Rattle.mail_model.specs.Lines.{closed}
 use Rattle.mail_model.specs.Plan.{Plan}
@@ -19,8 +19,8 @@ use Rattle.session_model.specs.Books.{Among, AmongAnswers, IsBookOf, AreConfirme
 use Rattle.session_model.specs.Runs.{Shows}
 
 -- what is gone was asked for, what was answered `Dropped` is gone, and a listing has each id once
-pub record OwesDeletions (plan : Plan) (entries : List Entry) (stores : List (Option (List ℕ))) (disks : List (List Record)) (asked : List Asked) (answered : List Answered) : Type 0 where
-  pub asks : (n : ℕ) (user : List ℕ) (id : Id) → IsGoneIn disks n user id → (k : ℕ) × (ids : List Id) × Among (record { session = k; call = Strike user ids }) asked × IsIn id ids
+pub record OwesDeletions (plan : Plan) (entries : List Entry) (stores : List (Option (List ℕ))) (disks : List (List Record)) (begun : List Asked) (answered : List Answered) : Type 0 where
+  pub asks : (n : ℕ) (user : List ℕ) (id : Id) → IsGoneIn disks n user id → (k : ℕ) × (ids : List Id) × Among (record { session = k; call = Strike user ids }) begun × IsIn id ids
   pub gone : (k : ℕ) (user : List ℕ) (ids : List Id) (id : Id) → AmongAnswers (record { session = k; call = Strike user ids; answer = Dropped }) answered → IsIn id ids
       → (nodes : List ℕ) × AreGoneOn plan entries stores user id nodes
   pub once : (k : ℕ) (user secret : List ℕ) (items : List Item) → AmongAnswers (record { session = k; call = Login user secret; answer = Listed items }) answered
@@ -45,11 +45,11 @@ pub record OwesBook (plan : Plan) (lines : List (List ℕ)) (entries : List Entr
   pub confirmed : AreConfirmed plan book
   pub dropped : DroppedAreGone plan entries stores book
 
--- All that a cluster owes of what it was asked, what it began of it, and what it answered. The octets of a message are told by `filed` where the disks tell theirs.
+-- All that a cluster owes of the calls that it began and that it answered. The octets of a message are told by `filed` where the disks tell theirs.
 pub record Owes (plan : Plan) (tells : Bool) (lines : List (List ℕ)) (entries : List Entry) (stores : List (Option (List ℕ))) (disks : List (List Record)) (filed : Id → Option (List ℕ))
-    (asked begun : List Asked) (answered : List Answered) (book : List BookEntry) : Type 0 where
+    (begun : List Asked) (answered : List Answered) (book : List BookEntry) : Type 0 where
   pub stored : OwesStored plan lines entries stores answered
-  pub deletions : OwesDeletions plan entries stores disks asked answered
+  pub deletions : OwesDeletions plan entries stores disks begun answered
   pub parts : tells ≡ true → OwesParts filed answered
   pub books : OwesBook plan lines entries stores begun answered book
 

@@ -6,6 +6,7 @@ ghost use Rattle.session_model.specs.Showing.{ShownAsListed};
 ghost use Rattle.session_model.specs.Runs.{ActsAreShown, DrivenIsShown};
 ghost use Rattle.session_model.specs.Owes.{OwedDeletionsAreTrue, OwedPartsAreTrue};
 ghost use Rattle.session_model.specs.Kept.{OwedIsKept};
+ghost use Rattle.session_model.specs.Alone.{OneNodePromises};
 ghost use Rattle.session_model.specs.Readings.{OneReading};
 ghost use Rattle.session_model.specs.OneNode.{OneNodeOwes, OneNodeStores};
 ghost use Rattle.session_model.specs.Promises.{TrueAnswersDelete, TrueAnswersShow};
@@ -120,4 +121,10 @@ pub fn one_reading()
 /// of the calls.
 pub fn owed_is_kept()
     ensures { OwedIsKept }
+{}
+
+/// The promises to clients hold of a cluster of one node, for every tape and however the work on it
+/// is left off.
+pub fn one_node_promises()
+    ensures { OneNodePromises }
 {}
