@@ -8,3 +8,4 @@ pub mod Items
 pub mod Seen
 pub mod Bodies
 pub mod KeyOrder
+pub mod KeyMaps
