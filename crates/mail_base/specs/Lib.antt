@@ -9,3 +9,4 @@ pub mod Seen
 pub mod Bodies
 pub mod KeyOrder
 pub mod KeyMaps
+pub mod ObjectCodes

@@ -13,3 +13,9 @@ abbrev pub value_seen : Value → plain.Value
 value_seen Here = plain.Value.Here
 value_seen Gone = plain.Value.Gone
 value_seen (Secret octets) = plain.Value.Secret octets
+
+-- what a copy of a message may be
+abbrev pub IsOfMessage : plain.Value → Type 0
+IsOfMessage plain.Value.Here = Unit {0}
+IsOfMessage plain.Value.Gone = Unit {0}
+IsOfMessage (plain.Value.Secret octets) = ⊥

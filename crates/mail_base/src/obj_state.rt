@@ -1,7 +1,7 @@
 // The state of an object.
-ghost use Rattle.std.specs.Prelude.{◌≡◌, IfOk};
+ghost use Rattle.std.specs.Prelude.{◌≡◌, IfOk, IsOk};
 ghost use Rattle.object_model.specs.States.{is_same_stamp, is_same_state};
-ghost use Rattle.mail_base.specs.Seen.{value_seen};
+ghost use Rattle.mail_base.specs.Seen.{value_seen, IsOfMessage};
 
 use crate::{NodeSet, Stamp, Value};
 use std::alloc::AllocError;
@@ -42,13 +42,14 @@ impl ObjState {
         }
     }
 
-    /// The same state once more. It takes memory for a secret alone.
+    /// The same state once more. It takes memory for a secret alone, and answers for any other value.
     ///
     /// # Errors
     ///
     /// Only want of memory.
     pub fn copy(&self) -> Result<ObjState, AllocError>
-        ensures { IfOk result (λ state. state ≡ self.now) }
+        ensures same { IfOk result (λ state. state ≡ self.now) }
+        ensures of_messages { IsOfMessage self.now.value → IsOk result }
     {
         Ok(ObjState {
             value: self.value.copy()?,

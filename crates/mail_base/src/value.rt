@@ -1,7 +1,7 @@
 // What an object is.
-ghost use Rattle.std.specs.Prelude.{◌≡◌, IfOk};
+ghost use Rattle.std.specs.Prelude.{◌≡◌, IfOk, IsOk};
 ghost use Rattle.object_model.specs.States.{is_same_value};
-ghost use Rattle.mail_base.specs.Seen.{value_seen};
+ghost use Rattle.mail_base.specs.Seen.{value_seen, IsOfMessage};
 
 use crate::Secret;
 use std::alloc::AllocError;
@@ -18,13 +18,14 @@ pub enum Value {
 }
 
 impl Value {
-    /// The same value once more. It takes memory for a secret alone.
+    /// The same value once more. It takes memory for a secret alone, and answers for any other value.
     ///
     /// # Errors
     ///
     /// Only want of memory.
     pub fn copy(&self) -> Result<Value, AllocError>
-        ensures { IfOk result (λ value. value ≡ self.now) }
+        ensures same { IfOk result (λ value. value ≡ self.now) }
+        ensures of_messages { IsOfMessage (value_seen self.now) → IsOk result }
     {
         Ok(match self {
             Value::Here => Value::Here,
