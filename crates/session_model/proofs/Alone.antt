@@ -11,9 +11,10 @@ use Rattle.mail_model.specs.Tape.Order.{Open, Say, Feed, Close, End}
 use Rattle.mail_model.specs.Transcript.{Entry}
 use Rattle.mail_model.specs.Told.{Mail}
 use Rattle.mail_model.specs.Stored.{opened, opened_at, kind_at, AreRising}
+use Rattle.mail_model.specs.Record.{Record}
 use Rattle.mail_model.specs.Book.{BookEntry, dropped_in}
 use Rattle.mail_model.specs.Book.BookEntry.{Acknowledged, Struck, Dropped, WentDown}
-use Rattle.mail_model.specs.Deleted.{AreGoneOn, DroppedAreGone, IsCopyOf}
+use Rattle.mail_model.specs.Deleted.{IsCopyOf}
 use Rattle.mail_model.specs.Listing.{octets_in}
 use Rattle.mail_model.specs.Site.{TapeFault}
 use Rattle.mail_model.specs.Site.TapeFault.{NoSuchNode}
@@ -23,6 +24,7 @@ use Rattle.session_model.specs.Calls.{Call, Answer}
 use Rattle.session_model.specs.Calls.Call.{Deliver, Login, Fetch, Strike}
 use Rattle.session_model.specs.Calls.Answer.{Dropped as WasDropped}
 use Rattle.session_model.specs.Sessions.{Session, session_at, exchanges_of}
+use Rattle.session_model.specs.Copies.{AreGoneOn, DroppedAreGone}
 use Rattle.session_model.specs.Facts.{IsIn}
 use Rattle.session_model.specs.Acts.{Act}
 use Rattle.session_model.specs.Logs.{Answered, asked_by, asked_in}
@@ -187,21 +189,21 @@ dropped_answered user id (one ∷ answered) copy = ⊎_elim
     by_call call given is says c = absurd c
 
 -- so it is gone
-dropped_gone : (plan : Plan) (entries : List Entry) (stores : List (Option (List ℕ))) (book : List BookEntry) → plan.nodes ≡ 1 → plan.confirm ≡ 1
-    → ((user : List ℕ) (id : Id) → IsCopyOf user id (dropped_in book) → (nodes : List ℕ) × AreGoneOn plan entries stores user id nodes) → AreByOne book
-    → DroppedAreGone plan entries stores book
-dropped_gone plan entries stores [] one sure gone by_one = tt
-dropped_gone plan entries stores (Acknowledged copy ∷ book) one sure gone by_one = dropped_gone plan entries stores book one sure gone by_one.1
-dropped_gone plan entries stores (Struck user id ∷ book) one sure gone by_one = dropped_gone plan entries stores book one sure gone by_one
-dropped_gone plan entries stores (WentDown node ∷ book) one sure gone by_one = dropped_gone plan entries stores book one sure gone by_one
-dropped_gone plan entries stores (Dropped user id confirmers ∷ book) one sure gone by_one =
+dropped_gone : (plan : Plan) (entries : List Entry) (disks : List (List Record)) (book : List BookEntry) → plan.nodes ≡ 1 → plan.confirm ≡ 1
+    → ((user : List ℕ) (id : Id) → IsCopyOf user id (dropped_in book) → (nodes : List ℕ) × AreGoneOn plan entries disks user id nodes) → AreByOne book
+    → DroppedAreGone plan entries disks book
+dropped_gone plan entries disks [] one sure gone by_one = tt
+dropped_gone plan entries disks (Acknowledged copy ∷ book) one sure gone by_one = dropped_gone plan entries disks book one sure gone by_one.1
+dropped_gone plan entries disks (Struck user id ∷ book) one sure gone by_one = dropped_gone plan entries disks book one sure gone by_one
+dropped_gone plan entries disks (WentDown node ∷ book) one sure gone by_one = dropped_gone plan entries disks book one sure gone by_one
+dropped_gone plan entries disks (Dropped user id confirmers ∷ book) one sure gone by_one =
     let first = gone user id (inl refl) in
     let enough = first.1.enough in
     let alone = rising_one first.0 (subst (AreRising 0 first.0) one first.1.rising) (omega (arith, enough, sure)) in
-    ((1 ∷ [], by_one.0, subst (AreGoneOn plan entries stores user id) alone first.1), dropped_gone plan entries stores book one sure (λ name other copy. gone name other (inr copy)) by_one.1)
+    ((1 ∷ [], by_one.0, subst (AreGoneOn plan entries disks user id) alone first.1), dropped_gone plan entries disks book one sure (λ name other copy. gone name other (inr copy)) by_one.1)
 
 pub one_node_promises : OneNodePromises
-one_node_promises plan tells stop handled left acts others made entries ending sessions served last store book one sure driven ends serves holds were answered is_book by_one =
+one_node_promises plan tells stop handled left acts others made entries ending sessions served last store book one sure driven ends serves records holds were answered is_book by_one =
     owed_is_kept plan tells stop handled left acts others made entries ending sessions (store ∷ []) (last.records ∷ []) (λ id. octets_in id last.records) (asked_of served) book driven ends were
     (subst (λ (l : List Answered). Owes plan tells lines (entries ++ ending) (store ∷ []) (last.records ∷ []) (λ id. octets_in id last.records) (asked_of served) l book) answered owes)
   where
@@ -218,18 +220,19 @@ one_node_promises plan tells stop handled left acts others made entries ending s
     sound = served_sound lines served (λ k call among. call_asked plan lines entries done shown.0 shown.1 (driven_at_1 plan stop handled left acts others made entries sessions one driven) k call
         (begun_asked stop (flat_map asked_by done) (asked_of served) were (record { session = k; call = call }) among))
 
-    node : OwesDeletions plan (entries ++ ending) (store ∷ []) (last.records ∷ []) (asked_of served) (answered_of served) × (tells ≡ true → OwesParts (λ id. octets_in id last.records) (answered_of served))
-    node = one_node_owes plan tells (entries ++ ending) served last store one sure sound.0 serves holds
+    node : OwesDeletions plan (entries ++ ending) (last.records ∷ []) (asked_of served) (answered_of served) × (tells ≡ true → OwesParts (λ id. octets_in id last.records) (answered_of served))
+    node = one_node_owes plan tells (entries ++ ending) served last one sure sound.0 serves
 
     owes : Owes plan tells lines (entries ++ ending) (store ∷ []) (last.records ∷ []) (λ id. octets_in id last.records) (asked_of served) (answered_of served) book
     owes = record {
-      stored = one_node_stores plan tells lines (entries ++ ending) served last store one sure sound.1 serves holds;
+      holds = (records, holds, tt);
+      stored = one_node_stores plan tells lines (entries ++ ending) served last one sure sound.1 serves;
       deletions = node.0;
       parts = node.1;
       books = record {
         is_book = is_book;
         confirmed = confirmed_by_one plan book one sure by_one;
-        dropped = dropped_gone plan (entries ++ ending) (store ∷ []) book one sure (λ user id copy.
+        dropped = dropped_gone plan (entries ++ ending) (last.records ∷ []) book one sure (λ user id copy.
             let found = dropped_answered user id (answered_of served) (subst (IsCopyOf user id) is_book.dropped copy) in node.0.gone found.0 user found.1 id found.2 found.3) by_one;
       };
     }

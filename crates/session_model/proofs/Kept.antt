@@ -12,7 +12,7 @@ use Rattle.mail_model.specs.Transcript.Entry.{Said, Event, Refused}
 use Rattle.mail_model.specs.Smtp.{stored_text}
 use Rattle.mail_model.specs.Told.{Mail}
 use Rattle.mail_model.specs.Shown.{lines_to}
-use Rattle.mail_model.specs.Stored.{Ack, EachStands, HaveOtherIds, IsOther, mails_in, opened, stored_sessions, takes_mail, is_taking}
+use Rattle.mail_model.specs.Stored.{Ack, HaveOtherIds, IsOther, mails_in, opened, stored_sessions, takes_mail, is_taking}
 use Rattle.mail_model.specs.Book.{BookEntry, AreCopies, acked_in}
 use Rattle.mail_model.specs.Deleted.{IsMarked}
 use Rattle.mail_model.specs.Record.{Record}
@@ -30,6 +30,7 @@ use Rattle.session_model.specs.Run.{Stop}
 use Rattle.session_model.specs.Run.Stop.{BehindLine, SinkFailed, OutOfMemory}
 use Rattle.session_model.specs.Runs.{Shows}
 use Rattle.session_model.specs.Promises.{Deletes, IsTold}
+use Rattle.session_model.specs.Copies.{EachStands}
 use Rattle.session_model.specs.Facts.{DroppedAreTrue}
 use Rattle.session_model.specs.Books.{Among, AreBegun, IsBookOf, MayBeUnwritten, StruckAsMarked}
 use Rattle.session_model.specs.Kept.{OwedIsKept, IsEnding}
@@ -159,10 +160,10 @@ ids_front : (acks more : List Ack) → HaveOtherIds (acks ++ more) → HaveOther
 ids_front [] more have = tt
 ids_front (ack ∷ acks) more have = (other_front ack.id acks more have.0, ids_front acks more have.1)
 
-stand_front : (plan : Plan) (lines : List (List ℕ)) (entries : List Entry) (stores : List (Option (List ℕ))) (acks more : List Ack) → EachStands plan lines entries stores (acks ++ more)
-    → EachStands plan lines entries stores acks
-stand_front plan lines entries stores [] more stand = tt
-stand_front plan lines entries stores (ack ∷ acks) more stand = (stand.0, stand.1, stand.2, stand_front plan lines entries stores acks more stand.3)
+stand_front : (plan : Plan) (lines : List (List ℕ)) (entries : List Entry) (disks : List (List Record)) (acks more : List Ack) → EachStands plan lines entries disks (acks ++ more)
+    → EachStands plan lines entries disks acks
+stand_front plan lines entries disks [] more stand = tt
+stand_front plan lines entries disks (ack ∷ acks) more stand = (stand.0, stand.1, stand.2, stand_front plan lines entries disks acks more stand.3)
 
 module _ (plan : Plan) (lines : List (List ℕ)) (entries : List Entry) (acts : List Act) (sessions : List Session) (shows : Shows plan lines entries acts sessions) where
   -- the messages of a session
@@ -199,10 +200,10 @@ module _ (plan : Plan) (lines : List (List ℕ)) (entries : List Entry) (acts : 
       front = same_front (mails_in k acked.acks) (mails_in k unwritten) (mails (filings session.whole)) (mails (filings session.others)) whole long
 
   -- The book has the deletions that clients marked.
-  struck : (stop : Stop) (stores : List (Option (List ℕ))) (disks : List (List Record)) (begun : List Asked) (book : List BookEntry) (facts : DroppedAreTrue plan entries stores disks sessions)
+  struck : (stop : Stop) (disks : List (List Record)) (begun : List Asked) (book : List BookEntry) (facts : DroppedAreTrue plan entries disks sessions)
       → AreBegun stop (flat_map asked_by acts) begun → IsBookOf lines begun (flat_map answered_by acts) book
       → StruckAsMarked stop entries sessions (flat_map asked_by acts) begun (flat_map answered_by acts) book
-  struck stop stores disks begun book facts were is_book = record {
+  struck stop disks begun book facts were is_book = record {
     were = were;
     struck = is_book.struck;
     marked = λ k user ids among.
@@ -258,6 +259,7 @@ begun_asked OutOfMemory asked begun were one is = ⊎_elim
 
 pub owed_is_kept : OwedIsKept
 owed_is_kept plan tells stop handled left acts others made entries ending last stores disks filed begun book driven ends were owes = record {
+  holds = owes.holds;
   sessions = sessions;
   shows = shows;
   acks = acked.acks;
@@ -266,9 +268,9 @@ owed_is_kept plan tells stop handled left acts others made entries ending last s
     lines_of = acked.lines_of;
     told = told_of plan lines (entries ++ ending) done sessions shows all.0 acked;
     other_ids = ids_front acked.acks all.0 (subst HaveOtherIds (sym acked.are) owes.stored.other_ids);
-    stands = stand_front plan lines (entries ++ ending) stores acked.acks all.0 (subst (EachStands plan lines (entries ++ ending) stores) (sym acked.are) owes.stored.stand);
+    stands = stand_front plan lines (entries ++ ending) disks acked.acks all.0 (subst (EachStands plan lines (entries ++ ending) disks) (sym acked.are) owes.stored.stand);
   };
-  deleted_by_quit = true_answers_delete plan lines (entries ++ ending) stores disks sessions shows.are facts;
+  deleted_by_quit = true_answers_delete plan lines (entries ++ ending) disks sessions shows.are facts;
   shown_as_filed = λ told. true_answers_show plan lines (entries ++ ending) filed sessions shows.are
       (owed_parts_are_true plan lines (entries ++ ending) filed done sessions shows (owes.parts told));
   acknowledged_as_told = record {
@@ -278,7 +280,7 @@ owed_is_kept plan tells stop handled left acts others made entries ending last s
     other_ids = subst HaveOtherIds (sym acked.are) owes.stored.other_ids;
     of_sessions = λ k session at. ap (mails_in k) acked.are ∙ of_session plan lines (entries ++ ending) done sessions shows k session at;
   };
-  struck_as_marked = struck plan lines (entries ++ ending) done sessions shows stop stores disks begun book facts were owes.books.is_book;
+  struck_as_marked = struck plan lines (entries ++ ending) done sessions shows stop disks begun book facts were owes.books.is_book;
   dropped_are_gone = owes.books.dropped;
 }
   where
@@ -314,8 +316,8 @@ owed_is_kept plan tells stop handled left acts others made entries ending last s
           (all.2.greeted k);
     }
 
-    facts : DroppedAreTrue plan (entries ++ ending) stores disks sessions
-    facts = owed_deletions_are_true plan lines (entries ++ ending) stores disks done sessions shows (record {
+    facts : DroppedAreTrue plan (entries ++ ending) disks sessions
+    facts = owed_deletions_are_true plan lines (entries ++ ending) disks done sessions shows (record {
       asks = λ n user id gone. let found = owes.deletions.asks n user id gone in
           (found.0, found.1, begun_asked stop (flat_map asked_by done) begun were (record { session = found.0; call = Strike user found.1 }) found.2, found.3);
       gone = owes.deletions.gone;

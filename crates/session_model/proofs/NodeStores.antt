@@ -7,7 +7,7 @@ use Rattle.mail_model.specs.Record.{Record}
 use Rattle.mail_model.specs.Stored.{Ack, opened}
 use Rattle.mail_model.specs.Site.{nth_id, nth_stamp, message_records, gone_records, drawn_through}
 use Rattle.mail_model.proofs.Disk.{AreOurs, AcksStand, ours_more, ours_nothing, ours_gone, through_rises, acks_later, acks_filed, other_ids}
-use Rattle.mail_model.proofs.Promise.{each_stands}
+use Rattle.session_model.proofs.OnNode.{each_stands}
 use Rattle.session_model.specs.Calls.{Call, Answer}
 use Rattle.session_model.specs.Calls.Call.{Deliver, Login, Fetch, Strike}
 use Rattle.session_model.specs.Calls.Answer.{Stored, Listed, Wrong, Part, GoneAlready, Dropped}
@@ -100,9 +100,9 @@ module _ (plan : Plan) (tells : Bool) (lines : List (List ℕ)) where
       (all_keep mid last (acks ++ acks_of one.session one.call one.answer) served (serves_keeps one.session old mid one.call one.answer acks keeps taken.0 serves) taken.1 rest)
 
 pub one_node_stores : OneNodeStores
-one_node_stores plan tells lines entries served last store one sure taken serves holds =
+one_node_stores plan tells lines entries served last one sure taken serves =
     let keeps = all_keep plan tells lines first_node last [] served (record { ours = (tt, tt); stand = omega arith }) taken serves in
     record {
-      stand = each_stands plan one sure last.drawn last.records store holds lines entries 0 (flat_map acks_by (answered_of served)) keeps.stand;
+      stand = each_stands plan one sure last.drawn last.records lines entries 0 (flat_map acks_by (answered_of served)) keeps.stand;
       other_ids = other_ids 0 last.drawn (opened lines) last.records (flat_map acks_by (answered_of served)) keeps.stand;
     }

@@ -19,7 +19,7 @@ use Rattle.mail_model.proofs.GoneCopies.{copies_by, copy_front, copy_behind, cop
 use Rattle.mail_model.proofs.GoneRecords.{gone_front, gone_behind, gone_either, message_not_gone, gone_of_copies, copies_of_gone}
 use Rattle.mail_model.proofs.GoneHere.{Heres, HeresDrawn, heres_more, heres_none, heres_front, message_heres, gone_heres}
 use Rattle.mail_model.proofs.GoneListing.{listing_once}
-use Rattle.mail_model.proofs.GoneLaw.{gone_on_one}
+use Rattle.session_model.proofs.OnNode.{on_one}
 use Rattle.mail_model.proofs.ShownReplies as shown
 use Rattle.mail_model.proofs.ShownReplies.{items_for, item_for}
 use Rattle.mail_model.proofs.ShownFiled.{AreClosed, AreHeld, held_more, listing_listed, message_closed, gone_closed, held_closed, stored_ends}
@@ -318,13 +318,13 @@ first_sound = record {
     boots user id stamp targets is = cc
 
 pub one_node_owes : OneNodeOwes
-one_node_owes plan tells entries served last store one sure mails serves holds =
+one_node_owes plan tells entries served last one sure mails serves =
     let all = serves_all plan tells first_node last [] served first_sound mails serves in (
       record {
         asks = λ n user id gone. struck_asked user id served (all.sound.gone user id (gone_here n user id gone));
         gone = λ k user ids id among within. (
           1 ∷ [],
-          gone_on_one plan entries last.records one sure store holds user id
+          on_one plan entries last.records one sure (SaysGone (Message user id))
               (answer_is tells last.records served all.true_of k (Strike user ids) Dropped among id within),
         );
         once = λ k user secret items among. (answer_is tells last.records served all.true_of k (Login user secret) (Listed items) among).0;

@@ -79,7 +79,7 @@ module _ (plan : Plan) (lines : List (List ℕ)) (entries : List Entry) (acts : 
       (session, found.2, at, (found.0, found.1, found.3, found.4))
 
 pub owed_deletions_are_true : OwedDeletionsAreTrue
-owed_deletions_are_true plan lines entries stores disks acts sessions shows owes = record {
+owed_deletions_are_true plan lines entries disks acts sessions shows owes = record {
   asked = λ n user id gone.
       let (k, ids, among, within) = owes.asks n user id gone in
       let found = strike_of plan lines entries acts sessions shows k user ids (session_at sessions k) refl

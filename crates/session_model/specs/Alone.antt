@@ -1,8 +1,9 @@
 -- The promises of a cluster of one node, for every tape and however the work on it is left off.
-use Rattle.std.specs.Prelude.{◌≡◌, ℕ, Bool, List, [], ◌∷◌, ◌++◌, flat_map, ⊤, Option, IfSome}
+use Rattle.std.specs.Prelude.{◌≡◌, ℕ, Bool, List, [], ◌∷◌, ◌++◌, flat_map, ⊤, All, Option, IfSome}
 use Rattle.mail_model.specs.Plan.{Plan}
 use Rattle.mail_model.specs.Transcript.{Entry}
 use Rattle.mail_model.specs.Listing.{octets_in}
+use Rattle.mail_model.specs.Grammar.{IsRecord}
 use Rattle.mail_model.specs.Book.{BookEntry}
 use Rattle.mail_model.specs.Book.BookEntry.{Acknowledged, Dropped}
 use Rattle.mail_model.specs.Site.{HoldsRecords}
@@ -26,7 +27,7 @@ abbrev pub OneNodePromises : Type 0
 OneNodePromises = (plan : Plan) (tells : Bool) (stop : Stop) (handled left : List (List ℕ)) (acts others : List (List Act)) (made : List Made) (entries ending : List Entry) (sessions : List Session)
     (served : List Served) (last : Node) (store : Option (List ℕ)) (book : List BookEntry) → plan.nodes ≡ 1 → plan.confirm ≡ 1
     → IsDriven plan stop handled left acts others made entries sessions → IsEnding ending
-    → ServesAll plan tells first_node served last → IfSome store (HoldsRecords last.records)
+    → ServesAll plan tells first_node served last → All IsRecord last.records → IfSome store (HoldsRecords last.records)
     → AreBegun stop (flat_map asked_by (flat_map (λ a. a) (acts ++ others))) (asked_of served) → answered_of served ≡ flat_map answered_by (flat_map (λ a. a) (acts ++ others))
     → IsBookOf (handled ++ left) (asked_of served) (answered_of served) book → AreByOne book
     → KeepsPromises plan tells stop (handled ++ left) (entries ++ ending) (store ∷ []) (last.records ∷ []) (λ id. octets_in id last.records) book (flat_map (λ a. a) (acts ++ others)) (asked_of served)

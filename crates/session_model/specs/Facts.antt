@@ -1,4 +1,4 @@
--- What has to be true of the answers that nodes gave, by what the stores hold in the end: the one thing that promises ask of a cluster.
+-- What has to be true of the answers that nodes gave, by what their records say in the end: the one thing that promises ask of a cluster.
 use Rattle.std.specs.Prelude.{◌≡◌, ◌⊎◌, ℕ, List, [], ◌∷◌, ◌++◌, length, Option, Some, slice_get}
 use Rattle.mail_model.specs.Identity.{Id}
 use Rattle.mail_model.specs.Identity.Key.{Message}
@@ -8,10 +8,10 @@ use Rattle.mail_model.specs.Transcript.{Entry}
 use Rattle.mail_model.specs.PopReplies.{Item}
 use Rattle.mail_model.specs.Record.{Record, SaysGone}
 use Rattle.mail_model.specs.Stored.{Ack}
-use Rattle.mail_model.specs.Deleted.{AreGoneOn}
 use Rattle.session_model.specs.Calls.Call.{Login, Fetch, Strike}
 use Rattle.session_model.specs.Calls.Answer.{Listed, Part, Dropped}
 use Rattle.session_model.specs.Talk.{Exchange}
+use Rattle.session_model.specs.Copies.{AreGoneOn}
 use Rattle.session_model.specs.Mailing.{Filing}
 use Rattle.session_model.specs.Reading.{ListsOnce, Each}
 use Rattle.session_model.specs.Sessions.{Session, session_at, exchanges_of}
@@ -29,16 +29,16 @@ ack_of k filing = record { session = k; mail = filing.mail; id = filing.id; seco
 abbrev pub Strikes : Session → List ℕ → List Id → Exchange → Type 0
 Strikes session user ids one = (before : List Exchange) × (behind : List Exchange) × (exchanges_of session ≡ before ++ one ∷ behind) × (one.call ≡ Some (Strike user ids))
 
--- the records of node n + 1 say that the user's copy is gone; these are the records that each node's store spells
+-- the records of node n + 1 say that the user's copy is gone
 abbrev pub IsGoneIn : List (List Record) → ℕ → List ℕ → Id → Type 0
 IsGoneIn disks n user id = (records : List Record) × (slice_get disks n ≡ Some records) × SaysGone (Message user id) records
 
 -- what is gone was to be deleted, each `Dropped` is gone, and a listing has each id once
-pub record DroppedAreTrue (plan : Plan) (entries : List Entry) (stores : List (Option (List ℕ))) (disks : List (List Record)) (sessions : List Session) : Type 0 where
+pub record DroppedAreTrue (plan : Plan) (entries : List Entry) (disks : List (List Record)) (sessions : List Session) : Type 0 where
   pub asked : (n : ℕ) (user : List ℕ) (id : Id) → IsGoneIn disks n user id
       → (k : ℕ) × (session : Session) × (ids : List Id) × (one : Exchange) × (session_at sessions k ≡ Some session) × Strikes session user ids one × IsIn id ids
   pub gone : (k : ℕ) (session : Session) (user : List ℕ) (ids : List Id) (one : Exchange) → session_at sessions k ≡ Some session → Strikes session user ids one
-      → one.answer ≡ Some Dropped → (id : Id) → IsIn id ids → (nodes : List ℕ) × AreGoneOn plan entries stores user id nodes
+      → one.answer ≡ Some Dropped → (id : Id) → IsIn id ids → (nodes : List ℕ) × AreGoneOn plan entries disks user id nodes
   pub once : (k : ℕ) (session : Session) → session_at sessions k ≡ Some session → Each ListsOnce (exchanges_of session)
 
 -- the sizes of a listing that a login was answered with are those of what is filed

@@ -7,7 +7,7 @@ use Rattle.mail_model.specs.Transcript.Entry.{Said, Event, Refused}
 use Rattle.mail_model.specs.Record.{Record}
 use Rattle.mail_model.specs.Stored.{Ack}
 use Rattle.mail_model.specs.Book.{BookEntry}
-use Rattle.mail_model.specs.Deleted.{DroppedAreGone}
+use Rattle.session_model.specs.Copies.{AreDisks, DroppedAreGone}
 use Rattle.session_model.specs.Sessions.{Session}
 use Rattle.session_model.specs.Acts.{Act}
 use Rattle.session_model.specs.Logs.{Asked, asked_by, answered_by}
@@ -17,21 +17,23 @@ use Rattle.session_model.specs.Promises.{StoredStands, DeletedByQuit, ShownAsFil
 use Rattle.session_model.specs.Books.{AcknowledgedAsTold, StruckAsMarked, AreBegun}
 use Rattle.session_model.specs.Owes.{Owes}
 
--- All promises, over the run lines that were handled, the entries of the transcript, what the stores given back hold, and the book.
+-- All promises, over the run lines that were handled, the entries of the transcript, what the stores given back hold, the records of the nodes, and the book.
 pub record KeepsPromises (plan : Plan) (tells : Bool) (stop : Stop) (lines : List (List ℕ)) (entries : List Entry) (stores : List (Option (List ℕ))) (disks : List (List Record))
     (filed : Id → Option (List ℕ)) (book : List BookEntry) (acts : List Act) (begun : List Asked) : Type 0 where
+  -- the records of the nodes are what their stores hold, where these tell it
+  pub holds : AreDisks 1 stores disks
   -- the sessions as the tape and the transcript show them, with what they asked and were answered
   pub sessions : List Session
   pub shows : Shows plan lines entries acts sessions
   -- the messages that were answered `250 stored`, and one at most whose line was not written
   pub acks : List Ack
   pub unwritten : List Ack
-  pub stored_stands : StoredStands plan lines entries stores sessions acks
-  pub deleted_by_quit : DeletedByQuit plan entries stores disks sessions
+  pub stored_stands : StoredStands plan lines entries disks sessions acks
+  pub deleted_by_quit : DeletedByQuit plan entries disks sessions
   pub shown_as_filed : tells ≡ true → ShownAsFiled filed sessions
   pub acknowledged_as_told : AcknowledgedAsTold plan stop lines sessions acks unwritten book
   pub struck_as_marked : StruckAsMarked stop entries sessions (flat_map asked_by acts) begun (flat_map answered_by acts) book
-  pub dropped_are_gone : DroppedAreGone plan entries stores book
+  pub dropped_are_gone : DroppedAreGone plan entries disks book
 
 -- at most one line that says why the program ended
 abbrev pub IsEnding : List Entry → Type 0

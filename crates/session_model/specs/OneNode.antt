@@ -1,5 +1,5 @@
 -- A cluster of one node, by its calls: what each leaves on its disk, and what it answers.
-use Rattle.std.specs.Prelude.{◌≡◌, ◌≢◌, ◌⊎◌, ℕ, ◌+◌, Bool, true, false, List, [], ◌∷◌, ◌++◌, length, map, flat_map, ⊤, AllPairs, Option, Some, None, IfSome}
+use Rattle.std.specs.Prelude.{◌≡◌, ◌≢◌, ◌⊎◌, ℕ, ◌+◌, Bool, true, false, List, [], ◌∷◌, ◌++◌, length, map, flat_map, ⊤, AllPairs, Option, Some, None}
 use Rattle.mail_model.specs.Plan.{Plan, opens}
 use Rattle.mail_model.specs.Session.{Told}
 use Rattle.mail_model.specs.Told.{mail_of}
@@ -10,7 +10,7 @@ use Rattle.mail_model.specs.Transcript.{Entry}
 use Rattle.mail_model.specs.Record.{Record}
 use Rattle.mail_model.specs.Record.Record.{Boot}
 use Rattle.mail_model.specs.Listing.{octets_in, listing_of, size_in}
-use Rattle.mail_model.specs.Site.{HoldsRecords, nth_id, nth_stamp, message_records, gone_records, drawn_through}
+use Rattle.mail_model.specs.Site.{nth_id, nth_stamp, message_records, gone_records, drawn_through}
 use Rattle.session_model.specs.Calls.{Call, Answer}
 use Rattle.session_model.specs.Calls.Call.{Deliver, Login, Fetch, Strike}
 use Rattle.session_model.specs.Calls.Answer.{Stored, Listed, Wrong, Part, GoneAlready, Dropped}
@@ -100,9 +100,9 @@ answered_of served = flat_map (λ one. told_of one.session one.call one.answer) 
 
 -- One node gives what a cluster owes.
 abbrev pub OneNodeOwes : Type 0
-OneNodeOwes = (plan : Plan) (tells : Bool) (entries : List Entry) (served : List Served) (last : Node) (store : Option (List ℕ)) → plan.nodes ≡ 1 → plan.confirm ≡ 1
-    → AreSoundMails served → ServesAll plan tells first_node served last → IfSome store (HoldsRecords last.records)
-    → OwesDeletions plan entries (store ∷ []) (last.records ∷ []) (asked_of served) (answered_of served)
+OneNodeOwes = (plan : Plan) (tells : Bool) (entries : List Entry) (served : List Served) (last : Node) → plan.nodes ≡ 1 → plan.confirm ≡ 1
+    → AreSoundMails served → ServesAll plan tells first_node served last
+    → OwesDeletions plan entries (last.records ∷ []) (asked_of served) (answered_of served)
     × (tells ≡ true → OwesParts (λ id. octets_in id last.records) (answered_of served))
 
 -- a session of the node that takes mail asked for each message
@@ -117,6 +117,6 @@ AreTaken lines [] = ⊤
 AreTaken lines (one ∷ more) = IsTaken lines one.session one.call × AreTaken lines more
 
 abbrev pub OneNodeStores : Type 0
-OneNodeStores = (plan : Plan) (tells : Bool) (lines : List (List ℕ)) (entries : List Entry) (served : List Served) (last : Node) (store : Option (List ℕ)) → plan.nodes ≡ 1 → plan.confirm ≡ 1
-    → AreTaken lines served → ServesAll plan tells first_node served last → IfSome store (HoldsRecords last.records)
-    → OwesStored plan lines entries (store ∷ []) (answered_of served)
+OneNodeStores = (plan : Plan) (tells : Bool) (lines : List (List ℕ)) (entries : List Entry) (served : List Served) (last : Node) → plan.nodes ≡ 1 → plan.confirm ≡ 1
+    → AreTaken lines served → ServesAll plan tells first_node served last
+    → OwesStored plan lines entries (last.records ∷ []) (answered_of served)
