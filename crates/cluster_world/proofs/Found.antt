@@ -98,14 +98,14 @@ module _ {D : Type 0} (seen : D → Option (List ℕ)) (old : World D) where
       ap (λ (l : List replies.Item). size_in id l) (sym (fits.lists user)) ∙ size_by_place id (kept_of user old) ∙ ap (λ (o : Option Place). size_at o) a.0
   finds_part Dropped user id start most before now a = a
 
-  -- the count of faults has not fallen
-  pub fetched_later : (answer : Answer) (row : List Kept) (id : Id) (start most : ℕ) (told : Option (List ℕ)) (before now : ℕ) → AnswersFetch (Ok answer) row id start most told before now → before ≤ now
-  fetched_later (Stored own confirmers) row id start most told before now a = absurd a
-  fetched_later (Listed login manager asked items) row id start most told before now a = absurd a
-  fetched_later (Wrong stamp) row id start most told before now a = absurd a
-  fetched_later (Part octets whole) row id start most told before now a = a.4
-  fetched_later GoneAlready row id start most told before now a = a.1
-  fetched_later Dropped row id start most told before now a = absurd a
+  -- the count of faults is what it was
+  pub fetched_quiet : (answer : Answer) (row : List Kept) (id : Id) (start most : ℕ) (told : Option (List ℕ)) (before now : ℕ) → AnswersFetch (Ok answer) row id start most told before now → now ≡ before
+  fetched_quiet (Stored own confirmers) row id start most told before now a = absurd a
+  fetched_quiet (Listed login manager asked items) row id start most told before now a = absurd a
+  fetched_quiet (Wrong stamp) row id start most told before now a = absurd a
+  fetched_quiet (Part octets whole) row id start most told before now a = a.4
+  fetched_quiet GoneAlready row id start most told before now a = a.1
+  fetched_quiet Dropped row id start most told before now a = absurd a
 
   -- a world whose disk tells its octets has a read fail only where that disk failed
   pub has_cause : (user : List ℕ) (id : Id) (start most before now : ℕ) → AnswersFetch (Err DiskFault) (kept_of user old) id start most (seen (disk_of old)) before now
@@ -116,13 +116,13 @@ module _ {D : Type 0} (seen : D → Option (List ℕ)) (old : World D) where
 
 -- The answer stands with the next ticket, and nothing was written.
 pub finds : {D : Type 0} (seen : D → Option (List ℕ)) (faults : D → ℕ) (answer : Answer) (disk : D) (old new : World D) → IsTrue (is_up old)
-    → seen disk ≡ seen (disk_of old) → faults (disk_of old) ≤ faults disk
+    → seen disk ≡ seen (disk_of old) → faults disk ≡ faults (disk_of old)
     → (plan_of new ≡ plan_of old) × (is_up new ≡ is_up old) × (drawn_of new ≡ drawn_of old) × (stamps_of new ≡ stamps_of old) × (disk_of new ≡ disk)
     × (new.journal ≡ old.journal) × (new.index ≡ old.index) × (book_of new ≡ book_of old)
     → tickets_of new ≡ tickets_of old + 1
     → standing_of new ≡ standing_of old ++ call_of (nth_ticket (tickets_of old + 1)) (Found answer) ∷ []
     → Finds seen faults (nth_ticket (tickets_of old + 1)) answer old new
-finds seen faults answer disk old new up same later rest more stands = record {
+finds seen faults answer disk old new up same quiet rest more stands = record {
   plan = rest.0;
   up = rest.1 ∙ up;
   drawn = rest.2;
@@ -133,7 +133,7 @@ finds seen faults answer disk old new up same later rest more stands = record {
   gate = ap (λ (j : Journal). end_of j) rest.5;
   fits = λ records fits. recalls_same records (gate_of old) (gate_of new) (drawn_of old) (drawn_of new) (λ user. kept_of user old) (λ user. kept_of user new)
       (ap (λ (j : Journal). end_of j) rest.5) rest.2 (λ user. ap (λ (i : Index). kept_in user i) rest.6) fits;
-  later = rw rest.4 later;
+  quiet = rw rest.4 quiet;
   ticket_is = refl;
   standing = stands;
 }

@@ -12,6 +12,7 @@ pub mod Heads
 pub mod Listings
 pub mod Origins
 pub mod Pieces
+pub mod Quiet
 pub mod Readings
 pub mod Recalled
 pub mod Rows

@@ -12,6 +12,22 @@ use Rattle.cluster_world.specs.declared.step.Said.TheVariants.{Begun, Noted, Ask
 use Rattle.cluster_world.specs.declared.step.StepFault.{StepFault}
 use Rattle.cluster_world.specs.declared.step.StepFault.TheVariants.{NoSuchNode, NodeDown, NoSuchTicket, Worn, NoMemory}
 
+module _ {D : Type 0} (seen : D → Option (List ℕ)) (faults : D → ℕ) (old new : World D) where
+  -- the node is down
+  pub down_by_fall : (call : Call) → HasFallen seen faults call old new → IsFalse (is_up new)
+  down_by_fall (Deliver deliver) fell = fell.down
+  down_by_fall (Login user proof) fell = absurd fell
+  down_by_fall (Fetch user id holders start most) fell = fell.down
+  down_by_fall (Strike user ids) fell = fell.down
+  down_by_fall (Leave user login manager) fell = absurd fell
+
+  pub down_by_break : (call : Call) → HasBrokenOff seen faults call old new → IsFalse (is_up new)
+  down_by_break (Deliver deliver) broke = broke.down
+  down_by_break (Login user proof) broke = absurd broke
+  down_by_break (Fetch user id holders start most) broke = absurd broke
+  down_by_break (Strike user ids) broke = broke.down
+  down_by_break (Leave user login manager) broke = absurd broke
+
 module _ {D : Type 0} (seen : D → Option (List ℕ)) (faults : D → ℕ) (old new : World D) (shown : IsTrue (is_up old) → ShowsGate seen old) where
   same_shown : seen (disk_of new) ≡ seen (disk_of old) → gate_of new ≡ gate_of old → IsTrue (is_up old) → ShowsGate seen new
   same_shown octets gate up = rw (octets, gate) (shown up)
@@ -29,32 +45,18 @@ module _ {D : Type 0} (seen : D → Option (List ℕ)) (faults : D → ℕ) (old
   shown_by_begun (Strike user ids) ticket up begun = begun.gate
   shown_by_begun (Leave user login manager) ticket up begun = absurd begun
 
-  down_by_fall : (call : Call) → HasFallen seen faults call old new → IsFalse (is_up new)
-  down_by_fall (Deliver deliver) fell = fell.down
-  down_by_fall (Login user proof) fell = absurd fell
-  down_by_fall (Fetch user id holders start most) fell = fell.down
-  down_by_fall (Strike user ids) fell = fell.down
-  down_by_fall (Leave user login manager) fell = absurd fell
-
-  down_by_break : (call : Call) → HasBrokenOff seen faults call old new → IsFalse (is_up new)
-  down_by_break (Deliver deliver) broke = broke.down
-  down_by_break (Login user proof) broke = absurd broke
-  down_by_break (Fetch user id holders start most) broke = absurd broke
-  down_by_break (Strike user ids) broke = broke.down
-  down_by_break (Leave user login manager) broke = absurd broke
-
   -- the beginning of a call
   pub shown_begun : (result : Result Said StepFault) (node : ℕ) (call : Call) → BeginDid seen faults result node call old new → IsTrue (is_up new) → ShowsGate seen new
   shown_begun (Ok (Begun ticket)) node call did up = shown_by_begun call ticket did.1 did.2
   shown_begun (Ok Noted) node call did up = unchanged did.3 up
   shown_begun (Ok (Asked answer)) node call did up = absurd did
-  shown_begun (Ok (Faulted failed)) node call did up = fallen (down_by_fall call did.3) up
+  shown_begun (Ok (Faulted failed)) node call did up = fallen (down_by_fall seen faults old new call did.3) up
   shown_begun (Err NoSuchNode) node call did up = unchanged did.1 up
   shown_begun (Err NodeDown) node call did up = unchanged did.2 up
   shown_begun (Err NoSuchTicket) node call did up = absurd did
   shown_begun (Err Worn) node call did up = unchanged did.3 up
   shown_begun (Err (NoMemory None)) node call did up = same_shown did.1.octets did.1.gate did.0
-  shown_begun (Err (NoMemory (Some failed))) node call did up = fallen (down_by_break call did.2) up
+  shown_begun (Err (NoMemory (Some failed))) node call did up = fallen (down_by_break seen faults old new call did.2) up
 
   -- an ask
   pub shown_asked : (result : Result Said StepFault) (ticket : Ticket) → AskDid seen faults result ticket old new → IsTrue (is_up new) → ShowsGate seen new

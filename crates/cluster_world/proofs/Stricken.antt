@@ -58,9 +58,9 @@ module _ (user : List ℕ) (count : ℕ) (ids : List Id) (i : ℕ) (id : Id) (wi
       → AppendsAll old mid end end' before between (gone_records user count (take i ids)) → Wrote {T = S} (Err fault) mid new end' end'' between now (gone_records user so_far (id ∷ []))
       → Wrote {T = T} (Err fault) old new end end'' before now (gone_records user count ids)
   gone_failed S T Disk old mid new end end' end'' before between now so_far number front wrote =
-      (stops_in_gone old mid new end end' before between so_far number front wrote.0, omega (arith, front.later, wrote.1), rose_later before between now front.later wrote.2)
+      (stops_in_gone old mid new end end' before between so_far number front wrote.0, omega (arith, front.quiet, wrote.1), rose_later before between now (omega (arith, front.quiet)) wrote.2)
   gone_failed S T NoMemory old mid new end end' end'' before between now so_far number front wrote =
-      (stops_in_gone old mid new end end' before between so_far number front wrote.0, omega (arith, front.later, wrote.1))
+      (stops_in_gone old mid new end end' before between so_far number front wrote.0, omega (arith, front.quiet, wrote.1))
 
 behind_one : {D : Type 0} (settled : D → Type 0) (front : List Id) (id : Id) (old new : D) → settled new → SettledBehind settled (front ++ id ∷ []) old new
 behind_one settled [] id old new sure = sure

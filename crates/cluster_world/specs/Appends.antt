@@ -26,7 +26,7 @@ pub record HoldsFront (seen : Option (List ℕ)) (records wanted : List Record) 
 
 -- all of the records follow those that stood
 pub record AppendsAll (old new : Option (List ℕ)) (end end' before now : ℕ) (wanted : List Record) : Type 0 where
-  pub later : before ≤ now
+  pub quiet : now ≡ before
   pub gate : HasGate new end'
   pub stand : (records : List Record) → RecordsStand old records end → RecordsStand new (records ++ wanted) end'
   pub grew : end' ≡ end + length (flat_map framed (payloads_of wanted))

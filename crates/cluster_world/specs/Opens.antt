@@ -23,5 +23,5 @@ BeginFails NoMemory before now = before ≤ now
 
 -- the journal stands with that record, or was not begun
 abbrev pub Begun : Result Journal OpenFault → Option (List ℕ) → ℕ → ℕ → Type 0
-Begun (Ok journal) seen before now = RecordsStand seen (Boot 1 ∷ []) (end_of journal) × HasGate seen (end_of journal) × (before ≤ now) × (end_of journal ≡ 26)
+Begun (Ok journal) seen before now = RecordsStand seen (Boot 1 ∷ []) (end_of journal) × HasGate seen (end_of journal) × (now ≡ before) × (end_of journal ≡ 26)
 Begun (Err fault) seen before now = BeginFails fault before now

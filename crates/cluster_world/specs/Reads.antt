@@ -36,7 +36,7 @@ MayEndBefore (Some held) end = length held < end
 -- what a read of this place gives: all its octets, or the disk failed or ended too early; want of memory comes before the disk is asked
 abbrev pub HasRead : Result (List ℕ) JournalFault → Place → Option (List ℕ) → ℕ → ℕ → Type 0
 HasRead (Ok octets) place seen before now =
-    (length octets ≡ place.length) × IfSome seen (λ held. octets ≡ take place.length (drop place.at held)) × (before ≤ now)
+    (length octets ≡ place.length) × IfSome seen (λ held. octets ≡ take place.length (drop place.at held)) × (now ≡ before)
 HasRead (Err DiskFault) place seen before now = (Rose before now ⊎ MayEndBefore seen (place.at + place.length)) × (before ≤ now)
 HasRead (Err NotAJournal) place seen before now = ⊥
 HasRead (Err TooLarge) place seen before now = ⊥
@@ -63,8 +63,8 @@ AnswersFetch (Ok (Stored id confirmers)) row wanted start most seen before now =
 AnswersFetch (Ok (Listed login manager asked items)) row wanted start most seen before now = ⊥
 AnswersFetch (Ok (Wrong stamp)) row wanted start most seen before now = ⊥
 AnswersFetch (Ok (Part octets whole)) row wanted start most seen before now =
-    (place : Place) × (place_in wanted row ≡ Some place) × (whole ≡ place.length) × IsPartAt place start most octets seen × (before ≤ now)
-AnswersFetch (Ok GoneAlready) row wanted start most seen before now = (place_in wanted row ≡ None) × (before ≤ now)
+    (place : Place) × (place_in wanted row ≡ Some place) × (whole ≡ place.length) × IsPartAt place start most octets seen × (now ≡ before)
+AnswersFetch (Ok GoneAlready) row wanted start most seen before now = (place_in wanted row ≡ None) × (now ≡ before)
 AnswersFetch (Ok Dropped) row wanted start most seen before now = ⊥
 AnswersFetch (Err DiskFault) row wanted start most seen before now =
     (place : Place) × (place_in wanted row ≡ Some place) × (Rose before now ⊎ MayEndBefore seen (place.at + place.length)) × (before ≤ now)

@@ -100,7 +100,7 @@ pub record Takes {D : Type 0} (seen : D → Option (List ℕ)) (faults : D → �
   pub stamps : stamps_of new ≡ stamps_of old + 1
   pub tickets : tickets_of new ≡ tickets_of old + 1
   pub book : book_of new ≡ book_of old
-  pub later : faults (disk_of old) ≤ faults (disk_of new)
+  pub quiet : faults (disk_of new) ≡ faults (disk_of old)
   pub gate : ShowsGate seen new
   pub octets : List ℕ
   pub stored : IsStored mail (nth_id (drawn_of old + 1)) 0 octets
@@ -122,7 +122,7 @@ pub record Finds {D : Type 0} (seen : D → Option (List ℕ)) (faults : D → �
   pub octets : seen (disk_of new) ≡ seen (disk_of old)
   pub gate : gate_of new ≡ gate_of old
   pub fits : (records : List Record) → Fits records old → Fits records new
-  pub later : faults (disk_of old) ≤ faults (disk_of new)
+  pub quiet : faults (disk_of new) ≡ faults (disk_of old)
   pub ticket_is : ticket ≡ nth_ticket (tickets_of old + 1)
   pub standing : standing_of new ≡ standing_of old ++ call_of ticket (Found answer) ∷ []
 
@@ -135,7 +135,7 @@ pub record Strikes {D : Type 0} (seen : D → Option (List ℕ)) (faults : D →
   pub stamps : stamps_of new ≡ stamps_of old + length ids
   pub tickets : tickets_of new ≡ tickets_of old + 1
   pub book : book_of new ≡ book_of old ++ struck_entries user ids
-  pub later : faults (disk_of old) ≤ faults (disk_of new)
+  pub quiet : faults (disk_of new) ≡ faults (disk_of old)
   pub gate : ShowsGate seen new
   pub holds : (records : List Record) → WorldHolds seen records old → WorldHolds seen (records ++ gone_records user (stamps_of old) ids) new
   pub fits : (records : List Record) → Fits records old → Fits (records ++ gone_records user (stamps_of old) ids) new

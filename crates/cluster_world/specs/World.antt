@@ -94,7 +94,7 @@ OpenedAlike seen (Err refused) disk = IsToldAlike (seen disk) (seen refused.1)
 
 -- a world was opened, or its disk is handed back with the reason
 abbrev pub Opened : {D : Type 0} → (D → Option (List ℕ)) → (D → ℕ) → Result (World D) (OpenFault × D) → Plan → D → Type 0
-Opened seen faults (Ok world) plan disk = Begins seen plan world × (faults disk ≤ faults (disk_of world))
+Opened seen faults (Ok world) plan disk = Begins seen plan world × (faults (disk_of world) ≡ faults disk)
 Opened seen faults (Err refused) plan disk = BeginFails refused.0 (faults disk) (faults refused.1)
 
 -- The message is on the disk, its octets and a state for each of its mailboxes; and in memory it is listed for each of them.
@@ -141,7 +141,7 @@ pub record Breaks {D : Type 0} (seen : D → Option (List ℕ)) (faults : D → 
 
 -- what filing a message leaves; a node that stays up after a refusal has its disk as it was
 abbrev pub Delivers : {D : Type 0} → (D → Option (List ℕ)) → (D → ℕ) → Result Measure DeliverFault → Mail → World D → World D → Type 0
-Delivers seen faults (Ok measure) mail old new = Files seen mail measure old new × (faults (disk_of old) ≤ faults (disk_of new))
+Delivers seen faults (Ok measure) mail old new = Files seen mail measure old new × (faults (disk_of new) ≡ faults (disk_of old))
 Delivers seen faults (Err deliver.Disk) mail old new = Breaks seen faults mail old new × Rose (faults (disk_of old)) (faults (disk_of new))
 Delivers seen faults (Err deliver.NoMemory) mail old new = IsUnwritten seen faults old new ⊎ Breaks seen faults mail old new
 

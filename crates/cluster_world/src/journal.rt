@@ -91,6 +91,7 @@ fn write_sure<D: Disk>(disk: &mut D, at: u64, octets: &[u8]) -> Result<(), Faile
     ensures told { IsToldAlike (D.seen disk.old) (D.seen disk.new) }
     ensures settled { OnOk result (D.settled disk.new) }
     ensures cause { HasCause (D.faults disk.old) (D.faults disk.new) result }
+    ensures quiet { OnOk result (D.faults disk.new ≡ D.faults disk.old) }
 {
     disk.write_at(at, octets)?;
     disk.sync()
@@ -107,6 +108,7 @@ fn write_behind_gate<D: Disk>(disk: &mut D, end: u64, octets: &[u8]) -> Result<(
     ensures told { IsToldAlike (D.seen disk.old) (D.seen disk.new) }
     ensures settled { OnOk result (D.settled disk.new) }
     ensures cause { HasCause (D.faults disk.old) (D.faults disk.new) result }
+    ensures quiet { OnOk result (D.faults disk.new ≡ D.faults disk.old) }
 {
     write_sure(disk, end + 1, octets)?;
     write_sure(disk, end, &[OPEN_GATE])
@@ -119,6 +121,7 @@ fn fill<D: Disk>(disk: &mut D, at: u64, into: &mut [u8]) -> Result<(), Failed>
     ensures length { length into.new ≡ length into.old }
     ensures cause { OnErr result (Rose (D.faults disk.old) (D.faults disk.new) ⊎ MayEndBefore (D.seen disk.old) (at + length into.old)) }
     ensures later { D.faults disk.old ≤ D.faults disk.new }
+    ensures quiet { OnOk result (D.faults disk.new ≡ D.faults disk.old) }
     ensures seen { D.seen disk.new ≡ D.seen disk.old }
     ensures settled { D.settled disk.old → D.settled disk.new }
 {

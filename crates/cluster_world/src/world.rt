@@ -363,6 +363,7 @@ impl<D: Disk> World<D> {
         ensures completes { Completes D.seen D.faults result step self.old self.new }
         ensures settled { IfOk result (λ said. SettledBy D.settled step said self.old self.new) }
         ensures told { IsToldAlike (D.seen (disk_of self.old)) (D.seen (disk_of self.new)) }
+        ensures quiet { IsTrue (is_up self.new) → D.faults (disk_of self.new) ≡ D.faults (disk_of self.old) }
     {
         match step {
             Step::Begin { node, call } => self.begin(alloc, node, call),

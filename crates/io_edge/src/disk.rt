@@ -27,7 +27,8 @@ pub trait Disk {
         ensures seen { seen self.new ≡ seen self.old }
         ensures room { room self.new ≡ room self.old }
         ensures settled { settled self.old → settled self.new }
-        ensures cause { HasCause (faults self.old) (faults self.new) result };
+        ensures cause { HasCause (faults self.old) (faults self.new) result }
+        ensures quiet { OnOk result (faults self.new ≡ faults self.old) };
 
     /// Gives what it holds from the offset on. 0 for a slice that is not empty is the end.
     fn read(&mut self, at: u64, into: &mut [u8]) -> Result<usize, Failed>
@@ -37,7 +38,8 @@ pub trait Disk {
         ensures seen { seen self.new ≡ seen self.old }
         ensures room { room self.new ≡ room self.old }
         ensures settled { settled self.old → settled self.new }
-        ensures cause { HasCause (faults self.old) (faults self.new) result };
+        ensures cause { HasCause (faults self.old) (faults self.new) result }
+        ensures quiet { OnOk result (faults self.new ≡ faults self.old) };
 
     /// Makes room past the end. It fails for want of memory alone, and then changes nothing.
     fn reserve(&mut self, extra: u64) -> Result<(), AllocError>
@@ -51,12 +53,14 @@ pub trait Disk {
     fn write_at(&mut self, at: u64, octets: &[u8]) -> Result<(), Failed>
         requires { IfSome (seen self.old) (λ held. (at ≤ length held) × (at + length octets.now ≤ length held + room self.old)) }
         ensures written { WritesAt (seen self.old) (seen self.new) result at octets.now }
-        ensures cause { HasCause (faults self.old) (faults self.new) result };
+        ensures cause { HasCause (faults self.old) (faults self.new) result }
+        ensures quiet { OnOk result (faults self.new ≡ faults self.old) };
 
     /// After it what reads give stands on the disk, whatever happens.
     fn sync(&mut self) -> Result<(), Failed>
         ensures seen { seen self.new ≡ seen self.old }
         ensures room { room self.new ≡ room self.old }
         ensures settled { OnOk result (settled self.new) }
-        ensures cause { HasCause (faults self.old) (faults self.new) result };
+        ensures cause { HasCause (faults self.old) (faults self.new) result }
+        ensures quiet { OnOk result (faults self.new ≡ faults self.old) };
 }
