@@ -1,4 +1,5 @@
-// Laws over talks.
+// Laws over the definitions.
+ghost use Rattle.session_model.specs.Calls.{EachAnswerHasReply};
 ghost use Rattle.session_model.specs.Moves.{Begins, IsFed, HearsNext, IsAnswered, FallsDown, IsClosed, OneTalk};
 ghost use Rattle.session_model.specs.Mailing.{StoredAsTold, AsksAsTold};
 ghost use Rattle.session_model.specs.Reading.{StrikesAtQuit, QuitStrikes};
@@ -127,4 +128,9 @@ pub fn owed_is_kept()
 /// is left off.
 pub fn one_node_promises()
     ensures { OneNodePromises }
+{}
+
+/// Each answer of a call's kind has a reply, whatever octets it carries.
+pub fn each_answer_has_reply()
+    ensures { EachAnswerHasReply }
 {}
