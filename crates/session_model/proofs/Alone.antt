@@ -154,7 +154,7 @@ rising_one (node ∷ other ∷ nodes) rising some =
     let below = rising.2.1 in
     absurd (omega (arith, first, above, below))
 
-confirmed_by_one : (plan : Plan) (book : List BookEntry) → plan.nodes ≡ 1 → plan.confirm ≡ 1 → AreByOne book → AreConfirmed plan book
+pub confirmed_by_one : (plan : Plan) (book : List BookEntry) → plan.nodes ≡ 1 → plan.confirm ≡ 1 → AreByOne book → AreConfirmed plan book
 confirmed_by_one plan [] one sure by_one = tt
 confirmed_by_one plan (Acknowledged copy ∷ book) one sure by_one =
     (record { nodes = 1 ∷ []; mask = by_one.0; rising = (omega arith, omega (arith, one), tt); enough = omega (arith, sure) }, confirmed_by_one plan book one sure by_one.1)
@@ -163,7 +163,7 @@ confirmed_by_one plan (Struck user id ∷ book) one sure by_one = confirmed_by_o
 confirmed_by_one plan (WentDown node ∷ book) one sure by_one = confirmed_by_one plan book one sure by_one
 
 -- a copy whose deletion was confirmed is that of an answer
-dropped_answered : (user : List ℕ) (id : Id) (answered : List Answered) → IsCopyOf user id (flat_map (λ one. dropped_by one.call one.answer) answered)
+pub dropped_answered : (user : List ℕ) (id : Id) (answered : List Answered) → IsCopyOf user id (flat_map (λ one. dropped_by one.call one.answer) answered)
     → (k : ℕ) × (ids : List Id) × AmongAnswers (record { session = k; call = Strike user ids; answer = WasDropped }) answered × IsIn id ids
 dropped_answered user id [] copy = absurd copy
 dropped_answered user id (one ∷ answered) copy = ⊎_elim
@@ -189,7 +189,7 @@ dropped_answered user id (one ∷ answered) copy = ⊎_elim
     by_call call given is says c = absurd c
 
 -- so it is gone
-dropped_gone : (plan : Plan) (entries : List Entry) (disks : List (List Record)) (book : List BookEntry) → plan.nodes ≡ 1 → plan.confirm ≡ 1
+pub dropped_gone : (plan : Plan) (entries : List Entry) (disks : List (List Record)) (book : List BookEntry) → plan.nodes ≡ 1 → plan.confirm ≡ 1
     → ((user : List ℕ) (id : Id) → IsCopyOf user id (dropped_in book) → (nodes : List ℕ) × AreGoneOn plan entries disks user id nodes) → AreByOne book
     → DroppedAreGone plan entries disks book
 dropped_gone plan entries disks [] one sure gone by_one = tt

@@ -93,7 +93,7 @@ module _ (plan : Plan) (tells : Bool) (lines : List (List ℕ)) where
   all_keep : (old last : Node) (acks : List Ack) (served : List Served) → Keeps (opened lines) old acks → AreTaken lines served → ServesAll plan tells old served last
       → Keeps (opened lines) last (acks ++ flat_map acks_by (answered_of served))
   all_keep old last acks [] keeps taken is = same_keeps (opened lines) old last acks keeps is
-  all_keep old last acks (one ∷ served) keeps taken (mid, serves, none_later, rest) =
+  all_keep old last acks (one ∷ served) keeps taken (mid, serves, rest) =
       subst (Keeps (opened lines) last)
       (append_assoc acks (acks_of one.session one.call one.answer) (flat_map acks_by (answered_of served))
       ∙ ap (λ (l : List Ack). acks ++ l) (sym (flat_map-append acks_by (told_of one.session one.call one.answer) (answered_of served))))

@@ -256,7 +256,7 @@ serves_all plan tells old last struck [] sound mails is = record {
   grows = ap (λ (n : Node). n.records) is ∙ sym (append-nil old.records);
   true_of = tt;
 }
-serves_all plan tells old last struck (one ∷ served) sound mails (mid, serves, none_later, rest) =
+serves_all plan tells old last struck (one ∷ served) sound mails (mid, serves, rest) =
     let done = serves_done plan tells old mid one.call one.answer struck sound mails.0 serves in
     let later = serves_all plan tells mid last (struck ++ struck_by one.call) served (adds_sound old mid one.call done.added struck sound done.adds) mails.1 rest in
     record {

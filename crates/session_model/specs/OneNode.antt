@@ -70,11 +70,11 @@ Serves plan tells old (Strike user ids) (Some Dropped) new =
     new ≡ record { drawn = drawn_through old.drawn ids; stamps = old.stamps + length ids; records = old.records ++ gone_records user old.stamps ids }
 Serves plan tells old call answer new = ⊥
 
--- All calls, one after another; behind one that has no answer none is served.
+-- all calls, one after another
 abbrev pub ServesAll : Plan → Bool → Node → List Served → Node → Type 0
 ServesAll plan tells old [] new = new ≡ old
 ServesAll plan tells old (one ∷ more) new =
-    (mid : Node) × Serves plan tells old one.call one.answer mid × (one.answer ≡ None → more ≡ []) × ServesAll plan tells mid more new
+    (mid : Node) × Serves plan tells old one.call one.answer mid × ServesAll plan tells mid more new
 
 -- a message as a session tells it, with each mailbox once
 abbrev pub IsSoundMail : Call → Type 0
