@@ -7,8 +7,8 @@ use Rattle.std.proofs.lemmas.Bool.{cases_eq}
 use Rattle.mail_model.specs.Plan.{Plan}
 use Rattle.mail_model.specs.Tape.{Protocol}
 use Rattle.mail_model.specs.Transcript.{Entry}
-use Rattle.mail_model.specs.Site.{closed_event}
-use Rattle.mail_model.specs.Steps.{said_lines, all_of}
+use Rattle.mail_model.specs.Transcript.{closed_event}
+use Rattle.mail_model.specs.Transcript.{said_lines, all_of}
 use Rattle.mail_model.specs.Shown.{lines_to}
 use Rattle.mail_model.proofs.Sessions.{get_set, get_set_other, map_set, get_push, get_push_other, by_number, fed_other}
 use Rattle.mail_model.proofs.ShownLists.{lines_both, own_lines, other_lines}

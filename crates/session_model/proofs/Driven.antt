@@ -9,7 +9,7 @@ use Rattle.mail_model.specs.Tape.{Protocol, Order, tape_order}
 use Rattle.mail_model.specs.Tape.Protocol.{Smtp, Pop}
 use Rattle.mail_model.specs.Tape.Order.{Open, Say, Feed, Close, End}
 use Rattle.mail_model.specs.Transcript.{Entry}
-use Rattle.mail_model.specs.Steps.{all_of}
+use Rattle.mail_model.specs.Transcript.{all_of}
 use Rattle.mail_model.specs.Shown.{lines_to}
 use Rattle.mail_model.specs.Told as told
 use Rattle.mail_model.specs.Stored.{Ack, opened_at}

@@ -14,8 +14,8 @@ use Rattle.mail_model.specs.Tape.Protocol.{Smtp, Pop}
 use Rattle.mail_model.specs.Transcript.{Entry}
 use Rattle.mail_model.specs.Transcript.Entry.{Said, Event, Refused}
 use Rattle.mail_model.specs.Smtp.{stored_text}
-use Rattle.mail_model.specs.Site.{closed_event}
-use Rattle.mail_model.specs.Steps.{said_lines, all_of}
+use Rattle.mail_model.specs.Transcript.{closed_event}
+use Rattle.mail_model.specs.Transcript.{said_lines, all_of}
 use Rattle.mail_model.specs.Shown.{lines_to}
 use Rattle.mail_model.specs.Stored.{Ack, stored_sessions, takes_mail, is_taking, kind_at}
 use Rattle.mail_model.proofs.Choices.{split_if}

@@ -4,7 +4,7 @@ use Rattle.mail_model.specs.Plan.{Plan}
 use Rattle.mail_model.specs.Tape.{Order, tape_order}
 use Rattle.mail_model.specs.Tape.Order.{Open, Say, Feed, Close, End}
 use Rattle.mail_model.specs.Transcript.{Entry}
-use Rattle.mail_model.specs.Steps.{all_of}
+use Rattle.mail_model.specs.Transcript.{all_of}
 use Rattle.mail_model.specs.Site.{TapeFault}
 use Rattle.mail_model.specs.Site.TapeFault.{NoSuchNode, NodeDown, TooManySessions, NoSuchSession}
 use Rattle.session_model.specs.Calls.{Call}

@@ -2,7 +2,7 @@
 use Rattle.std.specs.Prelude.{◌≡◌, ℕ, List, [], ◌∷◌, ◌++◌, flat_map, Some}
 use Rattle.mail_model.specs.Plan.{Plan}
 use Rattle.mail_model.specs.Transcript.{Entry}
-use Rattle.mail_model.specs.Steps.{all_of}
+use Rattle.mail_model.specs.Transcript.{all_of}
 use Rattle.session_model.specs.Sessions.{Session, AreSessions, session_at}
 use Rattle.session_model.specs.Acts.{Act, Acted, ActedAll, AreActsOf, IsParted}
 use Rattle.session_model.specs.Logs.{AreLogged, asked_by, answered_by}
