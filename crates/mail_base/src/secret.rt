@@ -1,5 +1,5 @@
 // The secret of a user.
-ghost use Rattle.std.specs.Prelude.{◌≡◌, nat_eq, Some, None, IfOk, if◌then◌else◌};
+ghost use Rattle.std.specs.Prelude.{◌≡◌, IsTrue, nat_eq, Some, None, IfOk, if◌then◌else◌};
 ghost use Rattle.std.specs.Ordering.{nat_cmp};
 ghost use Rattle.std.specs.Cmp.Lexicographic.{pointwise, slice_cmp};
 ghost use Rattle.std.specs.List.{list_all};
@@ -59,7 +59,8 @@ impl Secret {
 
     /// Its octets as they were given.
     pub fn octets(&self) -> &[u8]
-        ensures { result.now ≡ self.now }
+        ensures octets { result.now ≡ self.now }
+        ensures secret { IsTrue (is_secret result.now) }
     {
         &self.octets
     }
