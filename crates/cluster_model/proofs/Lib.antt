@@ -35,3 +35,6 @@ pub mod Calling
 pub mod Posting
 pub mod Running
 pub mod Opening
+pub mod Merged
+pub mod Ruled
+pub mod Sending

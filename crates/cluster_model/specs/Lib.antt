@@ -16,3 +16,4 @@ pub mod World
 pub mod Steps
 pub mod Makes
 pub mod WorldLaws
+pub mod RuleLaws

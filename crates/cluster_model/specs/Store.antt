@@ -9,6 +9,7 @@ use Rattle.mail_model.specs.Record.{Record}
 use Rattle.mail_model.specs.Record.Record.{Octets, Stated, Retired}
 use Rattle.mail_model.specs.Listing.{octets_in}
 use Rattle.object_model.specs.Sets.{without_node}
+use Rattle.object_model.specs.Keys.{is_same_key}
 use Rattle.object_model.specs.States.{join_with, is_news}
 use Rattle.object_model.specs.Said.{said, is_gone_held}
 use Rattle.object_model.specs.Letters.{Mark}
@@ -56,3 +57,8 @@ is_wanted id users disk = list_any (λ user. not (is_gone_held (said (Message us
 -- the disk with the octets, where they are wanted
 abbrev pub with_octets : Id → List (List ℕ) → List ℕ → List Record → List Record
 with_octets id users octets disk = disk ++ (if is_wanted id users disk then Octets id octets ∷ [] else [])
+
+-- the states of a key among these
+abbrev pub updates_of : Key → List Update → List State
+updates_of key [] = []
+updates_of key (update ∷ updates) = (if is_same_key update.key key then update.state ∷ [] else []) ++ updates_of key updates

@@ -1,5 +1,6 @@
 // The laws of the machine: functions that do nothing, whose contracts hold of the definitions alone.
 ghost use Rattle.cluster_model.specs.Laws.{MovesKeepSound, AcknowledgedStand, AcknowledgedKept, DroppedAreGone};
+ghost use Rattle.cluster_model.specs.RuleLaws.{ConfirmsAfterRecords, ConfirmsAfterGone, DiskSaysMerge, TakesNothingTwice, CountsOnce, TargetsStay, StoredAtF, LeavesLogAtLast, AnswersSender, SendsInOrder, IdsAreNew, FetchedAsFiled};
 ghost use Rattle.cluster_model.specs.WorldLaws.{StepsKeepSound, StepsBring, OpeningIsSound};
 ghost use Rattle.cluster_model.specs.NodeLaws.{NodesHear, NodesDeliver, NodesStrike, NodesPush, NodesWiden, NodesEnd, NodesRefuse, NodesNote, NodesFault, NodesFall, NodesStart, NodesStopStart, StartsOwe, NodesLearn, TakesJoin, TakesOnly};
 
@@ -116,4 +117,65 @@ pub fn opening_is_sound()
 /// Whatever octets a sound world holds after a step it held before, or the step is the Deliver of that message.
 pub fn steps_bring()
     ensures { StepsBring }
+{}
+
+/// A confirmation comes after the records: a node that has answered a File has each copy with its octets, or says
+/// that it is gone.
+pub fn confirms_after_records()
+    ensures { ConfirmsAfterRecords }
+{}
+
+/// A node that has answered a Strike says that each copy is gone.
+pub fn confirms_after_gone()
+    ensures { ConfirmsAfterGone }
+{}
+
+/// The disk says of each key the join of what it said and of all states that were taken.
+pub fn disk_says_merge()
+    ensures { DiskSaysMerge }
+{}
+
+/// States that are taken again change nothing.
+pub fn takes_nothing_twice()
+    ensures { TakesNothingTwice }
+{}
+
+/// A confirmation counts once, however often it is heard.
+pub fn counts_once()
+    ensures { CountsOnce }
+{}
+
+/// Each target is confirmed, waiting or failed, and stays one of these.
+pub fn targets_stay()
+    ensures { TargetsStay }
+{}
+
+/// A delivery is stored exactly where F nodes have confirmed it, and has failed exactly where no F nodes are left.
+pub fn stored_at_f()
+    ensures { StoredAtF }
+{}
+
+/// An acknowledgement takes an entry out of the log only if it is of that very state and of the last node that remains.
+pub fn leaves_log_at_last()
+    ensures { LeavesLogAtLast }
+{}
+
+/// What a node sends as it hears a letter goes back to its sender under the same ticket, or has no ticket.
+pub fn answers_sender()
+    ensures { AnswersSender }
+{}
+
+/// The letters of a call stand in order of receiver, each receiver once, and none goes to its sender.
+pub fn sends_in_order()
+    ensures { SendsInOrder }
+{}
+
+/// No disk, no letter and no entry of the book has the id that a node draws next.
+pub fn ids_are_new()
+    ensures { IdsAreNew }
+{}
+
+/// All octets of one id, on disks and in letters, are the same.
+pub fn fetched_as_filed()
+    ensures { FetchedAsFiled }
 {}
