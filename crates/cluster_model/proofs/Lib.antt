@@ -38,3 +38,4 @@ pub mod Opening
 pub mod Merged
 pub mod Ruled
 pub mod Sending
+pub mod Worked

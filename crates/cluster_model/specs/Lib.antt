@@ -17,3 +17,4 @@ pub mod Steps
 pub mod Makes
 pub mod WorldLaws
 pub mod RuleLaws
+pub mod Rows

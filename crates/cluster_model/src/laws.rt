@@ -1,6 +1,7 @@
 // The laws of the machine: functions that do nothing, whose contracts hold of the definitions alone.
 ghost use Rattle.cluster_model.specs.Laws.{MovesKeepSound, AcknowledgedStand, AcknowledgedKept, DroppedAreGone};
 ghost use Rattle.cluster_model.specs.RuleLaws.{ConfirmsAfterRecords, ConfirmsAfterGone, DiskSaysMerge, TakesNothingTwice, CountsOnce, TargetsStay, StoredAtF, LeavesLogAtLast, AnswersSender, SendsInOrder, IdsAreNew, FetchedAsFiled};
+ghost use Rattle.cluster_model.specs.Rows.{TwoOfThree, HeardTwiceCountsOnce, TargetsMoveOn, PushedThreeTimes, LateHereChangesNothing};
 ghost use Rattle.cluster_model.specs.WorldLaws.{StepsKeepSound, StepsBring, OpeningIsSound};
 ghost use Rattle.cluster_model.specs.NodeLaws.{NodesHear, NodesDeliver, NodesStrike, NodesPush, NodesWiden, NodesEnd, NodesRefuse, NodesNote, NodesFault, NodesFall, NodesStart, NodesStopStart, StartsOwe, NodesLearn, TakesJoin, TakesOnly};
 
@@ -178,4 +179,29 @@ pub fn ids_are_new()
 /// All octets of one id, on disks and in letters, are the same.
 pub fn fetched_as_filed()
     ensures { FetchedAsFiled }
+{}
+
+/// A worked case: three nodes, three copies, two confirmations: the second confirmation stores the message.
+pub fn two_of_three()
+    ensures { TwoOfThree }
+{}
+
+/// A worked case: a confirmation that is heard twice counts once.
+pub fn heard_twice_counts_once()
+    ensures { HeardTwiceCountsOnce }
+{}
+
+/// A worked case: the next message has the next targets, and letters have their numbers in order of receiver.
+pub fn targets_move_on()
+    ensures { TargetsMoveOn }
+{}
+
+/// A worked case: a push that is heard three times empties the entry once.
+pub fn pushed_three_times()
+    ensures { PushedThreeTimes }
+{}
+
+/// A worked case: a Here that comes late brings no deleted copy back.
+pub fn late_here_changes_nothing()
+    ensures { LateHereChangesNothing }
 {}

@@ -43,6 +43,9 @@
 //! `disk_says_merge`, `takes_nothing_twice`, `counts_once`, `targets_stay`, `stored_at_f`,
 //! `leaves_log_at_last`, `answers_sender`, `sends_in_order`, `ids_are_new`, `fetched_as_filed`.
 //!
+//! `Rows` has worked cases, letter by letter, with values that were worked by hand: `two_of_three`,
+//! `heard_twice_counts_once`, `targets_move_on`, `pushed_three_times`, `late_here_changes_nothing`.
+//!
 //! STANDS ON
 //!
 //! `object_model` for sets, states, joins, the update log and letters; `mail_model` for records, the
@@ -59,9 +62,10 @@ mod laws;
 pub use laws::{
     acknowledged_kept, acknowledged_stand, answers_sender, confirms_after_gone,
     confirms_after_records, counts_once, disk_says_merge, dropped_are_gone, fetched_as_filed,
-    ids_are_new, leaves_log_at_last, moves_keep_sound, nodes_deliver, nodes_end, nodes_fall,
-    nodes_fault, nodes_hear, nodes_learn, nodes_note, nodes_push, nodes_refuse, nodes_start,
-    nodes_stop_start, nodes_strike, nodes_widen, opening_is_sound, sends_in_order, starts_owe,
-    steps_bring, steps_keep_sound, stored_at_f, takes_join, takes_nothing_twice, takes_only,
-    targets_stay,
+    heard_twice_counts_once, ids_are_new, late_here_changes_nothing, leaves_log_at_last,
+    moves_keep_sound, nodes_deliver, nodes_end, nodes_fall, nodes_fault, nodes_hear, nodes_learn,
+    nodes_note, nodes_push, nodes_refuse, nodes_start, nodes_stop_start, nodes_strike, nodes_widen,
+    opening_is_sound, pushed_three_times, sends_in_order, starts_owe, steps_bring,
+    steps_keep_sound, stored_at_f, takes_join, takes_nothing_twice, takes_only, targets_move_on,
+    targets_stay, two_of_three,
 };
