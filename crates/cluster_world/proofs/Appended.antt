@@ -191,7 +191,7 @@ pub mail_failed : (T : Type 0) (fault : DeliverFault) (old new : Option (List �
 mail_failed T Disk old new end end' before now mail seq head h wrote untouched =
     let octets = trace_lines mail (nth_id seq) h.date ++ mail.text in
     let failed = wrote (Octets (nth_id seq) octets) (ap (λ (l : List ℕ). l ++ mail.text) h.whole) in
-    ((octets, failed.0), failed.1, failed.2)
+    ((octets, record { date = h.date; dated = h.dated; whole = refl }, failed.0), failed.1, failed.2)
 mail_failed T NoMemory old new end end' before now mail seq head h wrote untouched = untouched refl
 
 -- the state of one user more was appended

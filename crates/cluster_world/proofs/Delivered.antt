@@ -1,6 +1,7 @@
 -- What a delivery leaves of a world.
 use Rattle.std.proofs.Common.{◌≡◌, inr, sym, subst, ℕ, ◌+◌, List, [], ◌∷◌, ◌++◌, Option, Err, IsFalse, IsTrue, arith}
 use Rattle.mail_model.specs.Told.{Mail}
+use Rattle.mail_model.specs.Mail.{IsStored}
 use Rattle.mail_model.specs.Record.Record.{Octets}
 use Rattle.mail_model.specs.Site.{copies_of, message_records, nth_id, nth_stamp}
 use Rattle.cluster_world.specs.Appends.{AppendsAll, AppendsMail, Stops, Wrote}
@@ -16,13 +17,13 @@ use Rattle.cluster_world.proofs.Appended.{appends_more, stops_more, stops_before
 
 module _ {D : Type 0} (seen : D → Option (List ℕ)) (faults : D → ℕ) (mail : Mail) (old new : World D) where
   -- a front of the message's records follows those that stood
-  falls : (octets : List ℕ) → Stops (seen (disk_of old)) (seen (disk_of new)) (gate_of old) (message_records (nth_id (drawn_of old + 1)) (nth_stamp (stamps_of old + 1)) octets mail.mailboxes)
+  falls : (octets : List ℕ) → IsStored mail (nth_id (drawn_of old + 1)) 0 octets → Stops (seen (disk_of old)) (seen (disk_of new)) (gate_of old) (message_records (nth_id (drawn_of old + 1)) (nth_stamp (stamps_of old + 1)) octets mail.mailboxes)
       → Falls seen mail old new
-  falls octets stops = record { holds = λ records stands. record { octets = octets; front = stops.holds records stands } }
+  falls octets stored stops = record { holds = λ records stands. record { octets = octets; stored = stored; front = stops.holds records stands } }
 
   -- the octets were not appended
-  pub octets_failed : (octets : List ℕ) → Stops (seen (disk_of old)) (seen (disk_of new)) (gate_of old) (Octets (nth_id (drawn_of old + 1)) octets ∷ []) → Falls seen mail old new
-  octets_failed octets stops = falls octets (stops_before _ _ _ _ (copies_of (nth_id (drawn_of old + 1)) (nth_stamp (stamps_of old + 1)) mail.mailboxes) stops)
+  pub octets_failed : (octets : List ℕ) → IsStored mail (nth_id (drawn_of old + 1)) 0 octets → Stops (seen (disk_of old)) (seen (disk_of new)) (gate_of old) (Octets (nth_id (drawn_of old + 1)) octets ∷ []) → Falls seen mail old new
+  octets_failed octets stored stops = falls octets stored (stops_before _ _ _ _ (copies_of (nth_id (drawn_of old + 1)) (nth_stamp (stamps_of old + 1)) mail.mailboxes) stops)
 
   -- the octets were appended, and all states
   pub files : (measure : Measure) (mid : Option (List ℕ)) (end between : ℕ) → drawn_of new ≡ drawn_of old + 1 → stamps_of new ≡ stamps_of old + 1 → IsTrue (is_up new)
@@ -57,7 +58,7 @@ module _ {D : Type 0} (seen : D → Option (List ℕ)) (faults : D → ℕ) (mai
       → Delivers seen faults (Err fault) mail old new
   copies_failed T Disk measure mid end between drawn stamps down first second = (
     record {
-      falls = falls first.octets (stops_more _ _ _ _ _ _ _ _ _ first.appends second.0);
+      falls = falls first.octets first.stored (stops_more _ _ _ _ _ _ _ _ _ first.appends second.0);
       down = down;
       drawn = drawn;
       stamps = stamps;
@@ -66,7 +67,7 @@ module _ {D : Type 0} (seen : D → Option (List ℕ)) (faults : D → ℕ) (mai
     rose_later _ _ _ (omega (arith, first.appends.quiet)) second.2,
   )
   copies_failed T NoMemory measure mid end between drawn stamps down first second = inr (record {
-    falls = falls first.octets (stops_more _ _ _ _ _ _ _ _ _ first.appends second.0);
+    falls = falls first.octets first.stored (stops_more _ _ _ _ _ _ _ _ _ first.appends second.0);
     down = down;
     drawn = drawn;
     stamps = stamps;

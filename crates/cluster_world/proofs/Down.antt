@@ -65,7 +65,7 @@ module _ {D : Type 0} (seen : D → Option (List ℕ)) (faults : D → ℕ) (mai
     holds = λ records stands.
         let some = falls.holds records (rw (same.disk, same.gate) stands) in
         let front = rw (same.drawn, same.stamps) at some.front in
-        record { octets = some.octets; front = rw disk front };
+        record { octets = some.octets; stored = rw same.drawn at some.stored; front = rw disk front };
   }
 
   -- a front of the message was filed, and then the node went down

@@ -5,8 +5,9 @@ use Rattle.mail_base.specs.declared.ticket.Ticket.{Ticket}
 use Rattle.cluster_world.specs.World.{is_up, disk_of}
 use Rattle.cluster_world.specs.Steps.{BeginDid, AskDid, HasBegun}
 use Rattle.cluster_world.specs.declared.world.World.{World}
-use Rattle.cluster_world.specs.declared.step.Call.{Call}
-use Rattle.cluster_world.specs.declared.step.Call.TheVariants.{Deliver, Login, Fetch, Strike, Leave}
+use Rattle.call_tickets.specs.declared.call.Call.{Call}
+use Rattle.call_tickets.specs.declared.call.Call.TheVariants.{Deliver, Login, Fetch, Strike, Leave}
+use Rattle.call_tickets.specs.declared.answer.Ask.TheVariants.{Pending as InProgress, Done}
 use Rattle.cluster_world.specs.declared.step.Said.{Said}
 use Rattle.cluster_world.specs.declared.step.Said.TheVariants.{Begun, Noted, Asked, Faulted}
 use Rattle.cluster_world.specs.declared.step.StepFault.{StepFault}
@@ -33,9 +34,9 @@ module _ {D : Type 0} (seen : D → Option (List ℕ)) (faults : D → ℕ) (old
 
   -- the beginning of a call
   pub quiet_begun : (result : Result Said StepFault) (node : ℕ) (call : Call) → BeginDid seen faults result node call old new → IsTrue (is_up new) → faults (disk_of new) ≡ faults (disk_of old)
-  quiet_begun (Ok (Begun ticket)) node call did up = quiet_by_begun call ticket did.2
+  quiet_begun (Ok (Begun ticket stirs)) node call did up = quiet_by_begun call ticket did.3
   quiet_begun (Ok Noted) node call did up = unchanged did.3
-  quiet_begun (Ok (Asked answer)) node call did up = absurd did
+  quiet_begun (Ok (Asked ask)) node call did up = absurd did
   quiet_begun (Ok (Faulted failed)) node call did up = fallen (down_by_fall seen faults old new call did.3) up
   quiet_begun (Err NoSuchNode) node call did up = unchanged did.1
   quiet_begun (Err NodeDown) node call did up = unchanged did.2
@@ -46,9 +47,10 @@ module _ {D : Type 0} (seen : D → Option (List ℕ)) (faults : D → ℕ) (old
 
   -- an ask
   pub quiet_asked : (result : Result Said StepFault) (ticket : Ticket) → AskDid seen faults result ticket old new → faults (disk_of new) ≡ faults (disk_of old)
-  quiet_asked (Ok (Begun begun)) ticket did = absurd did
+  quiet_asked (Ok (Begun begun stirs)) ticket did = absurd did
   quiet_asked (Ok Noted) ticket did = absurd did
-  quiet_asked (Ok (Asked answer)) ticket did = ap faults did.1.disk
+  quiet_asked (Ok (Asked (InProgress got wanted))) ticket did = absurd did
+  quiet_asked (Ok (Asked (Done answer))) ticket did = ap faults did.1.disk
   quiet_asked (Ok (Faulted failed)) ticket did = absurd did
   quiet_asked (Err NoSuchNode) ticket did = unchanged did.1
   quiet_asked (Err NodeDown) ticket did = unchanged did.2

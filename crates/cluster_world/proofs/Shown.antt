@@ -5,8 +5,9 @@ use Rattle.mail_base.specs.declared.ticket.Ticket.{Ticket}
 use Rattle.cluster_world.specs.World.{is_up, disk_of, gate_of, ShowsGate}
 use Rattle.cluster_world.specs.Steps.{BeginDid, AskDid, HasBegun, HasFallen, HasBrokenOff}
 use Rattle.cluster_world.specs.declared.world.World.{World}
-use Rattle.cluster_world.specs.declared.step.Call.{Call}
-use Rattle.cluster_world.specs.declared.step.Call.TheVariants.{Deliver, Login, Fetch, Strike, Leave}
+use Rattle.call_tickets.specs.declared.call.Call.{Call}
+use Rattle.call_tickets.specs.declared.call.Call.TheVariants.{Deliver, Login, Fetch, Strike, Leave}
+use Rattle.call_tickets.specs.declared.answer.Ask.TheVariants.{Pending as InProgress, Done}
 use Rattle.cluster_world.specs.declared.step.Said.{Said}
 use Rattle.cluster_world.specs.declared.step.Said.TheVariants.{Begun, Noted, Asked, Faulted}
 use Rattle.cluster_world.specs.declared.step.StepFault.{StepFault}
@@ -47,9 +48,9 @@ module _ {D : Type 0} (seen : D → Option (List ℕ)) (faults : D → ℕ) (old
 
   -- the beginning of a call
   pub shown_begun : (result : Result Said StepFault) (node : ℕ) (call : Call) → BeginDid seen faults result node call old new → IsTrue (is_up new) → ShowsGate seen new
-  shown_begun (Ok (Begun ticket)) node call did up = shown_by_begun call ticket did.1 did.2
+  shown_begun (Ok (Begun ticket stirs)) node call did up = shown_by_begun call ticket did.1 did.3
   shown_begun (Ok Noted) node call did up = unchanged did.3 up
-  shown_begun (Ok (Asked answer)) node call did up = absurd did
+  shown_begun (Ok (Asked ask)) node call did up = absurd did
   shown_begun (Ok (Faulted failed)) node call did up = fallen (down_by_fall seen faults old new call did.3) up
   shown_begun (Err NoSuchNode) node call did up = unchanged did.1 up
   shown_begun (Err NodeDown) node call did up = unchanged did.2 up
@@ -60,9 +61,10 @@ module _ {D : Type 0} (seen : D → Option (List ℕ)) (faults : D → ℕ) (old
 
   -- an ask
   pub shown_asked : (result : Result Said StepFault) (ticket : Ticket) → AskDid seen faults result ticket old new → IsTrue (is_up new) → ShowsGate seen new
-  shown_asked (Ok (Begun begun)) ticket did up = absurd did
+  shown_asked (Ok (Begun begun stirs)) ticket did up = absurd did
   shown_asked (Ok Noted) ticket did up = absurd did
-  shown_asked (Ok (Asked answer)) ticket did up = rw (did.1.disk, did.1.gate) (shown did.0)
+  shown_asked (Ok (Asked (InProgress got wanted))) ticket did up = absurd did
+  shown_asked (Ok (Asked (Done answer))) ticket did up = rw (did.1.disk, did.1.gate) (shown did.0)
   shown_asked (Ok (Faulted failed)) ticket did up = absurd did
   shown_asked (Err NoSuchNode) ticket did up = unchanged did.1 up
   shown_asked (Err NodeDown) ticket did up = unchanged did.2 up

@@ -66,6 +66,11 @@ behind_one : {D : Type 0} (settled : D → Type 0) (front : List Id) (id : Id) (
 behind_one settled [] id old new sure = sure
 behind_one settled (other ∷ front) id old new sure = sure
 
+-- a disk that was settled still is
+pub settled_yet : {D : Type 0} (settled : D → Type 0) (ids : List Id) (old new : D) → SettledBehind settled ids old new → settled old → settled new
+settled_yet settled [] old new behind sure = behind sure
+settled_yet settled (id ∷ ids) old new behind sure = behind
+
 -- behind one state more the disk is settled
 pub settled_more : {D : Type 0} (settled : D → Type 0) (ids : List Id) (i : ℕ) (id : Id) (old new : D) → i < length ids → id ≡ get_or ids i id
     → settled new → SettledBehind settled (take (i + 1) ids) old new

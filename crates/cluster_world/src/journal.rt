@@ -1,5 +1,5 @@
 //! The journal of a node: records behind gates, of which only an open one counts.
-ghost use Rattle.std.specs.Prelude.{◌≡◌, ◌⊎◌, ◌+◌, ◌≤◌, ◌<◌, ◌++◌, ◌∷◌, [], ℕ, List, length, take, drop, IfOk, IfSome, OnOk, OnErr, ◌^◌, ◌↔◌, Err, Some, vec_len};
+ghost use Rattle.std.specs.Prelude.{◌≡◌, ◌⊎◌, ◌+◌, ◌≤◌, ◌<◌, ◌++◌, ◌∷◌, [], ℕ, List, length, take, drop, IfOk, IfSome, OnOk, OnErr, IsErrOf, ◌^◌, ◌↔◌, Err, Some, vec_len};
 ghost use Rattle.io_edge.specs.Causes.{HasCause, Rose};
 ghost use Rattle.io_edge.specs.Octets.{WritesAt};
 ghost use Rattle.mail_model.specs.Record.{header_of};
@@ -178,6 +178,7 @@ impl Journal {
         ensures refuses { Refuses result (length head.now + length body.now) (D.seen disk.old) (D.seen disk.new)
             (end_of self.old) (end_of self.new) (D.faults disk.old) (D.faults disk.new) }
         ensures placed { IfOk result (λ place. (place.at ≡ end_of self.old + 5) × (place.length ≡ length head.now + length body.now)) }
+        ensures still { IsErrOf result JournalFault.NoMemory → D.settled disk.old → D.settled disk.new }
         ensures told { IsToldAlike (D.seen disk.old) (D.seen disk.new) }
     {
         if head.len() + body.len() > LARGEST {

@@ -1,4 +1,4 @@
-use Rattle.std.proofs.Common.{ap, map, List, ◌+◌, ◌++◌, ◌∷◌, [], ◌∙◌}
+use Rattle.std.proofs.Common.{refl, ap, map, List, ◌+◌, ◌++◌, ◌∷◌, [], ◌∙◌}
 use Rattle.mail_model.specs.Book.{BookEntry}
 use Rattle.mail_model.specs.Book.BookEntry.{WentDown}
 use Rattle.cluster_world.specs.Books.{entry_of, told_by}
@@ -22,6 +22,7 @@ returns-in-Ok-clause-did g c = λ node within.
     rw stand.said (
       within,
       c.requires.up,
+      refl,
       (
         answer,
         finds g.D.Disk.seen g.D.Disk.faults answer c.fetch_answer.new.disk old c.stand.new.self c.requires.up found.seen

@@ -20,6 +20,7 @@ returns-clause-did g c = λ node within.
     rw stand.said (
       within,
       c.requires.up,
+      refl,
       (
         answer,
         finds g.D.Disk.seen g.D.Disk.faults answer old.disk old c.stand.new.self c.requires.up refl refl

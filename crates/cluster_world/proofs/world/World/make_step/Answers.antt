@@ -1,7 +1,7 @@
 use Rattle.cluster_world.proofs.Completes.{answers, begins}
 use Rattle.cluster_world.proofs.Quiet.{quiet_begun, quiet_asked}
 use Rattle.cluster_world.proofs.Shown.{shown_begun, shown_asked}
-use Rattle.cluster_world.proofs.world.World.step.Goals as goal
+use Rattle.cluster_world.proofs.world.World.make_step.Goals as goal
 
 pub returns-in-Begin-clause-gate : goal.returns-in-Begin-clause-gate
 returns-in-Begin-clause-gate g c = shown_begun g.D.Disk.seen g.D.Disk.faults _ _ c.requires.gate _ _ _ c.begin.ensures.did

@@ -1,0 +1,146 @@
+-- The steps that sessions lead to in a world of one node, one after another, and what came of each. Of them what a cluster owes is read off: what it was
+-- asked, and what it answered.
+use Rattle.std.specs.Prelude.{◌≡◌, ℕ, ◌-◌, ◌^◌, min, length, List, [], ◌∷◌, ◌++◌, map, flat_map, ⊤, is_some, Bool, true, Option, Some, None, IfSome, Result, Ok, Err}
+use Rattle.mail_model.specs.Identity.{Id}
+use Rattle.mail_model.specs.Plan.{Plan}
+use Rattle.mail_model.specs.Transcript.{Entry}
+use Rattle.mail_model.specs.Record.{Record}
+use Rattle.mail_model.specs.Listing.{octets_in}
+use Rattle.mail_model.specs.Book.{BookEntry}
+use Rattle.mail_model.specs.Site.{HoldsRecords}
+use Rattle.session_model.specs.Calls.{Call, Answer}
+use Rattle.session_model.specs.Logs.{Asked, Answered}
+use Rattle.session_model.specs.Run.{Made}
+use Rattle.session_model.specs.Owes.{OwesStored, OwesDeletions, OwesParts}
+use Rattle.session_model.specs.Books.{IsBookOf}
+use Rattle.session_model.specs.OneNode.{IsSoundMail, IsTaken}
+use Rattle.cluster_world.specs.Journal.{IsToldAlike}
+use Rattle.cluster_world.specs.World.{disk_of, book_of, steps_of, counted, one_more, Begins}
+use Rattle.call_tickets.specs.Seen.{call_seen, answer_seen}
+use Rattle.cluster_world.specs.Steps.{Stepped, nth_ticket}
+use Rattle.cluster_world.specs.declared.world.World.{World}
+use Rattle.call_tickets.specs.declared.call.Call.{Call as WorldCall}
+use Rattle.call_tickets.specs.declared.call.Call.TheVariants as call
+use Rattle.call_tickets.specs.declared.answer.Answer.{Answer as WorldAnswer}
+use Rattle.call_tickets.specs.declared.answer.Ask.TheVariants.{Done}
+use Rattle.cluster_world.specs.declared.step.Step.{Step}
+use Rattle.cluster_world.specs.declared.step.Step.TheVariants.{Begin, Ask}
+use Rattle.cluster_world.specs.declared.step.Said.{Said}
+use Rattle.cluster_world.specs.declared.step.Said.TheVariants.{Begun, Noted, Faulted}
+use Rattle.cluster_world.specs.declared.step.Said.TheVariants as said
+use Rattle.cluster_world.specs.declared.step.StepFault.{StepFault}
+use Rattle.cluster_world.specs.declared.step.StepFault.TheVariants.{NoSuchNode, NodeDown, NoSuchTicket, Worn, NoMemory}
+
+-- the call of the world is the user's leave
+abbrev pub IsLeave : List ℕ → WorldCall → Type 0
+IsLeave user (call.Leave name login manager) = name ≡ user
+IsLeave user begun = ⊥
+
+-- What came of a step that session k led to.
+pub data Outcome : Type 0 where
+  -- its call has begun, and the ticket has this number
+  Began : (k : ℕ) (asked : Call) (number : ℕ) → Outcome
+  -- its call was refused, or memory ran out before anything was done
+  Refused : (k : ℕ) (asked : Call) → Outcome
+  -- the node went down in its call, as the disk failed or memory ran out
+  Fell : (k : ℕ) (asked : Call) → Outcome
+  -- its ticket of this number was asked for, and the call was answered so
+  Answers : (k : ℕ) (asked : Call) (number : ℕ) (given : Answer) → Outcome
+  -- its ticket was asked for in vain: memory ran out, or the node is down
+  Unanswered : (k number : ℕ) → Outcome
+  -- it has left, or was refused
+  Left : (k : ℕ) (user : List ℕ) → Outcome
+
+-- the step
+abbrev pub made_of : Outcome → Made
+made_of (Began k asked number) = Made.Begins k asked
+made_of (Refused k asked) = Made.Begins k asked
+made_of (Fell k asked) = Made.Begins k asked
+made_of (Answers k asked number given) = Made.Asks k
+made_of (Unanswered k number) = Made.Asks k
+made_of (Left k user) = Made.Leaves k user
+
+-- What it was asked. A call that was refused is none: nothing came of it.
+abbrev pub asked_in : Outcome → List Asked
+asked_in (Began k asked number) = record { session = k; call = asked } ∷ []
+asked_in (Fell k asked) = record { session = k; call = asked } ∷ []
+asked_in outcome = []
+
+-- and what it answered
+abbrev pub answered_in : Outcome → List Answered
+answered_in (Answers k asked number given) = record { session = k; call = asked; answer = given } ∷ []
+answered_in outcome = []
+
+-- a call that has begun and was not answered yet: the number of its ticket, and whose it is
+pub record Awaited : Type 0 where
+  pub number : ℕ
+  pub session : ℕ
+  pub call : Call
+
+-- the step was refused, and nothing was done
+abbrev pub IsRefusal : Result Said StepFault → Type 0
+IsRefusal (Ok said) = ⊥
+IsRefusal (Err (NoMemory (Some failed))) = ⊥
+IsRefusal (Err fault) = ⊤
+
+-- the node went down in the step
+abbrev pub IsFall : Result Said StepFault → Type 0
+IsFall (Ok (Faulted failed)) = ⊤
+IsFall (Err (NoMemory (Some failed))) = ⊤
+IsFall result = ⊥
+
+-- What is known of a step: what it did, that it was counted, and that whether the disk tells its octets has not changed.
+pub record IsStep {D : Type 0} (seen : D → Option (List ℕ)) (faults : D → ℕ) (result : Result Said StepFault) (step : Step) (old new : World D) : Type 0 where
+  pub did : Stepped seen faults result step (counted old) new
+  pub count : steps_of new ≡ one_more (steps_of old)
+  pub told : IsToldAlike (seen (disk_of old)) (seen (disk_of new))
+
+-- the world made a step of which this came, and these calls are then awaited
+abbrev pub Came : {D : Type 0} → (D → Option (List ℕ)) → (D → ℕ) → Outcome → List Awaited → World D → List Awaited → World D → Type 0
+Came seen faults (Began k asked number) awaited old left new =
+    (begun : WorldCall) × (stirs : ℕ) × (call_seen begun ≡ Some asked) × IsStep seen faults (Ok (Begun (nth_ticket number) stirs)) (Begin 1 begun) old new
+    × (left ≡ awaited ++ record { number = number; session = k; call = asked } ∷ [])
+Came seen faults (Refused k asked) awaited old left new =
+    (begun : WorldCall) × (result : Result Said StepFault) × (call_seen begun ≡ Some asked) × IsRefusal result × IsStep seen faults result (Begin 1 begun) old new × (left ≡ awaited)
+Came seen faults (Fell k asked) awaited old left new =
+    (begun : WorldCall) × (result : Result Said StepFault) × (call_seen begun ≡ Some asked) × IsFall result × IsStep seen faults result (Begin 1 begun) old new × (left ≡ awaited)
+Came seen faults (Answers k asked number given) awaited old left new =
+    (own : WorldAnswer) × (before : List Awaited) × (behind : List Awaited) × (given ≡ answer_seen own)
+    × (awaited ≡ before ++ record { number = number; session = k; call = asked } ∷ behind) × (left ≡ before ++ behind)
+    × IsStep seen faults (Ok (said.Asked (Done own))) (Ask (nth_ticket number)) old new
+Came seen faults (Unanswered k number) awaited old left new =
+    (fault : StepFault) × IsStep seen faults (Err fault) (Ask (nth_ticket number)) old new × (left ≡ awaited)
+Came seen faults (Left k user) awaited old left new =
+    (begun : WorldCall) × (result : Result Said StepFault) × IsLeave user begun × IsStep seen faults result (Begin 1 begun) old new × (left ≡ awaited)
+
+-- the world made these steps, one after another, and no others
+abbrev pub Makes : {D : Type 0} → (D → Option (List ℕ)) → (D → ℕ) → List Outcome → List Awaited → World D → List Awaited → World D → Type 0
+Makes seen faults [] awaited old left new = (left ≡ awaited) × (new ≡ old)
+Makes {D} seen faults (outcome ∷ more) awaited old left new =
+    (between : List Awaited) × (mid : World D) × Came seen faults outcome awaited old between mid × Makes seen faults more between mid left new
+
+-- the messages are such as sessions that take mail tell, at node 1
+abbrev pub AreOfSessions : List (List ℕ) → List Asked → Type 0
+AreOfSessions lines [] = ⊤
+AreOfSessions lines (one ∷ asked) = IsSoundMail one.call × IsTaken lines one.session one.call × AreOfSessions lines asked
+
+-- What a cluster of one node owes of what it was asked and what it answered, and of its book: its disk has these records, each message that was answered
+-- `Stored` stands there, what is gone was asked for, and listings and parts are as filed where the disk tells what it holds.
+pub record Owes (plan : Plan) (lines : List (List ℕ)) (entries : List Entry) (store : Option (List ℕ)) (asked : List Asked) (answered : List Answered) (book : List BookEntry) : Type 0 where
+  pub records : List Record
+  pub holds : IfSome store (HoldsRecords records)
+  pub stored : OwesStored plan lines entries (store ∷ []) answered
+  pub deletions : OwesDeletions plan entries (store ∷ []) (records ∷ []) asked answered
+  pub parts : is_some store ≡ true → OwesParts (λ id. octets_in id records) answered
+  pub book_is : IsBookOf lines asked answered book
+
+-- Whatever steps a world of one node makes, in whatever order its calls begin and are asked for: it owes that, and has it.
+abbrev pub WorldOwes : {D : Type 0} → (D → Option (List ℕ)) → (D → ℕ) → Type 0
+WorldOwes {D} seen faults = (plan : Plan) (lines : List (List ℕ)) (entries : List Entry) (outcomes : List Outcome) (left : List Awaited) (start last : World D)
+    → plan.nodes ≡ 1 → plan.confirm ≡ 1 → Begins seen plan start → Makes seen faults outcomes [] start left last → AreOfSessions lines (flat_map asked_in outcomes)
+    → Owes plan lines entries (seen (disk_of last)) (flat_map asked_in outcomes) (flat_map answered_in outcomes) (book_of last)
+
+-- Each of them was counted, up to the end of the count, and nothing else was.
+abbrev pub StepsAreCounted : {D : Type 0} → (D → Option (List ℕ)) → (D → ℕ) → Type 0
+StepsAreCounted {D} seen faults = (plan : Plan) (outcomes : List Outcome) (left : List Awaited) (start last : World D)
+    → Begins seen plan start → Makes seen faults outcomes [] start left last → steps_of last ≡ min (length outcomes) (2 ^ 64 - 1)
