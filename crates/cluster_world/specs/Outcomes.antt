@@ -1,22 +1,21 @@
 -- The steps that sessions lead to in a world of one node, one after another, and what came of each. Of them what a cluster owes is read off: what it was
 -- asked, and what it answered.
-use Rattle.std.specs.Prelude.{◌≡◌, ℕ, ◌-◌, ◌^◌, min, length, List, [], ◌∷◌, ◌++◌, map, flat_map, ⊤, is_some, Bool, true, Option, Some, None, IfSome, Result, Ok, Err}
-use Rattle.mail_model.specs.Identity.{Id}
+use Rattle.std.specs.Prelude.{◌≡◌, ℕ, ◌-◌, ◌^◌, ◌<◌, min, length, All, List, [], ◌∷◌, ◌++◌, map, flat_map, ⊤, is_some, Option, Some, None, Result, Ok, Err}
+use Rattle.mail_model.specs.Names.{IsLowerName}
+use Rattle.mail_model.specs.Grammar.{IsId}
 use Rattle.mail_model.specs.Plan.{Plan}
 use Rattle.mail_model.specs.Transcript.{Entry}
 use Rattle.mail_model.specs.Record.{Record}
 use Rattle.mail_model.specs.Listing.{octets_in}
-use Rattle.mail_model.specs.Book.{BookEntry}
-use Rattle.mail_model.specs.Site.{HoldsRecords}
 use Rattle.session_model.specs.Calls.{Call, Answer}
 use Rattle.session_model.specs.Logs.{Asked, Answered}
 use Rattle.session_model.specs.Run.{Made}
-use Rattle.session_model.specs.Owes.{OwesStored, OwesDeletions, OwesParts}
-use Rattle.session_model.specs.Books.{IsBookOf}
+use Rattle.session_model.specs.Owes.{Owes}
+use Rattle.session_model.specs.Books.{Among}
 use Rattle.session_model.specs.OneNode.{IsSoundMail, IsTaken}
 use Rattle.cluster_world.specs.Journal.{IsToldAlike}
-use Rattle.cluster_world.specs.World.{disk_of, book_of, steps_of, counted, one_more, Begins}
-use Rattle.call_tickets.specs.Seen.{call_seen, answer_seen}
+use Rattle.cluster_world.specs.World.{drawn_of, stamps_of, disk_of, book_of, steps_of, counted, one_more, Begins}
+use Rattle.call_tickets.specs.Seen.{call_seen, answer_seen, ids_in}
 use Rattle.cluster_world.specs.Steps.{Stepped, nth_ticket}
 use Rattle.cluster_world.specs.declared.world.World.{World}
 use Rattle.call_tickets.specs.declared.call.Call.{Call as WorldCall}
@@ -89,11 +88,24 @@ IsFall (Ok (Faulted failed)) = ⊤
 IsFall (Err (NoMemory (Some failed))) = ⊤
 IsFall result = ⊥
 
--- What is known of a step: what it did, that it was counted, and that whether the disk tells its octets has not changed.
+-- the names of a call are in lower case, and its ids are ids
+abbrev pub HasNames : Step → Type 0
+HasNames (Begin node (call.Deliver deliver)) = All IsLowerName deliver.users
+HasNames (Begin node (call.Strike user items)) = IsLowerName user × All IsId (ids_in items)
+HasNames step = ⊤
+
+-- 64 bits hold the numbers that were drawn
+abbrev pub AreWithin : {D : Type 0} → World D → Type 0
+AreWithin world = (drawn_of world < 2 ^ 64) × (stamps_of world < 2 ^ 64)
+
+-- What is known of a step: what it did, that it was counted, that whether the disk tells its octets has not changed, and what the types of names and numbers
+-- say.
 pub record IsStep {D : Type 0} (seen : D → Option (List ℕ)) (faults : D → ℕ) (result : Result Said StepFault) (step : Step) (old new : World D) : Type 0 where
   pub did : Stepped seen faults result step (counted old) new
   pub count : steps_of new ≡ one_more (steps_of old)
   pub told : IsToldAlike (seen (disk_of old)) (seen (disk_of new))
+  pub names : HasNames step
+  pub numbers : AreWithin new
 
 -- the world made a step of which this came, and these calls are then awaited
 abbrev pub Came : {D : Type 0} → (D → Option (List ℕ)) → (D → ℕ) → Outcome → List Awaited → World D → List Awaited → World D → Type 0
@@ -119,26 +131,16 @@ Makes seen faults [] awaited old left new = (left ≡ awaited) × (new ≡ old)
 Makes {D} seen faults (outcome ∷ more) awaited old left new =
     (between : List Awaited) × (mid : World D) × Came seen faults outcome awaited old between mid × Makes seen faults more between mid left new
 
--- the messages are such as sessions that take mail tell, at node 1
+-- each call is one that a session of node 1 makes
 abbrev pub AreOfSessions : List (List ℕ) → List Asked → Type 0
-AreOfSessions lines [] = ⊤
-AreOfSessions lines (one ∷ asked) = IsSoundMail one.call × IsTaken lines one.session one.call × AreOfSessions lines asked
-
--- What a cluster of one node owes of what it was asked and what it answered, and of its book: its disk has these records, each message that was answered
--- `Stored` stands there, what is gone was asked for, and listings and parts are as filed where the disk tells what it holds.
-pub record Owes (plan : Plan) (lines : List (List ℕ)) (entries : List Entry) (store : Option (List ℕ)) (asked : List Asked) (answered : List Answered) (book : List BookEntry) : Type 0 where
-  pub records : List Record
-  pub holds : IfSome store (HoldsRecords records)
-  pub stored : OwesStored plan lines entries (store ∷ []) answered
-  pub deletions : OwesDeletions plan entries (store ∷ []) (records ∷ []) asked answered
-  pub parts : is_some store ≡ true → OwesParts (λ id. octets_in id records) answered
-  pub book_is : IsBookOf lines asked answered book
+AreOfSessions lines asked = (k : ℕ) (call : Call) → Among (record { session = k; call = call }) asked → IsSoundMail call × IsTaken lines k call
 
 -- Whatever steps a world of one node makes, in whatever order its calls begin and are asked for: it owes that, and has it.
 abbrev pub WorldOwes : {D : Type 0} → (D → Option (List ℕ)) → (D → ℕ) → Type 0
 WorldOwes {D} seen faults = (plan : Plan) (lines : List (List ℕ)) (entries : List Entry) (outcomes : List Outcome) (left : List Awaited) (start last : World D)
     → plan.nodes ≡ 1 → plan.confirm ≡ 1 → Begins seen plan start → Makes seen faults outcomes [] start left last → AreOfSessions lines (flat_map asked_in outcomes)
-    → Owes plan lines entries (seen (disk_of last)) (flat_map asked_in outcomes) (flat_map answered_in outcomes) (book_of last)
+    → (records : List Record) × Owes plan (is_some (seen (disk_of start))) lines entries (seen (disk_of last) ∷ []) (records ∷ []) (λ id. octets_in id records)
+    (flat_map asked_in outcomes) (flat_map answered_in outcomes) (book_of last)
 
 -- Each of them was counted, up to the end of the count, and nothing else was.
 abbrev pub StepsAreCounted : {D : Type 0} → (D → Option (List ℕ)) → (D → ℕ) → Type 0

@@ -76,9 +76,11 @@ mod emptied;
 mod filing;
 mod index;
 mod journal;
+pub mod laws;
 mod place;
 mod reading;
 mod record;
+mod spelling;
 mod step;
 mod striking;
 #[cfg(test)]

@@ -10,6 +10,7 @@ ghost use Rattle.cluster_world.specs.Journal.{IsToldAlike};
 ghost use Rattle.cluster_world.specs.World.{plan_of, is_up, drawn_of, stamps_of, tickets_of, kept_of, disk_of, gate_of, book_of, standing_of, ShowsGate, Opened, Refused, counted, one_more, steps_of};
 ghost use Rattle.cluster_world.specs.Books.{entry_of, told_by, spare_of};
 ghost use Rattle.cluster_world.specs.Steps.{BeginDid, AskDid, Stepped, StandsNot, HasNumbers, Settles, entries_for, entries_in, prepared_for, struck_in};
+ghost use Rattle.cluster_world.specs.Outcomes.{AreWithin, HasNames};
 ghost use Rattle.cluster_world.specs.Completes.{Completes, FetchedAsFiled, SettledBy, SettledByDelivery};
 
 use crate::append::first_node;
@@ -18,6 +19,7 @@ use crate::emptied::{Emptied, take_only};
 use crate::index::Index;
 use crate::journal::{Journal, JournalFault};
 use crate::record::boot_payload;
+use crate::spelling::has_names;
 use crate::step::{Filing, Pending, Said, Standing, Step, StepFault};
 use call_tickets::{Answer, Ask, Call};
 use io_edge::Disk;
@@ -416,10 +418,13 @@ impl<D: Disk> World<D> {
         ensures completes { Completes D.seen D.faults result step (counted self.old) self.new }
         ensures settled { IfOk result (λ said. SettledBy D.settled step said (counted self.old) self.new) }
         ensures settled_while_up { IsTrue (is_up self.new) → D.settled (disk_of self.old) → D.settled (disk_of self.new) }
+        ensures names { HasNames step }
+        ensures numbers { AreWithin self.new }
         ensures told { IsToldAlike (D.seen (disk_of self.old)) (D.seen (disk_of self.new)) }
         ensures quiet { IsTrue (is_up self.new) → D.faults (disk_of self.new) ≡ D.faults (disk_of self.old) }
     {
         self.count();
+        has_names(&step);
         self.make_step(alloc, step)
     }
 }
