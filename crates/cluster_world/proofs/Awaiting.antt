@@ -1,11 +1,8 @@
 -- Calls in progress: as they are awaited, as they stand in the world, and what they will be answered.
-use Rattle.std.proofs.Common.{◌≡◌, ℕ, ◌+◌, ◌<◌, ◌≤◌, List, [], ◌∷◌, ◌++◌, map, refl, sym, ap, ◌∙◌, subst, arith}
+use Rattle.std.proofs.Common.{◌≡◌, ℕ, ◌+◌, ◌<◌, ◌≤◌, List, [], ◌∷◌, ◌++◌, map, refl, ap, ◌∙◌, subst, arith}
 use Rattle.std.specs.Prelude.{⊤}
-use Rattle.std.proofs.lemmas.List.{map-append}
-use Rattle.mail_model.specs.Identity.{Id}
 use Rattle.mail_model.specs.Mail.{IsStored}
 use Rattle.mail_model.specs.Site.{nth_id}
-use Rattle.mail_base.specs.declared.ticket.Ticket.{Ticket}
 use Rattle.session_model.specs.Calls.{Call, Answer}
 use Rattle.session_model.specs.Calls.Call.{Deliver, Login, Fetch, Strike}
 use Rattle.session_model.specs.Calls.Answer.{Stored, Dropped}

@@ -1,6 +1,6 @@
 -- A call that has begun was served: what it leaves in the world is what the definitions of one node say, and its answer is ready.
-use Rattle.std.proofs.Common.{◌≡◌, ◌⊎◌, inl, inr, ℕ, ◌+◌, ◌<◌, ◌≤◌, ◌^◌, true, false, Bool, List, [], ◌∷◌, ◌++◌, length, map, flat_map, take, drop, Option, Some, None, IfSome, is_some, refl, sym, ap, ◌∙◌, subst, append_assoc, append-nil, arith, length-drop}
-use Rattle.std.specs.Prelude.{⊤, All, IsTrue}
+use Rattle.std.proofs.Common.{◌≡◌, inl, ℕ, ◌+◌, ◌≤◌, true, false, Bool, List, [], ◌∷◌, ◌++◌, length, map, take, drop, Option, Some, None, IfSome, is_some, refl, sym, ap, ◌∙◌, subst, append_assoc, append-nil, arith, length-drop}
+use Rattle.std.specs.Prelude.{All, IsTrue}
 use Rattle.std.proofs.lemmas.List.Elements.{All-append}
 use Rattle.mail_model.specs.Names.{IsLowerName}
 use Rattle.mail_model.specs.Grammar.{IsId, IsRecord}
@@ -9,21 +9,17 @@ use Rattle.std.proofs.lemmas.List.{map-append, take-append-drop}
 use Rattle.std.proofs.lemmas.List.Concat.{flat_map-append}
 use Rattle.mail_model.specs.Identity.{Id}
 use Rattle.mail_model.specs.Plan.{Plan, opens}
-use Rattle.mail_model.specs.Mail.{IsStored}
 use Rattle.mail_model.specs.Told.{Mail}
 use Rattle.mail_model.specs.Record.{Record}
 use Rattle.mail_model.specs.Stored.{Ack, HaveOtherIds}
 use Rattle.mail_model.specs.Book.{BookEntry}
-use Rattle.mail_model.specs.Listing.{octets_in, listing_of, size_in}
-use Rattle.mail_model.specs.PopReplies.{Item}
-use Rattle.mail_model.specs.Site.{nth_id, nth_stamp, message_records, gone_records, drawn_through, struck_entries}
-use Rattle.mail_base.specs.Items.{item_seen}
+use Rattle.mail_model.specs.Site.{nth_id, nth_stamp, message_records, gone_records, struck_entries}
 use Rattle.session_model.specs.Calls.{Call, Answer}
 use Rattle.session_model.specs.Calls.Call.{Deliver, Login, Fetch, Strike}
-use Rattle.session_model.specs.Calls.Answer.{Stored, Listed, Wrong, Part, GoneAlready, Dropped}
+use Rattle.session_model.specs.Calls.Answer.{Stored, Dropped}
 use Rattle.session_model.specs.Logs.{Asked, Answered}
 use Rattle.session_model.specs.Books.{AmongAnswers, IsBookOf, acks_by}
-use Rattle.session_model.specs.OneNode.{Node, Served, Serves, ServesAll, IsSoundMail, first_node, asked_of, told_of, answered_of}
+use Rattle.session_model.specs.OneNode.{Served, Serves, IsSoundMail, first_node, told_of, answered_of}
 use Rattle.mail_base.specs.declared.proof.Proof.{Proof}
 use Rattle.mail_model.proofs.Disk.{through_rises}
 use Rattle.call_tickets.specs.Seen.{answer_seen, secret_in}
@@ -41,7 +37,7 @@ use Rattle.cluster_world.proofs.Booked.{struck_begun, acked_begun, dropped_begun
 use Rattle.cluster_world.proofs.BookKept.{book_begun, by_one_both, by_one_struck}
 use Rattle.cluster_world.proofs.Spelt.{message_records_are, gone_records_are}
 use Rattle.cluster_world.proofs.Others.{AreBelow, have_pushed, below_pushed, below_later}
-use Rattle.cluster_world.proofs.Awaiting.{InProgress, IsDue, awaited_by, standing_by, due_by, AreDue, AreRising, due_both, due_more, rising_push}
+use Rattle.cluster_world.proofs.Awaiting.{InProgress, IsDue, awaited_by, standing_by, due_by, AreRising, due_both, due_more, rising_push}
 use Rattle.cluster_world.proofs.Serving.{IsServing, acks_in, node_of, serves_push, among_front, among_behind}
 
 no_length : (l : List ℕ) → length l ≡ 0 → l ≡ []
@@ -59,7 +55,7 @@ ready_more : (served : List Served) (one : Served) (answered : Answered) → tol
     → ((other : Answered) → AmongAnswers other (answered_of served) → AmongAnswers other (answered_of (served ++ one ∷ []))) × AmongAnswers answered (answered_of (served ++ one ∷ []))
 ready_more served one answered is =
     let whole : answered_of (served ++ one ∷ []) ≡ answered_of served ++ answered ∷ [] =
-      flat_map-append (λ (s : Served). told_of s.session s.call s.answer) served (one ∷ []) ∙ ap (λ (l : List Answered). answered_of served ++ (l ++ [])) is in (
+    flat_map-append (λ (s : Served). told_of s.session s.call s.answer) served (one ∷ []) ∙ ap (λ (l : List Answered). answered_of served ++ (l ++ [])) is in (
       λ other among. rw whole (among_front other (answered_of served) (answered ∷ []) among),
       rw whole (among_behind answered (answered_of served) (answered ∷ []) (inl refl)),
     )
@@ -96,12 +92,12 @@ module _ {D : Type 0} (seen : D → Option (List ℕ)) (faults : D → ℕ) (pla
       let served_one : Served = record { session = k; call = call; answer = Some answer } in
       let ready = ready_more is.served served_one (due_by one) refl in
       let acks : all_acks ++ acks_by (due_by one) ≡ acks_in answered ++ acks_in (map due_by (is.calls ++ one ∷ [])) =
-        append_assoc (acks_in answered) (acks_in (map due_by is.calls)) (acks_by (due_by one))
-        ∙ ap (λ (l : List Ack). acks_in answered ++ l) (sym (
-          ap acks_in (map-append due_by is.calls (one ∷ []))
-          ∙ flat_map-append acks_by (map due_by is.calls) (due_by one ∷ [])
-          ∙ ap (λ (l : List Ack). acks_in (map due_by is.calls) ++ l) (append-nil (acks_by (due_by one)))
-        )) in
+      append_assoc (acks_in answered) (acks_in (map due_by is.calls)) (acks_by (due_by one))
+      ∙ ap (λ (l : List Ack). acks_in answered ++ l) (sym (
+      ap acks_in (map-append due_by is.calls (one ∷ []))
+      ∙ flat_map-append acks_by (map due_by is.calls) (due_by one ∷ [])
+      ∙ ap (λ (l : List Ack). acks_in (map due_by is.calls) ++ l) (append-nil (acks_by (due_by one)))
+      )) in
       record {
         plan_is = begun.plan_is ∙ is.plan_is;
         up = begun.up;

@@ -1,16 +1,16 @@
 -- The book stays that of the calls that were asked and answered.
-use Rattle.std.proofs.Common.{◌≡◌, ℕ, List, [], ◌∷◌, ◌++◌, map, flat_map, refl, sym, ap, ap₂, ◌∙◌, subst, append_assoc, append-nil}
+use Rattle.std.proofs.Common.{◌≡◌, ℕ, List, [], ◌∷◌, ◌++◌, flat_map, refl, sym, ap, ◌∙◌, subst, append-nil}
 use Rattle.std.proofs.lemmas.List.Concat.{flat_map-append}
 use Rattle.mail_model.specs.Identity.{Id}
 use Rattle.mail_model.specs.Mail.{IsStored}
 use Rattle.mail_model.specs.Stored.{Ack}
-use Rattle.mail_model.specs.Book.{Acked, BookEntry, AreCopies, AreCopiesOf, acked_in, struck_in, dropped_in, copies_acked}
+use Rattle.mail_model.specs.Book.{Acked, BookEntry, AreCopies, acked_in, struck_in, dropped_in, copies_acked}
 use Rattle.mail_model.specs.Book.BookEntry.{Acknowledged, Struck as Noted, Dropped as WasDropped, WentDown}
 use Rattle.mail_model.specs.Site.{nth_id, struck_entries, dropped_entries}
 use Rattle.mail_model.specs.Told.{Mail}
 use Rattle.session_model.specs.Calls.{Call, Answer}
 use Rattle.session_model.specs.Calls.Call.{Deliver, Login, Fetch, Strike}
-use Rattle.session_model.specs.Calls.Answer.{Stored, Listed, Wrong, Part, GoneAlready, Dropped, Failed}
+use Rattle.session_model.specs.Calls.Answer.{Stored, Dropped}
 use Rattle.session_model.specs.Logs.{Asked, Answered}
 use Rattle.session_model.specs.Books.{IsBookOf, struck_by, dropped_by, acks_by}
 use Rattle.session_model.specs.OneNode.{IsSoundMail}

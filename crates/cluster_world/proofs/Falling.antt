@@ -1,30 +1,29 @@
 -- A call in which the node went down was served in part, and has no answer.
-use Rattle.std.proofs.Common.{◌≡◌, ◌⊎◌, inl, inr, ℕ, ◌+◌, true, false, Bool, List, [], ◌∷◌, ◌++◌, map, flat_map, Option, Some, None, IfSome, is_some, Result, Ok, Err, refl, sym, ap, ◌∙◌, subst, append-nil, arith}
+use Rattle.std.proofs.Common.{◌≡◌, inl, inr, ℕ, ◌+◌, true, false, Bool, List, [], ◌∷◌, ◌++◌, map, Option, Some, None, IfSome, is_some, Result, Ok, Err, refl, sym, ap, ◌∙◌, subst, append-nil, arith}
 use Rattle.mail_model.specs.Names.{IsLowerName}
 use Rattle.mail_model.specs.Grammar.{IsId, IsRecord}
 use Rattle.session_model.specs.Alone.{AreByOne}
 use Rattle.std.proofs.lemmas.List.Elements.{All-append}
-use Rattle.std.specs.Prelude.{⊤, All, IsTrue, IsFalse, ◌&&◌, nat_eq, if◌then◌else◌}
+use Rattle.std.specs.Prelude.{All, IsFalse, if◌then◌else◌}
 use Rattle.std.proofs.lemmas.List.{map-append}
 use Rattle.std.proofs.lemmas.List.Concat.{flat_map-append}
 use Rattle.std.proofs.lemmas.Bool.Decides.{nat_tests}
 use Rattle.mail_model.specs.Identity.{Id}
 use Rattle.mail_model.specs.Plan.{Plan}
 use Rattle.mail_model.specs.Told.{Mail}
-use Rattle.mail_model.specs.Record.{Record}
 use Rattle.mail_model.specs.Book.{BookEntry}
 use Rattle.mail_model.specs.Book.BookEntry.{WentDown}
 use Rattle.mail_model.specs.Site.{HoldsRecords, struck_entries}
 use Rattle.mail_base.specs.Delivers.{mail_in}
-use Rattle.session_model.specs.Calls.{Call, Answer}
-use Rattle.session_model.specs.Calls.Call.{Deliver, Login, Fetch, Strike}
+use Rattle.session_model.specs.Calls.{Call}
+use Rattle.session_model.specs.Calls.Call.{Deliver, Fetch, Strike}
 use Rattle.session_model.specs.Logs.{Asked, Answered}
-use Rattle.session_model.specs.Books.{AmongAnswers, IsBookOf}
-use Rattle.session_model.specs.OneNode.{Node, Served, Serves, first_node, asked_of, told_of, answered_of}
-use Rattle.call_tickets.specs.Seen.{call_seen, ids_in, secret_in, asks_whole}
+use Rattle.session_model.specs.Books.{IsBookOf}
+use Rattle.session_model.specs.OneNode.{Node, Served, Serves, first_node, told_of, answered_of}
+use Rattle.call_tickets.specs.Seen.{call_seen, ids_in, asks_whole}
 use Rattle.call_tickets.specs.declared.call.Call.{Call as WorldCall}
 use Rattle.call_tickets.specs.declared.call.Call.TheVariants as call
-use Rattle.cluster_world.specs.World.{plan_of, is_up, drawn_of, stamps_of, disk_of, book_of, gate_of}
+use Rattle.cluster_world.specs.World.{is_up, drawn_of, stamps_of, disk_of, book_of, gate_of}
 use Rattle.cluster_world.specs.Steps.{BeginDid, HasFallen, HasBrokenOff, GoesDown, StopsReading, StopsStriking}
 use Rattle.cluster_world.specs.Outcomes.{Awaited, IsFall, HasNames, AreWithin}
 use Rattle.cluster_world.specs.declared.step.Step.TheVariants.{Begin}

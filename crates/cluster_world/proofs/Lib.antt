@@ -2,6 +2,7 @@ mod Completes
 pub mod Among
 pub mod Appended
 pub mod Asked
+pub mod AtOnce
 pub mod Awaiting
 pub mod Beginning
 pub mod BookKept

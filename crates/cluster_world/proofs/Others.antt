@@ -1,5 +1,5 @@
 -- Messages of which each has an id of its own, in whatever order.
-use Rattle.std.proofs.Common.{◌≡◌, ◌≢◌, ℕ, ◌+◌, ◌≤◌, List, [], ◌∷◌, ◌++◌, sym, ap, ◌∙◌, arith}
+use Rattle.std.proofs.Common.{◌≡◌, ℕ, ◌+◌, ◌≤◌, List, [], ◌∷◌, ◌++◌, sym, ap, ◌∙◌, arith}
 use Rattle.std.specs.Prelude.{⊤}
 use Rattle.mail_model.specs.Identity.{Id}
 use Rattle.mail_model.specs.Stored.{Ack, IsOther, HaveOtherIds}

@@ -1,6 +1,6 @@
 -- Whatever steps a world of one node makes: it has what a cluster owes.
-use Rattle.std.proofs.Common.{◌≡◌, ◌⊎◌, inl, inr, ⊎_elim, ℕ, ◌+◌, ◌-◌, ◌^◌, ◌<◌, ◌≤◌, min, length, arith, true, false, Bool, List, [], ◌∷◌, ◌++◌, map, flat_map, Option, Some, None, IfSome, is_some, Result, Ok, Err, refl, sym, ap, ap₂, ◌∙◌, subst, append_assoc, append-nil}
-use Rattle.std.specs.Prelude.{⊤, All, IsTrue, IsFalse}
+use Rattle.std.proofs.Common.{◌≡◌, ◌⊎◌, inl, inr, ⊎_elim, ℕ, ◌+◌, ◌-◌, ◌^◌, ◌≤◌, min, length, arith, true, false, Bool, List, [], ◌∷◌, ◌++◌, map, flat_map, Option, Some, None, is_some, Result, Ok, Err, refl, sym, ap, ap₂, ◌∙◌, subst, append_assoc, append-nil}
+use Rattle.std.specs.Prelude.{⊤, IsTrue, IsFalse}
 use Rattle.std.proofs.lemmas.List.Elements.{All-nil, All-cons}
 use Rattle.mail_model.specs.Grammar.{IsRecord}
 use Rattle.session_model.specs.Alone.{AreByOne}
@@ -18,23 +18,22 @@ use Rattle.session_model.proofs.Alone.{confirmed_by_one, dropped_answered, dropp
 use Rattle.mail_model.specs.Book.{BookEntry}
 use Rattle.mail_base.specs.Delivers.{mail_in}
 use Rattle.session_model.specs.Calls.{Call, Answer}
-use Rattle.session_model.specs.Calls.Call.{Deliver, Login, Fetch, Strike}
+use Rattle.session_model.specs.Calls.Call.{Deliver, Login, Strike}
 use Rattle.session_model.specs.Logs.{Asked, Answered}
 use Rattle.session_model.specs.Books.{AmongAnswers, IsBookOf, Among, acks_by}
 use Rattle.session_model.specs.Facts.{IsIn}
 use Rattle.mail_model.specs.Identity.{Id}
 use Rattle.session_model.specs.Owes.{Owes}
-use Rattle.session_model.specs.OneNode.{Node, Served, ServesAll, IsSoundMail, AreSoundMails, IsTaken, AreTaken, first_node, asked_of, told_of, answered_of}
+use Rattle.session_model.specs.OneNode.{Served, IsSoundMail, AreSoundMails, IsTaken, AreTaken, asked_of, answered_of}
 use Rattle.session_model.proofs.OneNode.{one_node_owes}
 use Rattle.session_model.proofs.NodeStores.{one_node_stores}
 use Rattle.call_tickets.specs.Seen.{call_seen, answer_seen, ids_in, secret_in}
 use Rattle.call_tickets.specs.declared.call.Call.{Call as WorldCall}
 use Rattle.call_tickets.specs.declared.call.Call.TheVariants as call
 use Rattle.call_tickets.specs.declared.answer.Answer.{Answer as WorldAnswer}
-use Rattle.call_tickets.specs.declared.answer.Ask.TheVariants.{Pending as InProgressStill, Done}
 use Rattle.cluster_world.specs.World.{plan_of, is_up, drawn_of, stamps_of, tickets_of, disk_of, book_of, standing_of, gate_of, steps_of, Fits, counted, Begins}
 use Rattle.cluster_world.specs.Steps.{BeginDid, AskDid, HasBegun, IsAsBefore, IsAnswered, call_of, nth_ticket}
-use Rattle.cluster_world.specs.Outcomes.{Outcome, Awaited, IsRefusal, IsFall, IsLeave, IsStep, Came, Makes, HasNames, AreWithin, AreOfSessions, WorldOwes, StepsAreCounted, asked_in, answered_in}
+use Rattle.cluster_world.specs.Outcomes.{Outcome, Awaited, IsRefusal, IsFall, IsLeave, Came, Makes, HasNames, AreWithin, AreOfSessions, WorldOwes, StepsAreCounted, asked_in, answered_in}
 use Rattle.cluster_world.specs.declared.step.Step.TheVariants.{Begin}
 use Rattle.cluster_world.specs.Outcomes.Outcome.{Began, Refused, Fell, Answers, Unanswered, Left}
 use Rattle.cluster_world.specs.declared.world.World.{World}
@@ -42,14 +41,13 @@ use Rattle.cluster_world.specs.declared.step.Said.{Said}
 use Rattle.cluster_world.specs.declared.step.Said.TheVariants.{Begun, Noted, Asked as AskedFor, Faulted}
 use Rattle.cluster_world.specs.declared.step.StepFault.{StepFault}
 use Rattle.cluster_world.specs.declared.step.StepFault.TheVariants.{NoSuchNode, NodeDown, NoSuchTicket, Worn, NoMemory}
-use Rattle.cluster_world.specs.declared.step.Pending.{Pending}
 use Rattle.cluster_world.specs.declared.step.Standing.{Standing}
 use Rattle.cluster_world.proofs.BookKept.{book_answered, by_one_answered, due_given}
 use Rattle.cluster_world.proofs.Others.{AreBelow, have_moved, below_moved}
-use Rattle.cluster_world.proofs.Awaiting.{InProgress, Splits, split_map, same_place, rising_without, AreRising, AreDue, awaited_by, standing_by, due_by, due_both, due_front, due_behind}
+use Rattle.cluster_world.proofs.Awaiting.{InProgress, split_map, same_place, rising_without, AreRising, AreDue, awaited_by, standing_by, due_by, due_both, due_front, due_behind}
 use Rattle.cluster_world.proofs.Serving.{HasServed, IsServing, IsAlike, acks_in, among_either, served_so_far, stays_serving}
 use Rattle.cluster_world.proofs.Beginning.{delivery_began, login_began, fetch_began, strike_began}
-use Rattle.cluster_world.proofs.Falling.{some_is, not_none, fetched_whole, fell_in}
+use Rattle.cluster_world.proofs.Falling.{some_is, fetched_whole, fell_in}
 
 -- what one answer more leaves
 module _ {D : Type 0} (seen : D → Option (List ℕ)) (plan : Plan) (lines : List (List ℕ)) (tells : Bool) (asked : List Asked) (answered : List Answered) (old new : World D) where
@@ -69,16 +67,16 @@ module _ {D : Type 0} (seen : D → Option (List ℕ)) (plan : Plan) (lines : Li
       let settles = rw (sym pending_is) at done.settles in
       let answer_is : given ≡ here.own.answer = given_is ∙ due_given here.own.call here.own.pending here.own.answer own (book_of old) (book_of new) own_due.0 settles in
       let last : record { session = k; call = one; answer = given } ≡ due_by here.own =
-        λ i. record { session = (sym (ap (λ (a : Awaited). a.session) here.own_is)) i; call = (sym (ap (λ (a : Awaited). a.call) here.own_is)) i; answer = answer_is i } in
+      λ i. record { session = (sym (ap (λ (a : Awaited). a.session) here.own_is)) i; call = (sym (ap (λ (a : Awaited). a.call) here.own_is)) i; answer = answer_is i } in
       let acks_are : acks_in answered ++ acks_in (map due_by is.calls) ≡ acks_in answered ++ (acks_in (map due_by here.front) ++ (acks_by (due_by here.own) ++ acks_in (map due_by here.back))) =
-        ap (λ (l : List Ack). acks_in answered ++ l) (ap (λ (l : List InProgress). acks_in (map due_by l)) here.whole
-        ∙ ap acks_in (map-append due_by here.front (here.own ∷ here.back)) ∙ flat_map-append acks_by (map due_by here.front) (due_by here.own ∷ map due_by here.back)) in
+      ap (λ (l : List Ack). acks_in answered ++ l) (ap (λ (l : List InProgress). acks_in (map due_by l)) here.whole
+      ∙ ap acks_in (map-append due_by here.front (here.own ∷ here.back)) ∙ flat_map-append acks_by (map due_by here.front) (due_by here.own ∷ map due_by here.back)) in
       let acks_new : (acks_in answered ++ acks_by (due_by here.own)) ++ (acks_in (map due_by here.front) ++ acks_in (map due_by here.back))
-          ≡ acks_in (answered ++ due_by here.own ∷ []) ++ acks_in (map due_by (here.front ++ here.back)) =
-        ap (λ (l : List Ack). l ++ (acks_in (map due_by here.front) ++ acks_in (map due_by here.back)))
-        (ap (λ (l : List Ack). acks_in answered ++ l) (sym (append-nil (acks_by (due_by here.own)))) ∙ sym (flat_map-append acks_by answered (due_by here.own ∷ [])))
-        ∙ ap (λ (l : List Ack). acks_in (answered ++ due_by here.own ∷ []) ++ l)
-        (sym (flat_map-append acks_by (map due_by here.front) (map due_by here.back)) ∙ ap acks_in (sym (map-append due_by here.front here.back))) in
+      ≡ acks_in (answered ++ due_by here.own ∷ []) ++ acks_in (map due_by (here.front ++ here.back)) =
+      ap (λ (l : List Ack). l ++ (acks_in (map due_by here.front) ++ acks_in (map due_by here.back)))
+      (ap (λ (l : List Ack). acks_in answered ++ l) (sym (append-nil (acks_by (due_by here.own)))) ∙ sym (flat_map-append acks_by answered (due_by here.own ∷ [])))
+      ∙ ap (λ (l : List Ack). acks_in (answered ++ due_by here.own ∷ []) ++ l)
+      (sym (flat_map-append acks_by (map due_by here.front) (map due_by here.back)) ∙ ap acks_in (sym (map-append due_by here.front here.back))) in
       subst (λ (a : Answered). IsServing seen plan lines tells asked (answered ++ a ∷ []) (before ++ behind) new) (sym last) (record {
         plan_is = done.plan ∙ is.plan_is;
         up = done.up ∙ is.up;
@@ -122,8 +120,16 @@ module _ {D : Type 0} (seen : D → Option (List ℕ)) (plan : Plan) (lines : Li
 
   before_alike : (faults : D → ℕ) → IsAsBefore seen faults old new → IsAlike seen old new
   before_alike faults same = record {
-    plan_is = same.plan; up = same.up; drawn = same.drawn; stamps = same.stamps; tickets = same.tickets; standing = same.standing; book = same.book;
-    octets = same.octets; gate = same.gate; fits = same.fits;
+    plan_is = same.plan;
+    up = same.up;
+    drawn = same.drawn;
+    stamps = same.stamps;
+    tickets = same.tickets;
+    standing = same.standing;
+    book = same.book;
+    octets = same.octets;
+    gate = same.gate;
+    fits = same.fits;
   }
 
   refused_alike : (faults : D → ℕ) (result : Result Said StepFault) (begun : WorldCall) → IsRefusal result → BeginDid seen faults result 1 begun old new → IsAlike seen old new
@@ -207,7 +213,16 @@ module _ {D : Type 0} (seen : D → Option (List ℕ)) (faults : D → ℕ) (pla
   -- a step that is only counted
   same_counted : (world : World D) → IsAlike seen world (counted world)
   same_counted world = record {
-    plan_is = refl; up = refl; drawn = refl; stamps = refl; tickets = refl; standing = refl; book = refl; octets = refl; gate = refl; fits = λ records fits. fits;
+    plan_is = refl;
+    up = refl;
+    drawn = refl;
+    stamps = refl;
+    tickets = refl;
+    standing = refl;
+    book = refl;
+    octets = refl;
+    gate = refl;
+    fits = λ records fits. fits;
   }
 
   as_it_was : (asked : List Asked) (answered : List Answered) (awaited left : List Awaited) (old new : World D) → left ≡ awaited → IsAlike seen (counted old) new
@@ -224,19 +239,19 @@ module _ {D : Type 0} (seen : D → Option (List ℕ)) (faults : D → ℕ) (pla
       → Known seen plan lines tells (asked ++ asked_in outcome) (answered ++ answered_in outcome) left new
   one_step (Began k one number) asked answered awaited left old new sound (begun, stirs, is_call, step, left_is) known = ⊎_elim
       (λ is.
-        subst (λ (l : List Answered). Known seen plan lines tells (asked ++ record { session = k; call = one } ∷ []) l left new) (sym (append-nil answered))
-        (subst (λ (l : List Awaited). Known seen plan lines tells (asked ++ record { session = k; call = one } ∷ []) answered l new) (sym left_is)
-        (inl (began_one seen plan lines tells asked answered (counted old) new faults awaited
-        (stays_serving seen plan lines tells asked answered awaited old (counted old) (same_counted old) is) k number one stirs begun is_call sound.0 step.names step.numbers step.told step.did.3))))
+      subst (λ (l : List Answered). Known seen plan lines tells (asked ++ record { session = k; call = one } ∷ []) l left new) (sym (append-nil answered))
+      (subst (λ (l : List Awaited). Known seen plan lines tells (asked ++ record { session = k; call = one } ∷ []) answered l new) (sym left_is)
+      (inl (began_one seen plan lines tells asked answered (counted old) new faults awaited
+      (stays_serving seen plan lines tells asked answered awaited old (counted old) (same_counted old) is) k number one stirs begun is_call sound.0 step.names step.numbers step.told step.did.3))))
       (λ down. never_up old down.0 step.did.1)
       known
   one_step (Refused k one) asked answered awaited left old new sound (begun, result, is_call, refusal, step, left_is) known =
       as_it_was asked answered awaited left old new left_is (refused_alike seen plan lines tells asked answered (counted old) new faults result begun refusal step.did) known
   one_step (Fell k one) asked answered awaited left old new sound (begun, result, is_call, fall, step, left_is) known = ⊎_elim
       (λ is.
-        let fell = fell_in seen faults plan lines tells asked answered awaited (counted old) new (stays_serving seen plan lines tells asked answered awaited old (counted old) (same_counted old) is) k step.told
-          result begun one is_call step.names step.numbers fall step.did in
-        inr (fell.1, subst (λ (l : List Answered). HasServed plan lines tells (seen (disk_of new)) (asked ++ record { session = k; call = one } ∷ []) l (book_of new)) (sym (append-nil answered)) fell.0))
+      let fell = fell_in seen faults plan lines tells asked answered awaited (counted old) new (stays_serving seen plan lines tells asked answered awaited old (counted old) (same_counted old) is) k step.told
+      result begun one is_call step.names step.numbers fall step.did in
+      inr (fell.1, subst (λ (l : List Answered). HasServed plan lines tells (seen (disk_of new)) (asked ++ record { session = k; call = one } ∷ []) l (book_of new)) (sym (append-nil answered)) fell.0))
       (λ down. never_up old down.0 (up_before result begun fall step.did))
       known
     where
@@ -253,10 +268,10 @@ module _ {D : Type 0} (seen : D → Option (List ℕ)) (faults : D → ℕ) (pla
       up_before (Err Worn) begun fall did = absurd fall
   one_step (Answers k one number given) asked answered awaited left old new sound (own, before, behind, given_is, split, left_is, step) known = ⊎_elim
       (λ is.
-        subst (λ (l : List Asked). Known seen plan lines tells l (answered ++ record { session = k; call = one; answer = given } ∷ []) left new) (sym (append-nil asked))
-        (subst (λ (l : List Awaited). Known seen plan lines tells asked (answered ++ record { session = k; call = one; answer = given } ∷ []) l new) (sym left_is)
-        (inl (answered_one seen plan lines tells asked answered (counted old) new awaited
-        (stays_serving seen plan lines tells asked answered awaited old (counted old) (same_counted old) is) k number one given own before behind given_is split step.did.1))))
+      subst (λ (l : List Asked). Known seen plan lines tells l (answered ++ record { session = k; call = one; answer = given } ∷ []) left new) (sym (append-nil asked))
+      (subst (λ (l : List Awaited). Known seen plan lines tells asked (answered ++ record { session = k; call = one; answer = given } ∷ []) l new) (sym left_is)
+      (inl (answered_one seen plan lines tells asked answered (counted old) new awaited
+      (stays_serving seen plan lines tells asked answered awaited old (counted old) (same_counted old) is) k number one given own before behind given_is split step.did.1))))
       (λ down. never_up old down.0 step.did.0)
       known
   one_step (Unanswered k number) asked answered awaited left old new sound (fault, step, left_is) known =
@@ -394,10 +409,10 @@ module _ {D : Type 0} (seen : D → Option (List ℕ)) (faults : D → ℕ) wher
       let tells = is_some (seen (disk_of start)) in
       let own = each_of lines (flat_map asked_in outcomes) sound in
       let has = ⊎_elim
-        (λ (is : IsServing seen plan lines tells (flat_map asked_in outcomes) (flat_map answered_in outcomes) left last).
-          served_so_far seen plan lines tells (flat_map asked_in outcomes) (flat_map answered_in outcomes) left last is)
-        (λ (down : IsFalse (is_up last) × HasServed plan lines tells (seen (disk_of last)) (flat_map asked_in outcomes) (flat_map answered_in outcomes) (book_of last)). down.1)
-        (all_steps seen faults plan lines tells outcomes [] [] [] left start last own makes (inl (at_first plan lines start begins))) in
+      (λ (is : IsServing seen plan lines tells (flat_map asked_in outcomes) (flat_map answered_in outcomes) left last).
+      served_so_far seen plan lines tells (flat_map asked_in outcomes) (flat_map answered_in outcomes) left last is)
+      (λ (down : IsFalse (is_up last) × HasServed plan lines tells (seen (disk_of last)) (flat_map asked_in outcomes) (flat_map answered_in outcomes) (book_of last)). down.1)
+      (all_steps seen faults plan lines tells outcomes [] [] [] left start last own makes (inl (at_first plan lines start begins))) in
       (has.node.records, owes_served plan lines tells entries (seen (disk_of last)) (flat_map asked_in outcomes) (flat_map answered_in outcomes) (book_of last) one sure own has)
 
   -- as many steps were counted

@@ -1,22 +1,18 @@
 -- What holds of a world of one node while it is up, by what it was asked and what it answered.
-use Rattle.std.proofs.Common.{◌≡◌, ◌⊎◌, inl, inr, ⊎_elim, ℕ, Bool, List, [], ◌∷◌, ◌++◌, map, flat_map, Option, Some, None, IfSome, is_some, refl, sym, ap, ◌∙◌, subst, append_assoc, append-nil, arith}
-use Rattle.std.specs.Prelude.{⊤, All, IsTrue, IsFalse}
-use Rattle.std.proofs.lemmas.List.{map-append}
-use Rattle.std.proofs.lemmas.List.Concat.{flat_map-append}
+use Rattle.std.proofs.Common.{◌≡◌, inl, inr, ⊎_elim, ℕ, Bool, List, [], ◌∷◌, ◌++◌, map, flat_map, Option, Some, None, IfSome, is_some, refl, sym, ap, ◌∙◌, subst}
+use Rattle.std.specs.Prelude.{All, IsTrue}
 use Rattle.mail_model.specs.Plan.{Plan}
-use Rattle.mail_model.specs.Record.{Record, payloads_of}
+use Rattle.mail_model.specs.Record.{Record}
 use Rattle.mail_model.specs.Grammar.{IsRecord}
 use Rattle.mail_model.specs.Stored.{Ack, HaveOtherIds}
 use Rattle.mail_model.specs.Book.{BookEntry}
 use Rattle.mail_model.specs.Site.{HoldsRecords}
-use Rattle.session_model.specs.Calls.{Call, Answer}
 use Rattle.session_model.specs.Logs.{Asked, Answered}
 use Rattle.session_model.specs.Alone.{AreByOne}
 use Rattle.session_model.specs.Books.{AmongAnswers, IsBookOf, acks_by}
-use Rattle.session_model.specs.OneNode.{Node, Served, Serves, ServesAll, first_node, asked_of, told_of, answered_of}
-use Rattle.cluster_world.specs.Journal.{EndsAt}
+use Rattle.session_model.specs.OneNode.{Node, Served, Serves, ServesAll, first_node, asked_of, answered_of}
 use Rattle.cluster_world.specs.Appends.{RecordsStand}
-use Rattle.cluster_world.specs.World.{plan_of, is_up, drawn_of, stamps_of, tickets_of, disk_of, gate_of, book_of, standing_of, kept_of, Fits, WorldHolds}
+use Rattle.cluster_world.specs.World.{plan_of, is_up, drawn_of, stamps_of, tickets_of, disk_of, gate_of, book_of, standing_of, Fits, WorldHolds}
 use Rattle.cluster_world.specs.Outcomes.{Awaited}
 use Rattle.cluster_world.specs.declared.world.World.{World}
 use Rattle.cluster_world.proofs.Others.{AreBelow, have_front}

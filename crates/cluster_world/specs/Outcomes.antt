@@ -1,20 +1,20 @@
 -- The steps that sessions lead to in a world of one node, one after another, and what came of each. Of them what a cluster owes is read off: what it was
 -- asked, and what it answered.
-use Rattle.std.specs.Prelude.{◌≡◌, ℕ, ◌-◌, ◌^◌, ◌<◌, min, length, All, List, [], ◌∷◌, ◌++◌, map, flat_map, ⊤, is_some, Option, Some, None, Result, Ok, Err}
+use Rattle.std.specs.Prelude.{◌≡◌, ℕ, ◌-◌, ◌^◌, ◌<◌, min, length, All, List, [], ◌∷◌, ◌++◌, flat_map, ⊤, is_some, Option, Some, None, Result, Ok, Err}
 use Rattle.mail_model.specs.Names.{IsLowerName}
 use Rattle.mail_model.specs.Grammar.{IsId}
 use Rattle.mail_model.specs.Plan.{Plan}
 use Rattle.mail_model.specs.Transcript.{Entry}
 use Rattle.mail_model.specs.Record.{Record}
 use Rattle.mail_model.specs.Listing.{octets_in}
-use Rattle.session_model.specs.Calls.{Call, Answer}
+use Rattle.session_model.specs.Calls.{Call, Answer, IsAnswerTo}
 use Rattle.session_model.specs.Logs.{Asked, Answered}
 use Rattle.session_model.specs.Run.{Made}
 use Rattle.session_model.specs.Owes.{Owes}
 use Rattle.session_model.specs.Books.{Among}
 use Rattle.session_model.specs.OneNode.{IsSoundMail, IsTaken}
 use Rattle.cluster_world.specs.Journal.{IsToldAlike}
-use Rattle.cluster_world.specs.World.{drawn_of, stamps_of, disk_of, book_of, steps_of, counted, one_more, Begins}
+use Rattle.cluster_world.specs.World.{plan_of, drawn_of, stamps_of, standing_of, disk_of, book_of, steps_of, counted, one_more, Begins}
 use Rattle.call_tickets.specs.Seen.{call_seen, answer_seen, ids_in}
 use Rattle.cluster_world.specs.Steps.{Stepped, nth_ticket}
 use Rattle.cluster_world.specs.declared.world.World.{World}
@@ -28,7 +28,7 @@ use Rattle.cluster_world.specs.declared.step.Said.{Said}
 use Rattle.cluster_world.specs.declared.step.Said.TheVariants.{Begun, Noted, Faulted}
 use Rattle.cluster_world.specs.declared.step.Said.TheVariants as said
 use Rattle.cluster_world.specs.declared.step.StepFault.{StepFault}
-use Rattle.cluster_world.specs.declared.step.StepFault.TheVariants.{NoSuchNode, NodeDown, NoSuchTicket, Worn, NoMemory}
+use Rattle.cluster_world.specs.declared.step.StepFault.TheVariants.{NoMemory}
 
 -- the call of the world is the user's leave
 abbrev pub IsLeave : List ℕ → WorldCall → Type 0
@@ -130,6 +130,23 @@ abbrev pub Makes : {D : Type 0} → (D → Option (List ℕ)) → (D → ℕ) �
 Makes seen faults [] awaited old left new = (left ≡ awaited) × (new ≡ old)
 Makes {D} seen faults (outcome ∷ more) awaited old left new =
     (between : List Awaited) × (mid : World D) × Came seen faults outcome awaited old between mid × Makes seen faults more between mid left new
+
+-- a call that was asked for at once is answered by an answer of its kind, and none is then in progress; or memory ran out
+abbrev pub AtOnce : {D : Type 0} → Result Said StepFault → Call → World D → Type 0
+AtOnce (Ok (said.Asked (Done given))) asked new = IsAnswerTo asked (answer_seen given) × (standing_of new ≡ [])
+AtOnce (Err (NoMemory None)) asked new = ⊤
+AtOnce result asked new = ⊥
+
+-- A call that is asked for at once, where no other is in progress, is answered so.
+abbrev pub AskedAtOnce : {D : Type 0} → (D → Option (List ℕ)) → (D → ℕ) → Type 0
+AskedAtOnce {D} seen faults = (begun : WorldCall) (asked : Call) (number stirs : ℕ) (result : Result Said StepFault) (old mid new : World D)
+    → (plan_of old).nodes ≡ 1 → standing_of old ≡ [] → call_seen begun ≡ Some asked → IsStep seen faults (Ok (Begun (nth_ticket number) stirs)) (Begin 1 begun) old mid
+    → IsStep seen faults result (Ask (nth_ticket number)) mid new → AtOnce result asked new
+
+-- Steps and one more are steps.
+abbrev pub MakesMore : {D : Type 0} → (D → Option (List ℕ)) → (D → ℕ) → Type 0
+MakesMore {D} seen faults = (outcomes : List Outcome) (outcome : Outcome) (awaited between left : List Awaited) (old mid new : World D)
+    → Makes seen faults outcomes awaited old between mid → Came seen faults outcome between mid left new → Makes seen faults (outcomes ++ outcome ∷ []) awaited old left new
 
 -- each call is one that a session of node 1 makes
 abbrev pub AreOfSessions : List (List ℕ) → List Asked → Type 0

@@ -8,7 +8,6 @@ use Rattle.mail_model.specs.Record.{Record}
 use Rattle.mail_model.specs.Book.{BookEntry}
 use Rattle.mail_model.specs.Book.BookEntry.{Acknowledged, WentDown}
 use Rattle.mail_model.specs.Identity.{Id}
-use Rattle.mail_model.specs.Plan.{Plan}
 use Rattle.mail_model.specs.Site.{message_records, gone_records, drawn_through, struck_entries, dropped_entries, nth_id, nth_stamp}
 use Rattle.mail_base.specs.Delivers.{mail_in}
 use Rattle.call_tickets.specs.Seen.{ids_in}

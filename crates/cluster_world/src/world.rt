@@ -19,7 +19,7 @@ use crate::emptied::{Emptied, take_only};
 use crate::index::Index;
 use crate::journal::{Journal, JournalFault};
 use crate::record::boot_payload;
-use crate::spelling::has_names;
+use crate::spelling::{has_names, is_within};
 use crate::step::{Filing, Pending, Said, Standing, Step, StepFault};
 use call_tickets::{Answer, Ask, Call};
 use io_edge::Disk;
@@ -194,11 +194,7 @@ pub struct World<D> {
 impl<D: Disk> World<D> {
     /// A new world of the plan's one node, on the one disk, which is empty: a journal with the record of the node's
     /// first boot. It costs six disk calls. A refusal hands the disks back.
-    pub fn open(
-        alloc: Global,
-        plan: Plan,
-        disks: Vec<D>,
-    ) -> Result<World<D>, (OpenFault, Vec<D>)>
+    pub fn open(alloc: Global, plan: Plan, disks: Vec<D>) -> Result<World<D>, (OpenFault, Vec<D>)>
         requires one { vec_len disks ≡ 1 }
         requires empty { (disk : D) → disks.items ≡ disk ∷ [] → IfSome (D.seen disk) (λ held. held ≡ []) }
         ensures opened { (disk : D) → disks.items ≡ disk ∷ [] → IfOk result (λ world. Opened D.seen D.faults D.settled plan disk world) }
@@ -425,6 +421,9 @@ impl<D: Disk> World<D> {
     {
         self.count();
         has_names(&step);
-        self.make_step(alloc, step)
+        let said = self.make_step(alloc, step);
+        is_within(self.drawn);
+        is_within(self.stamps);
+        said
     }
 }

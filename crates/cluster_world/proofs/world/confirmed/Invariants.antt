@@ -1,4 +1,4 @@
-use Rattle.std.proofs.Common.{◌≡◌, ℕ, map, take}
+use Rattle.std.proofs.Common.{◌≡◌, map, take}
 use Rattle.mail_model.specs.Identity.{Id}
 use Rattle.cluster_world.proofs.world.confirmed.Given as goal
 
