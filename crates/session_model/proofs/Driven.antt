@@ -182,7 +182,7 @@ last_of plan old new (act ∷ other ∷ acts) [] says (mid, acted, done) = absur
 last_of plan old new [] [] says done = absurd done
 last_of plan old new [] (entries ∷ before) says done = absurd done
 
-whole_shows : (plan : Plan) (lines : List (List ℕ)) (acts : List Act) (outputs : List (List Entry)) (last : List Session) → ActedAll plan [] acts outputs last → AreActsOf lines acts
+pub whole_shows : (plan : Plan) (lines : List (List ℕ)) (acts : List Act) (outputs : List (List Entry)) (last : List Session) → ActedAll plan [] acts outputs last → AreActsOf lines acts
     → Shows plan lines (all_of outputs) acts last
 whole_shows plan lines acts outputs last done acts_of = record {
   are = record {

@@ -4,7 +4,7 @@ ghost use Rattle.session_model.specs.Moves.{Begins, IsFed, HearsNext, IsAnswered
 ghost use Rattle.session_model.specs.Mailing.{StoredAsTold, AsksAsTold};
 ghost use Rattle.session_model.specs.Reading.{StrikesAtQuit, QuitStrikes};
 ghost use Rattle.session_model.specs.Showing.{ShownAsListed};
-ghost use Rattle.session_model.specs.Runs.{ActsAreShown, DrivenIsShown};
+ghost use Rattle.session_model.specs.Runs.{ActsAreShown, DrivenIsShown, DrivenWritesLines, DrivenAnswersUnits};
 ghost use Rattle.session_model.specs.Owes.{OwedDeletionsAreTrue, OwedPartsAreTrue};
 ghost use Rattle.session_model.specs.Kept.{OwedIsKept};
 ghost use Rattle.session_model.specs.Alone.{OneNodePromises};
@@ -133,4 +133,14 @@ pub fn one_node_promises()
 /// Each answer of a call's kind has a reply, whatever octets it carries.
 pub fn each_answer_has_reply()
     ensures { EachAnswerHasReply }
+{}
+
+/// However a tape is driven, each entry of its transcript is one line.
+pub fn driven_writes_lines()
+    ensures { DrivenWritesLines }
+{}
+
+/// Behind a line each unit that a session has reached has its reply.
+pub fn driven_answers_units()
+    ensures { DrivenAnswersUnits }
 {}
