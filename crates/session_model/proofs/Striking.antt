@@ -26,7 +26,7 @@ use Rattle.session_model.specs.Talk.Standing.{Hearing}
 use Rattle.session_model.specs.Reading.{Each, ListsOnce, all_seen, IsQuitUnit, QuitsMarked, StrikesAtQuit, QuitStrikes}
 use Rattle.mail_model.specs.Tape.Protocol.{Pop}
 use Rattle.session_model.proofs.Chains.{At, goes_at, along}
-use Rattle.session_model.proofs.Marking.{IsAsSeen, login_as, step_seen}
+use Rattle.session_model.proofs.Marking.{IsAsSeen, step_seen}
 
 -- what each has, each of a front has
 pub each_front : (P : Exchange → Type 0) (front behind : List Exchange) → Each P (front ++ behind) → Each P front
@@ -93,7 +93,7 @@ module _ (plan : Plan) (node : ℕ) (octets : List ℕ) (been behind_it : List E
   no_strike named line user ids (AsksDeletion other) leads led call = absurd leads
 
   -- behind it QUIT asks for it
-  strike_is : (name line user : List ℕ) (slots : List Slot) (ids : List Id) → one.unit ≡ Line line → Known slots (Some (login_as name)) (all_seen been)
+  strike_is : (name line user : List ℕ) (slots : List Slot) (ids : List Id) → one.unit ≡ Line line → Known slots name (all_seen been)
       → (outcome : Outcome) → line_outcome plan (Transaction slots) line ≡ outcome → LeadsBehind slots line outcome → IsLed (line_lead name outcome) one
       → one.call ≡ Some (Strike user ids) → Goes plan node (stands plan (Reading name slots) one (line_lead name outcome)) at.left behind_it last rest
       → (behind_it ≡ []) × QuitsMarked been one user ids
@@ -104,13 +104,11 @@ module _ (plan : Plan) (node : ℕ) (octets : List ℕ) (been behind_it : List E
   strike_is name line user slots ids unit known (AsksDeletion all) is leads led call g =
       let both : Some (Strike name all) ≡ Some (Strike user ids) = sym led.0 ∙ call in
       let users : name ≡ user = cc in
-      let same : all ≡ ids = cc in
-      let logins : Some (login_as name) ≡ Some known.entered = known.is in
-      let login : login_as name ≡ known.entered = cc in (
+      let same : all ≡ ids = cc in (
         strike_last plan node (heard plan (Reading name slots) one.unit []) name all one.answer at.left behind_it last rest g,
         record {
           quit = record { line = line; is = unit; short = leads.1.0; quits = leads.1.1 };
-          enters = subst (Enters (all_seen been)) (ap (λ l. l.user) (sym login) ∙ users) known.enters;
+          enters = subst (Enters (all_seen been)) users known.enters;
           marks = marks_from 1 slots;
           are = are_marks (all_seen been) slots known.agree;
           ids_are = ids_from 1 slots ∙ sym leads.0 ∙ same;
