@@ -60,7 +60,7 @@ module _ (sessions : List Session) where
   pushed_other new (suc m) other =
       by_number (sessions ++ new ∷ []) m ∙ get_push_other sessions new m (λ e. other (omega (arith, e))) ∙ sym (by_number sessions m)
 
-  -- behind the last there is none
+  -- after the last there is none
   pub none_behind : session_at sessions (length sessions + 1) ≡ None
   none_behind =
       let e : length sessions + 1 ≡ suc (length sessions) = omega arith in
@@ -133,7 +133,7 @@ spoken_so plan octets octets_now lines lines_now session now o l s spoken =
 abbrev pub kind_of : Session → Protocol × ℕ
 kind_of session = (session.protocol, session.node)
 
--- all sessions behind these acts
+-- all sessions after these acts
 pub record Kept (plan : Plan) (acts : List Act) (entries : List Entry) (sessions : List Session) : Type 0 where
   pub kinds : flat_map opened_by acts ≡ map kind_of sessions
   pub each : (k : ℕ) → Spoken plan (flat_map (fed_by k) acts) (lines_to k entries) (session_at sessions k)

@@ -72,7 +72,7 @@ line_at_1 plan down old new line acts outputs turn one begun =
     by_order (Close k) accepted = All-nil (λ (kind : Protocol × ℕ). kind.1 ≡ 1)
     by_order End accepted = All-nil (λ (kind : Protocol × ℕ). kind.1 ≡ 1)
 
--- and of others behind it
+-- and of others after it
 both_at_1 : (lines more : List (List ℕ)) → All (λ (kind : Protocol × ℕ). kind.1 ≡ 1) (opened lines) → All (λ (kind : Protocol × ℕ). kind.1 ≡ 1) (opened more)
     → All (λ (kind : Protocol × ℕ). kind.1 ≡ 1) (opened (lines ++ more))
 both_at_1 lines more first later =

@@ -20,7 +20,7 @@ use Rattle.session_model.specs.Talk.Lead.{Says, Ends, Asks}
 use Rattle.session_model.specs.Talk.Standing.{Hearing, Waiting, EndedByQuit, EndedDown, EndedClosed}
 use Rattle.session_model.proofs.Chains.{goes_at, through}
 
--- a front of a chain is one
+-- a prefix of a chain is one
 pub goes_front : (plan : Plan) (node : ℕ) (first : Standing) (octets : List ℕ) (xs ys : List Exchange) (last : Standing) (rest : List ℕ)
     → Goes plan node first octets (xs ++ ys) last rest
     → (mid : Standing) × (left : List ℕ) × Goes plan node first octets xs mid left × Goes plan node mid left ys last rest

@@ -35,7 +35,7 @@ record IsQuiet (act : Act) : Type 0 where
   pub feeds : (k : ℕ) → fed_by k act ≡ []
   pub greeted : IsGreeted act
 
--- each act behind the first of a line is quiet
+-- each act after the first of a line is quiet
 next_quiet : (turn next : Turn) (sessions : List Session) (act : Act) → Next turn sessions act next → IsQuiet act
 next_quiet turn next sessions (Does k (Hears one)) is = record { opens = refl; feeds = λ k. refl; greeted = tt }
 next_quiet turn next sessions (Does k (IsAnswered call answer reply)) is = record { opens = refl; feeds = λ k. refl; greeted = tt }
@@ -121,7 +121,7 @@ begun_made plan down old new line acts outputs turn begun =
       };
     }))
 
--- acts, and others behind them
+-- acts, and others after them
 acted_both : (plan : Plan) (old mid new : List Session) (acts more : List Act) (outputs others : List (List Entry)) → ActedAll plan old acts outputs mid → ActedAll plan mid more others new
     → ActedAll plan old (acts ++ more) (outputs ++ others) new
 acted_both plan old mid new [] more [] others done later = subst (λ (s : List Session). ActedAll plan s more others new) done later
@@ -215,7 +215,7 @@ pub record WroteAll (plan : Plan) (acts : List Act) (entries : List Entry) (last
   pub done : ActedAll plan [] acts outputs last
   pub written : entries ≡ all_of outputs
 
--- Or a front of what the last act writes.
+-- Or a prefix of what the last act writes.
 pub record WrotePart (plan : Plan) (acts : List Act) (entries : List Entry) (last : List Session) : Type 0 where
   pub before : List (List Entry)
   pub says : List Entry
@@ -225,7 +225,7 @@ pub record WrotePart (plan : Plan) (acts : List Act) (entries : List Entry) (las
   pub cut : says ≡ front ++ missing
   pub written : entries ≡ all_of before ++ front
 
--- behind a line it is all
+-- after a line it is all
 abbrev pub Wrote : Plan → Stop → List Act → List Entry → List Session → Type 0
 Wrote plan BehindLine acts entries last = WroteAll plan acts entries last
 Wrote plan stop acts entries last = WroteAll plan acts entries last ⊎ WrotePart plan acts entries last
@@ -247,7 +247,7 @@ pub record IsWritten (plan : Plan) (stop : Stop) (lines : List (List ℕ)) (acts
   pub greeted : All IsGreeted acts
   pub wrote : Wrote plan stop acts entries last
 
--- Lines that were handled, and behind them none, or one that was left off.
+-- Lines that were handled, and after them none, or one that was left off.
 module _ (plan : Plan) (stop : Stop) (down : List ℕ) (lines : List (List ℕ)) (mid last : List Session) (acts : List Act) (outputs : List (List Entry))
     (made : AreMade plan [] lines acts outputs mid) where
   off_written : (left : List (List ℕ)) (others : List (List Act)) (tail : List Entry) (extra : List Made) → IsLeftOff plan down stop mid left others tail extra last

@@ -240,7 +240,7 @@ module _ (plan : Plan) (acts : List Act) (entries : List Entry) (old : List Sess
           (λ other. subst (λ (e : List Entry). Greeted (lines_to k e)) (sym says) (subst Greeted (sym (does_other j k said deed behind.standing other)) tt))
           (cases_eq k j)
 
--- What is so behind acts of which all was written.
+-- What is so after acts of which all was written.
 pub record IsInOrder (plan : Plan) (kinds : List (Protocol × ℕ)) (acts : List Act) (entries : List Entry) (sessions : List Session) : Type 0 where
   pub kept : Kept plan acts entries sessions
   pub lines_of : map (λ (ack : Ack). ack.session) (acks_in acts) ≡ stored_sessions kinds entries

@@ -132,7 +132,7 @@ greeting_none (line ∷ lines) is = by_test (pointwise nat_eq line stored_text) 
     by_test false e = omega arith
     by_test true e = cc
 
--- fronts of one list that are of one length
+-- prefixes of one list that are of one length
 same_front : {X : Type 0} (a b c d : List X) → a ++ b ≡ c ++ d → length a ≡ length c → a ≡ c
 same_front [] b [] d same long = refl
 same_front [] b (y ∷ c) d same long = absurd (omega (arith, long))
@@ -151,7 +151,7 @@ mails_both k (ack ∷ acks) more = by_test (nat_eq ack.session k) (mails_both k 
     by_test true same = ap (λ (l : List Mail). ack.mail ∷ l) same
     by_test false same = same
 
--- a front of messages that stand, each under an id of its own
+-- a prefix of messages that stand, each under an id of its own
 other_front : (id : Id) (acks more : List Ack) → IsOther id (acks ++ more) → IsOther id acks
 other_front id [] more is = tt
 other_front id (ack ∷ acks) more is = (is.0, other_front id acks more is.1)

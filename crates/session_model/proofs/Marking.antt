@@ -98,7 +98,7 @@ module _ (plan : Plan) (node : ℕ) (named : Option (List ℕ)) (been : List Exc
   outcome_seen (AsksMessage number id) leads led state e = absurd leads
   outcome_seen (AsksDeletion ids) leads led state e = absurd leads
 
--- a session behind its login
+-- a session after its login
 module _ (plan : Plan) (node : ℕ) (user : List ℕ) (slots : List Slot) (been : List Exchange) (known : Known slots user (all_seen been))
     (line : List ℕ) (one : Exchange) (is : one.unit ≡ Line line) where
   -- a reply that shows and marks what the line does
@@ -125,7 +125,7 @@ module _ (plan : Plan) (node : ℕ) (user : List ℕ) (slots : List Slot) (been 
       (tells_reading (one_line later_text) says (unmarked_tells slots line (one_line later_text) (ap dele_number retr) (later_quiet line)))
   fetch_seen number id retr (Some answer) says state e = absurd says
 
-  -- behind a deletion it hears nothing
+  -- after a deletion it hears nothing
   strike_over : (ids : List Id) (answer : Option Answer) (state : State) → asked (Reading user (deleted_in slots line)) (Strike user ids) answer ≡ Hearing state → ⊥
   strike_over ids None state e = cc
   strike_over ids (Some answer) state e = cc

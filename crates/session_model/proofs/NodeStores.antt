@@ -15,7 +15,7 @@ use Rattle.session_model.specs.Books.{acks_by}
 use Rattle.session_model.specs.OneNode.{Node, Served, LeavesSome, Serves, ServesAll, IsTaken, AreTaken, OneNodeStores, first_node, told_of, answered_of}
 use Rattle.std.proofs.lemmas.List.Concat.{flat_map-append}
 
--- what holds of the node behind the answers that it gave
+-- what holds of the node after the answers that it gave
 record Keeps (kinds : List (Protocol × ℕ)) (node : Node) (acks : List Ack) : Type 0 where
   pub ours : AreOurs node.drawn node.records
   pub stand : AcksStand 0 node.drawn kinds node.records acks
@@ -44,7 +44,7 @@ quiet_keeps kinds old new acks added keeps none drawn records =
 same_keeps : (kinds : List (Protocol × ℕ)) (old new : Node) (acks : List Ack) → Keeps kinds old acks → new ≡ old → Keeps kinds new (acks ++ [])
 same_keeps kinds old new acks keeps is = subst (λ (n : Node). Keeps kinds n (acks ++ [])) (sym is) (subst (Keeps kinds old) (sym (append-nil acks)) keeps)
 
--- Gone states, or a front of them
+-- Gone states, or a prefix of them
 strike_keeps : (kinds : List (Protocol × ℕ)) (old new : Node) (acks : List Ack) (user : List ℕ) (ids : List Id) (added missing : List Record) → Keeps kinds old acks
     → gone_records user old.stamps ids ≡ added ++ missing → new.drawn ≡ drawn_through old.drawn ids → new.records ≡ old.records ++ added → Keeps kinds new (acks ++ [])
 strike_keeps kinds old new acks user ids added missing keeps whole drawn records =

@@ -35,7 +35,7 @@ use Rattle.session_model.specs.OneNode.{Node, Served, Serves, ServesAll, LeavesS
 abbrev struck_in : List Served → List (List ℕ × Id)
 struck_in served = flat_map (λ one. struck_by one.call) served
 
--- what holds of the node behind these calls
+-- what holds of the node after these calls
 record Sound (node : Node) (struck : List (List ℕ × Id)) : Type 0 where
   pub here : HeresDrawn node.drawn node.records
   pub closed : AreClosed node.records
@@ -66,7 +66,7 @@ nothing_told tells records (Strike user ids) = tt
 
 -- one call
 
--- a front of records that end in CRLF
+-- a prefix of records that end in CRLF
 closed_front : (records more : List Record) → AreClosed (records ++ more) → AreClosed records
 closed_front [] more all = tt
 closed_front (Boot boot ∷ records) more all = closed_front records more all
@@ -103,7 +103,7 @@ adds_sound old new call added struck sound adds = record {
       (gone_either (Message user id) old.records added (subst (SaysGone (Message user id)) adds.grows is));
 }
 
--- a message, or a front of it
+-- a message, or a prefix of it
 message_adds : (old new : Node) (call : Call) (octets : List ℕ) (added missing : List Record) → (mail : _) → call ≡ Deliver mail → IsSoundMail call → IsStored mail (nth_id (old.drawn + 1)) 0 octets
     → message_records (nth_id (old.drawn + 1)) (nth_stamp (old.stamps + 1)) octets mail.mailboxes ≡ added ++ missing
     → new.records ≡ old.records ++ added → new.drawn ≡ old.drawn + 1 → Adds old new call added
@@ -120,7 +120,7 @@ message_adds old new call octets added missing mail is sound stored whole grows 
           (subst (SaysGone (Message user id)) (sym whole) (gone_front (Message user id) added missing gone)));
     }
 
--- Gone states, or a front of them
+-- Gone states, or a prefix of them
 strike_adds : (old new : Node) (user : List ℕ) (ids : List Id) (added missing : List Record) → gone_records user old.stamps ids ≡ added ++ missing → new.records ≡ old.records ++ added
     → new.drawn ≡ drawn_through old.drawn ids → Adds old new (Strike user ids) added
 strike_adds old new user ids added missing whole grows drawn = record {

@@ -1,4 +1,4 @@
--- Behind each line every session rests: it waits, has ended, or has no whole unit left.
+-- After each line every session rests: it waits, has ended, or has no whole unit left.
 use Rattle.std.proofs.Common.{◌≡◌, ◌≢◌, ◌⊎◌, inl, inr, ⊎_elim, ◌+◌, ℕ, zero, suc, List, [], ◌∷◌, ◌++◌, length, flat_map, Option, Some, None, refl, sym, ap, ◌∙◌, subst}
 use Rattle.std.proofs.lemmas.Option.{none-some}
 use Rattle.std.proofs.lemmas.Bool.{cases_eq}
@@ -179,7 +179,7 @@ none_rest : (j : ℕ) → IsAtRest (session_at [] j)
 none_rest zero = tt
 none_rest (suc n) = subst IsAtRest (sym (by_number [] n)) tt
 
--- the work stopped behind a line
+-- the work stopped after a line
 behind_rest : (plan : Plan) (down : List ℕ) (old new : List Session) (left : List (List ℕ)) (by_line : List (List Act)) (tail : List Entry) (extra : List Made)
     → IsLeftOff plan down BehindLine old left by_line tail extra new → ((j : ℕ) → IsAtRest (session_at old j)) → (j : ℕ) → IsAtRest (session_at new j)
 behind_rest plan down old new [] [] tail extra (none, no_step, is, whole) rest = λ j. subst (λ (l : List Session). IsAtRest (session_at l j)) (sym is) (rest j)

@@ -15,7 +15,7 @@ use Rattle.mail_model.specs.Told.{Answers, told_from}
 use Rattle.session_model.proofs.Mailing.{lines_both, stored_as_told}
 use Rattle.session_model.proofs.Cuts.{IsShort, goes_front, of_mail}
 
--- a front of lines of which none is `250 stored`
+-- a prefix of lines of which none is `250 stored`
 front_lines : (part missing lines : List (List ℕ)) → lines ≡ part ++ missing → stored_lines lines ≡ 0 → stored_lines part ≡ 0
 front_lines part missing lines cut none = let both = lines_both part missing in omega (arith, both, none, ap stored_lines cut)
 

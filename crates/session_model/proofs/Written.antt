@@ -30,7 +30,7 @@ one_more entry entries one more = All-cons HasNoLf (entry_line entry) (map entry
 both : (entries more : List Entry) → AreLines entries → AreLines more → AreLines (entries ++ more)
 both entries more first later = subst (All HasNoLf) (sym (map-append entry_line entries more)) (All-append HasNoLf (map entry_line entries) (map entry_line more) first later)
 
--- a front of them
+-- a prefix of them
 front_of : (entries more : List Entry) → AreLines (entries ++ more) → AreLines entries
 front_of [] more all = no_lines
 front_of (entry ∷ entries) more all =

@@ -65,12 +65,12 @@ AreBegun stop asked begun = begun ≡ asked
 abbrev pub AtMostOne : List Ack → Type 0
 AtMostOne acks = (acks ≡ []) ⊎ ((ack : Ack) × (acks ≡ ack ∷ []))
 
--- behind a line all was written
+-- after a line all was written
 abbrev pub MayBeUnwritten : Stop → List Ack → Type 0
 MayBeUnwritten BehindLine unwritten = unwritten ≡ []
 MayBeUnwritten stop unwritten = AtMostOne unwritten
 
--- The copies of the book are those of the messages that were answered `250 stored`, in the order of these lines, and behind them those of one message at most whose
+-- The copies of the book are those of the messages that were answered `250 stored`, in the order of these lines, and after them those of one message at most whose
 -- line was not written; each is confirmed by as many nodes as the plan asks for.
 pub record AcknowledgedAsTold (plan : Plan) (stop : Stop) (lines : List (List ℕ)) (sessions : List Session) (acks unwritten : List Ack) (book : List BookEntry) : Type 0 where
   pub may : MayBeUnwritten stop unwritten
@@ -91,7 +91,7 @@ AmongAnswers one [] = ⊥
 AmongAnswers one (other ∷ answered) = (other ≡ one) ⊎ AmongAnswers one answered
 
 -- The copies that the book says were to be deleted are those of the calls for deletions, in the order of these calls. Each of these calls is the QUIT of a client that
--- had marked these messages, and each QUIT behind a mark that was reached is one of them; where memory ran out at the last, it may have none. The copies that it says
+-- had marked these messages, and each QUIT after a mark that was reached is one of them; where memory ran out at the last, it may have none. The copies that it says
 -- are deleted are those of the calls that were answered so, among them each whose client was told `+OK bye`.
 pub record StruckAsMarked (stop : Stop) (entries : List Entry) (sessions : List Session) (asked begun : List Asked) (answered : List Answered) (book : List BookEntry) : Type 0 where
   pub were : AreBegun stop asked begun

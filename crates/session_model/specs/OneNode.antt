@@ -33,7 +33,7 @@ pub record Served : Type 0 where
   pub call : Call
   pub answer : Option Answer
 
--- what a call may write that has no answer, since the disk or memory failed: a front of what it would
+-- what a call may write that has no answer, since the disk or memory failed: a prefix of what it would
 abbrev pub MayLeave : Node → Call → List Record → Type 0
 MayLeave old (Deliver mail) added = (octets : List ℕ) × (missing : List Record) × IsStored mail (nth_id (old.drawn + 1)) 0 octets
     × (message_records (nth_id (old.drawn + 1)) (nth_stamp (old.stamps + 1)) octets mail.mailboxes ≡ added ++ missing)

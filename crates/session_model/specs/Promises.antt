@@ -35,7 +35,7 @@ pub record StoredStands (plan : Plan) (lines : List (List ℕ)) (entries : List 
   pub other_ids : HaveOtherIds acks
   pub stands : EachStands plan lines entries disks acks
 
--- The client of session k said QUIT, as this user, behind exchanges whose replies it got whole, in which it marked the messages of these ids.
+-- The client of session k said QUIT, as this user, after exchanges whose replies it got whole, in which it marked the messages of these ids.
 pub record Deletes (entries : List Entry) (k : ℕ) (session : Session) (user : List ℕ) (ids : List Id) (quit : Exchange) : Type 0 where
   pub before : List Exchange
   pub tail : List (List ℕ)

@@ -33,7 +33,7 @@ abbrev pub DrivenWritesLines : Type 0
 DrivenWritesLines = (plan : Plan) (stop : Stop) (handled left : List (List ℕ)) (acts others : List (List Act)) (made : List Made) (entries : List Entry) (last : List Session)
     → IsDriven plan stop handled left acts others made entries last → All HasNoLf (map entry_line entries)
 
--- Behind a line each unit that a session was fed and has reached has its reply: the client got all replies whole, and the session waits for an answer, has ended, or has
+-- After a line each unit that a session was fed and has reached has its reply: the client got all replies whole, and the session waits for an answer, has ended, or has
 -- no whole unit left.
 abbrev pub DrivenAnswersUnits : Type 0
 DrivenAnswersUnits = (plan : Plan) (handled left : List (List ℕ)) (acts others : List (List Act)) (made : List Made) (entries : List Entry) (last : List Session)

@@ -57,7 +57,7 @@ pub fn strikes_at_quit()
     ensures { StrikesAtQuit }
 {}
 
-/// And each QUIT behind a mark asks for one.
+/// And each QUIT after a mark asks for one.
 pub fn quit_strikes()
     ensures { QuitStrikes }
 {}
@@ -140,7 +140,7 @@ pub fn driven_writes_lines()
     ensures { DrivenWritesLines }
 {}
 
-/// Behind a line each unit that a session has reached has its reply.
+/// After a line each unit that a session has reached has its reply.
 pub fn driven_answers_units()
     ensures { DrivenAnswersUnits }
 {}
