@@ -22,10 +22,10 @@ one_payload records entry payload spelt = ap (λ (l : List ℕ). payloads_of rec
 -- one record that was appended
 pub one_stands : (old new : Option (List ℕ)) (end end' before now : ℕ) (entry : Record) (payload : List ℕ) → payload ≡ payload_of entry
     → ((node : ℕ) (payloads : List (List ℕ)) → Stands old node payloads end → Stands new node (payloads ++ payload ∷ []) end')
-    → HasGate new end' → before ≤ now → end' ≡ end + 5 + length payload → AppendsAll old new end end' before now (entry ∷ [])
-one_stands old new end end' before now entry payload spelt appended gate later grew = record {
+    → HasGate new end' → now ≡ before → end' ≡ end + 5 + length payload → AppendsAll old new end end' before now (entry ∷ [])
+one_stands old new end end' before now entry payload spelt appended gate quiet grew = record {
   grew = omega (arith, grew, length-one-frame entry payload spelt);
-  later = later;
+  quiet = quiet;
   gate = gate;
   stand = λ records stands. subst (λ (l : List (List ℕ)). Stands new 1 l end') (one_payload records entry payload spelt) (appended 1 (payloads_of records) stands);
 }
@@ -74,7 +74,7 @@ one_stops old new end entry payload spelt failed = record {
 -- no record yet
 pub none_yet : (seen : Option (List ℕ)) (end faults : ℕ) → HasGate seen end → AppendsAll seen seen end end faults faults []
 none_yet seen end faults gate = record {
-  later = omega arith;
+  quiet = refl;
   grew = omega arith;
   gate = gate;
   stand = λ records stands. subst (λ (l : List Record). RecordsStand seen l end) (sym (append-nil records)) stands;
@@ -84,7 +84,7 @@ none_yet seen end faults gate = record {
 pub appends_more : (old mid new : Option (List ℕ)) (end end' end'' before between now : ℕ) (first second : List Record)
     → AppendsAll old mid end end' before between first → AppendsAll mid new end' end'' between now second → AppendsAll old new end end'' before now (first ++ second)
 appends_more old mid new end end' end'' before between now first second a b = record {
-  later = omega (arith, a.later, b.later);
+  quiet = b.quiet ∙ a.quiet;
   gate = b.gate;
   grew = omega (arith, a.grew, b.grew, length-frames-append first second);
   stand = λ records stands. subst (λ (l : List Record). RecordsStand new l end'') (append_assoc records first second) (b.stand (records ++ first) (a.stand records stands));
@@ -154,9 +154,9 @@ pub copy_failed : (S T : Type 0) (old mid new : Option (List ℕ)) (end end' end
     → AppendsAll old mid end end' before between (copies_of id stamp (take i users)) → Wrote {T = S} (Err fault) mid new end' end'' between now (copies_of id stamp (user ∷ []))
     → Wrote {T = T} (Err fault) old new end end'' before now (copies_of id stamp users)
 copy_failed S T old mid new end end' end'' before between now id stamp users i user Disk within is front wrote =
-    (stops_in_copies old mid new end end' before between id stamp users i user within is front wrote.0, omega (arith, front.later, wrote.1), rose_later before between now front.later wrote.2)
+    (stops_in_copies old mid new end end' before between id stamp users i user within is front wrote.0, omega (arith, front.quiet, wrote.1), rose_later before between now (omega (arith, front.quiet)) wrote.2)
 copy_failed S T old mid new end end' end'' before between now id stamp users i user NoMemory within is front wrote =
-    (stops_in_copies old mid new end end' before between id stamp users i user within is front wrote.0, omega (arith, front.later, wrote.1))
+    (stops_in_copies old mid new end end' before between id stamp users i user within is front wrote.0, omega (arith, front.quiet, wrote.1))
 
 -- behind its kind and its id, a head has the trace lines
 lines_behind : (seq : ℕ) (lines : List ℕ) → drop 14 (payload_of (Octets (nth_id seq) lines)) ≡ lines
@@ -191,7 +191,7 @@ pub mail_failed : (T : Type 0) (fault : DeliverFault) (old new : Option (List �
 mail_failed T Disk old new end end' before now mail seq head h wrote untouched =
     let octets = trace_lines mail (nth_id seq) h.date ++ mail.text in
     let failed = wrote (Octets (nth_id seq) octets) (ap (λ (l : List ℕ). l ++ mail.text) h.whole) in
-    ((octets, failed.0), failed.1, failed.2)
+    ((octets, record { date = h.date; dated = h.dated; whole = refl }, failed.0), failed.1, failed.2)
 mail_failed T NoMemory old new end end' before now mail seq head h wrote untouched = untouched refl
 
 -- the state of one user more was appended

@@ -58,7 +58,7 @@ module _ {D : Type 0} (seen : D → Option (List ℕ)) (faults : D → ℕ) (use
     stamps = rest.3 ∙ deleted.stamps ∙ ap (λ (n : ℕ). n + length ids) same.stamps;
     tickets = more ∙ ap (λ (n : ℕ). n + 1) number;
     book = book;
-    later = rw (rest.4, ← same.disk) deleted.appends.later;
+    quiet = rw (rest.4, ← same.disk) deleted.appends.quiet;
     gate = rw (rest.4, rest.5) deleted.appends.gate;
     holds = λ records stood_there.
         subst (λ (n : ℕ). RecordsStand (seen (disk_of new)) (records ++ gone_records user n ids) (gate_of new)) same.stamps

@@ -1,5 +1,5 @@
 -- What a node that goes down leaves of its world.
-use Rattle.std.proofs.Common.{◌≡◌, ◌⊎◌, ⊎_elim, ℕ, ◌+◌, ◌≤◌, List, [], ◌∷◌, ◌++◌, length, map, Option, IsFalse, IsTrue, true, false, sym, ap, subst, ◌∙◌}
+use Rattle.std.proofs.Common.{◌≡◌, ◌⊎◌, ⊎_elim, ℕ, ◌+◌, List, [], ◌∷◌, ◌++◌, length, map, Option, IsFalse, IsTrue, true, false, sym, ap, subst, ◌∙◌}
 use Rattle.sha2.specs.Sha256.{sha256}
 use Rattle.mail_model.specs.Mail.{IsStored}
 use Rattle.mail_model.specs.Record.{Record}
@@ -65,7 +65,7 @@ module _ {D : Type 0} (seen : D → Option (List ℕ)) (faults : D → ℕ) (mai
     holds = λ records stands.
         let some = falls.holds records (rw (same.disk, same.gate) stands) in
         let front = rw (same.drawn, same.stamps) at some.front in
-        record { octets = some.octets; front = rw disk front };
+        record { octets = some.octets; stored = rw same.drawn at some.stored; front = rw disk front };
   }
 
   -- a front of the message was filed, and then the node went down
@@ -97,7 +97,7 @@ module _ {D : Type 0} (seen : D → Option (List ℕ)) (faults : D → ℕ) (mai
 
   -- the message was filed, and its ticket stands
   pub takes : (measure : Measure) (ticket : Ticket) → IsReserved old mid → standing_of mid ≡ standing_of old
-      → Files seen mail measure mid filed × (faults (disk_of mid) ≤ faults (disk_of filed))
+      → Files seen mail measure mid filed × (faults (disk_of filed) ≡ faults (disk_of mid))
       → plan_of filed ≡ plan_of mid → tickets_of filed ≡ tickets_of mid → filed.standing ≡ mid.standing → filed.book ≡ mid.book
       → ticket ≡ nth_ticket (tickets_of filed + 1) → tickets_of new ≡ tickets_of filed + 1
       → standing_of new ≡ standing_of filed ++ call_of (nth_ticket (tickets_of filed + 1))
@@ -117,7 +117,7 @@ module _ {D : Type 0} (seen : D → Option (List ℕ)) (faults : D → ℕ) (mai
         stamps = rest.3 ∙ files.stamps ∙ ap (λ (n : ℕ). n + 1) same.stamps;
         tickets = more ∙ ap (λ (n : ℕ). n + 1) number;
         book = ap (λ (b : Book). told_by b) (rest.7 ∙ kept) ∙ ap (λ l. map entry_of l) same.entries;
-        later = rw (rest.4, ← same.disk) both.1;
+        quiet = rw (rest.4, ← same.disk) both.1;
         gate = rw (rest.4, rest.5) files.gate;
         octets = octets;
         stored = subst (λ (n : ℕ). IsStored mail (nth_id (n + 1)) 0 octets) same.drawn files.stored;

@@ -1,5 +1,5 @@
 -- What the answers to a login and a fetch say of the records that are in memory.
-use Rattle.std.proofs.Common.{◌≡◌, ◌⊎◌, inl, inr, ⊎_elim, ℕ, ◌+◌, ◌-◌, ◌≤◌, List, [], ◌∷◌, ◌++◌, IsTrue, IsFalse, map, Option, Some, None, Ok, Err, refl, sym, ap, ◌∙◌, arith}
+use Rattle.std.proofs.Common.{◌≡◌, ◌⊎◌, inl, inr, ⊎_elim, ℕ, ◌+◌, ◌-◌, ◌^◌, ◌<◌, ◌≤◌, List, [], ◌∷◌, ◌++◌, IsTrue, IsFalse, map, Option, Some, None, Ok, Err, refl, sym, ap, ◌∙◌, arith}
 use Rattle.std.specs.Prelude.{min}
 use Rattle.io_edge.specs.Causes.{Rose}
 use Rattle.mail_model.specs.Listing.{size_in}
@@ -25,8 +25,8 @@ use Rattle.cluster_world.specs.declared.index.Kept.{Kept}
 use Rattle.cluster_world.specs.declared.world.World.{World}
 use Rattle.cluster_world.specs.declared.journal.JournalFault.{JournalFault}
 use Rattle.cluster_world.specs.declared.journal.JournalFault.TheVariants.{DiskFault, NotAJournal, TooLarge, NoMemory}
-use Rattle.cluster_world.specs.declared.step.Answer.{Answer}
-use Rattle.cluster_world.specs.declared.step.Answer.TheVariants.{Stored, Listed, Wrong, Part, GoneAlready, Dropped}
+use Rattle.call_tickets.specs.declared.answer.Answer.{Answer}
+use Rattle.call_tickets.specs.declared.answer.Answer.TheVariants.{Listed, Wrong, Part, GoneAlready}
 use Rattle.cluster_world.proofs.Origins.{all_by_node_1, all_stated}
 use Rattle.cluster_world.proofs.Readings.{listed_seen, all_at_node_1, size_at, size_by_place, found_at, length_cut, part_is, told_or_rose}
 
@@ -59,7 +59,6 @@ read_done octets start most place part seen before now at size read = record {
 module _ {D : Type 0} (seen : D → Option (List ℕ)) (old : World D) where
   -- what a login was answered, over the records
   pub finds_login : (answer : Answer) (user : List ℕ) (proof : Proof) (ticket : Ticket) → AnswersLogin answer (plan_of old) user proof ticket (kept_of user old) → FindsLogin answer user proof ticket old
-  finds_login (Stored id confirmers) user proof ticket a = a
   finds_login (Listed login manager asked items) user proof ticket a = (
     a.0,
     record {
@@ -73,16 +72,11 @@ module _ {D : Type 0} (seen : D → Option (List ℕ)) (old : World D) where
     },
   )
   finds_login (Wrong stamp) user proof ticket a = a
-  finds_login (Part octets whole) user proof ticket a = a
-  finds_login GoneAlready user proof ticket a = a
-  finds_login Dropped user proof ticket a = a
+  finds_login answer user proof ticket a = absurd a
 
   -- what a fetch was answered, over the records
   pub finds_part : (answer : Answer) (user : List ℕ) (id : Id) (start most before now : ℕ)
       → AnswersFetch (Ok answer) (kept_of user old) id start most (seen (disk_of old)) before now → FindsPart seen answer user id start most old
-  finds_part (Stored own confirmers) user id start most before now a = a
-  finds_part (Listed login manager asked items) user id start most before now a = a
-  finds_part (Wrong stamp) user id start most before now a = a
   finds_part (Part octets whole) user id start most before now a = λ records fits.
       let place = a.0 in
       let found = found_at user records id (kept_of user old) place (fits.places user) a.1 in
@@ -91,21 +85,19 @@ module _ {D : Type 0} (seen : D → Option (List ℕ)) (old : World D) where
         listed = ap (λ (l : List replies.Item). size_in id l) (sym (fits.lists user)) ∙ size_by_place id (kept_of user old) ∙ ap (λ (o : Option Place). size_at o) a.1 ∙ ap (λ (n : ℕ). Some n) (sym a.2);
         known = found.known;
         size = a.2 ∙ found.lies.size;
+        within = let bound : place.at + place.length < 2 ^ 64 = place.fits in omega (arith, bound, found.lies.size);
         count = a.3.count ∙ ap (λ (n : ℕ). min most (n - start)) found.lies.size ∙ length_cut found.octets start most;
         part = λ stands. part_is (seen (disk_of old)) records (gate_of old) found.octets octets place start most found.lies stands a.3.part;
       }
   finds_part GoneAlready user id start most before now a = λ records fits.
       ap (λ (l : List replies.Item). size_in id l) (sym (fits.lists user)) ∙ size_by_place id (kept_of user old) ∙ ap (λ (o : Option Place). size_at o) a.0
-  finds_part Dropped user id start most before now a = a
+  finds_part answer user id start most before now a = absurd a
 
-  -- the count of faults has not fallen
-  pub fetched_later : (answer : Answer) (row : List Kept) (id : Id) (start most : ℕ) (told : Option (List ℕ)) (before now : ℕ) → AnswersFetch (Ok answer) row id start most told before now → before ≤ now
-  fetched_later (Stored own confirmers) row id start most told before now a = absurd a
-  fetched_later (Listed login manager asked items) row id start most told before now a = absurd a
-  fetched_later (Wrong stamp) row id start most told before now a = absurd a
-  fetched_later (Part octets whole) row id start most told before now a = a.4
-  fetched_later GoneAlready row id start most told before now a = a.1
-  fetched_later Dropped row id start most told before now a = absurd a
+  -- the count of faults is what it was
+  pub fetched_quiet : (answer : Answer) (row : List Kept) (id : Id) (start most : ℕ) (told : Option (List ℕ)) (before now : ℕ) → AnswersFetch (Ok answer) row id start most told before now → now ≡ before
+  fetched_quiet (Part octets whole) row id start most told before now a = a.4
+  fetched_quiet GoneAlready row id start most told before now a = a.1
+  fetched_quiet answer row id start most told before now a = absurd a
 
   -- a world whose disk tells its octets has a read fail only where that disk failed
   pub has_cause : (user : List ℕ) (id : Id) (start most before now : ℕ) → AnswersFetch (Err DiskFault) (kept_of user old) id start most (seen (disk_of old)) before now
@@ -116,13 +108,13 @@ module _ {D : Type 0} (seen : D → Option (List ℕ)) (old : World D) where
 
 -- The answer stands with the next ticket, and nothing was written.
 pub finds : {D : Type 0} (seen : D → Option (List ℕ)) (faults : D → ℕ) (answer : Answer) (disk : D) (old new : World D) → IsTrue (is_up old)
-    → seen disk ≡ seen (disk_of old) → faults (disk_of old) ≤ faults disk
+    → seen disk ≡ seen (disk_of old) → faults disk ≡ faults (disk_of old)
     → (plan_of new ≡ plan_of old) × (is_up new ≡ is_up old) × (drawn_of new ≡ drawn_of old) × (stamps_of new ≡ stamps_of old) × (disk_of new ≡ disk)
     × (new.journal ≡ old.journal) × (new.index ≡ old.index) × (book_of new ≡ book_of old)
     → tickets_of new ≡ tickets_of old + 1
     → standing_of new ≡ standing_of old ++ call_of (nth_ticket (tickets_of old + 1)) (Found answer) ∷ []
     → Finds seen faults (nth_ticket (tickets_of old + 1)) answer old new
-finds seen faults answer disk old new up same later rest more stands = record {
+finds seen faults answer disk old new up same quiet rest more stands = record {
   plan = rest.0;
   up = rest.1 ∙ up;
   drawn = rest.2;
@@ -133,7 +125,7 @@ finds seen faults answer disk old new up same later rest more stands = record {
   gate = ap (λ (j : Journal). end_of j) rest.5;
   fits = λ records fits. recalls_same records (gate_of old) (gate_of new) (drawn_of old) (drawn_of new) (λ user. kept_of user old) (λ user. kept_of user new)
       (ap (λ (j : Journal). end_of j) rest.5) rest.2 (λ user. ap (λ (i : Index). kept_in user i) rest.6) fits;
-  later = rw rest.4 later;
+  quiet = rw rest.4 quiet;
   ticket_is = refl;
   standing = stands;
 }

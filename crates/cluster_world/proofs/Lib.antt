@@ -1,21 +1,32 @@
+mod Completes
 pub mod Among
 pub mod Appended
 pub mod Asked
+pub mod AtOnce
+pub mod Awaiting
+pub mod Beginning
+pub mod BookKept
+pub mod Booked
 pub mod Deleting
 pub mod Delivered
 pub mod Down
+pub mod Falling
+pub mod Filled
 pub mod Found
 pub mod Gates
 pub mod Gone
-pub mod Filled
 pub mod Heads
 pub mod Listings
 pub mod Origins
+pub mod Others
+pub mod Owed
 pub mod Pieces
+pub mod Quiet
 pub mod Readings
 pub mod Recalled
 pub mod Rows
+pub mod Serving
 pub mod Shown
+pub mod Spelt
 pub mod Stricken
 pub mod Told
-mod Completes

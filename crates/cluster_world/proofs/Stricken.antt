@@ -58,13 +58,18 @@ module _ (user : List ℕ) (count : ℕ) (ids : List Id) (i : ℕ) (id : Id) (wi
       → AppendsAll old mid end end' before between (gone_records user count (take i ids)) → Wrote {T = S} (Err fault) mid new end' end'' between now (gone_records user so_far (id ∷ []))
       → Wrote {T = T} (Err fault) old new end end'' before now (gone_records user count ids)
   gone_failed S T Disk old mid new end end' end'' before between now so_far number front wrote =
-      (stops_in_gone old mid new end end' before between so_far number front wrote.0, omega (arith, front.later, wrote.1), rose_later before between now front.later wrote.2)
+      (stops_in_gone old mid new end end' before between so_far number front wrote.0, omega (arith, front.quiet, wrote.1), rose_later before between now (omega (arith, front.quiet)) wrote.2)
   gone_failed S T NoMemory old mid new end end' end'' before between now so_far number front wrote =
-      (stops_in_gone old mid new end end' before between so_far number front wrote.0, omega (arith, front.later, wrote.1))
+      (stops_in_gone old mid new end end' before between so_far number front wrote.0, omega (arith, front.quiet, wrote.1))
 
 behind_one : {D : Type 0} (settled : D → Type 0) (front : List Id) (id : Id) (old new : D) → settled new → SettledBehind settled (front ++ id ∷ []) old new
 behind_one settled [] id old new sure = sure
 behind_one settled (other ∷ front) id old new sure = sure
+
+-- a disk that was settled still is
+pub settled_yet : {D : Type 0} (settled : D → Type 0) (ids : List Id) (old new : D) → SettledBehind settled ids old new → settled old → settled new
+settled_yet settled [] old new behind sure = behind sure
+settled_yet settled (id ∷ ids) old new behind sure = behind
 
 -- behind one state more the disk is settled
 pub settled_more : {D : Type 0} (settled : D → Type 0) (ids : List Id) (i : ℕ) (id : Id) (old new : D) → i < length ids → id ≡ get_or ids i id

@@ -26,7 +26,7 @@ pub record HoldsFront (seen : Option (List ℕ)) (records wanted : List Record) 
 
 -- all of the records follow those that stood
 pub record AppendsAll (old new : Option (List ℕ)) (end end' before now : ℕ) (wanted : List Record) : Type 0 where
-  pub later : before ≤ now
+  pub quiet : now ≡ before
   pub gate : HasGate new end'
   pub stand : (records : List Record) → RecordsStand old records end → RecordsStand new (records ++ wanted) end'
   pub grew : end' ≡ end + length (flat_map framed (payloads_of wanted))
@@ -65,7 +65,8 @@ pub record AppendsMail (old new : Option (List ℕ)) (end end' before now : ℕ)
 -- what was done to the journal where a message's octets were to be appended: want of memory leaves it as it was
 abbrev pub WroteMail : Result Measure DeliverFault → Option (List ℕ) → Option (List ℕ) → ℕ → ℕ → ℕ → ℕ → Mail → ℕ → Type 0
 WroteMail (Ok measure) old new end end' before now mail seq = AppendsMail old new end end' before now mail seq measure
-WroteMail (Err Disk) old new end end' before now mail seq = ((octets : List ℕ) × Stops old new end (Octets (nth_id seq) octets ∷ [])) × (before ≤ now) × Rose before now
+WroteMail (Err Disk) old new end end' before now mail seq =
+    ((octets : List ℕ) × IsStored mail (nth_id seq) 0 octets × Stops old new end (Octets (nth_id seq) octets ∷ [])) × (before ≤ now) × Rose before now
 WroteMail (Err NoMemory) old new end end' before now mail seq = IsUntouched old new end end' before now
 
 -- behind records of these messages the disk is settled, and behind those of none it is where it was

@@ -5,14 +5,16 @@ use Rattle.mail_base.specs.declared.ticket.Ticket.{Ticket}
 use Rattle.cluster_world.specs.World.{plan_of, is_up, disk_of, standing_of}
 use Rattle.cluster_world.specs.Appends.{SettledBehind}
 use Rattle.cluster_world.specs.Found.{FindsPart}
-use Rattle.cluster_world.specs.Steps.{HasNodes, HasNumbers, IsSound, HasMishap, StandsNot, call_of}
+use Rattle.cluster_world.specs.Steps.{HasNumbers, IsSound, HasMishap, StandsNot, call_of}
+use Rattle.call_tickets.specs.Seen.{ids_in}
 use Rattle.cluster_world.specs.declared.world.World.{World}
-use Rattle.cluster_world.specs.declared.step.Call.{Call}
-use Rattle.cluster_world.specs.declared.step.Call.TheVariants.{Deliver, Login, Fetch, Strike, Leave}
+use Rattle.call_tickets.specs.declared.call.Call.{Call}
+use Rattle.call_tickets.specs.declared.call.Call.TheVariants.{Deliver, Login, Fetch, Strike, Leave}
 use Rattle.cluster_world.specs.declared.step.Step.{Step}
 use Rattle.cluster_world.specs.declared.step.Step.TheVariants.{Begin, Ask}
-use Rattle.cluster_world.specs.declared.step.Answer.{Answer}
-use Rattle.cluster_world.specs.declared.step.Answer.TheVariants.{Part}
+use Rattle.call_tickets.specs.declared.answer.Answer.{Answer}
+use Rattle.call_tickets.specs.declared.answer.Answer.TheVariants.{Part}
+use Rattle.call_tickets.specs.declared.answer.Ask.TheVariants.{Pending as InProgress, Done}
 use Rattle.cluster_world.specs.declared.step.Said.{Said}
 use Rattle.cluster_world.specs.declared.step.Said.TheVariants.{Begun, Noted, Asked, Faulted}
 use Rattle.cluster_world.specs.declared.step.StepFault.{StepFault}
@@ -22,9 +24,9 @@ use Rattle.cluster_world.specs.declared.step.Standing.{Standing}
 
 -- the call has begun or is noted, or memory was wanting
 abbrev pub IsBegun : Result Said StepFault → Type 0
-IsBegun (Ok (Begun ticket)) = ⊤
+IsBegun (Ok (Begun ticket stirs)) = ⊤
 IsBegun (Ok Noted) = ⊤
-IsBegun (Ok (Asked answer)) = ⊥
+IsBegun (Ok (Asked ask)) = ⊥
 IsBegun (Ok (Faulted failed)) = ⊥
 IsBegun (Err NoSuchNode) = ⊥
 IsBegun (Err NodeDown) = ⊥
@@ -34,9 +36,10 @@ IsBegun (Err (NoMemory down)) = ⊤
 
 -- the call is answered, or memory was wanting
 abbrev pub IsAnswer : Result Said StepFault → Type 0
-IsAnswer (Ok (Begun ticket)) = ⊥
+IsAnswer (Ok (Begun ticket stirs)) = ⊥
 IsAnswer (Ok Noted) = ⊥
-IsAnswer (Ok (Asked answer)) = ⊤
+IsAnswer (Ok (Asked (InProgress got wanted))) = ⊥
+IsAnswer (Ok (Asked (Done answer))) = ⊤
 IsAnswer (Ok (Faulted failed)) = ⊥
 IsAnswer (Err NoSuchNode) = ⊥
 IsAnswer (Err NodeDown) = ⊥
@@ -47,22 +50,22 @@ IsAnswer (Err (NoMemory down)) = ⊤
 -- A call at a node that is up and has numbers left begins where the disk has no mishap, and is answered where it is asked for; want of memory alone is in the way.
 abbrev pub Completes : {D : Type 0} → (D → Option (List ℕ)) → (D → ℕ) → Result Said StepFault → Step → World D → World D → Type 0
 Completes seen faults result (Begin node call) old new =
-    HasNodes (plan_of old) node call → IsTrue (is_up old) → HasNumbers call old → IsSound seen old → (HasMishap seen faults call old new → ⊥) → IsBegun result
+    node ≤ (plan_of old).nodes → IsTrue (is_up old) → HasNumbers call old → IsSound seen old → (HasMishap seen faults call old new → ⊥) → IsBegun result
 Completes seen faults result (Ask ticket) old new =
     ticket.node ≤ (plan_of old).nodes → IsTrue (is_up old) → (StandsNot ticket old → ⊥) → IsAnswer result
 
 -- A delivery that was begun leaves the disk settled: its message stands whatever happens.
 abbrev pub SettledByDelivery : {D : Type 0} → (D → Type 0) → Said → World D → Type 0
-SettledByDelivery settled (Begun ticket) new = settled (disk_of new)
+SettledByDelivery settled (Begun ticket stirs) new = settled (disk_of new)
 SettledByDelivery settled Noted new = ⊤
-SettledByDelivery settled (Asked answer) new = ⊤
+SettledByDelivery settled (Asked ask) new = ⊤
 SettledByDelivery settled (Faulted failed) new = ⊤
 
 -- A deletion that was begun leaves the disk settled: its messages are gone whatever happens. One of no message writes nothing.
 abbrev pub SettledByStrike : {D : Type 0} → (D → Type 0) → Said → List Id → World D → World D → Type 0
-SettledByStrike settled (Begun ticket) ids old new = SettledBehind settled ids (disk_of old) (disk_of new)
+SettledByStrike settled (Begun ticket stirs) ids old new = SettledBehind settled ids (disk_of old) (disk_of new)
 SettledByStrike settled Noted ids old new = ⊤
-SettledByStrike settled (Asked answer) ids old new = ⊤
+SettledByStrike settled (Asked ask) ids old new = ⊤
 SettledByStrike settled (Faulted failed) ids old new = ⊤
 
 -- What a step that was made leaves settled: every step but a delivery and a deletion writes nothing.
@@ -70,19 +73,19 @@ abbrev pub SettledBy : {D : Type 0} → (D → Type 0) → Step → Said → Wor
 SettledBy settled (Begin node (Deliver deliver)) said old new = SettledByDelivery settled said new
 SettledBy settled (Begin node (Login user proof)) said old new = settled (disk_of old) → settled (disk_of new)
 SettledBy settled (Begin node (Fetch user id holders start most)) said old new = settled (disk_of old) → settled (disk_of new)
-SettledBy settled (Begin node (Strike user ids)) said old new = SettledByStrike settled said ids old new
+SettledBy settled (Begin node (Strike user items)) said old new = SettledByStrike settled said (ids_in items) old new
 SettledBy settled (Begin node (Leave user login manager)) said old new = settled (disk_of old) → settled (disk_of new)
 SettledBy settled (Ask ticket) said old new = settled (disk_of old) → settled (disk_of new)
 
 -- the ticket stands with a part that is as filed
 abbrev pub StandsAsFiled : {D : Type 0} → (D → Option (List ℕ)) → Result Said StepFault → Call → World D → World D → Type 0
-StandsAsFiled seen (Ok (Begun ticket)) (Fetch user id holders start most) old new =
+StandsAsFiled seen (Ok (Begun ticket stirs)) (Fetch user id holders start most) old new =
     (answer : Answer) × (standing_of new ≡ standing_of old ++ call_of ticket (Found answer) ∷ []) × FindsPart seen answer user id start most old
 StandsAsFiled seen _ _ old new = ⊤
 
 -- An ask hands out the part that its beginning found.
 abbrev pub HandsOut : {D : Type 0} → Result Said StepFault → Ticket → World D → Type 0
-HandsOut (Ok (Asked (Part octets whole))) ticket old =
+HandsOut (Ok (Asked (Done (Part octets whole)))) ticket old =
     (before : List Standing) × (behind : List Standing) × (standing_of old ≡ before ++ call_of ticket (Found (Part octets whole)) ∷ behind)
 HandsOut _ ticket old = ⊤
 

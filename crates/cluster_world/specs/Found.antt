@@ -1,5 +1,5 @@
 -- What a login and a fetch find at their node.
-use Rattle.std.specs.Prelude.{◌≡◌, ℕ, true, false, List, length, map, All, take, drop, Option, Some, None, IfSome}
+use Rattle.std.specs.Prelude.{◌≡◌, ℕ, ◌-◌, ◌^◌, ◌≤◌, true, false, List, length, map, All, take, drop, Option, Some, None, IfSome}
 use Rattle.mail_model.specs.Identity.{Id}
 use Rattle.mail_model.specs.Listing.{octets_in, listing_of, size_in}
 use Rattle.mail_model.specs.Identity.Key.{Message}
@@ -13,8 +13,8 @@ use Rattle.mail_base.specs.declared.ticket.Ticket.{Ticket}
 use Rattle.cluster_world.specs.Reads.{is_right, IsAtNode1}
 use Rattle.cluster_world.specs.World.{plan_of, disk_of, Fits, WorldHolds}
 use Rattle.cluster_world.specs.declared.world.World.{World}
-use Rattle.cluster_world.specs.declared.step.Answer.{Answer}
-use Rattle.cluster_world.specs.declared.step.Answer.TheVariants.{Stored, Listed, Wrong, Part, GoneAlready, Dropped}
+use Rattle.call_tickets.specs.declared.answer.Answer.{Answer}
+use Rattle.call_tickets.specs.declared.answer.Answer.TheVariants.{Listed, Wrong, Part, GoneAlready}
 
 -- some record says with the stamp of the listing that the user's copy is here
 abbrev pub IsStated : List ℕ → List Record → Item → Type 0
@@ -34,12 +34,9 @@ pub record Lists {D : Type 0} (user : List ℕ) (login : Ticket) (manager asked 
 
 -- what a login finds: the listing exactly where the proof is right
 abbrev pub FindsLogin : {D : Type 0} → Answer → List ℕ → Proof → Ticket → World D → Type 0
-FindsLogin (Stored id confirmers) user proof ticket old = ⊥
 FindsLogin (Listed login manager asked items) user proof ticket old = (is_right (plan_of old) user proof ≡ true) × Lists user login manager asked items ticket old
 FindsLogin (Wrong stamp) user proof ticket old = (is_right (plan_of old) user proof ≡ false) × (stamp ≡ record { count = 0; boot = 0; node = 0 })
-FindsLogin (Part octets whole) user proof ticket old = ⊥
-FindsLogin GoneAlready user proof ticket old = ⊥
-FindsLogin Dropped user proof ticket old = ⊥
+FindsLogin answer user proof ticket old = ⊥
 
 -- The octets are this part of those that were filed under the id: as many as the part has, and where the disk tells what it holds the same.
 pub record IsPartOf {D : Type 0} (seen : D → Option (List ℕ)) (octets : List ℕ) (whole : ℕ) (user : List ℕ) (id : Id) (start most : ℕ) (records : List Record) (old : World D) : Type 0 where
@@ -47,14 +44,13 @@ pub record IsPartOf {D : Type 0} (seen : D → Option (List ℕ)) (octets : List
   pub listed : size_in id (listing_of user records) ≡ Some whole
   pub known : octets_in id records ≡ Some all
   pub size : whole ≡ length all
+  -- as many as a number of 64 bits can ask for
+  pub within : length all ≤ 2 ^ 64 - 1
   pub count : length octets ≡ length (take most (drop start all))
   pub part : WorldHolds seen records old → IfSome (seen (disk_of old)) (λ _. octets ≡ take most (drop start all))
 
 -- what a fetch finds: a part of the message exactly where the user's listing has its id
 abbrev pub FindsPart : {D : Type 0} → (D → Option (List ℕ)) → Answer → List ℕ → Id → ℕ → ℕ → World D → Type 0
-FindsPart seen (Stored id confirmers) user wanted start most old = ⊥
-FindsPart seen (Listed login manager asked items) user wanted start most old = ⊥
-FindsPart seen (Wrong stamp) user wanted start most old = ⊥
 FindsPart seen (Part octets whole) user wanted start most old = (records : List Record) → Fits records old → IsPartOf seen octets whole user wanted start most records old
 FindsPart seen GoneAlready user wanted start most old = (records : List Record) → Fits records old → size_in wanted (listing_of user records) ≡ None
-FindsPart seen Dropped user wanted start most old = ⊥
+FindsPart seen answer user wanted start most old = ⊥

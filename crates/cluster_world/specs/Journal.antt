@@ -52,7 +52,7 @@ Gated (Err _) seen node payloads payload end = HoldsEither seen node payloads pa
 
 -- what a creation leaves: a journal of 16 octets with no payload, or nothing where memory was wanting
 abbrev pub Created : Result Journal JournalFault → Option (List ℕ) → Option (List ℕ) → ℕ → ℕ → ℕ → Type 0
-Created (Ok journal) old new node before now = Stands new node [] (end_of journal) × HasGate new (end_of journal) × (before ≤ now) × (end_of journal ≡ 16)
+Created (Ok journal) old new node before now = Stands new node [] (end_of journal) × HasGate new (end_of journal) × (now ≡ before) × (end_of journal ≡ 16)
 Created (Err DiskFault) old new node before now = Rose before now
 Created (Err NotAJournal) old new node before now = ⊥
 Created (Err TooLarge) old new node before now = ⊥
@@ -64,7 +64,7 @@ largest = 16_842_752
 
 -- When an append is refused, and what a refusal leaves: only want of memory and a payload that is too large leave all as it was.
 abbrev pub Refuses : {T : Type 0} → Result T JournalFault → ℕ → Option (List ℕ) → Option (List ℕ) → ℕ → ℕ → ℕ → ℕ → Type 0
-Refuses (Ok _) size old new end end' before now = (size ≤ largest) × HasGate new end' × (before ≤ now) × (end' ≡ end + 5 + size)
+Refuses (Ok _) size old new end end' before now = (size ≤ largest) × HasGate new end' × (now ≡ before) × (end' ≡ end + 5 + size)
 Refuses (Err DiskFault) size old new end end' before now = (size ≤ largest) × (before ≤ now) × Rose before now
 Refuses (Err NotAJournal) size old new end end' before now = ⊥
 Refuses (Err TooLarge) size old new end end' before now = (largest < size) × (new ≡ old) × (end' ≡ end) × (now ≡ before)

@@ -7,6 +7,7 @@ pub mod Heads
 pub mod Index
 pub mod Journal
 pub mod Opens
+pub mod Outcomes
 pub mod Reads
 pub mod Steps
 pub mod Trace

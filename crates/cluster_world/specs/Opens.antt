@@ -11,17 +11,17 @@ use Rattle.cluster_world.specs.declared.world.OpenFault.{OpenFault}
 use Rattle.cluster_world.specs.declared.world.OpenFault.TheVariants.{DiskFault, NoMemory}
 
 abbrev pub open_fault_of : JournalFault → OpenFault
-open_fault_of journal.DiskFault = DiskFault
+open_fault_of journal.DiskFault = DiskFault 1
 open_fault_of journal.NotAJournal = NoMemory
 open_fault_of journal.TooLarge = NoMemory
 open_fault_of journal.NoMemory = NoMemory
 
 -- why a world was not opened
 abbrev pub BeginFails : OpenFault → ℕ → ℕ → Type 0
-BeginFails DiskFault before now = Rose before now
+BeginFails (DiskFault node) before now = (node ≡ 1) × Rose before now
 BeginFails NoMemory before now = before ≤ now
 
 -- the journal stands with that record, or was not begun
 abbrev pub Begun : Result Journal OpenFault → Option (List ℕ) → ℕ → ℕ → Type 0
-Begun (Ok journal) seen before now = RecordsStand seen (Boot 1 ∷ []) (end_of journal) × HasGate seen (end_of journal) × (before ≤ now) × (end_of journal ≡ 26)
+Begun (Ok journal) seen before now = RecordsStand seen (Boot 1 ∷ []) (end_of journal) × HasGate seen (end_of journal) × (now ≡ before) × (end_of journal ≡ 26)
 Begun (Err fault) seen before now = BeginFails fault before now

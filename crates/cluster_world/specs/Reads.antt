@@ -5,19 +5,15 @@ use Rattle.mail_model.specs.Identity.{Id}
 use Rattle.mail_model.specs.Plan.{Plan, opens}
 use Rattle.mail_base.specs.declared.item.Item.{Item}
 use Rattle.mail_base.specs.declared.proof.Proof.{Proof}
-use Rattle.mail_base.specs.declared.proof.Proof.TheVariants.{Pass}
+use Rattle.call_tickets.specs.Seen.{secret_in}
 use Rattle.mail_base.specs.declared.ticket.Ticket.{Ticket}
 use Rattle.cluster_world.specs.Index.{listed, place_in}
 use Rattle.cluster_world.specs.declared.index.Kept.{Kept}
-use Rattle.cluster_world.specs.declared.step.Answer.{Answer}
-use Rattle.cluster_world.specs.declared.step.Answer.TheVariants.{Stored, Listed, Wrong, Part, GoneAlready, Dropped}
+use Rattle.call_tickets.specs.declared.answer.Answer.{Answer}
+use Rattle.call_tickets.specs.declared.answer.Answer.TheVariants.{Listed, Wrong, Part, GoneAlready}
 use Rattle.cluster_world.specs.declared.place.Place.{Place}
 use Rattle.cluster_world.specs.declared.journal.JournalFault.{JournalFault}
 use Rattle.cluster_world.specs.declared.journal.JournalFault.TheVariants.{DiskFault, NotAJournal, TooLarge, NoMemory}
-
--- the secret that a proof gives
-abbrev pub secret_in : Proof → List ℕ
-secret_in (Pass octets) = octets
 
 -- the proof is right for the user of this name
 abbrev pub is_right : Plan → List ℕ → Proof → Bool
@@ -36,7 +32,7 @@ MayEndBefore (Some held) end = length held < end
 -- what a read of this place gives: all its octets, or the disk failed or ended too early; want of memory comes before the disk is asked
 abbrev pub HasRead : Result (List ℕ) JournalFault → Place → Option (List ℕ) → ℕ → ℕ → Type 0
 HasRead (Ok octets) place seen before now =
-    (length octets ≡ place.length) × IfSome seen (λ held. octets ≡ take place.length (drop place.at held)) × (before ≤ now)
+    (length octets ≡ place.length) × IfSome seen (λ held. octets ≡ take place.length (drop place.at held)) × (now ≡ before)
 HasRead (Err DiskFault) place seen before now = (Rose before now ⊎ MayEndBefore seen (place.at + place.length)) × (before ≤ now)
 HasRead (Err NotAJournal) place seen before now = ⊥
 HasRead (Err TooLarge) place seen before now = ⊥
@@ -44,13 +40,10 @@ HasRead (Err NoMemory) place seen before now = now ≡ before
 
 -- what a login is answered, over the user's messages in the index
 abbrev pub AnswersLogin : Answer → Plan → List ℕ → Proof → Ticket → List Kept → Type 0
-AnswersLogin (Stored id confirmers) plan user proof ticket row = ⊥
 AnswersLogin (Listed login manager asked items) plan user proof ticket row =
     (is_right plan user proof ≡ true) × (login ≡ ticket) × (manager ≡ 1) × (asked ≡ 1) × (items ≡ map listed row)
 AnswersLogin (Wrong stamp) plan user proof ticket row = (is_right plan user proof ≡ false) × (stamp ≡ record { count = 0; boot = 0; node = 0 })
-AnswersLogin (Part octets whole) plan user proof ticket row = ⊥
-AnswersLogin GoneAlready plan user proof ticket row = ⊥
-AnswersLogin Dropped plan user proof ticket row = ⊥
+AnswersLogin answer plan user proof ticket row = ⊥
 
 -- the octets lie behind so many of those at the place, and are so many at most
 pub record IsPartAt (place : Place) (start most : ℕ) (octets : List ℕ) (seen : Option (List ℕ)) : Type 0 where
@@ -59,13 +52,10 @@ pub record IsPartAt (place : Place) (start most : ℕ) (octets : List ℕ) (seen
 
 -- what a fetch is answered, over the user's messages in the index
 abbrev pub AnswersFetch : Result Answer JournalFault → List Kept → Id → ℕ → ℕ → Option (List ℕ) → ℕ → ℕ → Type 0
-AnswersFetch (Ok (Stored id confirmers)) row wanted start most seen before now = ⊥
-AnswersFetch (Ok (Listed login manager asked items)) row wanted start most seen before now = ⊥
-AnswersFetch (Ok (Wrong stamp)) row wanted start most seen before now = ⊥
 AnswersFetch (Ok (Part octets whole)) row wanted start most seen before now =
-    (place : Place) × (place_in wanted row ≡ Some place) × (whole ≡ place.length) × IsPartAt place start most octets seen × (before ≤ now)
-AnswersFetch (Ok GoneAlready) row wanted start most seen before now = (place_in wanted row ≡ None) × (before ≤ now)
-AnswersFetch (Ok Dropped) row wanted start most seen before now = ⊥
+    (place : Place) × (place_in wanted row ≡ Some place) × (whole ≡ place.length) × IsPartAt place start most octets seen × (now ≡ before)
+AnswersFetch (Ok GoneAlready) row wanted start most seen before now = (place_in wanted row ≡ None) × (now ≡ before)
+AnswersFetch (Ok answer) row wanted start most seen before now = ⊥
 AnswersFetch (Err DiskFault) row wanted start most seen before now =
     (place : Place) × (place_in wanted row ≡ Some place) × (Rose before now ⊎ MayEndBefore seen (place.at + place.length)) × (before ≤ now)
 AnswersFetch (Err NotAJournal) row wanted start most seen before now = ⊥

@@ -8,20 +8,21 @@ use Rattle.mail_model.specs.Record.{Record}
 use Rattle.mail_model.specs.Book.{BookEntry}
 use Rattle.mail_model.specs.Book.BookEntry.{Acknowledged, WentDown}
 use Rattle.mail_model.specs.Identity.{Id}
-use Rattle.mail_model.specs.Plan.{Plan}
 use Rattle.mail_model.specs.Site.{message_records, gone_records, drawn_through, struck_entries, dropped_entries, nth_id, nth_stamp}
 use Rattle.mail_base.specs.Delivers.{mail_in}
+use Rattle.call_tickets.specs.Seen.{ids_in}
 use Rattle.mail_base.specs.declared.ticket.Ticket.{Ticket}
 use Rattle.cluster_world.specs.Appends.{HoldsFront}
 use Rattle.cluster_world.specs.World.{plan_of, is_up, drawn_of, stamps_of, tickets_of, disk_of, gate_of, book_of, standing_of, ShowsGate, WorldHolds, Fits, Falls}
 use Rattle.cluster_world.specs.Found.{FindsLogin, FindsPart}
 use Rattle.cluster_world.specs.declared.world.World.{World}
-use Rattle.cluster_world.specs.declared.step.Call.{Call}
-use Rattle.cluster_world.specs.declared.step.Call.TheVariants.{Deliver, Login, Fetch, Strike, Leave}
+use Rattle.call_tickets.specs.declared.call.Call.{Call}
+use Rattle.call_tickets.specs.declared.call.Call.TheVariants.{Deliver, Login, Fetch, Strike, Leave}
 use Rattle.cluster_world.specs.declared.step.Step.{Step}
 use Rattle.cluster_world.specs.declared.step.Step.TheVariants.{Begin, Ask}
-use Rattle.cluster_world.specs.declared.step.Answer.{Answer}
-use Rattle.cluster_world.specs.declared.step.Answer.TheVariants.{Stored, Dropped}
+use Rattle.call_tickets.specs.declared.answer.Answer.{Answer}
+use Rattle.call_tickets.specs.declared.answer.Answer.TheVariants.{Stored, Dropped}
+use Rattle.call_tickets.specs.declared.answer.Ask.TheVariants.{Pending as InProgress, Done}
 use Rattle.cluster_world.specs.declared.step.Said.{Said}
 use Rattle.cluster_world.specs.declared.step.Said.TheVariants.{Begun, Noted, Asked, Faulted}
 use Rattle.cluster_world.specs.declared.step.StepFault.{StepFault}
@@ -100,7 +101,7 @@ pub record Takes {D : Type 0} (seen : D → Option (List ℕ)) (faults : D → �
   pub stamps : stamps_of new ≡ stamps_of old + 1
   pub tickets : tickets_of new ≡ tickets_of old + 1
   pub book : book_of new ≡ book_of old
-  pub later : faults (disk_of old) ≤ faults (disk_of new)
+  pub quiet : faults (disk_of new) ≡ faults (disk_of old)
   pub gate : ShowsGate seen new
   pub octets : List ℕ
   pub stored : IsStored mail (nth_id (drawn_of old + 1)) 0 octets
@@ -122,7 +123,7 @@ pub record Finds {D : Type 0} (seen : D → Option (List ℕ)) (faults : D → �
   pub octets : seen (disk_of new) ≡ seen (disk_of old)
   pub gate : gate_of new ≡ gate_of old
   pub fits : (records : List Record) → Fits records old → Fits records new
-  pub later : faults (disk_of old) ≤ faults (disk_of new)
+  pub quiet : faults (disk_of new) ≡ faults (disk_of old)
   pub ticket_is : ticket ≡ nth_ticket (tickets_of old + 1)
   pub standing : standing_of new ≡ standing_of old ++ call_of ticket (Found answer) ∷ []
 
@@ -135,7 +136,7 @@ pub record Strikes {D : Type 0} (seen : D → Option (List ℕ)) (faults : D →
   pub stamps : stamps_of new ≡ stamps_of old + length ids
   pub tickets : tickets_of new ≡ tickets_of old + 1
   pub book : book_of new ≡ book_of old ++ struck_entries user ids
-  pub later : faults (disk_of old) ≤ faults (disk_of new)
+  pub quiet : faults (disk_of new) ≡ faults (disk_of old)
   pub gate : ShowsGate seen new
   pub holds : (records : List Record) → WorldHolds seen records old → WorldHolds seen (records ++ gone_records user (stamps_of old) ids) new
   pub fits : (records : List Record) → Fits records old → Fits (records ++ gone_records user (stamps_of old) ids) new
@@ -162,7 +163,7 @@ HasBegun seen faults (Login user proof) ticket old new =
     (answer : Answer) × Finds seen faults ticket answer old new × FindsLogin answer user proof ticket old × (disk_of new ≡ disk_of old)
 HasBegun seen faults (Fetch user id holders start most) ticket old new =
     (answer : Answer) × Finds seen faults ticket answer old new × FindsPart seen answer user id start most old
-HasBegun seen faults (Strike user ids) ticket old new = Strikes seen faults user ids ticket old new
+HasBegun seen faults (Strike user items) ticket old new = Strikes seen faults user (ids_in items) ticket old new
 HasBegun seen faults (Leave user login manager) ticket old new = ⊥
 
 -- the call is only noted
@@ -170,23 +171,15 @@ abbrev pub IsNoted : Call → Type 0
 IsNoted (Deliver deliver) = ⊥
 IsNoted (Login user proof) = ⊥
 IsNoted (Fetch user id holders start most) = ⊥
-IsNoted (Strike user ids) = ⊥
+IsNoted (Strike user items) = ⊥
 IsNoted (Leave user login manager) = ⊤
-
--- the plan has the node, and the node of each message that is to be deleted
-abbrev pub HasNodes : Plan → ℕ → Call → Type 0
-HasNodes plan node (Deliver deliver) = node ≤ plan.nodes
-HasNodes plan node (Login user proof) = node ≤ plan.nodes
-HasNodes plan node (Fetch user id holders start most) = node ≤ plan.nodes
-HasNodes plan node (Strike user ids) = (node ≤ plan.nodes) × All (λ id. id.node ≤ plan.nodes) ids
-HasNodes plan node (Leave user login manager) = node ≤ plan.nodes
 
 -- the node has a number left for each that the call draws: its ticket, the id of a message, and a stamp for it or for each message that is deleted
 abbrev pub HasNumbers : {D : Type 0} → Call → World D → Type 0
 HasNumbers (Deliver deliver) world = (drawn_of world < last_number) × (stamps_of world < last_number) × (tickets_of world < last_number)
 HasNumbers (Login user proof) world = tickets_of world < last_number
 HasNumbers (Fetch user id holders start most) world = tickets_of world < last_number
-HasNumbers (Strike user ids) world = (stamps_of world + length ids ≤ last_number) × (tickets_of world < last_number)
+HasNumbers (Strike user items) world = (stamps_of world + length (ids_in items) ≤ last_number) × (tickets_of world < last_number)
 HasNumbers (Leave user login manager) world = ⊤
 
 -- The disk failed in this call; or it does not tell its octets, and gave fewer than it had been given. It is never asked at a login.
@@ -194,7 +187,7 @@ abbrev pub HasMishap : {D : Type 0} → (D → Option (List ℕ)) → (D → ℕ
 HasMishap seen faults (Deliver deliver) old new = Rose (faults (disk_of old)) (faults (disk_of new))
 HasMishap seen faults (Login user proof) old new = ⊥
 HasMishap seen faults (Fetch user id holders start most) old new = Rose (faults (disk_of old)) (faults (disk_of new)) ⊎ (seen (disk_of old) ≡ None)
-HasMishap seen faults (Strike user ids) old new = Rose (faults (disk_of old)) (faults (disk_of new))
+HasMishap seen faults (Strike user items) old new = Rose (faults (disk_of old)) (faults (disk_of new))
 HasMishap seen faults (Leave user login manager) old new = ⊥
 
 -- what stands on the disk and in memory is what some records say
@@ -208,7 +201,7 @@ abbrev pub HasFallen : {D : Type 0} → (D → Option (List ℕ)) → (D → ℕ
 HasFallen seen faults (Deliver deliver) old new = GoesDown seen faults (mail_in deliver) old new
 HasFallen seen faults (Login user proof) old new = ⊥
 HasFallen seen faults (Fetch user id holders start most) old new = StopsReading seen faults old new
-HasFallen seen faults (Strike user ids) old new = StopsStriking seen faults user ids old new
+HasFallen seen faults (Strike user items) old new = StopsStriking seen faults user (ids_in items) old new
 HasFallen seen faults (Leave user login manager) old new = ⊥
 
 -- memory ran out in the call, and the node is down
@@ -216,35 +209,46 @@ abbrev pub HasBrokenOff : {D : Type 0} → (D → Option (List ℕ)) → (D → 
 HasBrokenOff seen faults (Deliver deliver) old new = GoesDown seen faults (mail_in deliver) old new
 HasBrokenOff seen faults (Login user proof) old new = ⊥
 HasBrokenOff seen faults (Fetch user id holders start most) old new = ⊥
-HasBrokenOff seen faults (Strike user ids) old new = StopsStriking seen faults user ids old new
+HasBrokenOff seen faults (Strike user items) old new = StopsStriking seen faults user (ids_in items) old new
 HasBrokenOff seen faults (Leave user login manager) old new = ⊥
 
 -- what the beginning of a call at a node does
 abbrev pub BeginDid : {D : Type 0} → (D → Option (List ℕ)) → (D → ℕ) → Result Said StepFault → ℕ → Call → World D → World D → Type 0
-BeginDid seen faults (Ok (Begun ticket)) node call old new = HasNodes (plan_of old) node call × IsTrue (is_up old) × HasBegun seen faults call ticket old new
-BeginDid seen faults (Ok Noted) node call old new = HasNodes (plan_of old) node call × IsTrue (is_up old) × IsNoted call × (new ≡ old)
-BeginDid seen faults (Ok (Asked answer)) node call old new = ⊥
+BeginDid seen faults (Ok (Begun ticket stirs)) node call old new = (node ≤ (plan_of old).nodes) × IsTrue (is_up old) × (stirs ≡ 0) × HasBegun seen faults call ticket old new
+BeginDid seen faults (Ok Noted) node call old new = (node ≤ (plan_of old).nodes) × IsTrue (is_up old) × IsNoted call × (new ≡ old)
+BeginDid seen faults (Ok (Asked ask)) node call old new = ⊥
 BeginDid seen faults (Ok (Faulted failed)) node call old new =
-    HasNodes (plan_of old) node call × IsTrue (is_up old) × (failed ≡ 1) × HasFallen seen faults call old new × (IsSound seen old → HasMishap seen faults call old new)
-BeginDid seen faults (Err NoSuchNode) node call old new = (HasNodes (plan_of old) node call → ⊥) × (new ≡ old)
-BeginDid seen faults (Err NodeDown) node call old new = HasNodes (plan_of old) node call × IsFalse (is_up old) × (new ≡ old)
+    (node ≤ (plan_of old).nodes) × IsTrue (is_up old) × (failed ≡ 1) × HasFallen seen faults call old new × (IsSound seen old → HasMishap seen faults call old new)
+BeginDid seen faults (Err NoSuchNode) node call old new = ((plan_of old).nodes < node) × (new ≡ old)
+BeginDid seen faults (Err NodeDown) node call old new = (node ≤ (plan_of old).nodes) × IsFalse (is_up old) × (new ≡ old)
 BeginDid seen faults (Err NoSuchTicket) node call old new = ⊥
-BeginDid seen faults (Err Worn) node call old new = HasNodes (plan_of old) node call × IsTrue (is_up old) × (HasNumbers call old → ⊥) × (new ≡ old)
+BeginDid seen faults (Err Worn) node call old new = (node ≤ (plan_of old).nodes) × IsTrue (is_up old) × (HasNumbers call old → ⊥) × (new ≡ old)
 BeginDid seen faults (Err (NoMemory None)) node call old new = IsTrue (is_up old) × IsAsBefore seen faults old new
 BeginDid seen faults (Err (NoMemory (Some failed))) node call old new = (failed ≡ 1) × IsTrue (is_up old) × HasBrokenOff seen faults call old new
+
+-- node 1 confirmed that each of these copies is gone
+abbrev pub IsDropped : Answer → List Id → Type 0
+IsDropped (Dropped confirmers) ids = confirmers.items ≡ map (λ _. 1) ids
+IsDropped answer ids = ⊥
 
 -- what became of a call in progress, and what it adds to the book: a message is acknowledged to each of its users, what was found is handed out, and each
 -- message that was to be deleted is gone
 abbrev pub Settles : Pending → Answer → List BookEntry → List BookEntry → Type 0
 Settles (Filed filing) answer old new = (answer ≡ Stored filing.id 1) × (new ≡ old ++ entries_for filing 1)
 Settles (Found found) answer old new = (answer ≡ found) × (new ≡ old)
-Settles (Struck user ids) answer old new = (answer ≡ Dropped) × (new ≡ old ++ dropped_entries user ids)
+Settles (Struck user ids) answer old new = IsDropped answer ids × (new ≡ old ++ dropped_entries user ids)
 
 -- how many entries a call in progress adds to the book
 abbrev pub entries_in : Pending → ℕ
 entries_in (Filed filing) = length filing.users
 entries_in (Found answer) = 0
 entries_in (Struck user ids) = length ids
+
+-- the ids of a call in progress that is a deletion
+abbrev pub struck_in : Pending → List Id
+struck_in (Filed filing) = []
+struck_in (Found answer) = []
+struck_in (Struck user ids) = ids
 
 -- the entries that take memory before a call in progress is answered: those of a deletion
 abbrev pub prepared_for : Pending → List BookEntry
@@ -275,9 +279,10 @@ StandsNot ticket world = All (λ standing. standing.ticket ≢ ticket) (standing
 
 -- what an ask does
 abbrev pub AskDid : {D : Type 0} → (D → Option (List ℕ)) → (D → ℕ) → Result Said StepFault → Ticket → World D → World D → Type 0
-AskDid seen faults (Ok (Begun begun)) ticket old new = ⊥
+AskDid seen faults (Ok (Begun begun stirs)) ticket old new = ⊥
 AskDid seen faults (Ok Noted) ticket old new = ⊥
-AskDid seen faults (Ok (Asked answer)) ticket old new = IsTrue (is_up old) × IsAnswered ticket answer old new
+AskDid seen faults (Ok (Asked (InProgress got wanted))) ticket old new = ⊥
+AskDid seen faults (Ok (Asked (Done answer))) ticket old new = IsTrue (is_up old) × IsAnswered ticket answer old new
 AskDid seen faults (Ok (Faulted failed)) ticket old new = ⊥
 AskDid seen faults (Err NoSuchNode) ticket old new = ((plan_of old).nodes < ticket.node) × (new ≡ old)
 AskDid seen faults (Err NodeDown) ticket old new = (ticket.node ≤ (plan_of old).nodes) × IsFalse (is_up old) × (new ≡ old)
@@ -286,7 +291,7 @@ AskDid seen faults (Err Worn) ticket old new = ⊥
 AskDid seen faults (Err (NoMemory None)) ticket old new = IsTrue (is_up old) × IsAsBefore seen faults old new
 AskDid seen faults (Err (NoMemory (Some failed))) ticket old new = ⊥
 
--- what a step does
+-- What a step does. The world that it is done to has counted it already.
 abbrev pub Stepped : {D : Type 0} → (D → Option (List ℕ)) → (D → ℕ) → Result Said StepFault → Step → World D → World D → Type 0
 Stepped seen faults result (Begin node call) old new = BeginDid seen faults result node call old new
 Stepped seen faults result (Ask ticket) old new = AskDid seen faults result ticket old new

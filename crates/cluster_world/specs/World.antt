@@ -1,5 +1,5 @@
 -- A world of one node: what its disk holds, and what a message leaves there.
-use Rattle.std.specs.Prelude.{◌≡◌, ◌⊎◌, ℕ, ◌+◌, ◌≤◌, length, Bool, IsTrue, IsFalse, List, [], ◌∷◌, ◌++◌, Option, Result, Ok, Err}
+use Rattle.std.specs.Prelude.{◌≡◌, ◌⊎◌, ℕ, ◌+◌, ◌-◌, ◌^◌, ◌≤◌, min, length, Bool, IsTrue, IsFalse, List, [], ◌∷◌, ◌++◌, Option, Result, Ok, Err}
 use Rattle.sha2.specs.Sha256.{sha256}
 use Rattle.io_edge.specs.Causes.{Rose}
 use Rattle.mail_model.specs.Plan.{Plan}
@@ -47,6 +47,18 @@ tickets_of world = world.tickets
 abbrev pub standing_of : {D : Type 0} → World D → List Standing
 standing_of world = world.standing.items
 
+-- how many steps it was asked for, also those that it refused; the count stays at its type's end
+abbrev pub steps_of : {D : Type 0} → World D → ℕ
+steps_of world = world.steps
+
+-- one more, up to the end of the count
+abbrev pub one_more : ℕ → ℕ
+one_more steps = min (steps + 1) (2 ^ 64 - 1)
+
+-- the world that has counted one step more
+abbrev pub counted : {D : Type 0} → World D → World D
+counted world = record world { steps = one_more world.steps }
+
 -- what the book says
 abbrev pub book_of : {D : Type 0} → World D → List BookEntry
 book_of world = told_by world.book
@@ -81,21 +93,26 @@ pub record Begins {D : Type 0} (seen : D → Option (List ℕ)) (plan : Plan) (w
   pub drawn : drawn_of world ≡ 0
   pub stamps : stamps_of world ≡ 0
   pub tickets : tickets_of world ≡ 0
+  pub steps : steps_of world ≡ 0
   pub standing : standing_of world ≡ []
   pub book : book_of world ≡ []
   pub gate : ShowsGate seen world
   pub holds : WorldHolds seen (Boot 1 ∷ []) world
   pub fits : Fits (Boot 1 ∷ []) world
 
--- whether the disk of a world that was opened, or that is handed back, tells its octets has not changed
-abbrev pub OpenedAlike : {D : Type 0} → (D → Option (List ℕ)) → Result (World D) (OpenFault × D) → D → Type 0
-OpenedAlike seen (Ok world) disk = IsToldAlike (seen disk) (seen (disk_of world))
-OpenedAlike seen (Err refused) disk = IsToldAlike (seen disk) (seen refused.1)
+-- a world was opened over the one disk of its plan
+pub record Opened {D : Type 0} (seen : D → Option (List ℕ)) (faults : D → ℕ) (is_settled : D → Type 0) (plan : Plan) (disk : D) (world : World D) : Type 0 where
+  pub begins : Begins seen plan world
+  pub told : IsToldAlike (seen disk) (seen (disk_of world))
+  pub quiet : faults (disk_of world) ≡ faults disk
+  pub settled : is_settled (disk_of world)
 
--- a world was opened, or its disk is handed back with the reason
-abbrev pub Opened : {D : Type 0} → (D → Option (List ℕ)) → (D → ℕ) → Result (World D) (OpenFault × D) → Plan → D → Type 0
-Opened seen faults (Ok world) plan disk = Begins seen plan world × (faults disk ≤ faults (disk_of world))
-Opened seen faults (Err refused) plan disk = BeginFails refused.0 (faults disk) (faults refused.1)
+-- it was not, and the disk is handed back
+pub record Refused {D : Type 0} (seen : D → Option (List ℕ)) (faults : D → ℕ) (fault : OpenFault) (disk : D) (disks : List D) : Type 0 where
+  pub back : D
+  pub alone : disks ≡ back ∷ []
+  pub told : IsToldAlike (seen disk) (seen back)
+  pub cause : BeginFails fault (faults disk) (faults back)
 
 -- The message is on the disk, its octets and a state for each of its mailboxes; and in memory it is listed for each of them.
 pub record Files {D : Type 0} (seen : D → Option (List ℕ)) (mail : Mail) (measure : Measure) (old new : World D) : Type 0 where
@@ -115,6 +132,7 @@ pub record Files {D : Type 0} (seen : D → Option (List ℕ)) (mail : Mail) (me
 -- some of the message's records are on the disk behind those that were there
 pub record HoldsSome {D : Type 0} (seen : D → Option (List ℕ)) (mail : Mail) (records : List Record) (old new : World D) : Type 0 where
   pub octets : List ℕ
+  pub stored : IsStored mail (nth_id (drawn_of old + 1)) 0 octets
   pub front : HoldsFront (seen (disk_of new)) records (message_records (nth_id (drawn_of old + 1)) (nth_stamp (stamps_of old + 1)) octets mail.mailboxes)
 
 -- The message is not on the disk, or a front of its records is.
@@ -141,7 +159,7 @@ pub record Breaks {D : Type 0} (seen : D → Option (List ℕ)) (faults : D → 
 
 -- what filing a message leaves; a node that stays up after a refusal has its disk as it was
 abbrev pub Delivers : {D : Type 0} → (D → Option (List ℕ)) → (D → ℕ) → Result Measure DeliverFault → Mail → World D → World D → Type 0
-Delivers seen faults (Ok measure) mail old new = Files seen mail measure old new × (faults (disk_of old) ≤ faults (disk_of new))
+Delivers seen faults (Ok measure) mail old new = Files seen mail measure old new × (faults (disk_of new) ≡ faults (disk_of old))
 Delivers seen faults (Err deliver.Disk) mail old new = Breaks seen faults mail old new × Rose (faults (disk_of old)) (faults (disk_of new))
 Delivers seen faults (Err deliver.NoMemory) mail old new = IsUnwritten seen faults old new ⊎ Breaks seen faults mail old new
 

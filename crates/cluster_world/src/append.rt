@@ -72,6 +72,7 @@ fn append_record<D: Disk>(
         → IsUntouched (D.seen disk.old) (D.seen disk.new) (end_of journal.old) (end_of journal.new)
         (D.faults disk.old) (D.faults disk.new) }
     ensures placed { IfOk result (λ place. (place.at ≡ end_of journal.old + 5) × (place.length ≡ length head.now + length body.now)) }
+    ensures still { IsErrOf result DeliverFault.NoMemory → D.settled disk.old → D.settled disk.new }
     ensures told { IsToldAlike (D.seen disk.old) (D.seen disk.new) }
 {
     match journal.append(alloc, disk, head, body) {
@@ -123,6 +124,7 @@ fn append_one_gone<D: Disk>(
     ensures untouched { IsErrOf result DeliverFault.NoMemory
         → IsUntouched (D.seen disk.old) (D.seen disk.new) (end_of journal.old) (end_of journal.new)
         (D.faults disk.old) (D.faults disk.new) }
+    ensures still { IsErrOf result DeliverFault.NoMemory → D.settled disk.old → D.settled disk.new }
     ensures told { IsToldAlike (D.seen disk.old) (D.seen disk.new) }
 {
     let Ok(payload) = gone_payload(alloc, user, id, Stamp::new(before + 1, 1, 1), 1) else {
@@ -149,6 +151,7 @@ pub(crate) fn append_gone<D: Disk>(
     ensures untouched { IsErrOf result DeliverFault.NoMemory → end_of journal.new ≡ end_of journal.old
         → IsUntouched (D.seen disk.old) (D.seen disk.new) (end_of journal.old) (end_of journal.new)
         (D.faults disk.old) (D.faults disk.new) }
+    ensures still { IsErrOf result DeliverFault.NoMemory → D.settled disk.old → D.settled disk.new }
     ensures told { IsToldAlike (D.seen disk.old) (D.seen disk.new) }
 {
     let mut count = before;
@@ -254,6 +257,7 @@ pub(crate) fn append_octets<D: Disk>(
     ensures wrote { WroteMail result (D.seen disk.old) (D.seen disk.new) (end_of journal.old) (end_of journal.new)
         (D.faults disk.old) (D.faults disk.new) (mail_in deliver.now) seq }
     ensures settled { OnOk result (D.settled disk.new) }
+    ensures still { IsErrOf result DeliverFault.NoMemory → D.settled disk.old → D.settled disk.new }
     ensures told { IsToldAlike (D.seen disk.old) (D.seen disk.new) }
 {
     let head = message_head(alloc, deliver, seq)?;

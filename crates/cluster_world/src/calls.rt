@@ -7,17 +7,18 @@ ghost use Rattle.cluster_world.specs.Appends.{Wrote};
 ghost use Rattle.cluster_world.specs.Opens.{Begun};
 ghost use Rattle.cluster_world.specs.Index.{kept_in, added_for};
 ghost use Rattle.cluster_world.specs.Journal.{IsToldAlike};
-ghost use Rattle.cluster_world.specs.World.{plan_of, is_up, drawn_of, stamps_of, tickets_of, kept_of, disk_of, gate_of, book_of, standing_of, ShowsGate, Opened, OpenedAlike, Delivers};
+ghost use Rattle.cluster_world.specs.World.{plan_of, is_up, drawn_of, stamps_of, steps_of, tickets_of, kept_of, disk_of, gate_of, book_of, standing_of, ShowsGate, Delivers};
 ghost use Rattle.cluster_world.specs.Books.{told_by, spare_of};
-ghost use Rattle.cluster_world.specs.Steps.{BeginDid, AskDid, Stepped, StandsNot, HasNumbers, Settles, entries_for, entries_in, nth_ticket, last_number, call_of};
+ghost use Rattle.cluster_world.specs.Steps.{BeginDid, HasNumbers, nth_ticket, last_number, call_of};
 ghost use Rattle.cluster_world.specs.Completes.{Completes, FetchedAsFiled, SettledBy, SettledByDelivery};
 
 use crate::append::first_node;
 use crate::book::Entry;
 use crate::journal::JournalFault;
 use crate::reading::{fetch_answer, login_answer};
-use crate::step::{Call, Pending, Said, Standing, StepFault, ticket_of};
+use crate::step::{Pending, Said, Standing, StepFault, ticket_of};
 use crate::world::World;
+use call_tickets::Call;
 use io_edge::Disk;
 use mail_base::{MsgId, Name, NodeSet, Proof};
 use std::alloc::Global;
@@ -27,7 +28,8 @@ impl<D: Disk> World<D> {
     pub(crate) fn stand(&mut self, pending: Pending) -> Said
         requires room { vec_len self.old.standing < vec_capacity self.old.standing }
         requires tickets { tickets_of self.old < last_number }
-        ensures said { result ≡ Said.Begun (nth_ticket (tickets_of self.old + 1)) }
+        ensures steps { steps_of self.new ≡ steps_of self.old }
+        ensures said { result ≡ Said.Begun (nth_ticket (tickets_of self.old + 1)) 0 }
         ensures standing { standing_of self.new ≡ standing_of self.old ++ call_of (nth_ticket (tickets_of self.old + 1)) pending ∷ [] }
         ensures tickets { tickets_of self.new ≡ tickets_of self.old + 1 }
         ensures rest { (plan_of self.new ≡ plan_of self.old) × (is_up self.new ≡ is_up self.old) × (drawn_of self.new ≡ drawn_of self.old) × (stamps_of self.new ≡ stamps_of self.old)
@@ -38,12 +40,14 @@ impl<D: Disk> World<D> {
         self.standing.push_reserved(Standing { ticket, pending });
         Said::Begun {
             ticket: ticket_of(self.tickets),
+            stirs: 0,
         }
     }
 
     // The node goes down: its calls are gone, and the book says so.
     pub(crate) fn go_down(&mut self, alloc: Global)
         requires { 0 < spare_of self.old.book }
+        ensures steps { steps_of self.new ≡ steps_of self.old }
         ensures down { IsFalse (is_up self.new) }
         ensures standing { standing_of self.new ≡ [] }
         ensures book { book_of self.new ≡ book_of self.old ++ WentDown 1 ∷ [] }
@@ -64,6 +68,7 @@ impl<D: Disk> World<D> {
     ) -> Result<Said, StepFault>
         requires up { IsTrue (is_up self.old) }
         requires tickets { tickets_of self.old < last_number }
+        ensures steps { steps_of self.new ≡ steps_of self.old }
         ensures did { (node : ℕ) → node ≤ (plan_of self.old).nodes → BeginDid D.seen D.faults result node (Call.Login user proof) self.old self.new }
         ensures disk { disk_of self.new ≡ disk_of self.old }
     {
@@ -85,6 +90,7 @@ impl<D: Disk> World<D> {
     ) -> Result<Said, StepFault>
         requires up { IsTrue (is_up self.old) }
         requires tickets { tickets_of self.old < last_number }
+        ensures steps { steps_of self.new ≡ steps_of self.old }
         ensures did { (node : ℕ) → node ≤ (plan_of self.old).nodes
             → BeginDid D.seen D.faults result node (Call.Fetch user id holders from most) self.old self.new }
         ensures settled { D.settled (disk_of self.old) → D.settled (disk_of self.new) }

@@ -1,5 +1,5 @@
 //! How a world files a message: on its disk, and in its index.
-ghost use Rattle.std.specs.Prelude.{◌≡◌, ◌+◌, ◌≤◌, ◌<◌, ◌++◌, ◌∷◌, [], ◌&&◌, List, ℕ, length, nat_eq, vec_len, vec_capacity, slice_get, ◌-◌, ◌^◌, IfOk, OnOk, is_ok, IfSome, None, IsTrue, IsFalse};
+ghost use Rattle.std.specs.Prelude.{◌≡◌, ◌+◌, ◌≤◌, ◌<◌, ◌++◌, ◌∷◌, [], ◌&&◌, List, ℕ, length, nat_eq, vec_len, vec_capacity, slice_get, ◌-◌, ◌^◌, IfOk, OnOk, IsErrOf, is_ok, IfSome, None, IsTrue, IsFalse};
 ghost use Rattle.mail_model.specs.Site.{copies_of, nth_id, nth_stamp};
 ghost use Rattle.mail_model.specs.Book.BookEntry.{WentDown};
 ghost use Rattle.mail_base.specs.Delivers.{mail_in, IsWithinLimits};
@@ -7,15 +7,16 @@ ghost use Rattle.cluster_world.specs.Appends.{Wrote};
 ghost use Rattle.cluster_world.specs.Opens.{Begun};
 ghost use Rattle.cluster_world.specs.Index.{kept_in, added_for};
 ghost use Rattle.cluster_world.specs.Journal.{IsToldAlike};
-ghost use Rattle.cluster_world.specs.World.{plan_of, is_up, drawn_of, stamps_of, tickets_of, kept_of, disk_of, gate_of, book_of, standing_of, ShowsGate, Opened, OpenedAlike, Delivers};
+ghost use Rattle.cluster_world.specs.World.{plan_of, is_up, drawn_of, stamps_of, steps_of, tickets_of, kept_of, disk_of, gate_of, book_of, standing_of, ShowsGate, Delivers};
 ghost use Rattle.cluster_world.specs.Books.{told_by, spare_of};
 ghost use Rattle.cluster_world.specs.Steps.{BeginDid, AskDid, Stepped, StandsNot, HasNumbers, Settles, entries_for, entries_in, nth_ticket, last_number, call_of};
 ghost use Rattle.cluster_world.specs.Completes.{Completes, FetchedAsFiled, SettledBy, SettledByDelivery};
 
 use crate::append::{DeliverFault, Measure, append_listed, append_octets, first_node, id_of};
 use crate::place::Place;
-use crate::step::{Call, Filing, Pending, Said, StepFault};
+use crate::step::{Filing, Pending, Said, StepFault};
 use crate::world::World;
+use call_tickets::Call;
 use io_edge::Disk;
 use mail_base::{Deliver, Names};
 use std::alloc::Global;
@@ -44,8 +45,10 @@ impl<D: Disk> World<D> {
         requires small { IsWithinLimits deliver.now }
         requires drawn { drawn_of self.old < last_number }
         requires stamps { stamps_of self.old < last_number }
+        ensures steps { steps_of self.new ≡ steps_of self.old }
         ensures delivers { Delivers D.seen D.faults result (mail_in deliver.now) self.old self.new }
         ensures settled { OnOk result (D.settled (disk_of self.new)) }
+        ensures still { IsErrOf result DeliverFault.NoMemory → IsTrue (is_up self.new) → D.settled (disk_of self.old) → D.settled (disk_of self.new) }
         ensures told { IsToldAlike (D.seen (disk_of self.old)) (D.seen (disk_of self.new)) }
         ensures plan { plan_of self.new ≡ plan_of self.old }
         ensures tickets { tickets_of self.new ≡ tickets_of self.old }
@@ -81,6 +84,7 @@ impl<D: Disk> World<D> {
         requires gate { ShowsGate D.seen self.old }
         requires drawn { 0 < drawn_of self.old }
         requires up { IsTrue (is_up self.old) }
+        ensures steps { steps_of self.new ≡ steps_of self.old }
         ensures wrote { Wrote result (D.seen (disk_of self.old)) (D.seen (disk_of self.new)) (gate_of self.old) (gate_of self.new)
             (D.faults (disk_of self.old)) (D.faults (disk_of self.new)) (copies_of (nth_id (drawn_of self.old)) (nth_stamp (stamps_of self.old)) deliver.now.users) }
         ensures kept { OnOk result ((user : List ℕ) → kept_of user self.new ≡ kept_of user self.old
@@ -116,8 +120,10 @@ impl<D: Disk> World<D> {
         requires drawn { drawn_of self.old < last_number }
         requires stamps { stamps_of self.old < last_number }
         requires tickets { tickets_of self.old < last_number }
+        ensures steps { steps_of self.new ≡ steps_of self.old }
         ensures did { (node : ℕ) → node ≤ (plan_of self.old).nodes → BeginDid D.seen D.faults result node (Call.Deliver deliver) self.old self.new }
         ensures settled { IfOk result (λ said. SettledByDelivery D.settled said self.new) }
+        ensures settled_while_up { IsTrue (is_up self.new) → D.settled (disk_of self.old) → D.settled (disk_of self.new) }
         ensures told { IsToldAlike (D.seen (disk_of self.old)) (D.seen (disk_of self.new)) }
     {
         // So that want of memory is met before anything is written.

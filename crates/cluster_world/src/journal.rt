@@ -1,5 +1,5 @@
 //! The journal of a node: records behind gates, of which only an open one counts.
-ghost use Rattle.std.specs.Prelude.{◌≡◌, ◌⊎◌, ◌+◌, ◌≤◌, ◌<◌, ◌++◌, ◌∷◌, [], ℕ, List, length, take, drop, IfOk, IfSome, OnOk, OnErr, ◌^◌, ◌↔◌, Err, Some, vec_len};
+ghost use Rattle.std.specs.Prelude.{◌≡◌, ◌⊎◌, ◌+◌, ◌≤◌, ◌<◌, ◌++◌, ◌∷◌, [], ℕ, List, length, take, drop, IfOk, IfSome, OnOk, OnErr, IsErrOf, ◌^◌, ◌↔◌, Err, Some, vec_len};
 ghost use Rattle.io_edge.specs.Causes.{HasCause, Rose};
 ghost use Rattle.io_edge.specs.Octets.{WritesAt};
 ghost use Rattle.mail_model.specs.Record.{header_of};
@@ -91,6 +91,7 @@ fn write_sure<D: Disk>(disk: &mut D, at: u64, octets: &[u8]) -> Result<(), Faile
     ensures told { IsToldAlike (D.seen disk.old) (D.seen disk.new) }
     ensures settled { OnOk result (D.settled disk.new) }
     ensures cause { HasCause (D.faults disk.old) (D.faults disk.new) result }
+    ensures quiet { OnOk result (D.faults disk.new ≡ D.faults disk.old) }
 {
     disk.write_at(at, octets)?;
     disk.sync()
@@ -107,6 +108,7 @@ fn write_behind_gate<D: Disk>(disk: &mut D, end: u64, octets: &[u8]) -> Result<(
     ensures told { IsToldAlike (D.seen disk.old) (D.seen disk.new) }
     ensures settled { OnOk result (D.settled disk.new) }
     ensures cause { HasCause (D.faults disk.old) (D.faults disk.new) result }
+    ensures quiet { OnOk result (D.faults disk.new ≡ D.faults disk.old) }
 {
     write_sure(disk, end + 1, octets)?;
     write_sure(disk, end, &[OPEN_GATE])
@@ -119,6 +121,7 @@ fn fill<D: Disk>(disk: &mut D, at: u64, into: &mut [u8]) -> Result<(), Failed>
     ensures length { length into.new ≡ length into.old }
     ensures cause { OnErr result (Rose (D.faults disk.old) (D.faults disk.new) ⊎ MayEndBefore (D.seen disk.old) (at + length into.old)) }
     ensures later { D.faults disk.old ≤ D.faults disk.new }
+    ensures quiet { OnOk result (D.faults disk.new ≡ D.faults disk.old) }
     ensures seen { D.seen disk.new ≡ D.seen disk.old }
     ensures settled { D.settled disk.old → D.settled disk.new }
 {
@@ -175,6 +178,7 @@ impl Journal {
         ensures refuses { Refuses result (length head.now + length body.now) (D.seen disk.old) (D.seen disk.new)
             (end_of self.old) (end_of self.new) (D.faults disk.old) (D.faults disk.new) }
         ensures placed { IfOk result (λ place. (place.at ≡ end_of self.old + 5) × (place.length ≡ length head.now + length body.now)) }
+        ensures still { IsErrOf result JournalFault.NoMemory → D.settled disk.old → D.settled disk.new }
         ensures told { IsToldAlike (D.seen disk.old) (D.seen disk.new) }
     {
         if head.len() + body.len() > LARGEST {

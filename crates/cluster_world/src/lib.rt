@@ -72,12 +72,15 @@
 mod append;
 mod book;
 mod calls;
+mod emptied;
 mod filing;
 mod index;
 mod journal;
+pub mod laws;
 mod place;
 mod reading;
 mod record;
+mod spelling;
 mod step;
 mod striking;
 #[cfg(test)]
@@ -89,6 +92,6 @@ pub use book::{Book, Entry};
 pub use journal::{Journal, JournalFault};
 pub use place::Place;
 pub use record::{boot_payload, gone_payload, here_payload, octets_head};
-pub use step::{Answer, Call, Filing, Pending, Said, Standing, Step, StepFault};
+pub use step::{Filing, Pending, Said, Standing, Step, StepFault};
 pub use trace::{Trace, TraceFault, trace_into};
 pub use world::{OpenFault, World};

@@ -3,53 +3,9 @@ ghost use Rattle.std.specs.Prelude.{◌≡◌, ◌<◌};
 ghost use Rattle.cluster_world.specs.Steps.{nth_ticket};
 
 use crate::append::first_node;
-use mail_base::{
-    Deliver, Ids, Items, MsgId, Name, Names, NodeNo, NodeSet, Octets, Proof, Stamp, Ticket,
-};
+use call_tickets::{Answer, Ask, Call};
+use mail_base::{Ids, MsgId, Name, Names, NodeNo, Ticket};
 use std::alloc::AllocError;
-
-/// What a session asks of its node.
-#[derive(Debug, Drop)]
-pub enum Call {
-    /// Stores the message in the mailbox of each of its users.
-    Deliver(Deliver),
-    /// Opens the user's maildrop, and lists its messages.
-    Login {
-        /// Whose maildrop.
-        user: Name,
-        /// What the client gave to show that it may.
-        proof: Proof,
-    },
-    /// Reads a part of a message.
-    Fetch {
-        /// In whose maildrop it is.
-        user: Name,
-        /// The message's id.
-        id: MsgId,
-        /// The nodes that hold it, by the listing. In a cluster of one node that node is asked, whatever this says.
-        holders: NodeSet,
-        /// How many of its octets to pass over.
-        from: u64,
-        /// How many octets to give at most.
-        most: u64,
-    },
-    /// Deletes the user's copies of messages.
-    Strike {
-        /// From whose maildrop.
-        user: Name,
-        /// The ids of the messages: of any node of the plan, and whether the maildrop has them or not.
-        ids: Ids,
-    },
-    /// Ends a login.
-    Leave {
-        /// Whose maildrop.
-        user: Name,
-        /// The login, as its listing named it.
-        login: Ticket,
-        /// The node that manages it, as its listing named it.
-        manager: NodeNo,
-    },
-}
 
 /// One step of a world.
 #[derive(Debug, Drop)]
@@ -68,45 +24,6 @@ pub enum Step {
     },
 }
 
-/// What became of a call.
-#[derive(Debug, Drop)]
-pub enum Answer {
-    /// The message is stored in all its mailboxes.
-    Stored {
-        /// The id that it was given.
-        id: MsgId,
-        /// The nodes on whose disks it is.
-        confirmers: NodeSet,
-    },
-    /// The proof was right, and these are the messages of the maildrop, in the order in which they came.
-    Listed {
-        /// By which the login is known: the ticket of its call.
-        login: Ticket,
-        /// The node that manages it.
-        manager: NodeNo,
-        /// The nodes that were asked.
-        asked: NodeSet,
-        /// The messages.
-        items: Items,
-    },
-    /// The proof was not right.
-    Wrong {
-        /// The stamp of the secret that was asked: 0 in each part, since it is the plan's.
-        stamp: Stamp,
-    },
-    /// A part of the message.
-    Part {
-        /// Its octets: those behind the ones to be passed over, and no more than were asked for.
-        octets: Octets,
-        /// How many octets the message has.
-        whole: u64,
-    },
-    /// The user's maildrop has no such message.
-    GoneAlready,
-    /// The user's copies of all the messages are gone, on the disk of node 1.
-    Dropped,
-}
-
 /// The answer of a step that was made.
 #[derive(Debug, Drop)]
 pub enum Said {
@@ -114,11 +31,14 @@ pub enum Said {
     Begun {
         /// By which it is asked for.
         ticket: Ticket,
+        /// How often something of the user's was stirred up, so that a listing can be seen to be fresh. Nothing counts
+        /// that yet, and it is 0.
+        stirs: u64,
     },
     /// The end of a login is noted. Nothing waits for it, so it has no ticket.
     Noted,
-    /// The call is done, and its ticket stands no more.
-    Asked(Answer),
+    /// What became of the call of the ticket.
+    Asked(Ask),
     /// The disk of this node failed in this step, and the node is down.
     Faulted(NodeNo),
 }
@@ -126,7 +46,7 @@ pub enum Said {
 /// Why a step was refused, the first of these that fits. All but `NoMemory` leave the world as it was.
 #[derive(Clone, Copy, Debug, PartialEq, Eq)]
 pub enum StepFault {
-    /// The plan has no such node, or not that of a message that is to be deleted.
+    /// The plan has no such node.
     NoSuchNode,
     /// The node is down.
     NodeDown,

@@ -1,5 +1,5 @@
 //! A world of one node.
-ghost use Rattle.std.specs.Prelude.{◌≡◌, ◌+◌, ◌≤◌, ◌<◌, ◌++◌, ◌∷◌, [], ◌&&◌, List, ℕ, length, nat_eq, vec_len, vec_capacity, slice_get, ◌-◌, ◌^◌, IfOk, OnOk, is_ok, IfSome, None, IsTrue, IsFalse, ◌↔◌, All, map};
+ghost use Rattle.std.specs.Prelude.{◌≡◌, ◌+◌, ◌≤◌, ◌<◌, ◌++◌, ◌∷◌, [], ◌&&◌, List, ℕ, length, nat_eq, vec_len, vec_capacity, slice_get, ◌-◌, ◌^◌, IfOk, IfErr, OnOk, is_ok, IfSome, None, IsTrue, IsFalse, ◌↔◌, All, map};
 ghost use Rattle.mail_model.specs.Site.{copies_of, nth_id, nth_stamp};
 ghost use Rattle.mail_model.specs.Book.BookEntry.{WentDown};
 ghost use Rattle.mail_base.specs.Delivers.{mail_in, IsWithinLimits};
@@ -7,17 +7,21 @@ ghost use Rattle.cluster_world.specs.Appends.{Wrote};
 ghost use Rattle.cluster_world.specs.Opens.{Begun};
 ghost use Rattle.cluster_world.specs.Index.{kept_in, added_for};
 ghost use Rattle.cluster_world.specs.Journal.{IsToldAlike};
-ghost use Rattle.cluster_world.specs.World.{plan_of, is_up, drawn_of, stamps_of, tickets_of, kept_of, disk_of, gate_of, book_of, standing_of, ShowsGate, Opened, OpenedAlike, Delivers};
+ghost use Rattle.cluster_world.specs.World.{plan_of, is_up, drawn_of, stamps_of, tickets_of, kept_of, disk_of, gate_of, book_of, standing_of, ShowsGate, Opened, Refused, counted, one_more, steps_of};
 ghost use Rattle.cluster_world.specs.Books.{entry_of, told_by, spare_of};
-ghost use Rattle.cluster_world.specs.Steps.{BeginDid, AskDid, Stepped, StandsNot, HasNodes, HasNumbers, Settles, entries_for, entries_in, prepared_for, nth_ticket, last_number, call_of};
+ghost use Rattle.cluster_world.specs.Steps.{BeginDid, AskDid, Stepped, StandsNot, HasNumbers, Settles, entries_for, entries_in, prepared_for, struck_in};
+ghost use Rattle.cluster_world.specs.Outcomes.{AreWithin, HasNames};
 ghost use Rattle.cluster_world.specs.Completes.{Completes, FetchedAsFiled, SettledBy, SettledByDelivery};
 
 use crate::append::first_node;
 use crate::book::{Book, Entry, dropped};
+use crate::emptied::{Emptied, take_only};
 use crate::index::Index;
 use crate::journal::{Journal, JournalFault};
 use crate::record::boot_payload;
-use crate::step::{Answer, Call, Filing, Pending, Said, Standing, Step, StepFault};
+use crate::spelling::{has_names, is_within};
+use crate::step::{Filing, Pending, Said, Standing, Step, StepFault};
+use call_tickets::{Answer, Ask, Call};
 use io_edge::Disk;
 use mail_base::{MsgId, NodeNo, NodeSet, Plan, Ticket};
 use std::alloc::{AllocError, Global};
@@ -25,8 +29,8 @@ use std::alloc::{AllocError, Global};
 /// Why a world was not opened.
 #[derive(Clone, Copy, Debug, PartialEq, Eq)]
 pub enum OpenFault {
-    /// The disk failed.
-    DiskFault,
+    /// The disk of this node failed.
+    DiskFault(NodeNo),
     /// Want of memory.
     NoMemory,
 }
@@ -50,7 +54,7 @@ impl From<JournalFault> for OpenFault {
 
     fn from(fault: JournalFault) -> OpenFault {
         match fault {
-            JournalFault::DiskFault => OpenFault::DiskFault,
+            JournalFault::DiskFault => OpenFault::DiskFault(first_node()),
             // A new journal is never refused as another's, nor the record of a boot as too large.
             JournalFault::NotAJournal | JournalFault::TooLarge | JournalFault::NoMemory => {
                 OpenFault::NoMemory
@@ -120,10 +124,38 @@ fn prepared(alloc: Global, pending: &Pending) -> Result<Vec<Entry>, AllocError>
     }
 }
 
+/// That node 1 confirmed the deletion of each of these, since that takes memory.
+fn confirmed(alloc: Global, ids: &[MsgId]) -> Result<Vec<NodeSet>, AllocError>
+    ensures { IfOk result (λ confirmers. confirmers.items ≡ map (λ _. 1) ids.now) }
+{
+    let mut confirmers = Vec::new(alloc);
+    for _id in ids {
+        confirmers.push(NodeSet::from_mask(1))?;
+    }
+    Ok(confirmers)
+}
+
+/// Who confirmed a deletion; and nobody of another call.
+fn confirmers_of(alloc: Global, pending: &Pending) -> Result<Vec<NodeSet>, AllocError>
+    ensures { IfOk result (λ confirmers. confirmers.items ≡ map (λ _. 1) (struck_in pending.now)) }
+{
+    match pending {
+        Pending::Filed(_) => Ok(Vec::new(alloc)),
+        Pending::Found(_) => Ok(Vec::new(alloc)),
+        Pending::Struck { user: _, ids } => confirmed(alloc, ids.as_slice()),
+    }
+}
+
 /// What the call is answered; a delivery goes into the book, and the entries that were prepared for a deletion.
-fn settle(book: &mut Book, pending: Pending, entries: Vec<Entry>) -> Answer
+fn settle(
+    book: &mut Book,
+    pending: Pending,
+    entries: Vec<Entry>,
+    confirmers: Vec<NodeSet>,
+) -> Answer
     requires room { entries_in pending ≤ spare_of book.old }
     requires prepared { map entry_of entries.items ≡ prepared_for pending }
+    requires confirmed { confirmers.items ≡ map (λ _. 1) (struck_in pending) }
     ensures { Settles pending result (told_by book.old) (told_by book.new) }
 {
     match pending {
@@ -131,7 +163,7 @@ fn settle(book: &mut Book, pending: Pending, entries: Vec<Entry>) -> Answer
         Pending::Found(answer) => answer,
         Pending::Struck { .. } => {
             book.add_all(entries);
-            Answer::Dropped
+            Answer::Dropped { confirmers }
         }
     }
 }
@@ -149,21 +181,26 @@ pub struct World<D> {
     pub(crate) stamps: u64,
     // the tickets that were drawn
     pub(crate) tickets: u64,
+    // the steps that it was asked for; the count stays at its type's end
+    pub(crate) steps: u64,
     // where the messages lie
     pub(crate) index: Index,
     pub(crate) standing: Vec<Standing>,
     pub(crate) book: Book,
+    // the list in which the disk was handed over, and will be handed back
+    pub(crate) emptied: Emptied<D>,
 }
 
 impl<D: Disk> World<D> {
-    /// A new world of the plan's one node, on an empty disk: a journal with the record of the node's first boot. It
-    /// costs six disk calls. A refusal hands the disk back.
-    pub fn open(alloc: Global, plan: Plan, mut disk: D) -> Result<World<D>, (OpenFault, D)>
-        requires { IfSome (D.seen disk) (λ held. held ≡ []) }
-        ensures opened { Opened D.seen D.faults result plan disk }
-        ensures told { OpenedAlike D.seen result disk }
-        ensures settled { IfOk result (λ world. D.settled (disk_of world)) }
+    /// A new world of the plan's one node, on the one disk, which is empty: a journal with the record of the node's
+    /// first boot. It costs six disk calls. A refusal hands the disks back.
+    pub fn open(alloc: Global, plan: Plan, disks: Vec<D>) -> Result<World<D>, (OpenFault, Vec<D>)>
+        requires one { vec_len disks ≡ 1 }
+        requires empty { (disk : D) → disks.items ≡ disk ∷ [] → IfSome (D.seen disk) (λ held. held ≡ []) }
+        ensures opened { (disk : D) → disks.items ≡ disk ∷ [] → IfOk result (λ world. Opened D.seen D.faults D.settled plan disk world) }
+        ensures refused { (disk : D) → disks.items ≡ disk ∷ [] → IfErr result (λ refused. Refused D.seen D.faults refused.0 disk (refused.1).items) }
     {
+        let (mut disk, emptied) = take_only(disks);
         match begin(alloc, &mut disk) {
             Ok(journal) => Ok(World {
                 plan,
@@ -173,19 +210,22 @@ impl<D: Disk> World<D> {
                 drawn: 0,
                 stamps: 0,
                 tickets: 0,
+                steps: 0,
                 index: Index::new(alloc),
                 standing: Vec::new(alloc),
                 book: Book::new(alloc),
+                emptied,
             }),
-            Err(fault) => Err((fault, disk)),
+            Err(fault) => Err((fault, emptied.refilled(disk))),
         }
     }
 
-    /// The disk of a world that is done with.
-    pub fn close(self) -> D
-        ensures { result ≡ disk_of self }
+    /// The disks of a world that is done with, in the list in which they were handed over. It takes no memory.
+    pub fn close(self) -> Vec<D>
+        ensures { result.items ≡ disk_of self ∷ [] }
     {
-        self.disk
+        let World { disk, emptied, .. } = self;
+        emptied.refilled(disk)
     }
 
     /// The plan of the cluster.
@@ -210,29 +250,6 @@ impl<D: Disk> World<D> {
     }
 }
 
-/// Whether the plan has the nodes of all these ids.
-fn has_origins(plan: &Plan, ids: &[MsgId]) -> bool
-    ensures { IsTrue result ↔ All (λ id. id.node ≤ (plan.now).nodes) ids.now }
-{
-    ids.iter().all(|id| id.node().number() <= plan.nodes)
-}
-
-/// Whether the plan has the node, and each node that the call names.
-fn has_nodes(plan: &Plan, node: NodeNo, call: &Call) -> bool
-    ensures known { IsTrue result → HasNodes plan.now node call.now }
-    ensures unknown { IsFalse result → HasNodes plan.now node call.now → ⊥ }
-{
-    match call {
-        Call::Deliver(_) => node.number() <= plan.nodes,
-        Call::Login { .. } => node.number() <= plan.nodes,
-        Call::Fetch { .. } => node.number() <= plan.nodes,
-        Call::Strike { user: _, ids } => {
-            node.number() <= plan.nodes && has_origins(plan, ids.as_slice())
-        }
-        Call::Leave { .. } => node.number() <= plan.nodes,
-    }
-}
-
 impl<D: Disk> World<D> {
     // Whether the node has no number left for the call.
     fn is_worn(&self, call: &Call) -> bool
@@ -245,8 +262,8 @@ impl<D: Disk> World<D> {
             }
             Call::Login { .. } => self.tickets == u64::MAX,
             Call::Fetch { .. } => self.tickets == u64::MAX,
-            Call::Strike { user: _, ids } => {
-                ids.len() as u64 > u64::MAX - self.stamps || self.tickets == u64::MAX
+            Call::Strike { user: _, items } => {
+                items.len() as u64 > u64::MAX - self.stamps || self.tickets == u64::MAX
             }
             Call::Leave { .. } => false,
         }
@@ -257,8 +274,10 @@ impl<D: Disk> World<D> {
         requires up { IsTrue (is_up self.old) }
         requires gate { ShowsGate D.seen self.old }
         requires numbers { HasNumbers call self.old }
-        ensures did { (node : ℕ) → HasNodes (plan_of self.old) node call → BeginDid D.seen D.faults result node call self.old self.new }
+        ensures steps { steps_of self.new ≡ steps_of self.old }
+        ensures did { (node : ℕ) → node ≤ (plan_of self.old).nodes → BeginDid D.seen D.faults result node call self.old self.new }
         ensures settled { (node : ℕ) → IfOk result (λ said. SettledBy D.settled (Step.Begin node call) said self.old self.new) }
+        ensures settled_while_up { IsTrue (is_up self.new) → D.settled (disk_of self.old) → D.settled (disk_of self.new) }
         ensures told { IsToldAlike (D.seen (disk_of self.old)) (D.seen (disk_of self.new)) }
     {
         match call {
@@ -271,7 +290,7 @@ impl<D: Disk> World<D> {
                 from,
                 most,
             } => self.fetch(alloc, user, id, holders, from, most),
-            Call::Strike { user, ids } => self.strike(alloc, user, ids),
+            Call::Strike { user, items } => self.strike(alloc, user, items),
             // There is no lock that would be let go.
             Call::Leave { .. } => Ok(Said::Noted),
         }
@@ -280,11 +299,13 @@ impl<D: Disk> World<D> {
     // Begins a call at the node.
     fn begin(&mut self, alloc: Global, node: NodeNo, call: Call) -> Result<Said, StepFault>
         requires gate { IsTrue (is_up self.old) → ShowsGate D.seen self.old }
+        ensures steps { steps_of self.new ≡ steps_of self.old }
         ensures did { BeginDid D.seen D.faults result node call self.old self.new }
         ensures settled { IfOk result (λ said. SettledBy D.settled (Step.Begin node call) said self.old self.new) }
+        ensures settled_while_up { IsTrue (is_up self.new) → D.settled (disk_of self.old) → D.settled (disk_of self.new) }
         ensures told { IsToldAlike (D.seen (disk_of self.old)) (D.seen (disk_of self.new)) }
     {
-        if !has_nodes(&self.plan, node, &call) {
+        if node.number() > self.plan.nodes {
             return Err(StepFault::NoSuchNode);
         }
         if !self.up {
@@ -309,6 +330,7 @@ impl<D: Disk> World<D> {
 
     // Asks for a call: it is done, and a message goes into the book.
     fn ask(&mut self, alloc: Global, ticket: Ticket) -> Result<Said, StepFault>
+        ensures steps { steps_of self.new ≡ steps_of self.old }
         ensures did { AskDid D.seen D.faults result ticket self.old self.new }
         ensures disk { disk_of self.new ≡ disk_of self.old }
     {
@@ -322,10 +344,38 @@ impl<D: Disk> World<D> {
             return Err(StepFault::NoSuchTicket);
         };
         let entries = prepared(alloc, &self.standing[place].pending)?;
+        let confirmers = confirmers_of(alloc, &self.standing[place].pending)?;
         self.book
             .reserve(entries_of(&self.standing[place].pending))?;
         let standing = self.standing.remove(place);
-        Ok(Said::Asked(settle(&mut self.book, standing.pending, entries)))
+        let answer = settle(&mut self.book, standing.pending, entries, confirmers);
+        Ok(Said::Asked(Ask::Done(answer)))
+    }
+
+    // Makes a step that was counted.
+    fn make_step(&mut self, alloc: Global, step: Step) -> Result<Said, StepFault>
+        requires gate { IsTrue (is_up self.old) → ShowsGate D.seen self.old }
+        ensures stepped { Stepped D.seen D.faults result step self.old self.new }
+        ensures steps { steps_of self.new ≡ steps_of self.old }
+        ensures gate { IsTrue (is_up self.new) → ShowsGate D.seen self.new }
+        ensures fetched_as_filed { FetchedAsFiled D.seen result step self.old self.new }
+        ensures completes { Completes D.seen D.faults result step self.old self.new }
+        ensures settled { IfOk result (λ said. SettledBy D.settled step said self.old self.new) }
+        ensures quiet { IsTrue (is_up self.new) → D.faults (disk_of self.new) ≡ D.faults (disk_of self.old) }
+        ensures settled_while_up { IsTrue (is_up self.new) → D.settled (disk_of self.old) → D.settled (disk_of self.new) }
+        ensures told { IsToldAlike (D.seen (disk_of self.old)) (D.seen (disk_of self.new)) }
+    {
+        match step {
+            Step::Begin { node, call } => self.begin(alloc, node, call),
+            Step::Ask { ticket } => self.ask(alloc, ticket),
+        }
+    }
+
+    // Counts one step more.
+    fn count(&mut self)
+        ensures { self.new ≡ counted self.old }
+    {
+        self.steps = self.steps.saturating_add(1);
     }
 
     /// Makes one step: begins a call at a node, or asks for one and ends it.
@@ -357,16 +407,23 @@ impl<D: Disk> World<D> {
     /// changed; or `NoMemory`: nothing is changed, or the node is down with a front of the call's records on its disk.
     pub fn step(&mut self, alloc: Global, step: Step) -> Result<Said, StepFault>
         requires gate { IsTrue (is_up self.old) → ShowsGate D.seen self.old }
-        ensures stepped { Stepped D.seen D.faults result step self.old self.new }
+        ensures stepped { Stepped D.seen D.faults result step (counted self.old) self.new }
+        ensures counted { steps_of self.new ≡ one_more (steps_of self.old) }
         ensures gate { IsTrue (is_up self.new) → ShowsGate D.seen self.new }
-        ensures fetched_as_filed { FetchedAsFiled D.seen result step self.old self.new }
-        ensures completes { Completes D.seen D.faults result step self.old self.new }
-        ensures settled { IfOk result (λ said. SettledBy D.settled step said self.old self.new) }
+        ensures fetched_as_filed { FetchedAsFiled D.seen result step (counted self.old) self.new }
+        ensures completes { Completes D.seen D.faults result step (counted self.old) self.new }
+        ensures settled { IfOk result (λ said. SettledBy D.settled step said (counted self.old) self.new) }
+        ensures settled_while_up { IsTrue (is_up self.new) → D.settled (disk_of self.old) → D.settled (disk_of self.new) }
+        ensures names { HasNames step }
+        ensures numbers { AreWithin self.new }
         ensures told { IsToldAlike (D.seen (disk_of self.old)) (D.seen (disk_of self.new)) }
+        ensures quiet { IsTrue (is_up self.new) → D.faults (disk_of self.new) ≡ D.faults (disk_of self.old) }
     {
-        match step {
-            Step::Begin { node, call } => self.begin(alloc, node, call),
-            Step::Ask { ticket } => self.ask(alloc, ticket),
-        }
+        self.count();
+        has_names(&step);
+        let said = self.make_step(alloc, step);
+        is_within(self.drawn);
+        is_within(self.stamps);
+        said
     }
 }

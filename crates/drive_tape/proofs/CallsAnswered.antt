@@ -98,7 +98,7 @@ module _ {D : Type 0} (seen : D → Option (List ℕ)) (faults : D → ℕ) (sta
                 ∙ ap (λ (n : ℕ). at.book ++ nth_entries (n + 1) t.octets mail.mailboxes) is.drawn;
             store = stand_hold _ _ (gate_of new) holds;
             told = told ∙ is.since.told;
-            later = omega (arith, is.since.later, t.later, ap faults a.disk);
+            later = omega (arith, is.since.later, t.quiet, ap faults a.disk);
             cause = λ down. absurd (let both : true ≡ false = sym up ∙ is.up ∙ down in cc);
           };
         },
@@ -132,7 +132,7 @@ module _ {D : Type 0} (seen : D → Option (List ℕ)) (faults : D → ℕ) (sta
             book = settles.1.1 ∙ f.book ∙ is.since.book;
             store = stand_hold _ _ (gate_of new) holds;
             told = told ∙ is.since.told;
-            later = omega (arith, is.since.later, f.later, ap faults a.disk);
+            later = omega (arith, is.since.later, f.quiet, ap faults a.disk);
             cause = λ down. absurd (let both : true ≡ false = sym up ∙ is.up ∙ down in cc);
           };
         },

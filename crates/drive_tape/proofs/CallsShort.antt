@@ -133,7 +133,7 @@ module _ {D : Type 0} (seen : D → Option (List ℕ)) (faults : D → ℕ) (sta
           (subst (λ (m : ℕ). Held (seen (disk_of new)) at.drawn m) is.stamps
           (subst (λ (n : ℕ). Held (seen (disk_of new)) n (stamps_of old)) is.drawn
           (subst (λ (o : Option (List ℕ)). Held o (drawn_of old) (stamps_of old)) (sym same.octets) (stand_hold _ _ (gate_of u.mid) (t.holds at.records (is.holds up))))))
-          (omega (arith, t.later, same.count))
+          (omega (arith, t.quiet, same.count))
 
   -- a call that writes nothing
   pub reading_short : (begun : Call) (asked : WorldCall) → IsCall begun asked → MayWrite begun at []
@@ -153,4 +153,4 @@ module _ {D : Type 0} (seen : D → Option (List ℕ)) (faults : D → ℕ) (sta
           (same.book ∙ f.book ∙ is.since.book ∙ booked_none)
           (subst (λ (rs : List Record). IfSome (seen (disk_of new)) (HoldsRecords rs)) (sym (append-nil at.records))
           (subst (λ (o : Option (List ℕ)). IfSome o (HoldsRecords at.records)) (sym (same.octets ∙ f.octets)) is.since.store))
-          (omega (arith, f.later, same.count))
+          (omega (arith, f.quiet, same.count))

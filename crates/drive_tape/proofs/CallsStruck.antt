@@ -60,7 +60,7 @@ module _ {D : Type 0} (seen : D → Option (List ℕ)) (faults : D → ℕ) (sta
           book = done.1.1 ∙ ap (λ (es : List BookEntry). es ++ dropped_entries user ids) (t.book ∙ ap (λ (es : List BookEntry). es ++ struck_entries user ids) is.since.book);
           store = stand_hold _ _ (gate_of new) holds;
           told = told ∙ is.since.told;
-          later = omega (arith, is.since.later, t.later, ap faults a.disk);
+          later = omega (arith, is.since.later, t.quiet, ap faults a.disk);
           cause = λ down. absurd (let both : true ≡ false = sym up ∙ is.up ∙ down in cc);
         };
       }
@@ -136,4 +136,4 @@ module _ {D : Type 0} (seen : D → Option (List ℕ)) (faults : D → ℕ) (sta
           (same.book ∙ t.book ∙ ap (λ (es : List BookEntry). es ++ struck_entries user ids) is.since.book ∙ sym (append-nil (at.book ++ struck_entries user ids)))
           (subst (λ (n : ℕ). Held (seen (disk_of new)) n) is.stamps
           (subst (λ (o : Option (List ℕ)). Held o (stamps_of old)) (sym same.octets) (stand_hold _ _ (gate_of u.mid) (t.holds at.records (is.holds up)))))
-          (omega (arith, t.later, same.count))
+          (omega (arith, t.quiet, same.count))

@@ -1,4 +1,7 @@
 pub mod Causes
 pub mod Faulty
+pub mod Moments
 pub mod Octets
+pub mod Plain
+pub mod Wrapped
 pub mod Yards

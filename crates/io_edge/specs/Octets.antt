@@ -1,5 +1,5 @@
 -- What a disk holds after a write, and what a sink holds after a piece.
-use Rattle.std.specs.Prelude.{◌≡◌, ℕ, ◌+◌, ◌≤◌, ◌<◌, max, List, ◌++◌, length, take, drop, Option, Some, None, MatchOption, Result, Ok, Err}
+use Rattle.std.specs.Prelude.{◌≡◌, ℕ, ◌+◌, ◌≤◌, ◌<◌, max, List, ◌++◌, length, take, drop, is_some, Option, Some, None, MatchOption, Result, Ok, Err}
 use Rattle.std.specs.Io.KnownBytes.{Appends}
 
 -- new is old with these octets at this offset
@@ -12,6 +12,10 @@ pub record Torn (at n : ℕ) (old new : List ℕ) : Type 0 where
   pub after : drop (at + n) new ≡ drop (at + n) old
   pub no_shorter : length old ≤ length new
   pub no_longer : length new ≤ max (length old) (at + n)
+
+-- whether the octets are told has not changed
+abbrev pub IsToldAlike : Option (List ℕ) → Option (List ℕ) → Type 0
+IsToldAlike old new = is_some new ≡ is_some old
 
 -- the write was done, or it failed and may have left anything in its range; content that is not told stays untold
 abbrev pub WritesAt : {E : Type 0} → Option (List ℕ) → Option (List ℕ) → Result (Unit {0}) E → ℕ → List ℕ → Type 0

@@ -35,7 +35,7 @@ mod yard;
 pub use disk::Disk;
 pub use memory::{SliceSource, VecSink};
 pub use memory_yard::MemoryYard;
-pub use plain_disk::PlainDisk;
+pub use plain_disk::{PlainDisk, overwrite};
 pub use std_io::{ReadSource, WriteSink};
 pub use streams::{Sink, Source, write_all};
 pub use yard::{Yard, YardRefusal};

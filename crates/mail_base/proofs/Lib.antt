@@ -1,3 +1,4 @@
 pub mod Maps
 pub mod Lower
 pub mod Sets
+pub mod KeyMaps

@@ -4,8 +4,7 @@ use Rattle.std.proofs.lemmas.List.{length-map}
 use Rattle.std.proofs.lemmas.Bool.Decides.{nat_tests}
 use Rattle.std.specs.List.{list_any}
 use Rattle.std.specs.Char.{to_ascii_lowercase}
-use Rattle.mail_model.specs.Names.{is_no_name_octet, begins_with, is_name, lower}
-use Rattle.mail_base.specs.LowerNames.{IsLowerName}
+use Rattle.mail_model.specs.Names.{is_no_name_octet, begins_with, is_name, lower, IsLowerName}
 
 lower_twice : (x : ℕ) → to_ascii_lowercase (to_ascii_lowercase x) ≡ to_ascii_lowercase x
 lower_twice x = grind (arith, nat_tests)

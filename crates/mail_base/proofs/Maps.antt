@@ -7,7 +7,7 @@ use Rattle.std.specs.declared.cmp.Ordering.{Ordering}
 use Rattle.std.specs.Cmp.{IsTotalOrder, eq_by_cmp_equiv}
 use Rattle.std.specs.Map.{lookup}
 use Rattle.std.specs.BTreeMap.{is_at}
-use Rattle.std.specs.FinMap.{IsAntisymmetric, get, insert, from_entries, find, len, len-empty, len-insert, get-from_entries, get-insert, same_map}
+use Rattle.std.specs.FinMap.{IsAntisymmetric, get, insert, remove, from_entries, find, len, len-empty, len-insert, get-from_entries, get-insert, get-remove, same_map}
 
 module _ {K X : Type 0} (R : K → K → Ordering) where
   find_lookup : (es : List (K × X)) (q : K) → find R q es ≡ lookup (is_at (R q)) es
@@ -26,6 +26,14 @@ module _ {K X : Type 0} (R : K → K → Ordering) where
     one_set exact es fs k v h = same_map total exact _ _ (λ q.
         get_by_lookup fs q ∙ h q ∙ ap (λ b. cond b (Some v) (lookup (is_at (R q)) es)) ((eq_by_cmp_equiv total).symm k q)
         ∙ sym (get-insert total (from_entries es) k v q ∙ ap (cond (is_at (R q) k) (Some v)) (get_by_lookup es q)))
+
+    -- entries that lack one key make a map that lacks it
+    pub one_unset : (exact : IsAntisymmetric R) (es fs : List (K × X)) (k : K)
+        → ((q : K) → lookup (is_at (R q)) fs ≡ cond (is_at (R k) q) None (lookup (is_at (R q)) es))
+        → from_entries {R = R} fs ≡ remove (from_entries es) k
+    one_unset exact es fs k h = same_map total exact _ _ (λ q.
+        get_by_lookup fs q ∙ h q ∙ ap (λ b. cond b None (lookup (is_at (R q)) es)) ((eq_by_cmp_equiv total).symm k q)
+        ∙ sym (get-remove total (from_entries es) k q ∙ ap (cond (is_at (R q) k) None) (get_by_lookup es q)))
 
     -- what a map with its keys in order counts
     absent : (k : K) (es : List (K × X)) → AllByRecursion (λ y. R k y ≡ Less) (map (λ e. e.0) es) → find R k es ≡ None

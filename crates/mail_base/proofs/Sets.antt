@@ -1,93 +1,78 @@
--- The bits of a mask as a set of nodes.
-use Rattle.std.proofs.Common.{◌≡◌, ⊎_elim, ℕ, ◌+◌, ◌-◌, ◌/◌, ◌^◌, ◌<◌, ◌≤◌, ◌||◌, ◌&&◌, not, Bool, true, false, refl, sym, subst, ◌∙◌, arith, w64, bit_and, bit_or, nat_eq, cond, add-one}
-use Rattle.std.specs.Prelude.{max, min, ◌≢◌}
-use Rattle.std.specs.Int.{bit_at, bit_not}
-use Rattle.std.proofs.lemmas.Bool.{cases_eq, cases_lt}
+-- The word of a set of nodes, and what the set has.
+use Rattle.std.proofs.Common.{◌≡◌, ◌≢◌, ⊎_elim, ℕ, zero, suc, ◌+◌, ◌-◌, ◌*◌, ◌/◌, ◌%◌, ◌^◌, ◌<◌, ◌≤◌, ◌||◌, ◌&&◌, not, Bool, true, false, refl, sym, ap, subst, ◌∙◌, arith, w64, bit_and, nat_eq, cond, add-one, true≢false, lt-ltb}
+use Rattle.std.specs.Int.{bit_not}
+use Rattle.std.proofs.lemmas.Bool.{and_parts, and_from, or_cases}
 use Rattle.std.proofs.lemmas.Bool.Decides.{nat_tests}
 use Rattle.std.proofs.Math.Pow.{pow-lt}
-use Rattle.std.proofs.Math.Nat.{div-eq_of_lt, pow-le-pow_right}
 use Rattle.std.proofs.lemmas.Nat.{or_lt}
-use Rattle.std.proofs.lemmas.Nat.Bits.{bit_at_or, bit_at_and, bit_at_not, bit_at-pow_same, bit_at-pow_other, bit_at-lt, bit_at-zero, shr_and_one}
-use Rattle.mail_base.specs.Sets.{has, count_to}
+use Rattle.std.proofs.lemmas.Nat.Bits.{shr_and_one}
+use Rattle.object_model.specs.Sets.{has, one_node, with_node, without_node, count_below}
+use Rattle.object_model.proofs.SetLaws.{has_left, has_right, has_with, one_has, left_in, still_in}
 
-pub has_none : (n : ℕ) → has 0 n ≡ false
-has_none n = rw bit_at-zero (two (nat_eq n 0))
-  where
-    two : (b : Bool) → (not b && false) ≡ false
-    two true = refl
-    two false = refl
+-- two tests that agree
+same_test : (a b : Bool) → (a ≡ true → b ≡ true) → (b ≡ true → a ≡ true) → a ≡ b
+same_test true true f g = refl
+same_test true false f g = sym (f refl)
+same_test false true f g = g refl
+same_test false false f g = refl
 
-pub has_or : (a b n : ℕ) → has (bit_or a b) n ≡ (has a n || has b n)
-has_or a b n = rw bit_at_or (two (bit_at a (n - 1)) (bit_at b (n - 1)) (bit_at-lt a (n - 1)) (bit_at-lt b (n - 1)))
-  where
-    two : (x y : ℕ) → x < 2 → y < 2 → (not (nat_eq n 0) && nat_eq (max x y) 1) ≡ ((not (nat_eq n 0) && nat_eq x 1) || (not (nat_eq n 0) && nat_eq y 1))
-    two x y lx ly = grind (arith, nat_tests)
-
-has_pow : (k n : ℕ) → 0 < k → has (2 ^ (k - 1)) n ≡ nat_eq n k
-has_pow k n above = ⊎_elim at_k (λ ne. ⊎_elim at_none (at_other ne) (cases_eq n 0)) (cases_eq n k)
-  where
-    at_k : n ≡ k → has (2 ^ (k - 1)) n ≡ nat_eq n k
-    at_k e = let one = bit_at-pow_same (k - 1) in subst (λ m. has (2 ^ (k - 1)) m ≡ nat_eq m k) (sym e) (rw one (grind (arith, nat_tests)))
-
-    at_none : n ≡ 0 → has (2 ^ (k - 1)) n ≡ nat_eq n k
-    at_none e = subst (λ m. has (2 ^ (k - 1)) m ≡ nat_eq m k) (sym e) (grind (arith, nat_tests))
-
-    at_other : n ≢ k → n ≢ 0 → has (2 ^ (k - 1)) n ≡ nat_eq n k
-    at_other ne some = let none : bit_at (2 ^ (k - 1)) (n - 1) ≡ 0 = bit_at-pow_other (k - 1) (n - 1) (λ e. ne (omega arith)) in rw none (grind (arith, nat_tests))
+-- the word of one node
+pub one_word : (k : ℕ) → 0 < k → one_node k ≡ 2 ^ (k - 1)
+one_word zero above = absurd (omega (arith, above))
+one_word (suc k) above = let e : suc k - 1 ≡ k = omega arith in ap (λ j. 2 ^ j) (sym e)
 
 -- the test that the code makes
-pub has_shifted : (mask at : ℕ) → nat_eq (bit_and (mask / 2 ^ at) 1) 1 ≡ has mask (at + 1)
-has_shifted mask at =
-    let e : (at + 1) - 1 ≡ at = omega arith in
-    rw (shr_and_one mask at, e) (tested (nat_eq (bit_at mask at) 1))
+pub has_shifted : (mask at : ℕ) → at < 64 → nat_eq (bit_and (mask / 2 ^ at) 1) 1 ≡ has mask (at + 1)
+has_shifted mask at low = rw (add-one, shr_and_one mask at, lt-ltb at 64 low) refl
+
+-- the code's word without the node
+pub without_word : (mask k : ℕ) → 0 < k → k ≤ 16 → bit_and mask (bit_not w64 (2 ^ (k - 1))) ≡ without_node mask k
+without_word mask zero above few = absurd (omega (arith, above))
+without_word mask (suc k) above few =
+    let e : suc k - 1 ≡ k = omega arith in
+    let low : k < 64 = omega (arith, few) in
+    let small : 2 ^ k < 2 ^ 64 = pow-lt {i = k} {j = 64} low in
+    let whole : 1 * 2 ^ k % 2 ^ 64 ≡ 2 ^ k = omega (arith, small) in
+    rw (e, lt-ltb k 64 low, whole) refl
+
+pub has_with_node : (mask k n : ℕ) → 0 < k → k ≤ 16 → has (with_node mask k) n ≡ (nat_eq n k || has mask n)
+has_with_node mask zero n above few = absurd (omega (arith, above))
+has_with_node mask (suc k) n above few = same_test (has (with_node mask (suc k)) n) (nat_eq n (suc k) || has mask n)
+    (λ h. ⊎_elim (λ was. rw was (last (nat_eq n (suc k)))) (λ same. first n (suc k) (has mask n) same) (has_with mask (suc k) n h))
+    (λ h. ⊎_elim
+    (λ test. subst (λ m. has (with_node mask (suc k)) m ≡ true) (sym (is_same n (suc k) test)) (has_right mask (one_node (suc k)) (suc k) (one_has k (omega (arith, few)))))
+    (λ was. has_left mask (one_node (suc k)) n was)
+    (or_cases (nat_eq n (suc k)) (has mask n) h))
   where
-    tested : (b : Bool) → b ≡ (not (nat_eq (at + 1) 0) && b)
-    tested b = let some : nat_eq (at + 1) 0 ≡ false = grind (arith, nat_tests) in rw some refl
+    last : (b : Bool) → (b || true) ≡ true
+    last true = refl
+    last false = refl
 
-pub has_with : (mask k n : ℕ) → 0 < k → has (bit_or mask (2 ^ (k - 1))) n ≡ (nat_eq n k || has mask n)
-has_with mask k n above = has_or mask (2 ^ (k - 1)) n ∙ turned (has mask n) (has (2 ^ (k - 1)) n) (nat_eq n k) (has_pow k n above)
+    first : (x y : ℕ) (b : Bool) → x ≡ y → (nat_eq x y || b) ≡ true
+    first x y b e = let t : nat_eq x y ≡ true = grind (arith, nat_tests, e) in rw t refl
+
+    is_same : (x y : ℕ) → nat_eq x y ≡ true → x ≡ y
+    is_same x y t = grind (arith, nat_tests, t)
+
+pub has_without_node : (mask k n : ℕ) → has (without_node mask k) n ≡ (not (nat_eq n k) && has mask n)
+has_without_node mask k n = same_test (has (without_node mask k) n) (not (nat_eq n k) && has mask n)
+    (λ h. and_from (not (nat_eq n k)) (has mask n) (other n k (left_in mask k n h).1) (left_in mask k n h).0)
+    (λ h. still_in mask k n (and_parts (not (nat_eq n k)) (has mask n) h).1 (apart n k (and_parts (not (nat_eq n k)) (has mask n) h).0))
   where
-    turned : (a b c : Bool) → b ≡ c → (a || b) ≡ (c || a)
-    turned true b true e = refl
-    turned true b false e = refl
-    turned false b true e = e
-    turned false b false e = e
+    other : (x y : ℕ) → x ≢ y → not (nat_eq x y) ≡ true
+    other x y ne = grind (arith, nat_tests, ne)
 
-bit_above : (mask i : ℕ) → mask < 2 ^ 16 → 16 ≤ i → bit_at mask i ≡ 0
-bit_above mask i small above =
-    let under : mask < 2 ^ i = let grows : 2 ^ 16 ≤ 2 ^ i = pow-le-pow_right {n = 2} (omega arith) {i = 16} {j = i} above in omega arith in
-    let none : mask / 2 ^ i ≡ 0 = div-eq_of_lt under in rw none refl
-
-pub has_without : (mask k n : ℕ) → mask < 2 ^ 16 → 0 < k → k ≤ 16 → has (bit_and mask (bit_not w64 (2 ^ (k - 1)))) n ≡ (not (nat_eq n k) && has mask n)
-has_without mask k n word above few = ⊎_elim outer inner (cases_lt 16 n)
-  where
-    two : (x y : ℕ) → x < 2 → y < 2 → (not (nat_eq n 0) && nat_eq y 1) ≡ nat_eq n k → (not (nat_eq n 0) && nat_eq (min x (1 - y)) 1) ≡ (not (nat_eq n k) && (not (nat_eq n 0) && nat_eq x 1))
-    two x y lx ly e = grind (arith, nat_tests)
-
-    small : (i : ℕ) → i ≤ 15 → 2 ^ i < 2 ^ 64
-    small i le = pow-lt {i = i} {j = 64} (omega arith)
-
-    inner : n ≤ 16 → has (bit_and mask (bit_not w64 (2 ^ (k - 1)))) n ≡ (not (nat_eq n k) && has mask n)
-    inner low =
-        let cut : bit_at (bit_not w64 (2 ^ (k - 1))) (n - 1) ≡ 1 - bit_at (2 ^ (k - 1)) (n - 1) = bit_at_not w64 (2 ^ (k - 1)) (n - 1) (small (k - 1) (omega arith)) (omega arith) in
-        rw (bit_at_and, cut) (two (bit_at mask (n - 1)) (bit_at (2 ^ (k - 1)) (n - 1)) (bit_at-lt mask (n - 1)) (bit_at-lt (2 ^ (k - 1)) (n - 1)) (has_pow k n above))
-
-    no_more : (y : ℕ) → (not (nat_eq n 0) && nat_eq (min 0 y) 1) ≡ (not (nat_eq n k) && (not (nat_eq n 0) && nat_eq 0 1))
-    no_more y = grind (arith, nat_tests)
-
-    outer : 16 < n → has (bit_and mask (bit_not w64 (2 ^ (k - 1)))) n ≡ (not (nat_eq n k) && has mask n)
-    outer high =
-        let none : bit_at mask (n - 1) ≡ 0 = bit_above mask (n - 1) word (omega arith) in
-        rw (bit_at_and, none) (no_more (bit_at (bit_not w64 (2 ^ (k - 1))) (n - 1)))
+    apart : (x y : ℕ) → not (nat_eq x y) ≡ true → x ≢ y
+    apart x y t e = let same : nat_eq x y ≡ true = grind (arith, nat_tests, e) in true≢false (sym t ∙ ap not same)
 
 -- only the nodes 1 to 16 stand in a set
-pub with_small : (mask k : ℕ) → mask < 2 ^ 16 → k ≤ 16 → bit_or mask (2 ^ (k - 1)) < 2 ^ 16
-with_small mask k a b = or_lt 16 mask (2 ^ (k - 1)) a (pow-lt {i = k - 1} {j = 16} (omega arith))
+pub with_small : (mask k : ℕ) → mask < 2 ^ 16 → 0 < k → k ≤ 16 → with_node mask k < 2 ^ 16
+with_small mask k a above few = rw (one_word k above) (or_lt 16 mask (2 ^ (k - 1)) a (pow-lt {i = k - 1} {j = 16} (omega (arith, above, few))))
 
-pub count_none : (mask : ℕ) → count_to mask 0 ≡ 0
-unfolding count_to
+pub count_none : (mask : ℕ) → count_below mask 0 ≡ 0
+unfolding count_below
 count_none mask = refl
 
-pub count_more : (mask n : ℕ) → count_to mask (n + 1) ≡ count_to mask n + cond (has mask (n + 1)) 1 0
-unfolding count_to
+pub count_more : (mask n : ℕ) → count_below mask (n + 1) ≡ count_below mask n + cond (has mask (n + 1)) 1 0
+unfolding count_below
 count_more mask n = rw add-one refl

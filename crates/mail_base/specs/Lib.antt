@@ -1,9 +1,12 @@
 pub mod Answers
-pub mod LowerNames
 pub mod NameFaults
 pub mod Orders
 pub mod Buckets
-pub mod Sets
 pub mod Codes
 pub mod Delivers
 pub mod Items
+pub mod Seen
+pub mod Bodies
+pub mod KeyOrder
+pub mod KeyMaps
+pub mod ObjectCodes

@@ -1,5 +1,5 @@
 // A list of ids of messages.
-ghost use Rattle.std.specs.Prelude.{◌≡◌, ◌↔◌, [], ◌∷◌, ◌++◌, length, IsTrue, OnOk, OnErr};
+ghost use Rattle.std.specs.Prelude.{◌≡◌, ◌↔◌, [], ◌∷◌, ◌++◌, length, IsTrue, IfOk, OnOk, OnErr};
 
 use crate::MsgId;
 use std::alloc::{AllocError, Global};
@@ -32,6 +32,28 @@ impl Ids {
         Ids {
             held: Vec::new(alloc),
         }
+    }
+
+    /// The ids of the vector. It takes no memory.
+    pub fn from_vec(held: Vec<MsgId>) -> Ids
+        ensures { result ≡ held.items }
+    {
+        Ids { held }
+    }
+
+    /// The same ids once more.
+    ///
+    /// # Errors
+    ///
+    /// Only want of memory.
+    pub fn copy(&self) -> Result<Ids, AllocError>
+        ensures { IfOk result (λ ids. ids ≡ self.now) }
+    {
+        let mut held = Vec::new(*self.held.allocator());
+        for id in &self.held {
+            held.push(*id)?;
+        }
+        Ok(Ids { held })
     }
 
     /// Puts the id behind the others.

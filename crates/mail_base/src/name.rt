@@ -5,10 +5,9 @@ ghost use Rattle.std.specs.List.{list_any};
 ghost use Rattle.std.specs.Char.{to_ascii_lowercase};
 ghost use Rattle.std.specs.Cmp.Lexicographic.{pointwise, slice_cmp, nat_list_eq_equiv, nat_list_cmp_total, texts_ties, texts_po};
 ghost use Rattle.std.specs.Cmp.{partial_equiv_from_equiv};
-ghost use Rattle.mail_model.specs.Names.{is_no_name_octet, begins_with, is_name, lower};
+ghost use Rattle.mail_model.specs.Names.{is_no_name_octet, begins_with, is_name, lower, IsLowerName};
 ghost use Rattle.mail_base.specs.Answers.{Answers};
 ghost use Rattle.mail_base.specs.NameFaults.{name_fault};
-ghost use Rattle.mail_base.specs.LowerNames.{IsLowerName};
 
 use std::alloc::{AllocError, Global};
 use std::cmp::Ordering;
@@ -46,7 +45,7 @@ pub struct Name {
 
 impl Model for Name {
     ghost use Rattle.std.specs.Prelude.{List, ℕ};
-    ghost use Rattle.mail_base.specs.LowerNames.{IsLowerName};
+    ghost use Rattle.mail_model.specs.Names.{IsLowerName};
 
     ghost Value = { List ℕ };
 

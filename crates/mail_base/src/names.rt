@@ -1,5 +1,5 @@
 // A list of names.
-ghost use Rattle.std.specs.Prelude.{◌≡◌, ◌↔◌, [], ◌∷◌, ◌++◌, length, IsTrue, OnOk, OnErr};
+ghost use Rattle.std.specs.Prelude.{◌≡◌, ◌↔◌, [], ◌∷◌, ◌++◌, length, IsTrue, IfOk, OnOk, OnErr};
 ghost use Rattle.mail_model.specs.Session.{stands_in};
 
 use crate::Name;
@@ -28,6 +28,28 @@ impl Names {
         Names {
             held: Vec::new(alloc),
         }
+    }
+
+    /// The names of the vector. It takes no memory.
+    pub fn from_vec(held: Vec<Name>) -> Names
+        ensures { result ≡ held.items }
+    {
+        Names { held }
+    }
+
+    /// The same names once more.
+    ///
+    /// # Errors
+    ///
+    /// Only want of memory.
+    pub fn copy(&self) -> Result<Names, AllocError>
+        ensures { IfOk result (λ names. names ≡ self.now) }
+    {
+        let mut held = Vec::new(*self.held.allocator());
+        for name in &self.held {
+            held.push(name.copy()?)?;
+        }
+        Ok(Names { held })
     }
 
     /// Puts the name behind the others.

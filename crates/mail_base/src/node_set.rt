@@ -1,6 +1,6 @@
 // A set of nodes, in one word.
 ghost use Rattle.std.specs.Prelude.{◌≡◌, ◌<◌, ◌≤◌, ◌+◌, ◌-◌, ◌^◌, ◌||◌, ◌&&◌, not, false, ℕ, nat_eq, bit_or};
-ghost use Rattle.mail_base.specs.Sets.{has, count_to};
+ghost use Rattle.object_model.specs.Sets.{has, with_node, without_node, count_below, count_in};
 
 use crate::NodeNo;
 use std::marker::Model;
@@ -24,7 +24,7 @@ impl Model for NodeSet {
 }
 
 fn bit_of(node: NodeNo) -> u64
-    ensures bit { result ≡ 2 ^ (node - 1) }
+    ensures word { result ≡ 2 ^ (node - 1) }
     ensures low { 0 < node }
     ensures high { node ≤ 16 }
 {
@@ -33,7 +33,7 @@ fn bit_of(node: NodeNo) -> u64
 
 #[tactic(auto, using(crate::proofs::Sets::has_shifted))]
 fn holds(word: u64, at: u8) -> bool
-    requires { at < 16 }
+    requires { at < 64 }
     ensures { result ≡ has word (at + 1) }
 {
     (word >> at) & 1 == 1
@@ -73,7 +73,8 @@ impl NodeSet {
 
     /// The set with this node in it.
     pub fn with(self, node: NodeNo) -> NodeSet
-        ensures { (n : ℕ) → has result n ≡ (nat_eq n node || has self n) }
+        ensures mask { result ≡ with_node self node }
+        ensures members { (n : ℕ) → has result n ≡ (nat_eq n node || has self n) }
     {
         NodeSet {
             word: self.word | bit_of(node),
@@ -82,7 +83,8 @@ impl NodeSet {
 
     /// The set without this node.
     pub fn without(self, node: NodeNo) -> NodeSet
-        ensures { (n : ℕ) → has result n ≡ (not (nat_eq n node) && has self n) }
+        ensures mask { result ≡ without_node self node }
+        ensures members { (n : ℕ) → has result n ≡ (not (nat_eq n node) && has self n) }
     {
         NodeSet {
             word: self.word & !bit_of(node),
@@ -102,10 +104,10 @@ impl NodeSet {
     /// How many nodes it has.
     #[tactic(auto, using(crate::proofs::Sets::count_none, crate::proofs::Sets::count_more))]
     pub fn count(self) -> u32
-        ensures { result ≡ count_to self 16 }
+        ensures { result ≡ count_in self }
     {
         let mut count = 0;
-        for at in 0..16u8 {
+        for at in 0..64u8 {
             if holds(self.word, at) {
                 count += 1;
             }

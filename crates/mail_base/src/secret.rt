@@ -1,9 +1,12 @@
 // The secret of a user.
-ghost use Rattle.std.specs.Prelude.{◌≡◌, Some, None, IfOk, if◌then◌else◌};
+ghost use Rattle.std.specs.Prelude.{◌≡◌, IsTrue, nat_eq, Some, None, IfOk, if◌then◌else◌};
+ghost use Rattle.std.specs.Ordering.{nat_cmp};
+ghost use Rattle.std.specs.Cmp.Lexicographic.{pointwise, slice_cmp};
 ghost use Rattle.std.specs.List.{list_all};
 ghost use Rattle.mail_model.specs.Names.{is_printable, is_secret};
 
 use std::alloc::{AllocError, Global};
+use std::cmp::Ordering;
 use std::marker::Model;
 
 /// The secret of a user: 1 to 64 printable octets. A contract sees its octets.
@@ -56,7 +59,8 @@ impl Secret {
 
     /// Its octets as they were given.
     pub fn octets(&self) -> &[u8]
-        ensures { result.now ≡ self.now }
+        ensures octets { result.now ≡ self.now }
+        ensures secret { IsTrue (is_secret result.now) }
     {
         &self.octets
     }
@@ -72,5 +76,19 @@ impl Secret {
         Ok(Secret {
             octets: self.octets.clone()?,
         })
+    }
+
+    /// Whether both are the same octets. It takes no memory.
+    pub fn is_same(&self, other: &Secret) -> bool
+        ensures { result ≡ pointwise nat_eq self.now other.now }
+    {
+        self.octets() == other.octets()
+    }
+
+    /// Which of both comes first by their octets. It takes no memory.
+    pub fn compare(&self, other: &Secret) -> Ordering
+        ensures { result ≡ slice_cmp nat_cmp self.now other.now }
+    {
+        self.octets().cmp(other.octets())
     }
 }

@@ -5,3 +5,4 @@ pub mod MapLaws
 pub mod SaidLaws
 pub mod Merges
 pub mod Logs
+pub mod SaidViews

@@ -18,7 +18,8 @@ use Rattle.mail_model.specs.Record.{Record, rank_of}
 use Rattle.mail_model.specs.Record.Record.{Boot, Promise, Octets, Stated, Retired}
 use Rattle.object_model.specs.Lists.{Among}
 use Rattle.object_model.specs.Keys.{is_same_key}
-use Rattle.object_model.specs.States.{secret_in, state_cmp, is_below, later, joined, join_with, join_after, join_all, IsOfKind}
+use Rattle.object_model.specs.States.{secret_in, state_cmp, is_below, later, joined, join_with, join_after, join_all}
+use Rattle.mail_model.specs.Grammar.{IsOfKind}
 use Rattle.object_model.specs.Merge.{IsMerge}
 use Rattle.object_model.specs.Said.{said, held_after, states_in}
 use Rattle.object_model.proofs.Lists.{among_front, among_last, among_behind, among_either}

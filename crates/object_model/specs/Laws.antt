@@ -7,7 +7,8 @@ use Rattle.mail_model.specs.Identity.Value.{Gone}
 use Rattle.mail_model.specs.Record.{Record}
 use Rattle.object_model.specs.Lists.{Among}
 use Rattle.object_model.specs.Sets.{has}
-use Rattle.object_model.specs.States.{joined, join_all, IsOfKind}
+use Rattle.object_model.specs.States.{joined, join_all}
+use Rattle.mail_model.specs.Grammar.{IsOfKind}
 use Rattle.object_model.specs.Merge.{IsMerge}
 use Rattle.object_model.specs.Said.{said, states_in}
 use Rattle.object_model.specs.UpdateLog.{Logged, Log, noted, acknowledged, retired}

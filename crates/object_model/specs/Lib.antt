@@ -8,3 +8,4 @@ pub mod UpdateLog
 pub mod Letters
 pub mod Mishaps
 pub mod Laws
+pub mod Views

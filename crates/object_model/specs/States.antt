@@ -65,12 +65,3 @@ join_after held (state ∷ states) = join_after (Some (join_with held state)) st
 -- and of these alone; nothing where there are none
 abbrev pub join_all : List State → Option State
 join_all states = join_after None states
-
--- the state may stand under the key: secrets are of profiles alone
-abbrev pub IsOfKind : Key → Value → Type 0
-IsOfKind (Profile user) Here = ⊥
-IsOfKind (Profile user) Gone = ⊥
-IsOfKind (Profile user) (Secret octets) = Unit {0}
-IsOfKind (Message user id) Here = Unit {0}
-IsOfKind (Message user id) Gone = Unit {0}
-IsOfKind (Message user id) (Secret octets) = ⊥

@@ -18,13 +18,15 @@
 //! - `UpdateLog`: which targets have not acknowledged a state, and the steps of the log.
 //! - `Letters`: the letters between nodes, and what each carries.
 //! - `Mishaps`: what may befall a call, and how often it did.
+//! - `Views`: that a copy is here or gone, as the join of its states.
 //! - `Laws`: what holds of all these.
 //!
 //! The laws are functions that do nothing, and their contracts hold of the definitions alone. A join
 //! is commutative, associative and idempotent, and the same states in any order and number have one
 //! join (`joins_commute`, `joins_associate`, `joins_repeat`, `join_is_merge`, `one_join`). A copy that
 //! is gone stays gone (`gone_stays`). What a disk says of a key is the join of the states that its
-//! records have of it (`says_join`). A target leaves an entry of the log only for that entry's very
+//! records have of it (`says_join`); that a copy is here, or gone, is a view of it (`here_is_said`,
+//! `gone_is_said`). A target leaves an entry of the log only for that entry's very
 //! state, and no step of the log touches another key (`clears_that_state_alone`, `owes_targets`,
 //! `leaves_other_keys`).
 //!
@@ -38,8 +40,10 @@
 #![tactic(auto)]
 
 mod laws;
+mod views;
 
 pub use laws::{
     clears_that_state_alone, gone_stays, join_is_merge, joins_associate, joins_commute,
     joins_repeat, leaves_other_keys, one_join, owes_targets, says_join,
 };
+pub use views::{gone_is_said, here_is_said};

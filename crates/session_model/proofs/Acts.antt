@@ -1,5 +1,5 @@
 -- The acts of a tape keep each session's talk, and the transcript shows it, cut anywhere.
-use Rattle.std.proofs.Common.{◌≡◌, ◌≢◌, ⊎_elim, ◌+◌, ◌-◌, ℕ, zero, suc, List, [], ◌∷◌, ◌++◌, length, map, flat_map, Option, Some, None, refl, sym, ap, ap₂, ◌∙◌, subst, arith, append_assoc, append-nil, slice_get, slice_set}
+use Rattle.std.proofs.Common.{◌≡◌, ◌≢◌, ◌⊎◌, inl, inr, ⊎_elim, ◌+◌, ◌-◌, ℕ, zero, suc, List, [], ◌∷◌, ◌++◌, length, map, flat_map, Option, Some, None, refl, sym, ap, ap₂, ◌∙◌, subst, arith, append_assoc, append-nil, slice_get, slice_set}
 use Rattle.std.proofs.lemmas.List.{map-append}
 use Rattle.std.proofs.lemmas.List.Concat.{flat_map-append}
 use Rattle.std.proofs.lemmas.Option.{none-some, slice_get_past}
@@ -7,7 +7,8 @@ use Rattle.std.proofs.lemmas.Bool.{cases_eq}
 use Rattle.mail_model.specs.Plan.{Plan}
 use Rattle.mail_model.specs.Tape.{Protocol}
 use Rattle.mail_model.specs.Transcript.{Entry}
-use Rattle.mail_model.specs.Steps.{said_lines, all_of}
+use Rattle.mail_model.specs.Transcript.{closed_event}
+use Rattle.mail_model.specs.Transcript.{said_lines, all_of}
 use Rattle.mail_model.specs.Shown.{lines_to}
 use Rattle.mail_model.proofs.Sessions.{get_set, get_set_other, map_set, get_push, get_push_other, by_number, fed_other}
 use Rattle.mail_model.proofs.ShownLists.{lines_both, own_lines, other_lines}
@@ -59,7 +60,7 @@ module _ (sessions : List Session) where
   pushed_other new (suc m) other =
       by_number (sessions ++ new ∷ []) m ∙ get_push_other sessions new m (λ e. other (omega (arith, e))) ∙ sym (by_number sessions m)
 
-  -- behind the last there is none
+  -- after the last there is none
   pub none_behind : session_at sessions (length sessions + 1) ≡ None
   none_behind =
       let e : length sessions + 1 ≡ suc (length sessions) = omega arith in
@@ -67,29 +68,32 @@ module _ (sessions : List Session) where
 
 -- what acts write for a session
 
--- the end of a session is an event
+-- the end of a session is an event, or it does not end
+pub closing_is : (k : ℕ) (deed : Deed) (standing : Standing) → (closing k deed standing ≡ []) ⊎ (closing k deed standing ≡ closed_event k ∷ [])
+closing_is k Closes standing = inl refl
+closing_is k (IsFed octets) (Hearing state) = inl refl
+closing_is k (IsFed octets) (Waiting told call) = inl refl
+closing_is k (IsFed octets) EndedByQuit = inr refl
+closing_is k (IsFed octets) EndedDown = inr refl
+closing_is k (IsFed octets) EndedClosed = inl refl
+closing_is k (Hears one) (Hearing state) = inl refl
+closing_is k (Hears one) (Waiting told call) = inl refl
+closing_is k (Hears one) EndedByQuit = inr refl
+closing_is k (Hears one) EndedDown = inr refl
+closing_is k (Hears one) EndedClosed = inl refl
+closing_is k (IsAnswered asks answer reply) (Hearing state) = inl refl
+closing_is k (IsAnswered asks answer reply) (Waiting told call) = inl refl
+closing_is k (IsAnswered asks answer reply) EndedByQuit = inr refl
+closing_is k (IsAnswered asks answer reply) EndedDown = inr refl
+closing_is k (IsAnswered asks answer reply) EndedClosed = inl refl
+closing_is k Falls (Hearing state) = inl refl
+closing_is k Falls (Waiting told call) = inl refl
+closing_is k Falls EndedByQuit = inr refl
+closing_is k Falls EndedDown = inr refl
+closing_is k Falls EndedClosed = inl refl
+
 closing_silent : (j k : ℕ) (deed : Deed) (standing : Standing) → lines_to j (closing k deed standing) ≡ []
-closing_silent j k Closes standing = refl
-closing_silent j k (IsFed octets) (Hearing state) = refl
-closing_silent j k (IsFed octets) (Waiting told call) = refl
-closing_silent j k (IsFed octets) EndedByQuit = refl
-closing_silent j k (IsFed octets) EndedDown = refl
-closing_silent j k (IsFed octets) EndedClosed = refl
-closing_silent j k (Hears one) (Hearing state) = refl
-closing_silent j k (Hears one) (Waiting told call) = refl
-closing_silent j k (Hears one) EndedByQuit = refl
-closing_silent j k (Hears one) EndedDown = refl
-closing_silent j k (Hears one) EndedClosed = refl
-closing_silent j k (IsAnswered asks answer reply) (Hearing state) = refl
-closing_silent j k (IsAnswered asks answer reply) (Waiting told call) = refl
-closing_silent j k (IsAnswered asks answer reply) EndedByQuit = refl
-closing_silent j k (IsAnswered asks answer reply) EndedDown = refl
-closing_silent j k (IsAnswered asks answer reply) EndedClosed = refl
-closing_silent j k Falls (Hearing state) = refl
-closing_silent j k Falls (Waiting told call) = refl
-closing_silent j k Falls EndedByQuit = refl
-closing_silent j k Falls EndedDown = refl
-closing_silent j k Falls EndedClosed = refl
+closing_silent j k deed standing = ⊎_elim (λ none. ap (lines_to j) none) (λ one. ap (lines_to j) one) (closing_is k deed standing)
 
 -- what session k says
 pub does_own : (k : ℕ) (said : List (List ℕ)) (deed : Deed) (standing : Standing) → lines_to k (said_lines k said ++ closing k deed standing) ≡ said
@@ -129,7 +133,7 @@ spoken_so plan octets octets_now lines lines_now session now o l s spoken =
 abbrev pub kind_of : Session → Protocol × ℕ
 kind_of session = (session.protocol, session.node)
 
--- all sessions behind these acts
+-- all sessions after these acts
 pub record Kept (plan : Plan) (acts : List Act) (entries : List Entry) (sessions : List Session) : Type 0 where
   pub kinds : flat_map opened_by acts ≡ map kind_of sessions
   pub each : (k : ℕ) → Spoken plan (flat_map (fed_by k) acts) (lines_to k entries) (session_at sessions k)

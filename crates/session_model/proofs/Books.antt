@@ -3,29 +3,20 @@ use Rattle.std.proofs.Common.{◌≡◌, ◌⊎◌, inl, inr, ⊎_elim, ℕ, Boo
 use Rattle.std.proofs.lemmas.List.{map-append}
 use Rattle.std.proofs.lemmas.List.Concat.{flat_map-append}
 use Rattle.std.proofs.lemmas.Bool.{cases_eq, cond-true, cond-false, eq-eqb, ne_eqb}
-use Rattle.mail_model.specs.Identity.{Id}
-use Rattle.mail_model.specs.Tape.{Protocol}
 use Rattle.mail_model.specs.Told.{Mail}
 use Rattle.mail_model.specs.Stored.{Ack, mails_in}
 use Rattle.session_model.specs.Calls.{Call, Answer}
 use Rattle.session_model.specs.Calls.Call.{Deliver, Login, Fetch, Strike}
-use Rattle.session_model.specs.Calls.Answer.{Stored}
-use Rattle.session_model.specs.Talk.{Exchange, Goes, opening, farewell}
-use Rattle.session_model.specs.Talk.Standing.{Hearing}
+use Rattle.session_model.specs.Talk.{Exchange}
 use Rattle.session_model.specs.Mailing.{Filing, filing_of, filings}
-use Rattle.session_model.specs.Sessions.{Session, IsCut, session_at, exchanges_of}
 use Rattle.session_model.specs.Facts.{ack_of}
-use Rattle.session_model.specs.Logs.{Asked, Answered, IsLogged, call_in, answer_in, calls_of, answers_of, asked_by, answered_by, asked_in, answered_in}
-use Rattle.session_model.specs.Promises.{Deletes}
-use Rattle.session_model.specs.Books.{AtMostOne, Among, BooksAcknowledge, BooksStrike, acks_by}
-use Rattle.session_model.proofs.Storing.{told_so, filings_both}
-use Rattle.session_model.proofs.Deleting.{reads_mail, deletes}
-use Rattle.session_model.proofs.Striking.{quit_strikes}
+use Rattle.session_model.specs.Logs.{Asked, Answered, call_in, answer_in, calls_of, answers_of, asked_in, answered_in}
+use Rattle.session_model.specs.Books.{Among, acks_by}
 
 -- messages
 
 -- the messages of filings
-abbrev mails : List Filing → List Mail
+abbrev pub mails : List Filing → List Mail
 mails filed = map (λ filing. filing.mail) filed
 
 -- the filings of calls with answers
@@ -69,7 +60,7 @@ mails_one k session (filing ∷ filed) more = by_test (nat_eq session k) (mails_
     by_test false same = same
 
 -- the messages of session k are those of its answers
-mails_answered : (k : ℕ) (answered : List Answered) → mails_in k (flat_map acks_by answered) ≡ mails (filed_by (answered_in k answered))
+pub mails_answered : (k : ℕ) (answered : List Answered) → mails_in k (flat_map acks_by answered) ≡ mails (filed_by (answered_in k answered))
 mails_answered k [] = refl
 mails_answered k (one ∷ answered) =
     mails_one k one.session (filing_of (Some one.call) (Some one.answer)) (flat_map acks_by answered) ∙ by_test (nat_eq one.session k) (mails_answered k answered)
@@ -81,40 +72,6 @@ mails_answered k (one ∷ answered) =
         ap (λ (l : List Mail). mails (filing_of (Some one.call) (Some one.answer)) ++ l) same
         ∙ sym (map-append (λ (filing : Filing). filing.mail) (filing_of (Some one.call) (Some one.answer)) (filed_by (answered_in k answered)))
     by_test false same = same
-
--- one exchange files one message at most
-one_filing : (call : Option Call) (answer : Option Answer) → AtMostOne (mails (filing_of call answer))
-one_filing None answer = inl refl
-one_filing (Some (Deliver mail)) None = inl refl
-one_filing (Some (Deliver mail)) (Some (Stored id)) = inr (mail, refl)
-one_filing (Some (Deliver mail)) (Some answer) = inl refl
-one_filing (Some (Login user secret)) answer = inl refl
-one_filing (Some (Fetch user id)) answer = inl refl
-one_filing (Some (Strike user ids)) answer = inl refl
-
--- so do the exchanges whose reply was not got whole
-few_others : (others : List Exchange) (last part missing : List (List ℕ)) → IsCut others last part missing → AtMostOne (mails (filings others))
-few_others [] last part missing cut = inl refl
-few_others (one ∷ []) last part missing cut =
-    subst (λ (l : List Filing). AtMostOne (mails l)) (sym (append-nil (filing_of one.call one.answer))) (one_filing one.call one.answer)
-few_others (one ∷ other ∷ more) last part missing cut = absurd cut
-
-pub books_acknowledge : BooksAcknowledge
-books_acknowledge plan lines entries acts sessions book shows is_book = record {
-  copies = is_book.acked;
-  told = λ k session at smtp.
-      let is = shows.are.each k session at in
-      let told = told_so plan lines entries k session is smtp in
-      let logged : IsLogged (asked_in k (flat_map asked_by acts)) (answered_in k (flat_map answered_by acts)) (Some session) =
-      subst (IsLogged (asked_in k (flat_map asked_by acts)) (answered_in k (flat_map answered_by acts))) at (shows.logged k) in (
-        mails (filings session.others),
-        few_others session.others (farewell session.protocol session.node session.standing) is.gets.part is.gets.missing is.gets.cut,
-        mails_answered k (flat_map answered_by acts) ∙ ap (λ (l : List (Call × Answer)). mails (filed_by l)) logged.1 ∙ ap mails (filed_all (exchanges_of session))
-            ∙ ap mails (filings_both session.whole session.others)
-            ∙ map-append (λ (filing : Filing). filing.mail) (filings session.whole) (filings session.others)
-            ∙ ap (λ (l : List Mail). l ++ mails (filings session.others)) told.messages,
-      );
-}
 
 -- deletions
 
@@ -138,7 +95,7 @@ among_in one (other ∷ asked) among = ⊎_elim
     by_test false is = is
 
 -- and the other way round
-in_among : (k : ℕ) (call : Call) (asked : List Asked) → IsCallIn call (asked_in k asked) → Among (record { session = k; call = call }) asked
+pub in_among : (k : ℕ) (call : Call) (asked : List Asked) → IsCallIn call (asked_in k asked) → Among (record { session = k; call = call }) asked
 in_among k call [] is = absurd is
 in_among k call (other ∷ asked) is = ⊎_elim
     (λ same. ⊎_elim
@@ -166,44 +123,10 @@ call_at call (one ∷ exchanges) is = by_call one.call refl (λ h. call_at call 
     by_call (Some own) there rest h = ⊎_elim (λ same. ([], exchanges, one, refl, there ∙ ap Some same)) (λ x. later (rest x)) h
 
 -- and the other way round
-at_call : (call : Call) (before behind : List Exchange) (one : Exchange) → one.call ≡ Some call → IsCallIn call (calls_of (before ++ one ∷ behind))
+pub at_call : (call : Call) (before behind : List Exchange) (one : Exchange) → one.call ≡ Some call → IsCallIn call (calls_of (before ++ one ∷ behind))
 at_call call [] behind one is = subst (λ (c : Option Call). IsCallIn call (call_in c ++ calls_of behind)) (sym is) (inl refl)
 at_call call (first ∷ before) behind one is = by_call first.call (at_call call before behind one is)
   where
     by_call : (here : Option Call) → IsCallIn call (calls_of (before ++ one ∷ behind)) → IsCallIn call (call_in here ++ calls_of (before ++ one ∷ behind))
     by_call None h = h
     by_call (Some own) h = inr h
-
-pub books_strike : BooksStrike
-books_strike plan lines entries acts sessions book shows is_book once = record {
-  struck = is_book.struck;
-  marked = λ k user ids among.
-      by_session k user ids (session_at sessions k) refl (among_in (record { session = k; call = Strike user ids }) (flat_map asked_by acts) among);
-  all = λ k n session before behind quit at pop are quits marked.
-      let is = shows.are.each k session at in
-      let strikes = quit_strikes plan session.node session.octets (exchanges_of session) is.talk.before session.rest
-      (subst (λ (p : Protocol). Goes plan session.node (Hearing (opening p)) session.octets (exchanges_of session) is.talk.before session.rest) pop is.talk.goes)
-      (once k session at) before behind quit n are quits marked in
-      let logged : IsLogged (asked_in k (flat_map asked_by acts)) (answered_in k (flat_map answered_by acts)) (Some session) =
-      subst (IsLogged (asked_in k (flat_map asked_by acts)) (answered_in k (flat_map answered_by acts))) at (shows.logged k) in (
-        strikes.0,
-        strikes.1,
-        in_among k (Strike strikes.0 strikes.1) (flat_map asked_by acts)
-            (subst (IsCallIn (Strike strikes.0 strikes.1)) (ap calls_of (sym are) ∙ sym logged.0) (at_call (Strike strikes.0 strikes.1) before behind quit strikes.2)),
-      );
-  dropped = is_book.dropped;
-}
-  where
-    by_session : (k : ℕ) (user : List ℕ) (ids : List Id) (there : Option Session) → session_at sessions k ≡ there → IsCallIn (Strike user ids) (asked_in k (flat_map asked_by acts))
-        → (session : Session) × (quit : Exchange) × (session_at sessions k ≡ Some session) × Deletes entries k session user ids quit
-    by_session k user ids None none is =
-        let logged : IsLogged (asked_in k (flat_map asked_by acts)) (answered_in k (flat_map answered_by acts)) None =
-        subst (IsLogged (asked_in k (flat_map asked_by acts)) (answered_in k (flat_map answered_by acts))) none (shows.logged k) in
-        absurd (subst (IsCallIn (Strike user ids)) logged.0 is)
-    by_session k user ids (Some session) at is =
-        let logged : IsLogged (asked_in k (flat_map asked_by acts)) (answered_in k (flat_map answered_by acts)) (Some session) =
-        subst (IsLogged (asked_in k (flat_map asked_by acts)) (answered_in k (flat_map answered_by acts))) at (shows.logged k) in
-        let there = call_at (Strike user ids) (exchanges_of session) (subst (IsCallIn (Strike user ids)) logged.0 is) in
-        let known = shows.are.each k session at in
-        let pop = reads_mail plan lines entries k session known (once k session at) user ids there.2 (there.0, there.1, there.3, there.4) in
-        (session, there.2, at, deletes plan lines entries k session known (once k session at) user ids there.2 (there.0, there.1, there.3, there.4) pop)

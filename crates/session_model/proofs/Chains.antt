@@ -22,7 +22,7 @@ goes_more plan node (Hearing state) octets more (one ∷ xs) last rest g =
     (g.0 ++ more, next_more plan node state octets more g.0 one g.1, goes_more plan node (stands_by plan node state one) g.0 more xs last rest g.2)
 goes_more plan node first octets more (one ∷ xs) last rest g = absurd g
 
--- one chain behind another
+-- one chain after another
 pub goes_both : (plan : Plan) (node : ℕ) (first : Standing) (octets : List ℕ) (xs ys : List Exchange) (mid last : Standing) (left rest : List ℕ)
     → Goes plan node first octets xs mid left → Goes plan node mid left ys last rest → Goes plan node first octets (xs ++ ys) last rest
 goes_both plan node first octets [] ys mid last left rest g h =
@@ -38,7 +38,7 @@ pub goes_push : (plan : Plan) (node : ℕ) (first : Standing) (octets : List ℕ
 goes_push plan node first octets xs state rest left one g next =
     goes_both plan node first octets xs (one ∷ []) (Hearing state) (stands_by plan node state one) rest left g (left, next, (refl, refl))
 
--- One exchange in a chain: what went before it, how the session stood, and what comes behind.
+-- One exchange in a chain: what went before it, how the session stood, and what comes after.
 pub record At (plan : Plan) (node : ℕ) (first : Standing) (octets : List ℕ) (before : List Exchange) (one : Exchange) (behind : List Exchange) (last : Standing) (rest : List ℕ) : Type 0 where
   pub state : State
   pub there : List ℕ

@@ -10,7 +10,7 @@ use Rattle.mail_model.specs.Session.{Unit, Told, reply_text, after_unit, is_quit
 use Rattle.mail_model.specs.Session.Unit.{Line, Text}
 use Rattle.mail_model.specs.PopReplies.{one_line}
 use Rattle.mail_model.specs.Told.{Mail, mail_of}
-use Rattle.mail_model.proofs.Mailboxes.{HasOnce, talk_once}
+use Rattle.mail_model.proofs.Mailboxes.{HasOnce, unit_once as mailboxes_once}
 use Rattle.session_model.specs.Calls.{Call, Answer}
 use Rattle.session_model.specs.Calls.Call.{Deliver, Strike}
 use Rattle.session_model.specs.Calls.Answer.{Stored, Failed}
@@ -20,7 +20,7 @@ use Rattle.session_model.specs.Talk.Lead.{Says, Ends, Asks}
 use Rattle.session_model.specs.Talk.Standing.{Hearing, Waiting, EndedByQuit, EndedDown, EndedClosed}
 use Rattle.session_model.proofs.Chains.{goes_at, through}
 
--- a front of a chain is one
+-- a prefix of a chain is one
 pub goes_front : (plan : Plan) (node : ℕ) (first : Standing) (octets : List ℕ) (xs ys : List Exchange) (last : Standing) (rest : List ℕ)
     → Goes plan node first octets (xs ++ ys) last rest
     → (mid : Standing) × (left : List ℕ) × Goes plan node first octets xs mid left × Goes plan node mid left ys last rest
@@ -97,13 +97,13 @@ mail_step plan node talk one led = by_unit one.unit led
     }
 
     unit_once : HasOnce talk.envelope → HasOnce (after_unit plan talk one.unit (first_line one.reply)).envelope
-    unit_once once = talk_once plan talk ((one.unit, first_line one.reply) ∷ []) once
+    unit_once once = mailboxes_once plan talk one.unit (first_line one.reply) once
 
     still_once : (lines : List (List ℕ)) (answer : Option Answer) → one.answer ≡ answer → HasOnce talk.envelope → IsOnceAt (stands plan (Mailing talk) one (Asks (Deliver (mail_of talk lines))))
     still_once lines None there once = subst (λ (a : Option Answer). IsOnceAt (stands plan (Mailing talk) (record one { answer = a }) (Asks (Deliver (mail_of talk lines))))) (sym there) tt
     still_once lines (Some answer) there once =
         subst (λ (a : Option Answer). IsOnceAt (stands plan (Mailing talk) (record one { answer = a }) (Asks (Deliver (mail_of talk lines))))) (sym there)
-        (talk_once plan talk ((one.unit, []) ∷ []) once)
+        (mailboxes_once plan talk one.unit [] once)
 
     by_answer : (lines : List (List ℕ)) → one.call ≡ Some (Deliver (mail_of talk lines)) → (answer : Option Answer) → one.answer ≡ answer
         → Awaits (Deliver (mail_of talk lines)) answer one.reply → IsShort one.reply

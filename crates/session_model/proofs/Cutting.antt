@@ -5,7 +5,7 @@ use Rattle.std.proofs.lemmas.Bool.{cases_eq}
 use Rattle.mail_model.specs.Plan.{Plan}
 use Rattle.mail_model.specs.Tape.{Protocol}
 use Rattle.mail_model.specs.Transcript.{Entry}
-use Rattle.mail_model.specs.Steps.{said_lines, all_of}
+use Rattle.mail_model.specs.Transcript.{said_lines, all_of}
 use Rattle.mail_model.specs.Shown.{lines_to}
 use Rattle.mail_model.proofs.ShownLists.{lines_both, own_lines, other_lines}
 use Rattle.mail_model.proofs.ShownCuts.{no_part, front_of_one}

@@ -46,7 +46,7 @@ by_protocol Pop = inr refl
 module _ (plan : Plan) (lines : List (List ℕ)) (entries : List Entry) (k : ℕ) (session : Session) (is : IsSession plan lines entries k session)
     (once : Each ListsOnce (exchanges_of session)) where
   -- its chain
-  goes_as : (protocol : Protocol) → session.protocol ≡ protocol → Goes plan session.node (Hearing (opening protocol)) session.octets (exchanges_of session) is.talk.before session.rest
+  pub goes_as : (protocol : Protocol) → session.protocol ≡ protocol → Goes plan session.node (Hearing (opening protocol)) session.octets (exchanges_of session) is.talk.before session.rest
   goes_as protocol speaks = subst (λ (p : Protocol). Goes plan session.node (Hearing (opening p)) session.octets (exchanges_of session) is.talk.before session.rest) speaks is.talk.goes
 
   -- a session that asks for a deletion reads mail
@@ -74,7 +74,7 @@ module _ (plan : Plan) (lines : List (List ℕ)) (entries : List Entry) (k : ℕ
   bye_is user ids (Some answer) reply says bye = absurd says
 
   -- so does the exchange that asked for it
-  dropped : (user : List ℕ) (ids : List Id) (before behind : List Exchange) (one : Exchange) → exchanges_of session ≡ before ++ one ∷ behind → one.call ≡ Some (Strike user ids)
+  pub dropped : (user : List ℕ) (ids : List Id) (before behind : List Exchange) (one : Exchange) → exchanges_of session ≡ before ++ one ∷ behind → one.call ≡ Some (Strike user ids)
       → one.reply ≡ one_line bye_text → one.answer ≡ Some Dropped
   dropped user ids before behind one are call bye =
       let at = goes_at plan session.node (Hearing (opening session.protocol)) session.octets before one behind is.talk.before session.rest
@@ -82,7 +82,7 @@ module _ (plan : Plan) (lines : List (List ℕ)) (entries : List Entry) (k : ℕ
       bye_is user ids one.answer one.reply (awaits (lead_of plan session.node at.state one.unit) one (Strike user ids) at.next.led call) bye
 
 pub true_answers_delete : TrueAnswersDelete
-true_answers_delete plan lines entries stores disks sessions are facts = record {
+true_answers_delete plan lines entries disks sessions are facts = record {
   only = λ node user id gone.
       let (k, session, ids, one, at, strikes, among) = facts.asked node user id gone in
       let is = are.each k session at in

@@ -18,7 +18,7 @@ use Rattle.session_model.specs.Acts.Deed.{IsFed, Hears, IsAnswered, Falls, Close
 use Rattle.session_model.proofs.Chains.{goes_at}
 use Rattle.session_model.proofs.Moves.{is_fed, hears_next, is_answered, falls_down, is_closed}
 
--- A session whose lines, behind its greeting, are these.
+-- A session whose lines, after its greeting, are these.
 pub record Speaks (plan : Plan) (said : List (List ℕ)) (session : Session) : Type 0 where
   pub talk : IsTalk plan session.node session.protocol session.octets session.whole session.standing session.rest
   pub none : session.others ≡ []
@@ -182,7 +182,7 @@ part_last plan said part m ms new before one whole none talk says cut = (
   },
 )
 
--- whatever a session does, and whatever front of its lines is written
+-- whatever a session does, and whatever prefix of its lines is written
 pub did_cut : (plan : Plan) (said lines part missing : List (List ℕ)) (old new : Session) (deed : Deed) → Speaks plan said old → Did plan old deed lines new → lines ≡ part ++ missing
     → (session : Session) × IsParted new session × IsShown plan (said ++ part) session
 did_cut plan said lines part [] old new deed speaks did cut = (

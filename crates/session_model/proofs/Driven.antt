@@ -1,41 +1,49 @@
--- However a tape is driven, its transcript shows its sessions.
-use Rattle.std.proofs.Common.{◌≡◌, ℕ, List, [], ◌∷◌, ◌++◌, flat_map, Option, Some, None, refl, sym, ap, ap₂, ◌∙◌, subst, append_assoc, append-nil}
+-- What a run did and wrote; its transcript shows its sessions, and tells which messages were acknowledged.
+use Rattle.std.proofs.Common.{◌≡◌, ◌⊎◌, inl, inr, ⊎_elim, ◌+◌, ℕ, false, List, [], ◌∷◌, ◌++◌, length, flat_map, All, Option, Some, None, refl, sym, ap, ap₂, ◌∙◌, subst, append_assoc, append-nil, nat_eq}
+use Rattle.std.specs.Cmp.Lexicographic.{pointwise}
 use Rattle.std.proofs.lemmas.List.Concat.{flat_map-append}
+use Rattle.std.proofs.lemmas.List.Elements.{All-nil, All-cons, All-head, All-tail, All-append}
 use Rattle.mail_model.specs.Plan.{Plan}
-use Rattle.mail_model.specs.Tape.{Order, tape_order}
+use Rattle.mail_model.specs.Smtp.{stored_text}
+use Rattle.mail_model.specs.Tape.{Protocol, Order, tape_order}
+use Rattle.mail_model.specs.Tape.Protocol.{Smtp, Pop}
 use Rattle.mail_model.specs.Tape.Order.{Open, Say, Feed, Close, End}
 use Rattle.mail_model.specs.Transcript.{Entry}
-use Rattle.mail_model.specs.Steps.{all_of}
-use Rattle.mail_model.specs.Told as told
-use Rattle.mail_model.specs.Stored.{opened_at}
+use Rattle.mail_model.specs.Transcript.{all_of}
 use Rattle.mail_model.specs.Shown.{lines_to}
+use Rattle.mail_model.specs.Told as told
+use Rattle.mail_model.specs.Stored.{Ack, opened_at}
 use Rattle.session_model.specs.Sessions.{Session, session_at}
-use Rattle.session_model.specs.Logs.{IsLogged, asked_by, answered_by, asked_in, answered_in}
-use Rattle.session_model.proofs.Acts.{Kept, Spoken, at_first}
-use Rattle.session_model.proofs.Logs.{Logged, AreLogged, all_logged, none_logged, logged_whole}
-use Rattle.session_model.specs.Acts.{Act, Acted, ActedAll, AreActsOf, opened_by, fed_by}
+use Rattle.session_model.specs.Acts.{Act, Acted, ActedAll, AreActsOf, greeting_of, opened_by, fed_by}
 use Rattle.session_model.specs.Acts.Act.{Does, Faults, StillWaits, Leaves}
 use Rattle.session_model.specs.Acts.Deed.{Hears, IsAnswered, Falls, Closes}
+use Rattle.session_model.specs.Logs.{IsLogged, asked_by, answered_by, asked_in, answered_in}
 use Rattle.session_model.specs.Turns.{Turn, Next, Goes, Starts}
 use Rattle.session_model.specs.Turns.Turn.{Hearing, Beginning, Falling, Asking}
-use Rattle.session_model.specs.Run.{Stop, Made, IsBegun, AreHandled, IsLeftOff}
+use Rattle.session_model.specs.Run.{Stop, Made, MayMiss, IsBegun, AreHandled, IsLeftOff, IsDriven}
+use Rattle.session_model.specs.Run.Stop.{BehindLine, SinkFailed, OutOfMemory}
 use Rattle.session_model.specs.Runs.{Shows, DrivenIsShown}
+use Rattle.session_model.specs.Books.{MayBeUnwritten}
+use Rattle.session_model.proofs.Acts.{Kept, Spoken, at_first}
+use Rattle.session_model.proofs.Logs.{Logged, AreLogged, all_logged, none_logged, logged_whole}
 use Rattle.session_model.proofs.Cutting.{Shown, spoken_shown, acts_are_shown}
+use Rattle.session_model.proofs.InOrder.{IsGreeted, AreAcked, none_in_order, all_in_order, whole_acked, cut_acked}
 
 -- an act that opens and feeds nothing
 record IsQuiet (act : Act) : Type 0 where
   pub opens : opened_by act ≡ []
   pub feeds : (k : ℕ) → fed_by k act ≡ []
+  pub greeted : IsGreeted act
 
--- each act behind the first of a line is quiet
+-- each act after the first of a line is quiet
 next_quiet : (turn next : Turn) (sessions : List Session) (act : Act) → Next turn sessions act next → IsQuiet act
-next_quiet turn next sessions (Does k (Hears one)) is = record { opens = refl; feeds = λ k. refl }
-next_quiet turn next sessions (Does k (IsAnswered call answer reply)) is = record { opens = refl; feeds = λ k. refl }
-next_quiet turn next sessions (Does k Falls) is = record { opens = refl; feeds = λ k. refl }
-next_quiet turn next sessions (Does k Closes) is = record { opens = refl; feeds = λ k. refl }
-next_quiet turn next sessions (Faults node) is = record { opens = refl; feeds = λ k. refl }
-next_quiet turn next sessions (StillWaits k) is = record { opens = refl; feeds = λ k. refl }
-next_quiet turn next sessions (Leaves k user) is = record { opens = refl; feeds = λ k. refl }
+next_quiet turn next sessions (Does k (Hears one)) is = record { opens = refl; feeds = λ k. refl; greeted = tt }
+next_quiet turn next sessions (Does k (IsAnswered call answer reply)) is = record { opens = refl; feeds = λ k. refl; greeted = tt }
+next_quiet turn next sessions (Does k Falls) is = record { opens = refl; feeds = λ k. refl; greeted = tt }
+next_quiet turn next sessions (Does k Closes) is = record { opens = refl; feeds = λ k. refl; greeted = tt }
+next_quiet turn next sessions (Faults node) is = record { opens = refl; feeds = λ k. refl; greeted = tt }
+next_quiet turn next sessions (StillWaits k) is = record { opens = refl; feeds = λ k. refl; greeted = tt }
+next_quiet turn next sessions (Leaves k user) is = record { opens = refl; feeds = λ k. refl; greeted = tt }
 next_quiet (Hearing k onward) next sessions act is = absurd is
 next_quiet (Beginning k onward) next sessions act is = absurd is
 next_quiet (Falling k node onward) next sessions act is = absurd is
@@ -46,9 +54,10 @@ record IsMade (plan : Plan) (old : List Session) (acts : List Act) (outputs : Li
   pub done : ActedAll plan old acts outputs new
   pub opens : flat_map opened_by acts ≡ []
   pub feeds : (k : ℕ) → flat_map (fed_by k) acts ≡ []
+  pub greeted : All IsGreeted acts
 
 goes_made : (plan : Plan) (turn last : Turn) (old new : List Session) (acts : List Act) (outputs : List (List Entry)) → Goes plan turn old acts outputs last new → IsMade plan old acts outputs new
-goes_made plan turn last old new [] [] (same, is) = record { done = is; opens = refl; feeds = λ k. refl }
+goes_made plan turn last old new [] [] (same, is) = record { done = is; opens = refl; feeds = λ k. refl; greeted = All-nil IsGreeted }
 goes_made plan turn last old new (act ∷ acts) (entries ∷ outputs) (next, mid, is, acted, goes) =
     let quiet = next_quiet turn next old act is in
     let later = goes_made plan next last mid new acts outputs goes in
@@ -56,6 +65,7 @@ goes_made plan turn last old new (act ∷ acts) (entries ∷ outputs) (next, mid
       done = (mid, acted, later.done);
       opens = ap₂ ◌++◌ quiet.opens later.opens;
       feeds = λ k. ap₂ ◌++◌ (quiet.feeds k) (later.feeds k);
+      greeted = All-cons IsGreeted act acts quiet.greeted later.greeted;
     }
 goes_made plan turn last old new [] (entries ∷ outputs) goes = absurd goes
 goes_made plan turn last old new (act ∷ acts) [] goes = absurd goes
@@ -76,10 +86,23 @@ starts_feeds j (Feed k octets) sessions act turn (is, next) = sym (ap (fed_by j)
 starts_feeds j (Close k) sessions act turn (is, idle, next) = sym (ap (fed_by j) is)
 starts_feeds j End sessions act turn starts = absurd starts
 
+-- and its greeting is no `250 stored`
+starts_greets : (order : Order) (sessions : List Session) (act : Act) (turn : Turn) → Starts order sessions act turn → IsGreeted act
+starts_greets (Open protocol node) sessions act turn (is, next) = subst IsGreeted (sym is) (by_protocol protocol)
+  where
+    by_protocol : (speaks : Protocol) → pointwise nat_eq (greeting_of speaks node 1 (length sessions + 1) 0) stored_text ≡ false
+    by_protocol Smtp = refl
+    by_protocol Pop = refl
+starts_greets (Say k text) sessions act turn (is, next) = subst IsGreeted (sym is) tt
+starts_greets (Feed k octets) sessions act turn (is, next) = subst IsGreeted (sym is) tt
+starts_greets (Close k) sessions act turn (is, idle, next) = subst IsGreeted (sym is) tt
+starts_greets End sessions act turn starts = absurd starts
+
 -- What the acts of lines made: they were done one after another, and open and feed what the lines do.
 record AreMade (plan : Plan) (old : List Session) (lines : List (List ℕ)) (acts : List Act) (outputs : List (List Entry)) (new : List Session) : Type 0 where
   pub done : ActedAll plan old acts outputs new
   pub acts_of : AreActsOf lines acts
+  pub greeted : All IsGreeted acts
 
 -- a line that was begun
 begun_made : (plan : Plan) (down : List ℕ) (old new : List Session) (line : List ℕ) (acts : List Act) (outputs : List (List Entry)) (turn : Turn)
@@ -89,6 +112,7 @@ begun_made plan down old new line acts outputs turn begun =
     subst (λ (a : List Act). AreMade plan old (line ∷ []) a outputs new) (sym begun.acts_are)
     (subst (λ (o : List (List Entry)). AreMade plan old (line ∷ []) (begun.first ∷ begun.more) o new) (sym begun.outputs_are) (record {
       done = (begun.mid, begun.acted, later.done);
+      greeted = All-cons IsGreeted begun.first begun.more (starts_greets begun.order old begun.first begun.next begun.starts) later.greeted;
       acts_of = record {
         opens = append-nil (opened_at (tape_order line)) ∙ ap opened_at begun.spelled ∙ starts_opens begun.order old begun.first begun.next begun.starts
             ∙ sym (append-nil (opened_by begun.first)) ∙ ap (λ l. opened_by begun.first ++ l) (sym later.opens);
@@ -97,7 +121,7 @@ begun_made plan down old new line acts outputs turn begun =
       };
     }))
 
--- acts, and others behind them
+-- acts, and others after them
 acted_both : (plan : Plan) (old mid new : List Session) (acts more : List Act) (outputs others : List (List Entry)) → ActedAll plan old acts outputs mid → ActedAll plan mid more others new
     → ActedAll plan old (acts ++ more) (outputs ++ others) new
 acted_both plan old mid new [] more [] others done later = subst (λ (s : List Session). ActedAll plan s more others new) done later
@@ -117,11 +141,12 @@ made_both : (plan : Plan) (old mid new : List Session) (lines more : List (List 
 made_both plan old mid new lines more acts others outputs says first later = record {
   done = acted_both plan old mid new acts others outputs says first.done later.done;
   acts_of = acts_both lines more acts others first.acts_of later.acts_of;
+  greeted = All-append IsGreeted acts others first.greeted later.greeted;
 }
 
 -- nothing was made
 none_made : (plan : Plan) (old new : List Session) → new ≡ old → AreMade plan old [] [] [] new
-none_made plan old new is = record { done = is; acts_of = record { opens = refl; feeds = λ k. refl } }
+none_made plan old new is = record { done = is; acts_of = record { opens = refl; feeds = λ k. refl }; greeted = All-nil IsGreeted }
 
 -- all lines that were handled
 handled_made : (plan : Plan) (down : List ℕ) (old new : List Session) (lines : List (List ℕ)) (by_line : List (List Act)) (outputs : List (List (List Entry)))
@@ -138,7 +163,7 @@ all_written [] = refl
 all_written (says ∷ outputs) = ap (λ (l : List Entry). all_of says ++ l) (all_written outputs) ∙ sym (flat_map-append (λ (e : List Entry). e) says (flat_map (λ o. o) outputs))
 
 -- The last of some acts.
-record IsLast (plan : Plan) (old : List Session) (acts : List Act) (before : List (List Entry)) (says : List Entry) (new : List Session) : Type 0 where
+pub record IsLast (plan : Plan) (old : List Session) (acts : List Act) (before : List (List Entry)) (says : List Entry) (new : List Session) : Type 0 where
   pub been : List Act
   pub act : Act
   pub mid : List Session
@@ -157,7 +182,7 @@ last_of plan old new (act ∷ other ∷ acts) [] says (mid, acted, done) = absur
 last_of plan old new [] [] says done = absurd done
 last_of plan old new [] (entries ∷ before) says done = absurd done
 
-whole_shows : (plan : Plan) (lines : List (List ℕ)) (acts : List Act) (outputs : List (List Entry)) (last : List Session) → ActedAll plan [] acts outputs last → AreActsOf lines acts
+pub whole_shows : (plan : Plan) (lines : List (List ℕ)) (acts : List Act) (outputs : List (List Entry)) (last : List Session) → ActedAll plan [] acts outputs last → AreActsOf lines acts
     → Shows plan lines (all_of outputs) acts last
 whole_shows plan lines acts outputs last done acts_of = record {
   are = record {
@@ -184,43 +209,144 @@ whole_shows plan lines acts outputs last done acts_of = record {
         subst (IsLogged (asked_in k (flat_map asked_by acts)) (answered_in k (flat_map answered_by acts))) (sym at)
         (logged_whole _ _ session spoken.3.none (subst (Logged (asked_in k (flat_map asked_by acts)) (answered_in k (flat_map answered_by acts))) at (all.1 k)))
 
--- Lines that were handled, and behind them none, or one that was left off.
+-- What was written of some acts: all.
+pub record WroteAll (plan : Plan) (acts : List Act) (entries : List Entry) (last : List Session) : Type 0 where
+  pub outputs : List (List Entry)
+  pub done : ActedAll plan [] acts outputs last
+  pub written : entries ≡ all_of outputs
+
+-- Or a prefix of what the last act writes.
+pub record WrotePart (plan : Plan) (acts : List Act) (entries : List Entry) (last : List Session) : Type 0 where
+  pub before : List (List Entry)
+  pub says : List Entry
+  pub end : IsLast plan [] acts before says last
+  pub front : List Entry
+  pub missing : List Entry
+  pub cut : says ≡ front ++ missing
+  pub written : entries ≡ all_of before ++ front
+
+-- after a line it is all
+abbrev pub Wrote : Plan → Stop → List Act → List Entry → List Session → Type 0
+Wrote plan BehindLine acts entries last = WroteAll plan acts entries last
+Wrote plan stop acts entries last = WroteAll plan acts entries last ⊎ WrotePart plan acts entries last
+
+all_wrote : (plan : Plan) (stop : Stop) (acts : List Act) (entries : List Entry) (last : List Session) → WroteAll plan acts entries last → Wrote plan stop acts entries last
+all_wrote plan BehindLine acts entries last wrote = wrote
+all_wrote plan SinkFailed acts entries last wrote = inl wrote
+all_wrote plan OutOfMemory acts entries last wrote = inl wrote
+
+part_wrote : (plan : Plan) (stop : Stop) (acts : List Act) (entries missing : List Entry) (last : List Session) → MayMiss stop missing → WrotePart plan acts entries last
+    → Wrote plan stop acts entries last
+part_wrote plan BehindLine acts entries missing last may wrote = absurd may
+part_wrote plan SinkFailed acts entries missing last may wrote = inr wrote
+part_wrote plan OutOfMemory acts entries missing last may wrote = inr wrote
+
+-- What a run did and wrote.
+pub record IsWritten (plan : Plan) (stop : Stop) (lines : List (List ℕ)) (acts : List Act) (entries : List Entry) (last : List Session) : Type 0 where
+  pub acts_of : AreActsOf lines acts
+  pub greeted : All IsGreeted acts
+  pub wrote : Wrote plan stop acts entries last
+
+-- Lines that were handled, and after them none, or one that was left off.
 module _ (plan : Plan) (stop : Stop) (down : List ℕ) (lines : List (List ℕ)) (mid last : List Session) (acts : List Act) (outputs : List (List Entry))
     (made : AreMade plan [] lines acts outputs mid) where
-  off_shows : (left : List (List ℕ)) (others : List (List Act)) (tail : List Entry) (extra : List Made) → IsLeftOff plan down stop mid left others tail extra last
-      → (sessions : List Session) × Shows plan (lines ++ left) (all_of outputs ++ tail) (acts ++ flat_map (λ a. a) others) sessions
-  off_shows [] [] tail extra (none, no_step, is, whole) = (
-    mid,
-    subst (λ (t : List Entry). Shows plan (lines ++ []) (all_of outputs ++ t) (acts ++ []) mid) (sym none)
-        (subst (λ (l : List (List ℕ)). Shows plan l (all_of outputs ++ []) (acts ++ []) mid) (sym (append-nil lines))
-        (subst (λ (a : List Act). Shows plan lines (all_of outputs ++ []) a mid) (sym (append-nil acts))
-        (subst (λ (e : List Entry). Shows plan lines e acts mid) (sym (append-nil (all_of outputs))) (whole_shows plan lines acts outputs mid made.done made.acts_of)))),
-  )
-  off_shows (line ∷ []) (more ∷ []) tail extra (turn, cut, asked) =
+  off_written : (left : List (List ℕ)) (others : List (List Act)) (tail : List Entry) (extra : List Made) → IsLeftOff plan down stop mid left others tail extra last
+      → IsWritten plan stop (lines ++ left) (acts ++ flat_map (λ a. a) others) (all_of outputs ++ tail) last
+  off_written [] [] tail extra (none, no_step, is, whole) =
+      subst (λ (l : List (List ℕ)). IsWritten plan stop l (acts ++ []) (all_of outputs ++ tail) last) (sym (append-nil lines))
+      (subst (λ (a : List Act). IsWritten plan stop lines a (all_of outputs ++ tail) last) (sym (append-nil acts)) (record {
+        acts_of = made.acts_of;
+        greeted = made.greeted;
+        wrote = all_wrote plan stop acts (all_of outputs ++ tail) last (record {
+          outputs = outputs;
+          done = subst (λ (s : List Session). ActedAll plan [] acts outputs s) (sym is) made.done;
+          written = ap (λ (l : List Entry). all_of outputs ++ l) none ∙ append-nil (all_of outputs);
+        });
+      }))
+  off_written (line ∷ []) (more ∷ []) tail extra (turn, cut, asked) =
       let one = begun_made plan down mid last line more (cut.before ++ cut.says ∷ []) turn cut.begun in
-      let end = last_of plan mid last more cut.before cut.says one.done in
-      let are : (acts ++ end.been) ++ end.act ∷ [] ≡ acts ++ (more ++ []) =
-      append_assoc acts end.been (end.act ∷ []) ∙ ap (λ (l : List Act). acts ++ l) (sym end.are ∙ sym (append-nil more)) in
-      let all : AreActsOf (lines ++ line ∷ []) (acts ++ (more ++ [])) =
-      acts_both lines (line ∷ []) acts (more ++ []) made.acts_of (subst (AreActsOf (line ∷ [])) (sym (append-nil more)) one.acts_of) in
-      let shown = acts_are_shown plan (lines ++ line ∷ []) (acts ++ end.been) end.act (outputs ++ cut.before) cut.says cut.front cut.missing end.mid last
-      (acted_both plan [] mid end.mid acts end.been outputs cut.before made.done end.done) end.acted cut.cut (subst (AreActsOf (lines ++ line ∷ [])) (sym are) all) in
-      let same : all_of (outputs ++ cut.before) ++ cut.front ≡ all_of outputs ++ tail =
-      ap (λ (l : List Entry). l ++ cut.front) (flat_map-append (λ (e : List Entry). e) outputs cut.before) ∙ append_assoc (all_of outputs) (all_of cut.before) cut.front
-      ∙ ap (λ (l : List Entry). all_of outputs ++ l) (sym cut.written) in (
+      let both = made_both plan [] mid last lines (line ∷ []) acts more outputs (cut.before ++ cut.says ∷ []) made one in
+      let end = last_of plan [] last (acts ++ more) (outputs ++ cut.before) cut.says
+      (subst (λ (o : List (List Entry)). ActedAll plan [] (acts ++ more) o last) (sym (append_assoc outputs cut.before (cut.says ∷ []))) both.done) in
+      let same : acts ++ more ≡ acts ++ (more ++ []) = ap (λ (l : List Act). acts ++ l) (sym (append-nil more)) in
+      subst (λ (a : List Act). IsWritten plan stop (lines ++ line ∷ []) a (all_of outputs ++ tail) last) same (record {
+        acts_of = both.acts_of;
+        greeted = both.greeted;
+        wrote = part_wrote plan stop (acts ++ more) (all_of outputs ++ tail) cut.missing last cut.may (record {
+          before = outputs ++ cut.before;
+          says = cut.says;
+          end = end;
+          front = cut.front;
+          missing = cut.missing;
+          cut = cut.cut;
+          written = ap (λ (l : List Entry). all_of outputs ++ l) cut.written ∙ sym (append_assoc (all_of outputs) (all_of cut.before) cut.front)
+              ∙ ap (λ (l : List Entry). l ++ cut.front) (sym (flat_map-append (λ (e : List Entry). e) outputs cut.before));
+        });
+      })
+  off_written left others tail extra off = absurd off
+
+pub driven_written : (plan : Plan) (stop : Stop) (handled left : List (List ℕ)) (acts others : List (List Act)) (made : List Made) (entries : List Entry) (last : List Session)
+    → IsDriven plan stop handled left acts others made entries last → IsWritten plan stop (handled ++ left) (flat_map (λ a. a) (acts ++ others)) entries last
+driven_written plan stop handled left acts others made entries last driven =
+    let before = handled_made plan [] [] driven.mid handled acts driven.outputs driven.are in
+    let written = off_written plan stop _ handled driven.mid last (flat_map (λ a. a) acts) (flat_map (λ o. o) driven.outputs) before left others driven.tail driven.extra driven.off in
+    let same : all_of (flat_map (λ o. o) driven.outputs) ++ driven.tail ≡ entries = ap (λ (l : List Entry). l ++ driven.tail) (sym (all_written driven.outputs)) ∙ sym driven.written in
+    subst (λ (e : List Entry). IsWritten plan stop (handled ++ left) (flat_map (λ a. a) (acts ++ others)) e last) same
+    (subst (λ (a : List Act). IsWritten plan stop (handled ++ left) a (all_of (flat_map (λ o. o) driven.outputs) ++ driven.tail) last)
+    (sym (flat_map-append (λ (a : List Act). a) acts others)) written)
+
+-- It shows its sessions.
+module _ (plan : Plan) (lines : List (List ℕ)) (acts : List Act) (entries : List Entry) (last : List Session) (acts_of : AreActsOf lines acts) where
+  all_shown : WroteAll plan acts entries last → (sessions : List Session) × Shows plan lines entries acts sessions
+  all_shown wrote = (last, subst (λ (e : List Entry). Shows plan lines e acts last) (sym wrote.written) (whole_shows plan lines acts wrote.outputs last wrote.done acts_of))
+
+  part_shown : WrotePart plan acts entries last → (sessions : List Session) × Shows plan lines entries acts sessions
+  part_shown wrote =
+      let end = wrote.end in
+      let shown = acts_are_shown plan lines end.been end.act wrote.before wrote.says wrote.front wrote.missing end.mid last end.done end.acted wrote.cut
+      (subst (AreActsOf lines) end.are acts_of) in (
         shown.0,
-        subst (λ (e : List Entry). Shows plan (lines ++ line ∷ []) e (acts ++ (more ++ [])) shown.0) same
-            (subst (λ (a : List Act). Shows plan (lines ++ line ∷ []) (all_of (outputs ++ cut.before) ++ cut.front) a shown.0) are shown.1),
+        subst (λ (e : List Entry). Shows plan lines e acts shown.0) (sym wrote.written)
+            (subst (λ (l : List Act). Shows plan lines (all_of wrote.before ++ wrote.front) l shown.0) (sym end.are) shown.1),
       )
-  off_shows left others tail extra off = absurd off
+
+  pub wrote_shown : (stop : Stop) → Wrote plan stop acts entries last → (sessions : List Session) × Shows plan lines entries acts sessions
+  wrote_shown BehindLine wrote = all_shown wrote
+  wrote_shown SinkFailed wrote = ⊎_elim all_shown part_shown wrote
+  wrote_shown OutOfMemory wrote = ⊎_elim all_shown part_shown wrote
 
 pub driven_is_shown : DrivenIsShown
 driven_is_shown plan stop handled left acts others made entries last driven =
-    let before = handled_made plan [] [] driven.mid handled acts driven.outputs driven.are in
-    let shown = off_shows plan stop _ handled driven.mid last (flat_map (λ a. a) acts) (flat_map (λ o. o) driven.outputs) before left others driven.tail driven.extra driven.off in
-    let same : all_of (flat_map (λ o. o) driven.outputs) ++ driven.tail ≡ entries = ap (λ (l : List Entry). l ++ driven.tail) (sym (all_written driven.outputs)) ∙ sym driven.written in (
-      shown.0,
-      subst (λ (e : List Entry). Shows plan (handled ++ left) e (flat_map (λ a. a) (acts ++ others)) shown.0) same
-          (subst (λ (a : List Act). Shows plan (handled ++ left) (all_of (flat_map (λ o. o) driven.outputs) ++ driven.tail) a shown.0)
-          (sym (flat_map-append (λ (a : List Act). a) acts others)) shown.1),
-    )
+    let written = driven_written plan stop handled left acts others made entries last driven in
+    wrote_shown plan (handled ++ left) (flat_map (λ a. a) (acts ++ others)) entries last written.acts_of stop written.wrote
+
+-- two parts of acts that greet
+all_parts : (a b : List Act) → All IsGreeted (a ++ b) → All IsGreeted a × All IsGreeted b
+all_parts [] b all = (All-nil IsGreeted, all)
+all_parts (act ∷ a) b all =
+    let later = all_parts a b (All-tail IsGreeted act (a ++ b) all) in (All-cons IsGreeted act a (All-head IsGreeted act (a ++ b) all) later.0, later.1)
+
+-- And it tells which messages were acknowledged.
+module _ (plan : Plan) (kinds : List (Protocol × ℕ)) (acts : List Act) (entries : List Entry) (last : List Session) (greeted : All IsGreeted acts) (are : kinds ≡ flat_map opened_by acts) where
+  all_acked : WroteAll plan acts entries last → AreAcked kinds acts entries []
+  all_acked wrote =
+      subst (λ (e : List Entry). AreAcked kinds acts e []) (sym wrote.written) (whole_acked plan kinds acts (all_of wrote.outputs) last
+      (all_in_order plan kinds [] [] acts [] [] last wrote.outputs (none_in_order plan kinds) greeted (are ∙ sym (append-nil (flat_map opened_by acts))) wrote.done))
+
+  part_acked : WrotePart plan acts entries last → (unwritten : List Ack) × AreAcked kinds acts entries unwritten
+  part_acked wrote =
+      let end = wrote.end in
+      let both = all_parts end.been (end.act ∷ []) (subst (All IsGreeted) end.are greeted) in
+      let opens : kinds ≡ flat_map opened_by end.been ++ flat_map opened_by (end.act ∷ []) = are ∙ ap (flat_map opened_by) end.are ∙ flat_map-append opened_by end.been (end.act ∷ []) in
+      let before = all_in_order plan kinds (flat_map opened_by (end.act ∷ [])) [] end.been [] [] end.mid wrote.before (none_in_order plan kinds) both.0 opens end.done in
+      let acked = cut_acked plan kinds (flat_map opened_by (end.act ∷ [])) end.been (all_of wrote.before) wrote.says wrote.front wrote.missing end.mid last end.act before
+      (All-head IsGreeted end.act [] both.1) opens end.acted wrote.cut in (
+        acked.0,
+        subst (λ (e : List Entry). AreAcked kinds acts e acked.0) (sym wrote.written)
+            (subst (λ (a : List Act). AreAcked kinds a (all_of wrote.before ++ wrote.front) acked.0) (sym end.are) acked.1),
+      )
+
+  pub wrote_acked : (stop : Stop) → Wrote plan stop acts entries last → (unwritten : List Ack) × MayBeUnwritten stop unwritten × AreAcked kinds acts entries unwritten
+  wrote_acked BehindLine wrote = ([], refl, all_acked wrote)
+  wrote_acked SinkFailed wrote = ⊎_elim (λ all. ([], inl refl, all_acked all)) (λ part. let acked = part_acked part in (acked.0, acked.1.few, acked.1)) wrote
+  wrote_acked OutOfMemory wrote = ⊎_elim (λ all. ([], inl refl, all_acked all)) (λ part. let acked = part_acked part in (acked.0, acked.1.few, acked.1)) wrote

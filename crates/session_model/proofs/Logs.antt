@@ -4,7 +4,7 @@ use Rattle.std.proofs.lemmas.List.Concat.{flat_map-append}
 use Rattle.std.proofs.lemmas.Bool.{cases_eq, cond-true, cond-false, eq-eqb, ne_eqb}
 use Rattle.mail_model.specs.Plan.{Plan}
 use Rattle.mail_model.specs.Transcript.{Entry}
-use Rattle.mail_model.specs.Steps.{all_of}
+use Rattle.mail_model.specs.Transcript.{all_of}
 use Rattle.mail_model.proofs.Choices.{split_if}
 use Rattle.mail_model.proofs.Sessions.{by_number}
 use Rattle.session_model.specs.Calls.{Call, Answer}
@@ -41,7 +41,7 @@ other_asked : (j k : ℕ) (call : Option Call) → j ≢ k → asked_in j (flat_
 other_asked j k None other = refl
 other_asked j k (Some call) other = cond-false (nat_eq k j) (call ∷ []) [] (ne_eqb k j (λ e. other (sym e)))
 
-own_answered : (k : ℕ) (call : Call) (answer : Answer) → answered_in k (record { session = k; call = call; answer = answer } ∷ []) ≡ (call, answer) ∷ []
+pub own_answered : (k : ℕ) (call : Call) (answer : Answer) → answered_in k (record { session = k; call = call; answer = answer } ∷ []) ≡ (call, answer) ∷ []
 own_answered k call answer = cond-true (nat_eq k k) ((call, answer) ∷ []) [] (eq-eqb k k refl)
 
 other_answered : (j k : ℕ) (call : Call) (answer : Answer) → j ≢ k → answered_in j (record { session = k; call = call; answer = answer } ∷ []) ≡ []
@@ -105,7 +105,7 @@ none_answered None = refl
 none_answered (Some call) = refl
 
 -- its calls and answers grow so
-record Grows (k : ℕ) (deed : Deed) (old new : Session) : Type 0 where
+pub record Grows (k : ℕ) (deed : Deed) (old new : Session) : Type 0 where
   pub asks : calls_of new.whole ≡ calls_of old.whole ++ asked_in k (asked_by (Does k deed))
   pub answers : answers_of new.whole ≡ answers_of old.whole ++ answered_in k (answered_by (Does k deed))
 
@@ -116,7 +116,7 @@ still k deed old new same no_call no_answer = record {
   answers = ap answers_of same ∙ sym (append-nil (answers_of old.whole)) ∙ ap (λ (l : List (Call × Answer)). answers_of old.whole ++ l) (sym no_answer);
 }
 
-did_grows : (plan : Plan) (k : ℕ) (said lines : List (List ℕ)) (old new : Session) (deed : Deed) → Speaks plan said old → Did plan old deed lines new → Grows k deed old new
+pub did_grows : (plan : Plan) (k : ℕ) (said lines : List (List ℕ)) (old new : Session) (deed : Deed) → Speaks plan said old → Did plan old deed lines new → Grows k deed old new
 did_grows plan k said lines old new (IsFed more) speaks did = still k (IsFed more) old new (ap (λ (s : Session). s.whole) did.2) refl refl
 did_grows plan k said lines old new Falls speaks did = still k Falls old new (ap (λ (s : Session). s.whole) did.2) refl refl
 did_grows plan k said lines old new Closes speaks did = still k Closes old new (ap (λ (s : Session). s.whole) did.2) refl refl

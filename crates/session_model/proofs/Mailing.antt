@@ -43,7 +43,7 @@ pub lines_both : (a b : List (List ℕ)) → stored_lines (a ++ b) ≡ stored_li
 lines_both [] b = omega arith
 lines_both (line ∷ a) b = let later = lines_both a b in omega (arith, later)
 
--- one more in front
+-- one more before them
 told_more : (plan : Plan) (node : ℕ) (talk : Told) (octets left : List ℕ) (one : Exchange) (xs : List Exchange) (rest : List ℕ)
     → IsNext plan node (Mailing talk) octets one left → Tells talk one
     → AreTold plan (asks_text (first_line one.reply)) (after_unit plan talk one.unit (first_line one.reply)) left xs rest
@@ -56,11 +56,11 @@ told_more plan node talk octets left one xs rest next tells more = record {
       ∙ omega (arith, tells.line, more.lines, length-append (filing_of one.call one.answer) (filings xs));
 }
 
--- a session that takes mail, from what it was told on; what comes behind one exchange is handed in
+-- a session that takes mail, from what it was told on; what comes after one exchange is handed in
 module _ (plan : Plan) (node : ℕ) (talk : Told) (octets left : List ℕ) (one : Exchange) (xs : List Exchange) (last : Standing) (rest : List ℕ)
     (next : IsNext plan node (Mailing talk) octets one left)
     (later : (told : Told) → Goes plan node (Hearing (Mailing told)) left xs last rest → AreTold plan told.in_text told left xs rest) where
-  -- what is told behind it
+  -- what is told after it
   abbrev told_next : Told
   told_next = after_unit plan talk one.unit (first_line one.reply)
 
@@ -77,7 +77,7 @@ module _ (plan : Plan) (node : ℕ) (talk : Told) (octets left : List ℕ) (one 
       (subst (λ (l : List Exchange). AreTold plan (asks_text (first_line one.reply)) told_next left l rest) (sym none)
       (none_told plan (asks_text (first_line one.reply)) told_next left rest same))
 
-  -- behind a standing that hears nothing
+  -- after a standing that hears nothing
   nothing : (standing : Standing) (ys : List Exchange) → standing ≡ EndedByQuit ⊎ ((told : State) × (call : Call) × (standing ≡ Waiting told call))
       → Goes plan node standing left ys last rest → (ys ≡ []) × (rest ≡ left)
   nothing standing [] is g = (refl, g.1)

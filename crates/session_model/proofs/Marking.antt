@@ -12,7 +12,6 @@ use Rattle.mail_model.specs.PopReplies.{Item, Slot, one_line, listed_slots, octe
 use Rattle.mail_model.specs.Maildrop.{Outcome, line_outcome, named_in, deleted_in, wrong_text, entered_text, gone_text, later_text}
 use Rattle.mail_model.specs.Maildrop.Stage.{Authorization, Transaction}
 use Rattle.mail_model.specs.Maildrop.Outcome.{Answered, Closed, AsksLogin, AsksMessage, AsksDeletion}
-use Rattle.mail_model.specs.Site as site
 use Rattle.mail_model.specs.Told.{IsUnit}
 use Rattle.mail_model.proofs.ShownCuts.{bad_answers}
 use Rattle.mail_model.proofs.ShownReplies.{exchange}
@@ -28,15 +27,11 @@ use Rattle.session_model.specs.Talk.State.{Mailing, Entering, Reading}
 use Rattle.session_model.specs.Talk.Standing.{Hearing}
 use Rattle.session_model.specs.Reading.{ListsOnce, all_seen, seen, line_of}
 
--- the login of a user
-abbrev pub login_as : List ℕ → site.Login
-login_as user = record { user = user; ticket = 0 }
-
 -- what the exchanges so far are to a session that reads mail and hears
 abbrev pub IsAsSeen : State → List Exchange → Type 0
 IsAsSeen (Mailing talk) been = ⊥
 IsAsSeen (Entering named) been = Unknown named (all_seen been)
-IsAsSeen (Reading user slots) been = Known slots (Some (login_as user)) (all_seen been)
+IsAsSeen (Reading user slots) been = Known slots user (all_seen been)
 
 -- all of them, with one more
 pub seen_more : (been : List Exchange) (one : Exchange) → all_seen (been ++ one ∷ []) ≡ all_seen been ++ seen one ∷ []
@@ -71,9 +66,9 @@ module _ (plan : Plan) (node : ℕ) (named : Option (List ℕ)) (been : List Exc
   entered : (name secret : List ℕ) (items : List Item) → named ≡ Some name → pop_command_of line ≡ Ok (Pass secret) → one.call ≡ Some (Login name secret) → one.answer ≡ Some (Listed items)
       → one.reply ≡ one_line entered_text → IsAsSeen (Reading name (listed_slots items)) (been ++ one ∷ [])
   entered name secret items is_named asked call there says =
-      subst (Known (listed_slots items) (Some (login_as name)))
+      subst (Known (listed_slots items) name)
       (ap₂ (λ (l : List ℕ) (r : List (List ℕ)). all_seen been ++ exchange l r ∷ []) (ap line_of (sym is)) (sym says) ∙ sym (seen_more been one))
-      (logs_in name secret line (all_seen been) (login_as name) items (subst (λ (n : Option (List ℕ)). Unknown n (all_seen been)) is_named unknown) asked refl
+      (logs_in name secret line (all_seen been) items (subst (λ (n : Option (List ℕ)). Unknown n (all_seen been)) is_named unknown) asked
       (pass_quiet line secret asked) (lists name secret items call there))
 
   -- the answer to a login
@@ -103,15 +98,15 @@ module _ (plan : Plan) (node : ℕ) (named : Option (List ℕ)) (been : List Exc
   outcome_seen (AsksMessage number id) leads led state e = absurd leads
   outcome_seen (AsksDeletion ids) leads led state e = absurd leads
 
--- a session behind its login
-module _ (plan : Plan) (node : ℕ) (user : List ℕ) (slots : List Slot) (been : List Exchange) (known : Known slots (Some (login_as user)) (all_seen been))
+-- a session after its login
+module _ (plan : Plan) (node : ℕ) (user : List ℕ) (slots : List Slot) (been : List Exchange) (known : Known slots user (all_seen been))
     (line : List ℕ) (one : Exchange) (is : one.unit ≡ Line line) where
   -- a reply that shows and marks what the line does
   tells_reading : (reply : List (List ℕ)) → one.reply ≡ reply → Tells slots line reply → IsAsSeen (Reading user (deleted_in slots line)) (been ++ one ∷ [])
   tells_reading reply says tells =
-      subst (Known (deleted_in slots line) (Some (login_as user)))
+      subst (Known (deleted_in slots line) user)
       (ap₂ (λ (l : List ℕ) (r : List (List ℕ)). all_seen been ++ exchange l r ∷ []) (ap line_of (sym is)) (sym says) ∙ sym (seen_more been one))
-      (known_more slots (Some (login_as user)) (all_seen been) line reply known tells)
+      (known_more slots user (all_seen been) line reply known tells)
 
   -- the answer to RETR
   fetch_seen : (number : ℕ) (id : Id) → pop_command_of line ≡ Ok (Retr number) → (answer : Option Answer) → Awaits (Fetch user id) answer one.reply → (state : State)
@@ -130,7 +125,7 @@ module _ (plan : Plan) (node : ℕ) (user : List ℕ) (slots : List Slot) (been 
       (tells_reading (one_line later_text) says (unmarked_tells slots line (one_line later_text) (ap dele_number retr) (later_quiet line)))
   fetch_seen number id retr (Some answer) says state e = absurd says
 
-  -- behind a deletion it hears nothing
+  -- after a deletion it hears nothing
   strike_over : (ids : List Id) (answer : Option Answer) (state : State) → asked (Reading user (deleted_in slots line)) (Strike user ids) answer ≡ Hearing state → ⊥
   strike_over ids None state e = cc
   strike_over ids (Some answer) state e = cc

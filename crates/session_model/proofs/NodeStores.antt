@@ -7,7 +7,7 @@ use Rattle.mail_model.specs.Record.{Record}
 use Rattle.mail_model.specs.Stored.{Ack, opened}
 use Rattle.mail_model.specs.Site.{nth_id, nth_stamp, message_records, gone_records, drawn_through}
 use Rattle.mail_model.proofs.Disk.{AreOurs, AcksStand, ours_more, ours_nothing, ours_gone, through_rises, acks_later, acks_filed, other_ids}
-use Rattle.mail_model.proofs.Promise.{each_stands}
+use Rattle.session_model.proofs.OnNode.{each_stands}
 use Rattle.session_model.specs.Calls.{Call, Answer}
 use Rattle.session_model.specs.Calls.Call.{Deliver, Login, Fetch, Strike}
 use Rattle.session_model.specs.Calls.Answer.{Stored, Listed, Wrong, Part, GoneAlready, Dropped}
@@ -15,7 +15,7 @@ use Rattle.session_model.specs.Books.{acks_by}
 use Rattle.session_model.specs.OneNode.{Node, Served, LeavesSome, Serves, ServesAll, IsTaken, AreTaken, OneNodeStores, first_node, told_of, answered_of}
 use Rattle.std.proofs.lemmas.List.Concat.{flat_map-append}
 
--- what holds of the node behind the answers that it gave
+-- what holds of the node after the answers that it gave
 record Keeps (kinds : List (Protocol × ℕ)) (node : Node) (acks : List Ack) : Type 0 where
   pub ours : AreOurs node.drawn node.records
   pub stand : AcksStand 0 node.drawn kinds node.records acks
@@ -44,7 +44,7 @@ quiet_keeps kinds old new acks added keeps none drawn records =
 same_keeps : (kinds : List (Protocol × ℕ)) (old new : Node) (acks : List Ack) → Keeps kinds old acks → new ≡ old → Keeps kinds new (acks ++ [])
 same_keeps kinds old new acks keeps is = subst (λ (n : Node). Keeps kinds n (acks ++ [])) (sym is) (subst (Keeps kinds old) (sym (append-nil acks)) keeps)
 
--- Gone states, or a front of them
+-- Gone states, or a prefix of them
 strike_keeps : (kinds : List (Protocol × ℕ)) (old new : Node) (acks : List Ack) (user : List ℕ) (ids : List Id) (added missing : List Record) → Keeps kinds old acks
     → gone_records user old.stamps ids ≡ added ++ missing → new.drawn ≡ drawn_through old.drawn ids → new.records ≡ old.records ++ added → Keeps kinds new (acks ++ [])
 strike_keeps kinds old new acks user ids added missing keeps whole drawn records =
@@ -93,16 +93,16 @@ module _ (plan : Plan) (tells : Bool) (lines : List (List ℕ)) where
   all_keep : (old last : Node) (acks : List Ack) (served : List Served) → Keeps (opened lines) old acks → AreTaken lines served → ServesAll plan tells old served last
       → Keeps (opened lines) last (acks ++ flat_map acks_by (answered_of served))
   all_keep old last acks [] keeps taken is = same_keeps (opened lines) old last acks keeps is
-  all_keep old last acks (one ∷ served) keeps taken (mid, serves, none_later, rest) =
+  all_keep old last acks (one ∷ served) keeps taken (mid, serves, rest) =
       subst (Keeps (opened lines) last)
       (append_assoc acks (acks_of one.session one.call one.answer) (flat_map acks_by (answered_of served))
       ∙ ap (λ (l : List Ack). acks ++ l) (sym (flat_map-append acks_by (told_of one.session one.call one.answer) (answered_of served))))
       (all_keep mid last (acks ++ acks_of one.session one.call one.answer) served (serves_keeps one.session old mid one.call one.answer acks keeps taken.0 serves) taken.1 rest)
 
 pub one_node_stores : OneNodeStores
-one_node_stores plan tells lines entries served last store one sure taken serves holds =
+one_node_stores plan tells lines entries served last one sure taken serves =
     let keeps = all_keep plan tells lines first_node last [] served (record { ours = (tt, tt); stand = omega arith }) taken serves in
     record {
-      stand = each_stands plan one sure last.drawn last.records store holds lines entries 0 (flat_map acks_by (answered_of served)) keeps.stand;
+      stand = each_stands plan one sure last.drawn last.records lines entries 0 (flat_map acks_by (answered_of served)) keeps.stand;
       other_ids = other_ids 0 last.drawn (opened lines) last.records (flat_map acks_by (answered_of served)) keeps.stand;
     }

@@ -19,7 +19,7 @@ use Rattle.mail_model.proofs.GoneCopies.{copies_by, copy_front, copy_behind, cop
 use Rattle.mail_model.proofs.GoneRecords.{gone_front, gone_behind, gone_either, message_not_gone, gone_of_copies, copies_of_gone}
 use Rattle.mail_model.proofs.GoneHere.{Heres, HeresDrawn, heres_more, heres_none, heres_front, message_heres, gone_heres}
 use Rattle.mail_model.proofs.GoneListing.{listing_once}
-use Rattle.mail_model.proofs.GoneLaw.{gone_on_one}
+use Rattle.session_model.proofs.OnNode.{on_one}
 use Rattle.mail_model.proofs.ShownReplies as shown
 use Rattle.mail_model.proofs.ShownReplies.{items_for, item_for}
 use Rattle.mail_model.proofs.ShownFiled.{AreClosed, AreHeld, held_more, listing_listed, message_closed, gone_closed, held_closed, stored_ends}
@@ -28,15 +28,14 @@ use Rattle.session_model.specs.Calls.Call.{Deliver, Login, Fetch, Strike}
 use Rattle.session_model.specs.Calls.Answer.{Stored, Listed, Wrong, Part, GoneAlready, Dropped}
 use Rattle.session_model.specs.Facts.{IsIn, IsGoneIn}
 use Rattle.session_model.specs.Logs.{Answered}
-use Rattle.session_model.specs.Books.{Among, struck_by}
-use Rattle.session_model.specs.Owes.{AmongAnswers}
+use Rattle.session_model.specs.Books.{Among, AmongAnswers, struck_by}
 use Rattle.session_model.specs.OneNode.{Node, Served, Serves, ServesAll, LeavesSome, IsSoundMail, AreSoundMails, OneNodeOwes, first_node, asked_of, told_of, answered_of}
 
 -- the copies that calls asked to be deleted
 abbrev struck_in : List Served → List (List ℕ × Id)
 struck_in served = flat_map (λ one. struck_by one.call) served
 
--- what holds of the node behind these calls
+-- what holds of the node after these calls
 record Sound (node : Node) (struck : List (List ℕ × Id)) : Type 0 where
   pub here : HeresDrawn node.drawn node.records
   pub closed : AreClosed node.records
@@ -67,7 +66,7 @@ nothing_told tells records (Strike user ids) = tt
 
 -- one call
 
--- a front of records that end in CRLF
+-- a prefix of records that end in CRLF
 closed_front : (records more : List Record) → AreClosed (records ++ more) → AreClosed records
 closed_front [] more all = tt
 closed_front (Boot boot ∷ records) more all = closed_front records more all
@@ -104,7 +103,7 @@ adds_sound old new call added struck sound adds = record {
       (gone_either (Message user id) old.records added (subst (SaysGone (Message user id)) adds.grows is));
 }
 
--- a message, or a front of it
+-- a message, or a prefix of it
 message_adds : (old new : Node) (call : Call) (octets : List ℕ) (added missing : List Record) → (mail : _) → call ≡ Deliver mail → IsSoundMail call → IsStored mail (nth_id (old.drawn + 1)) 0 octets
     → message_records (nth_id (old.drawn + 1)) (nth_stamp (old.stamps + 1)) octets mail.mailboxes ≡ added ++ missing
     → new.records ≡ old.records ++ added → new.drawn ≡ old.drawn + 1 → Adds old new call added
@@ -121,7 +120,7 @@ message_adds old new call octets added missing mail is sound stored whole grows 
           (subst (SaysGone (Message user id)) (sym whole) (gone_front (Message user id) added missing gone)));
     }
 
--- Gone states, or a front of them
+-- Gone states, or a prefix of them
 strike_adds : (old new : Node) (user : List ℕ) (ids : List Id) (added missing : List Record) → gone_records user old.stamps ids ≡ added ++ missing → new.records ≡ old.records ++ added
     → new.drawn ≡ drawn_through old.drawn ids → Adds old new (Strike user ids) added
 strike_adds old new user ids added missing whole grows drawn = record {
@@ -257,7 +256,7 @@ serves_all plan tells old last struck [] sound mails is = record {
   grows = ap (λ (n : Node). n.records) is ∙ sym (append-nil old.records);
   true_of = tt;
 }
-serves_all plan tells old last struck (one ∷ served) sound mails (mid, serves, none_later, rest) =
+serves_all plan tells old last struck (one ∷ served) sound mails (mid, serves, rest) =
     let done = serves_done plan tells old mid one.call one.answer struck sound mails.0 serves in
     let later = serves_all plan tells mid last (struck ++ struck_by one.call) served (adds_sound old mid one.call done.added struck sound done.adds) mails.1 rest in
     record {
@@ -319,13 +318,13 @@ first_sound = record {
     boots user id stamp targets is = cc
 
 pub one_node_owes : OneNodeOwes
-one_node_owes plan tells entries served last store one sure mails serves holds =
+one_node_owes plan tells entries served last one sure mails serves =
     let all = serves_all plan tells first_node last [] served first_sound mails serves in (
       record {
         asks = λ n user id gone. struck_asked user id served (all.sound.gone user id (gone_here n user id gone));
         gone = λ k user ids id among within. (
           1 ∷ [],
-          gone_on_one plan entries last.records one sure store holds user id
+          on_one plan entries last.records one sure (SaysGone (Message user id))
               (answer_is tells last.records served all.true_of k (Strike user ids) Dropped among id within),
         );
         once = λ k user secret items among. (answer_is tells last.records served all.true_of k (Login user secret) (Listed items) among).0;

@@ -60,7 +60,7 @@ one_awaited call (Some answer) a b is is_too = one_reply_to call answer a b is i
 same_parts : (x y : Exchange) → x.unit ≡ y.unit → x.call ≡ y.call → x.answer ≡ y.answer → x.reply ≡ y.reply → x ≡ y
 same_parts x y unit call answer reply = λ i. record { unit = unit i; call = call i; answer = answer i; reply = reply i }
 
--- two exchanges of one lead and one answer, in front of further answers
+-- two exchanges of one lead and one answer, before further answers
 one_led : (lead : Lead) (x y : Exchange) (xs ys : List (Option Answer)) → x.unit ≡ y.unit → IsLed lead x → IsLed lead y
     → answer_to x.call x.answer ++ xs ≡ answer_to y.call y.answer ++ ys → (x ≡ y) × (xs ≡ ys)
 one_led (Says reply) x y xs ys units is is_too e = (

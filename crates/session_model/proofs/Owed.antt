@@ -14,7 +14,8 @@ use Rattle.session_model.specs.Facts.{Strikes, SizesFiled, IsPartFiled}
 use Rattle.session_model.specs.Acts.{Act}
 use Rattle.session_model.specs.Logs.{Answered, IsLogged, answer_in, answers_of, asked_by, answered_by, asked_in, answered_in}
 use Rattle.session_model.specs.Runs.{Shows}
-use Rattle.session_model.specs.Owes.{AmongAnswers, OwedDeletionsAreTrue, OwedPartsAreTrue}
+use Rattle.session_model.specs.Books.{AmongAnswers}
+use Rattle.session_model.specs.Owes.{OwedDeletionsAreTrue, OwedPartsAreTrue}
 use Rattle.session_model.proofs.Books.{IsCallIn, among_in, call_at}
 
 -- the call with its answer is one of these
@@ -62,7 +63,7 @@ module _ (plan : Plan) (lines : List (List ℕ)) (entries : List Entry) (acts : 
   logged k there at = subst (IsLogged (asked_in k (flat_map asked_by acts)) (answered_in k (flat_map answered_by acts))) at (shows.logged k)
 
   -- an answer of an exchange is one of the log
-  answer_among : (k : ℕ) (session : Session) → session_at sessions k ≡ Some session → (call : Call) (answer : Answer) (before behind : List Exchange) (one : Exchange)
+  pub answer_among : (k : ℕ) (session : Session) → session_at sessions k ≡ Some session → (call : Call) (answer : Answer) (before behind : List Exchange) (one : Exchange)
       → exchanges_of session ≡ before ++ one ∷ behind → one.call ≡ Some call → one.answer ≡ Some answer
       → AmongAnswers (record { session = k; call = call; answer = answer }) (flat_map answered_by acts)
   answer_among k session at call answer before behind one are asks told =
@@ -78,7 +79,7 @@ module _ (plan : Plan) (lines : List (List ℕ)) (entries : List Entry) (acts : 
       (session, found.2, at, (found.0, found.1, found.3, found.4))
 
 pub owed_deletions_are_true : OwedDeletionsAreTrue
-owed_deletions_are_true plan lines entries stores disks acts sessions shows owes = record {
+owed_deletions_are_true plan lines entries disks acts sessions shows owes = record {
   asked = λ n user id gone.
       let (k, ids, among, within) = owes.asks n user id gone in
       let found = strike_of plan lines entries acts sessions shows k user ids (session_at sessions k) refl

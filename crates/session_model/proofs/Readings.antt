@@ -46,7 +46,7 @@ abbrev mode_by : Protocol → List (List ℕ) → Bool
 mode_by Smtp reply = asks_text (first_line reply)
 mode_by Pop reply = false
 
--- behind an exchange
+-- after an exchange
 record IsBehind (protocol : Protocol) (one : Exchange) (standing : Standing) : Type 0 where
   pub speaks : SpeaksAt protocol standing
   pub mode : ModeIs (mode_by protocol one.reply) standing
@@ -182,7 +182,7 @@ last_is protocol node EndedByQuit = inl refl
 last_is protocol node EndedDown = inr refl
 last_is protocol node EndedClosed = inl refl
 
--- no whole reply begins what a client got behind the last that it got whole
+-- no whole reply begins what a client got after the last that it got whole
 module _ (plan : Plan) (node : ℕ) (protocol : Protocol) where
   no_whole_last : (unit : Unit) (reply rest part missing last : List (List ℕ)) → IsLast protocol node last → last ≡ part ++ missing → part ≡ reply ++ rest → IsWhole protocol node unit reply → ⊥
   no_whole_last unit reply rest part missing last is cut begins whole = ⊎_elim

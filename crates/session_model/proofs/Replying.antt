@@ -1,4 +1,4 @@
--- Each reply of a session is a whole one, by which what comes behind it is known.
+-- Each reply of a session is a whole one, by which what comes after it is known.
 use Rattle.std.proofs.Common.{◌≡◌, ◌≢◌, ◌⊎◌, inl, inr, ◌&&◌, ℕ, Bool, true, false, List, [], ◌∷◌, ◌++◌, length, map, Option, Some, None, get_or, refl, sym, ap, ◌∙◌, subst, arith, codes}
 use Rattle.std.specs.Prelude.{⊤, Ok}
 use Rattle.std.proofs.lemmas.Bool.{cond_both, cond-true}
@@ -41,7 +41,7 @@ pub some_reply : (protocol : Protocol) (node : ℕ) (unit : Unit) → IsWhole pr
 some_reply Smtp node unit ((line, is), other) = cc
 some_reply Pop node unit (is, other) = is
 
--- and what comes behind it is known
+-- and what comes after it is known
 pub one_whole : (protocol : Protocol) (node : ℕ) (unit : Unit) (a b x y : List (List ℕ)) → IsWhole protocol node unit a → IsWhole protocol node unit b → a ++ x ≡ b ++ y → (a ≡ b) × (x ≡ y)
 one_whole Smtp node unit a b x y ((line, is), differs) ((other, is_too), differs_too) same =
     let both : line ∷ x ≡ other ∷ y = ap (λ (l : List (List ℕ)). l ++ x) (sym is) ∙ same ∙ ap (λ (l : List (List ℕ)). l ++ y) is_too in

@@ -268,7 +268,7 @@ module _ (plan : Plan) (named : Option (List ℕ)) (been : List Exchange) (so_fa
   entering_shown (AsksMessage number id) outcome_is leads led = absurd (leads [])
   entering_shown (AsksDeletion ids) outcome_is leads led = absurd (leads [])
 
--- and behind it
+-- and after it
 module _ (plan : Plan) (user : List ℕ) (slots : List Slot) (been : List Exchange) (was : WasListed (all_items slots) been) (so_far : Each (ShowsListed (all_items slots)) been)
     (line : List ℕ) (one : Exchange) (is : one.unit ≡ Line line) where
   -- with one more

@@ -1,26 +1,26 @@
--- The first promise, from the sessions of a tape and what is true of `Stored`.
-use Rattle.std.proofs.Common.{◌≡◌, ⊎_elim, ℕ, List, [], ◌∷◌, ◌++◌, Option, refl, sym, ap, ◌∙◌, subst, arith, slice_get}
+-- What sessions that take mail show their clients.
+use Rattle.std.proofs.Common.{◌≡◌, ⊎_elim, ℕ, Bool, false, List, [], ◌∷◌, ◌++◌, drop, length, map, refl, sym, ap, ◌∙◌, subst, arith}
 use Rattle.std.proofs.lemmas.List.Concat.{flat_map-append}
 use Rattle.mail_model.specs.Plan.{Plan}
 use Rattle.mail_model.specs.Tape.{Protocol}
 use Rattle.mail_model.specs.Tape.Protocol.{Smtp}
 use Rattle.mail_model.specs.Transcript.{Entry}
-use Rattle.mail_model.proofs.Sessions.{get_more}
 use Rattle.session_model.specs.Talk.{Exchange, Standing, Goes, opening, farewell, replies}
 use Rattle.session_model.specs.Talk.Standing.{Hearing, Waiting, EndedByQuit, EndedDown, EndedClosed}
-use Rattle.session_model.specs.Mailing.{Filing, filing_of, filings, stored_lines}
+use Rattle.session_model.specs.Mailing.{filing_of, filings, pairs, stored_lines}
 use Rattle.session_model.specs.Sessions.{Session, IsCut, IsSession, exchanges_of}
-use Rattle.session_model.specs.Facts.{AllStand}
-use Rattle.session_model.specs.Promises.{IsTold, TrueAnswersStand}
+use Rattle.mail_model.specs.Session.{silent}
+use Rattle.mail_model.specs.Shown.{lines_to}
+use Rattle.mail_model.specs.Told.{Answers, told_from}
 use Rattle.session_model.proofs.Mailing.{lines_both, stored_as_told}
 use Rattle.session_model.proofs.Cuts.{IsShort, goes_front, of_mail}
 
--- a front of lines of which none is `250 stored`
+-- a prefix of lines of which none is `250 stored`
 front_lines : (part missing lines : List (List ℕ)) → lines ≡ part ++ missing → stored_lines lines ≡ 0 → stored_lines part ≡ 0
 front_lines part missing lines cut none = let both = lines_both part missing in omega (arith, both, none, ap stored_lines cut)
 
 -- what a session says last is none
-last_lines : (node : ℕ) (standing : Standing) → stored_lines (farewell Smtp node standing) ≡ 0
+pub last_lines : (node : ℕ) (standing : Standing) → stored_lines (farewell Smtp node standing) ≡ 0
 last_lines node (Hearing state) = refl
 last_lines node (Waiting told call) = refl
 last_lines node EndedByQuit = refl
@@ -47,19 +47,21 @@ part_lines plan node octets whole (one ∷ []) before rest standing part missing
     ap stored_lines (no_part one.reply part missing (of_mail plan node octets whole [] one before rest g).0 cut.0 cut.1)
 part_lines plan node octets whole (one ∷ other ∷ more) before rest standing part missing g cut = absurd cut
 
--- what a front of the messages has
-front_stand : (plan : Plan) (entries : List Entry) (stores : List (Option (List ℕ))) (k node : ℕ) (a b : List Filing) → AllStand plan entries stores k node (a ++ b)
-    → AllStand plan entries stores k node a
-front_stand plan entries stores k node [] b all = tt
-front_stand plan entries stores k node (filing ∷ a) b all = (all.0, all.1, front_stand plan entries stores k node a b all.2)
-
 -- the messages of two lists of exchanges
 pub filings_both : (whole others : List Exchange) → filings (whole ++ others) ≡ filings whole ++ filings others
 filings_both whole others = flat_map-append (λ (one : Exchange). filing_of one.call one.answer) whole others
 
+-- What a session that takes mail shows its client.
+pub record IsShownMail (plan : Plan) (entries : List Entry) (k : ℕ) (session : Session) : Type 0 where
+  pub in_text : Bool
+  pub rest : List ℕ
+  pub units : Answers false session.octets (pairs session.whole) in_text rest
+  pub messages : map (λ filing. filing.mail) (filings session.whole) ≡ told_from plan silent (pairs session.whole)
+  pub lines : stored_lines (drop 1 (lines_to k entries)) ≡ length (filings session.whole)
+
 -- one that takes mail was told so
 pub told_so : (plan : Plan) (lines : List (List ℕ)) (entries : List Entry) (k : ℕ) (session : Session) → IsSession plan lines entries k session → session.protocol ≡ Smtp
-    → IsTold plan entries k session
+    → IsShownMail plan entries k session
 told_so plan lines entries k session is smtp =
     let goes : Goes plan session.node (Hearing (opening Smtp)) session.octets (exchanges_of session) is.talk.before session.rest =
     subst (λ (p : Protocol). Goes plan session.node (Hearing (opening p)) session.octets (exchanges_of session) is.talk.before session.rest) smtp is.talk.goes in
@@ -75,15 +77,3 @@ told_so plan lines entries k session is smtp =
       messages = told.1;
       lines = ap stored_lines is.gets.are ∙ omega (arith, both, none, told.2);
     }
-
-pub true_answers_stand : TrueAnswersStand
-true_answers_stand plan lines entries stores sessions are facts = record {
-  told = λ k session at smtp. told_so plan lines entries k session (are.each k session at) smtp;
-  stand = λ k session at.
-      front_stand plan entries stores k session.node (filings session.whole) (filings session.others)
-      (subst (AllStand plan entries stores k session.node) (filings_both session.whole session.others) (facts.stand k session at));
-  own_ids = λ k l i j session other one two at at_too there there_too same.
-      facts.own_ids k l i j session other one two at at_too
-      (ap (λ (f : List Filing). slice_get f i) (filings_both session.whole session.others) ∙ get_more (filings session.whole) (filings session.others) i one there)
-      (ap (λ (f : List Filing). slice_get f j) (filings_both other.whole other.others) ∙ get_more (filings other.whole) (filings other.others) j two there_too) same;
-}

@@ -26,14 +26,14 @@ use Rattle.session_model.specs.Talk.Standing.{Hearing}
 use Rattle.session_model.specs.Reading.{Each, ListsOnce, all_seen, IsQuitUnit, QuitsMarked, StrikesAtQuit, QuitStrikes}
 use Rattle.mail_model.specs.Tape.Protocol.{Pop}
 use Rattle.session_model.proofs.Chains.{At, goes_at, along}
-use Rattle.session_model.proofs.Marking.{IsAsSeen, login_as, step_seen}
+use Rattle.session_model.proofs.Marking.{IsAsSeen, step_seen}
 
--- what each has, each of a front has
+-- what each has, each of a prefix has
 pub each_front : (P : Exchange → Type 0) (front behind : List Exchange) → Each P (front ++ behind) → Each P front
 each_front P [] behind each = tt
 each_front P (one ∷ front) behind each = (each.0, each_front P front behind each.1)
 
--- and the one behind a front
+-- and the one after a prefix
 pub each_at : (P : Exchange → Type 0) (front behind : List Exchange) (one : Exchange) → Each P (front ++ one ∷ behind) → P one
 each_at P [] behind one each = each.0
 each_at P (first ∷ front) behind one each = each_at P front behind one each.1
@@ -63,7 +63,7 @@ ids_from n (slot ∷ slots) = by_test slot.marked (ids_from (n + 1) slots)
     by_test true same = ap (λ (l : List Id). slot.item.id ∷ l) same
     by_test false same = same
 
--- what QUIT leads to behind the login
+-- what QUIT leads to after the login
 quit_leads : (plan : Plan) (slots : List Slot) (line : List ℕ) → is_long_line line ≡ false → pop_command_of line ≡ Ok Quit
     → line_outcome plan (Transaction slots) line ≡ deletion_of (marked_ids slots)
 quit_leads plan slots line short quits =
@@ -74,7 +74,7 @@ some_deleted : (all ids : List Id) → deletion_of all ≡ AsksDeletion ids → 
 some_deleted [] ids e = λ none. cc
 some_deleted (id ∷ all) ids e = λ none. cc
 
--- behind a call for a deletion nothing is heard
+-- after a call for a deletion nothing is heard
 strike_last : (plan : Plan) (node : ℕ) (told : State) (user : List ℕ) (ids : List Id) (answer : Option Answer) (left : List ℕ) (xs : List Exchange) (last : Standing) (rest : List ℕ)
     → Goes plan node (asked told (Strike user ids) answer) left xs last rest → xs ≡ []
 strike_last plan node told user ids answer left [] last rest g = refl
@@ -92,8 +92,8 @@ module _ (plan : Plan) (node : ℕ) (octets : List ℕ) (been behind_it : List E
   no_strike named line user ids (AsksMessage number id) leads led call = absurd leads
   no_strike named line user ids (AsksDeletion other) leads led call = absurd leads
 
-  -- behind it QUIT asks for it
-  strike_is : (name line user : List ℕ) (slots : List Slot) (ids : List Id) → one.unit ≡ Line line → Known slots (Some (login_as name)) (all_seen been)
+  -- after it QUIT asks for it
+  strike_is : (name line user : List ℕ) (slots : List Slot) (ids : List Id) → one.unit ≡ Line line → Known slots name (all_seen been)
       → (outcome : Outcome) → line_outcome plan (Transaction slots) line ≡ outcome → LeadsBehind slots line outcome → IsLed (line_lead name outcome) one
       → one.call ≡ Some (Strike user ids) → Goes plan node (stands plan (Reading name slots) one (line_lead name outcome)) at.left behind_it last rest
       → (behind_it ≡ []) × QuitsMarked been one user ids
@@ -104,13 +104,11 @@ module _ (plan : Plan) (node : ℕ) (octets : List ℕ) (been behind_it : List E
   strike_is name line user slots ids unit known (AsksDeletion all) is leads led call g =
       let both : Some (Strike name all) ≡ Some (Strike user ids) = sym led.0 ∙ call in
       let users : name ≡ user = cc in
-      let same : all ≡ ids = cc in
-      let logins : Some (login_as name) ≡ Some known.entered = known.is in
-      let login : login_as name ≡ known.entered = cc in (
+      let same : all ≡ ids = cc in (
         strike_last plan node (heard plan (Reading name slots) one.unit []) name all one.answer at.left behind_it last rest g,
         record {
           quit = record { line = line; is = unit; short = leads.1.0; quits = leads.1.1 };
-          enters = subst (Enters (all_seen been)) (ap (λ l. l.user) (sym login) ∙ users) known.enters;
+          enters = subst (Enters (all_seen been)) users known.enters;
           marks = marks_from 1 slots;
           are = are_marks (all_seen been) slots known.agree;
           ids_are = ids_from 1 slots ∙ sym leads.0 ∙ same;
@@ -135,7 +133,7 @@ module _ (plan : Plan) (node : ℕ) (octets : List ℕ) (been behind_it : List E
       (subst (λ (s : State). Goes plan node (stands plan s one (lead_of plan node s one.unit)) at.left behind_it last rest) is at.goes_behind) in
       strike_is name line user slots ids unit_is seen (line_outcome plan (Transaction slots) line) refl (behind slots line plan) led call goes
 
-  -- and QUIT behind a mark asks for it
+  -- and QUIT after a mark asks for it
   strike_asked : (state : State) → at.state ≡ state → IsAsSeen state been → (quit : IsQuitUnit one.unit) (n : ℕ) → IsMarked n (all_seen been)
       → (user : List ℕ) × (ids : List Id) × (one.call ≡ Some (Strike user ids))
   strike_asked (Mailing talk) is seen quit n marked = absurd seen

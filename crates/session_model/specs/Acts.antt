@@ -8,8 +8,8 @@ use Rattle.mail_model.specs.Tape.{Protocol}
 use Rattle.mail_model.specs.Tape.Protocol.{Smtp, Pop}
 use Rattle.mail_model.specs.Transcript.{Entry}
 use Rattle.mail_model.specs.Transcript.Entry.{Said, Event}
-use Rattle.mail_model.specs.Site.{closed_event}
-use Rattle.mail_model.specs.Steps.{said_lines}
+use Rattle.mail_model.specs.Transcript.{closed_event}
+use Rattle.mail_model.specs.Transcript.{said_lines}
 use Rattle.mail_model.specs.Told.{sent, fed_to}
 use Rattle.mail_model.specs.Stored.{opened}
 use Rattle.session_model.specs.Calls.{Call, Answer, IsReply}

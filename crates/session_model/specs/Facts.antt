@@ -1,5 +1,5 @@
--- What has to be true of the answers that nodes gave, by what the stores hold in the end: the one thing that promises ask of a cluster.
-use Rattle.std.specs.Prelude.{◌≡◌, ◌⊎◌, ℕ, List, [], ◌∷◌, ◌++◌, length, ⊤, Option, Some, slice_get}
+-- What has to be true of the answers that nodes gave, by what their records say in the end: the one thing that promises ask of a cluster.
+use Rattle.std.specs.Prelude.{◌≡◌, ◌⊎◌, ℕ, List, [], ◌∷◌, ◌++◌, length, Option, Some, slice_get}
 use Rattle.mail_model.specs.Identity.{Id}
 use Rattle.mail_model.specs.Identity.Key.{Message}
 use Rattle.mail_model.specs.Lines.{closed}
@@ -7,12 +7,12 @@ use Rattle.mail_model.specs.Plan.{Plan}
 use Rattle.mail_model.specs.Transcript.{Entry}
 use Rattle.mail_model.specs.PopReplies.{Item}
 use Rattle.mail_model.specs.Record.{Record, SaysGone}
-use Rattle.mail_model.specs.Stored.{Ack, StandsForAll}
-use Rattle.mail_model.specs.Deleted.{AreGoneOn}
+use Rattle.mail_model.specs.Stored.{Ack}
 use Rattle.session_model.specs.Calls.Call.{Login, Fetch, Strike}
 use Rattle.session_model.specs.Calls.Answer.{Listed, Part, Dropped}
 use Rattle.session_model.specs.Talk.{Exchange}
-use Rattle.session_model.specs.Mailing.{Filing, filings}
+use Rattle.session_model.specs.Copies.{AreGoneOn}
+use Rattle.session_model.specs.Mailing.{Filing}
 use Rattle.session_model.specs.Reading.{ListsOnce, Each}
 use Rattle.session_model.specs.Sessions.{Session, session_at, exchanges_of}
 
@@ -25,37 +25,20 @@ IsIn id (other ∷ ids) = (other ≡ id) ⊎ IsIn id ids
 abbrev pub ack_of : ℕ → Filing → Ack
 ack_of k filing = record { session = k; mail = filing.mail; id = filing.id; seconds = 0 }
 
--- each of these messages has an id of the session's node, and each mailbox has its copies of it
-abbrev pub AllStand : Plan → List Entry → List (Option (List ℕ)) → ℕ → ℕ → List Filing → Type 0
-AllStand plan entries stores k node [] = ⊤
-AllStand plan entries stores k node (filing ∷ more) =
-    (filing.id.node ≡ node) × StandsForAll plan entries stores (ack_of k filing) filing.mail.mailboxes × AllStand plan entries stores k node more
-
--- no two messages of all sessions have one id
-abbrev pub OwnIds : (Session → List Filing) → List Session → Type 0
-OwnIds filed sessions = (k l i j : ℕ) (session other : Session) (one two : Filing)
-    → session_at sessions k ≡ Some session → session_at sessions l ≡ Some other → slice_get (filed session) i ≡ Some one → slice_get (filed other) j ≡ Some two
-    → one.id ≡ two.id → (k ≡ l) × (i ≡ j)
-
--- each `Stored` has its copies standing
-pub record StoredAreTrue (plan : Plan) (entries : List Entry) (stores : List (Option (List ℕ))) (sessions : List Session) : Type 0 where
-  pub stand : (k : ℕ) (session : Session) → session_at sessions k ≡ Some session → AllStand plan entries stores k session.node (filings (exchanges_of session))
-  pub own_ids : OwnIds (λ session. filings (exchanges_of session)) sessions
-
 -- the session asked that the user's copies of these messages be deleted
 abbrev pub Strikes : Session → List ℕ → List Id → Exchange → Type 0
 Strikes session user ids one = (before : List Exchange) × (behind : List Exchange) × (exchanges_of session ≡ before ++ one ∷ behind) × (one.call ≡ Some (Strike user ids))
 
--- the records of node n + 1 say that the user's copy is gone; these are the records that each node's store spells
+-- the records of node n + 1 say that the user's copy is gone
 abbrev pub IsGoneIn : List (List Record) → ℕ → List ℕ → Id → Type 0
 IsGoneIn disks n user id = (records : List Record) × (slice_get disks n ≡ Some records) × SaysGone (Message user id) records
 
 -- what is gone was to be deleted, each `Dropped` is gone, and a listing has each id once
-pub record DroppedAreTrue (plan : Plan) (entries : List Entry) (stores : List (Option (List ℕ))) (disks : List (List Record)) (sessions : List Session) : Type 0 where
+pub record DroppedAreTrue (plan : Plan) (entries : List Entry) (disks : List (List Record)) (sessions : List Session) : Type 0 where
   pub asked : (n : ℕ) (user : List ℕ) (id : Id) → IsGoneIn disks n user id
       → (k : ℕ) × (session : Session) × (ids : List Id) × (one : Exchange) × (session_at sessions k ≡ Some session) × Strikes session user ids one × IsIn id ids
   pub gone : (k : ℕ) (session : Session) (user : List ℕ) (ids : List Id) (one : Exchange) → session_at sessions k ≡ Some session → Strikes session user ids one
-      → one.answer ≡ Some Dropped → (id : Id) → IsIn id ids → (nodes : List ℕ) × AreGoneOn plan entries stores user id nodes
+      → one.answer ≡ Some Dropped → (id : Id) → IsIn id ids → (nodes : List ℕ) × AreGoneOn plan entries disks user id nodes
   pub once : (k : ℕ) (session : Session) → session_at sessions k ≡ Some session → Each ListsOnce (exchanges_of session)
 
 -- the sizes of a listing that a login was answered with are those of what is filed

@@ -1,5 +1,5 @@
 -- A cluster of one node, by its calls: what each leaves on its disk, and what it answers.
-use Rattle.std.specs.Prelude.{◌≡◌, ◌≢◌, ◌⊎◌, ℕ, ◌+◌, Bool, true, false, List, [], ◌∷◌, ◌++◌, length, map, flat_map, ⊤, AllPairs, Option, Some, None, IfSome}
+use Rattle.std.specs.Prelude.{◌≡◌, ◌≢◌, ◌⊎◌, ℕ, ◌+◌, Bool, true, false, List, [], ◌∷◌, ◌++◌, length, map, flat_map, ⊤, AllPairs, Option, Some, None}
 use Rattle.mail_model.specs.Plan.{Plan, opens}
 use Rattle.mail_model.specs.Session.{Told}
 use Rattle.mail_model.specs.Told.{mail_of}
@@ -10,7 +10,7 @@ use Rattle.mail_model.specs.Transcript.{Entry}
 use Rattle.mail_model.specs.Record.{Record}
 use Rattle.mail_model.specs.Record.Record.{Boot}
 use Rattle.mail_model.specs.Listing.{octets_in, listing_of, size_in}
-use Rattle.mail_model.specs.Site.{HoldsRecords, nth_id, nth_stamp, message_records, gone_records, drawn_through}
+use Rattle.mail_model.specs.Site.{nth_id, nth_stamp, message_records, gone_records, drawn_through}
 use Rattle.session_model.specs.Calls.{Call, Answer}
 use Rattle.session_model.specs.Calls.Call.{Deliver, Login, Fetch, Strike}
 use Rattle.session_model.specs.Calls.Answer.{Stored, Listed, Wrong, Part, GoneAlready, Dropped}
@@ -33,7 +33,7 @@ pub record Served : Type 0 where
   pub call : Call
   pub answer : Option Answer
 
--- what a call may write that has no answer, since the disk or memory failed: a front of what it would
+-- what a call may write that has no answer, since the disk or memory failed: a prefix of what it would
 abbrev pub MayLeave : Node → Call → List Record → Type 0
 MayLeave old (Deliver mail) added = (octets : List ℕ) × (missing : List Record) × IsStored mail (nth_id (old.drawn + 1)) 0 octets
     × (message_records (nth_id (old.drawn + 1)) (nth_stamp (old.stamps + 1)) octets mail.mailboxes ≡ added ++ missing)
@@ -70,11 +70,11 @@ Serves plan tells old (Strike user ids) (Some Dropped) new =
     new ≡ record { drawn = drawn_through old.drawn ids; stamps = old.stamps + length ids; records = old.records ++ gone_records user old.stamps ids }
 Serves plan tells old call answer new = ⊥
 
--- All calls, one after another; behind one that has no answer none is served.
+-- all calls, one after another
 abbrev pub ServesAll : Plan → Bool → Node → List Served → Node → Type 0
 ServesAll plan tells old [] new = new ≡ old
 ServesAll plan tells old (one ∷ more) new =
-    (mid : Node) × Serves plan tells old one.call one.answer mid × (one.answer ≡ None → more ≡ []) × ServesAll plan tells mid more new
+    (mid : Node) × Serves plan tells old one.call one.answer mid × ServesAll plan tells mid more new
 
 -- a message as a session tells it, with each mailbox once
 abbrev pub IsSoundMail : Call → Type 0
@@ -100,9 +100,9 @@ answered_of served = flat_map (λ one. told_of one.session one.call one.answer) 
 
 -- One node gives what a cluster owes.
 abbrev pub OneNodeOwes : Type 0
-OneNodeOwes = (plan : Plan) (tells : Bool) (entries : List Entry) (served : List Served) (last : Node) (store : Option (List ℕ)) → plan.nodes ≡ 1 → plan.confirm ≡ 1
-    → AreSoundMails served → ServesAll plan tells first_node served last → IfSome store (HoldsRecords last.records)
-    → OwesDeletions plan entries (store ∷ []) (last.records ∷ []) (asked_of served) (answered_of served)
+OneNodeOwes = (plan : Plan) (tells : Bool) (entries : List Entry) (served : List Served) (last : Node) → plan.nodes ≡ 1 → plan.confirm ≡ 1
+    → AreSoundMails served → ServesAll plan tells first_node served last
+    → OwesDeletions plan entries (last.records ∷ []) (asked_of served) (answered_of served)
     × (tells ≡ true → OwesParts (λ id. octets_in id last.records) (answered_of served))
 
 -- a session of the node that takes mail asked for each message
@@ -117,6 +117,6 @@ AreTaken lines [] = ⊤
 AreTaken lines (one ∷ more) = IsTaken lines one.session one.call × AreTaken lines more
 
 abbrev pub OneNodeStores : Type 0
-OneNodeStores = (plan : Plan) (tells : Bool) (lines : List (List ℕ)) (entries : List Entry) (served : List Served) (last : Node) (store : Option (List ℕ)) → plan.nodes ≡ 1 → plan.confirm ≡ 1
-    → AreTaken lines served → ServesAll plan tells first_node served last → IfSome store (HoldsRecords last.records)
-    → OwesStored plan lines entries (store ∷ []) (answered_of served)
+OneNodeStores = (plan : Plan) (tells : Bool) (lines : List (List ℕ)) (entries : List Entry) (served : List Served) (last : Node) → plan.nodes ≡ 1 → plan.confirm ≡ 1
+    → AreTaken lines served → ServesAll plan tells first_node served last
+    → OwesStored plan lines entries (last.records ∷ []) (answered_of served)

@@ -1,38 +1,34 @@
--- What a cluster owes of the calls that it was asked and that it answered. It speaks of these two lists and of no session.
-use Rattle.std.specs.Prelude.{◌≡◌, ◌≢◌, ◌⊎◌, ℕ, List, [], ◌∷◌, length, map, flat_map, AllPairs, Option, Some, slice_get}
+-- What a cluster owes of the calls that it began and that it answered. It speaks of these two lists and of no session.
+use Rattle.std.specs.Prelude.{◌≡◌, ◌≢◌, ℕ, Bool, true, List, length, map, flat_map, AllPairs, Option, Some, slice_get}
 use Rattle.mail_model.specs.Identity.{Id}
 use Rattle.mail_model.specs.Lines.{closed}
 use Rattle.mail_model.specs.Plan.{Plan}
 use Rattle.mail_model.specs.Transcript.{Entry}
 use Rattle.mail_model.specs.PopReplies.{Item}
 use Rattle.mail_model.specs.Record.{Record}
-use Rattle.mail_model.specs.Stored.{EachStands, HaveOtherIds}
-use Rattle.mail_model.specs.Deleted.{AreGoneOn}
+use Rattle.mail_model.specs.Stored.{HaveOtherIds}
+use Rattle.mail_model.specs.Book.{BookEntry}
 use Rattle.session_model.specs.Calls.Call.{Login, Fetch, Strike}
 use Rattle.session_model.specs.Calls.Answer.{Listed, Part, Dropped}
+use Rattle.session_model.specs.Copies.{AreDisks, EachStands, AreGoneOn, DroppedAreGone}
 use Rattle.session_model.specs.Sessions.{Session}
-use Rattle.session_model.specs.Facts.{IsIn, IsGoneIn, StoredAreTrue, DroppedAreTrue, PartsAreTrue}
+use Rattle.session_model.specs.Facts.{IsIn, IsGoneIn, DroppedAreTrue, PartsAreTrue}
 use Rattle.session_model.specs.Acts.{Act}
 use Rattle.session_model.specs.Logs.{Asked, Answered, asked_by, answered_by}
-use Rattle.session_model.specs.Books.{Among, acks_by}
+use Rattle.session_model.specs.Books.{Among, AmongAnswers, IsBookOf, AreConfirmed, acks_by}
 use Rattle.session_model.specs.Runs.{Shows}
 
--- the answer is one of these
-abbrev pub AmongAnswers : Answered → List Answered → Type 0
-AmongAnswers one [] = ⊥
-AmongAnswers one (other ∷ answered) = (other ≡ one) ⊎ AmongAnswers one answered
-
 -- what is gone was asked for, what was answered `Dropped` is gone, and a listing has each id once
-pub record OwesDeletions (plan : Plan) (entries : List Entry) (stores : List (Option (List ℕ))) (disks : List (List Record)) (asked : List Asked) (answered : List Answered) : Type 0 where
-  pub asks : (n : ℕ) (user : List ℕ) (id : Id) → IsGoneIn disks n user id → (k : ℕ) × (ids : List Id) × Among (record { session = k; call = Strike user ids }) asked × IsIn id ids
+pub record OwesDeletions (plan : Plan) (entries : List Entry) (disks : List (List Record)) (begun : List Asked) (answered : List Answered) : Type 0 where
+  pub asks : (n : ℕ) (user : List ℕ) (id : Id) → IsGoneIn disks n user id → (k : ℕ) × (ids : List Id) × Among (record { session = k; call = Strike user ids }) begun × IsIn id ids
   pub gone : (k : ℕ) (user : List ℕ) (ids : List Id) (id : Id) → AmongAnswers (record { session = k; call = Strike user ids; answer = Dropped }) answered → IsIn id ids
-      → (nodes : List ℕ) × AreGoneOn plan entries stores user id nodes
+      → (nodes : List ℕ) × AreGoneOn plan entries disks user id nodes
   pub once : (k : ℕ) (user secret : List ℕ) (items : List Item) → AmongAnswers (record { session = k; call = Login user secret; answer = Listed items }) answered
       → AllPairs (λ (a b : Id). a ≢ b) (map (λ (item : Item). item.id) items)
 
 -- each message that was answered `Stored` stands, under an id of its own and of the node of its session
-pub record OwesStored (plan : Plan) (lines : List (List ℕ)) (entries : List Entry) (stores : List (Option (List ℕ))) (answered : List Answered) : Type 0 where
-  pub stand : EachStands plan lines entries stores (flat_map acks_by answered)
+pub record OwesStored (plan : Plan) (lines : List (List ℕ)) (entries : List Entry) (disks : List (List Record)) (answered : List Answered) : Type 0 where
+  pub stand : EachStands plan lines entries disks (flat_map acks_by answered)
   pub other_ids : HaveOtherIds (flat_map acks_by answered)
 
 -- listings and parts are as it is filed
@@ -42,15 +38,28 @@ pub record OwesParts (filed : Id → Option (List ℕ)) (answered : List Answere
   pub parts : (k : ℕ) (user : List ℕ) (id : Id) (part : List ℕ) → AmongAnswers (record { session = k; call = Fetch user id; answer = Part part }) answered
       → (filed id ≡ Some part) × (closed part ≡ part)
 
--- what is owed of the calls is true in the sessions
-abbrev pub OwedStoredAreTrue : Type 0
-OwedStoredAreTrue = (plan : Plan) (lines : List (List ℕ)) (entries : List Entry) (stores : List (Option (List ℕ))) (acts : List Act) (sessions : List Session)
-    → Shows plan lines entries acts sessions → OwesStored plan lines entries stores (flat_map answered_by acts) → StoredAreTrue plan entries stores sessions
+-- Its entries are those of the calls that were begun and that were answered, in their order, and no others; they are confirmed by enough nodes, and each copy whose
+-- deletion was confirmed is gone.
+pub record OwesBook (plan : Plan) (lines : List (List ℕ)) (entries : List Entry) (disks : List (List Record)) (begun : List Asked) (answered : List Answered) (book : List BookEntry) : Type 0 where
+  pub is_book : IsBookOf lines begun answered book
+  pub confirmed : AreConfirmed plan book
+  pub dropped : DroppedAreGone plan entries disks book
 
+-- All that a cluster owes of the calls that it began and that it answered. The octets of a message are told by `filed` where the disks tell theirs.
+pub record Owes (plan : Plan) (tells : Bool) (lines : List (List ℕ)) (entries : List Entry) (stores : List (Option (List ℕ))) (disks : List (List Record)) (filed : Id → Option (List ℕ))
+    (begun : List Asked) (answered : List Answered) (book : List BookEntry) : Type 0 where
+  -- the stores hold the records of the nodes
+  pub holds : AreDisks 1 stores disks
+  pub stored : OwesStored plan lines entries disks answered
+  pub deletions : OwesDeletions plan entries disks begun answered
+  pub parts : tells ≡ true → OwesParts filed answered
+  pub books : OwesBook plan lines entries disks begun answered book
+
+-- what is owed of the calls is true in the sessions
 abbrev pub OwedDeletionsAreTrue : Type 0
-OwedDeletionsAreTrue = (plan : Plan) (lines : List (List ℕ)) (entries : List Entry) (stores : List (Option (List ℕ))) (disks : List (List Record)) (acts : List Act) (sessions : List Session)
-    → Shows plan lines entries acts sessions → OwesDeletions plan entries stores disks (flat_map asked_by acts) (flat_map answered_by acts)
-    → DroppedAreTrue plan entries stores disks sessions
+OwedDeletionsAreTrue = (plan : Plan) (lines : List (List ℕ)) (entries : List Entry) (disks : List (List Record)) (acts : List Act) (sessions : List Session)
+    → Shows plan lines entries acts sessions → OwesDeletions plan entries disks (flat_map asked_by acts) (flat_map answered_by acts)
+    → DroppedAreTrue plan entries disks sessions
 
 abbrev pub OwedPartsAreTrue : Type 0
 OwedPartsAreTrue = (plan : Plan) (lines : List (List ℕ)) (entries : List Entry) (filed : Id → Option (List ℕ)) (acts : List Act) (sessions : List Session)

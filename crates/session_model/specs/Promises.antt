@@ -1,4 +1,4 @@
--- The promises to clients, over the sessions of a tape, the entries of its transcript and what the stores given back hold.
+-- The promises to clients, over the sessions of a tape, the entries of its transcript and the records of the nodes.
 use Rattle.std.specs.Prelude.{◌≡◌, ℕ, ◌<◌, ◌^◌, Bool, false, List, [], ◌∷◌, ◌++◌, drop, length, map, Option, Some}
 use Rattle.std.specs.Fmt.{decimal}
 use Rattle.mail_model.specs.Identity.{Id, id_text}
@@ -10,29 +10,32 @@ use Rattle.mail_model.specs.Record.{Record}
 use Rattle.mail_model.specs.PopReplies.{one_line}
 use Rattle.mail_model.specs.Maildrop.{bye_text}
 use Rattle.mail_model.specs.Told.{Answers, told_from}
+use Rattle.mail_model.specs.Stored.{Ack, HaveOtherIds, mails_in, opened, stored_sessions}
 use Rattle.mail_model.specs.Shown.{lines_to, ShowsId, ShowsSize, ShowsOctets}
-use Rattle.mail_model.specs.Deleted.{IsMarked, AreGoneOn}
+use Rattle.mail_model.specs.Deleted.{IsMarked}
 use Rattle.session_model.specs.Talk.{Exchange, replies}
-use Rattle.session_model.specs.Mailing.{filings, pairs, stored_lines}
+use Rattle.session_model.specs.Copies.{EachStands, AreGoneOn}
+use Rattle.session_model.specs.Mailing.{pairs}
 use Rattle.session_model.specs.Reading.{QuitsMarked, IsQuitUnit, all_seen, seen}
 use Rattle.session_model.specs.Sessions.{Session, AreSessions, session_at, exchanges_of}
-use Rattle.session_model.specs.Facts.{AllStand, OwnIds, IsGoneIn, IsIn, StoredAreTrue, DroppedAreTrue, PartsAreTrue}
+use Rattle.session_model.specs.Facts.{IsGoneIn, IsIn, DroppedAreTrue, PartsAreTrue}
 
--- What the client of session k was told: the units that it sent, each with its reply, the messages that these tell, and a line `250 stored` for each.
-pub record IsTold (plan : Plan) (entries : List Entry) (k : ℕ) (session : Session) : Type 0 where
+-- What the client of session k was told: the units that it sent, each with its reply, and the messages that these tell, which are those of its lines `250 stored`.
+pub record IsTold (plan : Plan) (acks : List Ack) (k : ℕ) (session : Session) : Type 0 where
   pub in_text : Bool
   pub rest : List ℕ
   pub units : Answers false session.octets (pairs session.whole) in_text rest
-  pub messages : map (λ filing. filing.mail) (filings session.whole) ≡ told_from plan silent (pairs session.whole)
-  pub lines : stored_lines (drop 1 (lines_to k entries)) ≡ length (filings session.whole)
+  pub messages : mails_in k acks ≡ told_from plan silent (pairs session.whole)
 
--- Each line `250 stored` of a session that takes mail answers the message that it should, which stands under an id of its own.
-pub record StoredStands (plan : Plan) (entries : List Entry) (stores : List (Option (List ℕ))) (sessions : List Session) : Type 0 where
-  pub told : (k : ℕ) (session : Session) → session_at sessions k ≡ Some session → session.protocol ≡ Smtp → IsTold plan entries k session
-  pub stand : (k : ℕ) (session : Session) → session_at sessions k ≡ Some session → AllStand plan entries stores k session.node (filings session.whole)
-  pub own_ids : OwnIds (λ session. filings session.whole) sessions
+-- Each line `250 stored` of a session that takes mail, in the order in which they were written, answers the message that it should, the first of a session the
+-- first, and so on; and this stands under an id of its own.
+pub record StoredStands (plan : Plan) (lines : List (List ℕ)) (entries : List Entry) (disks : List (List Record)) (sessions : List Session) (acks : List Ack) : Type 0 where
+  pub lines_of : map (λ ack. ack.session) acks ≡ stored_sessions (opened lines) entries
+  pub told : (k : ℕ) (session : Session) → session_at sessions k ≡ Some session → session.protocol ≡ Smtp → IsTold plan acks k session
+  pub other_ids : HaveOtherIds acks
+  pub stands : EachStands plan lines entries disks acks
 
--- The client of session k said QUIT, as this user, behind exchanges whose replies it got whole, in which it marked the messages of these ids.
+-- The client of session k said QUIT, as this user, after exchanges whose replies it got whole, in which it marked the messages of these ids.
 pub record Deletes (entries : List Entry) (k : ℕ) (session : Session) (user : List ℕ) (ids : List Id) (quit : Exchange) : Type 0 where
   pub before : List Exchange
   pub tail : List (List ℕ)
@@ -41,7 +44,7 @@ pub record Deletes (entries : List Entry) (k : ℕ) (session : Session) (user : 
   pub marked : QuitsMarked before quit user ids
 
 -- Only a QUIT deletes, and one that was answered `+OK bye` has deleted.
-pub record DeletedByQuit (plan : Plan) (entries : List Entry) (stores : List (Option (List ℕ))) (disks : List (List Record)) (sessions : List Session) : Type 0 where
+pub record DeletedByQuit (plan : Plan) (entries : List Entry) (disks : List (List Record)) (sessions : List Session) : Type 0 where
   -- a copy that is gone was marked by its owner, whose QUIT was reached
   pub only : (n : ℕ) (user : List ℕ) (id : Id) → IsGoneIn disks n user id
       → (k : ℕ) × (session : Session) × (ids : List Id) × (quit : Exchange) × (session_at sessions k ≡ Some session) × (session.protocol ≡ Pop)
@@ -50,7 +53,7 @@ pub record DeletedByQuit (plan : Plan) (entries : List Entry) (stores : List (Op
   pub bye : (k : ℕ) (session : Session) (before : List Exchange) (quit : Exchange) (n : ℕ) → session_at sessions k ≡ Some session → session.protocol ≡ Pop
       → session.whole ≡ before ++ quit ∷ [] → IsQuitUnit quit.unit → quit.reply ≡ one_line bye_text → IsMarked n (all_seen before)
       → (user : List ℕ) × (ids : List Id) × Deletes entries k session user ids quit
-      × ((id : Id) → IsIn id ids → (nodes : List ℕ) × AreGoneOn plan entries stores user id nodes)
+      × ((id : Id) → IsIn id ids → (nodes : List ℕ) × AreGoneOn plan entries disks user id nodes)
 
 -- the octets that are filed under the id of this text
 abbrev pub AreFiled : (Id → Option (List ℕ)) → List ℕ → List ℕ → Type 0
@@ -65,13 +68,9 @@ ShownAsFiled filed sessions = (k : ℕ) (session : Session) → session_at sessi
     × ((octets : List ℕ) → ShowsOctets n octets (seen other) → AreFiled filed text octets)
 
 -- The promises follow for every tape and every status from the sessions and from facts about answers.
-abbrev pub TrueAnswersStand : Type 0
-TrueAnswersStand = (plan : Plan) (lines : List (List ℕ)) (entries : List Entry) (stores : List (Option (List ℕ))) (sessions : List Session)
-    → AreSessions plan lines entries sessions → StoredAreTrue plan entries stores sessions → StoredStands plan entries stores sessions
-
 abbrev pub TrueAnswersDelete : Type 0
-TrueAnswersDelete = (plan : Plan) (lines : List (List ℕ)) (entries : List Entry) (stores : List (Option (List ℕ))) (disks : List (List Record)) (sessions : List Session)
-    → AreSessions plan lines entries sessions → DroppedAreTrue plan entries stores disks sessions → DeletedByQuit plan entries stores disks sessions
+TrueAnswersDelete = (plan : Plan) (lines : List (List ℕ)) (entries : List Entry) (disks : List (List Record)) (sessions : List Session)
+    → AreSessions plan lines entries sessions → DroppedAreTrue plan entries disks sessions → DeletedByQuit plan entries disks sessions
 
 abbrev pub TrueAnswersShow : Type 0
 TrueAnswersShow = (plan : Plan) (lines : List (List ℕ)) (entries : List Entry) (filed : Id → Option (List ℕ)) (sessions : List Session)

@@ -45,7 +45,7 @@ pub record IsQuitUnit (unit : Unit) : Type 0 where
   pub short : is_long_line line ≡ false
   pub quits : pop_command_of line ≡ Ok Quit
 
--- Behind these exchanges the client said QUIT, as this user, and had marked the messages of these ids, some at least.
+-- After these exchanges the client said QUIT, as this user, and had marked the messages of these ids, some at least.
 pub record QuitsMarked (before : List Exchange) (one : Exchange) (user : List ℕ) (ids : List Id) : Type 0 where
   pub quit : IsQuitUnit one.unit
   pub enters : Enters (all_seen before) user

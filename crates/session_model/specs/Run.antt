@@ -4,7 +4,7 @@ use Rattle.mail_model.specs.Plan.{Plan}
 use Rattle.mail_model.specs.Tape.{Order, tape_order}
 use Rattle.mail_model.specs.Tape.Order.{Open, Say, Feed, Close, End}
 use Rattle.mail_model.specs.Transcript.{Entry}
-use Rattle.mail_model.specs.Steps.{all_of}
+use Rattle.mail_model.specs.Transcript.{all_of}
 use Rattle.mail_model.specs.Site.{TapeFault}
 use Rattle.mail_model.specs.Site.TapeFault.{NoSuchNode, NodeDown, TooManySessions, NoSuchSession}
 use Rattle.session_model.specs.Calls.{Call}
@@ -102,7 +102,7 @@ AreHandled plan down old (line ∷ lines) (acts ∷ by_line) (outputs ∷ more) 
     (mid : List Session) × IsHandled plan down old line acts outputs mid × AreHandled plan (down ++ failed_in acts) mid lines by_line more new
 AreHandled plan down old lines by_line outputs new = ⊥
 
--- Why the work stopped: behind a line, as the sink failed, or as memory ran out.
+-- Why the work stopped: after a line, as the sink failed, or as memory ran out.
 pub data Stop : Type 0 where
   BehindLine : Stop
   SinkFailed : Stop
@@ -114,7 +114,7 @@ MayMiss BehindLine missing = ⊥
 MayMiss SinkFailed missing = missing ≢ []
 MayMiss OutOfMemory missing = ⊤
 
--- The work on a line stopped in its midst: of what its last act writes a front was written, and nothing was done behind it.
+-- The work on a line stopped in its midst: of what its last act writes a prefix was written, and nothing was done after it.
 pub record IsCutOff (plan : Plan) (down : List ℕ) (stop : Stop) (old : List Session) (line : List ℕ) (acts : List Act) (entries : List Entry) (turn : Turn) (new : List Session) : Type 0 where
   pub before : List (List Entry)
   pub says : List Entry

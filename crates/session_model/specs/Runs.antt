@@ -1,12 +1,14 @@
 -- However the work on a tape is left off, its transcript shows the sessions that its acts made, and what these asked and were answered.
-use Rattle.std.specs.Prelude.{◌≡◌, ℕ, List, [], ◌∷◌, ◌++◌, flat_map, Some}
+use Rattle.std.specs.Prelude.{◌≡◌, ℕ, List, [], ◌∷◌, ◌++◌, map, flat_map, All, Some}
 use Rattle.mail_model.specs.Plan.{Plan}
-use Rattle.mail_model.specs.Transcript.{Entry}
-use Rattle.mail_model.specs.Steps.{all_of}
-use Rattle.session_model.specs.Sessions.{Session, AreSessions, session_at}
+use Rattle.mail_model.specs.Lines.{HasNoLf}
+use Rattle.mail_model.specs.Transcript.{Entry, entry_line, all_of}
+use Rattle.session_model.specs.Talk.{IsIdle}
+use Rattle.session_model.specs.Sessions.{Session, IsSession, AreSessions, session_at}
 use Rattle.session_model.specs.Acts.{Act, Acted, ActedAll, AreActsOf, IsParted}
 use Rattle.session_model.specs.Logs.{AreLogged, asked_by, answered_by}
 use Rattle.session_model.specs.Run.{Stop, Made, IsDriven}
+use Rattle.session_model.specs.Run.Stop.{BehindLine}
 
 -- The sessions of the run lines that were handled, as the transcript shows them, with all that they asked and were answered.
 pub record Shows (plan : Plan) (lines : List (List ℕ)) (entries : List Entry) (acts : List Act) (sessions : List Session) : Type 0 where
@@ -25,3 +27,16 @@ abbrev pub DrivenIsShown : Type 0
 DrivenIsShown = (plan : Plan) (stop : Stop) (handled left : List (List ℕ)) (acts others : List (List Act)) (made : List Made) (entries : List Entry) (last : List Session)
     → IsDriven plan stop handled left acts others made entries last
     → (sessions : List Session) × Shows plan (handled ++ left) entries (flat_map (λ a. a) (acts ++ others)) sessions
+
+-- Each entry that it has is one line: no octet of it is an LF.
+abbrev pub DrivenWritesLines : Type 0
+DrivenWritesLines = (plan : Plan) (stop : Stop) (handled left : List (List ℕ)) (acts others : List (List Act)) (made : List Made) (entries : List Entry) (last : List Session)
+    → IsDriven plan stop handled left acts others made entries last → All HasNoLf (map entry_line entries)
+
+-- After a line each unit that a session was fed and has reached has its reply: the client got all replies whole, and the session waits for an answer, has ended, or has
+-- no whole unit left.
+abbrev pub DrivenAnswersUnits : Type 0
+DrivenAnswersUnits = (plan : Plan) (handled left : List (List ℕ)) (acts others : List (List Act)) (made : List Made) (entries : List Entry) (last : List Session)
+    → IsDriven plan BehindLine handled left acts others made entries last
+    → (k : ℕ) (session : Session) → session_at last k ≡ Some session
+    → IsSession plan (handled ++ left) entries k session × (session.others ≡ []) × IsIdle session.standing session.rest

@@ -30,7 +30,7 @@ IsCut [] last part missing = last ≡ part ++ missing
 IsCut (one ∷ []) last part missing = (one.reply ≡ part ++ missing) × (missing ≢ [])
 IsCut (one ∷ other ∷ more) last part missing = ⊥
 
--- the client got these lines behind the greeting
+-- the client got these lines after the greeting
 pub record Gets (session : Session) (got : List (List ℕ)) : Type 0 where
   pub part : List (List ℕ)
   pub missing : List (List ℕ)

@@ -18,7 +18,7 @@ abbrev pub numbered : List Item → ℕ → Option Item
 numbered items zero = None
 numbered items (suc n) = slice_get items n
 
--- RETR of this number shows these octets: they are those of the part that was fetched under the id that the listing has for the number, with CRLF behind them
+-- RETR of this number shows these octets: they are those of the part that was fetched under the id that the listing has for the number, with CRLF after them
 -- where they are not closed
 pub record IsFetched (items : List Item) (n : ℕ) (octets : List ℕ) (one : Exchange) : Type 0 where
   pub item : Item

@@ -16,7 +16,7 @@ use Rattle.session_model.specs.Calls.{Call, Answer, IsReply}
 use Rattle.session_model.specs.Calls.Call.{Deliver, Login, Fetch, Strike}
 use Rattle.session_model.specs.Calls.Answer.{Listed}
 
--- What a session was told that hears its next unit: one that takes mail; one that reads mail, before its login; and behind it, with its user and its listing.
+-- What a session was told that hears its next unit: one that takes mail; one that reads mail, before its login; and after it, with its user and its listing.
 pub data State : Type 0 where
   Mailing : (talk : Told) → State
   Entering : (named : Option (List ℕ)) → State
@@ -107,12 +107,12 @@ answered state (Login user secret) (Listed items) = Hearing (Reading user (liste
 answered state (Strike user ids) answer = EndedByQuit
 answered state call answer = Hearing state
 
--- and behind a call
+-- and after a call
 abbrev pub asked : State → Call → Option Answer → Standing
 asked state call None = Waiting state call
 asked state call (Some answer) = answered state call answer
 
--- and behind an exchange
+-- and after an exchange
 abbrev pub stands : Plan → State → Exchange → Lead → Standing
 stands plan state one (Says reply) = Hearing (heard plan state one.unit one.reply)
 stands plan state one (Ends reply) = EndedByQuit

@@ -13,7 +13,7 @@ use Rattle.session_model.specs.Acts.Act.{Opens, Does, Faults, StillWaits, Leaves
 use Rattle.session_model.specs.Acts.Deed.{IsFed, Hears, IsAnswered, Falls, Closes}
 
 -- What is under way: session k hears; its call has just begun; the sessions of a node that failed fall, from number k on; or the sessions that wait are asked,
--- from number k on. Behind the first three they are asked from number `onward` on.
+-- from number k on. After the first three they are asked from number `onward` on.
 pub data Turn : Type 0 where
   Hearing : (k onward : ℕ) → Turn
   Beginning : (k onward : ℕ) → Turn
@@ -67,7 +67,7 @@ abbrev pub after_unit : ℕ → ℕ → Option Call → Turn
 after_unit k onward None = Hearing k onward
 after_unit k onward (Some call) = Beginning k onward
 
--- The next act, and what is under way behind it. A session hears until it rests or waits, and leaves once it has ended by QUIT or its client closed it. Its node
+-- The next act, and what is under way after it. A session hears until it rests or waits, and leaves once it has ended by QUIT or its client closed it. Its node
 -- may fail as a call begins: then all sessions of the node fall. The sessions that wait are asked in rising order, and one that is answered hears on.
 abbrev pub Next : Turn → List Session → Act → Turn → Type 0
 Next (Hearing k onward) sessions (Does j (Hears one)) next = (j ≡ k) × (next ≡ after_unit k onward one.call)
@@ -90,7 +90,7 @@ Goes plan turn old (act ∷ acts) [] last new = ⊥
 abbrev pub IsDone : Turn → List Session → Type 0
 IsDone turn sessions = (from : ℕ) × IsReady turn sessions from × IsNone Waits sessions from
 
--- what a line begins with, and what is under way behind it
+-- what a line begins with, and what is under way after it
 abbrev pub Starts : Order → List Session → Act → Turn → Type 0
 Starts (Open protocol node) sessions act turn = (act ≡ Opens protocol node (greeting_of protocol node 1 (length sessions + 1) 0)) × (turn ≡ Asking 1)
 Starts (Say k text) sessions act turn = (act ≡ Does k (IsFed (sent_line text))) × (turn ≡ Hearing k 1)

@@ -1,15 +1,16 @@
-// Laws over talks.
+// Laws over the definitions.
+ghost use Rattle.session_model.specs.Calls.{EachAnswerHasReply};
 ghost use Rattle.session_model.specs.Moves.{Begins, IsFed, HearsNext, IsAnswered, FallsDown, IsClosed, OneTalk};
 ghost use Rattle.session_model.specs.Mailing.{StoredAsTold, AsksAsTold};
 ghost use Rattle.session_model.specs.Reading.{StrikesAtQuit, QuitStrikes};
 ghost use Rattle.session_model.specs.Showing.{ShownAsListed};
-ghost use Rattle.session_model.specs.Runs.{ActsAreShown, DrivenIsShown};
-ghost use Rattle.session_model.specs.Books.{BooksAcknowledge, BooksStrike};
-ghost use Rattle.session_model.specs.Owes.{OwedStoredAreTrue, OwedDeletionsAreTrue, OwedPartsAreTrue};
+ghost use Rattle.session_model.specs.Runs.{ActsAreShown, DrivenIsShown, DrivenWritesLines, DrivenAnswersUnits};
+ghost use Rattle.session_model.specs.Owes.{OwedDeletionsAreTrue, OwedPartsAreTrue};
+ghost use Rattle.session_model.specs.Kept.{OwedIsKept};
 ghost use Rattle.session_model.specs.Alone.{OneNodePromises};
 ghost use Rattle.session_model.specs.Readings.{OneReading};
 ghost use Rattle.session_model.specs.OneNode.{OneNodeOwes, OneNodeStores};
-ghost use Rattle.session_model.specs.Promises.{TrueAnswersStand, TrueAnswersDelete, TrueAnswersShow};
+ghost use Rattle.session_model.specs.Promises.{TrueAnswersDelete, TrueAnswersShow};
 
 /// A session that was opened has said nothing but its greeting.
 pub fn begins()
@@ -56,7 +57,7 @@ pub fn strikes_at_quit()
     ensures { StrikesAtQuit }
 {}
 
-/// And each QUIT behind a mark asks for one.
+/// And each QUIT after a mark asks for one.
 pub fn quit_strikes()
     ensures { QuitStrikes }
 {}
@@ -64,11 +65,6 @@ pub fn quit_strikes()
 /// What a session shows of its messages is what its login and its fetches were answered with.
 pub fn shown_as_listed()
     ensures { ShownAsListed }
-{}
-
-/// Where each Stored is true, each message that was answered `250 stored` stands.
-pub fn true_answers_stand()
-    ensures { TrueAnswersStand }
 {}
 
 /// Where each Dropped is true, only a QUIT deletes, and one that was answered `+OK bye` has deleted.
@@ -87,16 +83,6 @@ pub fn acts_are_shown()
     ensures { ActsAreShown }
 {}
 
-/// Where the book of a cluster is that of the calls, its copies are those of what clients were told.
-pub fn books_acknowledge()
-    ensures { BooksAcknowledge }
-{}
-
-/// And its deletions are those of what clients marked.
-pub fn books_strike()
-    ensures { BooksStrike }
-{}
-
 /// What a cluster owes of deletions is true in the sessions that asked for them.
 pub fn owed_deletions_are_true()
     ensures { OwedDeletionsAreTrue }
@@ -112,11 +98,6 @@ pub fn one_node_owes()
     ensures { OneNodeOwes }
 {}
 
-/// What a cluster owes of messages is true in the sessions that were told so.
-pub fn owed_stored_are_true()
-    ensures { OwedStoredAreTrue }
-{}
-
 /// One node gives what a cluster owes of messages.
 pub fn one_node_stores()
     ensures { OneNodeStores }
@@ -127,11 +108,6 @@ pub fn asks_as_told()
     ensures { AsksAsTold }
 {}
 
-/// The three promises to clients hold of one node, for every tape and however the work on it is left off.
-pub fn one_node_promises()
-    ensures { OneNodePromises }
-{}
-
 /// However a tape is driven, its transcript shows its sessions.
 pub fn driven_is_shown()
     ensures { DrivenIsShown }
@@ -140,4 +116,31 @@ pub fn driven_is_shown()
 /// What a client sent and got has one reading.
 pub fn one_reading()
     ensures { OneReading }
+{}
+
+/// However a tape is driven, the promises to clients are kept where the cluster gives what it owes
+/// of the calls.
+pub fn owed_is_kept()
+    ensures { OwedIsKept }
+{}
+
+/// The promises to clients hold of a cluster of one node, for every tape and however the work on it
+/// is left off.
+pub fn one_node_promises()
+    ensures { OneNodePromises }
+{}
+
+/// Each answer of a call's kind has a reply, whatever octets it carries.
+pub fn each_answer_has_reply()
+    ensures { EachAnswerHasReply }
+{}
+
+/// However a tape is driven, each entry of its transcript is one line.
+pub fn driven_writes_lines()
+    ensures { DrivenWritesLines }
+{}
+
+/// After a line each unit that a session has reached has its reply.
+pub fn driven_answers_units()
+    ensures { DrivenAnswersUnits }
 {}

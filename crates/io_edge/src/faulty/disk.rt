@@ -30,6 +30,8 @@ impl<D: Disk> FaultyDisk<D> {
 }
 
 impl<D: Disk> Disk for FaultyDisk<D> {
+    ghost use Rattle.io_edge.specs.Wrapped.{clock_within};
+
     ghost seen = { λ d. D.seen d.inner };
 
     ghost room = { λ d. D.room d.inner };
@@ -37,6 +39,16 @@ impl<D: Disk> Disk for FaultyDisk<D> {
     ghost faults = { λ d. D.faults d.inner + d.countdown.faults };
 
     ghost settled = { λ d. D.settled d.inner };
+
+    ghost clock = { clock_within D.clock };
+
+    ghost seen_is_image = { λ d. D.seen_is_image d.inner };
+
+    ghost settled_is_only = { λ d. D.settled_is_only d.inner };
+
+    ghost image_since = { λ d. D.image_since d.inner };
+
+    ghost only_now = { λ d. D.only_now d.inner };
 
     fn len(&mut self) -> Result<u64, Failed> {
         if self.countdown.strikes() {
@@ -69,5 +81,12 @@ impl<D: Disk> Disk for FaultyDisk<D> {
             return Err(Failed);
         }
         self.inner.sync()
+    }
+
+    fn restart(&mut self) -> Result<(), Failed> {
+        if self.countdown.strikes() {
+            return Err(Failed);
+        }
+        self.inner.restart()
     }
 }

@@ -1,7 +1,7 @@
 use Rattle.std.proofs.Common.{◌∙◌, arith}
 use Rattle.std.proofs.lemmas.Result.{err_from_is_err_and}
 use Rattle.cluster_world.specs.declared.place.Place.{Place}
-use Rattle.cluster_world.proofs.Stricken.{gone_appended, gone_failed, settled_more, gone_grows, none_written, refused_alike}
+use Rattle.cluster_world.proofs.Stricken.{gone_appended, gone_failed, settled_more, gone_grows, settled_yet, none_written, refused_alike}
 use Rattle.cluster_world.proofs.append.append_gone.Goals as goal
 
 pub returns-in_err-append_one_gone-clause-wrote : goal.returns-in_err-append_one_gone-clause-wrote
@@ -13,6 +13,12 @@ pub returns-in_err-append_one_gone-clause-untouched : goal.returns-in_err-append
 returns-in_err-append_one_gone-clause-untouched g c = λ memory same.
     let p = err_from_is_err_and c.from_residual.result c.from_residual.ensures.1 in
     none_written c.loop-id.id-index _ _ _ _ _ _ _ _ _ c.loop-id.invariant.start c.loop-id.invariant.grown (c.in_err-append_one_gone.ensures.untouched (refused_alike (Unit {0}) Place _ _ (rw (p.1, p.2) at memory))) same
+
+pub returns-in_err-append_one_gone-clause-still : goal.returns-in_err-append_one_gone-clause-still
+returns-in_err-append_one_gone-clause-still g c = λ memory sure.
+    let p = err_from_is_err_and c.from_residual.result c.from_residual.ensures.1 in
+    c.in_err-append_one_gone.ensures.still (refused_alike (Unit {0}) Place _ _ (rw (p.1, p.2) at memory))
+    (settled_yet g.D.Disk.settled _ _ _ c.loop-id.invariant.settled sure)
 
 pub loop-id-preserved : goal.loop-id-preserved
 loop-id-preserved g c =

@@ -1,4 +1,4 @@
-use Rattle.std.proofs.Common.{rules, ◌∙◌, arith}
+use Rattle.std.proofs.Common.{rules, ◌∙◌}
 use Rattle.cluster_world.proofs.Filled.{filled_more}
 use Rattle.cluster_world.proofs.journal.fill.Goals as goal
 
@@ -11,6 +11,6 @@ loop-filled-preserved g c =
       size = search rules;
       within = search rules;
       seen = read.seen ∙ so_far.seen;
-      later = omega (arith, so_far.later, read.cause.later);
+      quiet = read.quiet ∙ so_far.quiet;
       settled = λ before. read.settled (so_far.settled before);
     }

@@ -8,7 +8,7 @@ invariant-loop-filled g l = record {
   size : length l.into ≡ length l.initial.into;
   within : l.filled ≤ length l.into;
   seen : g.D.Disk.seen l.disk ≡ g.D.Disk.seen l.initial.disk;
-  later : g.D.Disk.faults l.initial.disk ≤ g.D.Disk.faults l.disk;
+  quiet : g.D.Disk.faults l.disk ≡ g.D.Disk.faults l.initial.disk;
   settled : g.D.Disk.settled l.initial.disk → g.D.Disk.settled l.disk;
 }
 

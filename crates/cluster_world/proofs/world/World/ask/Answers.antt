@@ -25,6 +25,6 @@ returns-clause-did g c =
         behind = drop (c.in-Some.place + 1) stood;
         stood = taken_out stood c.in-Some.place c.remove-standing.result _ (search rules) c.remove-standing.ensures.value c.in-Some.ensures.some;
         stands = c.remove-standing.ensures.by_index.2;
-        settles = subst (λ (l : List BookEntry). Settles pending c.settle.result l (told_by c.settle.new.book)) booked c.settle.ensures;
+        settles = subst (λ (l : List BookEntry). Settles pending c.settle-answer.result l (told_by c.settle-answer.new.book)) booked c.settle-answer.ensures;
       },
     )

@@ -1,4 +1,4 @@
-use Rattle.std.proofs.Common.{ap, map, List, ◌+◌, ◌++◌, ◌∷◌, [], ◌∙◌}
+use Rattle.std.proofs.Common.{refl, ap, map, List, ◌+◌, ◌++◌, ◌∷◌, [], ◌∙◌}
 use Rattle.mail_model.specs.Book.{BookEntry}
 use Rattle.mail_model.specs.Book.BookEntry.{WentDown}
 use Rattle.cluster_world.specs.Books.{entry_of, told_by}
@@ -7,7 +7,7 @@ use Rattle.cluster_world.specs.Steps.{call_of, nth_ticket}
 use Rattle.cluster_world.specs.declared.book.Book.{Book}
 use Rattle.cluster_world.specs.declared.step.Standing.{Standing}
 use Rattle.cluster_world.specs.declared.step.Pending.TheVariants.{Found}
-use Rattle.cluster_world.proofs.Found.{finds, finds_part, fetched_later, stops_reading, has_cause}
+use Rattle.cluster_world.proofs.Found.{finds, finds_part, fetched_quiet, stops_reading, has_cause}
 use Rattle.cluster_world.proofs.world.World.fetch.Goals as goal
 
 pub returns-in-Ok-clause-did : goal.returns-in-Ok-clause-did
@@ -22,10 +22,11 @@ returns-in-Ok-clause-did g c = λ node within.
     rw stand.said (
       within,
       c.requires.up,
+      refl,
       (
         answer,
         finds g.D.Disk.seen g.D.Disk.faults answer c.fetch_answer.new.disk old c.stand.new.self c.requires.up found.seen
-            (fetched_later g.D.Disk.seen old answer _ _ _ _ _ _ _ found.answer)
+            (fetched_quiet g.D.Disk.seen old answer _ _ _ _ _ _ _ found.answer)
             (rest.0, rest.1, rest.2, rest.3, rest.4, rest.5, rest.6, ap (λ (b : Book). told_by b) rest.7 ∙ ap (map entry_of) c.in_ok-reserve.ensures.entries) stand.tickets
             (stand.standing ∙ ap (λ (l : List Standing). l ++ call_of ticket (Found answer) ∷ []) c.in_ok-reserve-2.ensures.items),
         finds_part g.D.Disk.seen old answer c.args.user c.args.id c.args.from c.args.most _ _ (rw row at found.answer),

@@ -20,6 +20,6 @@ returns-in_ok-file_copies-in-Ok-clause-delivers g c =
 pub returns-in-Err-Disk-clause-delivers : goal.returns-in-Err-Disk-clause-delivers
 returns-in-Err-Disk-clause-delivers g c =
     let failed = rw c.in-Err-Disk.field-0-is at c.in-Err-Disk.ensures.wrote in (
-      record { falls = octets_failed g.D.Disk.seen g.D.Disk.faults _ _ _ failed.0.0 failed.0.1; down = refl; drawn = refl; stamps = refl; later = failed.1 },
+      record { falls = octets_failed g.D.Disk.seen g.D.Disk.faults _ _ _ failed.0.0 failed.0.1 failed.0.2; down = refl; drawn = refl; stamps = refl; later = failed.1 },
       failed.2,
     )

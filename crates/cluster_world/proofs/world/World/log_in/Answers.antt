@@ -1,4 +1,4 @@
-use Rattle.std.proofs.Common.{refl, ap, List, ◌+◌, ◌++◌, ◌∷◌, [], ◌∙◌, arith}
+use Rattle.std.proofs.Common.{refl, ap, List, ◌+◌, ◌++◌, ◌∷◌, [], ◌∙◌}
 use Rattle.cluster_world.specs.Books.{told_by}
 use Rattle.cluster_world.specs.World.{tickets_of}
 use Rattle.cluster_world.specs.Steps.{call_of, nth_ticket}
@@ -20,9 +20,10 @@ returns-clause-did g c = λ node within.
     rw stand.said (
       within,
       c.requires.up,
+      refl,
       (
         answer,
-        finds g.D.Disk.seen g.D.Disk.faults answer old.disk old c.stand.new.self c.requires.up refl (omega arith)
+        finds g.D.Disk.seen g.D.Disk.faults answer old.disk old c.stand.new.self c.requires.up refl refl
             (rest.0, rest.1, rest.2, rest.3, rest.4, rest.5, rest.6, ap (λ (b : Book). told_by b) rest.7) stand.tickets
             (stand.standing ∙ ap (λ (l : List Standing). l ++ call_of ticket (Found answer) ∷ []) c.in_ok-reserve.ensures.items),
         finds_login g.D.Disk.seen old answer c.args.user c.args.proof ticket answered,

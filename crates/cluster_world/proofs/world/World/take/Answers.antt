@@ -43,6 +43,7 @@ returns-in-Ok-clause-did g c = λ node within.
     rw stand.said (
       within,
       c.requires.up,
+      refl,
       takes g.D.Disk.seen g.D.Disk.faults (mail_in c.args.deliver) old mid c.file.new.self c.stand.new.self c.in-Ok.measure (nth_ticket number)
           same c.in_ok-reserve-2.ensures.items filed.delivers filed.plan filed.tickets filed.standing filed.book refl stand.tickets
           (stand.standing ∙ ap (λ (f : Filing). standing_of c.file.new.self ++ call_of (nth_ticket number) (Filed f) ∷ []) c.filing_of-filing.ensures)

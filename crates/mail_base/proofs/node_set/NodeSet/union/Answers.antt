@@ -1,4 +1,4 @@
-use Rattle.mail_base.proofs.Sets.{has_or}
+use Rattle.object_model.proofs.SetLaws.{has_or}
 use Rattle.mail_base.proofs.node_set.NodeSet.union.Goals as goal
 
 pub returns-clause-members : goal.returns-clause-members

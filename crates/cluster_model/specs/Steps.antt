@@ -1,0 +1,245 @@
+-- What can be done with a world, what it answers, and what is refused.
+use Rattle.std.specs.Prelude.{ℕ, ◌+◌, ◌-◌, ◌^◌, Bool, true, false, not, ◌&&◌, ◌||◌, nat_eq, nat_lt, nat_le, List, [], ◌∷◌, length, Option, Some, None, is_some, if◌then◌else◌}
+use Rattle.std.specs.List.{list_all}
+use Rattle.mail_model.specs.Identity.{Id}
+use Rattle.mail_model.specs.Plan.{Plan}
+use Rattle.mail_model.specs.Told.{Mail}
+use Rattle.object_model.specs.Letters.{Number, Letter}
+use Rattle.object_model.specs.Sets.{nodes_in}
+use Rattle.object_model.specs.Mishaps.{Mishaps, no_mishaps, counted, mishaps_of}
+use Rattle.object_model.specs.Mishaps.MishapKind.{FewMembers, Year}
+use Rattle.cluster_model.specs.Cluster.{Node, Life, Slot, slot_at, members_of}
+use Rattle.cluster_model.specs.Cluster.Life.{Up, Down, Lost}
+use Rattle.cluster_model.specs.Claims.{all_records, boot_of}
+use Rattle.cluster_model.specs.Rules.{ticket_at}
+use Rattle.cluster_model.specs.Thrown.{Why}
+use Rattle.cluster_model.specs.Progress.{Ask}
+use Rattle.cluster_model.specs.Room.{Flight, due_to, keys_pushed}
+use Rattle.cluster_model.specs.World.{World}
+
+-- a copy that is to be deleted, with the targets that its listing told
+pub record Struck : Type 0 where
+  pub id : Id
+  pub targets : ℕ
+
+-- the calls that have a rule here: that a message be stored, and that copies of a user be deleted
+pub data Call : Type 0 where
+  Deliver : (mail : Mail) → Call
+  Strike : (user : List ℕ) (items : List Struck) → Call
+
+pub data Step : Type 0 where
+  Begin : (node : ℕ) (call : Call) → Step
+  AskFor : (ticket : Number) → Step
+  GiveUp : (ticket : Number) → Step
+  -- a letter is handed to its receiver, and kept in flight or not
+  Post : (letter : ℕ) (keep : Bool) → Step
+  DropLetter : (letter : ℕ) → Step
+  PushTo : (from to : ℕ) → Step
+  Widen : (at : ℕ) (user : List ℕ) (id : Id) (to : ℕ) → Step
+  Crash : (node : ℕ) → Step
+  Start : (node : ℕ) → Step
+  Lose : (node : ℕ) → Step
+  Tick : (seconds : ℕ) → Step
+
+-- what a step answers
+pub data Said : Type 0 where
+  Begun : (ticket : Number) → Said
+  Asked : (ask : Ask) → Said
+  Heard : Said
+  Thrown : (why : Why) → Said
+  Sent : (letters : ℕ) → Said
+  Widened : (did : Bool) → Said
+  NodeUp : (boot : ℕ) → Said
+  Finished : Said
+  -- the disk of the node failed, and the node is down
+  Faulted : (node : ℕ) → Said
+
+-- why a step is refused
+pub data StepFault : Type 0 where
+  NoSuchNode : StepFault
+  NodeLost : StepFault
+  NodeDown : StepFault
+  NodeIsUp : StepFault
+  NoSuchLetter : StepFault
+  NoSuchTicket : StepFault
+  Worn : StepFault
+  NoRoom : StepFault
+
+-- What comes of a step: what it says, its refusal, or that memory ran out, which may have taken a node down.
+pub data Outcome : Type 0 where
+  Says : (said : Said) → Outcome
+  Refused : (fault : StepFault) → Outcome
+  NoMemory : (down : Option ℕ) → Outcome
+
+-- the nodes that a step names; the node in an id is not meant
+abbrev pub nodes_named : Step → List ℕ
+nodes_named (Begin node call) = node ∷ []
+nodes_named (AskFor ticket) = ticket.node ∷ []
+nodes_named (GiveUp ticket) = ticket.node ∷ []
+nodes_named (Post letter keep) = []
+nodes_named (DropLetter letter) = []
+nodes_named (PushTo from to) = from ∷ to ∷ []
+nodes_named (Widen at user id to) = at ∷ to ∷ []
+nodes_named (Crash node) = node ∷ []
+nodes_named (Start node) = node ∷ []
+nodes_named (Lose node) = node ∷ []
+nodes_named (Tick seconds) = []
+
+-- the node that acts, or that a Crash, Start or Lose names
+abbrev pub actor_of : Step → Option ℕ
+actor_of (Begin node call) = Some node
+actor_of (AskFor ticket) = Some ticket.node
+actor_of (GiveUp ticket) = Some ticket.node
+actor_of (Post letter keep) = None
+actor_of (DropLetter letter) = None
+actor_of (PushTo from to) = Some from
+actor_of (Widen at user id to) = Some at
+actor_of (Crash node) = Some node
+actor_of (Start node) = Some node
+actor_of (Lose node) = Some node
+actor_of (Tick seconds) = None
+
+-- what is wrong with the life of the node that is to act
+abbrev pub life_fault : Step → Life → Option StepFault
+life_fault step Lost = Some NodeLost
+life_fault (Start node) (Up state) = Some NodeIsUp
+life_fault (Start node) (Down pending) = None
+life_fault (Lose node) life = None
+life_fault step (Down pending) = Some NodeDown
+life_fault step (Up state) = None
+
+abbrev pub slot_fault : Step → Option Slot → Option StepFault
+slot_fault step None = Some NoSuchNode
+slot_fault step (Some slot) = life_fault step slot.life
+
+abbrev pub actor_fault : Step → List Slot → Option ℕ → Option StepFault
+actor_fault step slots None = None
+actor_fault step slots (Some node) = slot_fault step (slot_at slots node)
+
+-- the letter of this number, if it is in flight
+abbrev pub letter_at : ℕ → List Flight → Option Letter
+letter_at number [] = None
+letter_at number (flight ∷ flying) = if nat_eq flight.number number then Some flight.letter else letter_at number flying
+
+abbrev pub letter_fault : Step → List Flight → Option StepFault
+letter_fault (Post letter keep) flying = if is_some (letter_at letter flying) then None else Some NoSuchLetter
+letter_fault (DropLetter letter) flying = if is_some (letter_at letter flying) then None else Some NoSuchLetter
+letter_fault step flying = None
+
+-- whether a ticket stands
+abbrev pub stands_in : Number → Life → Bool
+stands_in number (Up node) = is_some (ticket_at number.node node (Some number))
+stands_in number (Down pending) = false
+stands_in number Lost = false
+
+abbrev pub stands_at : Number → Option Slot → Bool
+stands_at number None = false
+stands_at number (Some slot) = stands_in number slot.life
+
+abbrev pub ticket_fault : Step → List Slot → Option StepFault
+ticket_fault (AskFor ticket) slots = if stands_at ticket (slot_at slots ticket.node) then None else Some NoSuchTicket
+ticket_fault (GiveUp ticket) slots = if stands_at ticket (slot_at slots ticket.node) then None else Some NoSuchTicket
+ticket_fault step slots = None
+
+-- whether the node's epoch has fewer than F members
+abbrev pub has_few_members : Plan → Node → Bool
+has_few_members plan node = nat_lt (length (nodes_in (members_of node) plan.nodes)) plan.confirm
+
+-- the first second after the last year that a date can have
+abbrev pub end_of_dates : ℕ
+end_of_dates = 253402300800
+
+-- what makes a call fail at once: a Deliver or a Strike with too few members, and a Deliver that has no date
+abbrev pub few_mishaps : Plan → Node → Mishaps
+few_mishaps plan node = if has_few_members plan node then counted FewMembers no_mishaps else no_mishaps
+
+abbrev pub mishaps_of_call : Plan → ℕ → Node → Call → Mishaps
+mishaps_of_call plan seconds node (Deliver mail) = if nat_le end_of_dates seconds then counted Year (few_mishaps plan node) else few_mishaps plan node
+mishaps_of_call plan seconds node (Strike user items) = few_mishaps plan node
+
+abbrev pub fails_at_once : Plan → ℕ → Node → Call → Bool
+fails_at_once plan seconds node call = nat_lt 0 (mishaps_of (mishaps_of_call plan seconds node call))
+
+-- the greatest numbers of messages, stamps and tickets, and of boots; and the number from which on no letter is sent
+abbrev pub greatest : ℕ
+greatest = 2 ^ 64 - 1
+
+abbrev pub greatest_boot : ℕ
+greatest_boot = 2 ^ 32 - 1
+
+abbrev pub letters_end : ℕ
+letters_end = 2 ^ 64 - 2 ^ 32
+
+-- how many stamps a call draws, and how many numbers of messages
+abbrev pub stamps_drawn : Call → ℕ
+stamps_drawn (Deliver mail) = 1
+stamps_drawn (Strike user items) = length items
+
+abbrev pub ids_drawn : Call → ℕ
+ids_drawn (Deliver mail) = 1
+ids_drawn (Strike user items) = 0
+
+-- whether the call would draw a number above the greatest; one that fails at once draws no stamp
+abbrev pub is_worn_for : Plan → ℕ → Node → Call → Bool
+is_worn_for plan seconds node call =
+    nat_lt greatest (node.calls + 1) || nat_lt greatest (node.drawn + ids_drawn call) || (not (fails_at_once plan seconds node call) && nat_lt greatest (node.count + stamps_drawn call))
+
+abbrev pub is_worn_slot : Plan → ℕ → Step → Slot → Life → Bool
+is_worn_slot plan seconds (Begin node call) slot (Up state) = is_worn_for plan seconds state call
+is_worn_slot plan seconds (Start node) slot life = nat_le greatest_boot (boot_of (all_records slot))
+is_worn_slot plan seconds step slot life = false
+
+abbrev pub is_worn_at : Plan → ℕ → Step → Option Slot → Bool
+is_worn_at plan seconds step None = false
+is_worn_at plan seconds step (Some slot) = is_worn_slot plan seconds step slot slot.life
+
+abbrev pub is_worn_by : Plan → World → Step → Option ℕ → Bool
+is_worn_by plan w step None = false
+is_worn_by plan w step (Some node) = is_worn_at plan w.seconds step (slot_at w.slots node)
+
+abbrev pub has_ticket : Option Letter → Bool
+has_ticket None = false
+has_ticket (Some letter) = is_some letter.ticket
+
+-- whether the step may lead to letters
+abbrev pub may_send : Step → List Flight → Bool
+may_send (AskFor ticket) flying = false
+may_send (DropLetter letter) flying = has_ticket (letter_at letter flying)
+may_send (Crash node) flying = false
+may_send (Lose node) flying = false
+may_send (Tick seconds) flying = false
+may_send step flying = true
+
+abbrev pub worn_fault : Plan → Step → World → Option StepFault
+worn_fault plan step w = if (may_send step w.flying && nat_le letters_end w.sent) || is_worn_by plan w step (actor_of step) then Some Worn else None
+
+-- whether letters are due, and not even the first finds room
+abbrev pub is_crowded_slot : List Flight → ℕ → ℕ → Slot → Life → Bool
+is_crowded_slot flying from to slot (Up node) = nat_lt 0 (length (due_to from to node)) && nat_eq (length (keys_pushed flying from to node slot.disk)) 0
+is_crowded_slot flying from to slot life = false
+
+abbrev pub is_crowded_at : List Flight → ℕ → ℕ → Option Slot → Bool
+is_crowded_at flying from to None = false
+is_crowded_at flying from to (Some slot) = is_crowded_slot flying from to slot slot.life
+
+abbrev pub room_fault : Step → World → Option StepFault
+room_fault (PushTo from to) w = if is_crowded_at w.flying from to (slot_at w.slots from) then Some NoRoom else None
+room_fault step w = None
+
+abbrev pub is_node : Plan → ℕ → Bool
+is_node plan n = nat_lt 0 n && nat_le n plan.nodes
+
+abbrev pub name_fault : Plan → Step → Option StepFault
+name_fault plan step = if list_all (is_node plan) (nodes_named step) then None else Some NoSuchNode
+
+-- the first fault there is
+abbrev pub first_of : List (Option StepFault) → Option StepFault
+first_of [] = None
+first_of (None ∷ faults) = first_of faults
+first_of (Some fault ∷ faults) = Some fault
+
+-- why a step is refused, if it is: the first that fits
+abbrev pub fault_of : Plan → Step → World → Option StepFault
+fault_of plan step w = first_of (
+    name_fault plan step ∷ actor_fault step w.slots (actor_of step) ∷ letter_fault step w.flying ∷ ticket_fault step w.slots ∷ worn_fault plan step w ∷ room_fault step w ∷ []
+    )

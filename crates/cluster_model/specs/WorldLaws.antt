@@ -1,0 +1,67 @@
+-- What holds of worlds, whatever steps are made.
+use Rattle.std.specs.Prelude.{◌≡◌, ◌⊎◌, ◌<◌, ◌≤◌, ◌+◌, ℕ, zero, suc, List, [], ◌∷◌, Some}
+use Rattle.std.specs.FinMap as fin
+use Rattle.mail_model.specs.Identity.{Id}
+use Rattle.mail_model.specs.Plan.{Plan}
+use Rattle.mail_model.specs.Record.{Record}
+use Rattle.mail_model.specs.Record.Record.{Boot}
+use Rattle.mail_model.specs.Told.{Mail}
+use Rattle.mail_model.specs.Mail.{IsStored}
+use Rattle.object_model.specs.Lists.{Among}
+use Rattle.cluster_model.specs.Cluster.{Node, Slot, slot_at}
+use Rattle.cluster_model.specs.Cluster.Life.{Up}
+use Rattle.cluster_model.specs.Parts.{Holds, Sound}
+use Rattle.cluster_model.specs.Starts.{first_membership}
+use Rattle.cluster_model.specs.Deeds.{IsNumbered, slot_up}
+use Rattle.cluster_model.specs.Room.{Flight}
+use Rattle.cluster_model.specs.World.{World, letters_of, cluster_of}
+use Rattle.cluster_model.specs.Steps.{Step, Outcome}
+use Rattle.cluster_model.specs.Steps.Call.{Deliver}
+use Rattle.cluster_model.specs.Steps.Step.{Begin}
+use Rattle.cluster_model.specs.Makes.{Made, Makes, MakesAll, IsUp}
+
+-- each slot is that of a node of the plan
+abbrev pub InPlan : ℕ → List Slot → Type 0
+InPlan nodes slots = (n : ℕ) (slot : Slot) → slot_at slots n ≡ Some slot → IsNumbered n nodes
+
+-- whatever steps are made and whatever comes of them, a sound world stays sound
+abbrev pub StepsKeepSound : Type 0
+StepsKeepSound = (plan : Plan) (old new : World) (steps : List Made) → MakesAll plan old steps new
+    → InPlan plan.nodes old.slots → Sound plan.confirm (cluster_of old) → InPlan plan.nodes new.slots × Sound plan.confirm (cluster_of new)
+
+-- where a cluster opens over empty disks: each node in its first boot, which is on its disk, and in the first epoch
+abbrev pub fresh_slot : ℕ → Slot
+fresh_slot nodes = record {
+  life = Up (record { boot = 1; drawn = 0; count = 0; calls = 0; installed = Some (first_membership nodes); log = fin.empty; tickets = fin.empty });
+  disk = Boot 1 ∷ [];
+}
+
+abbrev pub fresh_slots : ℕ → ℕ → List Slot
+fresh_slots nodes zero = []
+fresh_slots nodes (suc k) = fresh_slot nodes ∷ fresh_slots nodes k
+
+abbrev pub opening : ℕ → World
+opening nodes = record { slots = fresh_slots nodes nodes; flying = []; sent = 0; seconds = 0; book = [] }
+
+-- it is sound
+abbrev pub OpeningIsSound : Type 0
+OpeningIsSound = (nodes confirm : ℕ) → nodes ≤ 64 → InPlan nodes (opening nodes).slots × Sound confirm (cluster_of (opening nodes))
+
+-- a message that a Deliver files has the next id of its node, and is the message that was told, at the seconds of the world
+pub record FiledBy (old : World) (own : ℕ) (mail : Mail) (id : Id) (octets : List ℕ) : Type 0 where
+  pub node : Node
+  pub disk : List Record
+  pub up : IsUp old own node disk
+  pub same_id : (record { node = own; boot = node.boot; seq = node.drawn + 1 }) ≡ id
+  pub stored : IsStored mail id old.seconds octets
+
+-- what a step may bring
+abbrev pub MayBring : World → Step → Id → List ℕ → Type 0
+MayBring old (Begin own (Deliver mail)) id octets = FiledBy old own mail id octets
+MayBring old step id octets = ⊥
+
+-- Whatever octets a sound world holds after a step it held before, or the step is the Deliver of that message.
+abbrev pub StepsBring : Type 0
+StepsBring = (plan : Plan) (old new : World) (step : Step) (outcome : Outcome) → Makes plan old step outcome new
+    → InPlan plan.nodes old.slots → Sound plan.confirm (cluster_of old) → (id : Id) (octets : List ℕ) → Holds new.slots (letters_of new.flying) id octets
+    → Holds old.slots (letters_of old.flying) id octets ⊎ MayBring old step id octets

@@ -1,0 +1,24 @@
+//! What follows for whoever drives a world, however its steps are ordered.
+ghost use Rattle.cluster_world.specs.Outcomes.{WorldOwes, StepsAreCounted, AskedAtOnce, MakesMore};
+
+use io_edge::Disk;
+
+/// A world of one node has what a cluster owes of the calls that it was asked and of those that it answered.
+pub fn world_owes<D: Disk>()
+    ensures { WorldOwes D.seen D.faults }
+{}
+
+/// Each step was counted, and nothing else was.
+pub fn steps_are_counted<D: Disk>()
+    ensures { StepsAreCounted D.seen D.faults }
+{}
+
+/// A call that is asked for at once is answered by an answer of its kind, or memory ran out.
+pub fn asked_at_once<D: Disk>()
+    ensures { AskedAtOnce D.seen D.faults }
+{}
+
+/// Steps and one more are steps.
+pub fn makes_more<D: Disk>()
+    ensures { MakesMore D.seen D.faults }
+{}

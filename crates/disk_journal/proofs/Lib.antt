@@ -1,0 +1,4 @@
+pub mod Filled
+pub mod Frames
+pub mod Gates
+pub mod Images

@@ -1,0 +1,151 @@
+#!/usr/bin/env python3
+"""What one has to read to know what a clause says.
+
+For each clause of a public call this walks the definitions that the clause names, those that they
+name, and so on, through the files crates/*/specs, and counts them and their lines. Definitions of std
+and of the kit are not followed. Run it at the top of the repository:
+
+    docs/trust.py            prints the tables
+    docs/trust.py --list     prints each definition too, with its file and line
+    docs/trust.py --write    puts the tables into docs/TRUST.md
+"""
+import glob
+import os
+import re
+import sys
+
+CALLS = [('porcupine_server', 'porcupine'), ('drive_tape', 'drive')]
+BEGIN, END = '<!-- made by docs/trust.py -->', '<!-- end -->'
+WORD = re.compile(r"[A-Za-z_][A-Za-z0-9_\-']*(?:\.[A-Za-z_][A-Za-z0-9_\-']*)*")
+USE = re.compile(r'(?:ghost |pub )*use (Rattle\.[A-Za-z0-9_.]+?)(?:\.\{([^}]*)\})?(?: as (\w+))?;?\s*$')
+DEFINITION = re.compile(r"^(?:(?:abbrev|unfoldable|pub|record|data) )+([A-Za-z_◌][^\s:({]*)")
+
+
+def imports_of(lines):
+    """The names and modules that `use` lines bring: a name to its module and its name there."""
+    names, modules = {}, {}
+    for line in lines:
+        use = USE.match(line.strip())
+        if not use:
+            continue
+        path, items, alias = use.groups()
+        if items is None:
+            modules[alias or path.split('.')[-1]] = path
+            continue
+        for item in items.split(','):
+            name, _, other = item.strip().partition(' as ')
+            names[other.strip() or name.strip()] = (path, name.strip())
+    return names, modules
+
+
+class Definitions:
+    def __init__(self):
+        self.found, self.imports, self.reexports = {}, {}, {}
+        for path in sorted(glob.glob('crates/*/specs/*.antt')):
+            crate, name = path.split('/')[1], os.path.basename(path)[:-5]
+            if name != 'Lib':
+                self.read(path, f'Rattle.{crate}.specs.{name}')
+
+    def read(self, path, module):
+        lines = open(path, encoding='utf-8').read().split('\n')
+        self.imports[module] = imports_of(lines)
+        starts = [(at, DEFINITION.match(line).group(1)) for at, line in enumerate(lines)
+                  if DEFINITION.match(line) and not line.startswith(('pub mod', 'pub use'))]
+        for (at, name), (end, _) in zip(starts, starts[1:] + [(len(lines), '')]):
+            while end > at + 1 and (not lines[end - 1].strip() or lines[end - 1].startswith('--')):
+                end -= 1
+            self.found[(module, name)] = (path, at + 1, lines[at:end])
+
+    def lookup(self, module, name):
+        """The definition of this name in this module: its own, or that of the type whose variant it is."""
+        if (module, name) in self.found:
+            return (module, name)
+        names, _ = self.imports.get(module, ({}, {}))
+        if name in names and names[name] != (module, name):
+            return self.lookup(*names[name])
+        outer, _, kind = module.rpartition('.')
+        return (outer, kind) if (outer, kind) in self.found else None
+
+    def resolve(self, word, names, modules, own=None):
+        head, _, rest = word.partition('.')
+        if own and (own, head) in self.found:
+            return (own, head)
+        if head in names:
+            return self.lookup(*names[head])
+        if head in modules and rest:
+            return self.lookup(modules[head], rest.split('.')[0])
+        return None
+
+    def closure(self, roots):
+        seen, left = set(), list(roots)
+        while left:
+            key = left.pop()
+            if key in seen:
+                continue
+            seen.add(key)
+            module = key[0]
+            names, modules = self.imports[module]
+            for word in set(WORD.findall('\n'.join(self.found[key][2]))):
+                other = self.resolve(word, names, modules, module)
+                if other and other not in seen:
+                    left.append(other)
+        return seen
+
+
+def braces(text, at):
+    """The text of the braces that open at this place."""
+    depth = 0
+    for end in range(at, len(text)):
+        depth += {'{': 1, '}': -1}.get(text[end], 0)
+        if depth == 0:
+            return text[at + 1:end]
+    return text[at + 1:]
+
+
+def contract_of(crate, call):
+    """Names and texts of the clauses of a public function, and what its file imports."""
+    for path in sorted(glob.glob(f'crates/{crate}/src/*.rt')):
+        text = open(path, encoding='utf-8').read()
+        start = re.search(rf'pub fn {call}\b', text)
+        if not start:
+            continue
+        head = text[start.start():text.index('\n{\n', start.start())] if '\n{\n' in text[start.start():] else text[start.start():]
+        clauses = [(clause.group(1) or call, braces(head, clause.end() - 1))
+                   for clause in re.finditer(r'ensures\*?\s*(\w+)?\s*\{', head)]
+        return clauses, imports_of(text.split('\n'))
+    return [], ({}, {})
+
+
+def tables(definitions, listed):
+    out = []
+    for crate, call in CALLS:
+        clauses, (names, modules) = contract_of(crate, call)
+        out.append(f'Clauses of `{call}`, in crate `{crate}`:\n')
+        out.append('| Clause | Definitions | Lines | Files | Crates |\n|---|---:|---:|---:|---|')
+        for name, text in clauses:
+            roots = {definitions.resolve(word, names, modules) for word in WORD.findall(text)} - {None}
+            seen = definitions.closure(roots)
+            size = sum(len(definitions.found[key][2]) for key in seen)
+            files = sorted({definitions.found[key][0] for key in seen})
+            crates = sorted({path.split('/')[1] for path in files})
+            out.append(f'| `{name}` | {len(seen)} | {size:,} | {len(files)} | {", ".join(f"`{one}`" for one in crates) or "none"} |')
+            if listed:
+                places = sorted((definitions.found[key][0], definitions.found[key][1], key[1]) for key in seen)
+                out.extend(f'    {path}:{line} {one}' for path, line, one in places)
+        out.append('')
+    return '\n'.join(out)
+
+
+def main():
+    text = tables(Definitions(), '--list' in sys.argv)
+    if '--write' not in sys.argv:
+        print(text)
+        return
+    page = open('docs/TRUST.md', encoding='utf-8').read()
+    before, _, rest = page.partition(BEGIN)
+    _, _, after = rest.partition(END)
+    with open('docs/TRUST.md', 'w', encoding='utf-8') as file:
+        file.write(f'{before}{BEGIN}\n\n{text}\n{END}{after}')
+
+
+main()
