@@ -1,11 +1,11 @@
 -- Octets of a line that is too long, which are let go.
-use Rattle.std.proofs.Common.{◌≡◌, ◌≢◌, ◌+◌, ◌-◌, ◌<◌, ◌≤◌, ℕ, Bool, true, false, nat_lt, nat_eq, List, [], ◌∷◌, ◌++◌, length, take, drop, get_or, refl, sym, ap, ap₂, subst, ◌∙◌, arith, append_assoc, inl, inr}
+use Rattle.std.proofs.Common.{◌≡◌, ◌+◌, ◌-◌, ◌<◌, ◌≤◌, ℕ, Bool, true, false, nat_lt, nat_eq, List, [], ◌∷◌, ◌++◌, length, take, drop, refl, sym, ap, ap₂, subst, ◌∙◌, arith, append_assoc, inl, inr}
 use Rattle.std.specs.Prelude.{slice_index, slice_set, MatchBool, ◌⊎◌, ◌&&◌}
-use Rattle.std.proofs.lemmas.List.{append-nil, drop_more, length-drop, get_or-drop, get_or_append_left, get_or-append_right, get_or-take, length-take-le, length-append, take-append-drop}
+use Rattle.std.proofs.lemmas.List.{append-nil, drop_more, get_or_append_left, get_or-append_right, get_or-take, length-take-le, length-append, take-append-drop}
 use Rattle.std.proofs.lemmas.Bool.{cases_lt, ltb-true, lt-ltb, eqb-true}
 use Rattle.std.proofs.Math.Seq.{drop-length}
 use Rattle.mail_model.specs.Lines.{HasNoCrlf, sent_line}
-use Rattle.dot_text.specs.Cuts.{Taken, Cuts, IsFirstCrlf}
+use Rattle.dot_text.specs.Cuts.{IsFirstCrlf}
 use Rattle.dot_text.specs.Cuts.Taken.{Given}
 use Rattle.dot_text.specs.Shown.{Shown, Pending, Gives, Finds, IsKind, IsLine, Stays, LetsGo, line_length, ends_in_cr}
 use Rattle.dot_text.specs.declared.cutter.Line.{Line}

@@ -1,5 +1,5 @@
 -- What contracts see of a cutter, and what its calls lead to.
-use Rattle.std.specs.Prelude.{◌≡◌, ◌≢◌, ◌⊎◌, ◌+◌, ◌<◌, ◌≤◌, ℕ, Bool, true, false, ◌&&◌, ◌-◌, nat_lt, nat_eq, List, [], ◌∷◌, ◌++◌, length, take, drop, slice_index, MatchBool}
+use Rattle.std.specs.Prelude.{◌≡◌, ◌⊎◌, ◌+◌, ◌<◌, ◌≤◌, ℕ, Bool, true, false, ◌&&◌, ◌-◌, nat_lt, nat_eq, List, [], ◌∷◌, ◌++◌, length, take, drop, slice_index, MatchBool}
 use Rattle.mail_model.specs.Lines.{HasNoCrlf, sent_line}
 use Rattle.dot_text.specs.Cuts.{Taken, Cuts}
 use Rattle.dot_text.specs.Cuts.Taken.{Given}

@@ -231,7 +231,7 @@ module _ (plan : Plan) (node : ℕ) (told : Told) (undotter : Undotter) (text : 
           node = follows.node;
           reads = subst OfCutter (sym is) (reads_behind old undotter text plain.rest told.in_text reads outside found later.in_text);
           stands = stands_behind quits now node (talk_of later) (after_unit plan (talk_of told) (Line gives.line) (text_of reply plain.node)) plain whole more turns
-          (told_is ∙ ap (after_unit plan (talk_of told) (Line gives.line)) (sym says));
+              (told_is ∙ ap (after_unit plan (talk_of told) (Line gives.line)) (sym says));
         }))
       where
         OfCutter : Shown → Type 0

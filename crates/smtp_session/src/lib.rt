@@ -78,9 +78,8 @@ mod tests;
 mod text;
 mod told;
 
+use envelope::{Envelope, Greeting};
 pub use reply::Reply;
 pub use session::SmtpSession;
-
-use envelope::{Envelope, Greeting};
 use text::Text;
 use told::Told;

@@ -121,7 +121,12 @@ impl SmtpSession {
     /// # Errors
     ///
     /// Only want of memory; the session and `out` are then as before.
-    pub fn next(&mut self, alloc: Global, plan: &Plan, out: &mut Vec<u8>) -> Result<Move, AllocError>
+    pub fn next(
+        &mut self,
+        alloc: Global,
+        plan: &Plan,
+        out: &mut Vec<u8>,
+    ) -> Result<Move, AllocError>
         ensures ok { IfOk result (λ did. (octets : List ℕ) × (out.new.items ≡ out.old.items ++ octets) × Moved plan.now self.old did octets self.new) }
         ensures err { OnErr result ((self.new ≡ self.old) × (out.new.items ≡ out.old.items)) }
     {

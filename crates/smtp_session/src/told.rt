@@ -134,7 +134,14 @@ impl Told {
             Err(SmtpFault::BadArgument) => Reply::BadArgument.said(alloc, node, out),
             Ok(Command::Helo { name }) => Ok(self.greet(alloc, node, name, out)?),
             Ok(Command::Mail { sender }) => Ok(self.begin(alloc, node, sender, out)?),
-            Ok(Command::Rcpt { path }) => Ok(address(&mut self.envelope, alloc, plan, node, path, out)?),
+            Ok(Command::Rcpt { path }) => Ok(address(
+                &mut self.envelope,
+                alloc,
+                plan,
+                node,
+                path,
+                out,
+            )?),
             Ok(Command::Data) => Ok(self.ask_text(alloc, node, out)?),
             Ok(Command::Quit) => Reply::Closing.said(alloc, node, out),
         }

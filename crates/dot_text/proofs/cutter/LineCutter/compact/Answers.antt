@@ -1,6 +1,5 @@
-use Rattle.std.proofs.Common.{arith, ◌≡◌, ℕ, ◌-◌, List, ◌++◌, length, take, drop, sym, ap, subst, ◌∙◌}
+use Rattle.std.proofs.Common.{arith, ◌≡◌, ℕ, ◌-◌, List, length, take, drop, sym, ap, subst, ◌∙◌}
 use Rattle.dot_text.specs.Cuts.{HasNoneBefore}
-use Rattle.dot_text.specs.Shown.{Shown}
 use Rattle.dot_text.proofs.Cutting.{moved}
 use Rattle.dot_text.proofs.Letting.{cutter_of}
 use Rattle.dot_text.proofs.cutter.LineCutter.compact.Goals as goal

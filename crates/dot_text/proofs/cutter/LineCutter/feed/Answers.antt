@@ -1,7 +1,7 @@
-use Rattle.std.proofs.Common.{arith, ◌≡◌, ℕ, Bool, List, ◌++◌, length, drop, sym, ap, subst, ◌∙◌}
+use Rattle.std.proofs.Common.{arith, ◌≡◌, ℕ, List, ◌++◌, length, drop, sym, ap, subst, ◌∙◌}
 use Rattle.std.proofs.lemmas.List.{drop-append-le, length-append}
 use Rattle.dot_text.specs.Cuts.{HasNoneBefore}
-use Rattle.dot_text.specs.Shown.{Shown, Pending}
+use Rattle.dot_text.specs.Shown.{Shown}
 use Rattle.dot_text.proofs.Cutting.{seen_fed}
 use Rattle.dot_text.proofs.Letting.{fed_pends, cutter_of}
 use Rattle.dot_text.proofs.cutter.LineCutter.feed.Goals as goal

@@ -1,9 +1,9 @@
-use Rattle.std.proofs.Common.{◌≡◌, ℕ, Bool, List, drop, sym, ap, subst, ◌∙◌}
+use Rattle.std.proofs.Common.{ℕ, List, drop, ap, subst, ◌∙◌}
 use Rattle.std.proofs.lemmas.List.{take_rest}
 use Rattle.mail_model.specs.Lines.{HasNoCrlf}
 use Rattle.dot_text.specs.Cuts.{IsFirstCrlf}
-use Rattle.dot_text.specs.Shown.{Shown, Finds, FindsNone, LetsGo, Pending}
-use Rattle.dot_text.proofs.Letting.{gives, stays, cutter_of, found_at}
+use Rattle.dot_text.specs.Shown.{Shown, Finds, LetsGo}
+use Rattle.dot_text.proofs.Letting.{stays, found_at}
 use Rattle.dot_text.proofs.cutter.LineCutter.find.Goals as goal
 
 pub returns-in-None : goal.returns-in-None

@@ -1,4 +1,4 @@
-use Rattle.std.proofs.Common.{◌≡◌, ℕ, Bool, true, false, List, [], ◌∷◌, length, take, drop, slice_set, sym, ap, subst, ◌∙◌, rules, arith}
+use Rattle.std.proofs.Common.{◌≡◌, ℕ, true, false, List, [], ◌∷◌, length, drop, sym, ap, subst, ◌∙◌, rules, arith}
 use Rattle.std.specs.Prelude.{◌⊎◌, ◌≤◌}
 use Rattle.std.proofs.lemmas.List.{take_rest, length-drop}
 use Rattle.dot_text.specs.Shown.{ends_in_cr}

@@ -24,13 +24,13 @@ returns-clause-ok c =
       [],
       sym (append-nil c.args.out.now.items),
       λ plan lines text.
-      let small = small_text old.text lines kept text in
-      let octets = c.into_octets.ensures ∙ ap (λ t. t.0) c.replace-text.ensures.value ∙ small.0 in (
-        small.1,
-        refl,
-        mail_is old.told lines (envelope_of c.end_text-envelope.result) c.in_ok-helo.helo c.into_octets.result c.end_text-envelope.ensures.envelope c.in_ok-helo.ensures.name octets,
-        c.end_text-envelope.result.few,
-        c.end_text-envelope.ensures.told plan lines [],
-        refl,
-      ),
+          let small = small_text old.text lines kept text in
+          let octets = c.into_octets.ensures ∙ ap (λ t. t.0) c.replace-text.ensures.value ∙ small.0 in (
+            small.1,
+            refl,
+            mail_is old.told lines (envelope_of c.end_text-envelope.result) c.in_ok-helo.helo c.into_octets.result c.end_text-envelope.ensures.envelope c.in_ok-helo.ensures.name octets,
+            c.end_text-envelope.result.few,
+            c.end_text-envelope.ensures.told plan lines [],
+            refl,
+          ),
     )

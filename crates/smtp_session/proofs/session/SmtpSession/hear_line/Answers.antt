@@ -49,7 +49,7 @@ returns-in_ok-heard-in-Some-Whole-clause-ok c =
     let hears : Means (take count old.cutter.rest) = subst Means line c.in_ok-heard-in-Some-Whole.ensures.ok in
     let octets : List ℕ = sent_line (text_of (reply_in heard) old.node) in
     let At : Turn → Type 0 = λ t. Moved c.args.plan.now (session old.node t old.told old.cutter old.undotter old.text) Said octets
-        (session old.node c.turn_behind-self.result later now old.undotter old.text) in (
+    (session old.node c.turn_behind-self.result later now old.undotter old.text) in (
       octets,
       c.in_ok-heard-in-Some-Whole.ensures.said,
       subst At (sym c.requires.turn)

@@ -22,10 +22,10 @@ returns-in-More-clause-ok c =
       [],
       sym (append-nil c.args.out.now.items),
       λ plan.
-      let At : Turn → Type 0 = λ t. Moved plan (session old.node t old.told old.cutter old.undotter old.text) Idle []
+          let At : Turn → Type 0 = λ t. Moved plan (session old.node t old.told old.cutter old.undotter old.text) Idle []
           (session old.node t old.told c.skip.new.self c.read.new.undotter c.settle.new.self) in
-      subst At (sym c.requires.turn)
-      (moved_on plan old.node old.told old.cutter c.skip.new.self old.undotter c.read.new.undotter old.text c.read.new.self read.0 c.requires.inside read.1 feeds c.settle.new.self c.settle.ensures all),
+          subst At (sym c.requires.turn)
+          (moved_on plan old.node old.told old.cutter c.skip.new.self old.undotter c.read.new.undotter old.text c.read.new.self read.0 c.requires.inside read.1 feeds c.settle.new.self c.settle.ensures all),
     )
 
 pub returns-in-Ok-clause-ok : goal.returns-in-Ok-clause-ok
@@ -41,7 +41,7 @@ returns-in-Ok-clause-ok c =
       did.0,
       did.1,
       λ plan.
-      ended plan old.node old.told old.cutter c.skip-in-Ok.new.self old.undotter c.read.new.undotter old.text c.read.new.self read.0 c.requires.inside read.1
-      old.turn c.end_text.new.self.turn c.in-Ended.used c.end_text.new.self.node c.end_text.new.self.told c.end_text.new.self.undotter c.end_text.new.self.text c.in-Ok.did did.0
-      c.requires.turn same.0 same.2 c.in-Ok.ensures.text within ends cut c.in-Ok.ensures.quiet c.in-Ok.ensures.few (λ lines text. did.2 plan lines text),
+          ended plan old.node old.told old.cutter c.skip-in-Ok.new.self old.undotter c.read.new.undotter old.text c.read.new.self read.0 c.requires.inside read.1
+          old.turn c.end_text.new.self.turn c.in-Ended.used c.end_text.new.self.node c.end_text.new.self.told c.end_text.new.self.undotter c.end_text.new.self.text c.in-Ok.did did.0
+          c.requires.turn same.0 same.2 c.in-Ok.ensures.text within ends cut c.in-Ok.ensures.quiet c.in-Ok.ensures.few (λ lines text. did.2 plan lines text),
     )
