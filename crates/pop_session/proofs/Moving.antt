@@ -17,6 +17,7 @@ use Rattle.call_tickets.specs.Moves.Due.{Nothing, Reply}
 use Rattle.call_tickets.specs.declared.step.Move.{Move}
 use Rattle.call_tickets.specs.declared.step.Move.TheVariants.{Said, Begin, Wait, Idle, End}
 use Rattle.mail_base.specs.declared.item.Item.{Item}
+use Rattle.call_tickets.specs.declared.answer.Answer.{Answer}
 use Rattle.dot_text.specs.Shown.{Shown, Pending, Finds, FindsNone, IsLine, behind_line, line_length}
 use Rattle.dot_text.specs.declared.cutter.Line.{Line as Found}
 use Rattle.pop_session.specs.declared.session.PopSession.{PopSession}
@@ -33,7 +34,7 @@ use Rattle.pop_session.specs.declared.due.Due.TheVariants as dues
 use Rattle.pop_session.specs.declared.due.Text.{Text}
 use Rattle.pop_session.specs.Slots.{items_in, listed_slot}
 use Rattle.pop_session.specs.Shown.{login_in, listed_in, name_in, slots_in, state_of, reply_in, IsOwn, HearsLine}
-use Rattle.pop_session.specs.Dues.{text_of, IsAsked, Says}
+use Rattle.pop_session.specs.Dues.{text_of, IsAsked, Says, items_told}
 use Rattle.pop_session.specs.Follows.{Follows, Goes, Moved, Begins, IsOwnMove, due_count, left, held, told_login, told_items, login_of, items_of}
 use Rattle.pop_session.proofs.Units.{session, hears_none, hears_line}
 use Rattle.pop_session.proofs.Replying.{greets, says_on, says_last, shows, enters}
@@ -42,7 +43,7 @@ use Rattle.pop_session.proofs.Marks.{listed_items}
 -- something was said that is no line of its client
 said : (plan : Plan) (old new : PopSession) (octets : List ℕ) → Goes plan old Said octets new → left new < left old → login_of new ≡ login_of old → items_of new ≡ items_of old
     → Moved plan old Said octets new
-said plan old new octets goes less login items = record { goes = goes; less = λ busy. less; bounded = λ plain due follows is. cc; own = tt; login = login; items = items }
+said plan old new octets goes less login items = record { goes = goes; less = λ busy. less; no_more = omega (arith, less); bounded = λ plain due follows is. cc; own = tt; login = login; items = items }
 
 pub moved_greet : (plan : Plan) (node boot number seconds : ℕ) (now : Turn) (stage : Stage) (cutter : Shown) → now ≡ turn.Greets
     → Moved plan (session node boot number seconds now stage cutter) Said (sent_line (ready_text node boot number seconds)) (session node boot number seconds turn.Hears stage cutter)
@@ -74,11 +75,11 @@ module _ (plan : Plan) (node boot number seconds : ℕ) (now : Turn) (stage : St
       let At : Turn → Type 0 = λ t. Moved plan (next_at t) Said (flat_map sent_line reply) (next_at turn.Hears) in
       subst At (sym is) (said plan _ _ _ (shows plan node boot number seconds stage cutter message reply part lines) (omega arith) refl refl)
 
-  pub moved_enters : (login : Login) (items : List Item) → now ≡ turn.Replies (dues.Entered login items)
-      → Moved plan old Said (flat_map sent_line (one_line entered_text)) (session node boot number seconds turn.Hears (Transaction login (map listed_slot items)) cutter)
-  moved_enters login items is =
-      let At : Turn → Type 0 = λ t. Moved plan (next_at t) Said (flat_map sent_line (one_line entered_text)) (session node boot number seconds turn.Hears (Transaction login (map listed_slot items)) cutter) in
-      subst At (sym is) (said plan _ _ _ (enters plan node boot number seconds stage cutter login items) (omega arith) refl (listed_items items))
+  pub moved_enters : (login : Login) (listed : Answer) → now ≡ turn.Replies (dues.Entered login listed)
+      → Moved plan old Said (flat_map sent_line (one_line entered_text)) (session node boot number seconds turn.Hears (Transaction login (map listed_slot (items_told listed))) cutter)
+  moved_enters login listed is =
+      let At : Turn → Type 0 = λ t. Moved plan (next_at t) Said (flat_map sent_line (one_line entered_text)) (session node boot number seconds turn.Hears (Transaction login (map listed_slot (items_told listed))) cutter) in
+      subst At (sym is) (said plan _ _ _ (enters plan node boot number seconds stage cutter login listed) (omega arith) refl (listed_items (items_told listed)))
 
 -- The next line.
 module _ (plan : Plan) (node boot number seconds : ℕ) (now : Turn) (stage later : Stage) (cutter new : Shown) (is : now ≡ turn.Hears) where
@@ -88,6 +89,7 @@ module _ (plan : Plan) (node boot number seconds : ℕ) (now : Turn) (stage late
       subst At (sym is) (record {
         goes = hears_none plan node boot number seconds stage later cutter new finds;
         less = λ busy. absurd busy;
+        no_more = omega (arith, finds.fewer);
         bounded = λ plain due follows idle. omega (arith, finds.short, follows.limit);
         own = tt;
         login = refl;
@@ -126,6 +128,7 @@ module _ (plan : Plan) (node boot number seconds : ℕ) (now : Turn) (stage late
       subst At (sym is) (record {
         goes = hears_line plan node boot number seconds stage later cutter new found finds cut heard next did octets begins says means;
         less = λ busy. omega (arith, finds.within, calm.0, ap (λ (s : Shown). length s.rest) cut, length-drop (line_length found + 2) cutter.rest);
+        no_more = omega (arith, finds.within, calm.0, ap (λ (s : Shown). length s.rest) cut, length-drop (line_length found + 2) cutter.rest);
         bounded = λ plain due follows idle. absurd (calm.1 idle);
         own = own_move heard next did begins own;
         login = calm.2 later ∙ login;
@@ -144,6 +147,7 @@ found_follows node boot number seconds now stage old new None plain due finds fo
   node = follows.node;
   limit = finds.limit ∙ follows.limit;
   pends = (finds.stays plain.rest follows.pends).pends;
+  others = follows.others;
   entered = follows.entered;
   stands = follows.stands;
 }
@@ -175,6 +179,7 @@ takes_answer node boot number seconds now stage cutter asked due_it answer plain
       node = follows.node;
       limit = follows.limit;
       pends = follows.pends;
+      others = follows.others;
       entered = follows.entered;
       stands = (answer, waits, refl, says (state_of stage) waits.call reply follows.stands.2 (subst Of same replied));
     }

@@ -15,12 +15,13 @@ use Rattle.session_model.specs.Talk.{State, Exchange, Standing, IsOn, answered, 
 use Rattle.session_model.specs.Talk.State.{Entering, Reading}
 use Rattle.session_model.specs.Talk.Standing.{Hearing, Waiting, EndedByQuit, EndedDown}
 use Rattle.session_model.specs.Moves.{with_answer}
-use Rattle.session_model.specs.Sessions.{Session}
+use Rattle.session_model.specs.Sessions.{Session, exchanges_of}
 use Rattle.call_tickets.specs.Moves as moves
 use Rattle.call_tickets.specs.Moves.{Moves, Fed, Fell, Replied}
 use Rattle.call_tickets.specs.Moves.Due.{Nothing, Greeting}
 use Rattle.call_tickets.specs.declared.step.Move.TheVariants.{Said}
 use Rattle.mail_base.specs.declared.item.Item.{Item}
+use Rattle.call_tickets.specs.declared.answer.Answer.{Answer}
 use Rattle.mail_base.specs.Items.{item_seen}
 use Rattle.dot_text.specs.Shown.{Shown, Pending}
 use Rattle.pop_session.specs.declared.session.PopSession.{PopSession}
@@ -35,7 +36,7 @@ use Rattle.pop_session.specs.declared.due.Text.{Text}
 use Rattle.pop_session.specs.declared.due.Text.TheVariants.{Wrong, Later, Gone, Bye, Remaining}
 use Rattle.pop_session.specs.Slots.{slots_seen, listed_slot}
 use Rattle.pop_session.specs.Shown.{state_of, login_in}
-use Rattle.pop_session.specs.Dues.{text_of, Says, SaysLine}
+use Rattle.pop_session.specs.Dues.{text_of, Says, SaysLine, items_told}
 use Rattle.pop_session.specs.Messages.{ShowsPartIn}
 use Rattle.pop_session.specs.Follows.{Follows, WaitsFor, Stands, Goes, user_of, greeting_of}
 use Rattle.pop_session.proofs.Messages.{text}
@@ -80,7 +81,7 @@ greets plan node boot number seconds stage cutter plain due follows =
     subst At (sym follows.stands.0) (record {
       says = refl;
       line = ready_none node boot number seconds;
-      goes_on = record { speaks = follows.speaks; node = follows.node; limit = follows.limit; pends = follows.pends; entered = follows.entered; stands = (refl, follows.stands.1) };
+      goes_on = record { speaks = follows.speaks; node = follows.node; limit = follows.limit; pends = follows.pends; others = follows.others; entered = follows.entered; stands = (refl, follows.stands.1) };
     })
 
 -- The reply to an answer.
@@ -112,6 +113,7 @@ module _ (plan : Plan) (node boot number seconds : ℕ) (stage : Stage) (cutter 
           node = follows.node;
           limit = follows.limit;
           pends = follows.pends;
+          others = follows.others;
           entered = then_entered stage plain follows.entered waits answer reply ∙ ap (or_else (user_of (login_in stage))) says.nobody ∙ else_none (user_of (login_in stage));
           stands = subst Of (sym (says.leaves (state_of stage))) (stands (record plain { whole = whole }));
         };
@@ -146,20 +148,19 @@ no_login (Authorization user) named is = refl
 no_login (Transaction login listing) named is = cc
 
 -- TRANSACTION begins.
-pub enters : (plan : Plan) (node boot number seconds : ℕ) (stage : Stage) (cutter : Shown) (login : Login) (items : List Item)
-    → Goes plan (session node boot number seconds (turn.Replies (dues.Entered login items)) stage cutter) Said (flat_map sent_line (one_line entered_text))
-        (session node boot number seconds turn.Hears (Transaction login (map listed_slot items)) cutter)
-enters plan node boot number seconds stage cutter login items plain due follows =
+pub enters : (plan : Plan) (node boot number seconds : ℕ) (stage : Stage) (cutter : Shown) (login : Login) (listed : Answer)
+    → Goes plan (session node boot number seconds (turn.Replies (dues.Entered login listed)) stage cutter) Said (flat_map sent_line (one_line entered_text))
+    (session node boot number seconds turn.Hears (Transaction login (map listed_slot (items_told listed))) cutter)
+enters plan node boot number seconds stage cutter login listed plain due follows =
     let answer = follows.stands.0 in
     let waits = follows.stands.1 in
     let says = follows.stands.3 in
     let secret = says.1.0 in
-    let listed : calls.Answer = calls.Answer.Listed (map item_seen items) in
-    let After : PopSession = session node boot number seconds turn.Hears (Transaction login (map listed_slot items)) cutter in
-    let At : moves.Due → Type 0 = λ d. Moves (Follows (session node boot number seconds turn.Hears (Transaction login (map listed_slot items)) cutter)) (ready_text node boot number seconds) plan plain d Said
-        (flat_map sent_line (one_line entered_text)) in
-    let IsTold : calls.Call → calls.Answer → Type 0 = λ c a. IsReply c a (one_line entered_text) × (answered (state_of stage) c a ≡ Hearing (Reading login.user (listed_slots (map item_seen items))))
-        × (let_in (Some c) (Some a) ≡ Some login.user) in
+    let After : PopSession = session node boot number seconds turn.Hears (Transaction login (map listed_slot (items_told listed))) cutter in
+    let At : moves.Due → Type 0 = λ d. Moves (Follows (session node boot number seconds turn.Hears (Transaction login (map listed_slot (items_told listed))) cutter)) (ready_text node boot number seconds) plan plain d Said
+    (flat_map sent_line (one_line entered_text)) in
+    let IsTold : calls.Call → calls.Answer → Type 0 = λ c a. IsReply c a (one_line entered_text) × (answered (state_of stage) c a ≡ Hearing (Reading login.user (listed_slots (map item_seen (items_told listed)))))
+    × (let_in (Some c) (Some a) ≡ Some login.user) in
     let told : IsTold waits.call answer =
     subst (λ c. IsTold c answer) (sym says.1.1) (subst (λ a. IsTold (calls.Call.Login login.user secret) a) (sym says.2) (refl, refl, refl)) in
     let whole : List Exchange = waits.before ++ with_answer waits.one answer (one_line entered_text) ∷ [] in
@@ -175,10 +176,11 @@ enters plan node boot number seconds stage cutter login items plain due follows 
         node = follows.node;
         limit = follows.limit;
         pends = follows.pends;
+        others = follows.others;
         entered =
             then_entered stage plain follows.entered waits answer (one_line entered_text)
             ∙ ap (λ (o : Option (List ℕ)). or_else o (let_in (Some waits.call) (Some answer))) (no_login stage says.0.0 says.0.1) ∙ told.2;
-        stands = (refl, told.1 ∙ ap (λ s. Hearing (Reading login.user s)) (sym (listed_alike items)));
+        stands = (refl, told.1 ∙ ap (λ s. Hearing (Reading login.user s)) (sym (listed_alike (items_told listed))));
       };
     })
 
@@ -192,7 +194,7 @@ falls node boot number seconds now stage cutter plain due follows on =
       did = λ plan. (on, refl, refl);
       says = ap sent_line (sym says);
       line = subst HasNoCrlf (sym says) (down_none node);
-      goes_on = record { speaks = follows.speaks; node = follows.node; limit = follows.limit; pends = follows.pends; entered = follows.entered; stands = (refl, tt) };
+      goes_on = record { speaks = follows.speaks; node = follows.node; limit = follows.limit; pends = follows.pends; others = follows.others; entered = follows.entered; stands = (refl, tt) };
     }
 
 -- octets more
@@ -204,6 +206,7 @@ is_fed node boot number seconds now stage old new piece plain due limit pends fo
   node = follows.node;
   limit = limit ∙ follows.limit;
   pends = pends plain.rest follows.pends;
+  others = follows.others;
   entered = follows.entered;
   stands = stands_fed now (state_of stage) plain due piece follows.stands;
 }
@@ -218,3 +221,8 @@ is_fed node boot number seconds now stage old new piece plain due limit pends fo
     stands_fed (turn.Waits asked) state plain due piece stands = (waits state plain piece stands.0, stands.1, stands.2)
     stands_fed (turn.Replies says) state plain due piece stands = (stands.0, waits state plain piece stands.1, stands.2, stands.3)
     stands_fed turn.Ended state plain due piece stands = stands
+
+-- as whom a session leaves
+pub leaves_as : (session : PopSession) (plain : Session) (due : moves.Due) → Follows session plain due → user_of (login_in session.stage) ≡ entered_as (exchanges_of plain)
+leaves_as session plain due follows =
+    sym follows.entered ∙ ap entered_as (sym (append-nil plain.whole) ∙ ap (λ (l : List Exchange). plain.whole ++ l) (sym follows.others))

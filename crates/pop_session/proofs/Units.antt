@@ -182,7 +182,7 @@ module _ (plan : Plan) (plain : Session) (state : State) (line more octets : Lis
 
   pub heard_asks : (call : calls.Call) → lead_of plan plain.node state (Line line) ≡ talks.Lead.Asks call → octets ≡ []
       → ((one : Exchange) → one.answer ≡ None → one.call ≡ Some call
-          → follows (record plain { whole = plain.whole ++ one ∷ []; standing = Waiting (heard plan state (Line line) []) call; rest = more }) Nothing)
+      → follows (record plain { whole = plain.whole ++ one ∷ []; standing = Waiting (heard plan state (Line line) []) call; rest = more }) Nothing)
       → moves.Heard follows plan plain (Some call) octets
   heard_asks call leads says goes_on =
       let one : Exchange = record { unit = Line line; call = Some call; answer = None; reply = [] } in
@@ -236,6 +236,7 @@ module _ (plan : Plan) (node boot number seconds : ℕ) (stage later : Stage) (o
           node = follows.node;
           limit = finds.limit ∙ follows.limit;
           pends = stays.pends;
+          others = follows.others;
           entered = follows.entered;
           stands = (refl, follows.stands.1);
         },
@@ -257,7 +258,7 @@ module _ (plan : Plan) (node boot number seconds : ℕ) (stage later : Stage) (o
     limit_behind limit = ap (λ (s : Shown). s.limit) cut ∙ limit
 
     -- what the session then is, whatever it asked
-    behind : (now : Turn) (plain after : Session) (due : moves.Due) (one : Exchange) → Follows before plain due → after ≡ record after { protocol = plain.protocol; node = plain.node; whole = plain.whole ++ one ∷ []; rest = rest }
+    behind : (now : Turn) (plain after : Session) (due : moves.Due) (one : Exchange) → Follows before plain due → after ≡ record after { protocol = plain.protocol; node = plain.node; whole = plain.whole ++ one ∷ []; others = plain.others; rest = rest }
         → one.answer ≡ None → login_in later ≡ login_in stage → Stands now (state_of later) after Nothing → Follows (session node boot number seconds now later new) after Nothing
     behind now plain after due one follows is none login stands =
         let At : Session → Type 0 = λ s. Follows (session node boot number seconds now later new) s Nothing in
@@ -267,6 +268,7 @@ module _ (plan : Plan) (node boot number seconds : ℕ) (stage later : Stage) (o
           node = follows.node;
           limit = limit_behind follows.limit;
           pends = pends_behind;
+          others = follows.others;
           entered = still_entered plain.whole one none ∙ follows.entered ∙ ap user_of (sym login);
           stands = subst Of is stands;
         })

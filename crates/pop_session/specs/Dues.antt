@@ -1,5 +1,5 @@
 -- What a session waits for, and what it has to say to the answer.
-use Rattle.std.specs.Prelude.{◌≡◌, ℕ, List, map, Option, Some, None}
+use Rattle.std.specs.Prelude.{◌≡◌, ℕ, List, [], map, Option, Some, None}
 use Rattle.mail_model.specs.Identity.{Id}
 use Rattle.mail_model.specs.PopReplies.{one_line}
 use Rattle.mail_model.specs.Maildrop.{wrong_text, later_text, gone_text, bye_text, remaining_text}
@@ -40,23 +40,28 @@ pub record SaysLine (text : Text) (call : calls.Call) (answer : calls.Answer) (s
   pub nobody : let_in (Some call) (Some answer) ≡ None
   pub leaves : (state : State) → answered state call answer ≡ standing state
 
+-- the messages that an answer lists
+abbrev pub items_told : Answer → List Item
+items_told (answers.Listed ticket manager nodes items) = items
+items_told answer = []
+
 -- this is to be said to the answer
 abbrev pub Says : Due → State → calls.Call → calls.Answer → Type 0
-Says (Entered login items) state call answer =
-    ((named : Option (List ℕ)) × (state ≡ Entering named)) × ((secret : List ℕ) × (call ≡ calls.Call.Login login.user secret)) × (answer ≡ calls.Answer.Listed (map item_seen items))
+Says (Entered login listed) state call answer =
+    ((named : Option (List ℕ)) × (state ≡ Entering named)) × ((secret : List ℕ) × (call ≡ calls.Call.Login login.user secret)) × (answer ≡ calls.Answer.Listed (map item_seen (items_told listed)))
 Says (Shown octets) state call answer = ((user : List ℕ) × (id : Id) × (call ≡ calls.Call.Fetch user id)) × (answer ≡ calls.Answer.Part octets)
 Says (Said text) state call answer = SaysLine text call answer Hearing
 Says (Last text) state call answer = SaysLine text call answer (λ state. EndedByQuit)
 
 -- the login that a reply tells of, where it does, and the messages
 abbrev pub due_login : Due → Option tickets.Login → Option tickets.Login
-due_login (Entered login items) other = Some login
+due_login (Entered login listed) other = Some login
 due_login (Shown octets) other = other
 due_login (Said text) other = other
 due_login (Last text) other = other
 
 abbrev pub due_items : Due → List Item → List Item
-due_items (Entered login items) other = items
+due_items (Entered login listed) other = items_told listed
 due_items (Shown octets) other = other
 due_items (Said text) other = other
 due_items (Last text) other = other

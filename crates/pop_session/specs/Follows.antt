@@ -65,6 +65,7 @@ pub record Follows (session : PopSession) (plain : Session) (due : moves.Due) : 
   pub node : plain.node ≡ session.node
   pub limit : session.cutter.limit ≡ 1024
   pub pends : Pending session.cutter plain.rest
+  pub others : plain.others ≡ []
   pub entered : entered_as plain.whole ≡ user_of (login_in session.stage)
   pub stands : Stands session.turn (state_of session.stage) plain due
 
@@ -127,11 +128,12 @@ left session = length session.cutter.rest + due_count session.turn
 abbrev pub held : PopSession → ℕ
 held session = length session.cutter.rest
 
--- What a move did, with the octets that it said: what the definitions say; behind one after which another may come at once less is left; a session that is
+-- What a move did, with the octets that it said: what the definitions say; after one that another may follow at once less is left, and after none more; a session that is
 -- idle holds less than 1,024 octets of its client; it stays in as whom it was let in, with what it was listed, and asks of that alone.
 pub record Moved (plan : Plan) (old : PopSession) (move : Move) (octets : List ℕ) (new : PopSession) : Type 0 where
   pub goes : Goes plan old move octets new
   pub less : IsBusy move → left new < left old
+  pub no_more : left new ≤ left old
   pub bounded : (plain : Session) (due : moves.Due) → Follows old plain due → move ≡ Idle → held new < 1024
   pub own : IsOwnMove old move
   pub login : login_of new ≡ login_of old
@@ -164,7 +166,7 @@ HasReply Ended = ⊥
 
 -- the stage of a session whose user was let in, with this listing
 abbrev pub stage_behind : Turn → Stage → List Slot → Stage
-stage_behind (Replies (Entered login items)) stage listing = stages.Transaction login listing
+stage_behind (Replies (Entered login listed)) stage listing = stages.Transaction login listing
 stage_behind (Replies (Shown octets)) stage listing = stage
 stage_behind (Replies (Said text)) stage listing = stage
 stage_behind (Replies (Last text)) stage listing = stage

@@ -15,7 +15,7 @@ ghost use Rattle.mail_base.specs.declared.item.Item.{Item as Listings};
 use crate::reply::line_into;
 use crate::stage::Login;
 use call_tickets::Answer;
-use mail_base::{Items, Name, Octets};
+use mail_base::{Name, Octets, Ticket};
 use std::alloc::AllocError;
 
 /// What a session waits for.
@@ -47,12 +47,12 @@ pub(crate) enum Text {
 /// What a session has to say to the answer of its call.
 #[derive(Debug, Drop)]
 pub(crate) enum Due {
-    /// The user is let in, and these are the messages of the maildrop.
+    /// The user is let in.
     Entered {
         /// The login.
         login: Login,
-        /// The messages.
-        items: Items,
+        /// The answer that lists the messages of the maildrop.
+        listed: Answer,
     },
     /// The message has these octets.
     Shown(Octets),
@@ -88,27 +88,28 @@ fn login_due(user: Name, answer: Option<Answer>) -> Due
     ensures login { (other : Option Logins) → due_login result other ≡ taken_login (asks.Login user) answer other }
     ensures items { (other : List Listings) → due_items result other ≡ taken_items (asks.Login user) answer other }
 {
-    match answer {
-        Some(Answer::Listed {
-            login,
-            manager,
-            items,
-            ..
-        }) => Due::Entered {
-            login: Login {
+    let Some(answer) = answer else {
+        return Due::Said(Text::Later);
+    };
+    match &answer {
+        Answer::Listed { login, manager, .. } => {
+            let ticket = Ticket::new(login.node, login.boot, login.seq);
+            let login = Login {
                 user,
-                ticket: login,
-                manager,
-            },
-            items,
-        },
-        Some(Answer::Wrong { .. }) => Due::Said(Text::Wrong),
-        Some(Answer::Failed(_)) => Due::Said(Text::Later),
-        None => Due::Said(Text::Later),
-        Some(Answer::Stored { .. }) => Due::Said(Text::Later),
-        Some(Answer::Part { .. }) => Due::Said(Text::Later),
-        Some(Answer::GoneAlready) => Due::Said(Text::Later),
-        Some(Answer::Dropped { .. }) => Due::Said(Text::Later),
+                ticket,
+                manager: *manager,
+            };
+            Due::Entered {
+                login,
+                listed: answer,
+            }
+        }
+        Answer::Wrong { .. } => Due::Said(Text::Wrong),
+        Answer::Failed(_) => Due::Said(Text::Later),
+        Answer::Stored { .. } => Due::Said(Text::Later),
+        Answer::Part { .. } => Due::Said(Text::Later),
+        Answer::GoneAlready => Due::Said(Text::Later),
+        Answer::Dropped { .. } => Due::Said(Text::Later),
     }
 }
 

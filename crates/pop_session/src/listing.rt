@@ -45,6 +45,15 @@ fn mark_at(slots: &mut [Slot], at: usize)
 }
 
 impl Listing {
+    /// No messages. It takes no memory.
+    pub(crate) fn new(alloc: Global) -> Listing
+        ensures { result ≡ [] }
+    {
+        Listing {
+            held: Vec::new(alloc),
+        }
+    }
+
     /// The messages that were listed, none of which is marked.
     ///
     /// # Errors

@@ -1,5 +1,5 @@
 // One session: octets as they come, and what each line of them leads to.
-ghost use Rattle.std.specs.Prelude.{◌≡◌, ◌<◌, ◌≤◌, ◌+◌, ◌^◌, ◌++◌, ℕ, List, None, length, MatchBool, IfOk, OnOk, OnErr};
+ghost use Rattle.std.specs.Prelude.{◌≡◌, ◌<◌, ◌≤◌, ◌+◌, ◌^◌, ◌++◌, ℕ, List, None, length, map, MatchBool, IfOk, OnOk, OnErr};
 ghost use Rattle.mail_model.specs.Plan.{Plan as Plans};
 ghost use Rattle.mail_model.specs.PopReplies.{ready_text};
 ghost use Rattle.mail_model.specs.Tape.Protocol.{Pop};
@@ -7,12 +7,14 @@ ghost use Rattle.session_model.specs.Calls as calls;
 ghost use Rattle.session_model.specs.Calls.{IsReply};
 ghost use Rattle.session_model.specs.Talk.{State, IsOn, entered_as};
 ghost use Rattle.session_model.specs.Talk.Standing.{Waiting};
-ghost use Rattle.session_model.specs.Sessions.{Session};
+ghost use Rattle.session_model.specs.Sessions.{Session, exchanges_of};
 ghost use Rattle.session_model.specs.Acts.{opened_session};
 ghost use Rattle.call_tickets.specs.Seen.{given_answer};
 ghost use Rattle.call_tickets.specs.Moves as moves;
 ghost use Rattle.call_tickets.specs.Moves.{Fed, Fell, HasEnded};
 ghost use Rattle.pop_session.specs.Shown.{login_in};
+ghost use Rattle.pop_session.specs.Slots.{listed_slot};
+ghost use Rattle.pop_session.specs.Dues.{items_told};
 ghost use Rattle.pop_session.specs.Follows.{Follows, Moved, Begins, Enters, HasReply, Keeps, Takes, fetch_of, greeting_of, login_of, leave_of, user_of, left, held};
 
 use crate::due::{Asked, Due};
@@ -114,7 +116,12 @@ impl PopSession {
     /// # Errors
     ///
     /// Only want of memory; the session and `out` are then as before.
-    pub fn next(&mut self, alloc: Global, plan: &Plan, out: &mut Vec<u8>) -> Result<Move, AllocError>
+    pub fn next(
+        &mut self,
+        alloc: Global,
+        plan: &Plan,
+        out: &mut Vec<u8>,
+    ) -> Result<Move, AllocError>
         ensures ok { IfOk result (λ did. (octets : List ℕ) × (out.new.items ≡ out.old.items ++ octets) × Moved plan.now self.old did octets self.new) }
         ensures err { OnErr result ((self.new ≡ self.old) × (out.new.items ≡ out.old.items)) }
     {
@@ -133,14 +140,7 @@ impl PopSession {
         ensures ok { IfOk result (λ did. (octets : List ℕ) × (out.new.items ≡ out.old.items ++ octets) × ((plan : Plans) → Moved plan self.old did octets self.new)) }
         ensures err { OnErr result ((self.new ≡ self.old) × (out.new.items ≡ out.old.items)) }
     {
-        ready_into(
-            out,
-            alloc,
-            self.node,
-            self.boot,
-            self.number,
-            self.seconds,
-        )?;
+        ready_into(out, alloc, self.node, self.boot, self.number, self.seconds)?;
         self.turn = Turn::Hears;
         Ok(Move::Said)
     }
@@ -192,8 +192,8 @@ impl PopSession {
                     self.turn = Turn::Ended;
                     Ok(Move::Said)
                 }
-                Due::Entered { items, .. } => {
-                    let listing = Listing::listed(alloc, items)?;
+                Due::Entered { listed, .. } => {
+                    let listing = listing_of(alloc, listed)?;
                     line_into(out, b"+OK maildrop open")?;
                     self.enter(listing);
                     Ok(Move::Said)
@@ -210,8 +210,10 @@ impl PopSession {
     fn enter(&mut self, listing: Listing)
         ensures { Enters self.old listing self.new }
     {
-        if let Turn::Replies(Due::Entered { login, .. }) = std::mem::replace(&mut self.turn, Turn::Hears)
-        {
+        if let Turn::Replies(Due::Entered { login, .. }) = std::mem::replace(
+            &mut self.turn,
+            Turn::Hears,
+        ) {
             self.stage = Stage::Transaction { login, listing };
         }
     }
@@ -250,9 +252,10 @@ impl PopSession {
     /// The Leave of a session that has ended or is closed; nothing exactly where TRANSACTION never began. Its
     /// caller begins it once the session's last octets were written, and not where its node went down. It takes
     /// no memory.
+    #[tactic(auto, using(crate::proofs::Replying::leaves_as))]
     pub fn leave(mut self) -> Option<Call>
         ensures leaves { result ≡ leave_of (login_in self.stage) }
-        ensures user { (plain : Session) (due : moves.Due) → Follows self plain due → user_of (login_in self.stage) ≡ entered_as plain.whole }
+        ensures user { (plain : Session) (due : moves.Due) → Follows self plain due → user_of (login_in self.stage) ≡ entered_as (exchanges_of plain) }
     {
         match std::mem::replace(&mut self.stage, Stage::Authorization { user: None }) {
             Stage::Authorization { .. } => None,
@@ -276,6 +279,21 @@ impl PopSession {
         ensures { result ≡ held self.now }
     {
         self.cutter.rest().len()
+    }
+}
+
+// The messages that the answer lists, none of which is marked.
+fn listing_of(alloc: Global, listed: &Answer) -> Result<Listing, AllocError>
+    ensures { IfOk result (λ listing. listing ≡ map listed_slot (items_told listed.now)) }
+{
+    match listed {
+        Answer::Listed { items, .. } => Listing::listed(alloc, items),
+        Answer::Stored { .. } => Ok(Listing::new(alloc)),
+        Answer::Wrong { .. } => Ok(Listing::new(alloc)),
+        Answer::Part { .. } => Ok(Listing::new(alloc)),
+        Answer::GoneAlready => Ok(Listing::new(alloc)),
+        Answer::Dropped { .. } => Ok(Listing::new(alloc)),
+        Answer::Failed(_) => Ok(Listing::new(alloc)),
     }
 }
 

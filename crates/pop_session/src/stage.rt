@@ -53,10 +53,17 @@ pub(crate) enum Heard {
         secret: Octets,
     },
     /// The node is asked for this message of the user, of this number.
-    Fetches { user: Name, number: u32, item: Item },
+    Fetches {
+        user: Name,
+        number: u32,
+        item: Item,
+    },
     /// The node is asked to delete these messages of the user, of which there is one at least, in the order of
     /// the listing.
-    Deletes { user: Name, items: Items },
+    Deletes {
+        user: Name,
+        items: Items,
+    },
 }
 
 // A reply of one line.

@@ -169,7 +169,13 @@ impl Client {
                 self.note(b"  asks for ", user.octets())?;
                 Ok(self.let_in(&user, &proof))
             }
-            Call::Fetch { user, id, from, most, .. } => {
+            Call::Fetch {
+                user,
+                id,
+                from,
+                most,
+                ..
+            } => {
                 let text = id.id_text(self.alloc)?;
                 self.note(b"  asks for ", text.as_bytes())?;
                 if user.octets() != b"alice".as_slice() || from != 0 || most != u64::MAX {

@@ -2,6 +2,7 @@ mod Choices
 mod Closes
 mod Mails
 mod Lines
+mod Entered
 mod Units
 mod Moving
 mod Texts

@@ -54,7 +54,7 @@ pub said : (plan : Plan) (node : ℕ) (told later : Told) (old new : Shown) (und
     → Goes plan (session node before told old undotter text) Said octets (session node now later new undotter text)
     → length new.rest + due_count now < length old.rest + due_count before
     → Moved plan (session node before told old undotter text) Said octets (session node now later new undotter text)
-said plan node told later old new undotter text before now octets goes less = record { goes = goes; less = λ busy. less; bounded = λ plain due follows is. cc; few = tt }
+said plan node told later old new undotter text before now octets goes less = record { goes = goes; less = λ busy. less; no_more = omega (arith, less); bounded = λ plain due follows is. cc; few = tt }
 
 -- what was to be said before it hears on
 pub moved_due : (plan : Plan) (node : ℕ) (told : Told) (cutter : Shown) (undotter : Undotter) (text : List ℕ × Bool) (now : Turn) (reply : Reply) → IsDue now reply
@@ -75,6 +75,7 @@ module _ (plan : Plan) (node : ℕ) (told : Told) (undotter : Undotter) (text : 
   moved_none finds = record {
     goes = hears_none plan node told undotter text outside old new finds;
     less = λ busy. absurd busy;
+    no_more = omega (arith, finds.fewer);
     bounded = λ plain due follows is. at_false _ _ told.in_text outside (bound plain due follows);
     few = tt;
   }
@@ -115,7 +116,7 @@ falls node told cutter undotter text now plain due follows on =
       did = λ plan. (on, refl, refl);
       says = ap sent_line (sym says);
       line = subst HasNoCrlf (sym says) (one_line_of Down node);
-      goes_on = record { speaks = follows.speaks; node = follows.node; reads = follows.reads; stands = (refl, tt) };
+      goes_on = record { speaks = follows.speaks; node = follows.node; others = follows.others; nobody = follows.nobody; reads = follows.reads; stands = (refl, tt) };
     }
 
 -- what a feed leaves
@@ -127,6 +128,8 @@ is_fed old new plain due piece same limit past pends follows =
     subst At (sym same) (record {
       speaks = follows.speaks;
       node = follows.node;
+      others = follows.others;
+      nobody = follows.nobody;
       reads = record {
         taken = reads.taken;
         given = reads.given;
@@ -144,7 +147,7 @@ is_fed old new plain due piece same limit past pends follows =
     })
   where
     waits : (talk : model.Told) (plain : Session) (piece : List ℕ) → WaitsFor talk plain → WaitsFor talk (record plain { octets = plain.octets ++ piece; rest = plain.rest ++ piece })
-    waits talk plain piece it = record { mail = it.mail; standing = it.standing; before = it.before; one = it.one; whole = it.whole }
+    waits talk plain piece it = record { mail = it.mail; standing = it.standing; before = it.before; one = it.one; whole = it.whole; asks = it.asks }
 
     stands_fed : (now : Turn) (node : ℕ) (talk : model.Told) (plain : Session) (due : Due) (piece : List ℕ) → Stands now node talk plain due
         → Stands now node talk (record plain { octets = plain.octets ++ piece; rest = plain.rest ++ piece }) due

@@ -1,5 +1,5 @@
 -- What a session follows behind octets of a text.
-use Rattle.std.proofs.Common.{◌≡◌, ◌<◌, ◌≤◌, ◌+◌, ℕ, Bool, true, false, List, [], ◌∷◌, ◌++◌, length, take, drop, Some, refl, sym, ap, ap₂, subst, ◌∙◌, arith, append_assoc}
+use Rattle.std.proofs.Common.{◌≡◌, ◌<◌, ◌≤◌, ◌+◌, ℕ, Bool, true, false, List, [], ◌∷◌, ◌++◌, length, take, drop, Option, Some, refl, sym, ap, ap₂, subst, ◌∙◌, arith, append_assoc}
 use Rattle.std.specs.Prelude.{MatchBool}
 use Rattle.std.proofs.lemmas.List.{append-nil, length-append, take-append-drop, length-drop}
 use Rattle.std.proofs.Math.Seq.{drop-length, take-length, take-append_seam}
@@ -14,7 +14,7 @@ use Rattle.mail_model.specs.Told.{IsUnit, HasNoUnit, unit_octets, mail_of}
 use Rattle.mail_model.specs.PopReplies.{one_line}
 use Rattle.session_model.specs.Calls as calls
 use Rattle.session_model.specs.Talk as talks
-use Rattle.session_model.specs.Talk.{Exchange, Standing, lead_of}
+use Rattle.session_model.specs.Talk.{Exchange, Standing, lead_of, let_in}
 use Rattle.session_model.specs.Talk.State.{Mailing}
 use Rattle.session_model.specs.Talk.Standing.{Hearing, Waiting}
 use Rattle.session_model.specs.Sessions.{Session}
@@ -38,6 +38,7 @@ use Rattle.smtp_session.specs.Texts.{IsText, Grows, Settles}
 use Rattle.smtp_session.specs.Talks.{talk_of}
 use Rattle.smtp_session.specs.Follows.{Follows, Reads, Goes, Moved, Stands, WaitsFor, EndsText, HasFewUsers, due_count}
 use Rattle.smtp_session.proofs.Lines.{one_line_of}
+use Rattle.smtp_session.proofs.Entered.{still_nobody, mail_nobody}
 use Rattle.smtp_session.proofs.Units.{session, at_nothing, begins, heard_says, heard_asks}
 
 -- more was given
@@ -111,7 +112,7 @@ module _ (plan : Plan) (node : ℕ) (told : Told) (old new : Shown) (undotter be
         at_nothing _ _ plan plain due Idle [] follows.stands.0 (
           subst At (sym follows.stands.1) (subst OfText (sym inside) (subst Of (sym whole) read.1)),
           refl,
-          record { speaks = follows.speaks; node = follows.node; reads = subst OfCutter (sym all) now_reads; stands = (refl, follows.stands.1) },
+          record { speaks = follows.speaks; node = follows.node; others = follows.others; nobody = follows.nobody; reads = subst OfCutter (sym all) now_reads; stands = (refl, follows.stands.1) },
         )
       where
         none_pends : (limit : ℕ) (past : Bool) → past ≡ false → Pending (record { limit = limit; past = past; rest = [] }) []
@@ -122,6 +123,7 @@ module _ (plan : Plan) (node : ℕ) (told : Told) (old new : Shown) (undotter be
     moved_on = record {
       goes = reads_on;
       less = λ busy. absurd busy;
+      no_more = omega (arith, ap (λ (s : Shown). length s.rest) all);
       bounded = λ plain due follows is. at_true _ _ told.in_text inside (omega (arith, settles.short, ap (λ (s : Shown). length s.rest) all));
       few = tt;
     }
@@ -169,11 +171,13 @@ module _ (plan : Plan) (node : ℕ) (told : Told) (old new : Shown) (undotter be
         let text_is : text_of TooLarge plain.node ≡ text_of TooLarge node = ap (text_of TooLarge) follows.node in
         at_nothing _ _ plan plain due Said octets follows.stands.0
         (heard_says plan plain (talk_of told) (Text lines) (drop used old.rest) (text_of TooLarge plain.node) octets (Follows (session node turned later new behind ([], false))) follows.stands.1
-        is_text whole_text false (rw large refl) (one_line_of TooLarge plain.node) (means.1 ∙ ap sent_line (sym text_is)) (λ whole. record {
+        is_text whole_text false (rw large refl) (one_line_of TooLarge plain.node) (means.1 ∙ ap sent_line (sym text_is)) (λ one none. record {
           speaks = follows.speaks;
           node = follows.node;
+          others = follows.others;
+          nobody = still_nobody plain.whole one none follows.nobody;
           reads = reads_behind;
-          stands = stands_hears turned node (talk_of later) (record plain { whole = whole; rest = drop used old.rest })
+          stands = stands_hears turned node (talk_of later) (record plain { whole = plain.whole ++ one ∷ []; rest = drop used old.rest })
               (Hearing (Mailing (after_unit plan (talk_of told) (Text lines) (text_of TooLarge plain.node)))) means.3 (ap (λ t. Hearing (Mailing t)) (sym means.2));
         }))
     goes_end (Begin (tickets.Deliver deliver)) octets means =
@@ -181,9 +185,11 @@ module _ (plan : Plan) (node : ℕ) (told : Told) (old new : Shown) (undotter be
           calls.Call.Deliver (mail_of (talk_of told) lines),
           ap (λ m. Some (calls.Call.Deliver m)) means.2,
           heard_asks plan plain (talk_of told) (Text lines) (drop used old.rest) [] octets (Follows (session node turned later new behind ([], false))) follows.stands.1
-              is_text whole_text (calls.Call.Deliver (mail_of (talk_of told) lines)) (rw means.0 refl) means.1 (λ one. record {
+              is_text whole_text (calls.Call.Deliver (mail_of (talk_of told) lines)) (rw means.0 refl) means.1 (λ one asks none. record {
                 speaks = follows.speaks;
                 node = follows.node;
+                others = follows.others;
+                nobody = still_nobody plain.whole one (ap (λ (c : Option calls.Call). let_in c one.answer) asks ∙ mail_nobody (mail_of (talk_of told) lines) one.answer) follows.nobody;
                 reads = reads_behind;
                 stands = stands_waits turned node (talk_of later) (record plain {
                   whole = plain.whole ++ one ∷ [];
@@ -195,6 +201,7 @@ module _ (plan : Plan) (node : ℕ) (told : Told) (old new : Shown) (undotter be
                   before = plain.whole;
                   one = one;
                   whole = refl;
+                  asks = asks;
                 });
               }),
         )
@@ -214,6 +221,7 @@ module _ (plan : Plan) (node : ℕ) (told : Told) (old new : Shown) (undotter be
     goes = λ plain due follows. goes_end used ends later turned cut plain due follows did octets
         (means (lines used ends later turned cut plain due follows) (is_read used ends later turned cut plain due follows));
     less = λ busy. omega (arith, within.0, within.1, quiet, ap (λ (s : Shown). length s.rest) cut, length-drop used old.rest);
+    no_more = omega (arith, within.0, within.1, quiet, ap (λ (s : Shown). length s.rest) cut, length-drop used old.rest);
     bounded = λ plain due follows is. absurd (not_idle (lines used ends later turned cut plain due follows) did is (means (lines used ends later turned cut plain due follows) (is_read used ends later turned cut plain due follows)));
     few = few;
   }

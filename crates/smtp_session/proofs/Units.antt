@@ -11,7 +11,7 @@ use Rattle.mail_model.specs.Session.Unit.{Line, Text}
 use Rattle.mail_model.specs.Told.{IsUnit, HasNoUnit, unit_octets, Mail, mail_of}
 use Rattle.mail_model.specs.PopReplies.{one_line}
 use Rattle.session_model.specs.Calls as calls
-use Rattle.session_model.specs.Talk.{State, Exchange, Standing, Lead, IsNext, stands, stands_by, lead_of, IsLed, in_text, answered}
+use Rattle.session_model.specs.Talk.{State, Exchange, Standing, Lead, IsNext, stands, stands_by, lead_of, IsLed, in_text, answered, let_in, entered_as}
 use Rattle.session_model.specs.Moves.{with_answer}
 use Rattle.session_model.specs.Talk as talks
 use Rattle.std.proofs.lemmas.List.Elements.{All-cons, All-nil}
@@ -43,6 +43,7 @@ use Rattle.smtp_session.specs.Talks.{talk_of}
 use Rattle.smtp_session.specs.Hears.{HearsLine, reply_in}
 use Rattle.smtp_session.specs.Follows.{Follows, Reads, Stands, Goes, EndsText, IsDue, Turns, left, held, IsBounded}
 use Rattle.smtp_session.proofs.Lines.{all_one, one_line_of}
+use Rattle.smtp_session.proofs.Entered.{still_nobody, answered_nobody}
 
 abbrev pub session : ℕ → Turn → Told → Shown → Undotter → List ℕ × Bool → SmtpSession
 session node now told cutter undotter text = record { node = node; turn = now; told = told; cutter = cutter; undotter = undotter; text = text }
@@ -110,7 +111,7 @@ module _ (plan : Plan) (plain : Session) (talk : model.Told) (unit : model.Unit)
 
   pub heard_says : (quits : Bool) → lead_of plan plain.node (Mailing talk) unit ≡ cond quits (talks.Lead.Ends (one_line text)) (talks.Lead.Says (one_line text))
       → HasNoCrlf text → octets ≡ sent_line text
-      → ((whole : List Exchange) → follows (record plain { whole = whole; standing = standing_behind quits; rest = more }) Nothing)
+      → ((one : Exchange) → let_in one.call one.answer ≡ None → follows (record plain { whole = plain.whole ++ one ∷ []; standing = standing_behind quits; rest = more }) Nothing)
       → moves.Heard follows plan plain None octets
   heard_says quits leads line says goes_on =
       let one : Exchange = record { unit = unit; call = None; answer = None; reply = one_line text } in
@@ -125,12 +126,12 @@ module _ (plan : Plan) (plain : Session) (talk : model.Told) (unit : model.Unit)
         asks = refl;
         says = says ∙ sym (append-nil (sent_line text));
         lines = All-cons HasNoCrlf text [] line (All-nil HasNoCrlf);
-        goes_on = subst At (sym now) (goes_on (plain.whole ++ one ∷ []));
+        goes_on = subst At (sym now) (goes_on one refl);
       }
 
   -- a unit that asks was heard
   pub heard_asks : (asked : calls.Call) → lead_of plan plain.node (Mailing talk) unit ≡ talks.Lead.Asks asked → octets ≡ []
-      → ((one : Exchange) → follows (record plain { whole = plain.whole ++ one ∷ []; standing = Waiting (Mailing (after_unit plan talk unit [])) asked; rest = more }) Nothing)
+      → ((one : Exchange) → one.call ≡ Some asked → one.answer ≡ None → follows (record plain { whole = plain.whole ++ one ∷ []; standing = Waiting (Mailing (after_unit plan talk unit [])) asked; rest = more }) Nothing)
       → moves.Heard follows plan plain (Some asked) octets
   heard_asks asked leads says goes_on =
       let one : Exchange = record { unit = unit; call = Some asked; answer = None; reply = [] } in
@@ -145,7 +146,7 @@ module _ (plan : Plan) (plain : Session) (talk : model.Told) (unit : model.Unit)
         asks = refl;
         says = says;
         lines = All-nil HasNoCrlf;
-        goes_on = subst At (sym now) (goes_on one);
+        goes_on = subst At (sym now) (goes_on one refl refl);
       }
 
 -- a session that has nothing to say, and hears
@@ -191,6 +192,8 @@ module _ (plan : Plan) (node : ℕ) (told : Told) (undotter : Undotter) (text : 
         record {
           speaks = follows.speaks;
           node = follows.node;
+          others = follows.others;
+          nobody = follows.nobody;
           reads = record {
             taken = reads.taken;
             given = reads.given;
@@ -226,11 +229,13 @@ module _ (plan : Plan) (node : ℕ) (told : Told) (undotter : Undotter) (text : 
         ap₂ (λ (b : Bool) (t : List ℕ). cond b (talks.Lead.Ends (one_line t)) (talks.Lead.Says (one_line t))) meaning.0 (sym says) in
         at_nothing _ _ plan plain due Said _ follows.stands.0
         (heard_says plan plain (talk_of told) (Line gives.line) more (text_of reply plain.node) _ (Follows (session node now later new undotter text)) follows.stands.1 (is_line gives.line gives.first) rest_is
-        quits leads (one_line_of reply plain.node) (ap sent_line (sym text_is)) (λ whole. record {
+        quits leads (one_line_of reply plain.node) (ap sent_line (sym text_is)) (λ one none. record {
           speaks = follows.speaks;
           node = follows.node;
+          others = follows.others;
+          nobody = still_nobody plain.whole one none follows.nobody;
           reads = subst OfCutter (sym is) (reads_behind old undotter text plain.rest told.in_text reads outside found later.in_text);
-          stands = stands_behind quits now node (talk_of later) (after_unit plan (talk_of told) (Line gives.line) (text_of reply plain.node)) plain whole more turns
+          stands = stands_behind quits now node (talk_of later) (after_unit plan (talk_of told) (Line gives.line) (text_of reply plain.node)) plain (plain.whole ++ one ∷ []) more turns
               (told_is ∙ ap (after_unit plan (talk_of told) (Line gives.line)) (sym says));
         }))
       where
@@ -271,7 +276,7 @@ said_due plan node told cutter undotter text turn.Greets reply is plain due foll
     subst At (sym follows.stands.0) (record {
       says = ap (λ r. sent_line (text_of r node)) is;
       line = one_line_of Ready node;
-      goes_on = record { speaks = follows.speaks; node = follows.node; reads = follows.reads; stands = (refl, follows.stands.1) };
+      goes_on = record { speaks = follows.speaks; node = follows.node; others = follows.others; nobody = follows.nobody; reads = follows.reads; stands = (refl, follows.stands.1) };
     })
 said_due plan node told cutter undotter text turn.Hears reply is plain due follows = absurd is
 said_due plan node told cutter undotter text turn.Waits reply is plain due follows = absurd is
@@ -286,6 +291,13 @@ said_due plan node told cutter undotter text (turn.Replies other) reply is plain
       did = (waits.before, waits.one, Mailing (talk_of told), waits.whole, waits.standing, follows.stands.3, refl, refl);
       says = ap (λ r. sent_line (text_of r node)) is ∙ sym (append-nil (sent_line (text_of other node)));
       lines = all_one other node;
-      goes_on = record { speaks = follows.speaks; node = follows.node; reads = follows.reads; stands = (refl, answered_mail (talk_of told) waits.mail answer) };
+      goes_on = record {
+        speaks = follows.speaks;
+        node = follows.node;
+        others = follows.others;
+        nobody = answered_nobody waits.before waits.one waits.mail answer (one_line (text_of other node)) waits.asks (sym (ap entered_as waits.whole) ∙ follows.nobody);
+        reads = follows.reads;
+        stands = (refl, answered_mail (talk_of told) waits.mail answer);
+      };
     })
 said_due plan node told cutter undotter text turn.Ended reply is plain due follows = absurd is

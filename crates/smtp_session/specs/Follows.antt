@@ -1,5 +1,5 @@
 -- Which session of the definitions a value is.
-use Rattle.std.specs.Prelude.{◌≡◌, ℕ, ◌+◌, ◌<◌, ◌≤◌, Bool, true, false, List, [], ◌∷◌, ◌++◌, length, ⊤, MatchBool}
+use Rattle.std.specs.Prelude.{◌≡◌, ℕ, ◌+◌, ◌<◌, ◌≤◌, Bool, true, false, List, [], ◌∷◌, ◌++◌, length, ⊤, Some, None, MatchBool}
 use Rattle.mail_model.specs.Plan.{Plan}
 use Rattle.mail_model.specs.Smtp.{greeting_text}
 use Rattle.mail_model.specs.Told.{Mail}
@@ -9,7 +9,7 @@ use Rattle.mail_model.specs.PopReplies.{one_line}
 use Rattle.session_model.specs.Calls as calls
 use Rattle.session_model.specs.Calls.{IsReply}
 use Rattle.session_model.specs.Calls.Call.{Deliver}
-use Rattle.session_model.specs.Talk.{Exchange}
+use Rattle.session_model.specs.Talk.{Exchange, entered_as}
 use Rattle.session_model.specs.Talk.State.{Mailing}
 use Rattle.session_model.specs.Talk.Standing.{Hearing, Waiting}
 use Rattle.session_model.specs.Sessions.{Session}
@@ -60,6 +60,7 @@ pub record WaitsFor (talk : model.Told) (plain : Session) : Type 0 where
   pub before : List Exchange
   pub one : Exchange
   pub whole : plain.whole ≡ before ++ one ∷ []
+  pub asks : one.call ≡ Some (Deliver mail)
 
 -- how the session stands, and what it has to say, by whose turn it is
 abbrev pub Stands : Turn → ℕ → model.Told → Session → Due → Type 0
@@ -74,6 +75,8 @@ Stands Ended node talk plain due = (due ≡ Nothing) × HasEnded plain.standing
 pub record Follows (session : SmtpSession) (plain : Session) (due : Due) : Type 0 where
   pub speaks : plain.protocol ≡ Smtp
   pub node : plain.node ≡ session.node
+  pub others : plain.others ≡ []
+  pub nobody : entered_as plain.whole ≡ None
   pub reads : Reads session.told.in_text session.cutter session.undotter session.text plain.rest
   pub stands : Stands session.turn session.node (talk_of session.told) plain due
 
@@ -106,11 +109,12 @@ abbrev pub HasFewUsers : Move → Type 0
 HasFewUsers (Begin (tickets.Deliver deliver)) = length deliver.users ≤ 100
 HasFewUsers move = ⊤
 
--- What a move did, with the octets that it said: what the definitions say; behind one after which another may come at once less is left; and a session that
+-- What a move did, with the octets that it said: what the definitions say; after one that another may follow at once less is left, and after none more; and a session that
 -- is idle holds no more than the limits of what its client sends.
 pub record Moved (plan : Plan) (old : SmtpSession) (move : Move) (octets : List ℕ) (new : SmtpSession) : Type 0 where
   pub goes : Goes plan old move octets new
   pub less : IsBusy move → left new < left old
+  pub no_more : left new ≤ left old
   pub bounded : (plain : Session) (due : Due) → Follows old plain due → move ≡ Idle → IsBounded new
   pub few : HasFewUsers move
 

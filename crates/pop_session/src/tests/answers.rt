@@ -65,7 +65,11 @@ fn waits_for_its_answer(rt: HostRuntime) -> Result<(), Fail> {
     client.said.clear();
     client.session.answer(Some(failed()));
     client.feed(b"")?;
-    has_said(&rt, &client, b"  -ERR [SYS/TEMP] some messages may remain\n  closed\n");
+    has_said(
+        &rt,
+        &client,
+        b"  -ERR [SYS/TEMP] some messages may remain\n  closed\n",
+    );
     Ok(())
 }
 
@@ -88,14 +92,21 @@ fn ends_with_its_node(rt: HostRuntime) -> Result<(), Fail> {
 // A session leaves as whom it was let in, however it ended.
 #[test]
 fn leaves_its_login(rt: HostRuntime) -> Result<(), Fail> {
-    for fed in [b"".as_slice(), b"QUIT\r\n", b"DELE 1\r\nQUIT\r\n", b"DELE 1\r\n"] {
+    for fed in [
+        b"".as_slice(),
+        b"QUIT\r\n",
+        b"DELE 1\r\nQUIT\r\n",
+        b"DELE 1\r\n",
+    ] {
         let mut client = entered(rt.alloc())?;
         client.feed(fed)?;
-        let Some(Call::Leave {
-            user,
-            login,
-            manager,
-        }) = client.session.leave()
+        let Some(
+            Call::Leave {
+                user,
+                login,
+                manager,
+            },
+        ) = client.session.leave()
         else {
             panic!(rt; "no leave");
         };
@@ -116,7 +127,10 @@ fn shows_messages(rt: HostRuntime) -> Result<(), Fail> {
         (b"a\r\n\r", b"+OK 4 octets\r\na\r\n\r\r\n.\r\n"),
         (b".\r\n..\r\n", b"+OK 7 octets\r\n..\r\n...\r\n.\r\n"),
         (b"x\n.\ny\r.\r", b"+OK 8 octets\r\nx\n.\ny\r.\r\r\n.\r\n"),
-        (b"\x00\x7F\x80\xFF\r\n.\x00", b"+OK 8 octets\r\n\x00\x7F\x80\xFF\r\n..\x00\r\n.\r\n"),
+        (
+            b"\x00\x7F\x80\xFF\r\n.\x00",
+            b"+OK 8 octets\r\n\x00\x7F\x80\xFF\r\n..\x00\r\n.\r\n",
+        ),
     ];
     for (octets, wanted) in cases {
         let mut client = entered(rt.alloc())?;

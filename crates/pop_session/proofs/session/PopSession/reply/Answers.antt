@@ -9,7 +9,7 @@ use Rattle.pop_session.specs.declared.session.Turn.TheVariants.{Hears, Replies}
 use Rattle.pop_session.specs.declared.session.Turn.{Turn}
 use Rattle.pop_session.specs.declared.session.PopSession.{PopSession}
 use Rattle.pop_session.specs.declared.stage.Stage.TheVariants.{Transaction}
-use Rattle.pop_session.specs.Dues.{text_of}
+use Rattle.pop_session.specs.Dues.{text_of, items_told}
 use Rattle.pop_session.specs.Slots.{listed_slot}
 use Rattle.pop_session.specs.Follows.{Moved, stage_behind}
 use Rattle.pop_session.proofs.Moving.{moved_on, moved_last, moved_shows, moved_enters}
@@ -48,15 +48,15 @@ pub returns-in_ok-line_into-in-Entered-clause-ok : goal.returns-in_ok-line_into-
 returns-in_ok-line_into-in-Entered-clause-ok c =
     let old = c.args.self.now in
     let login = c.in-Entered.login in
-    let items = c.in-Entered.items in
+    let listed = c.in-Entered.listed in
     let is = c.in-Replies.is ∙ ap Replies c.in-Entered.is in
-    let After : PopSession = record old { turn = Hears; stage = Transaction login (map listed_slot items) } in
-    let now : c.enter.new.self ≡ record old { turn = Hears; stage = Transaction login (map listed_slot items) } =
+    let After : PopSession = record old { turn = Hears; stage = Transaction login (map listed_slot (items_told listed)) } in
+    let now : c.enter.new.self ≡ record old { turn = Hears; stage = Transaction login (map listed_slot (items_told listed)) } =
     c.enter.ensures ∙ ap (λ (t : Turn). record old { turn = Hears; stage = stage_behind t old.stage c.in_ok-listing-in-Entered.listing }) is
     ∙ ap (λ l. record old { turn = Hears; stage = Transaction login l }) c.in_ok-listing-in-Entered.ensures in (
       flat_map sent_line (one_line entered_text),
       c.in_ok-line_into-in-Entered.ensures.ok,
       λ plan.
-      let To : PopSession → Type 0 = λ s. Moved plan old Said (flat_map sent_line (one_line entered_text)) s in
-      subst To (sym now) (moved_enters plan old.node old.boot old.number old.seconds old.turn old.stage old.cutter login items is),
+          let To : PopSession → Type 0 = λ s. Moved plan old Said (flat_map sent_line (one_line entered_text)) s in
+          subst To (sym now) (moved_enters plan old.node old.boot old.number old.seconds old.turn old.stage old.cutter login listed is),
     )

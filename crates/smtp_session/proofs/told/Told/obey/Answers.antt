@@ -1,5 +1,5 @@
 use Rattle.std.proofs.Common.{◌≡◌, Ok, Option, rules}
-use Rattle.mail_model.specs.Session.{Talk, Envelope}
+use Rattle.mail_model.specs.Session.{Told, Envelope}
 use Rattle.smtp_session.specs.Talks.{talk_of}
 use Rattle.smtp_session.proofs.Choices.{cond_under}
 use Rattle.mail_model.specs.Smtp as smtp
@@ -20,7 +20,7 @@ pub returns-in_ok-address-in-Ok-Rcpt-clause-ok : goal.returns-in_ok-address-in-O
 returns-in_ok-address-in-Ok-Rcpt-clause-ok c n =
     let is : seen c.args.command.now ≡ Ok (smtp.Command.Rcpt c.in-Ok-Rcpt.path.now) = search rules in
     let did = c.in_ok-address-in-Ok-Rcpt.ensures.ok n in
-    let told : Option Envelope → Talk = λ envelope. record (talk_of c.args.self.now) { envelope = envelope } in
+    let told : Option Envelope → Told = λ envelope. record (talk_of c.args.self.now) { envelope = envelope } in
     rw is (did.0, cond_under told _ _ _ _ did.1)
 
 pub returns-in_ok-ask_text-in-Ok-Data-clause-ok : goal.returns-in_ok-ask_text-in-Ok-Data-clause-ok
