@@ -1,6 +1,6 @@
 -- The steps that sessions lead to in a world of one node, one after another, and what came of each. Of them what a cluster owes is read off: what it was
 -- asked, and what it answered.
-use Rattle.std.specs.Prelude.{◌≡◌, ℕ, ◌-◌, ◌^◌, ◌<◌, min, length, All, List, [], ◌∷◌, ◌++◌, flat_map, ⊤, is_some, Option, Some, None, Result, Ok, Err}
+use Rattle.std.specs.Prelude.{◌≡◌, ℕ, ◌-◌, ◌^◌, ◌<◌, min, length, All, IsTrue, List, [], ◌∷◌, ◌++◌, flat_map, ⊤, is_some, Option, Some, None, Result, Ok, Err}
 use Rattle.mail_model.specs.Names.{IsLowerName}
 use Rattle.mail_model.specs.Grammar.{IsId}
 use Rattle.mail_model.specs.Plan.{Plan}
@@ -8,20 +8,23 @@ use Rattle.mail_model.specs.Transcript.{Entry}
 use Rattle.mail_model.specs.Record.{Record}
 use Rattle.mail_model.specs.Listing.{octets_in}
 use Rattle.session_model.specs.Calls.{Call, Answer, IsAnswerTo}
+use Rattle.session_model.specs.Calls.Call.{Deliver, Login, Fetch, Strike}
 use Rattle.session_model.specs.Logs.{Asked, Answered}
 use Rattle.session_model.specs.Run.{Made}
 use Rattle.session_model.specs.Owes.{Owes}
 use Rattle.session_model.specs.Books.{Among}
 use Rattle.session_model.specs.OneNode.{IsSoundMail, IsTaken}
 use Rattle.cluster_world.specs.Journal.{IsToldAlike}
-use Rattle.cluster_world.specs.World.{plan_of, drawn_of, stamps_of, standing_of, disk_of, book_of, steps_of, counted, one_more, Begins}
+use Rattle.cluster_world.specs.World.{plan_of, is_up, drawn_of, stamps_of, standing_of, disk_of, book_of, steps_of, counted, one_more, Begins}
 use Rattle.call_tickets.specs.Seen.{call_seen, answer_seen, ids_in}
-use Rattle.cluster_world.specs.Steps.{Stepped, nth_ticket}
+use Rattle.cluster_world.specs.Steps.{Stepped, call_of, nth_ticket}
 use Rattle.cluster_world.specs.declared.world.World.{World}
 use Rattle.call_tickets.specs.declared.call.Call.{Call as WorldCall}
 use Rattle.call_tickets.specs.declared.call.Call.TheVariants as call
 use Rattle.call_tickets.specs.declared.answer.Answer.{Answer as WorldAnswer}
 use Rattle.call_tickets.specs.declared.answer.Ask.TheVariants.{Done}
+use Rattle.cluster_world.specs.declared.step.Pending.{Pending}
+use Rattle.cluster_world.specs.declared.step.Pending.TheVariants.{Filed, Found, Struck}
 use Rattle.cluster_world.specs.declared.step.Step.{Step}
 use Rattle.cluster_world.specs.declared.step.Step.TheVariants.{Begin, Ask}
 use Rattle.cluster_world.specs.declared.step.Said.{Said}
@@ -130,6 +133,21 @@ abbrev pub Makes : {D : Type 0} → (D → Option (List ℕ)) → (D → ℕ) �
 Makes seen faults [] awaited old left new = (left ≡ awaited) × (new ≡ old)
 Makes {D} seen faults (outcome ∷ more) awaited old left new =
     (between : List Awaited) × (mid : World D) × Came seen faults outcome awaited old between mid × Makes seen faults more between mid left new
+
+-- what is pending will be answered by an answer of the call's kind
+abbrev pub WillAnswer : Call → Pending → Type 0
+WillAnswer (Deliver mail) (Filed filing) = ⊤
+WillAnswer (Login user secret) (Found found) = IsAnswerTo (Login user secret) (answer_seen found)
+WillAnswer (Fetch user id) (Found found) = IsAnswerTo (Fetch user id) (answer_seen found)
+WillAnswer (Strike user ids) (Struck name struck) = ⊤
+WillAnswer asked pending = ⊥
+
+-- no call is in progress, or the one that is awaited
+abbrev pub Stands : {D : Type 0} → List Awaited → World D → Type 0
+Stands [] world = standing_of world ≡ []
+Stands (one ∷ []) world =
+    IsTrue (is_up world) × ((pending : Pending) × (standing_of world ≡ call_of (nth_ticket one.number) pending ∷ []) × WillAnswer one.call pending)
+Stands (one ∷ other ∷ more) world = ⊥
 
 -- a call that was asked for at once is answered by an answer of its kind, and none is then in progress; or memory ran out
 abbrev pub AtOnce : {D : Type 0} → Result Said StepFault → Call → World D → Type 0
