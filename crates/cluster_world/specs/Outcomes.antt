@@ -1,6 +1,7 @@
 -- The steps that sessions lead to in a world of one node, one after another, and what came of each. Of them what a cluster owes is read off: what it was
 -- asked, and what it answered.
-use Rattle.std.specs.Prelude.{◌≡◌, ℕ, ◌-◌, ◌^◌, ◌<◌, min, length, All, IsTrue, List, [], ◌∷◌, ◌++◌, flat_map, ⊤, is_some, Option, Some, None, Result, Ok, Err}
+use Rattle.std.specs.Prelude.{◌≡◌, ◌⊎◌, ℕ, ◌-◌, ◌^◌, ◌<◌, ◌≤◌, min, length, All, IsTrue, List, [], ◌∷◌, ◌++◌, flat_map, ⊤, is_some, Option, Some, None, Result, Ok, Err}
+use Rattle.io_edge.specs.Causes.{Rose}
 use Rattle.mail_model.specs.Names.{IsLowerName}
 use Rattle.mail_model.specs.Grammar.{IsId}
 use Rattle.mail_model.specs.Plan.{Plan}
@@ -17,7 +18,7 @@ use Rattle.session_model.specs.OneNode.{IsSoundMail, IsTaken}
 use Rattle.cluster_world.specs.Journal.{IsToldAlike}
 use Rattle.cluster_world.specs.World.{plan_of, is_up, drawn_of, stamps_of, standing_of, disk_of, book_of, steps_of, counted, one_more, Begins}
 use Rattle.call_tickets.specs.Seen.{call_seen, answer_seen, ids_in}
-use Rattle.cluster_world.specs.Steps.{Stepped, call_of, nth_ticket}
+use Rattle.cluster_world.specs.Steps.{Stepped, IsSound, call_of, nth_ticket}
 use Rattle.cluster_world.specs.declared.world.World.{World}
 use Rattle.call_tickets.specs.declared.call.Call.{Call as WorldCall}
 use Rattle.call_tickets.specs.declared.call.Call.TheVariants as call
@@ -165,6 +166,25 @@ AskedAtOnce {D} seen faults = (begun : WorldCall) (asked : Call) (number stirs :
 abbrev pub MakesMore : {D : Type 0} → (D → Option (List ℕ)) → (D → ℕ) → Type 0
 MakesMore {D} seen faults = (outcomes : List Outcome) (outcome : Outcome) (awaited between left : List Awaited) (old mid new : World D)
     → Makes seen faults outcomes awaited old between mid → Came seen faults outcome between mid left new → Makes seen faults (outcomes ++ outcome ∷ []) awaited old left new
+
+-- A world that was opened has on its disk and in memory what some records say, as long as its node is up.
+abbrev pub SoundAfter : {D : Type 0} → (D → Option (List ℕ)) → (D → ℕ) → Type 0
+SoundAfter {D} seen faults = (plan : Plan) (outcomes : List Outcome) (left : List Awaited) (start last : World D)
+    → Begins seen plan start → Makes seen faults outcomes [] start left last → IsTrue (is_up last) → IsSound seen last
+
+-- The count of faults of its disk never falls.
+abbrev pub LaterAfter : {D : Type 0} → (D → Option (List ℕ)) → (D → ℕ) → Type 0
+LaterAfter {D} seen faults = (outcomes : List Outcome) (awaited left : List Awaited) (old new : World D) → Makes seen faults outcomes awaited old left new → faults (disk_of old) ≤ faults (disk_of new)
+
+-- the call reads a message
+abbrev pub IsFetch : Call → Type 0
+IsFetch (Fetch user id) = ⊤
+IsFetch asked = ⊥
+
+-- A step that says that the node's disk failed has its cause: the disk's count rose in it, or the disk does not tell what it holds, and the call reads a message.
+abbrev pub FallHasCause : {D : Type 0} → (D → Option (List ℕ)) → (D → ℕ) → Type 0
+FallHasCause {D} seen faults = (begun : WorldCall) (asked : Call) (failed : ℕ) (old new : World D) → call_seen begun ≡ Some asked → IsSound seen old
+    → IsStep seen faults (Ok (Faulted failed)) (Begin 1 begun) old new → Rose (faults (disk_of old)) (faults (disk_of new)) ⊎ ((seen (disk_of old) ≡ None) × IsFetch asked)
 
 -- each call is one that a session of node 1 makes
 abbrev pub AreOfSessions : List (List ℕ) → List Asked → Type 0
