@@ -1,3 +1,4 @@
+pub mod Causes
 mod Completes
 pub mod Among
 pub mod Appended

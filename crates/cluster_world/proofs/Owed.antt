@@ -104,7 +104,7 @@ module _ {D : Type 0} (seen : D → Option (List ℕ)) (plan : Plan) (lines : Li
       })
 
   -- nothing was done
-  same_alike : new ≡ old → IsAlike seen old new
+  pub same_alike : new ≡ old → IsAlike seen old new
   same_alike same = record {
     plan_is = ap (λ (w : World D). plan_of w) same;
     up = ap (λ (w : World D). is_up w) same;
@@ -132,7 +132,7 @@ module _ {D : Type 0} (seen : D → Option (List ℕ)) (plan : Plan) (lines : Li
     fits = same.fits;
   }
 
-  refused_alike : (faults : D → ℕ) (result : Result Said StepFault) (begun : WorldCall) → IsRefusal result → BeginDid seen faults result 1 begun old new → IsAlike seen old new
+  pub refused_alike : (faults : D → ℕ) (result : Result Said StepFault) (begun : WorldCall) → IsRefusal result → BeginDid seen faults result 1 begun old new → IsAlike seen old new
   refused_alike faults (Ok said) begun refusal did = absurd refusal
   refused_alike faults (Err NoSuchNode) begun refusal did = same_alike did.1
   refused_alike faults (Err NodeDown) begun refusal did = same_alike did.2
@@ -141,7 +141,7 @@ module _ {D : Type 0} (seen : D → Option (List ℕ)) (plan : Plan) (lines : Li
   refused_alike faults (Err (NoMemory None)) begun refusal did = before_alike faults did.1
   refused_alike faults (Err (NoMemory (Some failed))) begun refusal did = absurd refusal
 
-  asked_alike : (faults : D → ℕ) (number : ℕ) (fault : StepFault) → AskDid seen faults (Err fault) (nth_ticket number) old new → IsAlike seen old new
+  pub asked_alike : (faults : D → ℕ) (number : ℕ) (fault : StepFault) → AskDid seen faults (Err fault) (nth_ticket number) old new → IsAlike seen old new
   asked_alike faults number NoSuchNode did = same_alike did.1
   asked_alike faults number NodeDown did = same_alike did.2
   asked_alike faults number NoSuchTicket did = same_alike did.3
@@ -149,7 +149,7 @@ module _ {D : Type 0} (seen : D → Option (List ℕ)) (plan : Plan) (lines : Li
   asked_alike faults number (NoMemory None) did = before_alike faults did.1
   asked_alike faults number (NoMemory (Some failed)) did = absurd did
 
-  left_alike : (faults : D → ℕ) (result : Result Said StepFault) (user : List ℕ) (begun : WorldCall) → IsLeave user begun → BeginDid seen faults result 1 begun old new → IsAlike seen old new
+  pub left_alike : (faults : D → ℕ) (result : Result Said StepFault) (user : List ℕ) (begun : WorldCall) → IsLeave user begun → BeginDid seen faults result 1 begun old new → IsAlike seen old new
   left_alike faults (Ok (Begun ticket stirs)) user (call.Leave name login manager) leave did = absurd did.3
   left_alike faults (Ok Noted) user (call.Leave name login manager) leave did = same_alike did.3
   left_alike faults (Ok (AskedFor ask)) user (call.Leave name login manager) leave did = absurd did

@@ -1,6 +1,7 @@
 -- The steps that sessions lead to in a world of one node, one after another, and what came of each. Of them what a cluster owes is read off: what it was
 -- asked, and what it answered.
-use Rattle.std.specs.Prelude.{◌≡◌, ℕ, ◌-◌, ◌^◌, ◌<◌, min, length, All, List, [], ◌∷◌, ◌++◌, flat_map, ⊤, is_some, Option, Some, None, Result, Ok, Err}
+use Rattle.std.specs.Prelude.{◌≡◌, ◌⊎◌, ℕ, ◌-◌, ◌^◌, ◌<◌, ◌≤◌, min, length, All, IsTrue, List, [], ◌∷◌, ◌++◌, flat_map, ⊤, is_some, Option, Some, None, Result, Ok, Err}
+use Rattle.io_edge.specs.Causes.{Rose}
 use Rattle.mail_model.specs.Names.{IsLowerName}
 use Rattle.mail_model.specs.Grammar.{IsId}
 use Rattle.mail_model.specs.Plan.{Plan}
@@ -8,20 +9,23 @@ use Rattle.mail_model.specs.Transcript.{Entry}
 use Rattle.mail_model.specs.Record.{Record}
 use Rattle.mail_model.specs.Listing.{octets_in}
 use Rattle.session_model.specs.Calls.{Call, Answer, IsAnswerTo}
+use Rattle.session_model.specs.Calls.Call.{Deliver, Login, Fetch, Strike}
 use Rattle.session_model.specs.Logs.{Asked, Answered}
 use Rattle.session_model.specs.Run.{Made}
 use Rattle.session_model.specs.Owes.{Owes}
 use Rattle.session_model.specs.Books.{Among}
 use Rattle.session_model.specs.OneNode.{IsSoundMail, IsTaken}
 use Rattle.cluster_world.specs.Journal.{IsToldAlike}
-use Rattle.cluster_world.specs.World.{plan_of, drawn_of, stamps_of, standing_of, disk_of, book_of, steps_of, counted, one_more, Begins}
+use Rattle.cluster_world.specs.World.{plan_of, is_up, drawn_of, stamps_of, standing_of, disk_of, book_of, steps_of, counted, one_more, Begins}
 use Rattle.call_tickets.specs.Seen.{call_seen, answer_seen, ids_in}
-use Rattle.cluster_world.specs.Steps.{Stepped, nth_ticket}
+use Rattle.cluster_world.specs.Steps.{Stepped, IsSound, call_of, nth_ticket}
 use Rattle.cluster_world.specs.declared.world.World.{World}
 use Rattle.call_tickets.specs.declared.call.Call.{Call as WorldCall}
 use Rattle.call_tickets.specs.declared.call.Call.TheVariants as call
 use Rattle.call_tickets.specs.declared.answer.Answer.{Answer as WorldAnswer}
 use Rattle.call_tickets.specs.declared.answer.Ask.TheVariants.{Done}
+use Rattle.cluster_world.specs.declared.step.Pending.{Pending}
+use Rattle.cluster_world.specs.declared.step.Pending.TheVariants.{Filed, Found, Struck}
 use Rattle.cluster_world.specs.declared.step.Step.{Step}
 use Rattle.cluster_world.specs.declared.step.Step.TheVariants.{Begin, Ask}
 use Rattle.cluster_world.specs.declared.step.Said.{Said}
@@ -131,6 +135,21 @@ Makes seen faults [] awaited old left new = (left ≡ awaited) × (new ≡ old)
 Makes {D} seen faults (outcome ∷ more) awaited old left new =
     (between : List Awaited) × (mid : World D) × Came seen faults outcome awaited old between mid × Makes seen faults more between mid left new
 
+-- what is pending will be answered by an answer of the call's kind
+abbrev pub WillAnswer : Call → Pending → Type 0
+WillAnswer (Deliver mail) (Filed filing) = ⊤
+WillAnswer (Login user secret) (Found found) = IsAnswerTo (Login user secret) (answer_seen found)
+WillAnswer (Fetch user id) (Found found) = IsAnswerTo (Fetch user id) (answer_seen found)
+WillAnswer (Strike user ids) (Struck name struck) = ⊤
+WillAnswer asked pending = ⊥
+
+-- no call is in progress, or the one that is awaited
+abbrev pub Stands : {D : Type 0} → List Awaited → World D → Type 0
+Stands [] world = standing_of world ≡ []
+Stands (one ∷ []) world =
+    IsTrue (is_up world) × ((pending : Pending) × (standing_of world ≡ call_of (nth_ticket one.number) pending ∷ []) × WillAnswer one.call pending)
+Stands (one ∷ other ∷ more) world = ⊥
+
 -- a call that was asked for at once is answered by an answer of its kind, and none is then in progress; or memory ran out
 abbrev pub AtOnce : {D : Type 0} → Result Said StepFault → Call → World D → Type 0
 AtOnce (Ok (said.Asked (Done given))) asked new = IsAnswerTo asked (answer_seen given) × (standing_of new ≡ [])
@@ -147,6 +166,25 @@ AskedAtOnce {D} seen faults = (begun : WorldCall) (asked : Call) (number stirs :
 abbrev pub MakesMore : {D : Type 0} → (D → Option (List ℕ)) → (D → ℕ) → Type 0
 MakesMore {D} seen faults = (outcomes : List Outcome) (outcome : Outcome) (awaited between left : List Awaited) (old mid new : World D)
     → Makes seen faults outcomes awaited old between mid → Came seen faults outcome between mid left new → Makes seen faults (outcomes ++ outcome ∷ []) awaited old left new
+
+-- A world that was opened has on its disk and in memory what some records say, as long as its node is up.
+abbrev pub SoundAfter : {D : Type 0} → (D → Option (List ℕ)) → (D → ℕ) → Type 0
+SoundAfter {D} seen faults = (plan : Plan) (outcomes : List Outcome) (left : List Awaited) (start last : World D)
+    → Begins seen plan start → Makes seen faults outcomes [] start left last → IsTrue (is_up last) → IsSound seen last
+
+-- The count of faults of its disk never falls.
+abbrev pub LaterAfter : {D : Type 0} → (D → Option (List ℕ)) → (D → ℕ) → Type 0
+LaterAfter {D} seen faults = (outcomes : List Outcome) (awaited left : List Awaited) (old new : World D) → Makes seen faults outcomes awaited old left new → faults (disk_of old) ≤ faults (disk_of new)
+
+-- the call reads a message
+abbrev pub IsFetch : Call → Type 0
+IsFetch (Fetch user id) = ⊤
+IsFetch asked = ⊥
+
+-- A step that says that the node's disk failed has its cause: the disk's count rose in it, or the disk does not tell what it holds, and the call reads a message.
+abbrev pub FallHasCause : {D : Type 0} → (D → Option (List ℕ)) → (D → ℕ) → Type 0
+FallHasCause {D} seen faults = (begun : WorldCall) (asked : Call) (failed : ℕ) (old new : World D) → call_seen begun ≡ Some asked → IsSound seen old
+    → IsStep seen faults (Ok (Faulted failed)) (Begin 1 begun) old new → Rose (faults (disk_of old)) (faults (disk_of new)) ⊎ ((seen (disk_of old) ≡ None) × IsFetch asked)
 
 -- each call is one that a session of node 1 makes
 abbrev pub AreOfSessions : List (List ℕ) → List Asked → Type 0

@@ -1,5 +1,5 @@
 // Layouts from their description, and each call that stores once.
-ghost use Rattle.std.specs.Prelude.{◌≤◌, ◌<◌, length, IfOk, OnOk, IsTrue};
+ghost use Rattle.std.specs.Prelude.{◌≡◌, ◌≤◌, ◌<◌, [], length, IfOk, IfSome, OnOk, IsTrue};
 ghost use Rattle.mail_base.specs.Delivers.{IsWithinLimits};
 ghost use Rattle.cluster_world.specs.World.{ShowsGate, is_up};
 
@@ -8,9 +8,10 @@ mod reading;
 mod striking;
 
 use crate::{
-    Answer, Call, Entry, Journal, OpenFault, Said, Step, StepFault, Trace, TraceFault, World,
-    boot_payload, gone_payload, here_payload, octets_head, trace_into,
+    Entry, Journal, OpenFault, Said, Step, StepFault, Trace, TraceFault, World, boot_payload,
+    gone_payload, here_payload, octets_head, trace_into,
 };
+use call_tickets::{Answer, Ask, Call};
 use io_edge::faulty::FaultyDisk;
 use io_edge::{Disk, PlainDisk};
 use mail_base::{Deliver, MsgId, Name, Names, NodeNo, Octets, Plan, Secret, Stamp, Ticket, Users};
@@ -60,6 +61,19 @@ fn plan(alloc: Global) -> Result<Plan, AllocError> {
         users,
         postmaster: bob(alloc)?,
     })
+}
+
+fn open<D: Disk + Drop>(alloc: Global, disk: D) -> Result<World<D>, OpenFault>
+    requires { IfSome (D.seen disk) (λ held. held ≡ []) }
+    ensures { IfOk result (λ world. ShowsGate D.seen world) }
+{
+    let plan = plan(alloc)?;
+    let mut disks = Vec::with_capacity(alloc, 1)?;
+    disks.push_reserved(disk);
+    match World::open(alloc, plan, disks) {
+        Ok(world) => Ok(world),
+        Err((fault, _disks)) => Err(fault),
+    }
 }
 
 fn hello(alloc: Global) -> Result<Deliver, AllocError>
@@ -115,7 +129,7 @@ fn ask<D: Disk>(alloc: Global, world: &mut World<D>, seq: u64) -> Result<Said, S
 fn is_begun(said: &Result<Said, StepFault>, seq: u64) -> bool {
     match said {
         Ok(said) => match said {
-            Said::Begun { ticket } => *ticket == ticket_of(seq),
+            Said::Begun { ticket, stirs } => *ticket == ticket_of(seq) && *stirs == 0,
             Said::Noted => false,
             Said::Asked(_) => false,
             Said::Faulted(_) => false,
@@ -146,17 +160,10 @@ fn is_refused(said: &Result<Said, StepFault>, fault: StepFault) -> bool {
 
 // Whether the first message was stored.
 fn is_first_stored(said: &Result<Said, StepFault>) -> bool {
-    let Ok(Said::Asked(answer)) = said else {
+    let Ok(Said::Asked(Ask::Done(Answer::Stored { id, confirmers }))) = said else {
         return false;
     };
-    match answer {
-        Answer::Stored { id, confirmers } => *id == first_id() && confirmers.mask() == 1,
-        Answer::Listed { .. } => false,
-        Answer::Wrong { .. } => false,
-        Answer::Part { .. } => false,
-        Answer::GoneAlready => false,
-        Answer::Dropped => false,
-    }
+    *id == first_id() && confirmers.mask() == 1
 }
 
 // What a new world says of its first message where this call of its disk fails.
@@ -165,9 +172,9 @@ fn said_with_fault(
     call: u64,
 ) -> Result<Result<Result<Said, StepFault>, OpenFault>, AllocError> {
     let disk = FaultyDisk::new(PlainDisk::new(alloc), call);
-    match World::open(alloc, plan(alloc)?, disk) {
+    match open(alloc, disk) {
         Ok(mut world) => Ok(Ok(begin(alloc, &mut world, 1))),
-        Err((fault, _disk)) => Ok(Err(fault)),
+        Err(fault) => Ok(Err(fault)),
     }
 }
 
@@ -275,7 +282,7 @@ fn trace_is_written(rt: HostRuntime) -> Result<(), Fail> {
 #[test]
 fn message_is_begun_and_asked_for(rt: HostRuntime) -> Result<(), Fail> {
     let alloc = rt.alloc();
-    let Ok(mut world) = World::open(alloc, plan(alloc)?, PlainDisk::new(alloc)) else {
+    let Ok(mut world) = open(alloc, PlainDisk::new(alloc)) else {
         panic!(rt; "no world");
     };
     assert_eq!(rt; world.plan().nodes, 1);
@@ -297,7 +304,7 @@ fn message_is_begun_and_asked_for(rt: HostRuntime) -> Result<(), Fail> {
     assert!(rt; world.is_up(first_node()));
     assert!(rt; !world.is_up(NodeNo::new(2).unwrap()));
     // A header of 16 octets, a record of 10, a record of 152 and two of 40 for each message, and a closed gate.
-    assert_eq!(rt; world.close().octets.len(), 491);
+    assert_eq!(rt; world.close()[0].octets.len(), 491);
     Ok(())
 }
 
@@ -307,7 +314,7 @@ fn each_fault_takes_the_node_down(rt: HostRuntime) -> Result<(), Fail> {
         match said_with_fault(rt.alloc(), call)? {
             Ok(said) if call <= 18 => assert!(rt; call > 6 && is_faulted(&said), "at {call}"),
             Ok(said) => assert!(rt; is_begun(&said, 1), "at {call}"),
-            Err(fault) => assert!(rt; call <= 6 && fault == OpenFault::DiskFault, "at {call}"),
+            Err(fault) => assert!(rt; call <= 6 && fault == OpenFault::DiskFault(first_node()), "at {call}"),
         }
     }
     Ok(())
@@ -317,7 +324,7 @@ fn each_fault_takes_the_node_down(rt: HostRuntime) -> Result<(), Fail> {
 fn node_that_fell_takes_no_step(rt: HostRuntime) -> Result<(), Fail> {
     let alloc = rt.alloc();
     let disk = FaultyDisk::new(PlainDisk::new(alloc), 9);
-    let Ok(mut world) = World::open(alloc, plan(alloc)?, disk) else {
+    let Ok(mut world) = open(alloc, disk) else {
         panic!(rt; "no world");
     };
     let said = begin(alloc, &mut world, 1);

@@ -20,6 +20,20 @@ impl<D: Disk> Disk for FullDisk<D> {
 
     ghost settled = { λ d. D.settled d.inner };
 
+    ghost clock = { record {
+      is_image = λ d. D.clock.is_image d.inner;
+      moment = λ d. D.clock.moment d.inner;
+      was_image = λ d. D.clock.was_image d.inner;
+    } };
+
+    ghost seen_is_image = { λ d. D.seen_is_image d.inner };
+
+    ghost settled_is_only = { λ d. D.settled_is_only d.inner };
+
+    ghost image_since = { λ d. D.image_since d.inner };
+
+    ghost only_now = { λ d. D.only_now d.inner };
+
     fn len(&mut self) -> Result<u64, Failed> {
         self.inner.len()
     }
@@ -42,5 +56,9 @@ impl<D: Disk> Disk for FullDisk<D> {
 
     fn sync(&mut self) -> Result<(), Failed> {
         self.inner.sync()
+    }
+
+    fn restart(&mut self) -> Result<(), Failed> {
+        self.inner.restart()
     }
 }

@@ -4,10 +4,11 @@ ghost use Rattle.mail_base.specs.Delivers.{IsWithinLimits};
 ghost use Rattle.cluster_world.specs.World.{ShowsGate, is_up};
 
 use super::{
-    ask, begin, bob, first_node, id_of, is_begun, is_faulted, is_refused, name, plan, step,
+    ask, begin, bob, first_node, id_of, is_begun, is_faulted, is_refused, name, open, step,
     ticket_of,
 };
-use crate::{Answer, Call, Entry, Said, Step, StepFault, World};
+use crate::{Entry, Said, Step, StepFault, World};
+use call_tickets::{Answer, Ask, Call};
 use io_edge::faulty::FaultyDisk;
 use io_edge::{Disk, PlainDisk};
 use mail_base::{Deliver, Item, Names, NodeSet, Octets, Proof, Stamp};
@@ -33,13 +34,8 @@ pub(super) fn answer<D: Disk>(
         return None;
     }
     match ask(alloc, world, seq) {
-        Ok(said) => match said {
-            Said::Begun { .. } => None,
-            Said::Noted => None,
-            Said::Asked(answer) => Some(answer),
-            Said::Faulted(_) => None,
-        },
-        Err(_) => None,
+        Ok(Said::Asked(Ask::Done(answer))) => Some(answer),
+        _ => None,
     }
 }
 
@@ -78,17 +74,11 @@ fn is_wrong<D: Disk>(
     requires { IsTrue (is_up world.old) → ShowsGate D.seen world.old }
     ensures { IsTrue (is_up world.new) → ShowsGate D.seen world.new }
 {
-    let Some(answer) = answer(alloc, world, seq, login(alloc, user, secret)?) else {
+    let answer = answer(alloc, world, seq, login(alloc, user, secret)?);
+    let Some(Answer::Wrong { stamp }) = answer else {
         return Ok(false);
     };
-    match answer {
-        Answer::Stored { .. } => Ok(false),
-        Answer::Listed { .. } => Ok(false),
-        Answer::Wrong { stamp } => Ok(stamp == Stamp::new(0, 0, 0)),
-        Answer::Part { .. } => Ok(false),
-        Answer::GoneAlready => Ok(false),
-        Answer::Dropped => Ok(false),
-    }
+    Ok(stamp == Stamp::new(0, 0, 0))
 }
 
 // Whether the message of this number is listed, with the octets that each of these messages has.
@@ -110,30 +100,23 @@ pub(super) fn lists<D: Disk>(
     requires { IsTrue (is_up world.old) → ShowsGate D.seen world.old }
     ensures { IsTrue (is_up world.new) → ShowsGate D.seen world.new }
 {
-    let Some(answer) = answer(alloc, world, seq, login(alloc, b"bob", b"open sesame")?) else {
+    let answer = answer(alloc, world, seq, login(alloc, b"bob", b"open sesame")?);
+    let Some(Answer::Listed {
+        login,
+        manager,
+        asked,
+        items,
+    }) = answer
+    else {
         return Ok(false);
     };
-    match answer {
-        Answer::Stored { .. } => Ok(false),
-        Answer::Listed {
-            login,
-            manager,
-            asked,
-            items,
-        } => {
-            let own = login == ticket_of(seq) && manager == first_node() && asked.mask() == 1;
-            let listed = items
-                .as_slice()
-                .iter()
-                .zip(numbers.iter())
-                .all(|(item, number)| is_listed(item, *number));
-            Ok(own && items.len() == numbers.len() && listed)
-        }
-        Answer::Wrong { .. } => Ok(false),
-        Answer::Part { .. } => Ok(false),
-        Answer::GoneAlready => Ok(false),
-        Answer::Dropped => Ok(false),
-    }
+    let own = login == ticket_of(seq) && manager == first_node() && asked.mask() == 1;
+    let listed = items
+        .as_slice()
+        .iter()
+        .zip(numbers.iter())
+        .all(|(item, number)| is_listed(item, *number));
+    Ok(own && items.len() == numbers.len() && listed)
 }
 
 // Whether the fetch of the ticket's number gives these octets, of a message of 137.
@@ -147,17 +130,10 @@ pub(super) fn gives<D: Disk>(
     requires { IsTrue (is_up world.old) → ShowsGate D.seen world.old }
     ensures { IsTrue (is_up world.new) → ShowsGate D.seen world.new }
 {
-    let Some(answer) = answer(alloc, world, seq, call) else {
+    let Some(Answer::Part { octets, whole }) = answer(alloc, world, seq, call) else {
         return false;
     };
-    match answer {
-        Answer::Stored { .. } => false,
-        Answer::Listed { .. } => false,
-        Answer::Wrong { .. } => false,
-        Answer::Part { octets, whole } => octets.as_slice() == wanted && whole == 137,
-        Answer::GoneAlready => false,
-        Answer::Dropped => false,
-    }
+    octets.as_slice() == wanted && whole == 137
 }
 
 // Whether the fetch of the ticket's number finds no message.
@@ -165,17 +141,7 @@ pub(super) fn is_gone<D: Disk>(alloc: Global, world: &mut World<D>, seq: u64, ca
     requires { IsTrue (is_up world.old) → ShowsGate D.seen world.old }
     ensures { IsTrue (is_up world.new) → ShowsGate D.seen world.new }
 {
-    let Some(answer) = answer(alloc, world, seq, call) else {
-        return false;
-    };
-    match answer {
-        Answer::Stored { .. } => false,
-        Answer::Listed { .. } => false,
-        Answer::Wrong { .. } => false,
-        Answer::Part { .. } => false,
-        Answer::GoneAlready => true,
-        Answer::Dropped => false,
-    }
+    matches!(answer(alloc, world, seq, call), Some(Answer::GoneAlready))
 }
 
 // A message for these users, the second of whom may be left out.
@@ -214,11 +180,11 @@ pub(super) fn store_three<D: Disk>(alloc: Global, world: &mut World<D>) -> Resul
 #[test]
 fn secret_opens_the_maildrop(rt: HostRuntime) -> Result<(), Fail> {
     let alloc = rt.alloc();
-    let Ok(mut world) = World::open(alloc, plan(alloc)?, PlainDisk::new(alloc)) else {
+    let Ok(mut world) = open(alloc, PlainDisk::new(alloc)) else {
         panic!(rt; "no world");
     };
     assert!(rt; lists(alloc, &mut world, 1, &[])?);
-    let Ok(mut world) = World::open(alloc, plan(alloc)?, PlainDisk::new(alloc)) else {
+    let Ok(mut world) = open(alloc, PlainDisk::new(alloc)) else {
         panic!(rt; "no world");
     };
     store_three(alloc, &mut world)?;
@@ -235,7 +201,7 @@ fn secret_opens_the_maildrop(rt: HostRuntime) -> Result<(), Fail> {
 #[test]
 fn message_is_fetched(rt: HostRuntime) -> Result<(), Fail> {
     let alloc = rt.alloc();
-    let Ok(mut world) = World::open(alloc, plan(alloc)?, PlainDisk::new(alloc)) else {
+    let Ok(mut world) = open(alloc, PlainDisk::new(alloc)) else {
         panic!(rt; "no world");
     };
     store_three(alloc, &mut world)?;
@@ -300,7 +266,7 @@ fn message_is_fetched(rt: HostRuntime) -> Result<(), Fail> {
 #[test]
 fn leave_is_noted(rt: HostRuntime) -> Result<(), Fail> {
     let alloc = rt.alloc();
-    let Ok(mut world) = World::open(alloc, plan(alloc)?, PlainDisk::new(alloc)) else {
+    let Ok(mut world) = open(alloc, PlainDisk::new(alloc)) else {
         panic!(rt; "no world");
     };
     let user = bob(alloc)?;
@@ -324,7 +290,7 @@ fn read_that_fails_takes_the_node_down(rt: HostRuntime) -> Result<(), Fail> {
     let alloc = rt.alloc();
     // Six calls open the world, twelve store the first message, and eight each of the others.
     let disk = FaultyDisk::new(PlainDisk::new(alloc), 35);
-    let Ok(mut world) = World::open(alloc, plan(alloc)?, disk) else {
+    let Ok(mut world) = open(alloc, disk) else {
         panic!(rt; "no world");
     };
     store_three(alloc, &mut world)?;

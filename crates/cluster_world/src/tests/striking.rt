@@ -4,44 +4,49 @@ ghost use Rattle.cluster_world.specs.World.{ShowsGate, is_up};
 
 use super::full_disk::FullDisk;
 use super::reading::{answer, fetch, gives, is_gone, lists, login, odd, store_three};
-use super::{begin, first_node, id_of, is_begun, is_faulted, is_refused, name, plan, step};
-use crate::{Answer, Call, Entry, Step, StepFault, World};
+use super::{first_node, id_of, is_begun, is_faulted, is_refused, name, open, step};
+use crate::{Entry, Step, StepFault, World};
+use call_tickets::{Answer, Call};
 use io_edge::faulty::FaultyDisk;
 use io_edge::{Disk, PlainDisk};
-use mail_base::{Ids, MsgId, NodeNo, Stamp};
+use mail_base::{Item, Items, MsgId, NodeNo, NodeSet, Stamp};
 use std::alloc::{AllocError, Global};
 use std::test::Fail;
 
-fn ids_of(alloc: Global, numbers: &[u64]) -> Result<Ids, AllocError> {
-    let mut ids = Ids::new(alloc);
-    for number in numbers {
-        ids.push(id_of(*number))?;
+// A message as a listing may have it.
+fn item_of(id: MsgId) -> Item {
+    Item {
+        id,
+        stamp: Stamp::new(1, 1, 1),
+        targets: NodeSet::from_mask(1),
+        holders: NodeSet::from_mask(1),
+        length: 137,
     }
-    Ok(ids)
+}
+
+fn items_of(alloc: Global, numbers: &[u64]) -> Result<Items, AllocError> {
+    let mut items = Items::new(alloc);
+    for number in numbers {
+        items.push(item_of(id_of(*number)))?;
+    }
+    Ok(items)
 }
 
 fn strike(alloc: Global, user: &[u8], numbers: &[u64]) -> Result<Call, AllocError> {
     let user = name(alloc, user)?;
-    let ids = ids_of(alloc, numbers)?;
-    Ok(Call::Strike { user, ids })
+    let items = items_of(alloc, numbers)?;
+    Ok(Call::Strike { user, items })
 }
 
-// Whether the deletion of the ticket's number is done.
-fn drops<D: Disk>(alloc: Global, world: &mut World<D>, seq: u64, call: Call) -> bool
+// Of how many copies the deletion of the ticket's number says that they are gone on node 1; none where it is not done.
+fn drops<D: Disk>(alloc: Global, world: &mut World<D>, seq: u64, call: Call) -> usize
     requires { IsTrue (is_up world.old) → ShowsGate D.seen world.old }
     ensures { IsTrue (is_up world.new) → ShowsGate D.seen world.new }
 {
-    let Some(answer) = answer(alloc, world, seq, call) else {
-        return false;
+    let Some(Answer::Dropped { confirmers }) = answer(alloc, world, seq, call) else {
+        return 0;
     };
-    match answer {
-        Answer::Stored { .. } => false,
-        Answer::Listed { .. } => false,
-        Answer::Wrong { .. } => false,
-        Answer::Part { .. } => false,
-        Answer::GoneAlready => false,
-        Answer::Dropped => true,
-    }
+    confirmers.iter().filter(|nodes| nodes.mask() == 1).count()
 }
 
 // The number of the message that the delivery of the ticket's number stored; 0 where it did not.
@@ -49,17 +54,10 @@ fn stored<D: Disk>(alloc: Global, world: &mut World<D>, seq: u64, call: Call) ->
     requires { IsTrue (is_up world.old) → ShowsGate D.seen world.old }
     ensures { IsTrue (is_up world.new) → ShowsGate D.seen world.new }
 {
-    let Some(answer) = answer(alloc, world, seq, call) else {
+    let Some(Answer::Stored { id, confirmers: _ }) = answer(alloc, world, seq, call) else {
         return 0;
     };
-    match answer {
-        Answer::Stored { id, confirmers: _ } => id.seq(),
-        Answer::Listed { .. } => 0,
-        Answer::Wrong { .. } => 0,
-        Answer::Part { .. } => 0,
-        Answer::GoneAlready => 0,
-        Answer::Dropped => 0,
-    }
+    id.seq()
 }
 
 // Whether bob's copy of the message is to be deleted by this entry.
@@ -107,11 +105,11 @@ fn is_open(octets: &[u8], gate: usize) -> bool {
 #[test]
 fn messages_are_deleted(rt: HostRuntime) -> Result<(), Fail> {
     let alloc = rt.alloc();
-    let Ok(mut world) = World::open(alloc, plan(alloc)?, PlainDisk::new(alloc)) else {
+    let Ok(mut world) = open(alloc, PlainDisk::new(alloc)) else {
         panic!(rt; "no world");
     };
     store_three(alloc, &mut world)?;
-    assert!(rt; drops(alloc, &mut world, 4, strike(alloc, b"bob", &[1])?));
+    assert_eq!(rt; drops(alloc, &mut world, 4, strike(alloc, b"bob", &[1])?), 1);
     assert!(rt; lists(alloc, &mut world, 5, &[3])?);
     assert!(rt; is_gone(alloc, &mut world, 6, fetch(alloc, b"bob", 1, 0, 1)?));
     assert!(rt; gives(alloc, &mut world, 7, fetch(alloc, b"amy", 1, 0, 1)?, b"R"));
@@ -119,17 +117,17 @@ fn messages_are_deleted(rt: HostRuntime) -> Result<(), Fail> {
     assert_eq!(rt; entries.len(), 6);
     assert!(rt; is_struck(&entries[4], 1) && is_dropped(&entries[5], 1));
     // A header of 16 octets, a record of 10, three of 156, five of 40, and a closed gate.
-    assert_eq!(rt; world.close().octets.len(), 695);
+    assert_eq!(rt; world.close()[0].octets.len(), 695);
     Ok(())
 }
 
 #[test]
 fn number_that_a_record_names_is_not_drawn(rt: HostRuntime) -> Result<(), Fail> {
     let alloc = rt.alloc();
-    let Ok(mut world) = World::open(alloc, plan(alloc)?, PlainDisk::new(alloc)) else {
+    let Ok(mut world) = open(alloc, PlainDisk::new(alloc)) else {
         panic!(rt; "no world");
     };
-    assert!(rt; drops(alloc, &mut world, 1, strike(alloc, b"bob", &[9, 2])?));
+    assert_eq!(rt; drops(alloc, &mut world, 1, strike(alloc, b"bob", &[9, 2])?), 2);
     let call = Call::Deliver(odd(alloc, b"bob", b"")?);
     assert_eq!(rt; stored(alloc, &mut world, 2, call), 10);
     assert!(rt; is_gone(alloc, &mut world, 3, fetch(alloc, b"bob", 9, 0, 1)?));
@@ -143,20 +141,17 @@ fn number_that_a_record_names_is_not_drawn(rt: HostRuntime) -> Result<(), Fail> 
 }
 
 #[test]
-fn node_of_each_message_is_of_the_plan(rt: HostRuntime) -> Result<(), Fail> {
+fn message_of_another_node_may_be_named(rt: HostRuntime) -> Result<(), Fail> {
     let alloc = rt.alloc();
-    let Ok(mut world) = World::open(alloc, plan(alloc)?, PlainDisk::new(alloc)) else {
+    let Ok(mut world) = open(alloc, PlainDisk::new(alloc)) else {
         panic!(rt; "no world");
     };
-    let mut ids = ids_of(alloc, &[1])?;
-    ids.push(MsgId::new(NodeNo::new(2).unwrap(), 1, 1).unwrap())?;
+    let mut items = Items::new(alloc);
+    items.push(item_of(MsgId::new(NodeNo::new(2).unwrap(), 1, 7).unwrap()))?;
     let user = name(alloc, b"bob")?;
-    let call = Call::Strike { user, ids };
-    let node = first_node();
-    let said = step(alloc, &mut world, Step::Begin { node, call });
-    assert!(rt; is_refused(&said, StepFault::NoSuchNode));
-    let said = begin(alloc, &mut world, 1);
-    assert!(rt; is_begun(&said, 1));
+    assert_eq!(rt; drops(alloc, &mut world, 1, Call::Strike { user, items }), 1);
+    let call = Call::Deliver(odd(alloc, b"bob", b"")?);
+    assert_eq!(rt; stored(alloc, &mut world, 2, call), 1);
     Ok(())
 }
 
@@ -166,7 +161,7 @@ fn each_fault_of_a_deletion_leaves_a_front(rt: HostRuntime) -> Result<(), Fail> 
     // Six calls open the world, and twelve, eight and eight store the messages. Four write each state.
     for call in 35..44u64 {
         let disk = FaultyDisk::new(PlainDisk::new(alloc), call);
-        let Ok(mut world) = World::open(alloc, plan(alloc)?, disk) else {
+        let Ok(mut world) = open(alloc, disk) else {
             panic!(rt; "no world");
         };
         store_three(alloc, &mut world)?;
@@ -187,8 +182,8 @@ fn each_fault_of_a_deletion_leaves_a_front(rt: HostRuntime) -> Result<(), Fail> 
         );
         assert!(rt; world.is_up(first_node()) != down, "at {call}");
         assert!(rt; books_both(world.book().entries(), down), "at {call}");
-        let disk = world.close();
-        let octets = disk.inner.octets.as_slice();
+        let disks = world.close();
+        let octets = disks[0].inner.octets.as_slice();
         assert!(rt; is_open(octets, 654) == (call > 37), "at {call}");
         assert!(rt; is_open(octets, 694) == (call > 41), "at {call}");
         assert!(rt; !is_open(octets, 734), "at {call}");
@@ -202,7 +197,7 @@ fn deletion_finds_no_memory(rt: HostRuntime) -> Result<(), Fail> {
     // Two calls make room to open the world, and three, two and two for the messages.
     for left in 9..12u64 {
         let inner = PlainDisk::new(alloc);
-        let Ok(mut world) = World::open(alloc, plan(alloc)?, FullDisk { inner, left }) else {
+        let Ok(mut world) = open(alloc, FullDisk { inner, left }) else {
             panic!(rt; "no world");
         };
         store_three(alloc, &mut world)?;
