@@ -1,15 +1,15 @@
 -- The rules of messages append records of messages, and send letters of messages.
-use Rattle.std.proofs.Common.{◌≡◌, ◌≢◌, ◌⊎◌, inl, inr, ⊎_elim, ℕ, zero, suc, Bool, true, false, cond, not, ◌&&◌, List, [], ◌∷◌, ◌++◌, map, Option, Some, None, refl, sym, ap, ◌∙◌, subst, true≢false, nat_eq, if◌then◌else◌}
+use Rattle.std.proofs.Common.{◌≡◌, ◌≢◌, ⊎_elim, ℕ, Bool, true, false, ◌&&◌, List, [], ◌∷◌, ◌++◌, map, Option, Some, None, refl, sym, ap, ◌∙◌, subst, nat_eq, if◌then◌else◌}
 use Rattle.std.specs.FinMap as fin
-use Rattle.mail_model.specs.Identity.{Id, EpochId, Key, State}
+use Rattle.mail_model.specs.Identity.{Id, Key, State}
 use Rattle.mail_model.specs.Identity.Key.{Profile, Message}
 use Rattle.mail_model.specs.Record.{Record}
-use Rattle.mail_model.specs.Record.Record.{Boot, Promise, Octets, Stated, Retired}
+use Rattle.mail_model.specs.Record.Record.{Octets, Stated, Retired}
 use Rattle.object_model.specs.Lists.{Among}
 use Rattle.object_model.specs.Sets.{has, without_node, all_nodes}
 use Rattle.object_model.specs.States.{is_news, join_with, is_same_state}
 use Rattle.object_model.specs.Said.{said}
-use Rattle.object_model.specs.Letters.{Number, Mark, Body, Letter}
+use Rattle.object_model.specs.Letters.{Body, Letter}
 use Rattle.object_model.specs.Letters.Body.{File, Filed, LoginAsk, LoginTold, ListAsk, ListTold, FetchAsk, FetchTold, Strike, StrikeTold, Unlock, Push, PushAck, Retire, Group, Join, Install, Report, ReportAck}
 use Rattle.object_model.specs.UpdateLog.{Logged, cleared, noted}
 use Rattle.object_model.proofs.Lists.{among_either}

@@ -1,5 +1,5 @@
 -- What maps see of a disk to which records of messages are appended.
-use Rattle.std.proofs.Common.{◌≡◌, ◌≢◌, ◌⊎◌, inl, inr, ⊎_elim, ℕ, Bool, true, false, cond, not, ◌&&◌, ◌||◌, List, [], ◌∷◌, ◌++◌, Option, Some, None, refl, sym, ap, ◌∙◌, subst, true≢false, nat_eq}
+use Rattle.std.proofs.Common.{◌≡◌, ℕ, Bool, true, false, cond, ◌&&◌, ◌||◌, List, [], ◌∷◌, ◌++◌, None, refl, sym, ap, ◌∙◌, subst, true≢false, nat_eq}
 use Rattle.std.specs.Cmp.Lexicographic.{pointwise, bytes_decides}
 use Rattle.mail_model.specs.Identity.{Id, EpochId, Key, State}
 use Rattle.mail_model.specs.Identity.Key.{Profile, Message}
@@ -9,7 +9,6 @@ use Rattle.object_model.specs.Said.{said}
 use Rattle.object_model.proofs.SaidLaws.{held_both, said_other, said_retired, said_octets}
 use Rattle.cluster_model.specs.Claims.{boot_of}
 use Rattle.cluster_model.proofs.StoreSteps.{boot_both}
-use Rattle.maps_model.specs.Cluster as maps
 use Rattle.maps_model.specs.Rules.{set_at}
 use Rattle.whole_model.specs.Whole.{promise_after, promise_of, is_held_here, shows_here, some_here, holds_of, disk_of}
 

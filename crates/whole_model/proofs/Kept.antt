@@ -1,8 +1,5 @@
 -- Moves of a whole cluster keep both invariants.
-use Rattle.std.proofs.Common.{◌≡◌, ℕ, zero, suc, List, [], ◌∷◌, ◌++◌, map, Option, Some, None, refl, sym, ap, ◌∙◌, subst}
-use Rattle.std.specs.Prelude.{slice_get, slice_set}
-use Rattle.object_model.specs.Lists.{Among}
-use Rattle.object_model.specs.Letters.{Letter}
+use Rattle.std.proofs.Common.{◌≡◌, ℕ, zero, suc, List, [], ◌∷◌, ◌++◌, map, Some, refl, sym, ap, ◌∙◌, subst}
 use Rattle.cluster_model.specs.Cluster as mail
 use Rattle.cluster_model.specs.Moves as mail_moves
 use Rattle.cluster_model.specs.Parts as mail_parts
@@ -12,7 +9,7 @@ use Rattle.maps_model.specs.Moves as maps_moves
 use Rattle.maps_model.specs.Parts as maps_parts
 use Rattle.maps_model.proofs.Kept as maps_kept
 use Rattle.whole_model.specs.Whole.{Slot, Cluster, slot_at, with_slot, mail_slot, maps_slot, mail_of, maps_of}
-use Rattle.whole_model.specs.Moves.{Act, mail_act, Move, after_move, after_moves, MayAct, MayMove, MayMoves, Sound}
+use Rattle.whole_model.specs.Moves.{mail_act, Move, after_move, after_moves, MayMove, MayMoves, Sound}
 use Rattle.whole_model.specs.Moves.Move.{Acted, Taken, Entered}
 use Rattle.whole_model.proofs.Seen.{get_seen, set_seen}
 

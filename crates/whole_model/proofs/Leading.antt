@@ -1,27 +1,24 @@
 -- What a node does for messages leads its maps along, record by record.
-use Rattle.std.proofs.Common.{◌≡◌, ◌≢◌, ◌⊎◌, inl, inr, ⊎_elim, ◌≤◌, ℕ, zero, suc, Bool, true, false, cond, not, List, [], ◌∷◌, ◌++◌, Option, Some, None, refl, sym, ap, ◌∙◌, subst, true≢false, arith, le_trans}
+use Rattle.std.proofs.Common.{◌≡◌, inl, inr, ◌≤◌, ℕ, zero, suc, Bool, true, false, cond, List, [], ◌∷◌, ◌++◌, Option, Some, None, refl, sym, ap, ◌∙◌, subst, true≢false}
 use Rattle.std.specs.Prelude.{slice_get, slice_set}
-use Rattle.mail_model.specs.Identity.{Id, EpochId, Key, State}
 use Rattle.mail_model.specs.Identity.Key.{Profile, Message}
 use Rattle.mail_model.specs.Record.{Record}
 use Rattle.mail_model.specs.Record.Record.{Boot, Promise, Octets, Stated, Retired}
 use Rattle.object_model.specs.Lists.{Among}
-use Rattle.object_model.specs.Letters.{Membership, Claim, Row, Body, Letter}
-use Rattle.object_model.specs.Letters.Body.{Group, Join, Install, Report, ReportAck}
+use Rattle.object_model.specs.Letters.{Letter}
 use Rattle.cluster_model.specs.Claims.{boot_of}
 use Rattle.maps_model.specs.Cluster as maps
 use Rattle.maps_model.specs.Epochs.{IsAtMost}
-use Rattle.maps_model.specs.Words.{IsReport, IsAck}
 use Rattle.maps_model.specs.Moves as moves
 use Rattle.maps_model.specs.Rules.{change}
 use Rattle.maps_model.specs.NodeLaws.{act_of}
 use Rattle.maps_model.proofs.Making.{IsPlain, rests}
 use Rattle.maps_model.proofs.Lives.{gone}
 use Rattle.maps_model.proofs.Reporting.{changes}
-use Rattle.whole_model.specs.Whole.{Node, Life, Slot, disk_of, holds_of, promise_of, maps_slot}
+use Rattle.whole_model.specs.Whole.{Node, disk_of, holds_of, promise_of, maps_slot}
 use Rattle.whole_model.specs.Whole.Life.{Up, Down}
-use Rattle.whole_model.specs.Moves.{IsLed, LeadsMaps}
-use Rattle.whole_model.specs.Rules.{differ, turned_for, followed, follows, IsOfMessages, AreOfMessages, IsMailBody, IsMail}
+use Rattle.whole_model.specs.Moves.{LeadsMaps}
+use Rattle.whole_model.specs.Rules.{differ, followed, follows, IsOfMessages, AreOfMessages, IsMailBody, IsMail}
 use Rattle.whole_model.proofs.Following.{after_octets, after_retired, after_profile, after_copy, set_same}
 
 nothing_sent : (xs : List Letter) → xs ++ [] ≡ xs

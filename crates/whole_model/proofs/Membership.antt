@@ -1,24 +1,22 @@
 -- What a node does for membership and maps is an act for messages, and leads its maps along.
-use Rattle.std.proofs.Common.{◌≡◌, ◌≢◌, ◌⊎◌, inl, inr, ⊎_elim, ℕ, List, [], ◌∷◌, ◌++◌, Option, Some, None, refl, sym, ap, ◌∙◌, subst, le_refl}
-use Rattle.std.specs.FinMap as fin
+use Rattle.std.proofs.Common.{◌≡◌, ◌⊎◌, inl, inr, ⊎_elim, ℕ, List, [], ◌∷◌, ◌++◌, Option, Some, None, refl, sym, ap, ◌∙◌, subst, le_refl}
 use Rattle.mail_model.specs.Identity.{Id, Stamp, EpochId, Key, State}
 use Rattle.mail_model.specs.Record.{Record}
-use Rattle.mail_model.specs.Record.Record.{Boot, Promise, Octets, Stated, Retired}
+use Rattle.mail_model.specs.Record.Record.{Promise, Octets, Stated, Retired}
 use Rattle.object_model.specs.Lists.{Among}
 use Rattle.object_model.specs.Said.{said}
-use Rattle.object_model.specs.Letters.{Number, Membership, Body, Letter}
-use Rattle.object_model.specs.Letters.Body.{File, Filed, LoginAsk, LoginTold, ListAsk, ListTold, FetchAsk, FetchTold, Strike, StrikeTold, Unlock, Push, PushAck, Retire, Group, Join, Install, Report, ReportAck}
-use Rattle.object_model.specs.UpdateLog.{Logged}
+use Rattle.object_model.specs.Letters.{Membership, Body, Letter}
+use Rattle.object_model.specs.Letters.Body.{File, Filed, Group, Join, Install, Report, ReportAck}
 use Rattle.object_model.proofs.Lists.{among_either}
 use Rattle.object_model.proofs.SaidLaws.{held_both}
 use Rattle.cluster_model.specs.Cluster.{Asked, Node}
-use Rattle.cluster_model.specs.Store.{Store, Update}
-use Rattle.cluster_model.specs.Claims.{Fact, BodyHolds, BodyClaims, BodySpeaks, Asks, Tells, Covers, Covered, DiskSpeaks}
+use Rattle.cluster_model.specs.Store.{Store}
+use Rattle.cluster_model.specs.Claims.{Fact, BodyHolds, BodyClaims, BodySpeaks, Asks, Tells}
 use Rattle.cluster_model.specs.Moves.{Act, BodyFits, IsReady, IsDone}
 use Rattle.cluster_model.specs.Rules.{Reaction, store_of}
 use Rattle.cluster_model.specs.Deeds.{act_of, slot_up}
 use Rattle.cluster_model.proofs.StoreSteps.{StoreStep, stays, boot_both}
-use Rattle.cluster_model.proofs.Reacts.{BroughtBy, AckedBy, LetterReacts, is_act}
+use Rattle.cluster_model.proofs.Reacts.{BroughtBy, AckedBy, is_act}
 use Rattle.cluster_model.proofs.Quiet.{same_tickets}
 use Rattle.maps_model.specs.Cluster as maps
 use Rattle.maps_model.specs.Moves as moves

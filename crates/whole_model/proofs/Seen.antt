@@ -1,5 +1,5 @@
 -- Slots as each of both sees them, read and written.
-use Rattle.std.proofs.Common.{◌≡◌, ℕ, zero, suc, List, [], ◌∷◌, map, Option, Some, None, refl, sym, ap, ◌∙◌}
+use Rattle.std.proofs.Common.{◌≡◌, ℕ, zero, suc, List, [], ◌∷◌, map, Some, refl, ap}
 use Rattle.std.specs.Prelude.{slice_get, slice_set}
 
 module _ {X Y : Type 0} (f : X → Y) where

@@ -1,5 +1,5 @@
 -- What holds of a whole cluster.
-use Rattle.std.specs.Prelude.{◌≡◌, ◌≢◌, ◌≤◌, ℕ, List, [], ◌∷◌, ◌++◌, Option, Some, None}
+use Rattle.std.specs.Prelude.{◌≡◌, ◌≢◌, ◌≤◌, ℕ, List, [], ◌++◌, Option, Some, None}
 use Rattle.mail_model.specs.Identity.{EpochId}
 use Rattle.mail_model.specs.Record.{Record}
 use Rattle.object_model.specs.Lists.{Among}
@@ -14,8 +14,8 @@ use Rattle.maps_model.specs.Moves as maps_moves
 use Rattle.maps_model.specs.Rules as maps_rules
 use Rattle.maps_model.specs.NodeLaws as maps_laws
 use Rattle.maps_model.specs.Epochs.{IsAtMost}
-use Rattle.whole_model.specs.Whole.{Node, Life, Slot, Cluster, disk_of, promise_of, maps_slot}
-use Rattle.whole_model.specs.Whole.Life.{Up, Down, Lost}
+use Rattle.whole_model.specs.Whole.{Node, Cluster, disk_of, promise_of, maps_slot}
+use Rattle.whole_model.specs.Whole.Life.{Up, Down}
 use Rattle.whole_model.specs.Moves.{LeadsMaps, after_moves, MayMoves, Move, Sound}
 use Rattle.whole_model.specs.Rules.{follows, AreOfMessages, IsMail, IsMapsBody, promised}
 

@@ -1,12 +1,10 @@
 -- The moves of a whole cluster: each is a move for messages, and some moves for membership and maps.
-use Rattle.std.specs.Prelude.{◌≡◌, ◌⊎◌, ℕ, List, [], ◌∷◌, ◌++◌, Option, Some}
+use Rattle.std.specs.Prelude.{◌≡◌, ℕ, List, [], ◌∷◌, ◌++◌, Option, Some}
 use Rattle.mail_model.specs.Identity.{Id}
 use Rattle.mail_model.specs.Book.{BookEntry}
 use Rattle.mail_model.specs.Book.BookEntry.{Struck}
 use Rattle.object_model.specs.Lists.{Among}
-use Rattle.object_model.specs.Letters.{Number, Letter}
-use Rattle.cluster_model.specs.Cluster.{Asked}
-use Rattle.cluster_model.specs.Claims.{NodesWait, Covers, Covered}
+use Rattle.object_model.specs.Letters.{Letter}
 use Rattle.cluster_model.specs.Moves as mail
 use Rattle.cluster_model.specs.Parts as mail_parts
 use Rattle.maps_model.specs.Cluster as maps_cluster

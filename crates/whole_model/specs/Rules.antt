@@ -1,9 +1,9 @@
 -- How what a node does for messages changes what it says in mail maps, and what membership appends to its disk.
 use Rattle.std.specs.Prelude.{◌≡◌, ◌≢◌, ℕ, Bool, true, false, not, List, [], ◌∷◌, ◌++◌, Option, Some, None, if◌then◌else◌}
-use Rattle.mail_model.specs.Identity.{Key, State, EpochId}
-use Rattle.mail_model.specs.Identity.Key.{Profile, Message}
+use Rattle.mail_model.specs.Identity.{EpochId}
+use Rattle.mail_model.specs.Identity.Key.{Message}
 use Rattle.mail_model.specs.Record.{Record}
-use Rattle.mail_model.specs.Record.Record.{Boot, Promise, Octets, Stated, Retired}
+use Rattle.mail_model.specs.Record.Record.{Boot, Promise, Stated}
 use Rattle.object_model.specs.Lists.{Among}
 use Rattle.object_model.specs.Letters.{Body, Letter}
 use Rattle.object_model.specs.Letters.Body.{Group, Join, Install, Report, ReportAck}

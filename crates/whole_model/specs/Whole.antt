@@ -1,7 +1,7 @@
 -- A cluster as a whole: each node has what it needs for messages, and what it needs for membership and mail maps, over one disk. Letters and disks are the same for both.
-use Rattle.std.specs.Prelude.{ℕ, zero, suc, Bool, true, false, ◌&&◌, ◌||◌, List, [], ◌∷◌, ◌++◌, map, Option, Some, None, slice_get, slice_set, nat_eq, if◌then◌else◌}
+use Rattle.std.specs.Prelude.{ℕ, zero, suc, Bool, false, ◌&&◌, ◌||◌, List, [], ◌∷◌, ◌++◌, map, Option, Some, None, slice_get, slice_set, nat_eq}
 use Rattle.std.specs.Cmp.Lexicographic.{pointwise}
-use Rattle.mail_model.specs.Identity.{Id, EpochId, Key, State, no_epoch}
+use Rattle.mail_model.specs.Identity.{EpochId, Key, State, no_epoch}
 use Rattle.mail_model.specs.Identity.Key.{Profile, Message}
 use Rattle.mail_model.specs.Record.{Record}
 use Rattle.mail_model.specs.Record.Record.{Boot, Promise, Octets, Stated, Retired}
