@@ -47,3 +47,32 @@ fn files_and_fetches(rt: HostRuntime) -> Result<(), Fail> {
     assert!(rt; store.fetch(&journal, &mut disk, second, 0, &mut into) == Err(StoreFault::NotHere));
     Ok(())
 }
+
+#[test]
+fn finds_what_was_filed_before(rt: HostRuntime) -> Result<(), Fail> {
+    let (Some(node), Some(first), Some(second)) = (NodeNo::new(1), id_of(1), id_of(2)) else {
+        panic!(rt; "no ids");
+    };
+    let mut disk = PlainDisk::new(rt.alloc());
+    let Ok(mut journal) = Journal::create(rt.alloc(), &mut disk, node) else {
+        panic!(rt; "no journal");
+    };
+    let mut before = MessageStore::new(rt.alloc());
+    assert!(rt;
+        before
+            .file(rt.alloc(), &mut journal, &mut disk, first, b"hello")
+            .is_ok()
+    );
+    let mut store = MessageStore::new(rt.alloc());
+    store.found(first, Place { at: 21, length: 19 })?;
+    store.found(first, Place { at: 22, length: 18 })?;
+    store.found(second, Place { at: 21, length: 19 })?;
+    let mut into = [0; 5];
+    assert!(rt;
+        store.fetch(&journal, &mut disk, first, 0, &mut into) == Ok(5) && into == *b"hello"
+    );
+    assert!(rt;
+        store.fetch(&journal, &mut disk, second, 0, &mut into) == Err(StoreFault::NotAJournal)
+    );
+    Ok(())
+}
