@@ -1,5 +1,5 @@
 -- The nodes that a delivery or a deletion asks are members, and so nodes of the plan.
-use Rattle.std.proofs.Common.{◌≡◌, ◌⊎◌, inl, inr, ⊎_elim, ◌≤◌, ℕ, zero, suc, Bool, true, false, cond, not, List, [], ◌∷◌, ◌++◌, refl, sym, ap, ◌∙◌, subst, arith, true≢false}
+use Rattle.std.proofs.Common.{◌≡◌, ◌⊎◌, inl, inr, ⊎_elim, ◌≤◌, ℕ, zero, suc, Bool, true, false, cond, not, List, [], ◌∷◌, sym, ◌∙◌, arith, true≢false}
 use Rattle.std.specs.Prelude.{take, drop}
 use Rattle.std.specs.List.{filter}
 use Rattle.object_model.specs.Lists.{Among}
@@ -8,21 +8,21 @@ use Rattle.object_model.proofs.Lists.{among_either}
 use Rattle.object_model.proofs.SetLaws.{has_with, has_none}
 use Rattle.cluster_model.specs.Targets.{set_of, turned, position_of, deliver_targets, listed_members, strike_asks}
 
-among_set : (ms : List ℕ) (m : ℕ) → has (set_of ms) m ≡ true → Among m ms
+pub among_set : (ms : List ℕ) (m : ℕ) → has (set_of ms) m ≡ true → Among m ms
 among_set [] m h = absurd (true≢false (sym h ∙ has_none m))
 among_set (one ∷ ms) m h = ⊎_elim (λ old. inr (among_set ms m old)) (λ is. inl (sym is)) (has_with (set_of ms) one m h)
 
-among_take : (k : ℕ) (xs : List ℕ) (x : ℕ) → Among x (take k xs) → Among x xs
+pub among_take : (k : ℕ) (xs : List ℕ) (x : ℕ) → Among x (take k xs) → Among x xs
 among_take zero xs x m = absurd m
 among_take (suc k) [] x m = absurd m
 among_take (suc k) (y ∷ xs) x m = ⊎_elim (λ e. inl e) (λ t. inr (among_take k xs x t)) m
 
-among_drop : (k : ℕ) (xs : List ℕ) (x : ℕ) → Among x (drop k xs) → Among x xs
+pub among_drop : (k : ℕ) (xs : List ℕ) (x : ℕ) → Among x (drop k xs) → Among x xs
 among_drop zero xs x m = m
 among_drop (suc k) [] x m = absurd m
 among_drop (suc k) (y ∷ xs) x m = inr (among_drop k xs x m)
 
-among_filter : (p : ℕ → Bool) (xs : List ℕ) (x : ℕ) → Among x (filter p xs) → Among x xs
+pub among_filter : (p : ℕ → Bool) (xs : List ℕ) (x : ℕ) → Among x (filter p xs) → Among x xs
 among_filter p [] x m = absurd m
 among_filter p (y ∷ xs) x m = by (λ t. among_filter p xs x t) (p y) m
   where
@@ -30,7 +30,7 @@ among_filter p (y ∷ xs) x m = by (λ t. among_filter p xs x t) (p y) m
     by rest true t = ⊎_elim (λ e. inl e) (λ u. inr (rest u)) t
     by rest false t = inr (rest t)
 
-among_turned : (k : ℕ) (xs : List ℕ) (x : ℕ) → Among x (turned k xs) → Among x xs
+pub among_turned : (k : ℕ) (xs : List ℕ) (x : ℕ) → Among x (turned k xs) → Among x xs
 among_turned k xs x m = ⊎_elim (λ d. among_drop k xs x d) (λ t. among_take k xs x t) (among_either x (drop k xs) (take k xs) m)
 
 -- a node of the set is one of those up to n

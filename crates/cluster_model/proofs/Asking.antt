@@ -1,5 +1,5 @@
 -- A ticket that is asked: what it answers may be entered into the book.
-use Rattle.std.proofs.Common.{◌≡◌, ◌⊎◌, inl, inr, ⊎_elim, ◌≤◌, ℕ, Bool, true, false, cond, ◌&&◌, List, [], ◌∷◌, ◌++◌, map, Option, Some, None, refl, sym, ap, ◌∙◌, subst, true≢false, if◌then◌else◌, arith}
+use Rattle.std.proofs.Common.{◌≡◌, inl, inr, ⊎_elim, ◌≤◌, ℕ, Bool, true, false, List, [], ◌∷◌, ◌++◌, Some, None, refl, sym, ◌∙◌, subst, if◌then◌else◌, arith}
 use Rattle.std.specs.Prelude.{nat_le}
 use Rattle.std.specs.FinMap as fin
 use Rattle.std.specs.List.{list_all}
@@ -18,16 +18,16 @@ use Rattle.cluster_model.specs.Cluster.Asked.{Copies, Deletion}
 use Rattle.cluster_model.specs.Claims.{Wants}
 use Rattle.cluster_model.specs.Moves.{MayEnter}
 use Rattle.cluster_model.specs.Rules.{ticket_at, end_ticket}
-use Rattle.cluster_model.specs.Progress.{Answer, Ask, is_confirmed, has_failed, answer_to, pending_of_call, ask_of_wants, ask_of, entries_of, wants_entries, entries_with}
+use Rattle.cluster_model.specs.Progress.{Answer, is_confirmed, has_failed, answer_to, pending_of_call, ask_of_wants, ask_of, entries_of, wants_entries, entries_with}
 use Rattle.cluster_model.specs.Progress.Answer.{Stored, Dropped, Failed}
-use Rattle.cluster_model.specs.Progress.Ask.{Pending, Done}
+use Rattle.cluster_model.specs.Progress.Ask.{Done}
 use Rattle.cluster_model.specs.Deeds.{slot_up, act_of}
 use Rattle.cluster_model.specs.World.{World, Leads, cluster_of}
 use Rattle.object_model.proofs.Lists.{among_either}
 use Rattle.cluster_model.proofs.Filing.{among_map}
 use Rattle.cluster_model.proofs.HearTold.{Answers, answers_of}
 use Rattle.cluster_model.proofs.Closing.{end_acts}
-use Rattle.cluster_model.proofs.Leading.{no_move, led_on, entered_leads}
+use Rattle.cluster_model.proofs.Leading.{led_on, entered_leads}
 use Rattle.cluster_model.proofs.Stepping.{quiet_leads}
 
 all_one : (p : Want → Bool) (wants : List Want) → list_all p wants ≡ true → (want : Want) → Among want wants → p want ≡ true

@@ -1,26 +1,23 @@
 -- A call that begins is a list of moves, however it ends.
-use Rattle.std.proofs.Common.{◌≡◌, ⊎_elim, ◌≤◌, ◌+◌, ℕ, Bool, true, false, List, [], ◌∷◌, ◌++◌, map, Option, Some, None, refl, sym, ap, ◌∙◌, subst}
+use Rattle.std.proofs.Common.{◌≡◌, ◌+◌, ℕ, true, List, [], map, Option, Some, None, refl, sym, ap, ◌∙◌, subst}
 use Rattle.mail_model.specs.Identity.{Id}
 use Rattle.mail_model.specs.Plan.{Plan}
 use Rattle.mail_model.specs.Record.{Record}
-use Rattle.mail_model.specs.Told.{Mail}
-use Rattle.mail_model.specs.Mail.{IsStored}
 use Rattle.mail_model.specs.Book.{BookEntry}
 use Rattle.mail_model.specs.Book.BookEntry.{Struck as StruckEntry}
 use Rattle.object_model.specs.Lists.{Among}
-use Rattle.object_model.specs.Letters.{Letter}
 use Rattle.object_model.specs.Sets.{has, nodes_in}
-use Rattle.cluster_model.specs.Cluster.{Node, Slot, slot_at, members_of}
+use Rattle.cluster_model.specs.Cluster.{Node, slot_at, members_of}
 use Rattle.cluster_model.specs.Moves.{Content, IsReady, IsDone, MayEnter}
-use Rattle.cluster_model.specs.Rules.{Reaction, begin_strike, begin_deliver, refuse, new_number}
+use Rattle.cluster_model.specs.Rules.{refuse}
 use Rattle.cluster_model.specs.Targets.{strike_asks}
 use Rattle.cluster_model.specs.Deeds.{slot_up, act_of, IsNumbered}
 use Rattle.cluster_model.specs.NodeLaws.{content_of}
 use Rattle.cluster_model.specs.World.{World, Leads, cluster_of}
-use Rattle.cluster_model.specs.Steps.{Struck, Call, Said, mishaps_of_call, ids_drawn, fails_at_once}
+use Rattle.cluster_model.specs.Steps.{Struck, Call, Said, mishaps_of_call, ids_drawn}
 use Rattle.cluster_model.specs.Steps.Call.{Deliver, Strike}
 use Rattle.cluster_model.specs.Steps.Step.{Begin}
-use Rattle.cluster_model.specs.Makes.{IsUp, after, struck_entries, with_struck, kind_of_call, targets_for, asked_for, IsFiled, begun_by, GoesDown, Begins}
+use Rattle.cluster_model.specs.Makes.{IsUp, struck_entries, with_struck, kind_of_call, targets_for, asked_for, IsFiled, begun_by, GoesDown, Begins}
 use Rattle.cluster_model.specs.Makes.Begins.{FailsAtOnce, Goes, FailsInIt}
 use Rattle.cluster_model.specs.WorldLaws.{FiledBy, MayBring}
 use Rattle.object_model.proofs.Lists.{among_behind}

@@ -10,7 +10,7 @@ use Rattle.mail_model.specs.Listing.{is_same_id}
 use Rattle.object_model.specs.Sets.{has, with_node, without_node}
 use Rattle.object_model.specs.Lists.{Among}
 use Rattle.object_model.specs.Letters.{Number, Body, Letter}
-use Rattle.object_model.specs.Letters.Body.{File, Filed, Strike, StrikeTold, Push, PushAck, Retire}
+use Rattle.object_model.specs.Letters.Body.{Filed, StrikeTold}
 use Rattle.cluster_model.specs.Cluster.{Asked, Want, Ticket, Node}
 use Rattle.cluster_model.specs.Cluster.Asked.{Copies, Deletion}
 use Rattle.cluster_model.specs.Cluster.Life.{Up}

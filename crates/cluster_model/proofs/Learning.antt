@@ -1,11 +1,11 @@
 -- A node that learns stamps, or hears a letter for which it has no rule, acts as the invariant asks.
-use Rattle.std.proofs.Common.{◌≡◌, inl, inr, ⊎_elim, ℕ, List, [], ◌∷◌, Option, Some, None, refl, ap, subst, le_refl}
+use Rattle.std.proofs.Common.{◌≡◌, ⊎_elim, ℕ, List, [], Option, Some, None, refl, subst, le_refl}
 use Rattle.std.specs.FinMap as fin
 use Rattle.mail_model.specs.Record.{Record}
-use Rattle.object_model.specs.Letters.{Number, Letter}
+use Rattle.object_model.specs.Letters.{Letter}
 use Rattle.cluster_model.specs.Cluster.{Asked, Node, Life}
 use Rattle.cluster_model.specs.Cluster.Life.{Up}
-use Rattle.cluster_model.specs.Claims.{Asks, Tells, Covers, Covered, boot_of}
+use Rattle.cluster_model.specs.Claims.{Asks, Tells, Covers, boot_of}
 use Rattle.cluster_model.specs.Moves.{IsReady, IsDone}
 use Rattle.cluster_model.specs.Rules.{idle}
 use Rattle.cluster_model.specs.Deeds.{act_of, slot_up}

@@ -39,3 +39,5 @@ pub mod Merged
 pub mod Ruled
 pub mod Sending
 pub mod Worked
+pub mod Counting
+pub mod Fairness

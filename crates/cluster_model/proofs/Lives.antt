@@ -1,8 +1,8 @@
 -- A node that goes down or is lost acts as the invariant asks.
-use Rattle.std.proofs.Common.{◌≡◌, ◌≢◌, ◌⊎◌, inl, inr, ⊎_elim, ◌≤◌, ◌<◌, ◌+◌, ℕ, List, [], ◌∷◌, ◌++◌, Option, Some, None, refl, sym, ap, ◌∙◌, subst, arith, le_of_lt, le_of_eq}
+use Rattle.std.proofs.Common.{◌≡◌, ◌≢◌, ◌⊎◌, inl, inr, ⊎_elim, ◌≤◌, ℕ, List, [], ◌∷◌, ◌++◌, Option, Some, None, refl, sym, ap, ◌∙◌, subst, le_of_lt, le_of_eq}
 use Rattle.std.specs.FinMap as fin
 use Rattle.std.specs.Ordering.{nat_cmp}
-use Rattle.mail_model.specs.Identity.{Id, Key, State}
+use Rattle.mail_model.specs.Identity.{Id}
 use Rattle.mail_model.specs.Record.{Record}
 use Rattle.mail_model.specs.Record.Record.{Boot, Octets, Stated, Promise, Retired}
 use Rattle.object_model.specs.Lists.{Among}
@@ -14,7 +14,7 @@ use Rattle.cluster_model.specs.Moves.{Content, Act, IsReady, Heard, ComesFrom, I
 use Rattle.cluster_model.specs.Rules.{Reaction}
 use Rattle.object_model.proofs.Lists.{among_front, among_behind, among_either}
 use Rattle.cluster_model.proofs.StoreSteps.{boot_both}
-use Rattle.cluster_model.specs.Deeds.{act_of, slot_up, cut_act, drop_act, start_act}
+use Rattle.cluster_model.specs.Deeds.{act_of, slot_up, cut_act, drop_act}
 
 -- records without a boot leave it
 boot_stays : (boot : ℕ) (records : List Record) → ((other : ℕ) → Among (Boot other) records → ⊥) → boot_after boot records ≡ boot
@@ -39,7 +39,7 @@ pub nothing_behind : (xs : List Record) → xs ++ [] ≡ xs
 nothing_behind [] = refl
 nothing_behind (x ∷ xs) = ap (λ (l : List Record). x ∷ l) (nothing_behind xs)
 
--- A call is cut by a fault of the disk: a front of its records stands, the next may stand, nothing is sent, and the node is down.
+-- a call is cut by a fault of the disk: a prefix of its records stands, the next may stand, nothing is sent, and the node is down.
 module _ (own : ℕ) (node : Node) (disk : List Record) (did : Reaction) (heard : Option Letter) (files : Option Content) (strikes : List (List ℕ × Id))
     (ready : IsReady own (slot_up node disk) heard) (is : IsAct (act_of own node disk did heard files strikes))
     (front pending missing : List Record) (split : is.grows.0 ≡ (front ++ pending) ++ missing) where

@@ -1,11 +1,9 @@
 -- What a disk says once states were taken, however often they are.
-use Rattle.std.proofs.Common.{◌≡◌, ◌≢◌, ◌⊎◌, inl, inr, ⊎_elim, ℕ, Bool, true, false, cond, not, ◌&&◌, List, [], ◌∷◌, ◌++◌, Option, Some, None, refl, sym, ap, ◌∙◌, subst, true≢false, nat_eq, eq-eqb}
-use Rattle.std.specs.Prelude.{◌↔◌}
-use Rattle.std.specs.Cmp.Lexicographic.{bytes_decides, pointwise}
+use Rattle.std.proofs.Common.{◌≡◌, inl, inr, ⊎_elim, ℕ, Bool, true, false, cond, not, ◌&&◌, List, [], ◌∷◌, ◌++◌, Option, Some, None, refl, sym, ap, ◌∙◌, subst, true≢false, nat_eq, eq-eqb}
+use Rattle.std.specs.Cmp.Lexicographic.{bytes_decides}
 use Rattle.std.proofs.lemmas.Bool.{and_from}
 use Rattle.mail_model.specs.Identity.{Stamp, Key, Value, State}
 use Rattle.mail_model.specs.Identity.Value.{Here, Gone, Secret}
-use Rattle.mail_model.specs.Record.{Record}
 use Rattle.object_model.specs.Lists.{Among}
 use Rattle.object_model.specs.Keys.{is_same_key}
 use Rattle.object_model.specs.States.{is_same_value, is_same_stamp, is_same_state, is_news, joined, join_with, join_after, join_all}

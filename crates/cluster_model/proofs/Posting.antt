@@ -1,5 +1,5 @@
 -- A letter that is handed to its receiver is a list of moves, whatever comes of it.
-use Rattle.std.proofs.Common.{◌≡◌, ⊎_elim, ℕ, Bool, true, false, ◌&&◌, not, List, [], ◌∷◌, ◌++◌, Option, Some, None, refl, sym, ap, ◌∙◌, subst, true≢false, if◌then◌else◌}
+use Rattle.std.proofs.Common.{◌≡◌, ⊎_elim, ℕ, Bool, true, false, not, List, [], ◌∷◌, ◌++◌, Option, Some, None, refl, sym, ap, ◌∙◌, subst, true≢false, if◌then◌else◌}
 use Rattle.std.specs.Prelude.{is_some}
 use Rattle.std.specs.FinMap as fin
 use Rattle.std.proofs.lemmas.Bool.{and_parts}
@@ -13,23 +13,22 @@ use Rattle.object_model.specs.Letters.Body.{File, Strike}
 use Rattle.object_model.specs.Mishaps.MishapKind.{Down as DownKind, Stale as StaleKind, Disk}
 use Rattle.cluster_model.specs.Cluster.{Asked, Ticket, Node, Life, Slot, slot_at, with_slot, tickets_of}
 use Rattle.cluster_model.specs.Cluster.Life.{Up, Down}
-use Rattle.cluster_model.specs.Claims.{LifeWaits, NodesWait, Covers, Tells, Asks}
+use Rattle.cluster_model.specs.Claims.{NodesWait, Covers, Asks}
 use Rattle.cluster_model.specs.Moves.{IsReady, IsDone}
 use Rattle.cluster_model.specs.Parts.{Sound}
 use Rattle.cluster_model.specs.Rules.{Reaction, idle, ticket_at}
-use Rattle.cluster_model.specs.Thrown.{Why, is_stale, is_late, answers_ticket, thrown_by, with_stamps, stamps_in, count_through}
+use Rattle.cluster_model.specs.Thrown.{is_stale, is_late, answers_ticket, thrown_by, with_stamps, stamps_in, count_through}
 use Rattle.cluster_model.specs.Thrown.Why.{Stale, Late}
 use Rattle.cluster_model.specs.Deeds.{slot_up, act_of, IsNumbered, hear}
 use Rattle.cluster_model.specs.Room.{Flight, has_room}
 use Rattle.cluster_model.specs.World.{World, Leads, letters_of, cluster_of, missed, put, Flies, flies_on}
 use Rattle.cluster_model.specs.Steps.{Said}
-use Rattle.cluster_model.specs.Makes.{IsUp, after, lost_letter, IsCut, GoesDown, cut_world, Posts}
+use Rattle.cluster_model.specs.Makes.{IsUp, after, GoesDown, Posts}
 use Rattle.cluster_model.specs.Makes.Posts.{NobodyUp, OfOtherEpoch, TooLate, IsHeard, FailsHearing}
 use Rattle.object_model.proofs.Lists.{same_some}
 use Rattle.cluster_model.proofs.Slots.{at_same}
 use Rattle.cluster_model.proofs.Hears.{hears}
 use Rattle.cluster_model.proofs.Learning.{learns}
-use Rattle.cluster_model.proofs.Closing.{unheard}
 use Rattle.cluster_model.proofs.HearTold.{stands_at}
 use Rattle.cluster_model.proofs.Leading.{led_on}
 use Rattle.cluster_model.proofs.Stepping.{flew, slot_again, quiet_leads, letter_lost, letter_idle, heard_leads, down_leads}

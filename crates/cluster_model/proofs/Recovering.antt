@@ -1,10 +1,9 @@
 -- What a start finds for the log.
-use Rattle.std.proofs.Common.{◌≡◌, ◌≢◌, ◌⊎◌, inl, inr, ⊎_elim, ℕ, Bool, true, false, cond, List, [], ◌∷◌, ◌++◌, Option, Some, None, refl, sym, ap, ◌∙◌, subst, true≢false, nat_eq, eqb-true}
+use Rattle.std.proofs.Common.{◌≡◌, ◌≢◌, inl, ⊎_elim, ℕ, Bool, true, false, cond, List, [], ◌∷◌, ◌++◌, Option, Some, None, refl, sym, ap, ◌∙◌, subst, true≢false, nat_eq, eqb-true}
 use Rattle.std.specs.FinMap as fin
-use Rattle.mail_model.specs.Identity.{Id, Key, State}
+use Rattle.mail_model.specs.Identity.{Key, State}
 use Rattle.mail_model.specs.Record.{Record}
 use Rattle.mail_model.specs.Record.Record.{Boot, Octets, Stated, Promise, Retired}
-use Rattle.object_model.specs.Lists.{Among}
 use Rattle.object_model.specs.Sets.{has, without_node}
 use Rattle.object_model.specs.Keys.{key_cmp}
 use Rattle.object_model.specs.States.{is_same_state, join_with}

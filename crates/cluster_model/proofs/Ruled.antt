@@ -1,11 +1,11 @@
 -- The rules of a node, as a reader states them.
-use Rattle.std.proofs.Common.{◌≡◌, ◌≢◌, ◌⊎◌, inl, inr, ⊎_elim, ◌<◌, ◌≤◌, ◌+◌, ℕ, zero, suc, Bool, true, false, cond, not, ◌&&◌, ◌||◌, List, [], ◌∷◌, ◌++◌, map, Option, Some, None, refl, sym, ap, ◌∙◌, subst, true≢false, nat_eq, bit_or, arith, if◌then◌else◌}
+use Rattle.std.proofs.Common.{◌≡◌, ◌≢◌, inl, inr, ⊎_elim, ◌<◌, ◌≤◌, ◌+◌, ℕ, zero, suc, Bool, true, false, not, ◌&&◌, ◌||◌, List, [], ◌∷◌, ◌++◌, map, Option, Some, None, refl, sym, ap, ◌∙◌, subst, true≢false, nat_eq, bit_or, arith, if◌then◌else◌}
 use Rattle.std.specs.Prelude.{nat_le, nat_lt}
 use Rattle.std.specs.Int.{bit_at}
 use Rattle.std.specs.FinMap as fin
-use Rattle.std.proofs.lemmas.Bool.{and_parts, and_from, cases_eq}
+use Rattle.std.proofs.lemmas.Bool.{and_parts, cases_eq}
 use Rattle.std.proofs.lemmas.Bool.Decides.{nat_tests}
-use Rattle.mail_model.specs.Identity.{Id, Stamp, EpochId, Key, State}
+use Rattle.mail_model.specs.Identity.{Id, Stamp, Key, State}
 use Rattle.mail_model.specs.Identity.Key.{Message}
 use Rattle.mail_model.specs.Identity.Value.{Gone}
 use Rattle.mail_model.specs.Record.{Record}
@@ -19,20 +19,19 @@ use Rattle.object_model.specs.Letters.{Mark, Body, Letter}
 use Rattle.object_model.specs.Letters.Body.{File, Filed, Strike, StrikeTold, Retire}
 use Rattle.object_model.specs.UpdateLog.{Logged, cleared}
 use Rattle.object_model.specs.Mishaps.{Mishaps}
-use Rattle.cluster_model.specs.Cluster.{Filing, Asked, Want, Node, Life, Slot, Cluster, slot_at, epoch_of}
+use Rattle.cluster_model.specs.Cluster.{Filing, Asked, Want, Node, Slot, Cluster, slot_at, epoch_of}
 use Rattle.cluster_model.specs.Cluster.Asked.{Copies}
-use Rattle.cluster_model.specs.Cluster.Life.{Up}
 use Rattle.cluster_model.specs.Claims.{Says, ShowsGone, DrawnAt, IsDrawn}
 use Rattle.cluster_model.specs.Claims.Fact.{HasCopies}
 use Rattle.cluster_model.specs.Moves.{IsReady}
 use Rattle.cluster_model.specs.Parts.{Holds, Sound}
 use Rattle.cluster_model.specs.Store.{Store, Update, take_all, gone_updates}
 use Rattle.cluster_model.specs.Rules.{Reaction, answer, tells, told_want, failed_want, new_want, idle, receivers, letters_to, shrunk, acked_at, hear_ack, store_of}
-use Rattle.cluster_model.specs.Progress.{Ask, is_confirmed, can_be_confirmed, ask_of_wants}
+use Rattle.cluster_model.specs.Progress.{Ask}
 use Rattle.cluster_model.specs.Progress.Ask.{Pending, Done}
 use Rattle.cluster_model.specs.Progress.Answer.{Stored, Failed}
 use Rattle.cluster_model.specs.Thrown.{with_stamps}
-use Rattle.cluster_model.specs.Deeds.{slot_up, act_of, IsNumbered, hear_body, hear}
+use Rattle.cluster_model.specs.Deeds.{slot_up, IsNumbered, hear_body, hear}
 use Rattle.cluster_model.specs.RuleLaws.{IsAsked, TargetsStand, StoredByCount}
 use Rattle.object_model.proofs.SetLaws.{has_left, has_right, has_one, one_has, has_with, left_in, still_in, has_none, all_has}
 use Rattle.object_model.proofs.StateLaws.{state_is}
@@ -108,7 +107,7 @@ bounded mask (suc k) h = (k, refl, small (and_parts (nat_lt k 64) (nat_eq (bit_a
     small : nat_lt k 64 ≡ true → k ≤ 63
     small e = let lt : k < 64 = grind (arith, nat_tests) in omega (arith, lt)
 
-asked_told : (body : Body) (from : ℕ) (want : Want) (m : ℕ) → IsAsked want m → IsAsked (told_want body from want) m
+pub asked_told : (body : Body) (from : ℕ) (want : Want) (m : ℕ) → IsAsked want m → IsAsked (told_want body from want) m
 asked_told body from want m asked = by (tells body want.asked && (has want.waiting from || has want.failed from)) refl
   where
     said : Want
@@ -127,7 +126,7 @@ asked_told body from want m asked = by (tells body want.asked && (has want.waiti
         asked
     by false e = asked
 
-asked_failed : (at : ℕ) (want : Want) (m : ℕ) → IsAsked want m → IsAsked (failed_want at want) m
+pub asked_failed : (at : ℕ) (want : Want) (m : ℕ) → IsAsked want m → IsAsked (failed_want at want) m
 asked_failed at want m asked = by (has want.waiting at) refl
   where
     by : (b : Bool) → has want.waiting at ≡ b → IsAsked (if b then record want { waiting = without_node want.waiting at; failed = with_node want.failed at } else want) m
@@ -157,7 +156,7 @@ stays_failed at want m h = by (has want.waiting at)
     by true = h
     by false = h
 
-begins_asked : (own : ℕ) (asked : Asked) (targets m : ℕ) → has targets m ≡ true → IsAsked (new_want own asked targets) m
+pub begins_asked : (own : ℕ) (asked : Asked) (targets m : ℕ) → has targets m ≡ true → IsAsked (new_want own asked targets) m
 begins_asked own asked targets m h = ⊎_elim
     (λ is. let t : has targets own ≡ true = subst (λ n. has targets n ≡ true) is h in
     let b = bounded targets own t in
@@ -165,11 +164,56 @@ begins_asked own asked targets m h = ⊎_elim
     (λ apart. inr (inl (still_in targets own m h apart)))
     (cases_eq m own)
 
+only_begins : (own : ℕ) (asked : Asked) (targets m : ℕ) → IsAsked (new_want own asked targets) m → has targets m ≡ true
+only_begins own asked targets m a = ⊎_elim
+    (λ c. by (has targets own) refl c)
+    (λ other. ⊎_elim (λ w. (left_in targets own m w).0) (λ f. absurd (true≢false (sym f ∙ has_none m))) other)
+    a
+  where
+    by : (b : Bool) → has targets own ≡ b → has (if b then one_node own else 0) m ≡ true → has targets m ≡ true
+    by true e h = subst (λ n. has targets n ≡ true) (sym (has_one own m h)) e
+    by false e h = absurd (true≢false (sym h ∙ has_none m))
+
+only_told : (body : Body) (from : ℕ) (want : Want) (m : ℕ) → IsAsked (told_want body from want) m → IsAsked want m
+only_told body from want m a = by (tells body want.asked && (has want.waiting from || has want.failed from)) refl a
+  where
+    said : Want
+    said = record want { confirmed = with_node want.confirmed from; waiting = without_node want.waiting from; failed = without_node want.failed from }
+
+    sender : (w f : Bool) → has want.waiting from ≡ w → has want.failed from ≡ f → (w || f) ≡ true → IsAsked want from
+    sender true f p q e = inr (inl p)
+    sender false true p q e = inr (inr q)
+    sender false false p q e = absurd (true≢false (sym e))
+
+    by : (b : Bool) → (tells body want.asked && (has want.waiting from || has want.failed from)) ≡ b → IsAsked (if b then said else want) m → IsAsked want m
+    by true e g = ⊎_elim
+        (λ c. ⊎_elim (λ old. inl old)
+        (λ is. subst (IsAsked want) (sym is) (sender (has want.waiting from) (has want.failed from) refl refl (and_parts (tells body want.asked) (has want.waiting from || has want.failed from) e).1))
+        (has_with want.confirmed from m c))
+        (λ other. ⊎_elim (λ w. inr (inl (left_in want.waiting from m w).0)) (λ f. inr (inr (left_in want.failed from m f).0)) other)
+        g
+    by false e g = g
+
+only_failed : (at : ℕ) (want : Want) (m : ℕ) → IsAsked (failed_want at want) m → IsAsked want m
+only_failed at want m a = by (has want.waiting at) refl a
+  where
+    by : (b : Bool) → has want.waiting at ≡ b → IsAsked (if b then record want { waiting = without_node want.waiting at; failed = with_node want.failed at } else want) m → IsAsked want m
+    by true e g = ⊎_elim
+        (λ c. inl c)
+        (λ other. ⊎_elim
+        (λ w. inr (inl (left_in want.waiting at m w).0))
+        (λ f. ⊎_elim (λ old. inr (inr old)) (λ is. inr (inl (subst (λ n. has want.waiting n ≡ true) (sym is) e))) (has_with want.failed at m f)) other)
+        g
+    by false e g = g
+
 pub targets_stand : (own : ℕ) (asked : Asked) (targets : ℕ) (want : Want) (body : Body) (from at : ℕ) → TargetsStand own asked targets want body from at
 targets_stand own asked targets want body from at = record {
   begins = λ m h. begins_asked own asked targets m h;
   told = λ m h. asked_told body from want m h;
   failed = λ m h. asked_failed at want m h;
+  only_begins = λ m a. only_begins own asked targets m a;
+  only_told = λ m a. only_told body from want m a;
+  only_failed = λ m a. only_failed at want m a;
   stays_told = λ m h. stays_told body from want m h;
   stays_failed = λ m h. stays_failed at want m h;
 }

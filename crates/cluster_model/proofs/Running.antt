@@ -1,20 +1,19 @@
 -- Each step of a world is a list of moves, and so lists of steps keep a world sound.
-use Rattle.std.proofs.Common.{◌≡◌, ◌≢◌, ◌⊎◌, inl, inr, ⊎_elim, ℕ, false, List, [], ◌∷◌, ◌++◌, Option, Some, None, refl, sym, ap, ◌∙◌, subst}
+use Rattle.std.proofs.Common.{◌≡◌, ◌⊎◌, inl, inr, ⊎_elim, ℕ, false, List, [], ◌∷◌, ◌++◌, Some, None, refl, sym, ap, subst}
 use Rattle.mail_model.specs.Identity.{Id, Key}
 use Rattle.mail_model.specs.Identity.Key.{Message}
 use Rattle.mail_model.specs.Plan.{Plan}
 use Rattle.mail_model.specs.Record.{Record}
 use Rattle.mail_model.specs.Book.BookEntry.{WentDown}
-use Rattle.object_model.specs.Lists.{Among}
-use Rattle.object_model.specs.Letters.{Number, Letter}
+use Rattle.object_model.specs.Letters.{Number}
 use Rattle.object_model.specs.Mishaps.MishapKind.{Dropped}
-use Rattle.cluster_model.specs.Cluster.{Node, Life, Slot, Cluster, slot_at, with_slot}
+use Rattle.cluster_model.specs.Cluster.{Node, Life, Cluster, slot_at, with_slot}
 use Rattle.cluster_model.specs.Cluster.Life.{Down, Lost}
 use Rattle.cluster_model.specs.Moves.{Act, IsReady, IsAct, Move, MayMoves, after_move, after_moves}
 use Rattle.cluster_model.specs.Moves.Move.{Acted, Taken, Entered}
 use Rattle.cluster_model.specs.Parts.{Holds, Sound}
-use Rattle.cluster_model.specs.Rules.{Reaction, push, widen, end_ticket}
-use Rattle.cluster_model.specs.Starts.{Starts, StopsStart}
+use Rattle.cluster_model.specs.Rules.{push, widen, end_ticket}
+use Rattle.cluster_model.specs.Starts.{StopsStart}
 use Rattle.cluster_model.specs.Progress.{ask_of}
 use Rattle.cluster_model.specs.Progress.Ask.{Done}
 use Rattle.cluster_model.specs.Deeds.{slot_up, hear, drop_act, start_act, stop_act, IsNumbered}
@@ -23,7 +22,7 @@ use Rattle.cluster_model.specs.World.{World, Leads, letters_of, cluster_of}
 use Rattle.cluster_model.specs.Steps.{Step, Said, Outcome}
 use Rattle.cluster_model.specs.Steps.Step.{Begin, AskFor, GiveUp, Post, DropLetter, PushTo, Widen, Crash, Start, Lose, Tick}
 use Rattle.cluster_model.specs.Steps.Outcome.{Says, Refused, NoMemory}
-use Rattle.cluster_model.specs.Makes.{IsUp, cut_world, GoesDown, Begins, Answers, Pushes, Widens, StartsUp, Falls, Does, RunsShort, Made, Makes, MakesAll}
+use Rattle.cluster_model.specs.Makes.{IsUp, GoesDown, Begins, Answers, Pushes, Widens, StartsUp, Falls, Does, RunsShort, Made, Makes, MakesAll}
 use Rattle.cluster_model.specs.Makes.Begins.{FailsAtOnce, Goes, FailsInIt}
 use Rattle.cluster_model.specs.Makes.Answers.{Waits, Ends}
 use Rattle.cluster_model.specs.Makes.Pushes.{Sends, FailsPushing}

@@ -1,26 +1,25 @@
 -- What a node sends: to whom, in which order, and under which epoch.
-use Rattle.std.proofs.Common.{◌≡◌, ◌≢◌, ◌⊎◌, inl, inr, ⊎_elim, ◌<◌, ◌≤◌, ◌+◌, ℕ, zero, suc, Bool, true, false, cond, not, ◌&&◌, List, [], ◌∷◌, ◌++◌, map, Option, Some, None, refl, sym, ap, ◌∙◌, subst, true≢false, nat_eq, eq-eqb, eqb-true, arith, if◌then◌else◌}
+use Rattle.std.proofs.Common.{◌≡◌, ◌≢◌, ◌⊎◌, inl, inr, ⊎_elim, ◌≤◌, ℕ, zero, suc, Bool, true, false, not, ◌&&◌, List, [], ◌∷◌, ◌++◌, map, Option, Some, None, refl, sym, ap, ◌∙◌, subst, true≢false, nat_eq, eq-eqb, eqb-true, arith, if◌then◌else◌}
 use Rattle.std.specs.FinMap as fin
 use Rattle.std.proofs.lemmas.Bool.{and_parts}
 use Rattle.mail_model.specs.Identity.{Id, EpochId, Key, State}
 use Rattle.mail_model.specs.Record.{Record}
 use Rattle.mail_model.specs.Record.Record.{Retired}
 use Rattle.object_model.specs.Lists.{Among}
-use Rattle.object_model.specs.Sets.{has, without_node}
+use Rattle.object_model.specs.Sets.{has}
 use Rattle.object_model.specs.Keys.{is_same_epoch}
 use Rattle.object_model.specs.States.{is_same_state}
 use Rattle.object_model.specs.Letters.{Number, Mark, Membership, Body, Letter}
-use Rattle.object_model.specs.Letters.Body.{File, Filed, LoginAsk, LoginTold, ListAsk, ListTold, FetchAsk, FetchTold, Strike, StrikeTold, Unlock, Push, PushAck, Retire, Group, Join, Install, Report, ReportAck}
+use Rattle.object_model.specs.Letters.Body.{File, Filed, Strike, StrikeTold, Push, PushAck, Retire}
 use Rattle.object_model.specs.UpdateLog.{Logged, cleared}
 use Rattle.cluster_model.specs.Cluster.{Ticket, Node, epoch_in, epoch_of}
 use Rattle.cluster_model.specs.Rules.{Reaction, Item, answer, idle, receivers, letters_to, shrunk, acked_at, retired_at, told_at, ticket_at, marks_for, strike_to, strikes_to, dated, new_number, begin_deliver, begin_strike}
-use Rattle.cluster_model.specs.Thrown.{Why, has_epoch, is_stale, is_late, thrown_by, with_stamps}
+use Rattle.cluster_model.specs.Thrown.{has_epoch, is_stale, is_late, thrown_by, with_stamps}
 use Rattle.cluster_model.specs.Thrown.Why.{Stale, Late}
 use Rattle.cluster_model.specs.Deeds.{hear_body, hear}
 use Rattle.cluster_model.specs.RuleLaws.{IsRising}
 use Rattle.object_model.proofs.Lists.{among_either}
 use Rattle.cluster_model.proofs.Logs.{receiver_is, sent_to}
-use Rattle.cluster_model.proofs.Filing.{among_map}
 
 epoch_is : (a b : EpochId) → is_same_epoch a b ≡ true → a ≡ b
 epoch_is a b h =

@@ -1,17 +1,14 @@
 -- A node that starts, or whose disk cuts its start, acts as the invariant asks.
-use Rattle.std.proofs.Common.{◌≡◌, ◌≢◌, ◌⊎◌, inl, inr, ⊎_elim, ◌≤◌, ◌<◌, ◌+◌, ℕ, List, [], ◌∷◌, ◌++◌, Option, Some, None, refl, sym, ap, ◌∙◌, subst, arith, le_of_lt, le_of_eq}
+use Rattle.std.proofs.Common.{◌≡◌, ◌⊎◌, inl, inr, ⊎_elim, ◌≤◌, ◌<◌, ◌+◌, ℕ, List, [], ◌∷◌, ◌++◌, Some, None, refl, sym, ap, ◌∙◌, subst, arith, le_of_eq}
 use Rattle.std.specs.FinMap as fin
-use Rattle.std.specs.Ordering.{nat_cmp}
 use Rattle.mail_model.specs.Identity.{Id, Key, State}
 use Rattle.mail_model.specs.Record.{Record}
-use Rattle.mail_model.specs.Record.Record.{Boot, Octets, Stated, Promise, Retired}
+use Rattle.mail_model.specs.Record.Record.{Boot, Octets, Stated, Retired}
 use Rattle.object_model.specs.Lists.{Among}
-use Rattle.object_model.specs.Letters.{Letter}
-use Rattle.cluster_model.specs.Cluster.{Ticket, Tickets, Want, Node, Life, Slot, tickets_of, pending_of}
-use Rattle.cluster_model.specs.Cluster.Life.{Up, Down, Lost}
-use Rattle.cluster_model.specs.Claims.{Fact, Wants, LetterHolds, LetterClaims, LetterSpeaks, DrawnIn, TicketClaims, LogClaims, DiskClaims, SlotClaims, DiskSpeaks, TicketSpeaks, all_records, boot_of, boot_after}
-use Rattle.cluster_model.specs.Moves.{Content, Act, IsReady, Heard, ComesFrom, IsBacked, IsConfirmed, IsAct}
-use Rattle.cluster_model.specs.Rules.{Reaction}
+use Rattle.cluster_model.specs.Cluster.{Node, Life, Slot}
+use Rattle.cluster_model.specs.Cluster.Life.{Up, Down}
+use Rattle.cluster_model.specs.Claims.{TicketClaims, LogClaims, DiskClaims, DiskSpeaks, TicketSpeaks, boot_of}
+use Rattle.cluster_model.specs.Moves.{IsReady, IsAct}
 use Rattle.cluster_model.specs.Starts.{Starts, StopsStart, IsRecovered}
 use Rattle.object_model.proofs.Lists.{among_front, among_behind, among_either}
 use Rattle.cluster_model.proofs.StoreSteps.{boot_both}

@@ -1,5 +1,5 @@
 -- What a node does, and what befalls a letter, is a list of moves.
-use Rattle.std.proofs.Common.{◌≡◌, ◌⊎◌, inl, inr, ⊎_elim, ℕ, zero, suc, Bool, true, false, List, [], ◌∷◌, ◌++◌, Option, Some, None, refl, sym, ap, ◌∙◌, subst}
+use Rattle.std.proofs.Common.{◌≡◌, inl, ⊎_elim, ℕ, zero, suc, Bool, true, false, List, [], ◌∷◌, ◌++◌, Option, Some, None, refl, sym, ap, ◌∙◌, subst}
 use Rattle.std.specs.Prelude.{slice_set}
 use Rattle.mail_model.specs.Identity.{Id}
 use Rattle.mail_model.specs.Record.{Record}
@@ -8,7 +8,7 @@ use Rattle.mail_model.specs.Book.BookEntry.{Struck, WentDown}
 use Rattle.object_model.specs.Lists.{Among}
 use Rattle.object_model.specs.Letters.{Number, Letter}
 use Rattle.object_model.specs.Mishaps.{MishapKind}
-use Rattle.cluster_model.specs.Cluster.{Asked, Node, Life, Slot, Cluster, slot_at, with_slot}
+use Rattle.cluster_model.specs.Cluster.{Asked, Node, Slot, Cluster, slot_at, with_slot}
 use Rattle.cluster_model.specs.Cluster.Life.{Down}
 use Rattle.cluster_model.specs.Claims.{LifeWaits, NodesWait, Covers, Covered}
 use Rattle.cluster_model.specs.Moves.{Content, Act, IsReady, IsAct, IsDone, MayEnter}

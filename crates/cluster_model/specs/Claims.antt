@@ -1,9 +1,9 @@
 -- What is claimed of a node, and by whom: by tickets, logs, records, letters and the book.
-use Rattle.std.specs.Prelude.{◌≡◌, ◌≢◌, ◌⊎◌, ◌<◌, ◌≤◌, ℕ, true, false, List, [], ◌∷◌, ◌++◌, length, Some, None}
+use Rattle.std.specs.Prelude.{◌≡◌, ◌≢◌, ◌⊎◌, ◌<◌, ◌≤◌, ℕ, true, false, List, [], ◌∷◌, ◌++◌, length, Some}
 use Rattle.std.specs.FinMap as fin
 use Rattle.sha2.specs.Sha256.{sha256}
 use Rattle.mail_model.specs.Identity.{Id, Stamp, Key, State}
-use Rattle.mail_model.specs.Identity.Key.{Profile, Message}
+use Rattle.mail_model.specs.Identity.Key.{Message}
 use Rattle.mail_model.specs.Identity.Value.{Gone}
 use Rattle.mail_model.specs.Record.{Record}
 use Rattle.mail_model.specs.Record.Record.{Boot, Octets, Stated, Promise, Retired}

@@ -19,7 +19,7 @@ abbrev pub act_of : ℕ → Node → List Record → Reaction → Option Letter 
 act_of own node disk did heard files strikes =
     record { node = own; before = slot_up node disk; after = slot_up did.node did.disk; heard = heard; out = did.out; files = files; strikes = strikes }
 
--- Its disk fails before it is done: a front of its records stands, the next may stand, nothing is sent, and the node is down.
+-- Its disk fails before it is done: a prefix of its records stands, the next may stand, nothing is sent, and the node is down.
 abbrev pub cut_act : ℕ → Node → List Record → Option Letter → Option Content → List (List ℕ × Id) → List Record → List Record → Act
 cut_act own node disk heard files strikes front pending =
     record { node = own; before = slot_up node disk; after = record { life = Down pending; disk = disk ++ front }; heard = heard; out = []; files = files; strikes = strikes }

@@ -18,3 +18,4 @@ pub mod Makes
 pub mod WorldLaws
 pub mod RuleLaws
 pub mod Rows
+pub mod TicketLaws

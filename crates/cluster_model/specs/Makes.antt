@@ -1,34 +1,32 @@
 -- What each step makes of a world, by what it answers.
-use Rattle.std.specs.Prelude.{◌≡◌, ◌≢◌, ◌⊎◌, ℕ, ◌+◌, Bool, true, false, List, [], ◌∷◌, ◌++◌, length, map, Option, Some, None}
-use Rattle.std.specs.FinMap as fin
+use Rattle.std.specs.Prelude.{◌≡◌, ◌≢◌, ℕ, ◌+◌, Bool, true, false, List, [], ◌∷◌, ◌++◌, length, map, Some, None}
 use Rattle.mail_model.specs.Identity.{Id, Key}
 use Rattle.mail_model.specs.Identity.Key.{Message}
 use Rattle.mail_model.specs.Lines.{ends_in_crlf}
 use Rattle.mail_model.specs.Plan.{Plan}
 use Rattle.mail_model.specs.Record.{Record}
-use Rattle.mail_model.specs.Told.{Mail}
 use Rattle.mail_model.specs.Mail.{IsStored}
 use Rattle.mail_model.specs.Book.{BookEntry}
 use Rattle.mail_model.specs.Book.BookEntry.{Struck as StruckEntry, WentDown}
 use Rattle.object_model.specs.Sets.{nodes_in}
 use Rattle.object_model.specs.Said.{said as said_of}
-use Rattle.object_model.specs.Letters.{Number, Letter}
+use Rattle.object_model.specs.Letters.{Number}
 use Rattle.object_model.specs.Mishaps.{MishapKind}
 use Rattle.object_model.specs.Mishaps.MishapKind.{Dropped, Stale as StaleKind, Down as DownKind, Disk}
 use Rattle.cluster_model.specs.Cluster.{CallKind, Ticket, Node, Life, Slot, slot_at, with_slot, members_of}
 use Rattle.cluster_model.specs.Cluster.CallKind.{Delivering, Striking}
-use Rattle.cluster_model.specs.Cluster.Life.{Up, Down, Lost}
+use Rattle.cluster_model.specs.Cluster.Life.{Down, Lost}
 use Rattle.cluster_model.specs.Rules.{Reaction, ticket_at, push, can_widen, widen, begin_deliver, begin_strike, end_ticket, refuse, new_number}
 use Rattle.cluster_model.specs.Targets.{deliver_targets, strike_asks}
 use Rattle.cluster_model.specs.Starts.{Starts, StopsStart}
-use Rattle.cluster_model.specs.Thrown.{Why, thrown_by}
+use Rattle.cluster_model.specs.Thrown.{thrown_by}
 use Rattle.cluster_model.specs.Thrown.Why.{WhileDown, Stale, Late}
-use Rattle.cluster_model.specs.Progress.{Answer, Ask, ask_of, entries_with}
+use Rattle.cluster_model.specs.Progress.{Answer, ask_of, entries_with}
 use Rattle.cluster_model.specs.Progress.Ask.{Pending, Done}
 use Rattle.cluster_model.specs.Deeds.{slot_up, hear}
-use Rattle.cluster_model.specs.Room.{Flight, has_room, keys_pushed}
+use Rattle.cluster_model.specs.Room.{has_room, keys_pushed}
 use Rattle.cluster_model.specs.World.{World, missed, put, Flies, flies_on}
-use Rattle.cluster_model.specs.Steps.{Struck, Call, Step, Said, StepFault, Outcome, mishaps_of_call, fails_at_once, ids_drawn, fault_of}
+use Rattle.cluster_model.specs.Steps.{Struck, Call, Step, Said, Outcome, mishaps_of_call, fails_at_once, ids_drawn, fault_of}
 use Rattle.cluster_model.specs.Steps.Call.{Deliver, Strike}
 use Rattle.cluster_model.specs.Steps.Step.{Begin, AskFor, GiveUp, Post, DropLetter, PushTo, Widen, Crash, Start, Lose, Tick}
 use Rattle.cluster_model.specs.Steps.Said.{Begun, Asked, Heard, Thrown, Sent, Widened, NodeUp, Finished, Faulted}
@@ -72,7 +70,7 @@ abbrev pub begun_by : Plan → World → ℕ → Node → List Record → Call �
 begun_by plan w own node disk (Deliver mail) octets = begin_deliver own plan.nodes w.seconds node disk mail.mailboxes octets (targets_for plan own node)
 begun_by plan w own node disk (Strike user items) octets = begin_strike own plan.nodes node disk user (asked_for plan own node items)
 
--- The disk of a node fails in its work: a front of its records stands, and the next may.
+-- The disk of a node fails in its work: a prefix of its records stands, and the next may.
 pub record IsCut (disk whole : List Record) (front pending : List Record) : Type 0 where
   pub missing : List Record
   pub is : whole ≡ disk ++ ((front ++ pending) ++ missing)

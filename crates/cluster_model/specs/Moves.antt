@@ -12,7 +12,7 @@ use Rattle.object_model.specs.Lists.{Among}
 use Rattle.mail_model.specs.Grammar.{IsOfKind}
 use Rattle.object_model.specs.Said.{said}
 use Rattle.object_model.specs.Letters.{Number, Body, Letter}
-use Rattle.object_model.specs.Letters.Body.{File, Filed, Strike, StrikeTold, Push, PushAck, Retire}
+use Rattle.object_model.specs.Letters.Body.{File, Filed, Push}
 use Rattle.object_model.specs.UpdateLog.{Logged}
 use Rattle.cluster_model.specs.Cluster.{Filing, Asked, Want, Node, Life, Slot, Cluster, slot_at, with_slot}
 use Rattle.cluster_model.specs.Cluster.Asked.{Copies, Deletion}
@@ -36,7 +36,7 @@ pub record Act : Type 0 where
   pub files : Option Content
   pub strikes : List (List ℕ × Id)
 
--- A letter that a node sent flies until it is taken out: where it found no room, at once, behind its mishap.
+-- A letter that a node sent flies until it is taken out: where it found no room, at once, after its mishap.
 pub data Move : Type 0 where
   Acted : (act : Act) → Move
   Taken : (letter : Letter) (left : List Letter) → Move

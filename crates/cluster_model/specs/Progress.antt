@@ -1,5 +1,5 @@
 -- How far a call has come: what an ask of its ticket answers.
-use Rattle.std.specs.Prelude.{ℕ, Bool, true, false, not, ◌||◌, nat_le, List, [], ◌∷◌, ◌++◌, length, map, bit_or, if◌then◌else◌}
+use Rattle.std.specs.Prelude.{ℕ, Bool, true, not, nat_le, List, [], ◌∷◌, ◌++◌, length, map, bit_or, if◌then◌else◌}
 use Rattle.std.specs.List.{filter, list_all}
 use Rattle.mail_model.specs.Identity.{Id}
 use Rattle.mail_model.specs.Book.{BookEntry}

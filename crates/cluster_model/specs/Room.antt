@@ -1,10 +1,10 @@
 -- Letters in flight have numbers, and there is room for so many of them.
-use Rattle.std.specs.Prelude.{ℕ, ◌+◌, Bool, false, not, ◌&&◌, nat_eq, nat_lt, nat_le, List, [], ◌∷◌, length, map, Option, Some, None, if◌then◌else◌}
+use Rattle.std.specs.Prelude.{ℕ, ◌+◌, Bool, not, ◌&&◌, nat_eq, nat_lt, nat_le, List, [], ◌∷◌, length, map, Some, if◌then◌else◌}
 use Rattle.std.specs.FinMap as fin
 use Rattle.mail_model.specs.Identity.{Key}
 use Rattle.mail_model.specs.Record.{Record}
 use Rattle.object_model.specs.Sets.{has}
-use Rattle.object_model.specs.Letters.{ToldPart, Body, Letter}
+use Rattle.object_model.specs.Letters.{Body, Letter}
 use Rattle.object_model.specs.Letters.ToldPart.{Octets}
 use Rattle.object_model.specs.Letters.Body.{File, FetchTold, Push}
 use Rattle.object_model.specs.UpdateLog.{due}

@@ -1,24 +1,22 @@
 -- Worked cases, letter by letter: what the rules give where the numbers are known. Each case is a plan, a user alice, and one message from node 1.
-use Rattle.std.specs.Prelude.{◌≡◌, ℕ, Bool, true, false, List, [], ◌∷◌, map, Option, Some, None}
-use Rattle.mail_model.specs.Identity.{Id, Stamp, Key, State}
-use Rattle.mail_model.specs.Identity.Key.{Message}
+use Rattle.std.specs.Prelude.{◌≡◌, ℕ, true, false, List, [], ◌∷◌, map, Some, None}
+use Rattle.mail_model.specs.Identity.{Id, State}
 use Rattle.mail_model.specs.Identity.Value.{Here, Gone}
-use Rattle.object_model.specs.Sets.{all_nodes, nodes_in, without_node}
+use Rattle.object_model.specs.Sets.{all_nodes, nodes_in}
 use Rattle.object_model.specs.States.{joined, is_news}
-use Rattle.object_model.specs.Letters.{Number, Letter, Body}
-use Rattle.object_model.specs.Letters.Body.{File, Filed, Strike, StrikeTold, Push, PushAck, Retire}
-use Rattle.object_model.specs.UpdateLog.{Logged, new_entry, cleared, is_of, owes_state}
-use Rattle.object_model.specs.Mishaps.{Mishaps, no_mishaps}
-use Rattle.object_model.specs.Mishaps.MishapKind.{Dropped as LetterDropped}
-use Rattle.cluster_model.specs.Cluster.{Filing, Asked, Want}
+use Rattle.object_model.specs.Letters.{Letter}
+use Rattle.object_model.specs.Letters.Body.{File, Filed}
+use Rattle.object_model.specs.UpdateLog.{new_entry, cleared, owes_state}
+use Rattle.object_model.specs.Mishaps.{no_mishaps}
+use Rattle.cluster_model.specs.Cluster.{Filing, Want}
 use Rattle.cluster_model.specs.Cluster.Asked.{Copies, Deletion}
 use Rattle.cluster_model.specs.Rules.{answer, told_want, failed_want, new_want, receivers, letters_to}
 use Rattle.cluster_model.specs.Starts.{first_epoch}
 use Rattle.cluster_model.specs.Targets.{deliver_targets, strike_asks}
-use Rattle.cluster_model.specs.Progress.{Ask, Answer, ask_of_wants}
+use Rattle.cluster_model.specs.Progress.{Ask, ask_of_wants}
 use Rattle.cluster_model.specs.Progress.Answer.{Stored, Dropped}
 use Rattle.cluster_model.specs.Progress.Ask.{Pending, Done}
-use Rattle.cluster_model.specs.Room.{Flight, has_room}
+use Rattle.cluster_model.specs.Room.{has_room}
 use Rattle.cluster_model.specs.World.{World, put}
 
 abbrev pub alice : List ℕ

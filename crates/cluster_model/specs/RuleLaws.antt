@@ -1,5 +1,5 @@
 -- The rules of a node in the words of a reader: what each of them promises.
-use Rattle.std.specs.Prelude.{◌≡◌, ◌≢◌, ◌⊎◌, ◌<◌, ◌≤◌, ◌+◌, ℕ, true, List, [], ◌∷◌, ◌++◌, map, Option, Some, None, bit_or, ⊤}
+use Rattle.std.specs.Prelude.{◌≡◌, ◌≢◌, ◌⊎◌, ◌<◌, ◌≤◌, ◌+◌, ℕ, true, List, [], ◌∷◌, map, Some, None, bit_or, ⊤}
 use Rattle.std.specs.FinMap as fin
 use Rattle.mail_model.specs.Identity.{Id, Stamp, Key, State}
 use Rattle.mail_model.specs.Record.{Record}
@@ -16,13 +16,13 @@ use Rattle.object_model.specs.Mishaps.{Mishaps}
 use Rattle.cluster_model.specs.Cluster.{Filing, Asked, Want, Node, Cluster, slot_at, epoch_of}
 use Rattle.cluster_model.specs.Cluster.Asked.{Copies}
 use Rattle.cluster_model.specs.Store.{Store, Update, take_all, updates_of}
-use Rattle.cluster_model.specs.Claims.{Says, ShowsGone, Tells}
+use Rattle.cluster_model.specs.Claims.{Says, ShowsGone}
 use Rattle.cluster_model.specs.Claims.Fact.{HasCopies}
 use Rattle.cluster_model.specs.Moves.{IsReady}
 use Rattle.cluster_model.specs.Parts.{Holds, Sound}
 use Rattle.cluster_model.specs.Rules.{answer, told_want, failed_want, new_want, hear_ack, begin_deliver, begin_strike}
 use Rattle.cluster_model.specs.Thrown.{thrown_by}
-use Rattle.cluster_model.specs.Progress.{Ask, ask_of_wants}
+use Rattle.cluster_model.specs.Progress.{ask_of_wants}
 use Rattle.cluster_model.specs.Progress.Ask.{Pending, Done}
 use Rattle.cluster_model.specs.Progress.Answer.{Stored, Failed}
 use Rattle.cluster_model.specs.Deeds.{slot_up, IsNumbered, hear}
@@ -57,11 +57,15 @@ CountsOnce = (body : Body) (from : ℕ) (want : Want) → told_want body from (t
 abbrev pub IsAsked : Want → ℕ → Type 0
 IsAsked want m = (has want.confirmed m ≡ true) ⊎ (has want.waiting m ≡ true) ⊎ (has want.failed m ≡ true)
 
--- Each target is confirmed, waiting or failed, and stays one of these. Who confirmed stays confirmed, and who failed is confirmed once its confirmation is heard.
+-- Each target is confirmed, waiting or failed, and stays one of these, and no other node is. Who confirmed stays confirmed.
 pub record TargetsStand (own : ℕ) (asked : Asked) (targets : ℕ) (want : Want) (body : Body) (from at : ℕ) : Type 0 where
   pub begins : (m : ℕ) → has targets m ≡ true → IsAsked (new_want own asked targets) m
   pub told : (m : ℕ) → IsAsked want m → IsAsked (told_want body from want) m
   pub failed : (m : ℕ) → IsAsked want m → IsAsked (failed_want at want) m
+  -- and nobody else is asked, or confirmed
+  pub only_begins : (m : ℕ) → IsAsked (new_want own asked targets) m → has targets m ≡ true
+  pub only_told : (m : ℕ) → IsAsked (told_want body from want) m → IsAsked want m
+  pub only_failed : (m : ℕ) → IsAsked (failed_want at want) m → IsAsked want m
   pub stays_told : (m : ℕ) → has want.confirmed m ≡ true → has (told_want body from want).confirmed m ≡ true
   pub stays_failed : (m : ℕ) → has want.confirmed m ≡ true → has (failed_want at want).confirmed m ≡ true
 

@@ -2,7 +2,7 @@
 use Rattle.std.specs.Prelude.{ℕ, max, Bool, true, false, not, ◌&&◌, List, [], ◌∷◌, map, Option, Some, None, is_some, if◌then◌else◌}
 use Rattle.mail_model.specs.Identity.{Stamp}
 use Rattle.object_model.specs.Keys.{is_same_epoch}
-use Rattle.object_model.specs.Letters.{LoginWord, ToldPart, Membership, Body, Letter}
+use Rattle.object_model.specs.Letters.{Membership, Body, Letter}
 use Rattle.object_model.specs.Letters.LoginWord.{Wrong}
 use Rattle.object_model.specs.Letters.ToldPart.{Gone as GonePart}
 use Rattle.object_model.specs.Letters.Body.{File, Filed, LoginTold, ListTold, FetchTold, Strike, StrikeTold, Push, PushAck, Retire, Group, Join, Install, Report}

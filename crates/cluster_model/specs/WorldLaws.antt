@@ -1,5 +1,5 @@
 -- What holds of worlds, whatever steps are made.
-use Rattle.std.specs.Prelude.{◌≡◌, ◌⊎◌, ◌<◌, ◌≤◌, ◌+◌, ℕ, zero, suc, List, [], ◌∷◌, Some}
+use Rattle.std.specs.Prelude.{◌≡◌, ◌⊎◌, ◌≤◌, ◌+◌, ℕ, zero, suc, List, [], ◌∷◌, Some}
 use Rattle.std.specs.FinMap as fin
 use Rattle.mail_model.specs.Identity.{Id}
 use Rattle.mail_model.specs.Plan.{Plan}
@@ -7,13 +7,11 @@ use Rattle.mail_model.specs.Record.{Record}
 use Rattle.mail_model.specs.Record.Record.{Boot}
 use Rattle.mail_model.specs.Told.{Mail}
 use Rattle.mail_model.specs.Mail.{IsStored}
-use Rattle.object_model.specs.Lists.{Among}
 use Rattle.cluster_model.specs.Cluster.{Node, Slot, slot_at}
 use Rattle.cluster_model.specs.Cluster.Life.{Up}
 use Rattle.cluster_model.specs.Parts.{Holds, Sound}
 use Rattle.cluster_model.specs.Starts.{first_membership}
-use Rattle.cluster_model.specs.Deeds.{IsNumbered, slot_up}
-use Rattle.cluster_model.specs.Room.{Flight}
+use Rattle.cluster_model.specs.Deeds.{IsNumbered}
 use Rattle.cluster_model.specs.World.{World, letters_of, cluster_of}
 use Rattle.cluster_model.specs.Steps.{Step, Outcome}
 use Rattle.cluster_model.specs.Steps.Call.{Deliver}

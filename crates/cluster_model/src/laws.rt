@@ -2,6 +2,7 @@
 ghost use Rattle.cluster_model.specs.Laws.{MovesKeepSound, AcknowledgedStand, AcknowledgedKept, DroppedAreGone};
 ghost use Rattle.cluster_model.specs.RuleLaws.{ConfirmsAfterRecords, ConfirmsAfterGone, DiskSaysMerge, TakesNothingTwice, CountsOnce, TargetsStay, StoredAtF, LeavesLogAtLast, AnswersSender, SendsInOrder, IdsAreNew, FetchedAsFiled};
 ghost use Rattle.cluster_model.specs.Rows.{TwoOfThree, HeardTwiceCountsOnce, TargetsMoveOn, PushedThreeTimes, LateHereChangesNothing};
+ghost use Rattle.cluster_model.specs.TicketLaws.{TargetsAreEnough, TicketsBeginFair, TicketsStayFair, FailedHasCause, AllHeardIsDone};
 ghost use Rattle.cluster_model.specs.WorldLaws.{StepsKeepSound, StepsBring, OpeningIsSound};
 ghost use Rattle.cluster_model.specs.NodeLaws.{NodesHear, NodesDeliver, NodesStrike, NodesPush, NodesWiden, NodesEnd, NodesRefuse, NodesNote, NodesFault, NodesFall, NodesStart, NodesStopStart, StartsOwe, NodesLearn, TakesJoin, TakesOnly};
 
@@ -204,4 +205,29 @@ pub fn pushed_three_times()
 /// A worked case: a Here that comes late brings no deleted copy back.
 pub fn late_here_changes_nothing()
     ensures { LateHereChangesNothing }
+{}
+
+/// Where the epoch has F members, a delivery asks F nodes at least, and so does each item of a deletion.
+pub fn targets_are_enough()
+    ensures { TargetsAreEnough }
+{}
+
+/// A ticket begins with F nodes to ask, or with a mishap.
+pub fn tickets_begin_fair()
+    ensures { TicketsBeginFair }
+{}
+
+/// A ticket keeps the nodes that it asks, and none fails without a mishap.
+pub fn tickets_stay_fair()
+    ensures { TicketsStayFair }
+{}
+
+/// A call fails only where it had a mishap.
+pub fn failed_has_cause()
+    ensures { FailedHasCause }
+{}
+
+/// A call of which all answers were heard, with no mishap, is done and has not failed.
+pub fn all_heard_is_done()
+    ensures { AllHeardIsDone }
 {}

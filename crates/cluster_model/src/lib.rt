@@ -27,7 +27,7 @@
 //! - `Deeds`: what a node does as an act of the machine.
 //! - `World`, `Steps`, `Makes`: a world with numbered letters and seconds; its steps, what they
 //!   answer, and what is refused in which order; what each step makes of the world.
-//! - `Laws`, `NodeLaws`, `RuleLaws`, `WorldLaws`: what is proved of these.
+//! - `Laws`, `NodeLaws`, `RuleLaws`, `TicketLaws`, `WorldLaws`, `Rows`: what is proved of these.
 //!
 //! The laws are functions that do nothing, and their contracts hold of the definitions alone.
 //!
@@ -42,6 +42,9 @@
 //! Of the rules as a reader states them: `confirms_after_records`, `confirms_after_gone`,
 //! `disk_says_merge`, `takes_nothing_twice`, `counts_once`, `targets_stay`, `stored_at_f`,
 //! `leaves_log_at_last`, `answers_sender`, `sends_in_order`, `ids_are_new`, `fetched_as_filed`.
+//!
+//! Of a ticket from its beginning to its answer: `targets_are_enough`, `tickets_begin_fair`,
+//! `tickets_stay_fair`, `failed_has_cause`, `all_heard_is_done`.
 //!
 //! `Rows` has worked cases, letter by letter, with values that were worked by hand: `two_of_three`,
 //! `heard_twice_counts_once`, `targets_move_on`, `pushed_three_times`, `late_here_changes_nothing`.
@@ -60,12 +63,13 @@
 mod laws;
 
 pub use laws::{
-    acknowledged_kept, acknowledged_stand, answers_sender, confirms_after_gone,
-    confirms_after_records, counts_once, disk_says_merge, dropped_are_gone, fetched_as_filed,
-    heard_twice_counts_once, ids_are_new, late_here_changes_nothing, leaves_log_at_last,
-    moves_keep_sound, nodes_deliver, nodes_end, nodes_fall, nodes_fault, nodes_hear, nodes_learn,
-    nodes_note, nodes_push, nodes_refuse, nodes_start, nodes_stop_start, nodes_strike, nodes_widen,
-    opening_is_sound, pushed_three_times, sends_in_order, starts_owe, steps_bring,
-    steps_keep_sound, stored_at_f, takes_join, takes_nothing_twice, takes_only, targets_move_on,
-    targets_stay, two_of_three,
+    acknowledged_kept, acknowledged_stand, all_heard_is_done, answers_sender, confirms_after_gone,
+    confirms_after_records, counts_once, disk_says_merge, dropped_are_gone, failed_has_cause,
+    fetched_as_filed, heard_twice_counts_once, ids_are_new, late_here_changes_nothing,
+    leaves_log_at_last, moves_keep_sound, nodes_deliver, nodes_end, nodes_fall, nodes_fault,
+    nodes_hear, nodes_learn, nodes_note, nodes_push, nodes_refuse, nodes_start, nodes_stop_start,
+    nodes_strike, nodes_widen, opening_is_sound, pushed_three_times, sends_in_order, starts_owe,
+    steps_bring, steps_keep_sound, stored_at_f, takes_join, takes_nothing_twice, takes_only,
+    targets_are_enough, targets_move_on, targets_stay, tickets_begin_fair, tickets_stay_fair,
+    two_of_three,
 };

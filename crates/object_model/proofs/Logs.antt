@@ -1,10 +1,9 @@
 -- The steps of the update log.
-use Rattle.std.proofs.Common.{◌≡◌, ◌≢◌, ℕ, Bool, true, false, ◌&&◌, cond, Option, Some, None, refl, sym, ap, subst, ◌∙◌, true≢false}
+use Rattle.std.proofs.Common.{◌≡◌, ◌≢◌, ℕ, Bool, true, false, ◌&&◌, cond, Option, Some, None, refl, ap, ◌∙◌}
 use Rattle.std.specs.Prelude.{◌↔◌}
 use Rattle.std.specs.FinMap as fin
-use Rattle.std.proofs.lemmas.Bool.{and_parts}
 use Rattle.mail_model.specs.Identity.{Key, State}
-use Rattle.object_model.specs.Sets.{has, without_node}
+use Rattle.object_model.specs.Sets.{has}
 use Rattle.object_model.specs.States.{is_same_state}
 use Rattle.object_model.specs.UpdateLog.{Logged, Log, new_entry, noted, is_of, cleared, cleared_at, acknowledged, retired}
 use Rattle.object_model.proofs.SetLaws.{left_in, still_in}

@@ -3,7 +3,7 @@ use Rattle.std.proofs.Common.{◌≡◌, ◌⊎◌, inl, inr, ⊎_elim, ℕ, ◌
 use Rattle.std.specs.Prelude.{◌↔◌, max}
 use Rattle.std.specs.Int.{bit_at}
 use Rattle.std.specs.Ordering.{ordering_then, nat_cmp, is_lt, is_gt, ordering_reverse}
-use Rattle.std.specs.Cmp.{IsTotalOrder, tied_itself}
+use Rattle.std.specs.Cmp.{tied_itself}
 use Rattle.std.specs.Cmp.Lexicographic.{slice_cmp}
 use Rattle.std.specs.declared.cmp.Ordering.{Ordering}
 use Rattle.std.specs.declared.cmp.Ordering.TheVariants.{Less, Equal, Greater}
@@ -22,7 +22,7 @@ use Rattle.object_model.specs.States.{secret_in, state_cmp, is_below, later, joi
 use Rattle.mail_model.specs.Grammar.{IsOfKind}
 use Rattle.object_model.specs.Merge.{IsMerge}
 use Rattle.object_model.specs.Said.{said, held_after, states_in}
-use Rattle.object_model.proofs.Lists.{among_front, among_last, among_behind, among_either}
+use Rattle.object_model.proofs.Lists.{among_front, among_last, among_behind}
 use Rattle.object_model.proofs.StateLaws.{state_total}
 
 same_kind : (a b : Value) → rank_of a ≡ rank_of b → secret_in a ≡ secret_in b → a ≡ b

@@ -3,8 +3,7 @@ use Rattle.std.specs.Prelude.{ℕ, Bool, true, false, not, ◌&&◌, nat_eq, Lis
 use Rattle.std.specs.Ordering.{nat_cmp, on, then_cmp, is_lt}
 use Rattle.std.specs.Cmp.Lexicographic.{slice_cmp, pointwise}
 use Rattle.std.specs.declared.cmp.Ordering.{Ordering}
-use Rattle.mail_model.specs.Identity.{Stamp, Key, Value, State}
-use Rattle.mail_model.specs.Identity.Key.{Profile, Message}
+use Rattle.mail_model.specs.Identity.{Stamp, Value, State}
 use Rattle.mail_model.specs.Identity.Value.{Here, Gone, Secret}
 use Rattle.mail_model.specs.Record.{rank_of}
 

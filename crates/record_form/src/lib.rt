@@ -12,7 +12,7 @@
 //! what is read can be written again, octet for octet. docs/FORMATS.md has the grammar.
 //!
 //! The octets of a message follow the head of their record to the end of the payload. An entry says how
-//! many they are; it neither holds nor copies them.
+//! many they are; it neither holds nor copies them. `octets_head` is the head alone, without memory.
 //!
 //! DIAGNOSTICS
 //!
@@ -39,4 +39,4 @@ mod writing;
 
 pub use entry::DiskEntry;
 pub use reading::read_record;
-pub use writing::record_into;
+pub use writing::{octets_head, record_into};

@@ -1,6 +1,7 @@
 // Entries that are written as payloads.
-ghost use Rattle.std.specs.Prelude.{◌≡◌, ◌++◌, ◌≤◌, length, IfOk, OnOk, OnErr};
+ghost use Rattle.std.specs.Prelude.{◌≡◌, ◌++◌, ◌≤◌, [], length, IfOk, OnOk, OnErr};
 ghost use Rattle.mail_model.specs.Record.{id_octets, text_octets, key_octets, state_octets, secret_octets, rank_of, payload_of};
+ghost use Rattle.mail_model.specs.Record.Record.{Octets};
 ghost use Rattle.mail_model.specs.Grammar.{IsRecord};
 ghost use Rattle.mail_base.specs.Seen.{key_seen, value_seen};
 ghost use Rattle.record_form.specs.Entries.{head_record};
@@ -126,6 +127,30 @@ fn add_entry(out: &mut Vec<u8>, entry: &DiskEntry) -> Result<(), AllocError>
             add_state(out, state)
         }
     }
+}
+
+/// How the payload of a message's octets begins; the octets follow. It takes no memory.
+pub fn octets_head(id: MsgId) -> [u8; 14]
+    ensures { result ≡ payload_of (Octets id []) }
+{
+    let boot = id.boot().to_be_bytes();
+    let seq = id.seq().to_be_bytes();
+    [
+        OCTETS,
+        id.node().number(),
+        boot[0],
+        boot[1],
+        boot[2],
+        boot[3],
+        seq[0],
+        seq[1],
+        seq[2],
+        seq[3],
+        seq[4],
+        seq[5],
+        seq[6],
+        seq[7],
+    ]
 }
 
 /// Appends the spelling of the entry; of a message's octets that which comes before them. No octets

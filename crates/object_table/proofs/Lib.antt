@@ -1,0 +1,5 @@
+pub mod Takes
+pub mod News
+pub mod Writes
+pub mod Indexed
+pub mod Unchanged

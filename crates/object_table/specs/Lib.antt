@@ -1,0 +1,5 @@
+pub mod Codes
+pub mod Tables
+pub mod Outcomes
+pub mod Users
+pub mod Laws

@@ -1,0 +1,5 @@
+use Rattle.mail_base.proofs.KeyMaps.{key_found}
+use Rattle.update_log.proofs.log.UpdateLog.entry.Goals as goal
+
+pub returns : goal.returns
+returns c = key_found _ _ c.args.key.now _ c.self.view_is c.get.ensures.value

@@ -1,0 +1,4 @@
+pub mod Whole
+pub mod Moves
+pub mod Rules
+pub mod Laws
