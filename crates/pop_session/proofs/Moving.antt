@@ -41,15 +41,15 @@ use Rattle.pop_session.proofs.Replying.{greets, says_on, says_last, shows, enter
 use Rattle.pop_session.proofs.Marks.{listed_items}
 
 -- something was said that is no line of its client
-said : (plan : Plan) (old new : PopSession) (octets : List ℕ) → Goes plan old Said octets new → left new < left old → login_of new ≡ login_of old → items_of new ≡ items_of old
+said : (plan : Plan) (old new : PopSession) (octets : List ℕ) → Goes plan old Said octets new → left new < left old → left new + due_count old.turn ≤ left old → login_of new ≡ login_of old → items_of new ≡ items_of old
     → Moved plan old Said octets new
-said plan old new octets goes less login items = record { goes = goes; less = λ busy. less; no_more = omega (arith, less); bounded = λ plain due follows is. cc; own = tt; login = login; items = items }
+said plan old new octets goes less no_more login items = record { goes = goes; less = λ busy. less; no_more = no_more; bounded = λ plain due follows is. cc; own = tt; login = login; items = items }
 
 pub moved_greet : (plan : Plan) (node boot number seconds : ℕ) (now : Turn) (stage : Stage) (cutter : Shown) → now ≡ turn.Greets
     → Moved plan (session node boot number seconds now stage cutter) Said (sent_line (ready_text node boot number seconds)) (session node boot number seconds turn.Hears stage cutter)
 moved_greet plan node boot number seconds now stage cutter is =
     let At : Turn → Type 0 = λ t. Moved plan (session node boot number seconds t stage cutter) Said (sent_line (ready_text node boot number seconds)) (session node boot number seconds turn.Hears stage cutter) in
-    subst At (sym is) (said plan _ _ _ (greets plan node boot number seconds stage cutter) (omega arith) refl refl)
+    subst At (sym is) (said plan _ _ _ (greets plan node boot number seconds stage cutter) (omega arith) (omega arith) refl refl)
 
 -- The reply to an answer.
 module _ (plan : Plan) (node boot number seconds : ℕ) (now : Turn) (stage : Stage) (cutter : Shown) where
@@ -62,24 +62,24 @@ module _ (plan : Plan) (node boot number seconds : ℕ) (now : Turn) (stage : St
   pub moved_on : (line : Text) → now ≡ turn.Replies (dues.Said line) → Moved plan old Said (flat_map sent_line (one_line (text_of line))) (next_at turn.Hears)
   moved_on line is =
       let At : Turn → Type 0 = λ t. Moved plan (next_at t) Said (flat_map sent_line (one_line (text_of line))) (next_at turn.Hears) in
-      subst At (sym is) (said plan _ _ _ (says_on plan node boot number seconds stage cutter line) (omega arith) refl refl)
+      subst At (sym is) (said plan _ _ _ (says_on plan node boot number seconds stage cutter line) (omega arith) (omega arith) refl refl)
 
   pub moved_last : (line : Text) → now ≡ turn.Replies (dues.Last line) → Moved plan old Said (flat_map sent_line (one_line (text_of line))) (next_at turn.Ended)
   moved_last line is =
       let At : Turn → Type 0 = λ t. Moved plan (next_at t) Said (flat_map sent_line (one_line (text_of line))) (next_at turn.Ended) in
-      subst At (sym is) (said plan _ _ _ (says_last plan node boot number seconds stage cutter line) (omega arith) refl refl)
+      subst At (sym is) (said plan _ _ _ (says_last plan node boot number seconds stage cutter line) (omega arith) (omega arith) refl refl)
 
   pub moved_shows : (message : List ℕ) (reply : List (List ℕ)) → now ≡ turn.Replies (dues.Shown message) → ShowsPart message reply → All HasNoCrlf reply
       → Moved plan old Said (flat_map sent_line reply) (next_at turn.Hears)
   moved_shows message reply is part lines =
       let At : Turn → Type 0 = λ t. Moved plan (next_at t) Said (flat_map sent_line reply) (next_at turn.Hears) in
-      subst At (sym is) (said plan _ _ _ (shows plan node boot number seconds stage cutter message reply part lines) (omega arith) refl refl)
+      subst At (sym is) (said plan _ _ _ (shows plan node boot number seconds stage cutter message reply part lines) (omega arith) (omega arith) refl refl)
 
   pub moved_enters : (login : Login) (listed : Answer) → now ≡ turn.Replies (dues.Entered login listed)
       → Moved plan old Said (flat_map sent_line (one_line entered_text)) (session node boot number seconds turn.Hears (Transaction login (map listed_slot (items_told listed))) cutter)
   moved_enters login listed is =
       let At : Turn → Type 0 = λ t. Moved plan (next_at t) Said (flat_map sent_line (one_line entered_text)) (session node boot number seconds turn.Hears (Transaction login (map listed_slot (items_told listed))) cutter) in
-      subst At (sym is) (said plan _ _ _ (enters plan node boot number seconds stage cutter login listed) (omega arith) refl (listed_items (items_told listed)))
+      subst At (sym is) (said plan _ _ _ (enters plan node boot number seconds stage cutter login listed) (omega arith) (omega arith) refl (listed_items (items_told listed)))
 
 -- The next line.
 module _ (plan : Plan) (node boot number seconds : ℕ) (now : Turn) (stage later : Stage) (cutter new : Shown) (is : now ≡ turn.Hears) where

@@ -133,7 +133,7 @@ held session = length session.cutter.rest
 pub record Moved (plan : Plan) (old : PopSession) (move : Move) (octets : List ℕ) (new : PopSession) : Type 0 where
   pub goes : Goes plan old move octets new
   pub less : IsBusy move → left new < left old
-  pub no_more : left new ≤ left old
+  pub no_more : left new + due_count old.turn ≤ left old
   pub bounded : (plain : Session) (due : moves.Due) → Follows old plain due → move ≡ Idle → held new < 1024
   pub own : IsOwnMove old move
   pub login : login_of new ≡ login_of old

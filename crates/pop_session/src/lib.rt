@@ -1,83 +1,78 @@
-//! pop_session: one POP3 session, over the octets of its client as they come.
+//! pop_session: one POP3 session, over the octets of its client as they come and the answers of its node.
 //!
 //! SUMMARY
 //!
-//! `Session::new(alloc)` is a session that has been told nothing. `feed(piece)` takes up octets of its
-//! client, in pieces of any size, and `next(alloc, plan)` hears the next line of them, where one is whole,
-//! and says what that leads to: a reply, a reply and the end of the session, or a question to the node.
-//! `Reply::lines` has the lines of a reply, without their CRLF, and `into_lines` moves them out.
+//! `PopSession::new(alloc, node, boot, number, seconds)` is a session that has its greeting to say. `feed(piece)`
+//! takes up octets of its client, in pieces of any size. `next(alloc, plan, out)` makes the session's next move:
+//! it says something, which is appended to `out`; it asks a call of its node; or it does nothing, since it waits
+//! for an answer, is idle, or has ended. `answer(answer)` takes the answer to its call, `node_down(alloc, out)`
+//! ends it as its node goes down, and `leave()` gives the call that ends its login.
 //!
 //! DESCRIPTION
 //!
-//! A line is what stands before CRLF; a lone CR or LF is an octet of it. It does not matter how the octets
-//! were cut into pieces. A caller feeds one, and hears lines until there is none:
+//! A line is what stands before CRLF; a lone CR or LF is an octet of it. It does not matter how the octets were
+//! cut into pieces. A caller feeds a piece, and makes moves until there is none:
 //!
 //!     session.feed(piece)?;
 //!     loop {
-//!         match session.next(alloc, plan)? {
-//!             Heard::Idle => break,
-//!             Heard::Said(reply) => send(reply)?,
-//!             ..
+//!         match session.next(alloc, plan, &mut out)? {
+//!             Move::Said => write(&mut out)?,
+//!             Move::Begin(call) => begin(call)?,
+//!             Move::Wait | Move::Idle | Move::End => break,
 //!         }
 //!     }
 //!
 //! The commands are those of `pop_wire`, and come in this order (RFC 1939, sections 4 to 7):
 //!
-//! - Before the login, `USER` with any name, and `PASS` in the line directly behind it. Any other line
-//!   between them, also one that is no command, makes `PASS` come out of its order. Names mean the same
-//!   in either case.
-//! - Behind it `STAT`, `LIST`, `UIDL`, `RETR` and `DELE`, over the listing that the node answered. The
-//!   messages keep their numbers, from 1 in the order of the listing, to the end of the session. `DELE`
-//!   marks a message, which from then on is passed over and can't be named; nothing takes a mark away.
-//! - `QUIT` at any time. It ends the session, once the marked messages are deleted. A session that ends in
-//!   another way deletes nothing (RFC 1939, section 6).
+//! - Before the login, `USER` with any name, and `PASS` in the line directly after it. Any other line between
+//!   them, also one that is no command, makes `PASS` come out of its order. Names mean the same in either case.
+//!   `PASS` asks the call Login, if the name is a user's.
+//! - After it `STAT`, `LIST`, `UIDL`, `RETR` and `DELE`, over the listing that the node answered. The messages
+//!   keep their numbers, from 1 in the order of the listing, to the end of the session. `RETR` asks the call
+//!   Fetch of the nodes that hold the message. `DELE` marks a message, which from then on is passed over and
+//!   can't be named; nothing takes a mark away.
+//! - `QUIT` at any time. It ends the session, once the marked messages are deleted: it asks the call Strike for
+//!   exactly these, each as it was listed. A session that ends in another way deletes nothing (RFC 1939,
+//!   section 6).
 //!
-//! Where the node is asked, the session hears no line until the caller gave its answer. It may be fed:
+//! Where a call was asked, the session hears no line before `answer`; it may be fed. The reply is written by the
+//! next `next`. An answer that fails, or `None` for a call that was given up, has a reply too, and after a
+//! deletion the session ends in each case.
 //!
-//! - `LogsIn`: `listed` with the messages, and the session is behind its login; or `Reply::wrong`, and it
-//!   is as before the `USER`. A name that the plan does not have is never asked about, and every secret
-//!   is, also one that no user can have.
-//! - `Fetches`: `Reply::message` with the octets of the message, or `Reply::gone`, and the session stays as
-//!   it is. `message` is the whole reply: how many octets there are, the lines of the message, a period that
-//!   leads one doubled, and the line that is one period.
-//! - `Deletes`, to a `QUIT` behind marks: `Reply::dropped` once every message of its ids is deleted, or
-//!   `Reply::remaining`, and the session ends.
-//!
-//! `Reply::later` answers a login or a `RETR` that the node can't answer now.
-//!
-//! `Reply::ready` opens a session and `Reply::down` comes before it is ended because its node goes down;
-//! when these are due is known to the caller.
+//! A session that was let in leaves: its caller begins the call of `leave()` once the session has ended or its
+//! client closed it, after its last octets were written, and not where its node went down.
 //!
 //! DIAGNOSTICS
 //!
-//! Replies that begin with `-ERR`, in the order in which they are tried: a line of more than 1,024 octets
-//! with its CRLF is too long; the verb is unknown; the argument is bad; the command comes out of its
-//! order; the name or the secret is wrong; or there is no message of that number, as where it is marked.
-//! What is refused changes nothing, but that `PASS` may then not come next.
+//! Replies that begin with `-ERR`, in the order in which they are tried: a line of more than 1,024 octets with
+//! its CRLF is too long; the verb is unknown; the argument is bad; the command comes out of its order; the name
+//! or the secret is wrong; or there is no message of that number, as where it is marked. What is refused changes
+//! nothing, but that `PASS` may then not come next. `-ERR [SYS/TEMP]` (RFC 3206) says that a call failed, that
+//! some messages may remain, or that the node goes down.
 //!
-//! Want of memory is an `AllocError`. A `feed` or `listed` has then changed nothing, and behind a `next` the
-//! line waits still and has marked nothing: it may be heard again, also once more was fed.
+//! Want of memory is an `AllocError`. Nothing is then changed, and the call may be made again.
 //!
 //! STANDS ON
 //!
-//! `dot_text` for lines out of octets and for a message as it is sent, `pop_wire` for commands, `mail_base`
-//! for names, ids and the plan, and `mail_model`, whose definition of a session says what every line leads
-//! to. The contract of `next` is that definition, at the first line of the octets that wait. Five laws say
-//! what it means: `asks_behind_user`, `listed_once`, `numbered_alike`, `numbers_stay` and `marked_is_none`.
+//! `dot_text` for lines out of octets and for a message as it is sent, `pop_wire` for commands, `mail_base` for
+//! names, listings and the plan, `call_tickets` for calls and answers, and `session_model`, whose moves of a
+//! session are the contract: `Follows` ties a value to a session of the definitions, and each call makes one of
+//! its moves or none. Five laws say what the tables of replies mean: `asks_behind_user`, `listed_once`,
+//! `numbered_alike`, `numbers_stay` and `marked_is_none`.
 //!
 //! COSTS
 //!
-//! Hearing is in proportion to the octets that were fed: a line that has no CRLF yet is not looked at again
-//! for each piece. `STAT` goes over the listing twice and `QUIT` once, and `LIST` and `UIDL` without a number
-//! make a line for each message of it. A number leads to its message at once, and `DELE` takes no longer. The
-//! reply to `RETR` is made in proportion to the octets of the message, which are held twice more meanwhile.
+//! Hearing is in proportion to the octets that were fed: a line that has no CRLF yet is not looked at again for
+//! each piece, and of one that is too long no more than a CR is held. While it is idle a session holds less than
+//! 1,024 octets of its client. A login goes over its listing once, `STAT` twice and `QUIT` once, and `LIST` and
+//! `UIDL` without a number make a line for each message of it. A number leads to its message at once. The octets
+//! of a message are moved into the session, and written once.
 //!
 //! WHAT IT DOES NOT DO
 //!
-//! It keeps a line that has no CRLF yet, however long. It compares no secrets and reads no messages: their
-//! octets are given to `Reply::message`. It deletes nothing itself. It does not look whether a listing names
-//! a message twice. TOP, APOP, NOOP, RSET and CAPA are unknown commands, and nothing is locked. After
-//! `Closed`, and after the answer to `Deletes`, the caller lets it go.
+//! It compares no secrets, reads no messages and deletes none: its node does. It does not look whether a listing
+//! names a message twice. It does not bound what is fed while it waits. TOP, APOP, NOOP, RSET and CAPA are
+//! unknown commands.
 #![tactic(auto)]
 
 mod due;

@@ -15,7 +15,7 @@ ghost use Rattle.call_tickets.specs.Moves.{Fed, Fell, HasEnded};
 ghost use Rattle.pop_session.specs.Shown.{login_in};
 ghost use Rattle.pop_session.specs.Slots.{listed_slot};
 ghost use Rattle.pop_session.specs.Dues.{items_told};
-ghost use Rattle.pop_session.specs.Follows.{Follows, Moved, Begins, Enters, HasReply, Keeps, Takes, fetch_of, greeting_of, login_of, leave_of, user_of, left, held};
+ghost use Rattle.pop_session.specs.Follows.{Follows, Moved, Begins, Enters, HasReply, Keeps, Takes, fetch_of, greeting_of, login_of, leave_of, user_of, due_count, left, held};
 
 use crate::due::{Asked, Due};
 use crate::listing::Listing;
@@ -225,7 +225,7 @@ impl PopSession {
         ensures replies { (plain : Session) (state : State) (call : calls.Call) (reply : List (List ℕ)) → Follows self.old plain moves.Due.Nothing → plain.standing ≡ Waiting state call
             → IsReply call (given_answer answer) reply → Follows self.new plain (moves.Due.Reply (given_answer answer)) }
         ensures takes { Takes answer self.old self.new }
-        ensures left { left self.new ≤ left self.old + 1 }
+        ensures left { left self.new + due_count self.old.turn ≡ left self.old + due_count self.new.turn }
     {
         match std::mem::replace(&mut self.turn, Turn::Ended) {
             Turn::Waits(asked) => self.turn = Turn::Replies(asked.due(answer)),

@@ -52,15 +52,15 @@ none_due (Ends reply) now is = ap due_count is
 -- something was said
 pub said : (plan : Plan) (node : ℕ) (told later : Told) (old new : Shown) (undotter : Undotter) (text : List ℕ × Bool) (before now : Turn) (octets : List ℕ)
     → Goes plan (session node before told old undotter text) Said octets (session node now later new undotter text)
-    → length new.rest + due_count now < length old.rest + due_count before
+    → length new.rest + due_count now < length old.rest + due_count before → length new.rest + due_count now ≤ length old.rest
     → Moved plan (session node before told old undotter text) Said octets (session node now later new undotter text)
-said plan node told later old new undotter text before now octets goes less = record { goes = goes; less = λ busy. less; no_more = omega (arith, less); bounded = λ plain due follows is. cc; few = tt }
+said plan node told later old new undotter text before now octets goes less calm = record { goes = goes; less = λ busy. less; no_more = omega (arith, calm); bounded = λ plain due follows is. cc; few = tt }
 
 -- what was to be said before it hears on
 pub moved_due : (plan : Plan) (node : ℕ) (told : Told) (cutter : Shown) (undotter : Undotter) (text : List ℕ × Bool) (now : Turn) (reply : Reply) → IsDue now reply
     → Moved plan (session node now told cutter undotter text) Said (sent_line (text_of reply node)) (session node turn.Hears told cutter undotter text)
 moved_due plan node told cutter undotter text now reply is =
-    said plan node told told cutter cutter undotter text now turn.Hears _ (said_due plan node told cutter undotter text now reply is) (less now is)
+    said plan node told told cutter cutter undotter text now turn.Hears _ (said_due plan node told cutter undotter text now reply is) (less now is) (omega arith)
   where
     less : (t : Turn) → IsDue t reply → length cutter.rest + due_count turn.Hears < length cutter.rest + due_count t
     less turn.Greets due = omega arith
@@ -92,14 +92,14 @@ module _ (plan : Plan) (node : ℕ) (told : Told) (undotter : Undotter) (text : 
   pub moved_long : (count : ℕ) → Finds old (Long count) old → new ≡ behind_line old (Long count)
       → Moved plan (session node turn.Hears told old undotter text) Said (sent_line (text_of LineTooLong node)) (session node turn.Hears told new undotter text)
   moved_long count finds is =
-      said plan node told told old new undotter text turn.Hears turn.Hears _ (hears_long plan node told undotter text outside old new count finds is) (less_behind (Long count) finds is)
+      said plan node told told old new undotter text turn.Hears turn.Hears _ (hears_long plan node told undotter text outside old new count finds is) (less_behind (Long count) finds is) (omega (arith, less_behind (Long count) finds is))
 
   pub moved_short : (count : ℕ) → Finds old (Whole count) old → new ≡ behind_line old (Whole count) → (heard : Heard) (later : Told) (now : Turn)
       → (old.limit ≡ 1024 → is_long_line (take count old.rest) ≡ false → HearsLine plan (talk_of told) (take count old.rest) heard (talk_of later)) → Turns heard now
       → Moved plan (session node turn.Hears told old undotter text) Said (sent_line (text_of (reply_in heard) node)) (session node now later new undotter text)
   moved_short count finds is heard later now hears turns =
       said plan node told later old new undotter text turn.Hears now _ (hears_short plan node told undotter text outside old new count finds is heard later now hears turns)
-      (omega (arith, less_behind (Whole count) finds is, none_due heard now turns))
+      (omega (arith, less_behind (Whole count) finds is, none_due heard now turns)) (omega (arith, less_behind (Whole count) finds is, none_due heard now turns))
 
 -- nothing is taken where a line is found
 pub found_same : (old new : Shown) (found : Found) → Finds old found new → Finds old found old

@@ -114,7 +114,7 @@ HasFewUsers move = ⊤
 pub record Moved (plan : Plan) (old : SmtpSession) (move : Move) (octets : List ℕ) (new : SmtpSession) : Type 0 where
   pub goes : Goes plan old move octets new
   pub less : IsBusy move → left new < left old
-  pub no_more : left new ≤ left old
+  pub no_more : left new + due_count old.turn ≤ left old
   pub bounded : (plain : Session) (due : Due) → Follows old plain due → move ≡ Idle → IsBounded new
   pub few : HasFewUsers move
 

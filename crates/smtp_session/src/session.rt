@@ -247,7 +247,7 @@ impl SmtpSession {
     pub fn answer(&mut self, answer: Option<Answer>)
         ensures replies { (plain : Session) (state : State) (call : calls.Call) (reply : List (List ℕ)) → Follows self.old plain Due.Nothing → plain.standing ≡ Waiting state call
             → IsReply call (given_answer answer) reply → Follows self.new plain (Due.Reply (given_answer answer)) }
-        ensures left { left self.new ≤ left self.old + 1 }
+        ensures left { left self.new + due_count self.old.turn ≡ left self.old + due_count self.new.turn }
     {
         if matches!(self.turn, Turn::Waits) {
             self.turn = Turn::Replies(reply_to(&answer));
