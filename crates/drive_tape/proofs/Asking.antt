@@ -346,7 +346,7 @@ module _ {D : Type 0} (seen : D → Option (List ℕ)) (faults : D → ℕ) (sta
   answered_on new more =
       let one = goes in
       let two : WentOn seen faults start plan one.q (RestsAt place (place + 1)) held new =
-          subst (λ (pl : Plan). WentOn seen faults start pl one.q (RestsAt place (place + 1)) held new) still (more one.q one.shows one.held_is one.so_is) in
+      subst (λ (pl : Plan). WentOn seen faults start pl one.q (RestsAt place (place + 1)) held new) still (more one.q one.shows one.held_is one.so_is) in
       (two.q, work_more plan p one.q two.q (work_more plan p q one.q work one.work) two.work, two.held_is, two.shows, asks_on place two.q two.so_is)
 
   -- it was answered, and the work stopped as it heard on

@@ -207,11 +207,16 @@ pub stopped_on : {D : Type 0} (seen : D → Option (List ℕ)) (faults : D → �
     → Work plan p q → Stopped seen faults start plan q reason held world → Stopped seen faults start plan p reason held world
 unfolding work_cut
 stopped_on seen faults start plan p q reason held world work more =
-    record { stop = more.stop; is = more.is; outcomes = more.outcomes; cut = work_cut plan more.stop p q held more.outcomes work more.cut;
+    record {
+      stop = more.stop;
+      is = more.is;
+      outcomes = more.outcomes;
+      cut = work_cut plan more.stop p q held more.outcomes work more.cut;
       cause = subst (λ (d : List ℕ). HasCauses seen faults start d world)
           (ap (λ (d : List ℕ). d ++ failed_in more.cut.acts) work.failed ∙ append_assoc p.down (failed_in work.acts) (failed_in more.cut.acts)
           ∙ ap (λ (d : List ℕ). p.down ++ d) (sym (flat_map-append failed_by work.acts more.cut.acts))) more.cause;
-      since = more.since }
+      since = more.since;
+    }
 
 -- what a call of another crate says of the number and the sink that it was given
 pub as_wrote : (h old new : Option (List ℕ)) (n k : ℕ) (said : List (List ℕ)) (ends : Bool) (reason : WriteStop) → h ≡ old → n ≡ k

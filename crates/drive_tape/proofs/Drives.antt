@@ -112,10 +112,13 @@ handled_more plan down old [] [] (y ∷ outputs) mid line a o new are one = absu
 handled_more plan down old [] (x ∷ acts) outputs mid line a o new are one = absurd are
 handled_more plan down old (l ∷ lines) [] outputs mid line a o new are one = absurd are
 handled_more plan down old (l ∷ lines) (x ∷ acts) [] mid line a o new are one = absurd are
-handled_more plan down old (l ∷ lines) (x ∷ acts) (y ∷ outputs) mid line a o new are one =
-    (are.0, are.1, handled_more plan (down ++ failed_in x) are.0 lines acts outputs mid line a o new are.2
-    (subst (λ (d : List ℕ). IsHandled plan d mid line a o new)
-    (ap (λ (l : List ℕ). down ++ l) (flat_map-append failed_by x (joined acts)) ∙ sym (append_assoc down (failed_in x) (failed_in (joined acts)))) one))
+handled_more plan down old (l ∷ lines) (x ∷ acts) (y ∷ outputs) mid line a o new are one = (
+  are.0,
+  are.1,
+  handled_more plan (down ++ failed_in x) are.0 lines acts outputs mid line a o new are.2
+      (subst (λ (d : List ℕ). IsHandled plan d mid line a o new)
+      (ap (λ (l : List ℕ). down ++ l) (flat_map-append failed_by x (joined acts)) ∙ sym (append_assoc down (failed_in x) (failed_in (joined acts)))) one),
+)
 
 written_more : (xs ys : List Entry) → written_of (xs ++ ys) ≡ written_of xs ++ written_of ys
 written_more xs ys = flat_map-append (λ (entry : Entry). ended (entry_line entry)) xs ys
@@ -388,17 +391,30 @@ no_line_why line.NoMemory plan down sessions left taken room reads = (OutOfMemor
 line_why : (reason : Why) (plan : Plan) (p : Point) (line : List ℕ) (stop : Stop) (midst : List (List ℕ)) (sessions : List Session) (left : Option (List ℕ)) (room : ℕ) → HasNoLf line
     → (midst ≡ [] → sessions ≡ p.sessions) → ((midst ≡ []) ⊎ (midst ≡ line ∷ [])) → IsWhy reason plan p line stop midst
     → (others : List ℕ) × (ended line ≡ flat_map ended midst ++ others) × All HasNoLf midst × Stops reason stop plan p.down sessions midst left others room
-line_why why.Ended plan p line stop midst sessions left room one same at is =
-    (ended line, ap (λ (ls : List (List ℕ)). flat_map ended ls ++ ended line) (sym is.1), subst (All HasNoLf) (sym is.1) (All-nil HasNoLf),
-    (is.0, is.1, record { line = line; whole = refl; one = one; spelled = is.2 }))
-line_why (why.Bad fault) plan p line stop midst sessions left room one same at is =
-    (ended line, ap (λ (ls : List (List ℕ)). flat_map ended ls ++ ended line) (sym is.1), subst (All HasNoLf) (sym is.1) (All-nil HasNoLf),
-    (is.0, is.1, ⊎_elim
-    (λ (none : (fault ≡ BadLine) × (tape_order line ≡ None)). inr (inr (inl (none.0, record { line = line; whole = refl; one = one; spelled = none.1 }))))
-    (λ (some : (order : Order) × (tape_order line ≡ Some order) × (refusal plan p.down p.sessions order ≡ Some (fault_of fault))).
-    inr (inr (inr (inr (some.0, record { line = line; whole = refl; one = one; spelled = some.1 },
-    subst (λ (ss : List Session). refusal plan p.down ss some.0 ≡ Some (fault_of fault)) (sym (same is.1)) some.2)))))
-    is.2))
+line_why why.Ended plan p line stop midst sessions left room one same at is = (
+  ended line,
+  ap (λ (ls : List (List ℕ)). flat_map ended ls ++ ended line) (sym is.1),
+  subst (All HasNoLf) (sym is.1) (All-nil HasNoLf),
+  (is.0, is.1, record { line = line; whole = refl; one = one; spelled = is.2 }),
+)
+line_why (why.Bad fault) plan p line stop midst sessions left room one same at is = (
+  ended line,
+  ap (λ (ls : List (List ℕ)). flat_map ended ls ++ ended line) (sym is.1),
+  subst (All HasNoLf) (sym is.1) (All-nil HasNoLf),
+  (
+    is.0,
+    is.1,
+    ⊎_elim
+        (λ (none : (fault ≡ BadLine) × (tape_order line ≡ None)). inr (inr (inl (none.0, record { line = line; whole = refl; one = one; spelled = none.1 }))))
+        (λ (some : (order : Order) × (tape_order line ≡ Some order) × (refusal plan p.down p.sessions order ≡ Some (fault_of fault))).
+        inr (inr (inr (inr (
+          some.0,
+          record { line = line; whole = refl; one = one; spelled = some.1 },
+          subst (λ (ss : List Session). refusal plan p.down ss some.0 ≡ Some (fault_of fault)) (sym (same is.1)) some.2,
+        )))))
+        is.2,
+  ),
+)
 line_why why.WriteFault plan p line stop midst sessions left room one same at is =
     ([], in_midst line midst is.1, subst (All HasNoLf) (sym is.1) (All-cons HasNoLf line [] one (All-nil HasNoLf)), (is.0, refl))
 line_why why.NoMemory plan p line stop midst sessions left room one same at is = ⊎_elim

@@ -243,7 +243,7 @@ fallen_all seen faults start plan p q place at onward new held work is f all sam
     let length_is = converse_length new.sessions.talkers.items q.sessions f.talks in
     let fallen = λ (i : ℕ) (s : Session) (here : slice_get q.sessions i ≡ Some s). let within : i < length q.sessions = within_get q.sessions i s here in f.fallen i s (omega (arith, within, length_is, all)) here in
     let without = λ (i : ℕ) (t : Option Ticket) (here : slice_get new.sessions.tickets.items i ≡ Some t).
-        let within : i < length new.sessions.tickets.items = within_get new.sessions.tickets.items i t here in f.without i t (omega (arith, within, same, all)) here in
+    let within : i < length new.sessions.tickets.items = within_get new.sessions.tickets.items i t here in f.without i t (omega (arith, within, same, all)) here in
     record {
       q = q;
       work = work;

@@ -149,16 +149,20 @@ module _ {D : Type 0} (seen : D → Option (List ℕ)) (faults : D → ℕ) (sta
     tail = front;
     extra = extra;
     sessions = new;
-    off = (next, record {
-      before = last.before;
-      says = last.says;
-      begun = begun;
-      front = last.kept;
-      missing = missing;
-      cut = last.cut;
-      may = may_miss stop missing lacking may;
-      written = last.written;
-    }, asked);
+    off = (
+      next,
+      record {
+        before = last.before;
+        says = last.says;
+        begun = begun;
+        front = last.kept;
+        missing = missing;
+        cut = last.cut;
+        may = may_miss stop missing lacking may;
+        written = last.written;
+      },
+      asked,
+    );
     at_line = inr refl;
     why = is_why reason plan p line stop is;
     new = came;
@@ -168,16 +172,23 @@ module _ {D : Type 0} (seen : D → Option (List ℕ)) (faults : D → ℕ) (sta
     since = since;
     cause = subst (λ (d : List ℕ). HasCauses seen faults start (p.down ++ d) world) (sym (ap failed_in (append-nil (first ∷ acts)) ∙ failed_on acts)) cause;
     missing = missing;
-    all = inr ([], (next, record {
-      before = last.before;
-      says = last.says;
-      begun = begun;
-      front = last.says;
-      missing = [];
-      cut = sym (append-nil last.says);
-      may = tt;
-      written = ap (λ (l : List Entry). l ++ missing) last.written ∙ append_assoc (all_of last.before) last.kept missing ∙ ap (λ (l : List Entry). all_of last.before ++ l) (sym last.cut);
-    }, inl refl));
+    all = inr (
+      [],
+      (
+        next,
+        record {
+          before = last.before;
+          says = last.says;
+          begun = begun;
+          front = last.says;
+          missing = [];
+          cut = sym (append-nil last.says);
+          may = tt;
+          written = ap (λ (l : List Entry). l ++ missing) last.written ∙ append_assoc (all_of last.before) last.kept missing ∙ ap (λ (l : List Entry). all_of last.before ++ l) (sym last.cut);
+        },
+        inl refl,
+      ),
+    );
     cut = cut;
     is_cut = is_cut;
     whole = never_behind stop missing lacking cut may;

@@ -83,8 +83,8 @@ module _ (plan : Plan) (p : Point) (place onward : ℕ) (plain after : Session) 
   asks_acted asked is =
       let waits = asks_waits plan plain one one.reply after asked did is in
       let none : said_lines (place + 1) one.reply ++ closing (place + 1) (Hears one) after.standing ≡ [] =
-          ap (λ (l : List (List ℕ)). said_lines (place + 1) l ++ closing (place + 1) (Hears one) after.standing) (asks_silent plan plain one one.reply after asked did is)
-          ∙ ap (closing (place + 1) (Hears one)) waits.1 in
+      ap (λ (l : List (List ℕ)). said_lines (place + 1) l ++ closing (place + 1) (Hears one) after.standing) (asks_silent plan plain one one.reply after asked did is)
+      ∙ ap (closing (place + 1) (Hears one)) waits.1 in
       subst (λ (es : List Entry). Acted plan p.sessions (Does (place + 1) (Hears one)) es (slice_set p.sessions place after)) none
       (acted_does plan p.sessions place plain after (Hears one) one.reply here did)
 
@@ -297,8 +297,13 @@ module _ {D : Type 0} (seen : D → Option (List ℕ)) (faults : D → ℕ) (sta
       outputs = [] ∷ [];
       turn = Beginning (place + 1) onward;
       sessions = slice_set p.sessions place b.after;
-      goes = (Beginning (place + 1) onward, slice_set p.sessions place b.after, asks_next plan p place onward b.plain b.after b.one b.turn b.here b.did b.asked b.asks,
-      asks_acted plan p place onward b.plain b.after b.one b.turn b.here b.did b.asked b.asks, (refl, refl));
+      goes = (
+        Beginning (place + 1) onward,
+        slice_set p.sessions place b.after,
+        asks_next plan p place onward b.plain b.after b.one b.turn b.here b.did b.asked b.asks,
+        asks_acted plan p place onward b.plain b.after b.one b.turn b.here b.did b.asked b.asks,
+        (refl, refl),
+      );
       new = outcome ∷ [];
       lacking = lacking;
       extra = [];

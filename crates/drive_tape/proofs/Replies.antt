@@ -35,7 +35,7 @@ writes_behind old mid new before entries (Err why) wrote more = (
   ap (λ (es : List Entry). before ++ es) more.3 ∙ sym (append_assoc before more.0 more.1),
   more.4,
   subst (Appends old new) (sym (append_assoc (written_of before) (written_of more.0) more.2) ∙ ap (λ (l : List ℕ). l ++ more.2) (sym (written_more before more.0)))
-  (appends_more _ _ _ _ _ wrote more.5),
+      (appends_more _ _ _ _ _ wrote more.5),
 )
 
 -- nothing was written

@@ -37,7 +37,7 @@ pub mail_greets : (plan : Plan) (node : ℕ) (session new : SmtpSession) (did : 
     → mail.Moved plan session did octets new → Greeted (mail.Follows new) (greeting_text node) (opened_session Smtp node) octets
 mail_greets plan node session new did octets follows moved =
     subst (λ (n : ℕ). Greeted (mail.Follows new) (greeting_text n) (opened_session Smtp node) octets) (sym follows.node)
-      (greets_only (mail.Follows new) plan (opened_session Smtp node) (greeting_text session.node) did octets (moved.goes (opened_session Smtp node) Greeting follows))
+    (greets_only (mail.Follows new) plan (opened_session Smtp node) (greeting_text session.node) did octets (moved.goes (opened_session Smtp node) Greeting follows))
 
 -- and of one that reads mail
 pub reader_greets : (plan : Plan) (node : ℕ) (greeting : List ℕ) (session new : PopSession) (did : Move) (octets : List ℕ)
@@ -45,4 +45,4 @@ pub reader_greets : (plan : Plan) (node : ℕ) (greeting : List ℕ) (session ne
     → reader.Moved plan session did octets new → Greeted (reader.Follows new) greeting (opened_session Pop node) octets
 reader_greets plan node greeting session new did octets follows is moved =
     subst (λ (g : List ℕ). Greeted (reader.Follows new) g (opened_session Pop node) octets) is
-      (greets_only (reader.Follows new) plan (opened_session Pop node) (reader.greeting_of session) did octets (moved.goes (opened_session Pop node) Greeting follows))
+    (greets_only (reader.Follows new) plan (opened_session Pop node) (reader.greeting_of session) did octets (moved.goes (opened_session Pop node) Greeting follows))

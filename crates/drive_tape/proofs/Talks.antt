@@ -177,9 +177,11 @@ asks_waits plan old one said new call did is = by_lead (lead_of plan old.node di
     by_lead : (lead : Lead) → IsLed lead one → new.standing ≡ stands plan did.0 one lead → (state : State) × (new.standing ≡ Waiting state call)
     by_lead (Says reply) led so = let no : None ≡ Some call = sym led.0 ∙ is in absurd cc
     by_lead (Ends reply) led so = let no : None ≡ Some call = sym led.0 ∙ is in absurd cc
-    by_lead (Asks asks) led so =
-        (heard plan did.0 one.unit [], so ∙ ap (λ (a : Option Answer). asked (heard plan did.0 one.unit []) asks a) did.6
-        ∙ ap (λ (c : Call). Waiting (heard plan did.0 one.unit []) c) (some_same asks call (sym led.0 ∙ is)))
+    by_lead (Asks asks) led so = (
+      heard plan did.0 one.unit [],
+      so ∙ ap (λ (a : Option Answer). asked (heard plan did.0 one.unit []) asks a) did.6
+          ∙ ap (λ (c : Call). Waiting (heard plan did.0 one.unit []) c) (some_same asks call (sym led.0 ∙ is)),
+    )
 
 abbrev NotWaiting : Standing → Type 0
 NotWaiting standing = (state : State) (call : Call) → standing ≢ Waiting state call

@@ -86,13 +86,7 @@ impl Sessions {
         ensures found { (sessions : List Session) → Converse self.now.talkers.items sessions → IsFound number result sessions }
     {
         match self.place_of(number) {
-            Some(place) => {
-                if self.is_on(place) {
-                    Some(place)
-                } else {
-                    None
-                }
-            }
+            Some(place) => { if self.is_on(place) { Some(place) } else { None } }
             None => None,
         }
     }

@@ -82,7 +82,12 @@ impl Talker {
     /// # Errors
     ///
     /// Only want of memory.
-    pub fn next(&mut self, alloc: Global, plan: &Plan, out: &mut Vec<u8>) -> Result<Move, AllocError>
+    pub fn next(
+        &mut self,
+        alloc: Global,
+        plan: &Plan,
+        out: &mut Vec<u8>,
+    ) -> Result<Move, AllocError>
         ensures moved { IfOk result (λ move. (octets : List ℕ) × (out.new.items ≡ out.old.items ++ octets)
             × ((plain : Session) → Matches self.old plain Due.Nothing → Moves (Matches self.new) [] plan.now plain Due.Nothing move octets)) }
         ensures less { IfOk result (λ move. (IsBusy move → talker_left self.new < talker_left self.old) × (talker_left self.new ≤ talker_left self.old)) }

@@ -94,11 +94,17 @@ module _ (tape : List ℕ) (good : IsGoodTape tape) where
         let plan = reads_good_plan tape good ends.left0 served.between served.plan served.count told served.reads in
         subst NamesNone (sym ran.is) (handled seen faults ran.start ran.last served.between ends.left1 ends.held0 ends.held1 ran.answer served.count (ran.begins.plan_is ∙ plan.1) plan.0 ran.drives
         (⊎_elim (λ (none : failed_in (flat_map (λ a. a) (ran.drives.acts ++ ran.drives.behind)) ≡ []). none)
-        (λ (some : Rose (faults (disk_of ran.start)) (faults (disk_of ran.last)) ⊎ (seen (disk_of ran.start) ≡ None)). absurd (stands (inr (served.taken, served.given, served.out, served.back, ⊎_elim
-        (λ (rose : Rose (faults (disk_of ran.start)) (faults (disk_of ran.last))).
-        inl (subst (λ (n : ℕ). Rose n (faults served.given)) ran.opened (subst (λ (d : D). Rose (faults (disk_of ran.start)) (faults d)) (sym ran.store) rose)))
-        (λ (none : seen (disk_of ran.start) ≡ None). inr (untold (seen served.taken) (seen (disk_of ran.start)) ran.told none))
-        some))))
+        (λ (some : Rose (faults (disk_of ran.start)) (faults (disk_of ran.last)) ⊎ (seen (disk_of ran.start) ≡ None)). absurd (stands (inr (
+          served.taken,
+          served.given,
+          served.out,
+          served.back,
+          ⊎_elim
+              (λ (rose : Rose (faults (disk_of ran.start)) (faults (disk_of ran.last))).
+              inl (subst (λ (n : ℕ). Rose n (faults served.given)) ran.opened (subst (λ (d : D). Rose (faults (disk_of ran.start)) (faults d)) (sym ran.store) rose)))
+              (λ (none : seen (disk_of ran.start) ≡ None). inr (untold (seen served.taken) (seen (disk_of ran.start)) ran.told none))
+              some,
+        ))))
         ran.drives.fallen))
 
     no_line_named : Works seen faults is_settled stores ends ending → NamesNone ending

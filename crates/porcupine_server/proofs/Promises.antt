@@ -244,7 +244,7 @@ module _ {D : Type 0} (seen : D → Option (List ℕ)) (faults : D → ℕ) (is_
   -- the promises, with this last line
   kept_with : (front : List Entry) → IsEnding front
       → (records : List Record) × KeepsPromises (plan_of ran.start) (is_some (seen given)) ran.drives.stop lines (ran.drives.entries ++ front) (seen given ∷ []) (records ∷ []) (λ id. octets_in id records)
-        (book_of ran.last) done (flat_map asked_in ran.drives.outcomes)
+      (book_of ran.last) done (flat_map asked_in ran.drives.outcomes)
   kept_with front ended_so =
       let owed = world_owes seen faults (plan_of ran.start) lines (ran.drives.entries ++ front) ran.drives.outcomes ran.drives.awaited ran.start ran.last one sure
       (subst (λ (p : Plan). Begins seen p ran.start) (sym ran.begins.plan_is) ran.begins) ran.drives.steps of_sessions in
@@ -272,15 +272,19 @@ module _ {D : Type 0} (seen : D → Option (List ℕ)) (faults : D → ℕ) (is_
   all_written : ((ran.drives.cut ≡ []) ⊎ ((last.front ≡ []) × (last.cut ≡ [])))
       → (cut : List ℕ) × ((written_of ran.drives.entries ++ ran.drives.cut) ++ (written_of last.front ++ last.cut) ≡ written_of (ran.drives.entries ++ last.front) ++ cut) × HasNoLf cut
   all_written which = ⊎_elim
-      (λ none. (last.cut,
-      ap (λ (l : List ℕ). l ++ (written_of last.front ++ last.cut)) (ap (λ (l : List ℕ). written_of ran.drives.entries ++ l) none ∙ append-nil (written_of ran.drives.entries))
-      ∙ sym (append_assoc (written_of ran.drives.entries) (written_of last.front) last.cut) ∙ ap (λ (l : List ℕ). l ++ last.cut) (sym (written_more ran.drives.entries last.front)),
-      last.rest))
-      (λ none. (ran.drives.cut,
-      ap (λ (l : List ℕ). (written_of ran.drives.entries ++ ran.drives.cut) ++ l) (ap (λ (es : List Entry). written_of es ++ last.cut) none.0 ∙ none.1)
-      ∙ append-nil (written_of ran.drives.entries ++ ran.drives.cut)
-      ∙ ap (λ (es : List Entry). written_of es ++ ran.drives.cut) (sym (append-nil ran.drives.entries) ∙ ap (λ (es : List Entry). ran.drives.entries ++ es) (sym none.0)),
-      ran.drives.rest))
+      (λ none. (
+        last.cut,
+        ap (λ (l : List ℕ). l ++ (written_of last.front ++ last.cut)) (ap (λ (l : List ℕ). written_of ran.drives.entries ++ l) none ∙ append-nil (written_of ran.drives.entries))
+            ∙ sym (append_assoc (written_of ran.drives.entries) (written_of last.front) last.cut) ∙ ap (λ (l : List ℕ). l ++ last.cut) (sym (written_more ran.drives.entries last.front)),
+        last.rest,
+      ))
+      (λ none. (
+        ran.drives.cut,
+        ap (λ (l : List ℕ). (written_of ran.drives.entries ++ ran.drives.cut) ++ l) (ap (λ (es : List Entry). written_of es ++ last.cut) none.0 ∙ none.1)
+            ∙ append-nil (written_of ran.drives.entries ++ ran.drives.cut)
+            ∙ ap (λ (es : List Entry). written_of es ++ ran.drives.cut) (sym (append-nil ran.drives.entries) ∙ ap (λ (es : List Entry). ran.drives.entries ++ es) (sym none.0)),
+        ran.drives.rest,
+      ))
       which
 
   pub kept_run : HasKept seen stores ends
@@ -295,30 +299,34 @@ module _ {D : Type 0} (seen : D → Option (List ℕ)) (faults : D → ℕ) (is_
         took = consumes_more _ _ _ _ _ reads.took ran.drives.took;
         gave = appends_more _ _ _ _ _ ran.drives.gave last.gave;
         transcript = record { cut = wrote.0; whole = wrote.1; lines = lines_more ran.drives.entries last.front ran.drives.lines last.each; rest = wrote.2 };
-        promise = inr (given, back, record {
-          plan = plan_of ran.start;
-          lines = lines;
-          tape = record {
-            head = reads.lines;
-            draft = reads.draft;
-            go = go.0;
-            others = ran.drives.others;
-            whole = ap (λ (l : List ℕ). (flat_map ended reads.lines ++ l) ++ ran.drives.read) go.1 ∙ append_assoc (flat_map ended reads.lines) (ended go.0) ran.drives.read
-                ∙ ap (λ (l : List ℕ). flat_map ended reads.lines ++ (ended go.0 ++ l)) ran.drives.tape;
-            head_each = reads.each;
-            go_one = go.2;
-            each = ran.drives.each;
-            drafts = reads.drafts;
-            goes = go.3;
-            plan_is = go.4 ∙ ap Some (sym ran.begins.plan_is);
-          };
-          stop = ran.drives.stop;
-          records = kept.0;
-          book = book_of ran.last;
-          acts = done;
-          begun = flat_map asked_in ran.drives.outcomes;
-          promises = kept.1;
-        });
+        promise = inr (
+          given,
+          back,
+          record {
+            plan = plan_of ran.start;
+            lines = lines;
+            tape = record {
+              head = reads.lines;
+              draft = reads.draft;
+              go = go.0;
+              others = ran.drives.others;
+              whole = ap (λ (l : List ℕ). (flat_map ended reads.lines ++ l) ++ ran.drives.read) go.1 ∙ append_assoc (flat_map ended reads.lines) (ended go.0) ran.drives.read
+                  ∙ ap (λ (l : List ℕ). flat_map ended reads.lines ++ (ended go.0 ++ l)) ran.drives.tape;
+              head_each = reads.each;
+              go_one = go.2;
+              each = ran.drives.each;
+              drafts = reads.drafts;
+              goes = go.3;
+              plan_is = go.4 ∙ ap Some (sym ran.begins.plan_is);
+            };
+            stop = ran.drives.stop;
+            records = kept.0;
+            book = book_of ran.last;
+            acts = done;
+            begun = flat_map asked_in ran.drives.outcomes;
+            promises = kept.1;
+          },
+        );
       }
 
 -- whatever the work did

@@ -19,8 +19,8 @@ mod words;
 use io_edge::{ReadSource, WriteSink};
 use real_yard::RealYard;
 use server::porcupine;
-use std::process::ExitCode;
 use std::io::BufReader;
+use std::process::ExitCode;
 use std::{env, io};
 
 // The words behind the program's name.

@@ -146,4 +146,3 @@ pub fn porcupine<S: Source, K: Sink, Y: Yard>(
     let ending = work(alloc, source, sink, yard);
     finish(alloc, sink, ending)
 }
-

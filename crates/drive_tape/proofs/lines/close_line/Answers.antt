@@ -27,7 +27,7 @@ returns-clause-did g c start p line spelled shows held quiet =
     let f = c.in-Some.ensures.found p.sessions shows.talks in
     let closed = c.close-call.ensures.closed p.sessions f.0 shows.talks f.1 f.3 in
     let left = c.in_ok-leave.ensures.left start _ c.in-Some.place 1 (closed_shows _ _ start (plan_of c.args.cluster.now.world) p c.in-Some.place f.0 c.close-call.result c.args.cluster.now (record { world = c.args.cluster.now.world; sessions = c.close-call.new.self }) f.1 f.3 shows quiet refl c.close-call.ensures.tickets c.close-call.ensures.count closed.1)
-        (closed_ends _ _ start (plan_of c.args.cluster.now.world) p c.in-Some.place f.0 c.close-call.result c.args.cluster.now (record { world = c.args.cluster.now.world; sessions = c.close-call.new.self }) f.1 f.3 shows quiet refl c.close-call.ensures.tickets c.close-call.ensures.count closed.0) in
+    (closed_ends _ _ start (plan_of c.args.cluster.now.world) p c.in-Some.place f.0 c.close-call.result c.args.cluster.now (record { world = c.args.cluster.now.world; sessions = c.close-call.new.self }) f.1 f.3 shows quiet refl c.close-call.ensures.tickets c.close-call.ensures.count closed.0) in
     joins _ _ start _ p _ _ line c.ask_all.result _ c.ask_all.new.self (spelled ∙ ap (λ (k : ℕ). Some (Close k)) c.in-Some.ensures.some.0)
     (closed_started _ _ start (plan_of c.args.cluster.now.world) p c.in-Some.place f.0 c.close-call.result c.args.cluster.now (record { world = c.args.cluster.now.world; sessions = c.close-call.new.self }) f.1 f.3 shows quiet refl c.close-call.ensures.tickets c.close-call.ensures.count)
     (goes_on _ _ start _ _ _ left.q _ c.ask_all.result _ c.ask_all.new.self c.in_ok-leave.ensures.plan left.work

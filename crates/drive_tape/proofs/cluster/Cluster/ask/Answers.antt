@@ -28,7 +28,7 @@ pub returns-clause-asked : goal.returns-clause-asked
 returns-clause-asked g c start p a held =
     let so = rw c.in-Some.is at c.in_ok-answer.ensures.asked start p.outcomes (c.args.place + 1) a.number a.call a.ticket_is a.at in
     let r = subst (λ (pl : Plan). RepliesTo pl p.sessions c.args.place a.plain (answer_seen c.in-Some.answer) c.in_ok-after.after c.reply.new.out.items c.args.self.now.sessions.standing c.reply.new.self) c.plan.ensures
-        (c.in_ok-after.ensures.replied p.sessions a.plain a.state a.call so.1.0 a.talks a.here a.waits so.1.1) in
+    (c.in_ok-after.ensures.replied p.sessions a.plain a.state a.call so.1.0 a.talks a.here a.waits so.1.1) in
     goes_plan _ _ start _ _ p _ c.say.result _ _ c.in_ok-answer.ensures.plan
     (c.say.ensures.said start p (replied_point _ _ start (plan_of c.ask.new.world) p c.args.place c.args.ticket c.args.self.now a (answer_seen c.in-Some.answer) r.after) (c.args.place + 1)
     (replying _ _ start _ p c.args.place c.args.ticket c.args.self.now a (answer_seen c.in-Some.answer) c.in_ok-after.after _ c.deref.result.now (record { world = c.ask.new.world; sessions = c.reply.new.self })

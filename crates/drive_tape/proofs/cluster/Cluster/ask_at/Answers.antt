@@ -28,13 +28,13 @@ returns-in_err-ask-clause-asked g c start p shows held asks =
     let within : c.args.place < length c.loop-ticket.self.sessions.tickets.items = omega (arith, c.requires.within, c.requires.tickets, c.loop-ticket.invariant.tickets) in
     let has = slice_get_read _ _ _ _ refl within c.index_mut.ensures.value ∙ ap Some (sym c.take.ensures.value ∙ c.in-Some.is) in
     let a = asking _ _ start so_far.0 c.args.place c.loop-ticket.self so_far.3 so_far.4 c.in-Some.ticket (record {
-          world = c.loop-ticket.self.world;
-          sessions = record {
-            talkers = c.loop-ticket.self.sessions.talkers;
-            tickets = with_item c.loop-ticket.self.sessions.tickets c.args.place c.take.new.self;
-            standing = c.loop-ticket.self.sessions.standing;
-          };
-        }) has refl refl refl (ap (λ (t : Option Ticket). slice_set c.loop-ticket.self.sessions.tickets.items c.args.place t) c.take.ensures.after) in
+      world = c.loop-ticket.self.world;
+      sessions = record {
+        talkers = c.loop-ticket.self.sessions.talkers;
+        tickets = with_item c.loop-ticket.self.sessions.tickets c.args.place c.take.new.self;
+        standing = c.loop-ticket.self.sessions.standing;
+      };
+    }) has refl refl refl (ap (λ (t : Option Ticket). slice_set c.loop-ticket.self.sessions.tickets.items c.args.place t) c.take.ensures.after) in
     rw (e.1, e.2) (stopped_on _ _ start _ p so_far.0 _ _ _ so_far.1 (stopped_plan _ _ start _ _ _ _ _ _ c.loop-ticket.invariant.plan (c.in_err-ask.ensures.asked start so_far.0 a so_far.2)))
 
 pub loop-ticket-smaller-in-Continue-branch-2 : goal.loop-ticket-smaller-in-Continue-branch-2
@@ -42,7 +42,7 @@ loop-ticket-smaller-in-Continue-branch-2 g c =
     let within : c.args.place < length c.loop-ticket.self.sessions.tickets.items = omega (arith, c.requires.within, c.requires.tickets, c.loop-ticket.invariant.tickets) in
     let has = slice_get_read _ _ _ _ refl within c.index_mut.ensures.value ∙ ap Some (sym c.take.ensures.value ∙ c.in-Some.is) in
     let less = taken_less c.loop-ticket.self.sessions c.ask.new.self.sessions c.args.place c.in-Some.ticket has
-        (ap (λ v. v.items) c.in_ok-ask.ensures.tickets ∙ ap (λ (t : Option Ticket). slice_set c.loop-ticket.self.sessions.tickets.items c.args.place t) c.take.ensures.after) c.in_ok-ask.ensures.left in
+    (ap (λ v. v.items) c.in_ok-ask.ensures.tickets ∙ ap (λ (t : Option Ticket). slice_set c.loop-ticket.self.sessions.tickets.items c.args.place t) c.take.ensures.after) c.in_ok-ask.ensures.left in
     omega (arith, less, c.in_ok-hear.ensures.work)
 
 pub loop-ticket-preserved-in-Continue-branch-2 : goal.loop-ticket-preserved-in-Continue-branch-2
@@ -52,13 +52,13 @@ loop-ticket-preserved-in-Continue-branch-2 g c = record {
       let within : c.args.place < length c.loop-ticket.self.sessions.tickets.items = omega (arith, c.requires.within, c.requires.tickets, c.loop-ticket.invariant.tickets) in
       let has = slice_get_read _ _ _ _ refl within c.index_mut.ensures.value ∙ ap Some (sym c.take.ensures.value ∙ c.in-Some.is) in
       let a = asking _ _ start so_far.0 c.args.place c.loop-ticket.self so_far.3 so_far.4 c.in-Some.ticket (record {
-            world = c.loop-ticket.self.world;
-            sessions = record {
-              talkers = c.loop-ticket.self.sessions.talkers;
-              tickets = with_item c.loop-ticket.self.sessions.tickets c.args.place c.take.new.self;
-              standing = c.loop-ticket.self.sessions.standing;
-            };
-          }) has refl refl refl (ap (λ (t : Option Ticket). slice_set c.loop-ticket.self.sessions.tickets.items c.args.place t) c.take.ensures.after) in
+        world = c.loop-ticket.self.world;
+        sessions = record {
+          talkers = c.loop-ticket.self.sessions.talkers;
+          tickets = with_item c.loop-ticket.self.sessions.tickets c.args.place c.take.new.self;
+          standing = c.loop-ticket.self.sessions.standing;
+        };
+      }) has refl refl refl (ap (λ (t : Option Ticket). slice_set c.loop-ticket.self.sessions.tickets.items c.args.place t) c.take.ensures.after) in
       answered_on _ _ start _ _ _ p so_far.0 c.args.place _ _ c.ask.new.self so_far.1 c.loop-ticket.invariant.plan (c.in_ok-ask.ensures.plan ∙ c.loop-ticket.invariant.plan)
       (rw c.if-branch.true at c.in_ok-ask.ensures.asked start so_far.0 a so_far.2) c.hear.new.self (λ r shown holds hears. c.in_ok-hear.ensures.heard start r (c.args.place + 1) shown holds hears);
   ready = c.in_ok-hear.ensures.ready;
@@ -75,13 +75,13 @@ returns-in_err-hear-clause-asked g c start p shows held asks =
     let within : c.args.place < length c.loop-ticket.self.sessions.tickets.items = omega (arith, c.requires.within, c.requires.tickets, c.loop-ticket.invariant.tickets) in
     let has = slice_get_read _ _ _ _ refl within c.index_mut.ensures.value ∙ ap Some (sym c.take.ensures.value ∙ c.in-Some.is) in
     let a = asking _ _ start so_far.0 c.args.place c.loop-ticket.self so_far.3 so_far.4 c.in-Some.ticket (record {
-          world = c.loop-ticket.self.world;
-          sessions = record {
-            talkers = c.loop-ticket.self.sessions.talkers;
-            tickets = with_item c.loop-ticket.self.sessions.tickets c.args.place c.take.new.self;
-            standing = c.loop-ticket.self.sessions.standing;
-          };
-        }) has refl refl refl (ap (λ (t : Option Ticket). slice_set c.loop-ticket.self.sessions.tickets.items c.args.place t) c.take.ensures.after) in
+      world = c.loop-ticket.self.world;
+      sessions = record {
+        talkers = c.loop-ticket.self.sessions.talkers;
+        tickets = with_item c.loop-ticket.self.sessions.tickets c.args.place c.take.new.self;
+        standing = c.loop-ticket.self.sessions.standing;
+      };
+    }) has refl refl refl (ap (λ (t : Option Ticket). slice_set c.loop-ticket.self.sessions.tickets.items c.args.place t) c.take.ensures.after) in
     rw (e.1, e.2) (answered_stops _ _ start _ _ _ p so_far.0 c.args.place _ _ c.ask.new.self so_far.1 c.loop-ticket.invariant.plan (c.in_ok-ask.ensures.plan ∙ c.loop-ticket.invariant.plan)
     (rw c.if-branch.true at c.in_ok-ask.ensures.asked start so_far.0 a so_far.2) _ c.hear.new.self.world (λ r shown holds hears. c.in_err-hear.ensures.heard start r (c.args.place + 1) shown holds hears))
 
@@ -99,13 +99,13 @@ loop-ticket-preserved g c = record {
       let within : c.args.place < length c.loop-ticket.self.sessions.tickets.items = omega (arith, c.requires.within, c.requires.tickets, c.loop-ticket.invariant.tickets) in
       let has = slice_get_read _ _ _ _ refl within c.index_mut.ensures.value ∙ ap Some (sym c.take.ensures.value ∙ c.in-Some.is) in
       let a = asking _ _ start so_far.0 c.args.place c.loop-ticket.self so_far.3 so_far.4 c.in-Some.ticket (record {
-            world = c.loop-ticket.self.world;
-            sessions = record {
-              talkers = c.loop-ticket.self.sessions.talkers;
-              tickets = with_item c.loop-ticket.self.sessions.tickets c.args.place c.take.new.self;
-              standing = c.loop-ticket.self.sessions.standing;
-            };
-          }) has refl refl refl (ap (λ (t : Option Ticket). slice_set c.loop-ticket.self.sessions.tickets.items c.args.place t) c.take.ensures.after) in
+        world = c.loop-ticket.self.world;
+        sessions = record {
+          talkers = c.loop-ticket.self.sessions.talkers;
+          tickets = with_item c.loop-ticket.self.sessions.tickets c.args.place c.take.new.self;
+          standing = c.loop-ticket.self.sessions.standing;
+        };
+      }) has refl refl refl (ap (λ (t : Option Ticket). slice_set c.loop-ticket.self.sessions.tickets.items c.args.place t) c.take.ensures.after) in
       let went = went_plan _ _ start _ _ _ _ _ _ c.loop-ticket.invariant.plan (rw c.if-branch.false at c.in_ok-ask.ensures.asked start so_far.0 a so_far.2) in
       (went.q, work_more _ p so_far.0 went.q so_far.1 went.work, went.held_is, went.shows, asks_on c.args.place went.q went.so_is);
   ready = c.in_ok-ask.ensures.ready;

@@ -33,12 +33,12 @@ returns-in_err-fall-in-None-clause-began g c start p onward b held =
     let e = err_from_is_err_and c.from_residual-in_err-fall-in-None.result c.from_residual-in_err-fall-in-None.ensures.1 in
     let so = rw c.in-None.is at c.in_ok-ticket.ensures.began start p.outcomes (c.args.place + 1) b.asked b.call_is b.at in
     let more = stopped_plan _ _ start _ _ _ _ _ _ c.in_ok-ticket.ensures.plan (c.in_err-fall-in-None.ensures.fell start _ c.args.place onward
-        (falls _ _ start (plan_of c.args.self.now.world) p c.args.place onward c.args.call c.args.self.now b (record { world = c.begin.new.world; sessions = c.args.self.now.sessions }) so.1 so.0 refl) held) in
+    (falls _ _ start (plan_of c.args.self.now.world) p c.args.place onward c.args.call c.args.self.now b (record { world = c.begin.new.world; sessions = c.args.self.now.sessions }) so.1 so.0 refl) held) in
     rw (e.1, e.2) (stopped_on _ _ start _ p _ _ _ _ (begun_work _ _ start _ p c.args.place onward c.args.call c.args.self.now b _ [] refl refl refl) more)
 
 pub returns-in_ok-fall-in-None-clause-began : goal.returns-in_ok-fall-in-None-clause-began
 returns-in_ok-fall-in-None-clause-began g c start p onward b held =
     let so = rw c.in-None.is at c.in_ok-ticket.ensures.began start p.outcomes (c.args.place + 1) b.asked b.call_is b.at in
     let more = went_plan _ _ start _ _ _ _ _ _ c.in_ok-ticket.ensures.plan (c.in_ok-fall-in-None.ensures.fell start _ c.args.place onward
-        (falls _ _ start (plan_of c.args.self.now.world) p c.args.place onward c.args.call c.args.self.now b (record { world = c.begin.new.world; sessions = c.args.self.now.sessions }) so.1 so.0 refl) held) in
+    (falls _ _ start (plan_of c.args.self.now.world) p c.args.place onward c.args.call c.args.self.now b (record { world = c.begin.new.world; sessions = c.args.self.now.sessions }) so.1 so.0 refl) held) in
     went_on _ _ start _ p _ _ _ _ (begun_work _ _ start _ p c.args.place onward c.args.call c.args.self.now b _ [] refl refl refl) more

@@ -13,11 +13,12 @@ returns-in_err-write_fault-clause-fell g c start p place onward f held =
 
 pub loop-place-init : goal.loop-place-init
 loop-place-init g c = record {
-  fell = λ start p place onward f held.
-      (_,
-      faults_on _ _ start _ p place onward c.args.self.now f _ (rw held c.in_ok-write_fault.ensures.written),
-      refl,
-      falling_first _ _ start (plan_of c.args.self.now.world) p place onward c.args.self.now f _);
+  fell = λ start p place onward f held. (
+    _,
+    faults_on _ _ start _ p place onward c.args.self.now f _ (rw held c.in_ok-write_fault.ensures.written),
+    refl,
+    falling_first _ _ start (plan_of c.args.self.now.world) p place onward c.args.self.now f _,
+  );
   world = refl;
   places = refl;
   tickets = refl;

@@ -43,8 +43,9 @@ returns-clause-fell g c start plan p onward f held =
     let said = down_line got.0.protocol got.0.node ∷ [] in
     let says = c.deref.ensures.value ∙ fell.says ∙ sym (append-nil (sent_line (down_line got.0.protocol got.0.node))) in
     let gave = as_gave p.held _ _ _ (c.args.place + 1) said true held c.number_of.ensures
-        (c.in_ok-write_reply.ensures.written said (All-cons HasNoCrlf _ [] fell.line (All-nil HasNoCrlf)) says) in
-    (_,
-    falls_on _ _ start plan p c.args.place onward c.args.self.now _ f got.0 got.1 refl c.in_ok-fall.ensures.tickets _ _ fell gave,
-    refl,
-    falling_on _ _ start plan p c.args.place onward c.args.self.now _ f got.0 got.1 refl c.in_ok-fall.ensures.tickets _ _ fell)
+    (c.in_ok-write_reply.ensures.written said (All-cons HasNoCrlf _ [] fell.line (All-nil HasNoCrlf)) says) in (
+      _,
+      falls_on _ _ start plan p c.args.place onward c.args.self.now _ f got.0 got.1 refl c.in_ok-fall.ensures.tickets _ _ fell gave,
+      refl,
+      falling_on _ _ start plan p c.args.place onward c.args.self.now _ f got.0 got.1 refl c.in_ok-fall.ensures.tickets _ _ fell,
+    )

@@ -20,16 +20,16 @@ returns-in_err-did-clause-moved g c start p onward shows held hears =
 pub returns-in-Said-clause-moved : goal.returns-in-Said-clause-moved
 returns-in-Said-clause-moved g c start p onward shows held hears =
     let moved = subst (λ (pl : Plan). MovesTo pl p.sessions c.args.place hears.plain c.in_ok-did.did c.in_ok-did.after c.next.new.out.items c.args.self.now.sessions.standing c.next.new.self) c.plan.ensures
-        (c.in_ok-did.ensures.moved p.sessions hears.plain shows.talks hears.here) in
+    (c.in_ok-did.ensures.moved p.sessions hears.plain shows.talks hears.here) in
     let heard = rw c.in-Said.is at moved in
     let out = saying_out _ _ start _ p _ c.args.place onward c.in_ok-did.after _ _ (record { world = c.args.self.now.world; sessions = c.next.new.self }) c.deref.ensures.value
-        (saying _ _ start _ p c.args.place onward c.args.self.now (record { world = c.args.self.now.world; sessions = c.next.new.self }) shows hears refl c.in_ok-did.ensures.tickets c.in_ok-did.after c.next.new.out.items heard) in
+    (saying _ _ start _ p c.args.place onward c.args.self.now (record { world = c.args.self.now.world; sessions = c.next.new.self }) shows hears refl c.in_ok-did.ensures.tickets c.in_ok-did.after c.next.new.out.items heard) in
     c.say.ensures.said start p _ onward out held
 
 pub returns-in-Begin-clause-moved : goal.returns-in-Begin-clause-moved
 returns-in-Begin-clause-moved g c start p onward shows held hears =
     let moved = subst (λ (pl : Plan). MovesTo pl p.sessions c.args.place hears.plain c.in_ok-did.did c.in_ok-did.after c.next.new.out.items c.args.self.now.sessions.standing c.next.new.self) c.plan.ensures
-        (c.in_ok-did.ensures.moved p.sessions hears.plain shows.talks hears.here) in
+    (c.in_ok-did.ensures.moved p.sessions hears.plain shows.talks hears.here) in
     let heard = rw c.in-Begin.is at moved in
     c.begin.ensures.began start p onward
     (beginning _ _ start _ p c.args.place onward c.args.self.now (record { world = c.args.self.now.world; sessions = c.next.new.self }) shows hears refl c.in_ok-did.ensures.tickets c.in-Begin.call heard.0 c.next.new.out.items heard.1 heard.2) held

@@ -23,7 +23,7 @@ returns-in_err-leave-in-Ends-clause-said g c start p q onward saying held =
     let e = err_from_is_err_and c.from_residual-in_err-leave-in-Ends.result c.from_residual-in_err-leave-in-Ends.ensures.1 in
     let s = rw c.in-Ends.is at saying in
     let work = said_work _ _ start _ p q c.args.place onward (Ends c.in-Ends.call) _ c.args.self.now s _
-        (as_gave p.held _ _ _ (c.args.place + 1) s.said true held c.number_of-in-Ends.ensures (c.in_ok-write_reply-in-Ends.ensures.written s.said s.lines s.says)) in
+    (as_gave p.held _ _ _ (c.args.place + 1) s.said true held c.number_of-in-Ends.ensures (c.in_ok-write_reply-in-Ends.ensures.written s.said s.lines s.says)) in
     rw (e.1, e.2) (stopped_on _ _ start _ p _ _ _ _ work
     (c.in_err-leave-in-Ends.ensures.left start (held_point q _) c.args.place onward (said_shows _ _ start _ p q c.args.place onward (Ends c.in-Ends.call) _ c.args.self.now s _)
     (said_ends _ _ start _ p q c.args.place onward _ c.args.self.now _ c.in-Ends.call s)))
@@ -38,7 +38,7 @@ pub returns-in_ok-leave-in-Ends-clause-said : goal.returns-in_ok-leave-in-Ends-c
 returns-in_ok-leave-in-Ends-clause-said g c start p q onward saying held =
     let s = rw c.in-Ends.is at saying in
     let work = said_work _ _ start _ p q c.args.place onward (Ends c.in-Ends.call) _ c.args.self.now s _
-        (as_gave p.held _ _ _ (c.args.place + 1) s.said true held c.number_of-in-Ends.ensures (c.in_ok-write_reply-in-Ends.ensures.written s.said s.lines s.says)) in
+    (as_gave p.held _ _ _ (c.args.place + 1) s.said true held c.number_of-in-Ends.ensures (c.in_ok-write_reply-in-Ends.ensures.written s.said s.lines s.says)) in
     went_on _ _ start _ p _ _ _ _ work
     (c.in_ok-leave-in-Ends.ensures.left start (held_point q _) c.args.place onward (said_shows _ _ start _ p q c.args.place onward (Ends c.in-Ends.call) _ c.args.self.now s _)
     (said_ends _ _ start _ p q c.args.place onward _ c.args.self.now _ c.in-Ends.call s))

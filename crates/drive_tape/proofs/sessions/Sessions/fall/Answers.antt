@@ -13,19 +13,20 @@ use Rattle.call_tickets.specs.Moves.Due.{Nothing}
 use Rattle.drive_tape.specs.Speakers.{Matches}
 use Rattle.drive_tape.proofs.Talks.{matches_at, node_at, found_at, sit_none, is_on_so, it_is, it_is_not, converse_more, converse_get, converse_set, none_at, at_place, set_here, set_here_with, set_length, set_same, set_twice, within_get, is_ended, on_not_ended, did_node, some_same, asks_waits}
 use Rattle.drive_tape.proofs.Moving.{seated, stays, waits_on, left_none, left_set, left_was, fell_ended, any_plan}
-
 use Rattle.drive_tape.proofs.sessions.Sessions.fall.Goals as goal
 
 pub returns-then-has_ended-clause-fell : goal.returns-then-has_ended-clause-fell
 returns-then-has_ended-clause-fell c sessions plain all here =
     let was = slice_get_read _ _ _ _ refl c.requires.within c.index_mut-2.ensures.value ∙ ap Some (sym c.take.ensures.value ∙ c.in-Some.is) in
-    let ended = c.if-has_ended.ensures plain (matches_at _ sessions c.args.place _ plain all was here) in
-    (ended, record {
-      says = c.requires.empty;
-      talks = subst (λ (l : List Session). Converse (slice_set c.args.self.now.talkers.items c.args.place c.take.new.self) l) (set_same sessions c.args.place plain here)
-          (converse_set _ sessions c.args.place c.take.new.self plain all (subst (λ (t : Option Talker). Sits t plain) (sym c.take.ensures.after) ended) (node_at _ sessions c.args.place _ plain all was here));
-      count = refl;
-    })
+    let ended = c.if-has_ended.ensures plain (matches_at _ sessions c.args.place _ plain all was here) in (
+      ended,
+      record {
+        says = c.requires.empty;
+        talks = subst (λ (l : List Session). Converse (slice_set c.args.self.now.talkers.items c.args.place c.take.new.self) l) (set_same sessions c.args.place plain here)
+            (converse_set _ sessions c.args.place c.take.new.self plain all (subst (λ (t : Option Talker). Sits t plain) (sym c.take.ensures.after) ended) (node_at _ sessions c.args.place _ plain all was here));
+        count = refl;
+      },
+    )
 
 pub returns-in_ok-node_down-in-Some-clause-fell : goal.returns-in_ok-node_down-in-Some-clause-fell
 returns-in_ok-node_down-in-Some-clause-fell c sessions plain all here =

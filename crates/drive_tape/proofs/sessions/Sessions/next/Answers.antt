@@ -13,14 +13,14 @@ use Rattle.call_tickets.specs.Moves.Due.{Nothing}
 use Rattle.drive_tape.specs.Speakers.{Matches}
 use Rattle.drive_tape.proofs.Talks.{matches_at, node_at, found_at, sit_none, is_on_so, it_is, it_is_not, converse_more, converse_get, converse_set, none_at, at_place, set_here, set_here_with, set_length, set_same, set_twice, within_get, is_ended, on_not_ended, did_node, some_same, asks_waits}
 use Rattle.drive_tape.proofs.Moving.{seated, stays, waits_on, left_none, left_set, left_was}
-
 use Rattle.drive_tape.proofs.sessions.Sessions.next.Goals as goal
 
 pub returns-in-None-clause-moved : goal.returns-in-None-clause-moved
 returns-in-None-clause-moved c sessions plain all here =
-    let was = slice_get_read _ _ _ _ refl c.requires.within c.index_mut.ensures.value in
-    (sit_none _ sessions c.args.place plain all (was ∙ ap Some c.in-None.is) here,
-    record { says = c.requires.empty; talks = subst (λ (l : List (Option Talker)). Converse l sessions) (sym (set_same c.args.self.now.talkers.items c.args.place c.index_mut.result.now was)) all; count = refl })
+    let was = slice_get_read _ _ _ _ refl c.requires.within c.index_mut.ensures.value in (
+      sit_none _ sessions c.args.place plain all (was ∙ ap Some c.in-None.is) here,
+      record { says = c.requires.empty; talks = subst (λ (l : List (Option Talker)). Converse l sessions) (sym (set_same c.args.self.now.talkers.items c.args.place c.index_mut.result.now was)) all; count = refl },
+    )
 
 pub returns-in-Said-clause-moved : goal.returns-in-Said-clause-moved
 returns-in-Said-clause-moved c sessions plain all here =
@@ -30,7 +30,7 @@ returns-in-Said-clause-moved c sessions plain all here =
     let h = moved.2 plain (matches_at _ sessions c.args.place _ plain all there here) in
     let node = did_node c.args.plan.now plain (Hears h.one) h.one.reply h.after h.did ∙ node_at _ sessions c.args.place _ plain all there here in
     let goes = c.after.ensures.goes_on sessions h.after c.next.new.self (set_here c.args.self.now.talkers.items c.args.place (Some c.next.new.self) c.requires.within) h.goes_on
-        (seated _ sessions c.args.place _ c.next.new.self plain h.after all there here h.goes_on (did_node c.args.plan.now plain (Hears h.one) h.one.reply h.after h.did)) node in
+    (seated _ sessions c.args.place _ c.next.new.self plain h.after all there here h.goes_on (did_node c.args.plan.now plain (Hears h.one) h.one.reply h.after h.did)) node in
     record { one = h.one; after = h.after; did = h.did; asks = h.asks; says = out ∙ h.says; lines = h.lines; talks = goes.0; goes_on = goes.1 }
 
 pub returns-in-Said-clause-less : goal.returns-in-Said-clause-less
