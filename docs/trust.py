@@ -15,6 +15,8 @@ import re
 import sys
 
 CALLS = [('porcupine_server', 'porcupine'), ('drive_tape', 'drive')]
+# The record that has each promise to clients as a field.
+PROMISES = ('Rattle.session_model.specs.Kept', 'KeepsPromises')
 BEGIN, END = '<!-- made by docs/trust.py -->', '<!-- end -->'
 WORD = re.compile(r"[A-Za-z_][A-Za-z0-9_\-']*(?:\.[A-Za-z_][A-Za-z0-9_\-']*)*")
 USE = re.compile(r'(?:ghost |pub )*use (Rattle\.[A-Za-z0-9_.]+?)(?:\.\{([^}]*)\})?(?: as (\w+))?;?\s*$')
@@ -116,23 +118,44 @@ def contract_of(crate, call):
     return [], ({}, {})
 
 
+def fields_of(definitions, key):
+    """Names and texts of the fields of a record."""
+    fields = []
+    for line in definitions.found[key][2]:
+        field = re.match(r'  pub (\w+) : (.*)', line)
+        if field:
+            fields.append(field.groups())
+        elif fields and line.startswith('      '):
+            fields[-1] = (fields[-1][0], fields[-1][1] + '\n' + line)
+    return fields
+
+
+def rows(definitions, parts, names, modules, own, listed):
+    """A row for each named text: the definitions that it reaches."""
+    out = ['| Clause | Definitions | Lines | Files | Crates |\n|---|---:|---:|---:|---|']
+    for name, text in parts:
+        roots = {definitions.resolve(word, names, modules, own) for word in WORD.findall(text)} - {None}
+        seen = definitions.closure(roots)
+        size = sum(len(definitions.found[key][2]) for key in seen)
+        files = sorted({definitions.found[key][0] for key in seen})
+        crates = sorted({path.split('/')[1] for path in files})
+        out.append(f'| `{name}` | {len(seen)} | {size:,} | {len(files)} | {", ".join(f"`{one}`" for one in crates) or "none"} |')
+        if listed:
+            places = sorted((definitions.found[key][0], definitions.found[key][1], key[1]) for key in seen)
+            out.extend(f'    {path}:{line} {one}' for path, line, one in places)
+    return out + ['']
+
+
 def tables(definitions, listed):
     out = []
     for crate, call in CALLS:
         clauses, (names, modules) = contract_of(crate, call)
         out.append(f'Clauses of `{call}`, in crate `{crate}`:\n')
-        out.append('| Clause | Definitions | Lines | Files | Crates |\n|---|---:|---:|---:|---|')
-        for name, text in clauses:
-            roots = {definitions.resolve(word, names, modules) for word in WORD.findall(text)} - {None}
-            seen = definitions.closure(roots)
-            size = sum(len(definitions.found[key][2]) for key in seen)
-            files = sorted({definitions.found[key][0] for key in seen})
-            crates = sorted({path.split('/')[1] for path in files})
-            out.append(f'| `{name}` | {len(seen)} | {size:,} | {len(files)} | {", ".join(f"`{one}`" for one in crates) or "none"} |')
-            if listed:
-                places = sorted((definitions.found[key][0], definitions.found[key][1], key[1]) for key in seen)
-                out.extend(f'    {path}:{line} {one}' for path, line, one in places)
-        out.append('')
+        out.extend(rows(definitions, clauses, names, modules, None, listed))
+    if PROMISES in definitions.found:
+        out.append(f'Promises to clients, the fields of `{PROMISES[1]}`, each by itself:\n')
+        names, modules = definitions.imports[PROMISES[0]]
+        out.extend(rows(definitions, fields_of(definitions, PROMISES), names, modules, PROMISES[0], listed))
     return '\n'.join(out)
 
 

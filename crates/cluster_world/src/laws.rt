@@ -26,17 +26,14 @@ pub fn makes_more<D: Disk>()
 /// A world that was opened has on its disk and in memory what some records say, as long as its node is up.
 pub fn sound_after<D: Disk>()
     ensures { SoundAfter D.seen D.faults }
-{
-}
+{}
 
 /// The count of faults of a world's disk never falls.
 pub fn later_after<D: Disk>()
     ensures { LaterAfter D.seen D.faults }
-{
-}
+{}
 
 /// A step that says that the node's disk failed has its cause.
 pub fn fall_has_cause<D: Disk>()
     ensures { FallHasCause D.seen D.faults }
-{
-}
+{}

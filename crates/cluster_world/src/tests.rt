@@ -314,7 +314,10 @@ fn each_fault_takes_the_node_down(rt: HostRuntime) -> Result<(), Fail> {
         match said_with_fault(rt.alloc(), call)? {
             Ok(said) if call <= 18 => assert!(rt; call > 6 && is_faulted(&said), "at {call}"),
             Ok(said) => assert!(rt; is_begun(&said, 1), "at {call}"),
-            Err(fault) => assert!(rt; call <= 6 && fault == OpenFault::DiskFault(first_node()), "at {call}"),
+            Err(fault) => assert!(rt;
+                call <= 6 && fault == OpenFault::DiskFault(first_node()),
+                "at {call}"
+            ),
         }
     }
     Ok(())

@@ -30,3 +30,6 @@ mod writing;
 pub use fault::JournalFault;
 pub use journal::Journal;
 pub use place::Place;
+
+#[cfg(test)]
+mod tests;

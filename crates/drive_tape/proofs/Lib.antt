@@ -1,30 +1,16 @@
-mod Stops
-mod Writes
-mod CallsMade
-mod CallsAnswered
-mod CallsFallen
-mod CallsLeft
-mod CallsRead
-mod CallsShort
-mod CallsStruck
-mod Talkers
-mod Since
-mod Talks
-mod Standing
-mod Taking
-mod Hearing
-mod Mailing
-mod Reading
-mod Deleting
-mod Calling
-mod Entering
-mod Orders
-pub mod Cuts
-pub mod Runs
-pub mod Parts
-mod Answering
-pub mod Turn
-mod Driven
-mod Booked
-mod Marked
-mod Heads
+pub mod Writes
+pub mod Replies
+pub mod Talks
+pub mod Moving
+pub mod Works
+pub mod Heads
+pub mod Clusters
+pub mod Moves
+pub mod Falling
+pub mod Calling
+pub mod Hearing
+pub mod Joins
+pub mod Fed
+pub mod Asking
+pub mod Drives
+pub mod Talkers

@@ -1,187 +1,353 @@
--- The program's sessions follow those of the site.
-use Rattle.std.proofs.Common.{◌≡◌, ◌<◌, ◌≤◌, ◌+◌, ◌-◌, ◌++◌, ◌⊎◌, ℕ, zero, suc, Bool, true, false, cond, List, [], ◌∷◌, length, map, Some, None, refl, sym, ap, ◌∙◌, subst, inl, inr, ⊎_elim, arith, nat_eq}
-use Rattle.std.specs.Prelude.{slice_get, slice_set}
-use Rattle.std.proofs.lemmas.Bool.Decides.{nat_tests}
+-- The program's sessions stay those of the definitions, as one of them changes.
+use Rattle.std.proofs.Common.{◌≡◌, ◌<◌, ◌≤◌, ◌+◌, ◌-◌, ◌++◌, ◌⊎◌, inl, inr, nat_eq, true, false, ℕ, zero, suc, List, [], ◌∷◌, length, Option, Some, None, refl, sym, ap, ◌∙◌, subst, arith}
+use Rattle.std.specs.Prelude.{slice_get, slice_set, MatchBool, not, ◌≢◌, Bool, if◌then◌else◌}
 use Rattle.mail_model.specs.Plan.{Plan}
-use Rattle.mail_model.specs.Site as site
-use Rattle.mail_model.specs.Site.{Conversation, session_at, replace, refused_session}
+use Rattle.session_model.specs.Talk.{Exchange, State, Standing, Lead, IsOn, IsLed, Awaits, lead_of, stands, heard, asked, answered}
+use Rattle.session_model.specs.Talk.Lead.{Says, Ends, Asks}
+use Rattle.session_model.specs.Talk.Standing.{Hearing, Waiting, EndedByQuit, EndedDown, EndedClosed}
+use Rattle.session_model.specs.Run.{is_on, count_on, session_fault}
 use Rattle.mail_model.specs.Site.TapeFault.{NoSuchSession}
-use Rattle.mail_model.specs.Site.Conversation.{OnSmtp, OnPop}
+use Rattle.call_tickets.specs.Moves.{HasEnded}
+use Rattle.session_model.specs.Calls.{Call, Answer}
+use Rattle.session_model.specs.Calls.Call.{Deliver, Login, Fetch, Strike}
+use Rattle.session_model.specs.Calls.Answer.{Stored, Listed, Wrong, Part, GoneAlready, Dropped, Failed}
+use Rattle.session_model.specs.Sessions.{Session, session_at}
+use Rattle.session_model.specs.Acts.{Did, Deed}
+use Rattle.session_model.specs.Acts.Deed.{IsFed, Hears, IsAnswered, Falls, Closes}
+use Rattle.call_tickets.specs.Moves.Due.{Nothing}
 use Rattle.drive_tape.specs.declared.talker.Talker.{Talker}
-use Rattle.drive_tape.specs.declared.talker.Talker.TheVariants.{Over}
-use Rattle.drive_tape.specs.declared.talker.Heard.{Heard}
-use Rattle.drive_tape.specs.declared.talker.Heard.TheVariants.{Idle}
-use Rattle.drive_tape.specs.Talks.{Matches, Converse, Leads, SessionsHear, rest_at, rest_of, talker_rest}
+use Rattle.drive_tape.specs.Talks.{Converse, Sits, NoTickets, OneWaits}
+use Rattle.drive_tape.specs.Points.{AllEnded, IsUp}
+use Rattle.cluster_world.specs.Steps.{nth_ticket}
+use Rattle.mail_base.specs.declared.ticket.Ticket.{Ticket}
+use Rattle.drive_tape.specs.Speakers.{Matches}
+use Rattle.std.proofs.lemmas.Bool.Decides.{nat_tests}
 
 pub some_same : {X : Type 0} (x y : X) → Some x ≡ Some y → x ≡ y
 some_same x y is = cc
 
 -- one session more
-pub converse_more : (talkers : List Talker) (old : List Conversation) (talker : Talker) (one : Conversation)
-    → Converse talkers old → Matches talker one → Converse (talkers ++ talker ∷ []) (old ++ one ∷ [])
-converse_more [] [] talker one all last = (last, tt)
-converse_more [] (c ∷ cs) talker one all last = absurd all
-converse_more (t ∷ ts) [] talker one all last = absurd all
-converse_more (t ∷ ts) (c ∷ cs) talker one all last = (all.0, converse_more ts cs talker one all.1 last)
+pub converse_more : (talkers : List (Option Talker)) (old : List Session) (talker : Option Talker) (one : Session)
+    → Converse talkers old → Sits talker one → one.node ≡ 1 → Converse (talkers ++ talker ∷ []) (old ++ one ∷ [])
+converse_more [] [] talker one all last node = (last, node, tt)
+converse_more [] (c ∷ cs) talker one all last node = absurd all
+converse_more (t ∷ ts) [] talker one all last node = absurd all
+converse_more (t ∷ ts) (c ∷ cs) talker one all last node = (all.0, all.1, converse_more ts cs talker one all.2 last node)
 
--- what the session at a place matches
-converse_get : (talkers : List Talker) (old : List Conversation) (at : ℕ) (talker : Talker)
-    → Converse talkers old → slice_get talkers at ≡ Some talker → (one : Conversation) × (slice_get old at ≡ Some one) × Matches talker one
+-- the session at a place
+pub converse_get : (talkers : List (Option Talker)) (old : List Session) (at : ℕ) (talker : Option Talker)
+    → Converse talkers old → slice_get talkers at ≡ Some talker → (one : Session) × (slice_get old at ≡ Some one) × Sits talker one × (one.node ≡ 1)
 converse_get [] old at talker all is = absurd (cc)
 converse_get (t ∷ ts) [] at talker all is = absurd all
-converse_get (t ∷ ts) (c ∷ cs) zero talker all is = (c, refl, subst (λ (x : Talker). Matches x c) (cc) all.0)
-converse_get (t ∷ ts) (c ∷ cs) (suc at) talker all is = converse_get ts cs at talker all.1 is
+converse_get (t ∷ ts) (c ∷ cs) zero talker all is = (c, refl, subst (λ (x : Option Talker). Sits x c) (cc) all.0, all.1)
+converse_get (t ∷ ts) (c ∷ cs) (suc at) talker all is = converse_get ts cs at talker all.2 is
+
+pub matches_at : (talkers : List (Option Talker)) (old : List Session) (at : ℕ) (talker : Option Talker) (one : Session)
+    → Converse talkers old → slice_get talkers at ≡ Some talker → slice_get old at ≡ Some one → Sits talker one
+matches_at talkers old at talker one all there here =
+    let got = converse_get talkers old at talker all there in
+    subst (λ (s : Session). Sits talker s) (some_same got.0 one (sym got.1 ∙ here)) got.2
+
+pub node_at : (talkers : List (Option Talker)) (old : List Session) (at : ℕ) (talker : Option Talker) (one : Session)
+    → Converse talkers old → slice_get talkers at ≡ Some talker → slice_get old at ≡ Some one → one.node ≡ 1
+node_at talkers old at talker one all there here =
+    let got = converse_get talkers old at talker all there in
+    sym (ap (λ (s : Session). s.node) (some_same got.0 one (sym got.1 ∙ here))) ∙ got.3
 
 -- no session has a place behind the last
-converse_none : (talkers : List Talker) (old : List Conversation) (at : ℕ) → Converse talkers old → length talkers ≤ at → slice_get old at ≡ None
+pub converse_none : (talkers : List (Option Talker)) (old : List Session) (at : ℕ) → Converse talkers old → length talkers ≤ at → slice_get old at ≡ None
 converse_none [] [] at all past = refl
 converse_none [] (c ∷ cs) at all past = absurd all
 converse_none (t ∷ ts) [] at all past = refl
 converse_none (t ∷ ts) (c ∷ cs) zero all past = absurd (omega arith)
-converse_none (t ∷ ts) (c ∷ cs) (suc at) all past = converse_none ts cs at all.1 (omega arith)
+converse_none (t ∷ ts) (c ∷ cs) (suc at) all past = converse_none ts cs at all.2 (omega arith)
 
 -- one session in place of another
-converse_set : (talkers : List Talker) (old : List Conversation) (at : ℕ) (talker : Talker) (one : Conversation)
-    → Converse talkers old → Matches talker one → Converse (slice_set talkers at talker) (slice_set old at one)
-converse_set [] [] at talker one all here = tt
-converse_set [] (c ∷ cs) at talker one all here = absurd all
-converse_set (t ∷ ts) [] at talker one all here = absurd all
-converse_set (t ∷ ts) (c ∷ cs) zero talker one all here = (here, all.1)
-converse_set (t ∷ ts) (c ∷ cs) (suc at) talker one all here = (all.0, converse_set ts cs at talker one all.1 here)
+pub converse_set : (talkers : List (Option Talker)) (old : List Session) (at : ℕ) (talker : Option Talker) (one : Session)
+    → Converse talkers old → Sits talker one → one.node ≡ 1 → Converse (slice_set talkers at talker) (slice_set old at one)
+converse_set [] [] at talker one all here node = tt
+converse_set [] (c ∷ cs) at talker one all here node = absurd all
+converse_set (t ∷ ts) [] at talker one all here node = absurd all
+converse_set (t ∷ ts) (c ∷ cs) zero talker one all here node = (here, node, all.2)
+converse_set (t ∷ ts) (c ∷ cs) (suc at) talker one all here node = (all.0, all.1, converse_set ts cs at talker one all.2 here node)
 
-pub converse_length : (talkers : List Talker) (old : List Conversation) → Converse talkers old → length talkers ≡ length old
+pub converse_length : (talkers : List (Option Talker)) (old : List Session) → Converse talkers old → length talkers ≡ length old
 converse_length [] [] all = refl
 converse_length [] (c ∷ cs) all = absurd all
 converse_length (t ∷ ts) [] all = absurd all
-converse_length (t ∷ ts) (c ∷ cs) all = ap suc (converse_length ts cs all.1)
+converse_length (t ∷ ts) (c ∷ cs) all = ap suc (converse_length ts cs all.2)
 
--- a session that there is has a number from 1
-pub numbered : (sessions : List Conversation) (k : ℕ) (one : Conversation) → session_at sessions k ≡ Some one → nat_eq k 0 ≡ false
-numbered sessions k one here = by_test (nat_eq k 0) here
-  where
-    by_test : (none : Bool) → cond none None (slice_get sessions (k - 1)) ≡ Some one → none ≡ false
-    by_test true here = absurd (cc)
-    by_test false here = refl
+-- whatever a session does, it stays at its node
+pub did_node : (plan : Plan) (old : Session) (deed : Deed) (said : List (List ℕ)) (new : Session) → Did plan old deed said new → new.node ≡ old.node
+did_node plan old (IsFed more) said new did = ap (λ (s : Session). s.node) did.2
+did_node plan old (Hears one) said new did = ap (λ (s : Session). s.node) did.5
+did_node plan old (IsAnswered call answer reply) said new did = ap (λ (s : Session). s.node) did.7
+did_node plan old Falls said new did = ap (λ (s : Session). s.node) did.2
+did_node plan old Closes said new did = ap (λ (s : Session). s.node) did.2
 
--- the session at a number stands at its place
-pub at_place : (sessions : List Conversation) (k : ℕ) (one : Conversation) → session_at sessions k ≡ Some one → slice_get sessions (k - 1) ≡ Some one
-at_place sessions k one here = let other = numbered sessions k one here in rw other at here
+-- session k is at place k - 1
+pub at_place : (sessions : List Session) (k place : ℕ) → k ≡ place + 1 → session_at sessions k ≡ slice_get sessions place
+at_place sessions k place is =
+    let not_zero : nat_eq k 0 ≡ false = grind (arith, nat_tests, is) in
+    let minus : k - 1 ≡ place = omega (arith, is) in
+    rw (not_zero, minus) refl
 
--- and the session at a place has its number
-pub at_number : (sessions : List Conversation) (k place : ℕ) → k ≡ place + 1 → session_at sessions k ≡ slice_get sessions place
-at_number sessions k place is =
-    let other : nat_eq k 0 ≡ false = grind (arith, nat_tests) in
-    let same : k - 1 ≡ place = omega (arith, is) in
-    rw (other, same) refl
+pub none_at : (talkers : List (Option Talker)) (sessions : List Session) (k : ℕ) → (k ≡ 0) ⊎ (length talkers < k) → Converse talkers sessions → session_at sessions k ≡ None
+none_at talkers sessions k (inl none) all = rw none refl
+none_at talkers sessions k (inr past) all =
+    let not_zero : nat_eq k 0 ≡ false = grind (arith, nat_tests, past) in
+    rw not_zero (converse_none talkers sessions (k - 1) all (omega (arith, past)))
 
--- session k of the program is session k of the site
-pub talker_at : (talkers : List Talker) (old : List Conversation) (k place : ℕ) (talker : Talker) → k ≡ place + 1 → Converse talkers old → slice_get talkers place ≡ Some talker
-    → (one : Conversation) × (session_at old k ≡ Some one) × Matches talker one
-talker_at talkers old k place talker is all here =
-    let found = converse_get talkers old place talker all here in
-    (found.0, at_number old k place is ∙ found.1, found.2)
+-- a session that has ended does not stand, and one that has not does
+pub ended_off : (standing : Standing) → HasEnded standing → is_on standing ≡ false
+ended_off (Hearing state) ended = absurd ended
+ended_off (Waiting state call) ended = absurd ended
+ended_off EndedByQuit ended = refl
+ended_off EndedDown ended = refl
+ended_off EndedClosed ended = refl
 
-pub matches_at : (talkers : List Talker) (old : List Conversation) (k place : ℕ) (talker : Talker) (one : Conversation) → k ≡ place + 1 → Converse talkers old
-    → slice_get talkers place ≡ Some talker → session_at old k ≡ Some one → Matches talker one
-matches_at talkers old k place talker one is all here there =
-    let found = talker_at talkers old k place talker is all here in
-    subst (λ (c : Conversation). Matches talker c) (some_same _ _ (sym found.1 ∙ there)) found.2
+pub on_on : (standing : Standing) → IsOn standing → is_on standing ≡ true
+on_on (Hearing state) on = refl
+on_on (Waiting state call) on = refl
+on_on EndedByQuit on = absurd on
+on_on EndedDown on = absurd on
+on_on EndedClosed on = absurd on
 
--- one session in place of session k
-pub talker_set : (talkers : List Talker) (old : List Conversation) (k place : ℕ) (talker : Talker) (one : Conversation) → k ≡ place + 1 → Converse talkers old → Matches talker one
-    → Converse (slice_set talkers place talker) (replace old k one)
-talker_set talkers old k place talker one is all here =
-    let same : place ≡ k - 1 = omega (arith, is) in
-    subst (λ (n : ℕ). Converse (slice_set talkers place talker) (slice_set old n one)) same (converse_set talkers old place talker one all here)
+pub is_spoken_to : (sessions : List Session) (k : ℕ) (plain : Session) → session_at sessions k ≡ Some plain → IsOn plain.standing → session_fault (session_at sessions k) ≡ None
+is_spoken_to sessions k plain here on = let o : is_on plain.standing ≡ true = on_on plain.standing on in rw (here, o) refl
 
--- there is no session of this number
-pub none_at : (talkers : List Talker) (old : List Conversation) (k : ℕ) → Converse talkers old → (k ≡ 0) ⊎ (length talkers < k) → session_at old k ≡ None
-none_at talkers old k all out = ⊎_elim
-    (λ (first : k ≡ 0). let is : nat_eq k 0 ≡ true = grind (arith, nat_tests) in rw is refl)
-    (λ (past : length talkers < k).
-    let other : nat_eq k 0 ≡ false = grind (arith, nat_tests) in
-    rw (other, converse_none talkers old (k - 1) all (omega (arith, past))) refl)
-    out
+pub is_ended : (sessions : List Session) (k : ℕ) (plain : Session) → session_at sessions k ≡ Some plain → HasEnded plain.standing → session_fault (session_at sessions k) ≡ Some NoSuchSession
+is_ended sessions k plain here ended = let o : is_on plain.standing ≡ false = ended_off plain.standing ended in rw (here, o) refl
 
--- how many octets session k holds
-pub rest_here : (talkers : List Talker) (k place : ℕ) (talker : Talker) → k ≡ place + 1 → slice_get talkers place ≡ Some talker → rest_at k talkers ≡ talker_rest talker
-rest_here talkers k place talker is here =
-    let other : nat_eq k 0 ≡ false = grind (arith, nat_tests) in
-    let same : k - 1 ≡ place = omega (arith, is) in
-    rw (other, same, here) refl
+flip : (b : Bool) (X Y : Type 0) → MatchBool b X Y → MatchBool (not b) Y X
+flip true X Y is = is
+flip false X Y is = is
 
-pub get_set : {X : Type 0} (xs : List X) (at : ℕ) (was x : X) → slice_get xs at ≡ Some was → slice_get (slice_set xs at x) at ≡ Some x
-get_set [] at was x is = absurd (cc)
-get_set (y ∷ ys) zero was x is = refl
-get_set (y ∷ ys) (suc at) was x is = get_set ys at was x is
+pub is_on_so : (b : Bool) (standing : Standing) → MatchBool b (HasEnded standing) (IsOn standing) → MatchBool (not b) (IsOn standing) (HasEnded standing)
+is_on_so b standing is = flip b (HasEnded standing) (IsOn standing) is
+
+pub it_is : (b : Bool) (X Y : Type 0) → b ≡ true → MatchBool b X Y → X
+it_is true X Y is so = so
+it_is false X Y is so = absurd cc
+
+pub it_is_not : (b : Bool) (X Y : Type 0) → b ≡ false → MatchBool b X Y → Y
+it_is_not true X Y is so = absurd cc
+it_is_not false X Y is so = so
+
+-- lists in which one place is set
+pub set_here : {X : Type 0} (xs : List X) (at : ℕ) (x : X) → at < length xs → slice_get (slice_set xs at x) at ≡ Some x
+set_here [] at x within = absurd (omega (arith, within))
+set_here (y ∷ xs) zero x within = refl
+set_here (y ∷ xs) (suc at) x within = set_here xs at x (omega (arith, within))
+
+pub set_length : {X : Type 0} (xs : List X) (at : ℕ) (x : X) → length (slice_set xs at x) ≡ length xs
+set_length [] at x = refl
+set_length (y ∷ xs) zero x = refl
+set_length (y ∷ xs) (suc at) x = ap suc (set_length xs at x)
 
 pub set_same : {X : Type 0} (xs : List X) (at : ℕ) (x : X) → slice_get xs at ≡ Some x → slice_set xs at x ≡ xs
-set_same [] at x is = refl
-set_same (y ∷ ys) zero x is = ap (λ z. z ∷ ys) (sym (some_same y x is))
-set_same (y ∷ ys) (suc at) x is = ap (λ (zs : _). y ∷ zs) (set_same ys at x is)
+set_same [] at x here = refl
+set_same (y ∷ xs) zero x here = ap (λ z. z ∷ xs) (sym (some_same y x here))
+set_same (y ∷ xs) (suc at) x here = ap (λ l. y ∷ l) (set_same xs at x here)
 
-pub set_twice : {X : Type 0} (xs : List X) (at : ℕ) (x y : X) → slice_set (slice_set xs at x) at y ≡ slice_set xs at y
-set_twice [] at x y = refl
-set_twice (z ∷ zs) zero x y = refl
-set_twice (z ∷ zs) (suc at) x y = ap (λ (l : _). z ∷ l) (set_twice zs at x y)
+pub set_twice : {X : Type 0} (xs : List X) (at : ℕ) (x z : X) → slice_set (slice_set xs at x) at z ≡ slice_set xs at z
+set_twice [] at x z = refl
+set_twice (y ∷ xs) zero x z = refl
+set_twice (y ∷ xs) (suc at) x z = ap (λ l. y ∷ l) (set_twice xs at x z)
 
--- session k once it is replaced
-pub replaced : (sessions : List Conversation) (k : ℕ) (was one : Conversation) → session_at sessions k ≡ Some was → session_at (replace sessions k one) k ≡ Some one
-replaced sessions k was one here =
-    let other = numbered sessions k was here in
-    rw other (get_set sessions (k - 1) was one (at_place sessions k was here))
+pub within_get : {X : Type 0} (xs : List X) (at : ℕ) (x : X) → slice_get xs at ≡ Some x → at < length xs
+within_get [] at x here = absurd cc
+within_get (y ∷ xs) zero x here = omega arith
+within_get (y ∷ xs) (suc at) x here = let before : at < length xs = within_get xs at x here in omega (arith, before)
 
--- all sessions end
-pub converse_over : (talkers : List Talker) (old : List Conversation) → Converse talkers old → Converse (map (λ _. Over) talkers) (site.all_over old)
-converse_over [] [] all = tt
-converse_over [] (c ∷ cs) all = absurd all
-converse_over (t ∷ ts) [] all = absurd all
-converse_over (t ∷ ts) (c ∷ cs) all = (tt, converse_over ts cs all.1)
+pub set_here_with : (talkers : List (Option Talker)) (sessions : List Session) (at : ℕ) (one : Session) → Converse talkers (slice_set sessions at one) → at < length talkers
+    → slice_get (slice_set sessions at one) at ≡ Some one
+set_here_with talkers sessions at one all within =
+    set_here sessions at one (omega (arith, within, converse_length talkers (slice_set sessions at one) all, set_length sessions at one))
 
--- and hold nothing
-pub rest_over : (k : ℕ) (talkers : List Talker) → rest_at k (map (λ _. Over) talkers) ≡ 0
-rest_over k talkers = by_test (nat_eq k 0) talkers (k - 1)
+pub sit_none : (talkers : List (Option Talker)) (old : List Session) (at : ℕ) (one : Session)
+    → Converse talkers old → slice_get talkers at ≡ Some None → slice_get old at ≡ Some one → HasEnded one.standing
+sit_none talkers old at one all there here = matches_at talkers old at None one all there here
+
+-- what a session that heard a unit waits for
+pub asks_waits : (plan : Plan) (old : Session) (one : Exchange) (said : List (List ℕ)) (new : Session) (call : Call) → Did plan old (Hears one) said new → one.call ≡ Some call
+    → (state : State) × (new.standing ≡ Waiting state call)
+asks_waits plan old one said new call did is = by_lead (lead_of plan old.node did.0 one.unit) did.3.led (ap (λ (s : Session). s.standing) did.5)
   where
-    at_over : (talkers : List Talker) (at : ℕ) → rest_of (slice_get (map (λ _. Over) talkers) at) ≡ 0
-    at_over [] at = refl
-    at_over (t ∷ ts) zero = refl
-    at_over (t ∷ ts) (suc at) = at_over ts at
+    by_lead : (lead : Lead) → IsLed lead one → new.standing ≡ stands plan did.0 one lead → (state : State) × (new.standing ≡ Waiting state call)
+    by_lead (Says reply) led so = let no : None ≡ Some call = sym led.0 ∙ is in absurd cc
+    by_lead (Ends reply) led so = let no : None ≡ Some call = sym led.0 ∙ is in absurd cc
+    by_lead (Asks asks) led so = (
+      heard plan did.0 one.unit [],
+      so ∙ ap (λ (a : Option Answer). asked (heard plan did.0 one.unit []) asks a) did.6
+          ∙ ap (λ (c : Call). Waiting (heard plan did.0 one.unit []) c) (some_same asks call (sym led.0 ∙ is)),
+    )
 
-    by_test : (none : Bool) (talkers : List Talker) (at : ℕ) → cond none 0 (rest_of (slice_get (map (λ _. Over) talkers) at)) ≡ 0
-    by_test true talkers at = refl
-    by_test false talkers at = at_over talkers at
+abbrev NotWaiting : Standing → Type 0
+NotWaiting standing = (state : State) (call : Call) → standing ≢ Waiting state call
 
--- a session that has ended hears nothing
-over_at : (old : List Conversation) (at : ℕ) → refused_session (slice_get (site.all_over old) at) ≡ Some NoSuchSession
-over_at [] at = refl
-over_at (c ∷ cs) zero = refl
-over_at (c ∷ cs) (suc at) = over_at cs at
-
-pub none_stands : (old : List Conversation) (k : ℕ) → old ≡ site.all_over old → refused_session (session_at old k) ≡ Some NoSuchSession
-none_stands old k all = by_test (nat_eq k 0)
+pub says_on : (plan : Plan) (old : Session) (one : Exchange) (said : List (List ℕ)) (new : Session) → Did plan old (Hears one) said new → one.call ≡ None
+    → (state : State) (call : Call) → new.standing ≢ Waiting state call
+says_on plan old one said new did is = by_lead (lead_of plan old.node did.0 one.unit) did.3.led (ap (λ (s : Session). s.standing) did.5)
   where
-    by_test : (none : Bool) → refused_session (cond none None (slice_get old (k - 1))) ≡ Some NoSuchSession
-    by_test true = refl
-    by_test false = rw all (over_at old (k - 1))
+    by_lead : (lead : Lead) → IsLed lead one → new.standing ≡ stands plan did.0 one lead → NotWaiting new.standing
+    by_lead (Says reply) led so state call waits = let no : Hearing (heard plan did.0 one.unit one.reply) ≡ Waiting state call = sym so ∙ waits in absurd cc
+    by_lead (Ends reply) led so state call waits = let no : EndedByQuit ≡ Waiting state call = sym so ∙ waits in absurd cc
+    by_lead (Asks asks) led so state call waits = let no : Some asks ≡ None = sym led.0 ∙ is in absurd cc
 
--- one of all sessions heard this
-pub sessions_hear : (plan : Plan) (talkers : List Talker) (old : List Conversation) (k place : ℕ) (heard : Heard) (was now : Talker) → k ≡ place + 1 → Converse talkers old
-    → slice_get talkers place ≡ Some was → ((one : Conversation) → Matches was one → (after : Conversation) × Leads plan one heard after × Matches now after)
-    → SessionsHear plan old k heard (slice_set talkers place now)
-sessions_hear plan talkers old k place heard was now is all here leads =
-    let found = talker_at talkers old k place was is all here in
-    let led = leads found.0 found.2 in
-    inr (found.0, led.0, found.1, led.1, talker_set talkers old k place now led.0 is all led.2)
+answered_on : (state : State) (call : Call) (answer : Answer) → NotWaiting (answered state call answer)
+answered_on state (Deliver mail) answer s c waits = absurd cc
+answered_on state (Login user secret) (Stored id) s c waits = absurd cc
+answered_on state (Login user secret) (Listed items) s c waits = absurd cc
+answered_on state (Login user secret) Wrong s c waits = absurd cc
+answered_on state (Login user secret) (Part octets) s c waits = absurd cc
+answered_on state (Login user secret) GoneAlready s c waits = absurd cc
+answered_on state (Login user secret) Dropped s c waits = absurd cc
+answered_on state (Login user secret) Failed s c waits = absurd cc
+answered_on state (Fetch user id) answer s c waits = absurd cc
+answered_on state (Strike user ids) answer s c waits = absurd cc
 
--- there is none of this number, and nothing was heard
-pub none_hears : (plan : Plan) (talkers : List Talker) (old : List Conversation) (k : ℕ) → Converse talkers old → (k ≡ 0) ⊎ (length talkers < k) → SessionsHear plan old k Idle talkers
-none_hears plan talkers old k all out = inl (none_at talkers old k all out, refl, all)
+pub replies_on : (plan : Plan) (old : Session) (call : Call) (answer : Answer) (reply said : List (List ℕ)) (new : Session) → Did plan old (IsAnswered call answer reply) said new
+    → (state : State) (other : Call) → new.standing ≢ Waiting state other
+replies_on plan old call answer reply said new did state other waits =
+    answered_on did.2 call answer state other (sym (ap (λ (s : Session). s.standing) did.7) ∙ waits)
 
--- nor is there one to be spoken of
-pub none_here : {X : Type 0} (talkers : List Talker) (old : List Conversation) (k : ℕ) (one : Conversation) → Converse talkers old → (k ≡ 0) ⊎ (length talkers < k)
-    → session_at old k ≡ Some one → X
-none_here talkers old k one all out here = absurd (let both = sym (none_at talkers old k all out) ∙ here in cc)
+pub on_not_ended : (standing : Standing) → IsOn standing → HasEnded standing → ⊥
+on_not_ended (Hearing state) on ended = ended
+on_not_ended (Waiting state call) on ended = ended
+on_not_ended EndedByQuit on ended = on
+on_not_ended EndedDown on ended = on
+on_not_ended EndedClosed on ended = on
 
--- how many octets session k holds once it is replaced
-pub rest_set : (talkers : List Talker) (k place : ℕ) (was now : Talker) → k ≡ place + 1 → slice_get talkers place ≡ Some was → rest_at k (slice_set talkers place now) ≡ talker_rest now
-rest_set talkers k place was now is here = rest_here (slice_set talkers place now) k place now is (get_set talkers place was now here)
+-- the session at a place that is within
+pub found_at : (talkers : List (Option Talker)) (old : List Session) (at : ℕ) → Converse talkers old → at < length talkers → (one : Session) × (slice_get old at ≡ Some one)
+found_at [] old at all within = absurd (omega (arith, within))
+found_at (t ∷ ts) [] at all within = absurd all
+found_at (t ∷ ts) (c ∷ cs) zero all within = (c, refl)
+found_at (t ∷ ts) (c ∷ cs) (suc at) all within = found_at ts cs at all.2 (omega (arith, within))
+
+-- one that asks says nothing yet
+pub asks_silent : (plan : Plan) (old : Session) (one : Exchange) (said : List (List ℕ)) (new : Session) (call : Call) → Did plan old (Hears one) said new → one.call ≡ Some call → one.reply ≡ []
+asks_silent plan old one said new call did is = by_lead (lead_of plan old.node did.0 one.unit) did.3.led
+  where
+    by_lead : (lead : Lead) → IsLed lead one → one.reply ≡ []
+    by_lead (Says reply) led = let no : None ≡ Some call = sym led.0 ∙ is in absurd cc
+    by_lead (Ends reply) led = let no : None ≡ Some call = sym led.0 ∙ is in absurd cc
+    by_lead (Asks asks) led = silent one.answer did.6 led.1
+      where
+        silent : (answer : Option Answer) → answer ≡ None → Awaits asks answer one.reply → one.reply ≡ []
+        silent None none awaits = awaits
+        silent (Some answer) none awaits = absurd cc
+
+-- one that says something and has ended was ended by QUIT
+pub says_ended : (plan : Plan) (old : Session) (one : Exchange) (said : List (List ℕ)) (new : Session) → Did plan old (Hears one) said new → one.call ≡ None → HasEnded new.standing → new.standing ≡ EndedByQuit
+says_ended plan old one said new did is = by_lead (lead_of plan old.node did.0 one.unit) did.3.led (ap (λ (s : Session). s.standing) did.5)
+  where
+    by_lead : (lead : Lead) → IsLed lead one → new.standing ≡ stands plan did.0 one lead → HasEnded new.standing → new.standing ≡ EndedByQuit
+    by_lead (Says reply) led so ended = absurd (subst HasEnded so ended)
+    by_lead (Ends reply) led so ended = so
+    by_lead (Asks asks) led so ended = let no : Some asks ≡ None = sym led.0 ∙ is in absurd cc
+
+answered_ended : (state : State) (call : Call) (answer : Answer) → HasEnded (answered state call answer) → answered state call answer ≡ EndedByQuit
+answered_ended state (Deliver mail) answer ended = absurd ended
+answered_ended state (Login user secret) (Stored id) ended = absurd ended
+answered_ended state (Login user secret) (Listed items) ended = absurd ended
+answered_ended state (Login user secret) Wrong ended = absurd ended
+answered_ended state (Login user secret) (Part octets) ended = absurd ended
+answered_ended state (Login user secret) GoneAlready ended = absurd ended
+answered_ended state (Login user secret) Dropped ended = absurd ended
+answered_ended state (Login user secret) Failed ended = absurd ended
+answered_ended state (Fetch user id) answer ended = absurd ended
+answered_ended state (Strike user ids) answer ended = refl
+
+pub replies_ended : (plan : Plan) (old : Session) (call : Call) (answer : Answer) (reply said : List (List ℕ)) (new : Session) → Did plan old (IsAnswered call answer reply) said new
+    → HasEnded new.standing → new.standing ≡ EndedByQuit
+replies_ended plan old call answer reply said new did ended =
+    let is : new.standing ≡ answered did.2 call answer = ap (λ (s : Session). s.standing) did.7 in
+    is ∙ answered_ended did.2 call answer (subst HasEnded is ended)
+
+-- how many stand once one of them changed
+count_at : (sessions : List Session) (place : ℕ) (plain new : Session) → slice_get sessions place ≡ Some plain
+    → count_on (slice_set sessions place new) + (if is_on plain.standing then 1 else 0) ≡ count_on sessions + (if is_on new.standing then 1 else 0)
+count_at [] place plain new here = absurd cc
+count_at (s ∷ ss) zero plain new here =
+    let same : s ≡ plain = some_same s plain here in
+    subst (λ (x : Session). (if is_on new.standing then 1 else 0) + count_on ss + (if is_on x.standing then 1 else 0) ≡ (if is_on s.standing then 1 else 0) + count_on ss + (if is_on new.standing then 1 else 0))
+    same (omega arith)
+count_at (s ∷ ss) (suc place) plain new here = let rest = count_at ss place plain new here in omega (arith, rest)
+
+pub count_same : (sessions : List Session) (place : ℕ) (plain new : Session) → slice_get sessions place ≡ Some plain → IsOn plain.standing → IsOn new.standing → count_on (slice_set sessions place new) ≡ count_on sessions
+count_same sessions place plain new here on still =
+    let was : ◌≡◌ {A = ℕ} (if is_on plain.standing then 1 else 0) 1 = ap {B = ℕ} (λ (b : Bool). if b then 1 else 0) (on_on plain.standing on) in
+    let now : ◌≡◌ {A = ℕ} (if is_on new.standing then 1 else 0) 1 = ap {B = ℕ} (λ (b : Bool). if b then 1 else 0) (on_on new.standing still) in
+    let sum = count_at sessions place plain new here in omega (arith, sum, was, now)
+
+pub count_less : (sessions : List Session) (place : ℕ) (plain new : Session) → slice_get sessions place ≡ Some plain → IsOn plain.standing → HasEnded new.standing → count_on (slice_set sessions place new) ≡ count_on sessions - 1
+count_less sessions place plain new here on ended =
+    let was : ◌≡◌ {A = ℕ} (if is_on plain.standing then 1 else 0) 1 = ap {B = ℕ} (λ (b : Bool). if b then 1 else 0) (on_on plain.standing on) in
+    let now : ◌≡◌ {A = ℕ} (if is_on new.standing then 1 else 0) 0 = ap {B = ℕ} (λ (b : Bool). if b then 1 else 0) (ended_off new.standing ended) in
+    let sum = count_at sessions place plain new here in omega (arith, sum, was, now)
+
+-- nobody waits, still
+pub no_tickets_set : (tickets : List (Option Ticket)) (sessions : List Session) (place : ℕ) (new : Session) → NoTickets tickets sessions
+    → ((state : State) (call : Call) → new.standing ≢ Waiting state call) → NoTickets tickets (slice_set sessions place new)
+no_tickets_set [] [] place new all quiet = tt
+no_tickets_set [] (s ∷ ss) place new all quiet = absurd all
+no_tickets_set (t ∷ ts) [] place new all quiet = absurd all
+no_tickets_set (t ∷ ts) (s ∷ ss) zero new all quiet = (all.0, quiet, all.2)
+no_tickets_set (t ∷ ts) (s ∷ ss) (suc place) new all quiet = (all.0, all.1, no_tickets_set ts ss place new all.2 quiet)
+
+pub no_ticket_set : (tickets : List (Option Ticket)) (sessions : List Session) (place : ℕ) (new : Session) → NoTickets tickets sessions
+    → ((state : State) (call : Call) → new.standing ≢ Waiting state call) → NoTickets (slice_set tickets place None) (slice_set sessions place new)
+no_ticket_set [] [] place new all quiet = tt
+no_ticket_set [] (s ∷ ss) place new all quiet = absurd all
+no_ticket_set (t ∷ ts) [] place new all quiet = absurd all
+no_ticket_set (t ∷ ts) (s ∷ ss) zero new all quiet = (refl, quiet, all.2)
+no_ticket_set (t ∷ ts) (s ∷ ss) (suc place) new all quiet = (all.0, all.1, no_ticket_set ts ss place new all.2 quiet)
+
+pub quiet_at : (tickets : List (Option Ticket)) (sessions : List Session) (place : ℕ) (plain : Session) → NoTickets tickets sessions → slice_get sessions place ≡ Some plain
+    → (state : State) (call : Call) → plain.standing ≢ Waiting state call
+quiet_at [] [] place plain all here state call waits = absurd cc
+quiet_at [] (s ∷ ss) place plain all here state call waits = absurd all
+quiet_at (t ∷ ts) [] place plain all here state call waits = absurd all
+quiet_at (t ∷ ts) (s ∷ ss) zero plain all here state call waits = all.1 state call (ap (λ (x : Session). x.standing) (some_same s plain here) ∙ waits)
+quiet_at (t ∷ ts) (s ∷ ss) (suc place) plain all here state call waits = quiet_at ts ss place plain all.2 here state call waits
+
+-- it waits, and nobody else does
+pub one_waits : (tickets : List (Option Ticket)) (sessions : List Session) (place number : ℕ) (plain after : Session) (state : State) (call : Call) (ticket : Ticket) → NoTickets tickets sessions
+    → place < length tickets → slice_get sessions place ≡ Some plain → after.standing ≡ Waiting state call → ((before : List Exchange) × (last : Exchange) × (after.whole ≡ before ++ last ∷ []))
+    → ticket ≡ nth_ticket number
+    → OneWaits (record { number = number; session = place + 1; call = call }) (slice_set tickets place (Some ticket)) (slice_set sessions place after)
+one_waits tickets sessions place number plain after state call ticket none within here waits heard is = record {
+  place = place;
+  number_is = refl;
+  plain = after;
+  here = set_here sessions place after (within_get sessions place plain here);
+  state = state;
+  waits = waits;
+  heard = heard;
+  ticket = ticket;
+  has = set_here tickets place (Some ticket) within;
+  ticket_is = is;
+  others = subst (λ (ts : List (Option Ticket)). NoTickets ts (slice_set (slice_set sessions place after) place (record after { standing = EndedDown }))) (sym (set_twice tickets place (Some ticket) None))
+      (subst (λ (ss : List Session). NoTickets (slice_set tickets place None) ss) (sym (set_twice sessions place after (record after { standing = EndedDown })))
+      (no_ticket_set tickets sessions place (record after { standing = EndedDown }) none (λ s c same. cc)));
+}
+
+-- all have ended, and so has each
+pub each_ended : (sessions : List Session) (place : ℕ) (plain : Session) → AllEnded sessions → slice_get sessions place ≡ Some plain → HasEnded plain.standing
+each_ended [] place plain all here = absurd cc
+each_ended (s ∷ ss) zero plain all here = subst (λ (x : Session). HasEnded x.standing) (some_same s plain here) all.0
+each_ended (s ∷ ss) (suc place) plain all here = each_ended ss place plain all.1 here
+
+pub still_up : (up : Bool) (down : List ℕ) (sessions : List Session) (place : ℕ) (plain : Session) → IsUp up down sessions → slice_get sessions place ≡ Some plain → IsOn plain.standing → (up ≡ true) × (down ≡ [])
+still_up up down sessions place plain (inl is) here on = is
+still_up up down sessions place plain (inr is) here on = absurd (on_not_ended plain.standing on (each_ended sessions place plain is.2 here))
+
+pub not_true : (b : Bool) → not b ≡ true → b ≡ false
+not_true true is = absurd cc
+not_true false is = refl
+
+pub not_false : (b : Bool) → not b ≡ false → b ≡ true
+not_false true is = refl
+not_false false is = absurd cc

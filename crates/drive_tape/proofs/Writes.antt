@@ -1,6 +1,8 @@
 -- Writing that stops behind some of the entries.
 use Rattle.std.proofs.Common.{◌≡◌, ◌<◌, ◌++◌, ◌∷◌, ℕ, zero, suc, arith, List, [], slice_get, Some, length, take, drop, Option, Err, refl, sym, ap, ◌∙◌, subst, inl, inr}
 use Rattle.std.specs.Io.KnownBytes.{Appends}
+use Rattle.std.proofs.Common.{length-append}
+use Rattle.mail_model.specs.Transcript as transcript
 use Rattle.std.proofs.lemmas.List.{append-nil, take-append-drop, map-append}
 use Rattle.io_edge.proofs.Known.{appends_more}
 use Rattle.mail_model.specs.Lines.{ended}
@@ -19,16 +21,32 @@ drop_at zero (x ∷ xs) entry at_k = grind (arith, at_k)
 drop_at (suc k) [] entry at_k = grind (arith, at_k)
 drop_at (suc k) (x ∷ xs) entry at_k = drop_at k xs entry at_k
 
+-- the line of an entry is not empty
+pub some_line : (entry : transcript.Entry) → 0 < length (ended (entry_line entry))
+some_line entry = omega (arith, length-append (entry_line entry) (10 ∷ []))
+
 -- nothing was written of the next entry
-pub stops_before : (old new : Option (List ℕ)) (k : ℕ) (entries : List Entry) (why : WriteStop)
+pub stops_before : (old new : Option (List ℕ)) (k : ℕ) (entries : List Entry) (why : WriteStop) (entry : Entry) → slice_get entries k ≡ Some entry
     → Appends old new (written_of (entries_of (take k entries))) → WritesEntries old new (Err why) (entries_of entries)
-stops_before old new k entries why gave =
-    (entries_of (take k entries), entries_of (drop k entries), [], split_at k entries, inl refl, subst (Appends old new) (sym (append-nil (written_of (entries_of (take k entries))))) gave)
+stops_before old new k entries why entry at_k gave = (
+  entries_of (take k entries),
+  entries_of (drop k entries),
+  [],
+  split_at k entries,
+  record { entry = entry_of entry; more = entries_of (drop (suc k) entries); rest = ended (entry_line (entry_of entry)); are = ap entries_of (drop_at k entries entry at_k); some = some_line (entry_of entry); whole = refl },
+  subst (Appends old new) (sym (append-nil (written_of (entries_of (take k entries))))) gave,
+)
 
 -- a part of the next entry was written
 pub stops_within : (old mid new : Option (List ℕ)) (k : ℕ) (entries : List Entry) (why : WriteStop) (entry : Entry) (line front missing : List ℕ)
     → slice_get entries k ≡ Some entry
     → Appends old mid (written_of (entries_of (take k entries))) → line ≡ ended (entry_line (entry_of entry)) → 0 < length missing → line ≡ front ++ missing → Appends mid new front
     → WritesEntries old new (Err why) (entries_of entries)
-stops_within old mid new k entries why entry line front missing at_k gave is some parts more =
-    (entries_of (take k entries), entries_of (drop k entries), front, split_at k entries, inr (entry_of entry, entries_of (drop (suc k) entries), missing, ap entries_of (drop_at k entries entry at_k), some, sym is ∙ parts), appends_more _ _ _ _ _ gave more)
+stops_within old mid new k entries why entry line front missing at_k gave is some parts more = (
+  entries_of (take k entries),
+  entries_of (drop k entries),
+  front,
+  split_at k entries,
+  record { entry = entry_of entry; more = entries_of (drop (suc k) entries); rest = missing; are = ap entries_of (drop_at k entries entry at_k); some = some; whole = sym is ∙ parts },
+  appends_more _ _ _ _ _ gave more,
+)

@@ -1,61 +1,98 @@
--- What taking up a run line did to a cluster.
-use Rattle.std.specs.Prelude.{◌≡◌, ◌⊎◌, ℕ, List, [], Option, Some, None, Result, Ok, Err, ⊤}
+-- What handling a line of a tape did.
+use Rattle.std.specs.Prelude.{◌≡◌, ◌⊎◌, ℕ, List, [], ◌∷◌, ◌++◌, length, flat_map, Option, Some, None, Result, Ok, Err}
+use Rattle.std.specs.Io.KnownBytes.{Appends}
+use Rattle.mail_model.specs.Plan.{Plan}
 use Rattle.mail_model.specs.Tape.{Order, tape_order}
 use Rattle.mail_model.specs.Tape.Order.{End}
-use Rattle.mail_model.specs.Transcript as transcript
-use Rattle.mail_model.specs.Site.{Site, refusal}
-use Rattle.mail_model.specs.Steps.{Begun, hearer}
-use Rattle.mail_model.specs.Runs.{LeavesLine}
+use Rattle.mail_model.specs.Transcript.{Entry, written_of}
+use Rattle.mail_model.specs.Transcript.{all_of}
+use Rattle.session_model.specs.Sessions.{Session}
+use Rattle.session_model.specs.Acts.{Act, Acted}
+use Rattle.session_model.specs.Logs.{Asked}
+use Rattle.session_model.specs.Turns.{Starts, IsDone}
+use Rattle.session_model.specs.Run.{Made, Stop, IsHandled, IsLeftOff, refusal, failed_in, failed_by}
+use Rattle.session_model.specs.Run.Stop.{BehindLine, SinkFailed, OutOfMemory}
+use Rattle.cluster_world.specs.Outcomes.{Outcome, Awaited}
 use Rattle.cluster_world.specs.declared.world.World.{World}
 use Rattle.drive_tape.specs.declared.cluster.Cluster.{Cluster}
-use Rattle.drive_tape.specs.declared.driver.Taken.{Taken}
-use Rattle.drive_tape.specs.declared.driver.Taken.TheVariants.{Gives, Hears}
 use Rattle.drive_tape.specs.declared.drove.TapeFault.{TapeFault}
 use Rattle.drive_tape.specs.declared.drove.TapeFault.TheVariants.{BadLine}
-use Rattle.drive_tape.specs.declared.drove.Stop.{Stop}
-use Rattle.drive_tape.specs.declared.drove.Stop.TheVariants.{Ended, ReadFault, WriteFault, Bad, NoMemory}
-use Rattle.drive_tape.specs.Entries.{entries_of}
+use Rattle.drive_tape.specs.declared.drove.Stop.{Stop as Why}
+use Rattle.drive_tape.specs.declared.drove.Stop.TheVariants as why
+use Rattle.drive_tape.specs.Drive.{MayLackOne}
 use Rattle.drive_tape.specs.Faults.{fault_of}
-use Rattle.drive_tape.specs.Calls.{IsSince}
-use Rattle.drive_tape.specs.Cluster.{Shows}
+use Rattle.drive_tape.specs.Parts.{IsCut}
+use Rattle.drive_tape.specs.Points.{Point, AreLinked, Shows, HasCauses}
+use Rattle.drive_tape.specs.Worlds.{IsSince}
 
--- what a line that was taken up gives at once
-abbrev pub given_by : Taken → List transcript.Entry
-given_by (Gives entries) = entries_of entries
-given_by (Hears session) = []
+-- nothing is under way, and nobody is left to be asked
+pub record IsSettled (p : Point) : Type 0 where
+  pub done : IsDone p.turn p.sessions
+  pub quiet : p.awaited ≡ []
 
--- and the session that hears behind it
-abbrev pub heard_by : Taken → Option ℕ
-heard_by (Gives entries) = None
-heard_by (Hears session) = Some session
+-- The order was accepted, and its first act was made; nothing else yet.
+pub record IsStarted (plan : Plan) (p q : Point) (order : Order) : Type 0 where
+  pub accepted : refusal plan p.down p.sessions order ≡ None
+  pub first : Act
+  pub said : List Entry
+  pub starts : Starts order p.sessions first q.turn
+  pub acted : Acted plan p.sessions first said q.sessions
+  pub linked : AreLinked (first ∷ []) [] [] []
+  pub came : q.outcomes ≡ p.outcomes
+  pub none_failed : failed_by first ≡ []
+  pub failed : q.down ≡ p.down
+  pub gave : Appends p.held q.held (written_of said)
 
--- the line was taken up: this is given at once, and this session hears
-pub record IsTaken (taken : Taken) (line : List ℕ) (old new : Site) : Type 0 where
-  pub order : Order
-  pub begun : Begun old line order (given_by taken) new
-  pub hears : hearer order ≡ heard_by taken
+-- The line was handled: from one point to another, at both of which nothing is under way.
+pub record LineWent {D : Type 0} (seen : D → Option (List ℕ)) (faults : D → ℕ) (start : World D) (plan : Plan) (p : Point) (line : List ℕ) (held : Option (List ℕ)) (cluster : Cluster D) : Type 0 where
+  pub q : Point
+  pub acts : List Act
+  pub outputs : List (List Entry)
+  pub outcomes : List Outcome
+  pub handled : IsHandled plan p.down p.sessions line acts outputs q.sessions
+  pub linked : AreLinked acts outcomes [] []
+  pub came : q.outcomes ≡ p.outcomes ++ outcomes
+  pub failed : q.down ≡ p.down ++ failed_in acts
+  pub gave : Appends p.held q.held (written_of (all_of outputs))
+  pub held_is : q.held ≡ held
+  pub quiet : q.awaited ≡ []
+  pub shows : Shows seen faults start cluster q
 
--- the line is none, or its order is refused so
-abbrev pub IsBad : TapeFault → List ℕ → Site → Type 0
-IsBad fault line old = ((fault ≡ BadLine) × (tape_order line ≡ None)) ⊎ ((order : Order) × (tape_order line ≡ Some order) × (refusal old order ≡ Some (fault_of fault)))
+-- why a line is not handled: it is `end`, or the fault is this
+abbrev pub IsWhy : Why → Plan → Point → List ℕ → Stop → List (List ℕ) → Type 0
+IsWhy why.Ended plan p line stop midst = (stop ≡ BehindLine) × (midst ≡ []) × (tape_order line ≡ Some End)
+IsWhy (why.Bad fault) plan p line stop midst =
+    (stop ≡ BehindLine) × (midst ≡ [])
+    × (((fault ≡ BadLine) × (tape_order line ≡ None)) ⊎ ((order : Order) × (tape_order line ≡ Some order) × (refusal plan p.down p.sessions order ≡ Some (fault_of fault))))
+IsWhy why.WriteFault plan p line stop midst = (stop ≡ SinkFailed) × (midst ≡ line ∷ [])
+IsWhy why.NoMemory plan p line stop midst = stop ≡ OutOfMemory
+IsWhy why.ReadFault plan p line stop midst = ⊥
 
--- what a line may leave where memory ran out as it was taken up: nothing new, or all that it does before any session hears
-abbrev pub LineLeaves : Site → List ℕ → Site → Type 0
-LineLeaves old line last = (last ≡ old) ⊎ LeavesLine old line [] last
+-- The line was not handled, or the work stopped in its midst.
+pub record LineStopped {D : Type 0} (seen : D → Option (List ℕ)) (faults : D → ℕ) (start : World D) (plan : Plan) (p : Point) (line : List ℕ) (reason : Why) (held : Option (List ℕ)) (world : World D) : Type 0 where
+  pub stop : Stop
+  pub midst : List (List ℕ)
+  pub behind : List (List Act)
+  pub tail : List Entry
+  pub extra : List Made
+  pub sessions : List Session
+  pub off : IsLeftOff plan p.down stop p.sessions midst behind tail extra sessions
+  pub at_line : (midst ≡ []) ⊎ (midst ≡ line ∷ [])
+  pub why : IsWhy reason plan p line stop midst
+  pub new : List Outcome
+  pub lacking : List Asked
+  pub linked : AreLinked (flat_map (λ a. a) behind) new lacking extra
+  pub lack : MayLackOne stop lacking
+  pub since : IsSince seen faults start (p.outcomes ++ new) world
+  pub cause : HasCauses seen faults start (p.down ++ failed_in (flat_map (λ a. a) behind)) world
+  pub missing : List Entry
+  pub all : (missing ≡ []) ⊎ ((more : List Made) × IsLeftOff plan p.down OutOfMemory p.sessions midst behind (tail ++ missing) more sessions)
+  pub cut : List ℕ
+  pub is_cut : IsCut missing cut
+  pub whole : stop ≡ BehindLine → cut ≡ []
+  pub gave : Appends p.held held (written_of tail ++ cut)
 
--- a line that was taken up, or why it was not
-abbrev pub LineDid : {D : Type 0} → (D → Option (List ℕ)) → (D → ℕ) → World D → Result Taken Stop → List ℕ → Site → Cluster D → Type 0
-LineDid seen faults start (Ok taken) line old new = (site : Site) × IsTaken taken line old site × Shows seen faults start new site
-LineDid seen faults start (Err Ended) line old new = (tape_order line ≡ Some End) × Shows seen faults start new old
-LineDid seen faults start (Err ReadFault) line old new = ⊥
-LineDid seen faults start (Err WriteFault) line old new = ⊥
-LineDid seen faults start (Err (Bad fault)) line old new = IsBad fault line old × Shows seen faults start new old
-LineDid seen faults start (Err NoMemory) line old new = (last : Site) × LineLeaves old line last × IsSince seen faults start last new.world
-
--- a stop that is not of the source or the sink
-abbrev pub IsOwnStop : Stop → Type 0
-IsOwnStop Ended = ⊤
-IsOwnStop ReadFault = ⊥
-IsOwnStop WriteFault = ⊥
-IsOwnStop (Bad fault) = ⊤
-IsOwnStop NoMemory = ⊤
+-- what the work on a line did
+abbrev pub LineDid : {D T : Type 0} → (D → Option (List ℕ)) → (D → ℕ) → World D → Plan → Point → List ℕ → Result T Why → Option (List ℕ) → Cluster D → Type 0
+LineDid seen faults start plan p line (Ok _) held cluster = LineWent seen faults start plan p line held cluster
+LineDid seen faults start plan p line (Err reason) held cluster = LineStopped seen faults start plan p line reason held cluster.world

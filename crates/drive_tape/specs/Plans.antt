@@ -1,11 +1,10 @@
 -- What reading the plan lines of a tape did, up to `go`.
-use Rattle.std.specs.Prelude.{◌≡◌, ◌⊎◌, ◌<◌, ◌≤◌, ◌+◌, ◌^◌, ℕ, true, false, List, [], ◌∷◌, ◌++◌, length, flat_map, All, ⊤, Option, Some, None, Result, Ok, Err, option_and_then}
+use Rattle.std.specs.Prelude.{◌≡◌, ◌⊎◌, ◌<◌, ◌+◌, ◌^◌, ℕ, false, true, List, [], ◌∷◌, ◌++◌, length, flat_map, All, ⊤, Option, Some, None, Result, Ok, Err, option_and_then}
 use Rattle.std.specs.Io.KnownBytes.{Consumes, IsAtEnd}
-use Rattle.mail_model.specs.Lines.{HasNoLf, BeginsWith, ended}
+use Rattle.mail_model.specs.Lines.{HasNoLf, ended}
 use Rattle.mail_model.specs.Plan.{Plan}
-use Rattle.mail_model.specs.Tape.{Draft, empty_draft, drafted, planned, tape_plan_line, is_long}
+use Rattle.mail_model.specs.Tape.{Draft, empty_draft, drafted, planned, tape_plan_line}
 use Rattle.mail_model.specs.Tape.PlanLine.{Go}
-use Rattle.drive_tape.specs.declared.plan_head.PlanHead.{PlanHead}
 use Rattle.drive_tape.specs.declared.plan_head.PlanTurn.{PlanTurn}
 use Rattle.drive_tape.specs.declared.plan_head.PlanTurn.TheVariants.{Line, End}
 use Rattle.drive_tape.specs.declared.drove.Drove.{Drove}
@@ -29,19 +28,20 @@ DraftsTo old (line ∷ lines) new = (mid : Draft) × DraftsOn old line mid × Dr
 abbrev pub IsServed : Plan → Type 0
 IsServed plan = (plan.nodes ≡ 1) × (plan.copies ≡ 1) × (plan.confirm ≡ 1)
 
--- the line is not too long and adds nothing to the draft, and if it is `go`, the draft is no plan that is served
-abbrev pub IsBadPlan : List ℕ → Draft → Type 0
-IsBadPlan line draft = (is_long line ≡ false)
-    × (option_and_then (drafted draft) (tape_plan_line line) ≡ None)
-    × (tape_plan_line line ≡ Some Go → (plan : Plan) → planned draft ≡ Some plan → IsServed plan → ⊥)
+-- the octets are a line that adds nothing to the draft, and if it is `go`, the draft is no plan that is served
+pub record IsBadPlan (octets : List ℕ) (draft : Draft) : Type 0 where
+  pub line : List ℕ
+  pub whole : octets ≡ ended line
+  pub one : HasNoLf line
+  pub adds_nothing : option_and_then (drafted draft) (tape_plan_line line) ≡ None
+  pub no_plan : tape_plan_line line ≡ Some Go → (plan : Plan) → planned draft ≡ Some plan → IsServed plan → ⊥
 
--- Why the plan part has a fault of the tape, at the octets that are no plan line, with room for so many octets more.
+-- Why the plan part has a fault of the tape, at these octets that were taken and are no plan line, with room for so many more.
 abbrev pub PlanStopsAt : TapeFault → Option (List ℕ) → List ℕ → ℕ → Draft → Type 0
 PlanStopsAt fault left octets room draft =
-    ((fault ≡ BadPlan) × ((line : List ℕ) × (rest : List ℕ) × BeginsWith octets line rest × IsBadPlan line draft))
-    ⊎ ((fault ≡ BadLine) × (((line : List ℕ) × (rest : List ℕ) × BeginsWith octets line rest × (is_long line ≡ true))
-    ⊎ (HasNoLf octets × (IsAtEnd left ⊎ (65535 < length octets)))))
-    ⊎ ((fault ≡ TapeTooLong) × HasNoLf octets × (room ≡ 0) × (length octets ≤ 65535))
+    ((fault ≡ BadPlan) × IsBadPlan octets draft)
+    ⊎ ((fault ≡ BadLine) × HasNoLf octets × (IsAtEnd left ⊎ (65535 < length octets)))
+    ⊎ ((fault ≡ TapeTooLong) × HasNoLf octets × (room ≡ 0))
 
 -- Why it stopped.
 abbrev pub PlanStops : Stop → Option (List ℕ) → List ℕ → ℕ → Draft → Type 0
@@ -51,51 +51,47 @@ PlanStops WriteFault left octets room draft = ⊥
 PlanStops (Bad fault) left octets room draft = PlanStopsAt fault left octets room draft
 PlanStops NoMemory left octets room draft = ⊤
 
--- one turn over the octets that were pending and taken
-abbrev pub PlanDid : Result PlanTurn Stop → Option (List ℕ) → List ℕ → ℕ → Draft → List ℕ → Draft → Type 0
-PlanDid (Ok Line) left octets room old pending new = (line : List ℕ) × BeginsWith octets line pending × DraftsOn old line new
-PlanDid (Ok End) left octets room old pending new = (line : List ℕ) × BeginsWith octets line pending × (tape_plan_line line ≡ Some Go) × (new ≡ old)
-PlanDid (Err stop) left octets room old pending new = PlanStops stop left octets room old
+-- one line
+abbrev pub PlanDid : Result PlanTurn Stop → Option (List ℕ) → List ℕ → ℕ → Draft → Draft → Type 0
+PlanDid (Ok Line) left octets room old new = (line : List ℕ) × (octets ≡ ended line) × HasNoLf line × DraftsOn old line new
+PlanDid (Ok End) left octets room old new = (line : List ℕ) × (octets ≡ ended line) × HasNoLf line × (tape_plan_line line ≡ Some Go) × (new ≡ old)
+PlanDid (Err stop) left octets room old new = PlanStops stop left octets room old
 
--- one turn, of a reader with so much room left
-pub record PlanTurned (left0 left1 : Option (List ℕ)) (result : Result PlanTurn Stop) (pending0 : List ℕ) (room0 : ℕ) (old : Draft) (pending1 : List ℕ) (room1 : ℕ) (new : Draft) : Type 0 where
+-- the octets that it took
+pub record PlanTurned (left0 left1 : Option (List ℕ)) (result : Result PlanTurn Stop) (room0 : ℕ) (old : Draft) (room1 : ℕ) (new : Draft) : Type 0 where
   pub taken : List ℕ
   pub took : Consumes left0 left1 taken
-  pub did : PlanDid result left1 (pending0 ++ taken) room1 old pending1 new
+  pub did : PlanDid result left1 taken room1 old new
   pub size : room1 + length taken ≡ room0
 
--- so far: the octets are these plan lines and what is pending
-pub record PlanProgress (left0 left1 : Option (List ℕ)) (pending0 pending : List ℕ) (draft : Draft) (count room : ℕ) : Type 0 where
-  pub read : List ℕ
+-- so far these plan lines were read
+pub record PlanProgress (left0 left1 : Option (List ℕ)) (draft : Draft) (count room : ℕ) : Type 0 where
   pub lines : List (List ℕ)
-  pub took : Consumes left0 left1 read
-  pub cut : pending0 ++ read ≡ flat_map ended lines ++ pending
+  pub took : Consumes left0 left1 (flat_map ended lines)
   pub each : All HasNoLf lines
   pub drafts : DraftsTo empty_draft lines draft
   pub counted : length lines ≡ count
-  pub size : length (pending0 ++ read) + room ≡ 2 ^ 40
+  pub size : length (flat_map ended lines) + room ≡ 2 ^ 40
 
 -- the octets behind the plan lines are `go`, with a plan that is served; or why they are not
-abbrev pub HeadDid : Result PlanHead Drove → Option (List ℕ) → List ℕ → ℕ → Draft → ℕ → List ℕ → Type 0
-HeadDid (Ok head) left octets room draft count pending =
-    (line : List ℕ) × BeginsWith octets line pending × (tape_plan_line line ≡ Some Go) × (planned draft ≡ Some head.plan) × IsServed head.plan × (head.lines ≡ count + 1)
-HeadDid (Err answer) left octets room draft count pending = PlanStops (stop_of answer) left octets room draft × NamesLine answer (count + 1)
+abbrev pub HeadDid : Result (Plan × ℕ) Drove → Option (List ℕ) → List ℕ → ℕ → Draft → ℕ → Type 0
+HeadDid (Ok head) left octets room draft count =
+    (line : List ℕ) × (octets ≡ ended line) × HasNoLf line × (tape_plan_line line ≡ Some Go) × (planned draft ≡ Some head.0) × IsServed head.0 × (head.1 ≡ count + 1)
+HeadDid (Err answer) left octets room draft count = PlanStops (stop_of answer) left octets room draft × NamesLine answer (count + 1)
 
--- The whole: the octets begin with plan lines, and behind them is `go`, or the answer is why it is not.
-pub record ReadsPlan (left0 left1 : Option (List ℕ)) (pending0 : List ℕ) (result : Result PlanHead Drove) (pending : List ℕ) : Type 0 where
-  pub read : List ℕ
+-- The whole: the octets that were read are plan lines, and `go`, or the answer is why there is none.
+pub record ReadsHead (left0 left1 : Option (List ℕ)) (result : Result (Plan × ℕ) Drove) : Type 0 where
   pub lines : List (List ℕ)
   pub draft : Draft
   pub others : List ℕ
   pub room : ℕ
-  pub took : Consumes left0 left1 read
-  pub cut : pending0 ++ read ≡ flat_map ended lines ++ others
+  pub took : Consumes left0 left1 (flat_map ended lines ++ others)
   pub each : All HasNoLf lines
   pub drafts : DraftsTo empty_draft lines draft
-  pub limit : length (pending0 ++ read) + room ≡ 2 ^ 40
-  pub did : HeadDid result left1 others room draft (length lines) pending
+  pub limit : length (flat_map ended lines ++ others) + room ≡ 2 ^ 40
+  pub did : HeadDid result left1 others room draft (length lines)
 
 -- what the draft gives at `go`, at the line of this number
-abbrev pub HeadEnds : Result PlanHead Drove → Draft → ℕ → Type 0
-HeadEnds (Ok head) draft number = (planned draft ≡ Some head.plan) × IsServed head.plan × (head.lines ≡ number)
+abbrev pub HeadEnds : Result (Plan × ℕ) Drove → Draft → ℕ → Type 0
+HeadEnds (Ok head) draft number = (planned draft ≡ Some head.0) × IsServed head.0 × (head.1 ≡ number)
 HeadEnds (Err answer) draft number = (answer ≡ BadTape number BadPlan) × ((plan : Plan) → planned draft ≡ Some plan → IsServed plan → ⊥)

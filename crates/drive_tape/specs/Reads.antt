@@ -1,26 +1,21 @@
--- What reading a line of a tape leaves of the octets that were pending and taken.
-use Rattle.std.specs.Prelude.{◌≡◌, ℕ, ◌+◌, ◌<◌, ◌≤◌, List, Option, Result, Ok, Err, length, ⊤}
-use Rattle.std.specs.Io.KnownBytes.{IsAtEnd}
-use Rattle.mail_model.specs.Lines.{HasNoLf, BeginsWith}
+-- What reading a line of a tape takes of a source.
+use Rattle.std.specs.Prelude.{◌≡◌, ℕ, ◌<◌, ◌≤◌, List, [], ◌∷◌, Option, Some, None, Result, Ok, Err, length}
+use Rattle.std.specs.Io.KnownBytes.{Consumes, IsAtEnd}
+use Rattle.mail_model.specs.Lines.{HasNoLf, ended}
 use Rattle.drive_tape.specs.declared.reader.LineStop.{LineStop}
 use Rattle.drive_tape.specs.declared.reader.LineStop.TheVariants.{ReadFault, EndedEarly, LongLine, TooLong, NoMemory}
 
--- how many octets may be pending: a line that is not whole yet, and one piece
-abbrev pub most_pending : ℕ
-most_pending = 65_535 + 512
+-- one octet was taken, or none: at the end, or at a fault
+abbrev pub TakesOctet : {E : Type 0} → Option (List ℕ) → Option (List ℕ) → Result (Option ℕ) E → Type 0
+TakesOctet left0 left1 (Ok (Some octet)) = Consumes left0 left1 (octet ∷ [])
+TakesOctet left0 left1 (Ok None) = Consumes left0 left1 [] × IsAtEnd left1
+TakesOctet left0 left1 (Err _) = Consumes left0 left1 []
 
-abbrev pub Reads : Result (List ℕ) LineStop → Option (List ℕ) → List ℕ → List ℕ → Type 0
-Reads (Ok line) left octets pending = BeginsWith octets line pending
-Reads (Err EndedEarly) left octets pending = HasNoLf octets × (pending ≡ octets) × IsAtEnd left
-Reads (Err LongLine) left octets pending = HasNoLf octets × (pending ≡ octets) × (65535 < length octets)
-Reads (Err TooLong) left octets pending = HasNoLf octets × (pending ≡ octets) × (length octets ≤ 65535)
-Reads (Err ReadFault) left octets pending = HasNoLf octets × (pending ≡ octets)
-Reads (Err NoMemory) left octets pending = pending ≡ octets
-
--- what one read may answer where it gives nothing
-abbrev pub IsPieceStop : LineStop → Type 0
-IsPieceStop ReadFault = ⊤
-IsPieceStop NoMemory = ⊤
-IsPieceStop EndedEarly = ⊥
-IsPieceStop LongLine = ⊥
-IsPieceStop TooLong = ⊥
+-- these octets were taken: a line with its LF; or no line, and why
+abbrev pub Reads : Result (List ℕ) LineStop → Option (List ℕ) → List ℕ → ℕ → Type 0
+Reads (Ok line) left taken room = (taken ≡ ended line) × HasNoLf line × (length line ≤ 65535)
+Reads (Err EndedEarly) left taken room = HasNoLf taken × IsAtEnd left
+Reads (Err LongLine) left taken room = HasNoLf taken × (65535 < length taken)
+Reads (Err TooLong) left taken room = HasNoLf taken × (room ≡ 0)
+Reads (Err ReadFault) left taken room = HasNoLf taken
+Reads (Err NoMemory) left taken room = HasNoLf taken

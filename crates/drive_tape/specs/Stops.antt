@@ -3,8 +3,6 @@ use Rattle.drive_tape.specs.declared.reader.LineStop.{LineStop}
 use Rattle.drive_tape.specs.declared.reader.LineStop.TheVariants as line
 use Rattle.drive_tape.specs.declared.entry.WriteStop.{WriteStop}
 use Rattle.drive_tape.specs.declared.entry.WriteStop.TheVariants as write
-use Rattle.drive_tape.specs.declared.cluster.StepStop.{StepStop}
-use Rattle.drive_tape.specs.declared.cluster.StepStop.TheVariants as step
 use Rattle.drive_tape.specs.declared.drove.TapeFault.TheVariants.{BadLine, TapeTooLong}
 use Rattle.drive_tape.specs.declared.drove.Stop.{Stop}
 use Rattle.drive_tape.specs.declared.drove.Stop.TheVariants.{ReadFault, WriteFault, Bad, NoMemory}
@@ -19,7 +17,3 @@ of_line line.NoMemory = NoMemory
 abbrev pub of_write : WriteStop → Stop
 of_write write.WriteFault = WriteFault
 of_write write.NoMemory = NoMemory
-
-abbrev pub of_step : StepStop → Stop
-of_step (step.Refused fault) = Bad fault
-of_step step.NoMemory = NoMemory

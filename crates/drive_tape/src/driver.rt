@@ -1,22 +1,20 @@
 // Drives a cluster by the run lines of a tape.
-ghost use Rattle.std.specs.Prelude.{◌≡◌, ◌+◌, ◌^◌, ◌≤◌, ◌<◌, ℕ, Bool, All, IfErr, OnOk, IsErrOf, length, map};
+ghost use Rattle.std.specs.Prelude.{◌≡◌, ◌≤◌, ◌<◌, ◌^◌, ℕ, List, [], true, length, OnOk, IsErrOf};
 ghost use Rattle.io_edge.specs.Causes.{Rose};
-ghost use Rattle.mail_model.specs.Lines.{HasNoLf};
-ghost use Rattle.mail_model.specs.Plan.{Plan};
-ghost use Rattle.mail_model.specs.Runs.{LeavesHearing};
-ghost use Rattle.mail_model.specs.Site.{Site, opening};
-ghost use Rattle.mail_model.specs.Transcript.{entry_line};
-ghost use Rattle.cluster_world.specs.World.{book_of, disk_of};
-ghost use Rattle.cluster_world.specs.declared.world.World.{World as SeenWorld};
-ghost use Rattle.drive_tape.specs.Cluster.{IsReady, Shows};
-ghost use Rattle.drive_tape.specs.Lines.{LineDid, IsOwnStop, given_by};
-ghost use Rattle.drive_tape.specs.Answering.{Writes, AnswersAll, GivesAll, LeavesTaken};
-ghost use Rattle.drive_tape.specs.Drive.{ShowsTurn, DrivesWorld, MayHaveStepped, stop_of, NamesLine};
-ghost use Rattle.drive_tape.specs.Booked.{BooksAsTold, StrikesAsMarked, DropsGone};
-ghost use Rattle.drive_tape.specs.Reads.{most_pending};
+ghost use Rattle.cluster_world.specs.World.{plan_of, is_up, disk_of, Begins, ShowsGate};
+ghost use Rattle.cluster_world.specs.declared.world.World.{World as AWorld};
+ghost use Rattle.drive_tape.specs.Drive.{Drives, stop_of, NamesLine};
+ghost use Rattle.drive_tape.specs.Lines.{LineDid};
+ghost use Rattle.drive_tape.specs.Points.{Point, Shows};
+ghost use Rattle.drive_tape.specs.Runs.{Turned};
+ghost use Rattle.drive_tape.specs.Worlds.{IsReady};
 
-use crate::cluster::{Cluster, StepStop};
-use crate::{Drove, Entry, LineReader, LineStop, Row, Stop, TapeFault, WriteStop, write_entries};
+use crate::cluster::Cluster;
+use crate::lines::{close_line, feed_line, open_line, say_line};
+use crate::reader::next_line;
+use crate::sessions::Sessions;
+use crate::{Drove, LineStop, Stop, TapeFault, WriteStop};
+use cluster_world::World;
 use io_edge::{Disk, Sink, Source};
 use std::alloc::{AllocError, Global};
 use tape_lines::{Order, read_order};
@@ -66,128 +64,6 @@ impl From<AllocError> for Stop {
     }
 }
 
-impl From<StepStop> for Stop {
-    ghost use Rattle.std.specs.Prelude.{◌≡◌};
-    ghost use Rattle.drive_tape.specs.Stops.{of_step};
-
-    ghost from_gives = { λ why stop. stop ≡ of_step why };
-
-    fn from(why: StepStop) -> Stop {
-        match why {
-            StepStop::Refused(fault) => Stop::Bad(fault),
-            StepStop::NoMemory => Stop::NoMemory,
-        }
-    }
-}
-
-// What a run line that was taken up gives.
-#[derive(Debug, Drop)]
-enum Taken {
-    // These entries, and nothing follows.
-    Gives(Row<Entry>),
-    // The session of this number was fed, and answers now.
-    Hears(u64),
-}
-
-// Takes up a run line. What it gives is still to be written, and the session that it feeds is still to answer.
-fn take_up<D: Disk>(cluster: &mut Cluster<D>, alloc: Global, line: &[u8]) -> Result<Taken, Stop>
-    requires ready { IsReady D.seen cluster.old }
-    ensures ready { IsReady D.seen cluster.new }
-    ensures did { (start : SeenWorld D) (site : Site) → Shows D.seen D.faults start cluster.old site
-        → LineDid D.seen D.faults start result line.now site cluster.new }
-    ensures own { IfErr result IsOwnStop }
-{
-    let Some(order) = read_order(alloc, line)? else {
-        return Err(Stop::Bad(TapeFault::BadLine));
-    };
-    match order {
-        Order::Open { protocol, node } => Ok(Taken::Gives(cluster.open(alloc, protocol, node)?)),
-        Order::Say { session, text } => {
-            cluster.say(session, text)?;
-            Ok(Taken::Hears(session))
-        }
-        Order::Feed { session, octets } => {
-            cluster.feed(session, &octets)?;
-            Ok(Taken::Hears(session))
-        }
-        Order::Close { session } => {
-            cluster.close_session(alloc, session)?;
-            Ok(Taken::Gives(Row::new(alloc)))
-        }
-        Order::End => Err(Stop::Ended),
-    }
-}
-
-// The session answers all units of what it was fed that are whole. What each gives is written before the next is heard.
-fn answer_all<K: Sink, D: Disk>(
-    cluster: &mut Cluster<D>,
-    alloc: Global,
-    session: u64,
-    sink: &mut K,
-) -> Result<(), Stop>
-    requires ready { IsReady D.seen cluster.old }
-    ensures ready { IsReady D.seen cluster.new }
-    ensures answered { (start : SeenWorld D) (site : Site) → Shows D.seen D.faults start cluster.old site
-        → Writes D.seen D.faults start (K.contents sink.old) (K.contents sink.new) result (AnswersAll session site) (LeavesHearing site session) cluster.new }
-    ensures may { IfErr result MayHaveStepped }
-    ensures write_later { K.faults sink.old ≤ K.faults sink.new }
-    ensures write_fault { IsErrOf result Stop.WriteFault → Rose (K.faults sink.old) (K.faults sink.new) }
-{
-    loop {
-        let Some(entries) = cluster.hear(alloc, session)? else {
-            return Ok(());
-        };
-        write_entries(alloc, sink, entries.as_slice())?;
-    }
-}
-
-// Writes what a run line gives that was taken up, at once or by the session that it fed.
-fn answer<K: Sink, D: Disk>(
-    cluster: &mut Cluster<D>,
-    alloc: Global,
-    taken: Taken,
-    sink: &mut K,
-) -> Result<(), Stop>
-    requires ready { IsReady D.seen cluster.old }
-    ensures ready { IsReady D.seen cluster.new }
-    ensures answered { (start : SeenWorld D) (site : Site) → All HasNoLf (map entry_line (given_by taken)) → Shows D.seen D.faults start cluster.old site
-        → Writes D.seen D.faults start (K.contents sink.old) (K.contents sink.new) result (GivesAll taken site) (LeavesTaken taken site) cluster.new }
-    ensures may { IfErr result MayHaveStepped }
-    ensures write_later { K.faults sink.old ≤ K.faults sink.new }
-    ensures write_fault { IsErrOf result Stop.WriteFault → Rose (K.faults sink.old) (K.faults sink.new) }
-{
-    match taken {
-        Taken::Gives(entries) => Ok(write_entries(alloc, sink, entries.as_slice())?),
-        Taken::Hears(session) => answer_all(cluster, alloc, session, sink),
-    }
-}
-
-// One turn: a line is read and taken up, and what it gives is written.
-fn turn<S: Source, K: Sink, D: Disk>(
-    alloc: Global,
-    reader: &mut LineReader,
-    source: &mut S,
-    sink: &mut K,
-    cluster: &mut Cluster<D>,
-) -> Result<(), Stop>
-    requires ready { IsReady D.seen cluster.old }
-    ensures ready { IsReady D.seen cluster.new }
-    ensures turned { (start : SeenWorld D) (site : Site) → Shows D.seen D.faults start cluster.old site
-        → ShowsTurn D.seen D.faults start (S.left source.old) (S.left source.new) (K.contents sink.old) (K.contents sink.new) result
-        reader.old.pending.items reader.old.left site reader.new.pending.items reader.new.left cluster.new }
-    ensures less { OnOk result (length reader.new.pending.items + reader.new.left < length reader.old.pending.items + reader.old.left) }
-    ensures short { length reader.old.pending.items ≤ most_pending → length reader.new.pending.items ≤ most_pending }
-    ensures read_later { S.faults source.old ≤ S.faults source.new }
-    ensures write_later { K.faults sink.old ≤ K.faults sink.new }
-    ensures read_fault { IsErrOf result Stop.ReadFault → Rose (S.faults source.old) (S.faults source.new) }
-    ensures write_fault { IsErrOf result Stop.WriteFault → Rose (K.faults sink.old) (K.faults sink.new) }
-{
-    let line = reader.next_line(source)?;
-    let taken = take_up(cluster, alloc, line.octets())?;
-    answer(cluster, alloc, taken, sink)?;
-    Ok(())
-}
-
 // The answer for a stop at the line of this number.
 pub(crate) fn at_line(stop: Stop, number: u64) -> Drove
     ensures stop { stop_of result ≡ stop }
@@ -202,49 +78,96 @@ pub(crate) fn at_line(stop: Stop, number: u64) -> Drove
     }
 }
 
-/// Drives the cluster by run lines until `end` or a stop; `from` lines of the tape came before them.
-/// What a line gives is written before the next line is read; where it feeds a session, what a unit gives is written before
-/// the next unit is heard. It takes at most 1,099,511,627,776 octets, those that are pending among them.
-///
-/// The answer is `Ended` behind the line `end`. `BadTape(n, fault)` comes where line n is refused, and nothing is done for
-/// it; `ReadFault` where the source failed before a line was whole; `WriteFault(n)` where the sink failed at what line n
-/// gives, of which a front was written: what gave it is done, and no unit behind it was heard; `NoMemory(n)` where memory
-/// ran out at line n, of which some units may be done, and of the next nothing, all, or a part of its message's records, or
-/// of the states of the messages that it deletes, may stand on the disk.
-pub fn drive<S: Source, K: Sink, D: Disk>(
+// One run line, without its LF.
+fn handle<D: Disk, K: Sink>(
+    cluster: &mut Cluster<D>,
     alloc: Global,
-    reader: &mut LineReader,
+    sink: &mut K,
+    line: &[u8],
+) -> Result<(), Stop>
+    requires ready { IsReady D.seen D.settled cluster.old.world }
+    requires tickets { length cluster.old.sessions.tickets.items ≡ length cluster.old.sessions.talkers.items }
+    ensures ready { IsReady D.seen D.settled cluster.new.world }
+    ensures plan { plan_of cluster.new.world ≡ plan_of cluster.old.world }
+    ensures tickets { OnOk result (length cluster.new.sessions.tickets.items ≡ length cluster.new.sessions.talkers.items) }
+    ensures did { (start : AWorld D) (p : Point) → Shows D.seen D.faults start cluster.old p
+        → p.held ≡ K.contents sink.old → p.awaited ≡ [] → LineDid D.seen D.faults start (plan_of cluster.old.world) p line.now result (K.contents sink.new) cluster.new }
+    ensures later { K.faults sink.old ≤ K.faults sink.new }
+    ensures failed { IsErrOf result Stop.WriteFault → Rose (K.faults sink.old) (K.faults sink.new) }
+{
+    let Some(order) = read_order(alloc, line)? else {
+        return Err(Stop::Bad(TapeFault::BadLine));
+    };
+    match order {
+        Order::Open { protocol, node } => open_line(cluster, alloc, sink, protocol, node),
+        Order::Say { session, text } => say_line(cluster, alloc, sink, session, text),
+        Order::Feed { session, octets } => feed_line(cluster, alloc, sink, session, &octets),
+        Order::Close { session } => close_line(cluster, alloc, sink, session),
+        Order::End => Err(Stop::Ended),
+    }
+}
+
+// One turn: a line is read and handled.
+fn turn<S: Source, K: Sink, D: Disk>(
+    alloc: Global,
     source: &mut S,
     sink: &mut K,
+    room: &mut u64,
     cluster: &mut Cluster<D>,
-    from: u64,
-) -> Drove
-    requires ready { IsReady D.seen cluster.old }
-    requires short { length reader.old.pending.items ≤ most_pending }
-    requires few { from < 2 ^ 63 }
-    ensures only_steps_of_tape { (start : SeenWorld D) (first : Site) → Shows D.seen D.faults start cluster.old first
-        → DrivesWorld D.seen D.faults start (S.left source.old) (S.left source.new) (K.contents sink.old) (K.contents sink.new)
-        reader.old.pending.items result from first cluster.new.world }
-    ensures acknowledged_as_told { (start : SeenWorld D) (plan : Plan) (tells : Bool) → plan.nodes ≡ 1 → Shows D.seen D.faults start cluster.old (opening plan tells)
-        → BooksAsTold (S.left source.old) (S.left source.new) (K.contents sink.old) (K.contents sink.new)
-        reader.old.pending.items result plan (book_of cluster.new.world) }
-    ensures struck_as_marked { (start : SeenWorld D) (plan : Plan) (tells : Bool) → plan.nodes ≡ 1 → Shows D.seen D.faults start cluster.old (opening plan tells)
-        → StrikesAsMarked (S.left source.old) (S.left source.new) (K.contents sink.old) (K.contents sink.new)
-        reader.old.pending.items (book_of cluster.new.world) }
-    ensures dropped_are_gone { (start : SeenWorld D) (plan : Plan) (tells : Bool) → plan.nodes ≡ 1 → plan.confirm ≡ 1 → Shows D.seen D.faults start cluster.old (opening plan tells)
-        → DropsGone (S.left source.old) (S.left source.new) (K.contents sink.old) (K.contents sink.new)
-        reader.old.pending.items plan (book_of cluster.new.world) (D.seen (disk_of cluster.new.world)) }
+) -> Result<(), Stop>
+    requires ready { IsReady D.seen D.settled cluster.old.world }
+    requires tickets { length cluster.old.sessions.tickets.items ≡ length cluster.old.sessions.talkers.items }
+    ensures ready { IsReady D.seen D.settled cluster.new.world }
+    ensures plan { plan_of cluster.new.world ≡ plan_of cluster.old.world }
+    ensures tickets { OnOk result (length cluster.new.sessions.tickets.items ≡ length cluster.new.sessions.talkers.items) }
+    ensures turned { (start : AWorld D) (p : Point) → Shows D.seen D.faults start cluster.old p → p.held ≡ K.contents sink.old → p.awaited ≡ []
+        → Turned D.seen D.faults start (plan_of cluster.old.world) p result (S.left source.old) (S.left source.new) room.old room.new (K.contents sink.new) cluster.old cluster.new }
+    ensures less { OnOk result (room.new < room.old) }
     ensures read_later { S.faults source.old ≤ S.faults source.new }
     ensures write_later { K.faults sink.old ≤ K.faults sink.new }
-    ensures read_fault { stop_of result ≡ Stop.ReadFault → Rose (S.faults source.old) (S.faults source.new) }
-    ensures write_fault { stop_of result ≡ Stop.WriteFault → Rose (K.faults sink.old) (K.faults sink.new) }
+    ensures read_fault { (start : AWorld D) (p : Point) → Shows D.seen D.faults start cluster.old p → p.held ≡ K.contents sink.old → p.awaited ≡ []
+        → IsErrOf result Stop.ReadFault → Rose (S.faults source.old) (S.faults source.new) }
+    ensures write_fault { IsErrOf result Stop.WriteFault → Rose (K.faults sink.old) (K.faults sink.new) }
 {
-    reader.limit(TAPE_OCTETS);
+    let line = next_line(alloc, source, room)?;
+    handle(cluster, alloc, sink, line.octets())
+}
+
+/// Drives the world by run lines until `end` or a stop; `from` lines of the tape came before them. The world comes back.
+/// No octet after the last line that is handled is read, and what a line gives is written before the next one is read.
+///
+/// The answer is `Ended` after the line `end`. `BadTape(n, fault)` comes where line n is refused, and nothing is done for
+/// it; `ReadFault` where the source failed before a line was whole; `WriteFault(n)` where the sink failed at what line n
+/// gives, of which a prefix was written; `NoMemory(n)` where memory ran out at line n, which may be done in part.
+pub fn drive<S: Source, K: Sink, D: Disk>(
+    alloc: Global,
+    source: &mut S,
+    sink: &mut K,
+    world: World<D>,
+    from: u64,
+) -> (Drove, World<D>)
+    requires one { (plan_of world).nodes ≡ 1 }
+    requires gate { is_up world ≡ true → ShowsGate D.seen world }
+    requires settled { is_up world ≡ true → D.settled (disk_of world) }
+    requires few { from < 2 ^ 63 }
+    ensures drives { Begins D.seen (plan_of world) world → Drives D.seen D.faults world (S.left source.old) (S.left source.new) (K.contents sink.old) (K.contents sink.new) result.0 from result.1 }
+    ensures settled { is_up result.1 ≡ true → D.settled (disk_of result.1) }
+    ensures plan { plan_of result.1 ≡ plan_of world }
+    ensures read_later { S.faults source.old ≤ S.faults source.new }
+    ensures write_later { K.faults sink.old ≤ K.faults sink.new }
+    ensures read_fault { Begins D.seen (plan_of world) world → stop_of result.0 ≡ Stop.ReadFault → Rose (S.faults source.old) (S.faults source.new) }
+    ensures write_fault { stop_of result.0 ≡ Stop.WriteFault → Rose (K.faults sink.old) (K.faults sink.new) }
+{
+    let mut cluster = Cluster {
+        world,
+        sessions: Sessions::new(alloc),
+    };
+    let mut room = TAPE_OCTETS;
     let mut handled: u64 = 0;
     loop {
-        match turn(alloc, reader, source, sink, cluster) {
+        match turn(alloc, source, sink, &mut room, &mut cluster) {
             Ok(()) => handled += 1,
-            Err(stop) => return at_line(stop, from + handled + 1),
+            Err(stop) => return (at_line(stop, from + handled + 1), cluster.world),
         }
     }
 }

@@ -3,6 +3,7 @@ ghost use Rattle.std.specs.Prelude.{◌≡◌, ◌++◌, ◌∷◌, ◌≤◌, �
 ghost use Rattle.std.specs.Fmt.{decimal};
 ghost use Rattle.io_edge.specs.Causes.{Rose};
 ghost use Rattle.mail_model.specs.Lines.{ended};
+ghost use Rattle.mail_model.specs.Transcript as transcript;
 ghost use Rattle.mail_model.specs.Transcript.{entry_line, escaped, escaped_octet, hex_digit};
 ghost use Rattle.drive_tape.specs.Entries.{entry_of, entries_of, WritesEntries};
 
@@ -83,8 +84,8 @@ fn escape(out: &mut Vec<u8>, text: &[u8]) -> Result<(), AllocError>
 }
 
 // The line of a reply of the session.
-fn said_line(alloc: Global, session: u64, text: &[u8]) -> Result<Vec<u8>, AllocError>
-    ensures { IfOk result (λ line. line.items ≡ decimal session ++ 32 ∷ escaped text.now ++ 10 ∷ []) }
+pub(crate) fn said_line(alloc: Global, session: u64, text: &[u8]) -> Result<Vec<u8>, AllocError>
+    ensures { IfOk result (λ line. line.items ≡ ended (entry_line (transcript.Entry.Said session text.now))) }
 {
     let number = session.to_string(alloc)?;
     let mut line = Vec::from_slice(alloc, number.as_bytes())?;

@@ -1,68 +1,60 @@
 // All sessions of a tape, in order of `open`.
-ghost use Rattle.std.specs.Prelude.{◌≡◌, ◌⊎◌, ◌+◌, ◌-◌, ◌<◌, ◌≤◌, ◌∷◌, ◌++◌, [], List, ℕ, true, length, map, OnOk, IfOk, IfSome, if◌then◌else◌, Option, Some, None};
-ghost use Rattle.std.specs.Option.{option_map};
-ghost use Rattle.mail_model.specs.Maildrop as maildrop;
-ghost use Rattle.mail_model.specs.Maildrop.{after_answer, answer_reply};
-ghost use Rattle.mail_model.specs.Site.{Conversation, session_at, replace, refused_session, protocol_of};
-ghost use Rattle.mail_model.specs.PopReplies.{Item as SeenItem, listed_slots};
-ghost use Rattle.mail_model.specs.Site as site;
-ghost use Rattle.mail_model.specs.Steps.{with_octets, opened_session};
+ghost use Rattle.std.specs.Prelude.{◌≡◌, ◌⊎◌, ◌+◌, ◌-◌, ◌<◌, ◌≤◌, ◌∷◌, ◌++◌, [], List, ℕ, Bool, true, false, length, OnOk, IfOk, IfSome, if◌then◌else◌, Option, Some, None, is_some, slice_get, slice_set, MatchBool};
+ghost use Rattle.mail_model.specs.Lines.{HasNoCrlf, sent_line};
+ghost use Rattle.session_model.specs.Calls as calls;
+ghost use Rattle.session_model.specs.Calls.{IsReply};
+ghost use Rattle.session_model.specs.Talk.{State, Standing, IsOn, entered_as};
+ghost use Rattle.session_model.specs.Talk.Standing.{Waiting, EndedClosed};
+ghost use Rattle.session_model.specs.Sessions.{Session, session_at, exchanges_of};
+ghost use Rattle.session_model.specs.Acts.{opened_session, greeting_of};
+ghost use Rattle.session_model.specs.Run.{count_on, session_fault};
+ghost use Rattle.mail_model.specs.Site.{TapeFault};
+ghost use Rattle.call_tickets.specs.Moves.{Due, Fed, HasEnded, IsBusy};
+ghost use Rattle.call_tickets.specs.Seen.{answer_seen};
 ghost use Rattle.tape_lines.specs.Orders.{protocol_seen};
-ghost use Rattle.drive_tape.specs.Talks.{Converse, SessionsHear, IsOwn, closes, login_in, login_seen, rest_at};
-ghost use Rattle.drive_tape.specs.declared.talker.Talker.TheVariants as talker;
+ghost use Rattle.drive_tape.specs.Leaving.{IsLeaveOf};
+ghost use Rattle.drive_tape.specs.Talks.{Converse, IsFound};
+ghost use Rattle.drive_tape.specs.Speakers.{Matches};
+ghost use Rattle.drive_tape.specs.Moving.{MovesTo, RepliesTo, FallsTo, GoesOn, left_at};
 
-use crate::talker::{Heard, Login, Talker};
-use mail_base::Plan;
-use pop_session::{Listing, Reply};
+use crate::talker::Talker;
+use call_tickets::{Answer, Call, Move};
+use mail_base::{NodeNo, Plan, Ticket};
 use std::alloc::{AllocError, Global};
 use tape_lines::Protocol;
 
-/// The sessions by number, from 1, and how many of them stand.
+/// The sessions by number, from 1, with the tickets that they wait for.
 #[derive(Drop)]
-pub struct Sessions {
-    /// Session k is at place k - 1.
-    pub talkers: Vec<Talker>,
+pub(crate) struct Sessions {
+    /// Session k is at place k - 1; none where it has ended.
+    pub talkers: Vec<Option<Talker>>,
+    /// The ticket of its call, where it waits.
+    pub tickets: Vec<Option<Ticket>>,
     /// How many of them have not ended.
     pub standing: u64,
 }
 
-// How many sessions stand behind what one heard.
-fn standing_behind(standing: u64, heard: &Heard) -> u64
-    ensures { result ≡ (if closes heard.now then standing - 1 else standing) }
-{
-    match heard {
-        Heard::Closed(_) => standing.saturating_sub(1),
-        Heard::Left { .. } => standing.saturating_sub(1),
-        _ => standing,
-    }
+/// How a session goes on behind what it said.
+#[derive(Debug, Drop)]
+pub(crate) enum After {
+    /// It has not ended.
+    Stays,
+    /// It has ended, and asks this as it leaves.
+    Ends(Option<Call>),
 }
 
 impl Sessions {
     /// No session was opened. It takes no memory.
     pub fn new(alloc: Global) -> Sessions
         ensures talkers { result.talkers.items ≡ [] }
+        ensures tickets { result.tickets.items ≡ [] }
         ensures standing { result.standing ≡ 0 }
     {
         Sessions {
             talkers: Vec::new(alloc),
+            tickets: Vec::new(alloc),
             standing: 0,
         }
-    }
-
-    /// One session more, which speaks this and was told nothing.
-    ///
-    /// # Errors
-    ///
-    /// Only want of memory; the sessions are then as before.
-    pub fn add(&mut self, alloc: Global, protocol: Protocol) -> Result<(), AllocError>
-        requires { self.old.standing < 256 }
-        ensures ok { OnOk result ((old : List Conversation) → Converse self.old.talkers.items old → Converse self.new.talkers.items (old ++ opened_session (protocol_seen protocol) ∷ [])) }
-        ensures length { OnOk result (length self.new.talkers.items ≡ length self.old.talkers.items + 1) }
-        ensures count { OnOk result (self.new.standing ≡ self.old.standing + 1) }
-    {
-        self.talkers.push(Talker::new(alloc, protocol))?;
-        self.standing += 1;
-        Ok(())
     }
 
     // The place of the session of this number, where there is one.
@@ -76,103 +68,209 @@ impl Sessions {
         Some((number - 1) as usize)
     }
 
-    /// Whether the session of this number was opened and has not ended.
-    pub fn is_on(&self, number: u64) -> bool
-        ensures { (old : List Conversation) → Converse self.now.talkers.items old → refused_session (session_at old number) ≡ (if result then None else Some site.TapeFault.NoSuchSession) }
+    // Whether the session at this place has not ended.
+    fn is_on(&self, place: usize) -> bool
+        requires within { place < length self.now.talkers.items }
+        ensures { (sessions : List Session) (plain : Session) → Converse self.now.talkers.items sessions → slice_get sessions place ≡ Some plain
+            → MatchBool result (IsOn plain.standing) (HasEnded plain.standing) }
     {
-        match self.place_of(number) {
-            Some(place) => self.talkers[place].is_on(),
+        match &self.talkers[place] {
+            Some(talker) => !talker.has_ended(),
             None => false,
         }
     }
 
-    /// The session of this number takes up octets of its client. One that has ended takes none.
+    /// The place of the session of this number, where it was opened and has not ended.
+    pub fn find(&self, number: u64) -> Option<usize>
+        ensures some { IfSome result (λ place. (number ≡ place + 1) × (place < length self.now.talkers.items)) }
+        ensures found { (sessions : List Session) → Converse self.now.talkers.items sessions → IsFound number result sessions }
+    {
+        match self.place_of(number) {
+            Some(place) => { if self.is_on(place) { Some(place) } else { None } }
+            None => None,
+        }
+    }
+
+    /// One session more, with its greeting appended.
     ///
     /// # Errors
     ///
     /// Only want of memory.
-    pub fn feed(&mut self, number: u64, octets: &[u8]) -> Result<(), AllocError>
-        ensures ok { OnOk result ((old : List Conversation) (one : Conversation) → Converse self.old.talkers.items old → session_at old number ≡ Some one
-            → Converse self.new.talkers.items (replace old number (with_octets one octets.now))) }
-        ensures count { self.new.standing ≡ self.old.standing }
+    pub fn open(
+        &mut self,
+        alloc: Global,
+        plan: &Plan,
+        protocol: Protocol,
+        node: NodeNo,
+        out: &mut Vec<u8>,
+    ) -> Result<(), AllocError>
+        requires few { self.old.standing < 256 }
+        requires node { node ≡ 1 }
+        ensures greets { OnOk result (out.new.items ≡ out.old.items ++ sent_line (greeting_of (protocol_seen protocol) 1 1 (length self.old.talkers.items + 1) 0)) }
+        ensures line { OnOk result (HasNoCrlf (greeting_of (protocol_seen protocol) 1 1 (length self.old.talkers.items + 1) 0)) }
+        ensures talks { OnOk result ((sessions : List Session) → Converse self.old.talkers.items sessions
+            → Converse self.new.talkers.items (sessions ++ opened_session (protocol_seen protocol) 1 ∷ [])) }
+        ensures tickets { OnOk result (self.new.tickets.items ≡ self.old.tickets.items ++ None ∷ []) }
+        ensures length { OnOk result (length self.new.talkers.items ≡ length self.old.talkers.items + 1) }
+        ensures count { OnOk result (self.new.standing ≡ self.old.standing + 1) }
     {
-        match self.place_of(number) {
-            Some(place) => self.talkers[place].feed(octets),
+        let number = self.talkers.len() as u64 + 1;
+        let talker = Talker::open(alloc, protocol, node, number, plan, out)?;
+        self.talkers.push(Some(talker))?;
+        self.tickets.push(None)?;
+        self.standing += 1;
+        Ok(())
+    }
+
+    /// The session at this place takes up octets of its client.
+    ///
+    /// # Errors
+    ///
+    /// Only want of memory.
+    pub fn feed(&mut self, place: usize, octets: &[u8]) -> Result<(), AllocError>
+        requires within { place < length self.old.talkers.items }
+        ensures talks { OnOk result ((sessions : List Session) (plain : Session) → Converse self.old.talkers.items sessions → slice_get sessions place ≡ Some plain → IsOn plain.standing
+            → Converse self.new.talkers.items (slice_set sessions place (record plain { octets = plain.octets ++ octets.now; rest = plain.rest ++ octets.now }))) }
+        ensures tickets { self.new.tickets ≡ self.old.tickets }
+        ensures count { self.new.standing ≡ self.old.standing }
+        ensures length { length self.new.talkers.items ≡ length self.old.talkers.items }
+    {
+        match &mut self.talkers[place] {
+            Some(talker) => talker.feed(octets),
             None => Ok(()),
         }
     }
 
-    /// What the next of the octets of this session leads to. With QUIT it has ended, unless messages are to be deleted
-    /// first. Behind anything but `Heard::Idle` it holds fewer octets.
-    ///
-    /// # Errors
-    ///
-    /// Only want of memory.
-    pub fn next(&mut self, alloc: Global, plan: &Plan, number: u64) -> Result<Heard, AllocError>
-        ensures ok { (old : List Conversation) → Converse self.old.talkers.items old → IfOk result (λ heard. SessionsHear plan.now old number heard self.new.talkers.items) }
-        ensures count { IfOk result (λ heard. self.new.standing ≡ (if closes heard then self.old.standing - 1 else self.old.standing)) }
-        ensures less { IfOk result (λ heard. (heard ≡ Heard.Idle) ⊎ (rest_at number self.new.talkers.items < rest_at number self.old.talkers.items)) }
+    // How the session at this place goes on: if it has ended, one fewer stands.
+    fn after(&mut self, place: usize) -> After
+        requires within { place < length self.old.talkers.items }
+        ensures goes_on { (sessions : List Session) (plain : Session) (talker : Talker) → slice_get self.old.talkers.items place ≡ Some (Some talker) → Matches talker plain Due.Nothing
+            → Converse self.old.talkers.items (slice_set sessions place plain) → plain.node ≡ 1
+            → Converse self.new.talkers.items (slice_set sessions place plain) × GoesOn result plain self.old.standing self.new.standing }
+        ensures tickets { self.new.tickets ≡ self.old.tickets }
+        ensures length { length self.new.talkers.items ≡ length self.old.talkers.items }
+        ensures less { left_at place self.new ≤ left_at place self.old }
     {
-        let Some(place) = self.place_of(number) else {
-            return Ok(Heard::Idle);
-        };
-        let heard = self.talkers[place].next(alloc, plan)?;
-        self.standing = standing_behind(self.standing, &heard);
-        Ok(heard)
-    }
-
-    /// This session, which stands, has ended, as its client closed it or its messages were deleted. Its login, where it
-    /// had one.
-    pub fn end(&mut self, number: u64) -> Option<Login>
-        ensures ended { (old : List Conversation) (one : Conversation) → Converse self.old.talkers.items old → session_at old number ≡ Some one
-            → Converse self.new.talkers.items (replace old number (site.Conversation.Over (protocol_of one))) }
-        ensures login { (old : List Conversation) (one : Conversation) → Converse self.old.talkers.items old → session_at old number ≡ Some one
-            → option_map login_seen result ≡ login_in one }
-        ensures own { (old : List Conversation) → Converse self.old.talkers.items old → IsOwn result }
-        ensures count { self.new.standing ≡ self.old.standing - 1 }
-        ensures rest { rest_at number self.new.talkers.items ≤ rest_at number self.old.talkers.items }
-    {
+        if self.is_on(place) {
+            return After::Stays;
+        }
         self.standing = self.standing.saturating_sub(1);
-        let place = self.place_of(number)?;
-        self.talkers[place].end()
+        match self.talkers[place].take() {
+            Some(talker) => After::Ends(talker.leave()),
+            None => After::Ends(None),
+        }
     }
 
-    /// The node let the session of this number in, as this login, and these are the messages of its maildrop:
-    /// TRANSACTION begins (RFC 1939, section 5). The reply to its PASS.
+    /// The next move of the session at this place, and how it goes on; what it says is appended.
     ///
     /// # Errors
     ///
     /// Only want of memory.
-    pub fn enter(
+    pub fn next(
         &mut self,
         alloc: Global,
-        number: u64,
-        login: Login,
-        listing: Listing,
-    ) -> Result<Reply, AllocError>
-        ensures reply { (items : List SeenItem) (old : List Conversation) (stage : maildrop.Stage) (known : Option site.Login) (pending : List ℕ) → Converse self.old.talkers.items old → session_at old number ≡ Some (site.Conversation.OnPop stage known pending)
-            → IfOk result (λ reply. reply ≡ answer_reply (maildrop.Answer.Listed items)) }
-        ensures ok { OnOk result ((items : List SeenItem) (old : List Conversation) (stage : maildrop.Stage) (known : Option site.Login) (pending : List ℕ) → listing ≡ listed_slots items
-            → Converse self.old.talkers.items old → session_at old number ≡ Some (site.Conversation.OnPop stage known pending) → IsOwn (Some login)
-            → Converse self.new.talkers.items (replace old number (site.Conversation.OnPop (after_answer stage (maildrop.Answer.Listed items)) (Some (login_seen login)) pending))) }
-        ensures count { self.new.standing ≡ self.old.standing }
-        ensures rest { OnOk result (rest_at number self.new.talkers.items ≡ rest_at number self.old.talkers.items) }
+        plan: &Plan,
+        place: usize,
+        out: &mut Vec<u8>,
+    ) -> Result<(Move, After), AllocError>
+        requires within { place < length self.old.talkers.items }
+        requires empty { out.old.items ≡ [] }
+        ensures moved { IfOk result (λ move. (sessions : List Session) (plain : Session) → Converse self.old.talkers.items sessions → slice_get sessions place ≡ Some plain
+            → MovesTo plan.now sessions place plain move.0 move.1 out.new.items self.old.standing self.new) }
+        ensures tickets { self.new.tickets ≡ self.old.tickets }
+        ensures length { length self.new.talkers.items ≡ length self.old.talkers.items }
+        ensures less { IfOk result (λ move. (IsBusy move.0 → left_at place self.new < left_at place self.old) × (left_at place self.new ≤ left_at place self.old)) }
     {
-        match self.place_of(number) {
-            Some(place) => self.talkers[place].enter(alloc, login, listing),
-            // Only a session that there is asks to be let in.
-            None => Reply::wrong(alloc),
+        let did = match &mut self.talkers[place] {
+            Some(talker) => talker.next(alloc, plan, out)?,
+            None => return Ok((Move::End, After::Stays)),
+        };
+        match did {
+            Move::Said => Ok((Move::Said, self.after(place))),
+            Move::Begin(call) => Ok((Move::Begin(call), After::Stays)),
+            Move::Wait => Ok((Move::Wait, After::Stays)),
+            Move::Idle => Ok((Move::Idle, After::Stays)),
+            Move::End => Ok((Move::End, After::Stays)),
         }
     }
 
-    /// All sessions end.
-    pub fn end_all(&mut self)
-        ensures talkers { self.new.talkers.items ≡ map (λ _. talker.Over) self.old.talkers.items }
-        ensures standing { self.new.standing ≡ 0 }
+    /// The session at this place, which waits, is answered; its reply is appended. How it goes on.
+    ///
+    /// # Errors
+    ///
+    /// Only want of memory.
+    pub fn reply(
+        &mut self,
+        alloc: Global,
+        plan: &Plan,
+        place: usize,
+        answer: Answer,
+        out: &mut Vec<u8>,
+    ) -> Result<After, AllocError>
+        requires within { place < length self.old.talkers.items }
+        requires empty { out.old.items ≡ [] }
+        ensures replied { IfOk result (λ after. (sessions : List Session) (plain : Session) (state : State) (call : calls.Call) (reply : List (List ℕ)) → Converse self.old.talkers.items sessions
+            → slice_get sessions place ≡ Some plain → plain.standing ≡ Waiting state call → IsReply call (answer_seen answer) reply
+            → RepliesTo plan.now sessions place plain (answer_seen answer) after out.new.items self.old.standing self.new) }
+        ensures tickets { self.new.tickets ≡ self.old.tickets }
+        ensures length { length self.new.talkers.items ≡ length self.old.talkers.items }
+        ensures less { OnOk result (left_at place self.new ≤ left_at place self.old) }
     {
-        for talker in self.talkers.iter_mut() {
-            *talker = Talker::Over;
+        match &mut self.talkers[place] {
+            Some(talker) => talker.reply(alloc, plan, answer, out)?,
+            None => return Ok(After::Stays),
         }
-        self.standing = 0;
+        Ok(self.after(place))
+    }
+
+    /// The node of the session at this place went down: its last line is appended, where it has not ended, and it has then.
+    ///
+    /// # Errors
+    ///
+    /// Only want of memory.
+    pub fn fall(
+        &mut self,
+        alloc: Global,
+        place: usize,
+        out: &mut Vec<u8>,
+    ) -> Result<bool, AllocError>
+        requires within { place < length self.old.talkers.items }
+        requires tickets { length self.old.tickets.items ≡ length self.old.talkers.items }
+        requires empty { out.old.items ≡ [] }
+        ensures fell { IfOk result (λ fell. (sessions : List Session) (plain : Session) → Converse self.old.talkers.items sessions → slice_get sessions place ≡ Some plain
+            → FallsTo sessions place plain fell out.new.items self.old.standing self.new) }
+        ensures tickets { OnOk result (self.new.tickets.items ≡ slice_set self.old.tickets.items place None) }
+        ensures length { length self.new.talkers.items ≡ length self.old.talkers.items }
+        ensures ticket_length { length self.new.tickets.items ≡ length self.old.tickets.items }
+        ensures left { (other : ℕ) → left_at other self.new ≤ left_at other self.old }
+    {
+        self.tickets[place] = None;
+        match self.talkers[place].take() {
+            Some(mut talker) => {
+                if talker.has_ended() {
+                    return Ok(false);
+                }
+                talker.node_down(alloc, out)?;
+                self.standing = self.standing.saturating_sub(1);
+                Ok(true)
+            }
+            None => Ok(false),
+        }
+    }
+
+    /// The client of the session at this place, which has not ended, closed it. What it asks as it leaves.
+    pub fn close(&mut self, place: usize) -> Option<Call>
+        requires within { place < length self.old.talkers.items }
+        ensures closed { (sessions : List Session) (plain : Session) → Converse self.old.talkers.items sessions → slice_get sessions place ≡ Some plain → IsOn plain.standing
+            → IsLeaveOf result (entered_as (exchanges_of plain)) × Converse self.new.talkers.items (slice_set sessions place (record plain { standing = EndedClosed })) }
+        ensures tickets { self.new.tickets ≡ self.old.tickets }
+        ensures count { self.new.standing ≡ self.old.standing - 1 }
+        ensures length { length self.new.talkers.items ≡ length self.old.talkers.items }
+    {
+        self.standing = self.standing.saturating_sub(1);
+        match self.talkers[place].take() {
+            Some(talker) => talker.leave(),
+            None => None,
+        }
     }
 }

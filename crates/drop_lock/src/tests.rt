@@ -4,9 +4,9 @@ use mail_base::{Name, NodeNo, Ticket};
 use std::test::Fail;
 
 // Whether the answer is that this ticket holds the lock.
-fn names(answer: Result<(), LockFault>, holder: Ticket) -> bool {
+fn names(answer: &Result<(), LockFault>, holder: Ticket) -> bool {
     match answer {
-        Err(LockFault::InUse(by)) => by == holder,
+        Err(LockFault::InUse(by)) => *by == holder,
         Err(LockFault::NoMemory) => false,
         Ok(()) => false,
     }
@@ -26,7 +26,7 @@ fn lets_one_ticket_in(rt: HostRuntime) -> Result<(), Fail> {
     assert!(rt; locks.holder(&alice).is_none());
     assert!(rt; locks.take(&alice, first).is_ok());
     assert!(rt; locks.take(&alice, first).is_ok());
-    assert!(rt; names(locks.take(&alice, second), first));
+    assert!(rt; names(&locks.take(&alice, second), first));
     locks.release(&alice, second);
     assert!(rt; locks.holder(&alice) == Some(first));
     locks.release(&alice, first);

@@ -2,19 +2,17 @@
 use Rattle.std.proofs.Common.{◌≡◌, ◌≤◌, ◌<◌, ◌+◌, ◌^◌, ℕ, true, List, [], ◌∷◌, ◌++◌, length, flat_map, All, Option, Some, None, Ok, refl, sym, ap, ◌∙◌, subst, arith, append_assoc, length-append, inl, inr, ⊎_elim}
 use Rattle.std.specs.Prelude.{◌⊎◌, option_and_then}
 use Rattle.std.specs.Io.KnownBytes.{Consumes, IsAtEnd}
-use Rattle.std.proofs.lemmas.Bool.{ltb-true}
 use Rattle.std.proofs.lemmas.List.Elements.{All-push}
 use Rattle.std.proofs.lemmas.Option.{none-some, same_Some}
 use Rattle.mail_model.specs.Lines.{HasNoLf, BeginsWith, ended}
-use Rattle.mail_model.specs.Tape.{Draft, PlanLine, empty_draft, drafted, planned, tape_plan_line, is_long}
+use Rattle.mail_model.specs.Plan.{Plan}
+use Rattle.mail_model.specs.Tape.{Draft, PlanLine, empty_draft, drafted, planned, tape_plan_line}
 use Rattle.mail_model.specs.Tape.PlanLine.{Go}
-use Rattle.drive_tape.specs.declared.plan_head.PlanHead.{PlanHead}
 use Rattle.drive_tape.specs.declared.drove.TapeFault.{TapeFault}
 use Rattle.drive_tape.specs.declared.drove.TapeFault.TheVariants.{BadPlan, BadLine, TapeTooLong}
-use Rattle.drive_tape.specs.Plans.{DraftsOn, DraftsTo, IsServed, IsBadPlan, PlanStopsAt, ReadsPlan}
-use Rattle.drive_tape.proofs.Runs.{flat_map_last}
+use Rattle.drive_tape.specs.Plans.{DraftsOn, DraftsTo, IsServed, IsBadPlan, PlanStopsAt, ReadsHead}
 use Rattle.porcupine_server.specs.Complete.{IsGoodTape}
-use Rattle.porcupine_server.proofs.NextLine.{Ahead, same_line, begins_more, within_line, no_line, next_line, last_or_before}
+use Rattle.porcupine_server.proofs.NextLine.{flat_map_last, Ahead, same_line, begins_more, within_line, no_line, next_line, last_or_before}
 use Rattle.porcupine_server.proofs.FewDrafts.{plan_line_short, drafts_few}
 
 -- what is left of octets that are told
@@ -101,69 +99,58 @@ module _ (tape : List ℕ) (good : IsGoodTape tape) where
       (next_line (good.head ++ good.go ∷ []) lines run_part more (All-push HasNoLf good.head good.go good.head_each good.go_one) each (tape_lines lines more is))
 
   -- the plan lines of the tape have no fault
-  pub no_plan_fault : (left0 left1 : Option (List ℕ)) (fault : TapeFault) (lines : List (List ℕ)) (draft : Draft) (read others : List ℕ) (room : ℕ)
-      → left0 ≡ Some tape → Consumes left0 left1 read → read ≡ flat_map ended lines ++ others → All HasNoLf lines → DraftsTo empty_draft lines draft
-      → length read + room ≡ 2 ^ 40 → PlanStopsAt fault left1 others room draft → ⊥
-  no_plan_fault left0 left1 fault lines draft read others room told took cut each drafts limit why = ⊎_elim
-      (λ (bad : (fault ≡ BadPlan) × ((line : List ℕ) × (rest : List ℕ) × BeginsWith others line rest × IsBadPlan line draft)). no_bad_plan bad.1.0 bad.1.1 bad.1.2 bad.1.3)
-      (λ (line : ((fault ≡ BadLine) × (((line : List ℕ) × (rest : List ℕ) × BeginsWith others line rest × (is_long line ≡ true)) ⊎ (HasNoLf others × (IsAtEnd left1 ⊎ (65535 < length others)))))
-      ⊎ ((fault ≡ TapeTooLong) × HasNoLf others × (room ≡ 0) × (length others ≤ 65535))). ⊎_elim
-      (λ (bad : (fault ≡ BadLine) × (((line : List ℕ) × (rest : List ℕ) × BeginsWith others line rest × (is_long line ≡ true)) ⊎ (HasNoLf others × (IsAtEnd left1 ⊎ (65535 < length others))))). ⊎_elim
-      (λ (long : (line : List ℕ) × (rest : List ℕ) × BeginsWith others line rest × (is_long line ≡ true)). no_long long.0 long.1 long.2 long.3)
-      (λ (none : HasNoLf others × (IsAtEnd left1 ⊎ (65535 < length others))). ⊎_elim
-      (λ (end : IsAtEnd left1). no_end none.0 (at_end left1 left.0 left.1 end))
-      (λ (long : 65535 < length others). omega (arith, long, n.short, within_line others left.0 n.next n.rest none.0 n.begins.whole))
-      none.1)
-      bad.1)
-      (λ (far : (fault ≡ TapeTooLong) × HasNoLf others × (room ≡ 0) × (length others ≤ 65535)). no_limit far.2 far.3)
+  pub no_plan_fault : (left0 left1 : Option (List ℕ)) (fault : TapeFault) (lines : List (List ℕ)) (draft : Draft) (others : List ℕ) (room : ℕ)
+      → left0 ≡ Some tape → Consumes left0 left1 (flat_map ended lines ++ others) → All HasNoLf lines → DraftsTo empty_draft lines draft
+      → length (flat_map ended lines ++ others) + room ≡ 2 ^ 40 → PlanStopsAt fault left1 others room draft → ⊥
+  no_plan_fault left0 left1 fault lines draft others room told took each drafts limit why = ⊎_elim
+      (λ (bad : (fault ≡ BadPlan) × IsBadPlan others draft). no_bad_plan bad.1)
+      (λ (line : ((fault ≡ BadLine) × HasNoLf others × (IsAtEnd left1 ⊎ (65535 < length others))) ⊎ ((fault ≡ TapeTooLong) × HasNoLf others × (room ≡ 0))). ⊎_elim
+      (λ (none : (fault ≡ BadLine) × HasNoLf others × (IsAtEnd left1 ⊎ (65535 < length others))). ⊎_elim
+      (λ (end : IsAtEnd left1). no_end none.1 (at_end left1 left.0 left.1 end))
+      (λ (long : 65535 < length others). omega (arith, long, n.short, within_line others left.0 n.next n.rest none.1 n.begins.whole))
+      none.2)
+      (λ (far : (fault ≡ TapeTooLong) × HasNoLf others × (room ≡ 0)). no_limit far.1 far.2)
       line)
       why
     where
-      left : (left : List ℕ) × (left1 ≡ Some left) × (tape ≡ read ++ left)
-      left = consumed tape left1 read (subst (λ (l : Option (List ℕ)). Consumes l left1 read) told took)
+      left : (left : List ℕ) × (left1 ≡ Some left) × (tape ≡ (flat_map ended lines ++ others) ++ left)
+      left = consumed tape left1 (flat_map ended lines ++ others) (subst (λ (l : Option (List ℕ)). Consumes l left1 (flat_map ended lines ++ others)) told took)
 
       n : PlanNext lines draft (others ++ left.0)
-      n = plan_next lines draft (others ++ left.0) each drafts (left.2 ∙ ap (λ (l : List ℕ). l ++ left.0) cut ∙ append_assoc (flat_map ended lines) others left.0)
+      n = plan_next lines draft (others ++ left.0) each drafts (left.2 ∙ append_assoc (flat_map ended lines) others left.0)
 
-      next_is : (line rest : List ℕ) → BeginsWith others line rest → line ≡ n.next
-      next_is line rest begins = (same_line (others ++ left.0) line (rest ++ left.0) n.next n.rest (begins_more others line rest left.0 begins) n.begins).0
-
-      no_bad_plan : (line rest : List ℕ) → BeginsWith others line rest → IsBadPlan line draft → ⊥
-      no_bad_plan line rest begins bad =
-          let is = next_is line rest begins in
+      no_bad_plan : IsBadPlan others draft → ⊥
+      no_bad_plan bad =
+          let is = (same_line (others ++ left.0) bad.line ([] ++ left.0) n.next n.rest (begins_more others bad.line [] left.0 (record { whole = bad.whole; one = bad.one })) n.begins).0 in
           ⊎_elim
           (λ (goes : (n.next ≡ good.go) × (draft ≡ good.draft) × (n.rest ≡ run_part)).
-          bad.2 (ap tape_plan_line (is ∙ goes.0) ∙ good.goes) good.plan (ap planned goes.1 ∙ good.plan_is) good.served)
-          (λ (on : (after : Draft) × DraftsOn draft n.next after). none-some on.0 (sym bad.1 ∙ ap (λ (l : List ℕ). option_and_then (drafted draft) (tape_plan_line l)) is ∙ on.1))
+          bad.no_plan (ap tape_plan_line (is ∙ goes.0) ∙ good.goes) good.plan (ap planned goes.1 ∙ good.plan_is) good.served)
+          (λ (on : (after : Draft) × DraftsOn draft n.next after). none-some on.0 (sym bad.adds_nothing ∙ ap (λ (l : List ℕ). option_and_then (drafted draft) (tape_plan_line l)) is ∙ on.1))
           n.kind
-
-      no_long : (line rest : List ℕ) → BeginsWith others line rest → is_long line ≡ true → ⊥
-      no_long line rest begins long = omega (arith, n.short, ap length (next_is line rest begins), ltb-true 65535 (length line) long)
 
       no_end : HasNoLf others → left.0 ≡ [] → ⊥
       no_end none end = no_line others n.next n.rest none (ap (λ (l : List ℕ). others ++ l) (sym end) ∙ n.begins.whole)
 
-      no_limit : room ≡ 0 → length others ≤ 65535 → ⊥
-      no_limit full short = omega (arith, full, short, limit, ap length cut, length-append (flat_map ended lines) others, drafts_few lines draft drafts)
+      no_limit : HasNoLf others → room ≡ 0 → ⊥
+      no_limit none full =
+          omega (arith, full, limit, n.short, within_line others left.0 n.next n.rest none n.begins.whole, length-append (flat_map ended lines) others, drafts_few lines draft drafts)
 
   -- where the plan was read, it is the tape's, and the run part follows
-  pub reads_good_plan : (left0 left1 : Option (List ℕ)) (head : PlanHead) (pending : List ℕ) → left0 ≡ Some tape → ReadsPlan left0 left1 [] (Ok head) pending
-      → (left : List ℕ) × (left1 ≡ Some left) × (pending ++ left ≡ run_part) × (head.plan ≡ good.plan)
-  reads_good_plan left0 left1 head pending told reads = ⊎_elim
+  pub reads_good_plan : (left0 left1 : Option (List ℕ)) (plan : Plan) (count : ℕ) → left0 ≡ Some tape → ReadsHead left0 left1 (Ok (plan, count)) → (left1 ≡ Some run_part) × (plan ≡ good.plan)
+  reads_good_plan left0 left1 plan count told reads = ⊎_elim
       (λ (goes : (n.next ≡ good.go) × (reads.draft ≡ good.draft) × (n.rest ≡ run_part)).
-      (left.0, left.1, same.1 ∙ goes.2, same_Some head.plan good.plan (sym go.3 ∙ ap planned goes.1 ∙ good.plan_is)))
-      (λ (on : (after : Draft) × DraftsOn reads.draft n.next after). absurd (go_ends reads.draft on.0 n.next (ap tape_plan_line (sym same.0) ∙ go.2) on.1))
+      (left.1 ∙ ap Some (same.1 ∙ goes.2), same_Some plan good.plan (sym go.4 ∙ ap planned goes.1 ∙ good.plan_is)))
+      (λ (on : (after : Draft) × DraftsOn reads.draft n.next after). absurd (go_ends reads.draft on.0 n.next (ap tape_plan_line (sym same.0) ∙ go.3) on.1))
       n.kind
     where
-      go : (line : List ℕ) × BeginsWith reads.others line pending × (tape_plan_line line ≡ Some Go) × (planned reads.draft ≡ Some head.plan) × IsServed head.plan × (head.lines ≡ length reads.lines + 1)
+      go : (line : List ℕ) × (reads.others ≡ ended line) × HasNoLf line × (tape_plan_line line ≡ Some Go) × (planned reads.draft ≡ Some plan) × IsServed plan × (count ≡ length reads.lines + 1)
       go = reads.did
 
-      left : (left : List ℕ) × (left1 ≡ Some left) × (tape ≡ reads.read ++ left)
-      left = consumed tape left1 reads.read (subst (λ (l : Option (List ℕ)). Consumes l left1 reads.read) told reads.took)
+      left : (left : List ℕ) × (left1 ≡ Some left) × (tape ≡ (flat_map ended reads.lines ++ reads.others) ++ left)
+      left = consumed tape left1 (flat_map ended reads.lines ++ reads.others) (subst (λ (l : Option (List ℕ)). Consumes l left1 (flat_map ended reads.lines ++ reads.others)) told reads.took)
 
       n : PlanNext reads.lines reads.draft (reads.others ++ left.0)
-      n = plan_next reads.lines reads.draft (reads.others ++ left.0) reads.each reads.drafts
-          (left.2 ∙ ap (λ (l : List ℕ). l ++ left.0) reads.cut ∙ append_assoc (flat_map ended reads.lines) reads.others left.0)
+      n = plan_next reads.lines reads.draft (reads.others ++ left.0) reads.each reads.drafts (left.2 ∙ append_assoc (flat_map ended reads.lines) reads.others left.0)
 
-      same : (go.0 ≡ n.next) × (pending ++ left.0 ≡ n.rest)
-      same = same_line (reads.others ++ left.0) go.0 (pending ++ left.0) n.next n.rest (begins_more reads.others go.0 pending left.0 go.1) n.begins
+      same : (go.0 ≡ n.next) × ([] ++ left.0 ≡ n.rest)
+      same = same_line (reads.others ++ left.0) go.0 ([] ++ left.0) n.next n.rest (begins_more reads.others go.0 [] left.0 (record { whole = go.1; one = go.2 })) n.begins

@@ -3,22 +3,24 @@ use Rattle.std.proofs.Common.{◌≡◌, ◌≤◌, ◌<◌, ◌+◌, ◌^◌, �
 use Rattle.std.specs.Prelude.{◌⊎◌}
 use Rattle.std.specs.Io.KnownBytes.{Consumes, IsAtEnd}
 use Rattle.std.proofs.lemmas.Bool.{ltb-false}
+use Rattle.std.proofs.lemmas.List.Concat.{flat_map-append}
 use Rattle.std.proofs.lemmas.List.Elements.{All-push}
-use Rattle.std.proofs.lemmas.Grind.{flat_map-append}
 use Rattle.std.proofs.lemmas.Option.{none-some, same_Some}
 use Rattle.mail_model.specs.Lines.{HasNoLf, BeginsWith, ended, without_cr}
+use Rattle.mail_model.specs.Plan.{Plan}
 use Rattle.mail_model.specs.Tape.{Order, tape_order, order_of, is_long}
 use Rattle.mail_model.specs.Tape.Order.{End}
 use Rattle.mail_model.specs.Transcript.{Entry}
-use Rattle.mail_model.specs.Site.{Site, opening, refusal}
-use Rattle.mail_model.specs.Steps.{TakesUp, Turns, Runs}
+use Rattle.session_model.specs.Sessions.{Session}
+use Rattle.session_model.specs.Acts.{Act}
+use Rattle.session_model.specs.Turns.{Turn, Starts}
+use Rattle.session_model.specs.Run.{IsHandled, AreHandled, failed_in, refusal}
 use Rattle.drive_tape.specs.declared.drove.TapeFault.{TapeFault}
 use Rattle.drive_tape.specs.declared.drove.TapeFault.TheVariants.{BadLine, TapeTooLong}
 use Rattle.drive_tape.specs.Faults.{fault_of}
-use Rattle.drive_tape.specs.Drive.{BeginsWithOrder, BeginsWithNone, IsRefused, StopsAt}
-use Rattle.drive_tape.proofs.Runs.{flat_map_last}
+use Rattle.drive_tape.specs.Drive.{IsOrder, IsNoOrder, StopsAt}
 use Rattle.porcupine_server.specs.Complete.{IsGoodTape}
-use Rattle.porcupine_server.proofs.NextLine.{Ahead, same_line, begins_more, within_line, no_line, next_line, last_or_before}
+use Rattle.porcupine_server.proofs.NextLine.{flat_map_last, Ahead, same_line, begins_more, within_line, no_line, next_line, last_or_before}
 use Rattle.porcupine_server.proofs.GoodPlan.{consumed, at_end, run_part}
 
 -- an order is not too long
@@ -30,31 +32,35 @@ order_short line order is = by_test (is_long line) refl is
     by_test false test some = ltb-false 65535 (length line) test
 
 -- `end` is not handled as a run line
-no_end_step : (order : Order) (old new : Site) (entries : List Entry) → order ≡ End → TakesUp old order entries new → ⊥
-no_end_step order old new entries is step = subst (λ (o : Order). TakesUp old o entries new) is step
+no_end_start : (order : Order) (sessions : List Session) (first : Act) (turn : Turn) → order ≡ End → Starts order sessions first turn → ⊥
+no_end_start order sessions first turn is starts = subst (λ (o : Order). Starts o sessions first turn) is starts
 
-no_end_turn : (old new : Site) (line : List ℕ) (entries : List Entry) → tape_order line ≡ Some End → Turns old line entries new → ⊥
-no_end_turn old new line entries ends turns = no_end_step turns.order old turns.start turns.first (same_Some turns.order End (sym turns.begun.spelled ∙ ends)) turns.begun.takes_up
+no_end_line : (plan : Plan) (down : List ℕ) (old : List Session) (line : List ℕ) (acts : List Act) (outputs : List (List Entry)) (new : List Session) → tape_order line ≡ Some End → IsHandled plan down old line acts outputs new → ⊥
+no_end_line plan down old line acts outputs new ends handled =
+    no_end_start handled.begun.order old handled.begun.first handled.begun.next (same_Some handled.begun.order End (sym handled.begun.spelled ∙ ends)) handled.begun.starts
 
-no_end_run : (first last : Site) (front : List (List ℕ)) (line : List ℕ) (rest : List (List ℕ)) (outputs : List (List Entry)) → tape_order line ≡ Some End → Runs first (front ++ line ∷ rest) outputs last → ⊥
-no_end_run first last [] line rest [] ends runs = absurd runs
-no_end_run first last [] line rest (entries ∷ outputs) ends runs = no_end_turn first runs.0 line entries ends runs.1
-no_end_run first last (l ∷ front) line rest [] ends runs = absurd runs
-no_end_run first last (l ∷ front) line rest (entries ∷ outputs) ends runs = no_end_run runs.0 last front line rest outputs ends runs.2
+no_end_run : (plan : Plan) (down : List ℕ) (old : List Session) (front : List (List ℕ)) (line : List ℕ) (rest : List (List ℕ)) (acts : List (List Act)) (outputs : List (List (List Entry))) (new : List Session)
+    → tape_order line ≡ Some End → AreHandled plan down old (front ++ line ∷ rest) acts outputs new → ⊥
+no_end_run plan down old [] line rest [] outputs new ends runs = absurd runs
+no_end_run plan down old [] line rest (a ∷ acts) [] new ends runs = absurd runs
+no_end_run plan down old [] line rest (a ∷ acts) (o ∷ outputs) new ends runs = no_end_line plan down old line a o runs.0 ends runs.1
+no_end_run plan down old (l ∷ front) line rest [] outputs new ends runs = absurd runs
+no_end_run plan down old (l ∷ front) line rest (a ∷ acts) [] new ends runs = absurd runs
+no_end_run plan down old (l ∷ front) line rest (a ∷ acts) (o ∷ outputs) new ends runs = no_end_run plan (down ++ failed_in a) runs.0 front line rest acts outputs new ends runs.2
 
-module _ (tape : List ℕ) (good : IsGoodTape tape) (tells : Bool) where
+module _ (tape : List ℕ) (good : IsGoodTape tape) where
   -- the run lines and `end`
   abbrev all_lines : List (List ℕ)
   all_lines = good.lines ++ good.last ∷ []
 
-  -- The next line behind run lines that were handled, at a node that is up: it is an order, and is not refused.
-  record RunNext (lines : List (List ℕ)) (mid : Site) (more : List ℕ) : Type 0 where
+  -- The next line after run lines that were handled, where no node failed: it is an order, and is not refused.
+  record RunNext (lines : List (List ℕ)) (sessions : List Session) (more : List ℕ) : Type 0 where
     next : List ℕ
     rest : List ℕ
     begins : BeginsWith more next rest
     order : Order
     spelled : tape_order next ≡ Some order
-    accepted : refusal mid order ≡ None
+    accepted : refusal good.plan [] sessions order ≡ None
     short : length (flat_map ended lines) + length next < 2 ^ 40
 
   octets_of : flat_map ended all_lines ≡ flat_map ended good.lines ++ ended good.last
@@ -74,9 +80,10 @@ module _ (tape : List ℕ) (good : IsGoodTape tape) (tells : Bool) where
     length-append next (10 ∷ []),
   )
 
-  run_next : (lines : List (List ℕ)) (outputs : List (List Entry)) (mid : Site) (more : List ℕ) → All HasNoLf lines → Runs (opening good.plan tells) lines outputs mid → mid.up ≡ true
-      → run_part tape good ≡ flat_map ended lines ++ more → RunNext lines mid more
-  run_next lines outputs mid more each runs up is = ⊎_elim
+  run_next : (lines : List (List ℕ)) (acts : List (List Act)) (outputs : List (List (List Entry))) (sessions : List Session) (more : List ℕ) → All HasNoLf lines
+      → AreHandled good.plan [] [] lines acts outputs sessions → failed_in (flat_map (λ a. a) acts) ≡ []
+      → run_part tape good ≡ flat_map ended lines ++ more → RunNext lines sessions more
+  run_next lines acts outputs sessions more each runs up is = ⊎_elim
       (λ (ahead : Ahead all_lines lines good.behind more). ⊎_elim
       (λ (here : (good.lines ≡ lines) × (good.last ≡ ahead.next) × (ahead.others ≡ [])). record {
         next = ahead.next;
@@ -88,7 +95,7 @@ module _ (tape : List ℕ) (good : IsGoodTape tape) (tells : Bool) where
         short = run_short lines ahead.next ahead.others ahead.split;
       })
       (λ (before : (others : List (List ℕ)) × (good.lines ≡ lines ++ ahead.next ∷ others)).
-      let accepted = good.accepted lines ahead.next before.0 tells outputs mid before.1 runs up in
+      let accepted = good.accepted lines ahead.next before.0 acts outputs sessions before.1 runs up in
       record {
         next = ahead.next;
         rest = flat_map ended ahead.others ++ good.behind;
@@ -100,48 +107,42 @@ module _ (tape : List ℕ) (good : IsGoodTape tape) (tells : Bool) where
       })
       (last_or_before good.lines good.last lines ahead.next ahead.others ahead.split))
       (λ (beyond : (extra : List (List ℕ)) × (lines ≡ all_lines ++ extra)).
-      absurd (no_end_run (opening good.plan tells) mid good.lines good.last beyond.0 outputs good.ends
-      (subst (λ (ls : List (List ℕ)). Runs (opening good.plan tells) ls outputs mid) (beyond.1 ∙ append_assoc good.lines (good.last ∷ []) beyond.0) runs)))
+      absurd (no_end_run good.plan [] [] good.lines good.last beyond.0 acts outputs sessions good.ends
+      (subst (λ (ls : List (List ℕ)). AreHandled good.plan [] [] ls acts outputs sessions) (beyond.1 ∙ append_assoc good.lines (good.last ∷ []) beyond.0) runs)))
       (next_line all_lines lines good.behind more (All-push HasNoLf good.lines good.last good.each good.last_one) each (run_lines lines more is))
 
   -- the run lines of the tape have no fault
-  pub no_run_fault : (between left1 : Option (List ℕ)) (left : List ℕ) (fault : TapeFault) (pending read others : List ℕ) (room : ℕ) (lines : List (List ℕ)) (outputs : List (List Entry)) (mid : Site)
-      → between ≡ Some left → pending ++ left ≡ run_part tape good → Consumes between left1 read → pending ++ read ≡ flat_map ended lines ++ others → All HasNoLf lines
-      → Runs (opening good.plan tells) lines outputs mid → mid.up ≡ true → length (pending ++ read) + room ≡ 2 ^ 40 → StopsAt fault left1 others room mid → ⊥
-  no_run_fault between left1 left fault pending read others room lines outputs mid told is took cut each runs up limit why = ⊎_elim
-      (λ (bad : (fault ≡ BadLine) × BeginsWithNone left1 others). no_bad_line bad.1)
-      (λ (other : ((fault ≡ TapeTooLong) × HasNoLf others × (room ≡ 0) × (length others ≤ 65535)) ⊎ IsRefused mid others (fault_of fault)). ⊎_elim
-      (λ (far : (fault ≡ TapeTooLong) × HasNoLf others × (room ≡ 0) × (length others ≤ 65535)). no_limit far.1 far.2)
-      (λ (refused : IsRefused mid others (fault_of fault)). no_refusal refused.0 refused.1 refused.2)
-      other)
-      why
+  pub no_run_fault : (between left1 : Option (List ℕ)) (fault : TapeFault) (read others : List ℕ) (room : ℕ) (lines : List (List ℕ)) (acts : List (List Act)) (outputs : List (List (List Entry))) (sessions : List Session)
+      → between ≡ Some (run_part tape good) → Consumes between left1 read → read ≡ flat_map ended lines ++ others → All HasNoLf lines
+      → AreHandled good.plan [] [] lines acts outputs sessions → failed_in (flat_map (λ a. a) acts) ≡ [] → length read + room ≡ 2 ^ 40 → StopsAt fault good.plan [] sessions left1 others room → ⊥
+  no_run_fault between left1 fault read others room lines acts outputs sessions told took cut each runs up limit why = ⊎_elim
+      (λ (end : (fault ≡ BadLine) × HasNoLf others × IsAtEnd left1). no_line others n.next n.rest end.1 (ap (λ (l : List ℕ). others ++ l) (sym (at_end left1 later.0 later.1 end.2)) ∙ n.begins.whole))
+      (λ (a : ((fault ≡ BadLine) × HasNoLf others × (65535 < length others)) ⊎ ((fault ≡ BadLine) × IsNoOrder others) ⊎ ((fault ≡ TapeTooLong) × HasNoLf others × (room ≡ 0))
+      ⊎ ((order : Order) × IsOrder others order × (refusal good.plan [] sessions order ≡ Some (fault_of fault)))). ⊎_elim
+      (λ (long : (fault ≡ BadLine) × HasNoLf others × (65535 < length others)).
+      omega (arith, long.2, order_short n.next n.order n.spelled, within_line others later.0 n.next n.rest long.1 n.begins.whole))
+      (λ (b : ((fault ≡ BadLine) × IsNoOrder others) ⊎ ((fault ≡ TapeTooLong) × HasNoLf others × (room ≡ 0))
+      ⊎ ((order : Order) × IsOrder others order × (refusal good.plan [] sessions order ≡ Some (fault_of fault)))). ⊎_elim
+      (λ (none : (fault ≡ BadLine) × IsNoOrder others). none-some n.order (sym none.1.spelled ∙ ap tape_order (next_is none.1.line none.1.whole none.1.one) ∙ n.spelled))
+      (λ (c : ((fault ≡ TapeTooLong) × HasNoLf others × (room ≡ 0)) ⊎ ((order : Order) × IsOrder others order × (refusal good.plan [] sessions order ≡ Some (fault_of fault)))). ⊎_elim
+      (λ (far : (fault ≡ TapeTooLong) × HasNoLf others × (room ≡ 0)). no_limit far.1 far.2)
+      (λ (refused : (order : Order) × IsOrder others order × (refusal good.plan [] sessions order ≡ Some (fault_of fault))). no_refusal refused.0 refused.1 refused.2)
+      c) b) a) why
     where
-      later : (later : List ℕ) × (left1 ≡ Some later) × (left ≡ read ++ later)
-      later = consumed left left1 read (subst (λ (l : Option (List ℕ)). Consumes l left1 read) told took)
+      later : (later : List ℕ) × (left1 ≡ Some later) × (run_part tape good ≡ read ++ later)
+      later = consumed (run_part tape good) left1 read (subst (λ (l : Option (List ℕ)). Consumes l left1 read) told took)
 
-      n : RunNext lines mid (others ++ later.0)
-      n = run_next lines outputs mid (others ++ later.0) each runs up
-          (sym is ∙ ap (λ (l : List ℕ). pending ++ l) later.2 ∙ sym (append_assoc pending read later.0) ∙ ap (λ (l : List ℕ). l ++ later.0) cut ∙ append_assoc (flat_map ended lines) others later.0)
+      n : RunNext lines sessions (others ++ later.0)
+      n = run_next lines acts outputs sessions (others ++ later.0) each runs up (later.2 ∙ ap (λ (l : List ℕ). l ++ later.0) cut ∙ append_assoc (flat_map ended lines) others later.0)
 
-      next_is : (line rest : List ℕ) → BeginsWith others line rest → line ≡ n.next
-      next_is line rest begins = (same_line (others ++ later.0) line (rest ++ later.0) n.next n.rest (begins_more others line rest later.0 begins) n.begins).0
-
-      no_bad_line : BeginsWithNone left1 others → ⊥
-      no_bad_line bad = ⊎_elim
-          (λ (end : HasNoLf others × IsAtEnd left1). no_line others n.next n.rest end.0 (ap (λ (l : List ℕ). others ++ l) (sym (at_end left1 later.0 later.1 end.1)) ∙ n.begins.whole))
-          (λ (line : (HasNoLf others × (65535 < length others)) ⊎ ((line : List ℕ) × (rest : List ℕ) × BeginsWith others line rest × (tape_order line ≡ None))). ⊎_elim
-          (λ (long : HasNoLf others × (65535 < length others)).
-          omega (arith, long.1, order_short n.next n.order n.spelled, within_line others later.0 n.next n.rest long.0 n.begins.whole))
-          (λ (none : (line : List ℕ) × (rest : List ℕ) × BeginsWith others line rest × (tape_order line ≡ None)).
-          none-some n.order (sym none.3 ∙ ap tape_order (next_is none.0 none.1 none.2) ∙ n.spelled))
-          line)
-          bad
+      next_is : (line : List ℕ) → others ≡ ended line → HasNoLf line → line ≡ n.next
+      next_is line whole one = (same_line (others ++ later.0) line ([] ++ later.0) n.next n.rest (begins_more others line [] later.0 (record { whole = whole; one = one })) n.begins).0
 
       no_limit : HasNoLf others → room ≡ 0 → ⊥
       no_limit none full =
           omega (arith, full, limit, n.short, ap length cut, length-append (flat_map ended lines) others, within_line others later.0 n.next n.rest none n.begins.whole)
 
-      no_refusal : (order : Order) → BeginsWithOrder others order → refusal mid order ≡ Some (fault_of fault) → ⊥
-      no_refusal order begins refused =
-          let same = same_Some order n.order (sym begins.spelled ∙ ap tape_order (next_is begins.line begins.rest begins.begins) ∙ n.spelled) in
-          none-some (fault_of fault) (sym n.accepted ∙ ap (refusal mid) (sym same) ∙ refused)
+      no_refusal : (order : Order) → IsOrder others order → refusal good.plan [] sessions order ≡ Some (fault_of fault) → ⊥
+      no_refusal order is refused =
+          let same = same_Some order n.order (sym is.spelled ∙ ap tape_order (next_is is.line is.whole is.one) ∙ n.spelled) in
+          none-some (fault_of fault) (sym n.accepted ∙ ap (refusal good.plan [] sessions) (sym same) ∙ refused)

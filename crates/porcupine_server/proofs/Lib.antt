@@ -1,8 +1,9 @@
-mod Serving
-mod Promises
-mod OneWord
+mod AtNode
 mod NextLine
-mod FewDrafts
-mod GoodPlan
 mod GoodRun
+mod GoodPlan
+mod FewDrafts
 mod Complete
+pub mod OneWord
+pub mod Serving
+pub mod Promises

@@ -1,11 +1,10 @@
 -- What comes next behind lines that were read from a text.
 use Rattle.std.proofs.Common.{◌≡◌, ◌≢◌, ◌≤◌, ℕ, List, [], ◌∷◌, ◌++◌, length, flat_map, All, refl, sym, ap, ◌∙◌, arith, append_assoc, length-append, inl, inr, ⊎_elim}
 use Rattle.std.specs.Prelude.{◌⊎◌}
-use Rattle.std.proofs.lemmas.List.{append_cancel_left}
 use Rattle.std.proofs.lemmas.List.Elements.{All-head, All-tail}
 use Rattle.mail_model.specs.Lines.{HasNoLf, BeginsWith, ended}
-use Rattle.drive_tape.specs.Cut.{lines_in}
-use Rattle.drive_tape.proofs.Cuts.{lines_begin}
+use Rattle.std.proofs.lemmas.List.{append-nil}
+use Rattle.std.proofs.lemmas.List.Concat.{flat_map-append}
 
 abbrev IsNoLf : ℕ → Type 0
 IsNoLf x = x ≢ 10
@@ -27,11 +26,21 @@ same_rest : {X : Type 0} (x y : X) (xs ys : List X) → x ∷ xs ≡ y ∷ ys �
 unfolding rest_of
 same_rest x y xs ys is = ap rest_of is
 
+-- a list with one more at its end
+pub flat_map_last : {X : Type 0} (f : X → List ℕ) (xs : List X) (x : X) → flat_map f (xs ++ x ∷ []) ≡ flat_map f xs ++ f x
+flat_map_last f xs x = flat_map-append f xs (x ∷ []) ∙ ap (λ (l : List ℕ). flat_map f xs ++ l) (append-nil (f x))
+
+one_line : (x a y b : List ℕ) → HasNoLf x → HasNoLf y → x ++ 10 ∷ a ≡ y ++ 10 ∷ b → (x ≡ y) × (a ≡ b)
+one_line [] a [] b none one is = (refl, same_rest 10 10 a b is)
+one_line [] a (y ∷ ys) b none one is = absurd (All-head IsNoLf y ys one (sym (same_first 10 y a (ys ++ 10 ∷ b) is)))
+one_line (x ∷ xs) a [] b none one is = absurd (All-head IsNoLf x xs none (same_first x 10 (xs ++ 10 ∷ a) b is))
+one_line (x ∷ xs) a (y ∷ ys) b none one is =
+    let more = one_line xs a ys b (All-tail IsNoLf x xs none) (All-tail IsNoLf y ys one) (same_rest x y (xs ++ 10 ∷ a) (ys ++ 10 ∷ b) is) in
+    (ap (λ (l : List ℕ). x ∷ l) more.0 ∙ ap (λ (z : ℕ). z ∷ ys) (same_first x y (xs ++ 10 ∷ a) (ys ++ 10 ∷ b) is), more.1)
+
 -- octets begin with one line
 pub same_line : (octets x a y b : List ℕ) → BeginsWith octets x a → BeginsWith octets y b → (x ≡ y) × (a ≡ b)
-same_line octets x a y b first second =
-    let same = same_first x y (lines_in a) (lines_in b) (sym (lines_begin octets x a first) ∙ lines_begin octets y b second) in
-    (same, same_rest 10 10 a b (append_cancel_left y (10 ∷ a) (10 ∷ b) (ap (λ (l : List ℕ). l ++ 10 ∷ a) (sym same) ∙ sym first.whole ∙ second.whole)))
+same_line octets x a y b first second = one_line x a y b first.one second.one (sym first.whole ∙ second.whole)
 
 -- and so do longer ones
 pub begins_more : (octets line rest more : List ℕ) → BeginsWith octets line rest → BeginsWith (octets ++ more) line (rest ++ more)

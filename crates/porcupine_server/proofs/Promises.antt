@@ -1,47 +1,54 @@
--- The promises to senders, to readers and to those who delete, from what the work on a tape did and the last line.
-use Rattle.std.proofs.Common.{◌≡◌, ◌≢◌, ℕ, List, [], ◌∷◌, ◌++◌, length, map, flat_map, All, Option, Some, None, Ok, refl, sym, ap, ◌∙◌, subst, arith, append_assoc, length-append, inl, inr, ⊎_elim, codes}
-use Rattle.std.specs.Prelude.{◌⊎◌, IfSome, is_some}
+-- All promises are kept, over the octets that the program read and wrote and the store that it gave back.
+use Rattle.std.proofs.Common.{◌≡◌, ◌≢◌, ◌⊎◌, inl, inr, ⊎_elim, ◌+◌, ◌<◌, ℕ, Bool, true, List, [], ◌∷◌, ◌++◌, length, drop, map, flat_map, All, Option, Some, None, Ok, Err, refl, sym, ap, ◌∙◌, subst, arith, append_assoc, length-append, codes}
+use Rattle.std.specs.Prelude.{is_some}
+use Rattle.std.specs.List.{slice_index}
 use Rattle.std.specs.Fmt.{decimal}
 use Rattle.std.specs.Io.KnownBytes.{Consumes, Appends}
 use Rattle.std.proofs.lemmas.List.{append-nil, map-append}
-use Rattle.std.proofs.lemmas.List.Elements.{All-nil, All-cons, All-append}
-use Rattle.std.proofs.lemmas.Grind.{flat_map-append}
+use Rattle.std.proofs.lemmas.List.Concat.{flat_map-append}
+use Rattle.std.proofs.lemmas.List.Elements.{All-nil, All-cons, All-head, All-tail, All-append}
 use Rattle.io_edge.specs.Yards.{Adds}
 use Rattle.io_edge.proofs.Known.{consumes_more, appends_more}
 use Rattle.mail_model.specs.Lines.{HasNoLf, ended}
-use Rattle.mail_model.specs.Transcript.{Entry, entry_line, written_of}
-use Rattle.mail_model.specs.Transcript.Entry.{Said, Event, Refused}
 use Rattle.mail_model.specs.Plan.{Plan}
 use Rattle.mail_model.specs.Tape.{Protocol}
-use Rattle.mail_model.specs.Site.{TapeFault, fault_name, opening, HoldsRecords}
-use Rattle.mail_model.specs.Steps.{Runs, all_of}
-use Rattle.mail_model.specs.Runs.{IsEnding}
-use Rattle.mail_model.specs.Stored.{StoredStands, stored_sessions}
+use Rattle.mail_model.specs.Transcript.{Entry, entry_line, written_of}
+use Rattle.mail_model.specs.Transcript.Entry.{Said, Event, Refused}
+use Rattle.mail_model.specs.Site.{TapeFault, fault_name}
 use Rattle.mail_model.specs.Shown.{lines_to}
-use Rattle.mail_model.specs.Deleted.{DeletedByQuit}
-use Rattle.mail_model.proofs.OneLine.{by_test, decimal_no_lf, runs_lines}
-use Rattle.mail_model.proofs.Promise.{runs_keep_stored}
-use Rattle.mail_model.proofs.ShownLaw.{runs_show_as_filed}
-use Rattle.mail_model.proofs.DeletedLaw.{runs_delete_by_quit}
+use Rattle.mail_model.specs.Listing.{octets_in}
+use Rattle.mail_model.specs.Stored.{opened, kind_at}
+use Rattle.mail_model.specs.Record.{Record}
+use Rattle.mail_model.proofs.OneLine.{by_test, decimal_no_lf}
+use Rattle.session_model.specs.Calls.{Call}
+use Rattle.session_model.specs.Sessions.{Session}
+use Rattle.session_model.specs.Acts.{Act}
+use Rattle.session_model.specs.Logs.{Asked, Answered, asked_by, answered_by}
+use Rattle.session_model.specs.Run.{Stop, failed_in}
+use Rattle.session_model.specs.Run.Stop.{BehindLine, SinkFailed, OutOfMemory}
+use Rattle.session_model.specs.Runs.{Shows}
+use Rattle.session_model.specs.Books.{Among, AreBegun}
+use Rattle.session_model.specs.Owes.{Owes}
+use Rattle.session_model.specs.Kept.{KeepsPromises, IsEnding}
+use Rattle.session_model.proofs.Driven.{driven_is_shown}
+use Rattle.session_model.proofs.Kept.{begun_asked, owed_is_kept}
+use Rattle.cluster_world.specs.World.{Begins, disk_of, plan_of, book_of}
+use Rattle.cluster_world.specs.Outcomes.{Outcome, Awaited, Came, Makes, AreOfSessions, IsStep, asked_in, answered_in}
+use Rattle.cluster_world.specs.Outcomes.Outcome.{Began, Refused as WasRefused, Fell, Answers, Unanswered, Left}
+use Rattle.cluster_world.specs.declared.world.World.{World}
+use Rattle.cluster_world.proofs.Owed.{world_owes}
 use Rattle.drive_tape.specs.declared.drove.Drove.{Drove}
 use Rattle.drive_tape.specs.declared.drove.Drove.TheVariants as drove
-use Rattle.drive_tape.specs.declared.plan_head.PlanHead.{PlanHead}
 use Rattle.drive_tape.specs.Faults.{fault_of}
-use Rattle.drive_tape.specs.Parts.{IsCut}
-use Rattle.drive_tape.specs.Booked.{IsTranscript}
-use Rattle.drive_tape.specs.Cut.{lines_in, rest_in}
-use Rattle.drive_tape.specs.Drive.{Drives, MayHaveStepped, stop_of}
-use Rattle.drive_tape.specs.Plans.{ReadsPlan}
-use Rattle.drive_tape.proofs.Runs.{written_more}
-use Rattle.drive_tape.proofs.Parts.{front_lines, missing_lines, cut_line}
-use Rattle.drive_tape.proofs.Cuts.{cut_whole, lines_each, rest_each}
+use Rattle.drive_tape.specs.Parts.{IsCut, IsPart}
+use Rattle.drive_tape.specs.Drive.{Drives, MayLackOne, Stops, stop_of}
+use Rattle.drive_tape.specs.Plans.{ReadsHead}
 use Rattle.porcupine_server.specs.declared.ending.Ending.{Ending}
 use Rattle.porcupine_server.specs.declared.ending.Ending.TheVariants.{Done, Line, Read, Write, Store, NoMemory}
 use Rattle.porcupine_server.specs.Endings.{ending_of, status_of, last_entries, Finishes}
-use Rattle.porcupine_server.specs.Works.{Works, NoPlan, NoStore, Ran, Served, IsBeforeRun}
-use Rattle.porcupine_server.specs.Kept.{IsTape, KeepsStored}
-use Rattle.porcupine_server.specs.Seen.{HasWhatWasShown, ShowsStored}
-use Rattle.porcupine_server.specs.Gone.{DeletesByQuit}
+use Rattle.porcupine_server.specs.Works.{Ends, Stores, Works, NoPlan, NoStore, Served, NotOpened, Ran}
+use Rattle.porcupine_server.proofs.AtNode.{driven_at_1, call_asked}
+use Rattle.porcupine_server.specs.Promises.{IsTape, IsTranscript, KeepsAll, HasKept}
 
 abbrev IsNoLf : ℕ → Type 0
 IsNoLf x = x ≢ 10
@@ -90,15 +97,7 @@ front_ends (Refused text ∷ entry ∷ front) missing ends = absurd ends
 front_ends (Said session text ∷ front) missing ends = absurd ends
 front_ends (Event text ∷ front) missing ends = absurd ends
 
--- it answers no message
-ending_quiet : (entries : List Entry) → IsEnding entries → (sessions : List (Protocol × ℕ)) → stored_sessions sessions entries ≡ []
-ending_quiet [] ends sessions = refl
-ending_quiet (Refused text ∷ []) ends sessions = refl
-ending_quiet (Refused text ∷ entry ∷ entries) ends sessions = absurd ends
-ending_quiet (Said session text ∷ entries) ends sessions = absurd ends
-ending_quiet (Event text ∷ entries) ends sessions = absurd ends
-
--- and is said to no session
+-- it is said to no session
 ending_unsaid : (entries : List Entry) → IsEnding entries → (k : ℕ) → lines_to k entries ≡ []
 ending_unsaid [] ends k = refl
 ending_unsaid (Refused text ∷ []) ends k = refl
@@ -106,15 +105,40 @@ ending_unsaid (Refused text ∷ entry ∷ entries) ends k = absurd ends
 ending_unsaid (Said session text ∷ entries) ends k = absurd ends
 ending_unsaid (Event text ∷ entries) ends k = absurd ends
 
+-- what is said of lines is said of each part of them
+front_lines : (front missing : List Entry) → All HasNoLf (map entry_line (front ++ missing)) → All HasNoLf (map entry_line front)
+front_lines [] missing all = All-nil _
+front_lines (entry ∷ front) missing all =
+    All-cons HasNoLf (entry_line entry) (map entry_line front) (All-head HasNoLf (entry_line entry) (map entry_line (front ++ missing)) all)
+    (front_lines front missing (All-tail HasNoLf (entry_line entry) (map entry_line (front ++ missing)) all))
+
+missing_lines : (front missing : List Entry) → All HasNoLf (map entry_line (front ++ missing)) → All HasNoLf (map entry_line missing)
+missing_lines [] missing all = all
+missing_lines (entry ∷ front) missing all = missing_lines front missing (All-tail HasNoLf (entry_line entry) (map entry_line (front ++ missing)) all)
+
+-- a front of a line with its LF that is not the whole of it
+front_of_line : (line cut rest : List ℕ) → HasNoLf line → 0 < length rest → ended line ≡ cut ++ rest → HasNoLf cut
+front_of_line line [] rest none some parts = All-nil _
+front_of_line [] (y ∷ cut) rest none some parts = absurd (omega (arith, some, ap length parts, length-append cut rest))
+front_of_line (x ∷ line) (y ∷ cut) rest none some parts =
+    All-cons (λ (z : ℕ). z ≢ 10) y cut (subst (λ (z : ℕ). z ≢ 10) (ap (λ (l : List ℕ). slice_index l 0) parts) (All-head (λ (z : ℕ). z ≢ 10) x line none))
+    (front_of_line line cut rest (All-tail (λ (z : ℕ). z ≢ 10) x line none) some (ap (drop 1) parts))
+
+cut_line : (missing : List Entry) (cut : List ℕ) → IsCut missing cut → All HasNoLf (map entry_line missing) → HasNoLf cut
+cut_line missing cut part all = ⊎_elim (λ (none : cut ≡ []). subst HasNoLf (sym none) (All-nil _))
+    (λ (some : IsPart missing cut). front_of_line (entry_line some.entry) cut some.rest
+    (All-head HasNoLf (entry_line some.entry) (map entry_line some.more) (subst (λ (es : List Entry). All HasNoLf (map entry_line es)) some.are all)) some.some some.whole)
+    part
+
 -- what the last line, or the part of it that was written, is
-record Last (held0 held1 : Option (List ℕ)) (ending : Ending) : Type 0 where
-  front : List Entry
-  cut : List ℕ
-  gave : Appends held0 held1 (written_of front ++ cut)
-  each : AreLines front
-  rest : HasNoLf cut
-  ends : IsEnding front
-  none : last_entries ending ≡ [] → (front ≡ []) × (cut ≡ [])
+pub record Last (held0 held1 : Option (List ℕ)) (ending : Ending) : Type 0 where
+  pub front : List Entry
+  pub cut : List ℕ
+  pub gave : Appends held0 held1 (written_of front ++ cut)
+  pub each : AreLines front
+  pub rest : HasNoLf cut
+  pub ends : IsEnding front
+  pub none : last_entries ending ≡ [] → (front ≡ []) × (cut ≡ [])
 
 lasts : (held0 held1 : Option (List ℕ)) (ending : Ending) (status : ℕ) → Finishes held0 held1 ending status → Last held0 held1 ending
 lasts held0 held1 ending status finishes = ⊎_elim
@@ -141,215 +165,188 @@ lasts held0 held1 ending status finishes = ⊎_elim
     finishes
   where
     nothing : (front missing : List Entry) (cut : List ℕ) → front ++ missing ≡ [] → IsCut missing cut → (front ≡ []) × (cut ≡ [])
-    nothing [] [] cut is part = (refl, ⊎_elim (λ none. none) (λ some. absurd (omega (arith, ap length some.3))) part)
+    nothing [] [] cut is part = (refl, ⊎_elim (λ (none : cut ≡ []). none) (λ (some : IsPart [] cut). absurd (omega (arith, ap length some.are))) part)
     nothing [] (entry ∷ missing) cut is part = absurd (omega (arith, ap length is))
     nothing (entry ∷ front) missing cut is part = absurd (omega (arith, ap length is))
 
--- All promises, of one reading of the octets.
-record KeepsAll {D : Type 0} (seen : D → Option (List ℕ)) (returned0 returned1 : Option (List (ℕ × ℕ × D))) (left0 left1 held0 held1 : Option (List ℕ)) : Type 0 where
-  read : List ℕ
-  written : List ℕ
-  entries : List Entry
-  took : Consumes left0 left1 read
-  gave : Appends held0 held1 written
-  transcript : IsTranscript written entries
-  promise : (((sessions : List (Protocol × ℕ)) → stored_sessions sessions entries ≡ []) × ((k : ℕ) → lines_to k entries ≡ []))
-      ⊎ ((given : D) × (plan : Plan) × (lines : List (List ℕ)) × Adds returned0 returned1 (0, 1, given) × IsTape read plan lines
-      × StoredStands plan lines entries (seen given ∷ []) × IfSome (seen given) (HasWhatWasShown lines entries)
-      × DeletedByQuit plan lines entries (seen given ∷ []))
-
--- no run line was handled
-kept_nothing : {D : Type 0} (seen : D → Option (List ℕ)) (returned0 returned1 : Option (List (ℕ × ℕ × D))) (left0 left1 held0 middle held1 : Option (List ℕ)) (ending : Ending) (read : List ℕ)
-    → Consumes left0 left1 read → middle ≡ held0 → Last middle held1 ending → KeepsAll seen returned0 returned1 left0 left1 held0 held1
-kept_nothing seen returned0 returned1 left0 left1 held0 middle held1 ending read took none last = record {
-  read = read;
-  written = written_of last.front ++ last.cut;
-  entries = last.front;
-  took = took;
-  gave = subst (λ (held : Option (List ℕ)). Appends held held1 (written_of last.front ++ last.cut)) none last.gave;
-  transcript = record { cut = last.cut; whole = refl; each = last.each; rest = last.rest };
-  promise = inl (ending_quiet last.front last.ends, ending_unsaid last.front last.ends);
-}
+written_more : (xs ys : List Entry) → written_of (xs ++ ys) ≡ written_of xs ++ written_of ys
+written_more xs ys = flat_map-append (λ (entry : Entry). ended (entry_line entry)) xs ys
 
 lines_more : (xs ys : List Entry) → AreLines xs → AreLines ys → AreLines (xs ++ ys)
 lines_more xs ys all more = subst (All HasNoLf) (sym (map-append entry_line xs ys)) (All-append HasNoLf (map entry_line xs) (map entry_line ys) all more)
 
--- where a line was cut, nothing follows it
-cut_is_last : (answer : Drove) → MayHaveStepped (stop_of answer) → last_entries (ending_of answer) ≡ []
-cut_is_last drove.Ended may = absurd may
-cut_is_last drove.ReadFault may = absurd may
-cut_is_last (drove.WriteFault n) may = refl
-cut_is_last (drove.BadTape n why) may = absurd may
-cut_is_last (drove.NoMemory n) may = refl
+-- no run line was handled
+kept_nothing : {D : Type 0} (seen : D → Option (List ℕ)) (stores : Stores D) (ends : Ends) (middle : Option (List ℕ)) (ending : Ending) (read : List ℕ)
+    → Consumes ends.left0 ends.left1 read → middle ≡ ends.held0 → Last middle ends.held1 ending → HasKept seen stores ends
+kept_nothing seen stores ends middle ending read took none last = record {
+  read = read;
+  written = written_of last.front ++ last.cut;
+  entries = last.front;
+  took = took;
+  gave = subst (λ (held : Option (List ℕ)). Appends held ends.held1 (written_of last.front ++ last.cut)) none last.gave;
+  transcript = record { cut = last.cut; whole = refl; lines = last.each; rest = last.rest };
+  promise = inl (ending_unsaid last.front last.ends);
+}
 
-no_cut : (front : List Entry) (cut tail : List ℕ) → tail ≡ written_of front ++ cut → tail ≡ [] → cut ≡ []
-no_cut front [] tail is none = refl
-no_cut front (x ∷ cut) tail is none = absurd (omega (arith, ap length is, ap length none, length-append (written_of front) (x ∷ cut)))
+-- a world tells what it holds as long as it did
+made_told : {D : Type 0} (seen : D → Option (List ℕ)) (faults : D → ℕ) (outcomes : List Outcome) (awaited left : List Awaited) (old new : World D) → Makes seen faults outcomes awaited old left new
+    → is_some (seen (disk_of new)) ≡ is_some (seen (disk_of old))
+made_told {D} seen faults [] awaited left old new (same, is) = ap (λ (w : World D). is_some (seen (disk_of w))) is
+made_told {D} seen faults (outcome ∷ more) awaited left old new (between, mid, came, makes) =
+    made_told seen faults more between left mid new makes ∙ one outcome came
+  where
+    one : (outcome : Outcome) → Came seen faults outcome awaited old between mid → is_some (seen (disk_of mid)) ≡ is_some (seen (disk_of old))
+    one (Began k asked number) (begun, stirs, calls, step, waits) = step.told
+    one (WasRefused k asked) (begun, result, calls, refused, step, waits) = step.told
+    one (Fell k asked) (begun, result, calls, falls, step, waits) = step.told
+    one (Answers k asked number given) (own, before, behind, same, were, are, step) = step.told
+    one (Unanswered k number) (fault, step, waits) = step.told
+    one (Left k user) (begun, result, leaves, step, waits) = step.told
 
--- what a run wrote, with a line that was cut
-join_cut : (all front : List Entry) (cut : List ℕ) → (written_of all ++ (written_of front ++ cut)) ++ [] ≡ written_of ((all ++ front) ++ []) ++ cut
-join_cut all front cut =
-    append-nil (written_of all ++ (written_of front ++ cut)) ∙ sym (append_assoc (written_of all) (written_of front) cut)
-    ∙ ap (λ (l : List ℕ). l ++ cut) (sym (written_more all front)) ∙ ap (λ (es : List Entry). written_of es ++ cut) (sym (append-nil (all ++ front)))
-
--- what a run wrote, with a last line
-join_last : (all front fin : List Entry) (cut : List ℕ) → (written_of all ++ (written_of front ++ [])) ++ (written_of fin ++ cut) ≡ written_of ((all ++ front) ++ fin) ++ cut
-join_last all front fin cut =
-    ap (λ (l : List ℕ). (written_of all ++ l) ++ (written_of fin ++ cut)) (append-nil (written_of front))
-    ∙ sym (append_assoc (written_of all ++ written_of front) (written_of fin) cut)
-    ∙ ap (λ (l : List ℕ). l ++ cut) (ap (λ (l : List ℕ). l ++ written_of fin) (sym (written_more all front)) ∙ sym (written_more (all ++ front) fin))
-
--- the octets that were read are a tape
-tape_whole : (head lines others : List (List ℕ)) (go pending rest read1 read2 : List ℕ) (others1 others2 : List ℕ)
-    → read1 ≡ flat_map ended head ++ others1 → others1 ≡ go ++ 10 ∷ pending → pending ++ read2 ≡ flat_map ended lines ++ others2 → flat_map ended others ++ rest ≡ others2
-    → read1 ++ read2 ≡ flat_map ended head ++ (ended go ++ (flat_map ended (lines ++ others) ++ rest))
-tape_whole head lines others go pending rest read1 read2 others1 others2 first line second whole =
-    ap (λ (l : List ℕ). l ++ read2) first ∙ append_assoc (flat_map ended head) others1 read2
-    ∙ ap (λ (l : List ℕ). flat_map ended head ++ l) (ap (λ (l : List ℕ). l ++ read2) line ∙ append_assoc go (10 ∷ pending) read2 ∙ sym (append_assoc go (10 ∷ []) (pending ++ read2))
-    ∙ ap (λ (l : List ℕ). ended go ++ l) (second ∙ ap (λ (l : List ℕ). flat_map ended lines ++ l) (sym whole) ∙ sym (append_assoc (flat_map ended lines) (flat_map ended others) rest)
-    ∙ ap (λ (l : List ℕ). l ++ rest) (sym (flat_map-append ended lines others))))
+-- what was begun of what was asked
+were_begun : (stop : Stop) (asked begun lacking : List Asked) → asked ≡ begun ++ lacking → MayLackOne stop lacking → AreBegun stop asked begun
+were_begun BehindLine asked begun lacking are none = sym (are ∙ ap (λ (l : List Asked). begun ++ l) none ∙ append-nil begun)
+were_begun SinkFailed asked begun lacking are none = sym (are ∙ ap (λ (l : List Asked). begun ++ l) none ∙ append-nil begun)
+were_begun OutOfMemory asked begun lacking are may = ⊎_elim
+    (λ none. inl (sym (are ∙ ap (λ (l : List Asked). begun ++ l) none ∙ append-nil begun)))
+    (λ one. inr (one.0, are ∙ ap (λ (l : List Asked). begun ++ l) one.1)) may
 
 -- run lines were handled
-module _ {D : Type 0} (seen : D → Option (List ℕ)) (returned0 returned1 : Option (List (ℕ × ℕ × D))) (left0 between left1 held0 middle held1 : Option (List ℕ))
-    (head : PlanHead) (pending : List ℕ) (answer : Drove) (given : D)
-    (back : Adds returned0 returned1 (0, 1, given)) (reads : ReadsPlan left0 between [] (Ok head) pending)
-    (d : Drives between left1 held0 middle pending answer head.lines (opening head.plan (is_some (seen given)))) (held : IfSome (seen given) (HoldsRecords d.last.records)) (last : Last middle held1 (ending_of answer)) where
-  -- what readers were shown is in the store, where it tells its octets
-  shown_with : (ending : List Entry) → IsEnding ending → IfSome (seen given) (HasWhatWasShown (d.lines ++ lines_in d.others) ((all_of d.outputs ++ d.stopped.front) ++ ending))
-  shown_with ending ends = by_store (seen given) refl
-    where
-      by_store : (store : Option (List ℕ)) → seen given ≡ store → IfSome store (HasWhatWasShown (d.lines ++ lines_in d.others) ((all_of d.outputs ++ d.stopped.front) ++ ending))
-      by_store None is = tt
-      by_store (Some octets) is = (
-        d.last.records,
-        subst (λ (o : Option (List ℕ)). IfSome o (HoldsRecords d.last.records)) is held,
-        λ k node kind. runs_show_as_filed head.plan d.lines (lines_in d.others) d.outputs d.mid d.last d.stopped.front ending reads.did.4.0
-            (subst (λ (o : Option (List ℕ)). Runs (opening head.plan (is_some o)) d.lines d.outputs d.mid) is d.runs) d.stopped.off ends k node kind,
+module _ {D : Type 0} (seen : D → Option (List ℕ)) (faults : D → ℕ) (is_settled : D → Type 0) (stores : Stores D) (ends : Ends) (between middle : Option (List ℕ)) (plan : Plan) (count : ℕ) (ending : Ending)
+    (taken given : D) (reads : ReadsHead ends.left0 between (Ok (plan, count))) (back : Adds stores.returned0 stores.returned1 (0, 1, given))
+    (ran : Ran seen faults is_settled (record ends { left0 = between; held1 = middle }) plan count ending taken given) (last : Last middle ends.held1 ending) where
+  abbrev lines : List (List ℕ)
+  lines = ran.drives.handled ++ ran.drives.midst
+
+  abbrev done : List Act
+  done = flat_map (λ a. a) (ran.drives.acts ++ ran.drives.behind)
+
+  one : (plan_of ran.start).nodes ≡ 1
+  one = ap (λ (p : Plan). p.nodes) ran.begins.plan_is ∙ reads.did.5.0
+
+  sure : (plan_of ran.start).confirm ≡ 1
+  sure = ap (λ (p : Plan). p.confirm) ran.begins.plan_is ∙ reads.did.5.2
+
+  begun : List Asked
+  begun = flat_map asked_in ran.drives.outcomes
+
+  were : AreBegun ran.drives.stop (flat_map asked_by done) (flat_map asked_in ran.drives.outcomes)
+  were = were_begun ran.drives.stop (flat_map asked_by done) (flat_map asked_in ran.drives.outcomes) ran.drives.lacking ran.drives.asked_are ran.drives.lack
+
+  shown : (sessions : List Session) × Shows (plan_of ran.start) lines ran.drives.entries done sessions
+  shown = driven_is_shown (plan_of ran.start) ran.drives.stop ran.drives.handled ran.drives.midst ran.drives.acts ran.drives.behind ran.drives.made ran.drives.entries ran.drives.sessions ran.drives.driven
+
+  of_sessions : AreOfSessions lines (flat_map asked_in ran.drives.outcomes)
+  of_sessions k call among = call_asked (plan_of ran.start) lines ran.drives.entries done shown.0 shown.1
+      (driven_at_1 (plan_of ran.start) ran.drives.stop ran.drives.handled ran.drives.midst ran.drives.acts ran.drives.behind ran.drives.made ran.drives.entries ran.drives.sessions one ran.drives.driven) k call
+      (begun_asked ran.drives.stop (flat_map asked_by done) (flat_map asked_in ran.drives.outcomes) were (record { session = k; call = call }) among)
+
+  -- the promises, with this last line
+  kept_with : (front : List Entry) → IsEnding front
+      → (records : List Record) × KeepsPromises (plan_of ran.start) (is_some (seen given)) ran.drives.stop lines (ran.drives.entries ++ front) (seen given ∷ []) (records ∷ []) (λ id. octets_in id records)
+      (book_of ran.last) done (flat_map asked_in ran.drives.outcomes)
+  kept_with front ended_so =
+      let owed = world_owes seen faults (plan_of ran.start) lines (ran.drives.entries ++ front) ran.drives.outcomes ran.drives.awaited ran.start ran.last one sure
+      (subst (λ (p : Plan). Begins seen p ran.start) (sym ran.begins.plan_is) ran.begins) ran.drives.steps of_sessions in
+      let told : is_some (seen (disk_of ran.start)) ≡ is_some (seen given) =
+      sym (made_told seen faults ran.drives.outcomes [] ran.drives.awaited ran.start ran.last ran.drives.steps) ∙ ap (λ (d : D). is_some (seen d)) (sym ran.store) in (
+        owed.0,
+        owed_is_kept (plan_of ran.start) (is_some (seen given)) ran.drives.stop ran.drives.handled ran.drives.midst ran.drives.acts ran.drives.behind ran.drives.made ran.drives.entries front ran.drives.sessions
+            (seen given ∷ []) (owed.0 ∷ []) (λ id. octets_in id owed.0) (flat_map asked_in ran.drives.outcomes) (book_of ran.last) ran.drives.driven ended_so were
+            (subst (λ (l : List Answered). Owes (plan_of ran.start) (is_some (seen given)) lines (ran.drives.entries ++ front) (seen given ∷ []) (owed.0 ∷ []) (λ id. octets_in id owed.0) (flat_map asked_in ran.drives.outcomes) l (book_of ran.last)) (sym ran.drives.answered_are)
+            (subst (λ (t : Bool). Owes (plan_of ran.start) t lines (ran.drives.entries ++ front) (seen given ∷ []) (owed.0 ∷ []) (λ id. octets_in id owed.0) (flat_map asked_in ran.drives.outcomes) (flat_map answered_in ran.drives.outcomes) (book_of ran.last)) told
+            (subst (λ (d : D). Owes (plan_of ran.start) (is_some (seen (disk_of ran.start))) lines (ran.drives.entries ++ front) (seen d ∷ []) (owed.0 ∷ []) (λ id. octets_in id owed.0) (flat_map asked_in ran.drives.outcomes) (flat_map answered_in ran.drives.outcomes) (book_of ran.last)) (sym ran.store) owed.1))),
       )
 
-  kept_with : (ending : List Entry) (cut : List ℕ) → d.written ++ (written_of last.front ++ last.cut) ≡ written_of ((all_of d.outputs ++ d.stopped.front) ++ ending) ++ cut
-      → AreLines ending → HasNoLf cut → IsEnding ending → KeepsAll seen returned0 returned1 left0 left1 held0 held1
-  kept_with ending cut whole each rest ends =
+  -- where a line was cut, nothing follows it
+  uncut : (answer : Drove) → ending ≡ ending_of answer
+      → Stops (stop_of answer) ran.drives.stop (plan_of ran.start) (failed_in (flat_map (λ a. a) ran.drives.acts)) ran.drives.sessions ran.drives.midst ends.left1 ran.drives.others ran.drives.room
+      → (ran.drives.cut ≡ []) ⊎ ((last.front ≡ []) × (last.cut ≡ []))
+  uncut drove.Ended is why = inl (ran.drives.whole why.0)
+  uncut drove.ReadFault is why = inl (ran.drives.whole why.0)
+  uncut (drove.BadTape n fault) is why = inl (ran.drives.whole why.0)
+  uncut (drove.WriteFault n) is why = inr (last.none (ap last_entries is))
+  uncut (drove.NoMemory n) is why = inr (last.none (ap last_entries is))
+
+  -- what was written
+  all_written : ((ran.drives.cut ≡ []) ⊎ ((last.front ≡ []) × (last.cut ≡ [])))
+      → (cut : List ℕ) × ((written_of ran.drives.entries ++ ran.drives.cut) ++ (written_of last.front ++ last.cut) ≡ written_of (ran.drives.entries ++ last.front) ++ cut) × HasNoLf cut
+  all_written which = ⊎_elim
+      (λ none. (
+        last.cut,
+        ap (λ (l : List ℕ). l ++ (written_of last.front ++ last.cut)) (ap (λ (l : List ℕ). written_of ran.drives.entries ++ l) none ∙ append-nil (written_of ran.drives.entries))
+            ∙ sym (append_assoc (written_of ran.drives.entries) (written_of last.front) last.cut) ∙ ap (λ (l : List ℕ). l ++ last.cut) (sym (written_more ran.drives.entries last.front)),
+        last.rest,
+      ))
+      (λ none. (
+        ran.drives.cut,
+        ap (λ (l : List ℕ). (written_of ran.drives.entries ++ ran.drives.cut) ++ l) (ap (λ (es : List Entry). written_of es ++ last.cut) none.0 ∙ none.1)
+            ∙ append-nil (written_of ran.drives.entries ++ ran.drives.cut)
+            ∙ ap (λ (es : List Entry). written_of es ++ ran.drives.cut) (sym (append-nil ran.drives.entries) ∙ ap (λ (es : List Entry). ran.drives.entries ++ es) (sym none.0)),
+        ran.drives.rest,
+      ))
+      which
+
+  pub kept_run : HasKept seen stores ends
+  kept_run =
+      let wrote = all_written (uncut ran.answer ran.is ran.drives.why) in
+      let kept = kept_with last.front last.ends in
       let go = reads.did in
-      let served = go.4 in
       record {
-        read = reads.read ++ d.read;
-        written = d.written ++ (written_of last.front ++ last.cut);
-        entries = (all_of d.outputs ++ d.stopped.front) ++ ending;
-        took = consumes_more _ _ _ _ _ reads.took d.took;
-        gave = appends_more _ _ _ _ _ d.gave last.gave;
-        transcript = record {
-          cut = cut;
-          whole = whole;
-          each = lines_more (all_of d.outputs ++ d.stopped.front) ending (lines_more (all_of d.outputs) d.stopped.front (runs_lines _ _ d.lines d.outputs d.runs) d.stopped.each) each;
-          rest = rest;
-        };
+        read = (flat_map ended reads.lines ++ reads.others) ++ ran.drives.read;
+        written = (written_of ran.drives.entries ++ ran.drives.cut) ++ (written_of last.front ++ last.cut);
+        entries = ran.drives.entries ++ last.front;
+        took = consumes_more _ _ _ _ _ reads.took ran.drives.took;
+        gave = appends_more _ _ _ _ _ ran.drives.gave last.gave;
+        transcript = record { cut = wrote.0; whole = wrote.1; lines = lines_more ran.drives.entries last.front ran.drives.lines last.each; rest = wrote.2 };
         promise = inr (
           given,
-          head.plan,
-          d.lines ++ lines_in d.others,
           back,
           record {
-            head = reads.lines;
-            draft = reads.draft;
-            go = go.0;
-            rest = rest_in d.others;
-            whole = tape_whole reads.lines d.lines (lines_in d.others) go.0 pending (rest_in d.others) reads.read d.read reads.others d.others reads.cut go.1.whole d.cut (cut_whole d.others);
-            head_each = reads.each;
-            go_one = go.1.one;
-            each = All-append HasNoLf d.lines (lines_in d.others) d.each (lines_each d.others);
-            rest_none = rest_each d.others;
-            drafts = reads.drafts;
-            goes = go.2;
-            plan_is = go.3;
+            plan = plan_of ran.start;
+            lines = lines;
+            tape = record {
+              head = reads.lines;
+              draft = reads.draft;
+              go = go.0;
+              others = ran.drives.others;
+              whole = ap (λ (l : List ℕ). (flat_map ended reads.lines ++ l) ++ ran.drives.read) go.1 ∙ append_assoc (flat_map ended reads.lines) (ended go.0) ran.drives.read
+                  ∙ ap (λ (l : List ℕ). flat_map ended reads.lines ++ (ended go.0 ++ l)) ran.drives.tape;
+              head_each = reads.each;
+              go_one = go.2;
+              each = ran.drives.each;
+              drafts = reads.drafts;
+              goes = go.3;
+              plan_is = go.4 ∙ ap Some (sym ran.begins.plan_is);
+            };
+            stop = ran.drives.stop;
+            records = kept.0;
+            book = book_of ran.last;
+            acts = done;
+            begun = flat_map asked_in ran.drives.outcomes;
+            promises = kept.1;
           },
-          runs_keep_stored head.plan (is_some (seen given)) d.lines (lines_in d.others) d.outputs d.mid d.last d.stopped.front ending (seen given) served.0 served.2 d.runs d.stopped.off ends held,
-          shown_with ending ends,
-          runs_delete_by_quit head.plan (is_some (seen given)) d.lines (lines_in d.others) d.outputs d.mid d.last d.stopped.front ending (seen given) served.0 served.2 d.runs d.stopped.off ends held,
         );
       }
 
-  kept_run : KeepsAll seen returned0 returned1 left0 left1 held0 held1
-  kept_run = ⊎_elim
-      (λ (may : MayHaveStepped (stop_of answer)).
-      let none = last.none (cut_is_last answer may) in
-      kept_with [] d.stopped.cut (wrote_cut none.0 none.1) (All-nil HasNoLf) d.stopped.rest tt)
-      (λ (quiet : (d.tail ≡ []) × (d.last ≡ d.mid)).
-      kept_with last.front last.cut (wrote_last (no_cut d.stopped.front d.stopped.cut d.tail d.stopped.out quiet.0)) last.each last.rest last.ends)
-      d.stopped.alone
-    where
-      wrote_cut : last.front ≡ [] → last.cut ≡ [] → d.written ++ (written_of last.front ++ last.cut) ≡ written_of ((all_of d.outputs ++ d.stopped.front) ++ []) ++ d.stopped.cut
-      wrote_cut none uncut =
-          ap (λ (l : List ℕ). l ++ (written_of last.front ++ last.cut)) (d.out ∙ ap (λ (l : List ℕ). written_of (all_of d.outputs) ++ l) d.stopped.out)
-          ∙ ap (λ (es : List Entry). (written_of (all_of d.outputs) ++ (written_of d.stopped.front ++ d.stopped.cut)) ++ (written_of es ++ last.cut)) none
-          ∙ ap (λ (l : List ℕ). (written_of (all_of d.outputs) ++ (written_of d.stopped.front ++ d.stopped.cut)) ++ l) uncut
-          ∙ join_cut (all_of d.outputs) d.stopped.front d.stopped.cut
-
-      wrote_last : d.stopped.cut ≡ [] → d.written ++ (written_of last.front ++ last.cut) ≡ written_of ((all_of d.outputs ++ d.stopped.front) ++ last.front) ++ last.cut
-      wrote_last none =
-          ap (λ (l : List ℕ). l ++ (written_of last.front ++ last.cut)) (d.out ∙ ap (λ (l : List ℕ). written_of (all_of d.outputs) ++ l) d.stopped.out)
-          ∙ ap (λ (l : List ℕ). (written_of (all_of d.outputs) ++ (written_of d.stopped.front ++ l)) ++ (written_of last.front ++ last.cut)) none
-          ∙ join_last (all_of d.outputs) d.stopped.front last.front last.cut
-
 -- whatever the work did
-kept_all : {D : Type 0} (seen : D → Option (List ℕ)) (faults : D → ℕ) (handed0 handed1 returned0 returned1 : Option (List (ℕ × ℕ × D))) (left0 left1 held0 middle held1 : Option (List ℕ)) (ending : Ending) (status : ℕ)
-    → Works seen faults handed0 handed1 returned0 returned1 left0 left1 held0 middle ending → Finishes middle held1 ending status → KeepsAll seen returned0 returned1 left0 left1 held0 held1
-kept_all seen faults handed0 handed1 returned0 returned1 left0 left1 held0 middle held1 ending status works finishes = ⊎_elim
-    (λ (none : NoPlan left0 left1 held0 middle ending). kept_nothing seen returned0 returned1 left0 left1 held0 middle held1 ending none.reads.read none.reads.took none.none last)
-    (λ (some : NoStore left0 left1 held0 middle ending ⊎ Served seen faults handed0 handed1 returned0 returned1 left0 left1 held0 middle ending). ⊎_elim
-    (λ (none : NoStore left0 left1 held0 middle ending). kept_nothing seen returned0 returned1 left0 left1 held0 middle held1 ending none.reads.read none.reads.took none.none last)
-    (λ (served : Served seen faults handed0 handed1 returned0 returned1 left0 left1 held0 middle ending). by_serving served) some)
+pub has_kept : {D : Type 0} (seen : D → Option (List ℕ)) (faults : D → ℕ) (is_settled : D → Type 0) (stores : Stores D) (ends : Ends) (middle : Option (List ℕ)) (ending : Ending) (status : ℕ)
+    → Works seen faults is_settled stores (record ends { held1 = middle }) ending → Finishes middle ends.held1 ending status → HasKept seen stores ends
+has_kept seen faults is_settled stores ends middle ending status works finishes = ⊎_elim
+    (λ (none : NoPlan stores (record ends { held1 = middle }) ending). kept_nothing seen stores ends middle ending (flat_map ended none.reads.lines ++ none.reads.others) none.reads.took none.none last)
+    (λ (some : NoStore stores (record ends { held1 = middle }) ending ⊎ Served seen faults is_settled stores (record ends { held1 = middle }) ending). ⊎_elim
+    (λ (none : NoStore stores (record ends { held1 = middle }) ending). kept_nothing seen stores ends middle ending (flat_map ended none.reads.lines ++ none.reads.others) none.reads.took none.none last)
+    (λ (served : Served seen faults is_settled stores (record ends { held1 = middle }) ending). by_serving served) some)
     works
   where
-    last : Last middle held1 ending
-    last = lasts middle held1 ending status finishes
+    last : Last middle ends.held1 ending
+    last = lasts middle ends.held1 ending status finishes
 
-    by_serving : Served seen faults handed0 handed1 returned0 returned1 left0 left1 held0 middle ending → KeepsAll seen returned0 returned1 left0 left1 held0 held1
+    by_serving : Served seen faults is_settled stores (record ends { held1 = middle }) ending → HasKept seen stores ends
     by_serving served = ⊎_elim
-        (λ (none : (left1 ≡ served.between) × (middle ≡ held0) × IsBeforeRun ending).
-        kept_nothing seen returned0 returned1 left0 left1 held0 middle held1 ending served.reads.read (subst (λ (left : Option (List ℕ)). Consumes left0 left served.reads.read) (sym none.0) served.reads.took) none.1 last)
-        (λ (ran : Ran seen faults served.between left1 held0 middle served.pending served.head ending served.taken served.given).
-        kept_run seen returned0 returned1 left0 served.between left1 held0 middle held1 served.head served.pending ran.answer served.given served.back served.reads ran.drives ran.store
-        (subst (λ (e : Ending). Last middle held1 e) ran.is last))
+        (λ (none : NotOpened seen faults (record ends { left0 = served.between; held1 = middle }) ending served.taken served.given).
+        kept_nothing seen stores ends middle ending (flat_map ended served.reads.lines ++ served.reads.others)
+        (subst (λ (left : Option (List ℕ)). Consumes ends.left0 left (flat_map ended served.reads.lines ++ served.reads.others)) (sym none.nothing_read) served.reads.took) none.nothing_written last)
+        (λ (ran : Ran seen faults is_settled (record ends { left0 = served.between; held1 = middle }) served.plan served.count ending served.taken served.given).
+        kept_run seen faults is_settled stores ends served.between middle served.plan served.count ending served.taken served.given served.reads served.back ran last)
         served.serves
-
-module _ {D : Type 0} (seen : D → Option (List ℕ)) (faults : D → ℕ) (handed0 handed1 returned0 returned1 : Option (List (ℕ × ℕ × D))) (left0 left1 held0 middle held1 : Option (List ℕ)) (ending : Ending) (status : ℕ)
-    (works : Works seen faults handed0 handed1 returned0 returned1 left0 left1 held0 middle ending) (finishes : Finishes middle held1 ending status) where
-  all : KeepsAll seen returned0 returned1 left0 left1 held0 held1
-  all = kept_all seen faults handed0 handed1 returned0 returned1 left0 left1 held0 middle held1 ending status works finishes
-
-  -- the promise to senders
-  pub kept : KeepsStored seen returned0 returned1 left0 left1 held0 held1
-  kept = record {
-    read = all.read;
-    written = all.written;
-    entries = all.entries;
-    took = all.took;
-    gave = all.gave;
-    transcript = all.transcript;
-    promise = ⊎_elim (λ none. inl none.0) (λ some. inr (some.0, some.1, some.2, some.3, some.4, some.5)) all.promise;
-  }
-
-  -- the promise to readers
-  pub shown : ShowsStored seen returned0 returned1 left0 left1 held0 held1
-  shown = record {
-    read = all.read;
-    written = all.written;
-    entries = all.entries;
-    took = all.took;
-    gave = all.gave;
-    transcript = all.transcript;
-    promise = ⊎_elim (λ none. inl none.1) (λ some. inr (some.0, some.1, some.2, some.3, some.4, some.6)) all.promise;
-  }
-
-  -- the promise to those who delete
-  pub deleted : DeletesByQuit seen returned0 returned1 left0 left1 held0 held1
-  deleted = record {
-    read = all.read;
-    written = all.written;
-    entries = all.entries;
-    took = all.took;
-    gave = all.gave;
-    transcript = all.transcript;
-    promise = ⊎_elim (λ none. inl none.1) (λ some. inr (some.0, some.1, some.2, some.3, some.4, some.7)) all.promise;
-  }

@@ -1,44 +1,60 @@
 -- The run lines were handled over a store that was taken and given back.
-use Rattle.std.proofs.Common.{◌≡◌, ◌≤◌, ℕ, Bool, List, Option, None, refl, sym, subst, inl, inr, ⊎_elim}
-use Rattle.std.specs.Prelude.{is_some}
-use Rattle.io_edge.specs.Causes.{Rose}
-use Rattle.mail_model.specs.Site.{opening}
-use Rattle.cluster_world.proofs.Appended.{rose_later}
-use Rattle.cluster_world.specs.World.{disk_of}
+use Rattle.std.proofs.Common.{◌≡◌, ℕ, true, List, [], ◌∷◌, Option, Some, None, length, arith, refl, sym, ap, ◌∙◌, subst, inr}
+use Rattle.std.specs.Prelude.{is_some, IfSome}
+use Rattle.mail_model.specs.Plan.{Plan}
+use Rattle.cluster_world.specs.World.{Begins, Opened, disk_of, is_up, plan_of}
 use Rattle.cluster_world.specs.declared.world.World.{World}
 use Rattle.drive_tape.specs.declared.drove.Drove.{Drove}
-use Rattle.drive_tape.specs.declared.plan_head.PlanHead.{PlanHead}
-use Rattle.drive_tape.specs.Drive.{DrivesWorld}
+use Rattle.drive_tape.specs.declared.drove.Drove.TheVariants as drove
+use Rattle.drive_tape.specs.declared.drove.Stop.TheVariants as why
+use Rattle.drive_tape.specs.Drive.{Drives, stop_of}
 use Rattle.porcupine_server.specs.declared.ending.Ending.{Ending}
+use Rattle.porcupine_server.specs.declared.ending.Ending.TheVariants.{Done, Line, Read, Write, NoMemory}
 use Rattle.porcupine_server.specs.Endings.{ending_of}
-use Rattle.porcupine_server.specs.Works.{Ran}
+use Rattle.porcupine_server.specs.Works.{Ends, Ran, Serves}
 
--- what does not tell its octets never did
-untold : (one other : Option (List ℕ)) → is_some one ≡ is_some other → one ≡ None → other ≡ None
-untold one None same none = refl
-untold one (Option.Some octets) same none = absurd (cc)
+-- lists of one element that are equal
+one_only : {X : Type 0} (x y : X) → x ∷ [] ≡ y ∷ [] → x ≡ y
+one_only x y e = cc
 
-module _ {D : Type 0} (seen : D → Option (List ℕ)) (faults : D → ℕ) (left0 left1 held0 held1 : Option (List ℕ)) (pending : List ℕ) (head : PlanHead) (ending : Ending) (answer : Drove)
-    (taken : D) (start last : World D) (is : ending ≡ ending_of answer) where
-  pub ran : faults taken ≤ faults (disk_of start) → is_some (seen (disk_of start)) ≡ is_some (seen taken)
-      → DrivesWorld seen faults start left0 left1 held0 held1 pending answer head.lines (opening head.plan (is_some (seen (disk_of start)))) last
-      → Ran seen faults left0 left1 held0 held1 pending head ending taken (disk_of last)
-  ran later told d = by_told (is_some (seen (disk_of start))) (sym d.since.told) d
-    where
-      by_told : (tells : Bool) → tells ≡ is_some (seen (disk_of last))
-          → DrivesWorld seen faults start left0 left1 held0 held1 pending answer head.lines (opening head.plan tells) last
-          → Ran seen faults left0 left1 held0 held1 pending head ending taken (disk_of last)
-      by_told tells same d = at_end (subst (λ (b : Bool). DrivesWorld seen faults start left0 left1 held0 held1 pending answer head.lines (opening head.plan b) last) same d)
-        where
-          at_end : DrivesWorld seen faults start left0 left1 held0 held1 pending answer head.lines (opening head.plan (is_some (seen (disk_of last)))) last
-              → Ran seen faults left0 left1 held0 held1 pending head ending taken (disk_of last)
-          at_end d = record {
-            answer = answer;
-            is = is;
-            drives = d.drives;
-            store = d.since.store;
-            fallen = λ down. ⊎_elim
-                (λ (rose : Rose (faults (disk_of start)) (faults (disk_of last))). inl (rose_later (faults taken) (faults (disk_of start)) (faults (disk_of last)) later rose))
-                (λ (none : seen (disk_of start) ≡ None). inr (untold (seen (disk_of start)) (seen taken) told none))
-                (d.since.cause down);
-          }
+-- a store of no octets is empty
+pub is_empty : (held : Option (List ℕ)) (n : ℕ) → IfSome held (λ octets. n ≡ length octets) → n ≡ 0 → IfSome held (λ octets. octets ≡ [])
+is_empty None n is zero = tt
+is_empty (Some []) n is zero = refl
+is_empty (Some (x ∷ xs)) n is zero = absurd (omega (arith, is, zero))
+
+-- a world that was opened begins
+pub began : {D : Type 0} (seen : D → Option (List ℕ)) (faults : D → ℕ) (is_settled : D → Type 0) (plan : Plan) (looked : D) (start : World D) → Opened seen faults is_settled plan looked start → Begins seen (plan_of start) start
+began seen faults is_settled plan looked start opened = subst (λ (p : Plan). Begins seen p start) (sym opened.begins.plan_is) opened.begins
+
+-- only a fault of the source ends so
+pub read_stop : (answer : Drove) → ending_of answer ≡ Read → stop_of answer ≡ why.ReadFault
+read_stop drove.Ended is = absurd (let never : Done ≡ Read = is in cc)
+read_stop drove.ReadFault is = refl
+read_stop (drove.WriteFault n) is = absurd (let never : Write ≡ Read = is in cc)
+read_stop (drove.BadTape n fault) is = absurd (let never : Line n fault ≡ Read = is in cc)
+read_stop (drove.NoMemory n) is = absurd (let never : NoMemory ≡ Read = is in cc)
+
+pub ran : {D : Type 0} (seen : D → Option (List ℕ)) (faults : D → ℕ) (is_settled : D → Type 0) (ends : Ends) (plan : Plan) (count : ℕ) (ending : Ending) (answer : Drove)
+    (taken looked given : D) (start last : World D) → ending ≡ ending_of answer → seen looked ≡ seen taken → faults looked ≡ faults taken
+    → Opened seen faults is_settled plan looked start
+    → (Begins seen (plan_of start) start → Drives seen faults start ends.left0 ends.left1 ends.held0 ends.held1 answer count last)
+    → (is_up last ≡ true → is_settled (disk_of last)) → IfSome (seen taken) (λ held. held ≡ [])
+    → (list : List D) → list ≡ disk_of last ∷ [] → list ≡ given ∷ [] → Serves seen faults is_settled ends plan count ending taken given
+ran seen faults is_settled ends plan count ending answer taken looked given start last is same quiet_len opened drives settled empty list closed given_one =
+    let store : given ≡ disk_of last = one_only given (disk_of last) (sym given_one ∙ closed) in
+    let drove = drives (subst (λ (p : Plan). Begins seen p start) (sym opened.begins.plan_is) opened.begins) in
+    inr (record {
+      answer = answer;
+      is = is;
+      start = start;
+      last = last;
+      empty = empty;
+      begins = opened.begins;
+      told = opened.told ∙ ap is_some same;
+      opened = opened.quiet ∙ quiet_len;
+      drives = drove;
+      store = store;
+      quiet = λ up. ap faults store ∙ drove.quiet up ∙ opened.quiet ∙ quiet_len;
+      settled = λ up. subst is_settled (sym store) (settled up);
+    })

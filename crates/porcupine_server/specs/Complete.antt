@@ -1,20 +1,21 @@
 -- A tape that is handled through its line `end`, where nothing of the outside fails.
-use Rattle.std.specs.Prelude.{◌≡◌, ℕ, ◌≤◌, ◌^◌, Bool, true, List, ◌∷◌, ◌++◌, length, flat_map, All, Some, None}
+use Rattle.std.specs.Prelude.{◌≡◌, ℕ, ◌≤◌, ◌^◌, List, [], ◌∷◌, ◌++◌, length, flat_map, All, Some, None}
 use Rattle.mail_model.specs.Lines.{HasNoLf, ended}
 use Rattle.mail_model.specs.Plan.{Plan}
 use Rattle.mail_model.specs.Tape.{Draft, Order, empty_draft, planned, tape_plan_line, tape_order}
 use Rattle.mail_model.specs.Tape.PlanLine.{Go}
 use Rattle.mail_model.specs.Tape.Order.{End}
 use Rattle.mail_model.specs.Transcript.{Entry}
-use Rattle.mail_model.specs.Site.{Site, opening, refusal}
-use Rattle.mail_model.specs.Steps.{Runs}
+use Rattle.session_model.specs.Sessions.{Session}
+use Rattle.session_model.specs.Acts.{Act}
+use Rattle.session_model.specs.Run.{AreHandled, failed_in, refusal}
 use Rattle.drive_tape.specs.Plans.{DraftsTo, IsServed}
 
--- Each of the run lines is accepted behind those before it, as long as the node is up.
+-- Each of the run lines is accepted after those before it, as long as no node failed.
 abbrev pub AreAccepted : Plan → List (List ℕ) → Type 0
-AreAccepted plan lines = (front : List (List ℕ)) (line : List ℕ) (rest : List (List ℕ)) (tells : Bool) (outputs : List (List Entry)) (mid : Site)
-    → lines ≡ front ++ line ∷ rest → Runs (opening plan tells) front outputs mid → mid.up ≡ true
-    → (order : Order) × (tape_order line ≡ Some order) × (refusal mid order ≡ None)
+AreAccepted plan lines = (front : List (List ℕ)) (line : List ℕ) (rest : List (List ℕ)) (acts : List (List Act)) (outputs : List (List (List Entry))) (sessions : List Session)
+    → lines ≡ front ++ line ∷ rest → AreHandled plan [] [] front acts outputs sessions → failed_in (flat_map (λ a. a) acts) ≡ []
+    → (order : Order) × (tape_order line ≡ Some order) × (refusal plan [] sessions order ≡ None)
 
 -- The octets are plan lines that give a plan, `go`, run lines that are accepted, and `end` within the octets that a tape may have; anything may follow.
 pub record IsGoodTape (octets : List ℕ) : Type 0 where

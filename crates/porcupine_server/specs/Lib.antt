@@ -1,8 +1,6 @@
 pub mod Words
-pub mod Endings
 pub mod Stores
+pub mod Endings
 pub mod Works
+pub mod Promises
 pub mod Complete
-pub mod Kept
-pub mod Seen
-pub mod Gone

@@ -1,12 +1,13 @@
 -- What the work on a tape did: the plan was read, the store was opened, and the run lines were handled.
-use Rattle.std.specs.Prelude.{◌≡◌, ◌⊎◌, ℕ, false, List, [], Option, None, IfSome, is_some, Ok, Err, ⊤}
-use Rattle.io_edge.specs.Causes.{Rose}
+use Rattle.std.specs.Prelude.{◌≡◌, ◌≢◌, ◌⊎◌, ◌≤◌, ℕ, true, List, [], Option, IfSome, Ok, Err, ⊤}
 use Rattle.io_edge.specs.Yards.{Adds, with_last}
-use Rattle.mail_model.specs.Site.{opening, HoldsRecords}
+use Rattle.mail_model.specs.Plan.{Plan}
+use Rattle.cluster_world.specs.Journal.{IsToldAlike}
+use Rattle.cluster_world.specs.World.{Begins, disk_of, is_up}
+use Rattle.cluster_world.specs.declared.world.World.{World}
 use Rattle.drive_tape.specs.declared.drove.Drove.{Drove}
-use Rattle.drive_tape.specs.declared.plan_head.PlanHead.{PlanHead}
 use Rattle.drive_tape.specs.Drive.{Drives}
-use Rattle.drive_tape.specs.Plans.{ReadsPlan}
+use Rattle.drive_tape.specs.Plans.{ReadsHead}
 use Rattle.porcupine_server.specs.declared.ending.Ending.{Ending}
 use Rattle.porcupine_server.specs.declared.ending.Ending.TheVariants.{Done, Line, Read, Write, Store, NoMemory}
 use Rattle.porcupine_server.specs.Endings.{ending_of, Finishes}
@@ -20,56 +21,84 @@ IsBeforeRun Write = ⊥
 IsBeforeRun Store = ⊤
 IsBeforeRun NoMemory = ⊤
 
--- The run lines were handled, over a disk that was one when it was handed out and another when it was given back.
-pub record Ran {D : Type 0} (seen : D → Option (List ℕ)) (faults : D → ℕ) (left0 left1 held0 held1 : Option (List ℕ)) (pending : List ℕ) (head : PlanHead) (ending : Ending) (taken given : D) : Type 0 where
+-- Each store that was handed out, and each that was given back, before and after.
+pub record Stores (D : Type 0) : Type 0 where
+  pub handed0 : Option (List (ℕ × ℕ × D))
+  pub handed1 : Option (List (ℕ × ℕ × D))
+  pub returned0 : Option (List (ℕ × ℕ × D))
+  pub returned1 : Option (List (ℕ × ℕ × D))
+
+-- What is left of the source, and what the sink holds, before and after.
+pub record Ends : Type 0 where
+  pub left0 : Option (List ℕ)
+  pub left1 : Option (List ℕ)
+  pub held0 : Option (List ℕ)
+  pub held1 : Option (List ℕ)
+
+-- The store was empty and its node was opened, and the run lines were handled: the store was one when it was handed out and another when it was given back. Where the
+-- node is still up, the store never failed, and the last thing that it was asked for is settled.
+pub record Ran {D : Type 0} (seen : D → Option (List ℕ)) (faults : D → ℕ) (is_settled : D → Type 0) (ends : Ends) (plan : Plan) (count : ℕ) (ending : Ending) (taken given : D) : Type 0 where
   pub answer : Drove
   pub is : ending ≡ ending_of answer
-  pub drives : Drives left0 left1 held0 held1 pending answer head.lines (opening head.plan (is_some (seen given)))
-  pub store : IfSome (seen given) (HoldsRecords drives.last.records)
-  -- the node fell only where the disk failed, or does not tell what it holds
-  pub fallen : drives.last.up ≡ false → Rose (faults taken) (faults given) ⊎ (seen taken ≡ None)
+  pub start : World D
+  pub last : World D
+  pub empty : IfSome (seen taken) (λ held. held ≡ [])
+  pub begins : Begins seen plan start
+  pub told : IsToldAlike (seen taken) (seen (disk_of start))
+  pub opened : faults (disk_of start) ≡ faults taken
+  pub drives : Drives seen faults start ends.left0 ends.left1 ends.held0 ends.held1 answer count last
+  pub store : given ≡ disk_of last
+  pub quiet : is_up last ≡ true → faults given ≡ faults taken
+  pub settled : is_up last ≡ true → is_settled given
 
--- the store was not opened, and nothing was read or written; or the run lines were handled
-abbrev pub Serves : {D : Type 0} → (D → Option (List ℕ)) → (D → ℕ) → Option (List ℕ) → Option (List ℕ) → Option (List ℕ) → Option (List ℕ) → List ℕ → PlanHead → Ending → D → D → Type 0
-Serves seen faults left0 left1 held0 held1 pending head ending taken given =
-    ((left1 ≡ left0) × (held1 ≡ held0) × IsBeforeRun ending)
-    ⊎ Ran seen faults left0 left1 held0 held1 pending head ending taken given
+-- The store was not opened, and nothing was read or written; a store that holds something is left as it was.
+pub record NotOpened {D : Type 0} (seen : D → Option (List ℕ)) (faults : D → ℕ) (ends : Ends) (ending : Ending) (taken given : D) : Type 0 where
+  pub nothing_read : ends.left1 ≡ ends.left0
+  pub nothing_written : ends.held1 ≡ ends.held0
+  pub before : IsBeforeRun ending
+  pub kept : IfSome (seen taken) (λ held. held ≢ [] → seen given ≡ seen taken)
 
--- The plan was not read, and nothing was written.
-pub record NoPlan (left0 left1 held0 held1 : Option (List ℕ)) (ending : Ending) : Type 0 where
+-- the store was not opened, or the run lines were handled
+abbrev pub Serves : {D : Type 0} → (D → Option (List ℕ)) → (D → ℕ) → (D → Type 0) → Ends → Plan → ℕ → Ending → D → D → Type 0
+Serves seen faults is_settled ends plan count ending taken given = NotOpened seen faults ends ending taken given ⊎ Ran seen faults is_settled ends plan count ending taken given
+
+-- The plan was not read; nothing was written, and no store was handed out.
+pub record NoPlan {D : Type 0} (stores : Stores D) (ends : Ends) (ending : Ending) : Type 0 where
   pub answer : Drove
-  pub pending : List ℕ
-  pub reads : ReadsPlan left0 left1 [] (Err answer) pending
+  pub reads : ReadsHead ends.left0 ends.left1 (Err answer)
   pub is : ending ≡ ending_of answer
-  pub none : held1 ≡ held0
+  pub none : ends.held1 ≡ ends.held0
+  pub untaken : stores.handed1 ≡ stores.handed0
+  pub ungiven : stores.returned1 ≡ stores.returned0
 
 -- The plan was read, and no store was handed out; nothing was written.
-pub record NoStore (left0 left1 held0 held1 : Option (List ℕ)) (ending : Ending) : Type 0 where
-  pub head : PlanHead
-  pub pending : List ℕ
-  pub reads : ReadsPlan left0 left1 [] (Ok head) pending
+pub record NoStore {D : Type 0} (stores : Stores D) (ends : Ends) (ending : Ending) : Type 0 where
+  pub plan : Plan
+  pub count : ℕ
+  pub reads : ReadsHead ends.left0 ends.left1 (Ok (plan, count))
   pub is : IsBeforeRun ending
-  pub none : held1 ≡ held0
+  pub none : ends.held1 ≡ ends.held0
+  pub untaken : stores.handed1 ≡ stores.handed0
+  pub ungiven : stores.returned1 ≡ stores.returned0
 
 -- The plan was read, and a store was handed out, served, and given back.
-pub record Served {D : Type 0} (seen : D → Option (List ℕ)) (faults : D → ℕ) (handed0 handed1 returned0 returned1 : Option (List (ℕ × ℕ × D))) (left0 left1 held0 held1 : Option (List ℕ)) (ending : Ending) : Type 0 where
-  pub head : PlanHead
-  pub pending : List ℕ
+pub record Served {D : Type 0} (seen : D → Option (List ℕ)) (faults : D → ℕ) (is_settled : D → Type 0) (stores : Stores D) (ends : Ends) (ending : Ending) : Type 0 where
+  pub plan : Plan
+  pub count : ℕ
   pub between : Option (List ℕ)
   pub taken : D
   pub given : D
-  pub reads : ReadsPlan left0 between [] (Ok head) pending
-  pub out : handed1 ≡ with_last handed0 (0, 1, taken)
-  pub serves : Serves seen faults between left1 held0 held1 pending head ending taken given
-  pub back : Adds returned0 returned1 (0, 1, given)
+  pub reads : ReadsHead ends.left0 between (Ok (plan, count))
+  pub out : stores.handed1 ≡ with_last stores.handed0 (0, 1, taken)
+  pub serves : Serves seen faults is_settled (record ends { left0 = between }) plan count ending taken given
+  pub back : Adds stores.returned0 stores.returned1 (0, 1, given)
 
-abbrev pub Works : {D : Type 0} → (D → Option (List ℕ)) → (D → ℕ) → Option (List (ℕ × ℕ × D)) → Option (List (ℕ × ℕ × D)) → Option (List (ℕ × ℕ × D)) → Option (List (ℕ × ℕ × D)) → Option (List ℕ) → Option (List ℕ) → Option (List ℕ) → Option (List ℕ) → Ending → Type 0
-Works seen faults handed0 handed1 returned0 returned1 left0 left1 held0 held1 ending =
-    NoPlan left0 left1 held0 held1 ending ⊎ NoStore left0 left1 held0 held1 ending ⊎ Served seen faults handed0 handed1 returned0 returned1 left0 left1 held0 held1 ending
+abbrev pub Works : {D : Type 0} → (D → Option (List ℕ)) → (D → ℕ) → (D → Type 0) → Stores D → Ends → Ending → Type 0
+Works seen faults is_settled stores ends ending = NoPlan stores ends ending ⊎ NoStore stores ends ending ⊎ Served seen faults is_settled stores ends ending
 
 -- The whole: the work, and then the last line, where there is one.
-pub record Follows {D : Type 0} (seen : D → Option (List ℕ)) (faults : D → ℕ) (handed0 handed1 returned0 returned1 : Option (List (ℕ × ℕ × D))) (left0 left1 held0 held1 : Option (List ℕ)) (status : ℕ) : Type 0 where
+pub record Follows {D : Type 0} (seen : D → Option (List ℕ)) (faults : D → ℕ) (is_settled : D → Type 0) (stores : Stores D) (ends : Ends) (status : ℕ) : Type 0 where
   pub ending : Ending
   pub middle : Option (List ℕ)
-  pub works : Works seen faults handed0 handed1 returned0 returned1 left0 left1 held0 middle ending
-  pub last : Finishes middle held1 ending status
+  pub works : Works seen faults is_settled stores (record ends { held1 = middle }) ending
+  pub last : Finishes middle ends.held1 ending status

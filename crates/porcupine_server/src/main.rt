@@ -19,6 +19,7 @@ mod words;
 use io_edge::{ReadSource, WriteSink};
 use real_yard::RealYard;
 use server::porcupine;
+use std::io::BufReader;
 use std::process::ExitCode;
 use std::{env, io};
 
@@ -32,11 +33,15 @@ fn words_of(rt: &HostRuntime) -> io::Result<Vec<String>> {
 }
 
 fn main(rt: HostRuntime) -> ExitCode {
-    // Without memory for the words the status is that of want of memory.
+    // Without memory for the words, or for the buffer, the status is that of want of memory.
     let Ok(words) = words_of(&rt) else {
         return ExitCode::from(7);
     };
-    let mut source = ReadSource::new(rt.stdin());
+    // A tape is read octet by octet.
+    let Ok(input) = BufReader::new(rt.alloc(), rt.stdin()) else {
+        return ExitCode::from(7);
+    };
+    let mut source = ReadSource::new(input);
     let mut sink = WriteSink::new(rt.stdout());
     let mut yard = RealYard::new(rt.alloc());
     ExitCode::from(porcupine(rt.alloc(), &words, &mut source, &mut sink, &mut yard))

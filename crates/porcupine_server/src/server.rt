@@ -1,38 +1,46 @@
 // The top call.
-ghost use Rattle.std.specs.Prelude.{◌≡◌, ◌⊎◌, ◌≤◌, ◌^◌, ℕ, List, [], length, IfSome, Some};
+ghost use Rattle.std.specs.Prelude.{◌≡◌, ◌⊎◌, ◌≤◌, ◌∷◌, ◌^◌, ℕ, List, [], Some, vec_len};
 ghost use Rattle.io_edge.specs.Causes.{Rose};
 ghost use Rattle.drive_tape.specs.Plans.{IsServed};
-ghost use Rattle.drive_tape.specs.Reads.{most_pending};
 ghost use Rattle.porcupine_server.specs.Words.{IsDrive, RefusesWords};
 ghost use Rattle.porcupine_server.specs.Stores.{DiskFailed, StoreFailed};
-ghost use Rattle.porcupine_server.specs.Works.{Serves, Works, Follows};
+ghost use Rattle.porcupine_server.specs.Works.{Ends, Stores, Serves, Works, Follows};
 ghost use Rattle.porcupine_server.specs.Complete.{IsGoodTape};
-ghost use Rattle.porcupine_server.specs.Kept.{KeepsStored};
-ghost use Rattle.porcupine_server.specs.Seen.{ShowsStored};
-ghost use Rattle.porcupine_server.specs.Gone.{DeletesByQuit};
+ghost use Rattle.porcupine_server.specs.Promises.{HasKept};
 ghost use Rattle.porcupine_server.specs.declared.ending.Ending.TheVariants as endings;
 
 use crate::ending::{Ending, finish};
 use crate::words::is_drive;
 use cluster_world::{OpenFault, World};
-use drive_tape::{Cluster, LineReader, PlanHead, drive, read_plan};
+use drive_tape::{drive, read_drive_head};
 use io_edge::{Disk, Sink, Source, Yard, YardRefusal, write_all};
+use mail_base::Plan;
 use std::alloc::Global;
 
+// The one element of a list.
+fn only<T: Drop>(mut list: Vec<T>) -> T
+    requires one { vec_len list ≡ 1 }
+    ensures { list.items ≡ result ∷ [] }
+{
+    match list.pop() {
+        Some(only) => only,
+        None => unreachable!(),
+    }
+}
+
 // Opens the store and handles the run lines. The disk comes back in whatever state it is.
-fn serve<S: Source, K: Sink, D: Disk>(
+fn serve<S: Source, K: Sink, D: Disk + Drop>(
     alloc: Global,
-    head: PlanHead,
-    reader: LineReader,
+    plan: Plan,
+    lines: u64,
     source: &mut S,
     sink: &mut K,
     mut disk: D,
 ) -> (Ending, D)
-    requires plan { IsServed head.plan }
-    requires few { head.lines ≤ 2 ^ 40 }
-    requires short { length reader.pending.items ≤ most_pending }
-    ensures serves { Serves D.seen D.faults (S.left source.old) (S.left source.new) (K.contents sink.old) (K.contents sink.new)
-        reader.pending.items head result.0 disk result.1 }
+    requires plan { IsServed plan }
+    requires few { lines ≤ 2 ^ 40 }
+    ensures serves { Serves D.seen D.faults D.settled (record { left0 = S.left source.old; left1 = S.left source.new; held0 = K.contents sink.old; held1 = K.contents sink.new })
+        plan lines result.0 disk result.1 }
     ensures read_later { S.faults source.old ≤ S.faults source.new }
     ensures write_later { K.faults sink.old ≤ K.faults sink.new }
     ensures read_fault { result.0 ≡ endings.Read → Rose (S.faults source.old) (S.faults source.new) }
@@ -42,15 +50,16 @@ fn serve<S: Source, K: Sink, D: Disk>(
     let Ok(0) = disk.len() else {
         return (Ending::Store, disk);
     };
-    let PlanHead { plan, lines } = head;
-    match World::open(alloc, plan, disk) {
-        Err((OpenFault::DiskFault, disk)) => (Ending::Store, disk),
-        Err((OpenFault::NoMemory, disk)) => (Ending::NoMemory, disk),
+    let Ok(mut disks) = Vec::with_capacity(alloc, 1) else {
+        return (Ending::NoMemory, disk);
+    };
+    disks.push_reserved(disk);
+    match World::open(alloc, plan, disks) {
+        Err((OpenFault::DiskFault(_), disks)) => (Ending::Store, only(disks)),
+        Err((OpenFault::NoMemory, disks)) => (Ending::NoMemory, only(disks)),
         Ok(world) => {
-            let mut cluster = Cluster::new(alloc, world);
-            let mut reader = reader;
-            let drove = drive(alloc, &mut reader, source, sink, &mut cluster, lines);
-            (Ending::of(drove), cluster.close())
+            let (drove, world) = drive(alloc, source, sink, world, lines);
+            (Ending::of(drove), only(world.close()))
         }
     }
 }
@@ -62,8 +71,9 @@ fn work<S: Source, K: Sink, Y: Yard>(
     sink: &mut K,
     yard: &mut Y,
 ) -> Ending
-    ensures works { Works Y.Store.seen Y.Store.faults (Y.handed yard.old) (Y.handed yard.new) (Y.returned yard.old) (Y.returned yard.new)
-        (S.left source.old) (S.left source.new) (K.contents sink.old) (K.contents sink.new) result }
+    ensures works { Works Y.Store.seen Y.Store.faults Y.Store.settled
+        (record { handed0 = Y.handed yard.old; handed1 = Y.handed yard.new; returned0 = Y.returned yard.old; returned1 = Y.returned yard.new })
+        (record { left0 = S.left source.old; left1 = S.left source.new; held0 = K.contents sink.old; held1 = K.contents sink.new }) result }
     ensures read_later { S.faults source.old ≤ S.faults source.new }
     ensures write_later { K.faults sink.old ≤ K.faults sink.new }
     ensures read_fault { result ≡ endings.Read → Rose (S.faults source.old) (S.faults source.new) }
@@ -71,8 +81,7 @@ fn work<S: Source, K: Sink, Y: Yard>(
     ensures store_fault { result ≡ endings.Store → StoreFailed Y.Store.seen Y.Store.faults (Y.handed yard.old) (Y.handed yard.new)
         (Y.returned yard.old) (Y.returned yard.new) (Y.faults yard.old) (Y.faults yard.new) }
 {
-    let mut reader = LineReader::new(alloc);
-    let head = match read_plan(alloc, &mut reader, source) {
+    let (plan, lines) = match read_drive_head(alloc, source) {
         Ok(head) => head,
         Err(drove) => return Ending::of(drove),
     };
@@ -81,7 +90,7 @@ fn work<S: Source, K: Sink, Y: Yard>(
         Err(YardRefusal::Failed) => return Ending::Store,
         Err(YardRefusal::NoMemory) => return Ending::NoMemory,
     };
-    let (ending, disk) = serve(alloc, head, reader, source, sink, disk);
+    let (ending, disk) = serve(alloc, plan, lines, source, sink, disk);
     yard.give_back(0, 1, disk);
     ending
 }
@@ -110,14 +119,12 @@ pub fn porcupine<S: Source, K: Sink, Y: Yard>(
     sink: &mut K,
     yard: &mut Y,
 ) -> u8
-    ensures stored_stands { IsDrive words.now → KeepsStored Y.Store.seen (Y.returned yard.old) (Y.returned yard.new)
-        (S.left source.old) (S.left source.new) (K.contents sink.old) (K.contents sink.new) }
-    ensures shown_as_filed { IsDrive words.now → ShowsStored Y.Store.seen (Y.returned yard.old) (Y.returned yard.new)
-        (S.left source.old) (S.left source.new) (K.contents sink.old) (K.contents sink.new) }
-    ensures deleted_by_quit { IsDrive words.now → DeletesByQuit Y.Store.seen (Y.returned yard.old) (Y.returned yard.new)
-        (S.left source.old) (S.left source.new) (K.contents sink.old) (K.contents sink.new) }
-    ensures transcript_follows { IsDrive words.now → Follows Y.Store.seen Y.Store.faults (Y.handed yard.old) (Y.handed yard.new)
-        (Y.returned yard.old) (Y.returned yard.new) (S.left source.old) (S.left source.new) (K.contents sink.old) (K.contents sink.new) result }
+    ensures promises { IsDrive words.now → HasKept Y.Store.seen
+        (record { handed0 = Y.handed yard.old; handed1 = Y.handed yard.new; returned0 = Y.returned yard.old; returned1 = Y.returned yard.new })
+        (record { left0 = S.left source.old; left1 = S.left source.new; held0 = K.contents sink.old; held1 = K.contents sink.new }) }
+    ensures transcript_follows { IsDrive words.now → Follows Y.Store.seen Y.Store.faults Y.Store.settled
+        (record { handed0 = Y.handed yard.old; handed1 = Y.handed yard.new; returned0 = Y.returned yard.old; returned1 = Y.returned yard.new })
+        (record { left0 = S.left source.old; left1 = S.left source.new; held0 = K.contents sink.old; held1 = K.contents sink.new }) result }
     ensures words_refused { (IsDrive words.now → ⊥) → (result ≡ 1) × (S.left source.new ≡ S.left source.old) × (Y.handed yard.new ≡ Y.handed yard.old) }
     ensures words_told { (IsDrive words.now → ⊥) → RefusesWords (K.contents sink.old) (K.contents sink.new) (K.faults sink.old) (K.faults sink.new) }
     ensures words_taken { IsDrive words.now → result ≡ 1 → ⊥ }

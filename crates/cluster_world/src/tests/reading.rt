@@ -63,6 +63,14 @@ pub(super) fn fetch(
     })
 }
 
+// Whether this answer says that the proof is wrong.
+fn says_wrong(answer: &Option<Answer>) -> bool {
+    match answer {
+        Some(Answer::Wrong { stamp }) => *stamp == Stamp::new(0, 0, 0),
+        _ => false,
+    }
+}
+
 // Whether the login of the ticket's number is answered that the proof is wrong.
 fn is_wrong<D: Disk>(
     alloc: Global,
@@ -75,10 +83,7 @@ fn is_wrong<D: Disk>(
     ensures { IsTrue (is_up world.new) → ShowsGate D.seen world.new }
 {
     let answer = answer(alloc, world, seq, login(alloc, user, secret)?);
-    let Some(Answer::Wrong { stamp }) = answer else {
-        return Ok(false);
-    };
-    Ok(stamp == Stamp::new(0, 0, 0))
+    Ok(says_wrong(&answer))
 }
 
 // Whether the message of this number is listed, with the octets that each of these messages has.
@@ -88,6 +93,29 @@ fn is_listed(item: &Item, seq: u64) -> bool {
         && item.targets.mask() == 1
         && item.holders.mask() == 1
         && item.length == 137
+}
+
+// Whether this answer, to the ticket of this number, lists these messages.
+fn says_listed(answer: &Option<Answer>, seq: u64, numbers: &[u64]) -> bool {
+    match answer {
+        Some(
+            Answer::Listed {
+                login,
+                manager,
+                asked,
+                items,
+            },
+        ) => {
+            let own = *login == ticket_of(seq) && *manager == first_node() && asked.mask() == 1;
+            let listed = items
+                .as_slice()
+                .iter()
+                .zip(numbers.iter())
+                .all(|(item, number)| is_listed(item, *number));
+            own && items.len() == numbers.len() && listed
+        }
+        _ => false,
+    }
 }
 
 // Whether bob's login of the ticket's number lists these messages.
@@ -101,22 +129,7 @@ pub(super) fn lists<D: Disk>(
     ensures { IsTrue (is_up world.new) → ShowsGate D.seen world.new }
 {
     let answer = answer(alloc, world, seq, login(alloc, b"bob", b"open sesame")?);
-    let Some(Answer::Listed {
-        login,
-        manager,
-        asked,
-        items,
-    }) = answer
-    else {
-        return Ok(false);
-    };
-    let own = login == ticket_of(seq) && manager == first_node() && asked.mask() == 1;
-    let listed = items
-        .as_slice()
-        .iter()
-        .zip(numbers.iter())
-        .all(|(item, number)| is_listed(item, *number));
-    Ok(own && items.len() == numbers.len() && listed)
+    Ok(says_listed(&answer, seq, numbers))
 }
 
 // Whether the fetch of the ticket's number gives these octets, of a message of 137.

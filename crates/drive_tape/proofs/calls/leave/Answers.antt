@@ -1,14 +1,15 @@
-use Rattle.std.proofs.Common.{refl}
-use Rattle.drive_tape.proofs.CallsLeft.{left_at, left_short}
+use Rattle.std.proofs.Common.{ℕ, subst}
+use Rattle.cluster_world.specs.Outcomes.{IsStep}
+use Rattle.cluster_world.specs.declared.step.Step.TheVariants.{Begin}
+use Rattle.drive_tape.proofs.Calling.{user_left}
 use Rattle.drive_tape.proofs.calls.leave.Goals as goal
-use Rattle.drive_tape.proofs.calls.leave.Goals.{in-Ok-Noted, in-Err-NoMemory}
+
+pub returns-in-Ok-Noted-clause-left : goal.returns-in-Ok-Noted-clause-left
+returns-in-Ok-Noted-clause-left g c start outcomes k user leave at =
+    user_left g.D.Disk.seen g.D.Disk.faults start c.args.world.now c.step.new.self outcomes k c.args.call user c.step.result leave at
+    (subst (λ (n : ℕ). IsStep g.D.Disk.seen g.D.Disk.faults c.step.result (Begin n c.args.call) c.args.world.now c.step.new.self) c.only_node-node.ensures (record { did = c.step.ensures.stepped; count = c.step.ensures.counted; told = c.step.ensures.told; names = c.step.ensures.names; numbers = c.step.ensures.numbers })) c.step.ensures.quiet
 
 pub returns-clause-left : goal.returns-clause-left
-returns-clause-left g c = λ start site own user login is. elim c.match-step.branch [
-  | in-Ok-Noted w ↦ rw w.result-is (let did = rw w.in-Ok-Noted.field-0-is at w.in-Ok-Noted.ensures.stepped in
-      let by = rw c.only_node-node.ensures at did in
-      left_at g.D.Disk.seen g.D.Disk.faults start site _ _ is c.requires.up by.0 own by.3)
-  | in-Err-NoMemory w ↦ rw w.result-is (let did = rw w.in-Err-NoMemory.field-0-is at w.in-Err-NoMemory.ensures.stepped in
-      let by = rw c.only_node-node.ensures at did in
-      left_short g.D.Disk.seen g.D.Disk.faults start site _ _ is c.requires.up c.step.ensures.told own c.args.user c.args.login (user, login, refl) w.in-Err-NoMemory.field-0-0 by)
-]
+returns-clause-left g c start outcomes k user leave at =
+    user_left g.D.Disk.seen g.D.Disk.faults start c.args.world.now c.step.new.self outcomes k c.args.call user c.step.result leave at
+    (subst (λ (n : ℕ). IsStep g.D.Disk.seen g.D.Disk.faults c.step.result (Begin n c.args.call) c.args.world.now c.step.new.self) c.only_node-node.ensures (record { did = c.step.ensures.stepped; count = c.step.ensures.counted; told = c.step.ensures.told; names = c.step.ensures.names; numbers = c.step.ensures.numbers })) c.step.ensures.quiet

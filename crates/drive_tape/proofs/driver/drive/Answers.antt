@@ -1,52 +1,43 @@
-use Rattle.std.proofs.Common.{arith, ◌≡◌, ◌+◌, ◌^◌, length}
-use Rattle.mail_model.specs.Site.{opening}
-use Rattle.drive_tape.proofs.Runs.{start, goes_on, stops}
-use Rattle.mail_model.proofs.DeletedLaw.{runs_strike_as_marked}
-use Rattle.mail_model.proofs.GoneLaw.{runs_drop_gone}
-use Rattle.drive_tape.proofs.Booked.{booked}
-use Rattle.drive_tape.proofs.Marked.{marked, dropped}
+use Rattle.std.proofs.Common.{refl, sym, ap, ◌∙◌, length, arith, Err}
+use Rattle.cluster_world.specs.World.{plan_of}
+use Rattle.drive_tape.proofs.Drives.{progress_start, goes_on, stops}
 use Rattle.drive_tape.proofs.driver.drive.Goals as goal
 
 pub loop-handled-init : goal.loop-handled-init
-loop-handled-init g c =
-    let size : length c.args.reader.now.pending.items + c.limit.new.self.left ≡ 2 ^ 40 = omega (arith, c.limit.ensures.left, c.requires.short) in
-    rw c.limit.ensures.pending (record {
-      progress = start g.D.Disk.seen g.D.Disk.faults _ _ _ _ _ size;
-      ready = c.requires.ready;
-      unread = omega (arith, size);
-      read_later = omega arith;
-      write_later = omega arith;
-    })
+loop-handled-init g c = record {
+  ready = record { one = c.requires.one; gate = c.requires.gate; settled = c.requires.settled };
+  plan = refl;
+  tickets = omega (arith, ap length c.new.ensures.tickets, ap length c.new.ensures.talkers);
+  progress = λ begins. progress_start _ _ _ _ _ _ begins refl c.new.ensures.talkers c.new.ensures.tickets c.new.ensures.standing;
+  unread = omega arith;
+  read_later = omega arith;
+  write_later = omega arith;
+}
 
 pub loop-handled-preserved : goal.loop-handled-preserved
 loop-handled-preserved g c =
     let loop = c.loop-handled.invariant in
     let turn = c.in-Ok.ensures in
     record {
-      progress = goes_on g.D.Disk.seen g.D.Disk.faults _ _ _ _ _ _ _ _ _ _ _ _ _ _ _ loop.progress turn.turned;
       ready = turn.ready;
+      plan = turn.plan ∙ loop.plan;
+      tickets = turn.tickets;
+      progress = λ begins. let p = loop.progress begins in
+          goes_on _ _ _ _ _ _ _ _ _ _ _ _ _ _ _ p (plan_of c.loop-handled.cluster.world) loop.plan (turn.turned c.args.world p.point p.shows p.held_is p.quiet);
       unread = omega (arith, loop.unread, turn.less);
       read_later = omega (arith, loop.read_later, turn.read_later);
       write_later = omega (arith, loop.write_later, turn.write_later);
     }
 
-pub returns-in-Err-clause-only_steps_of_tape : goal.returns-in-Err-clause-only_steps_of_tape
-returns-in-Err-clause-only_steps_of_tape g c began first shows =
-    stops g.D.Disk.seen g.D.Disk.faults _ _ _ _ _ _ _ _ _ _ _ _ _ _ _ _ _ _ c.loop-handled.invariant.progress c.in-Err.ensures.turned c.at_line.ensures.stop c.at_line.ensures.number began first shows
+pub returns-in-Err-clause-drives : goal.returns-in-Err-clause-drives
+returns-in-Err-clause-drives g c begins =
+    let loop = c.loop-handled.invariant in
+    let p = loop.progress begins in
+    stops _ _ _ _ _ _ _ _ _ _ _ _ _ _ _ c.in-Err.stop c.at_line.result p (plan_of c.loop-handled.cluster.world) loop.plan (c.in-Err.ensures.turned c.args.world p.point p.shows p.held_is p.quiet)
+    c.at_line.ensures.stop c.at_line.ensures.number
 
-pub returns-in-Err-clause-acknowledged_as_told : goal.returns-in-Err-clause-acknowledged_as_told
-returns-in-Err-clause-acknowledged_as_told g c began plan tells one shows =
-    booked g.D.Disk.seen g.D.Disk.faults began _ _ _ _ _ _ plan tells _ _ one
-    (stops g.D.Disk.seen g.D.Disk.faults _ _ _ _ _ _ _ _ _ _ _ _ _ _ _ _ _ _ c.loop-handled.invariant.progress c.in-Err.ensures.turned c.at_line.ensures.stop c.at_line.ensures.number began (opening plan tells) shows)
-
-pub returns-in-Err-clause-struck_as_marked : goal.returns-in-Err-clause-struck_as_marked
-returns-in-Err-clause-struck_as_marked g c began plan tells one shows =
-    marked g.D.Disk.seen g.D.Disk.faults began _ _ _ _ _ _ plan tells _ _ one
-    (stops g.D.Disk.seen g.D.Disk.faults _ _ _ _ _ _ _ _ _ _ _ _ _ _ _ _ _ _ c.loop-handled.invariant.progress c.in-Err.ensures.turned c.at_line.ensures.stop c.at_line.ensures.number began (opening plan tells) shows)
-    runs_strike_as_marked
-
-pub returns-in-Err-clause-dropped_are_gone : goal.returns-in-Err-clause-dropped_are_gone
-returns-in-Err-clause-dropped_are_gone g c began plan tells one confirms shows =
-    dropped g.D.Disk.seen g.D.Disk.faults began _ _ _ _ _ _ plan tells _ _ one
-    (stops g.D.Disk.seen g.D.Disk.faults _ _ _ _ _ _ _ _ _ _ _ _ _ _ _ _ _ _ c.loop-handled.invariant.progress c.in-Err.ensures.turned c.at_line.ensures.stop c.at_line.ensures.number began (opening plan tells) shows)
-    runs_drop_gone confirms
+pub returns-in-Err-clause-read_fault : goal.returns-in-Err-clause-read_fault
+returns-in-Err-clause-read_fault g c begins is =
+    let loop = c.loop-handled.invariant in
+    let p = loop.progress begins in
+    omega (arith, c.in-Err.ensures.read_fault c.args.world p.point p.shows p.held_is p.quiet (ap Err (sym c.at_line.ensures.stop ∙ is)), loop.read_later)

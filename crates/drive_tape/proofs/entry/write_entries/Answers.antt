@@ -7,7 +7,8 @@ use Rattle.drive_tape.proofs.entry.write_entries.Goals as goal
 pub returns-in_err-line-clause-written : goal.returns-in_err-line-clause-written
 returns-in_err-line-clause-written g c =
     let p = err_from_is_err_and c.from_residual.result c.from_residual.ensures.1 in
-    rw p.1 (stops_before _ _ c.loop-entry.entry-index c.args.entries.now p.0 c.loop-entry.invariant.written)
+    let within : c.loop-entry.entry-index < length c.args.entries.now = omega (arith, c.loop-entry-test.true) in
+    rw p.1 (stops_before _ _ c.loop-entry.entry-index c.args.entries.now p.0 _ (slice_get_read _ _ _ _ refl within c.entry-item.is) c.loop-entry.invariant.written)
 
 pub returns-in_err-write_all-clause-written : goal.returns-in_err-write_all-clause-written
 returns-in_err-write_all-clause-written g c =

@@ -1,11 +1,15 @@
-use Rattle.std.proofs.Common.{inr, ap, ◌∙◌, arith, List, ℕ, Option}
-use Rattle.std.specs.Prelude.{is_some}
-use Rattle.porcupine_server.proofs.Serving.{ran}
+use Rattle.std.proofs.Common.{refl, sym, ap, ◌∙◌, ◌++◌, ◌∷◌, [], List}
+use Rattle.porcupine_server.proofs.Serving.{ran, is_empty, began, read_stop}
 use Rattle.porcupine_server.proofs.server.serve.Goals as goal
 
-pub returns-clause-serves : goal.returns-clause-serves
-returns-clause-serves g c =
-    let opened = c.in-Ok.ensures.opened in
-    rw c.close.ensures (inr (ran _ _ _ _ _ _ _ c.args.head _ _ c.args.disk _ _ c.of.ensures (omega (arith, opened.1))
-    (c.in-Ok.ensures.told ∙ ap (λ (o : Option (List ℕ)). is_some o) c.len.ensures.seen)
-    (c.drive-drove.ensures.only_steps_of_tape _ _ (c.new-cluster.ensures.shows c.args.head.plan opened.0))))
+pub returns-in-Ok-open-clause-serves : goal.returns-in-Ok-open-clause-serves
+returns-in-Ok-open-clause-serves g c =
+    ran _ _ _ _ _ _ _ _ _ c.len.new.self _ _ _ c.of.ensures c.len.ensures.seen c.in-Ok-eq0.ensures.quiet
+    (c.in-Ok-open.ensures.opened c.len.new.self (c.push_reserved.ensures.items ∙ ap (λ l. l ++ c.len.new.self ∷ []) c.in-Ok.ensures.items))
+    c.drive-drove.ensures.drives c.drive-drove.ensures.settled (is_empty _ _ c.in-Ok-eq0.ensures.length c.in-Ok-eq0.field-0-test) _ c.close.ensures c.only-in-Ok-open.ensures
+
+pub returns-in-Ok-open-clause-read_fault : goal.returns-in-Ok-open-clause-read_fault
+returns-in-Ok-open-clause-read_fault g c is =
+    c.drive-drove.ensures.read_fault
+    (began _ _ _ _ c.len.new.self _ (c.in-Ok-open.ensures.opened c.len.new.self (c.push_reserved.ensures.items ∙ ap (λ l. l ++ c.len.new.self ∷ []) c.in-Ok.ensures.items)))
+    (read_stop _ (sym c.of.ensures ∙ is))

@@ -1,29 +1,44 @@
-use Rattle.std.proofs.Common.{◌≡◌, ◌∙◌, ◌++◌, ◌∷◌, [], None, true, rules, refl, inl}
+use Rattle.std.proofs.Common.{◌≡◌, ◌+◌, ◌++◌, ℕ, List, Option, true, false, Err, refl, sym, ap, ◌∙◌, subst}
 use Rattle.std.proofs.lemmas.Result.{err_from_is_err_and}
-use Rattle.mail_model.specs.Site.{refused_session, session_at, replace}
-use Rattle.mail_model.specs.Steps.{with_octets}
-use Rattle.drive_tape.proofs.Taking.{stands_here, feeds, fed_again}
-use Rattle.drive_tape.proofs.Talks.{replaced}
+use Rattle.drive_tape.specs.declared.sessions.After.TheVariants.{Stays, Ends}
+use Rattle.drive_tape.proofs.Clusters.{said_on, said_ends, said_work, said_shows, stops_saying, went_on, stopped_on, held_point, as_wrote, as_gave}
 use Rattle.drive_tape.proofs.cluster.Cluster.say.Goals as goal
 
-pub returns-in_err-feed-clause-did : goal.returns-in_err-feed-clause-did
-returns-in_err-feed-clause-did g c start at shows =
-    let p = err_from_is_err_and c.from_residual.result c.from_residual.ensures.1 in
-    rw (p.1, p.2) (at, inl refl, shows.since)
+pub returns-in_err-write_reply-in-Stays-clause-said : goal.returns-in_err-write_reply-in-Stays-clause-said
+returns-in_err-write_reply-in-Stays-clause-said g c start p q onward saying held =
+    let e = err_from_is_err_and c.from_residual.result c.from_residual.ensures.1 in
+    let s = rw c.in-Stays.is at saying in
+    rw (e.1, e.2) (stops_saying _ _ start _ p q c.args.place onward Stays _ c.args.self.now s _ c.in_err-write_reply-in-Stays.field-0.0
+    (as_wrote p.held _ _ _ (c.args.place + 1) s.said false c.in_err-write_reply-in-Stays.field-0.0 held c.number_of.ensures (c.in_err-write_reply-in-Stays.ensures.written s.said s.lines s.says)))
 
-pub returns-in_err-feed-2-clause-did : goal.returns-in_err-feed-2-clause-did
-returns-in_err-feed-2-clause-did g c start at shows =
-    let p = err_from_is_err_and c.from_residual-in_err-feed-2.result c.from_residual-in_err-feed-2.ensures.1 in
-    rw (p.1, p.2) (at, inl refl, shows.since)
+pub returns-in_err-write_reply-in-Ends-clause-said : goal.returns-in_err-write_reply-in-Ends-clause-said
+returns-in_err-write_reply-in-Ends-clause-said g c start p q onward saying held =
+    let e = err_from_is_err_and c.from_residual-in_err-write_reply-in-Ends.result c.from_residual-in_err-write_reply-in-Ends.ensures.1 in
+    let s = rw c.in-Ends.is at saying in
+    rw (e.1, e.2) (stops_saying _ _ start _ p q c.args.place onward (Ends c.in-Ends.call) _ c.args.self.now s _ c.in_err-write_reply-in-Ends.field-0.0
+    (as_wrote p.held _ _ _ (c.args.place + 1) s.said true c.in_err-write_reply-in-Ends.field-0.0 held c.number_of-in-Ends.ensures (c.in_err-write_reply-in-Ends.ensures.written s.said s.lines s.says)))
 
-pub returns-clause-did : goal.returns-clause-did
-returns-clause-did g c start at shows =
-    let on : c.is_on.result ≡ true = search rules in
-    let stands : refused_session (session_at at.sessions c.args.session) ≡ None = rw on at (c.is_on.ensures at.sessions shows.talks) in
-    let here = stands_here (session_at at.sessions c.args.session) stands in
-    let first = with_octets here.0 c.args.text.now in
-    let talks = c.in_ok-feed-2.ensures.ok (replace at.sessions c.args.session first) first (c.in_ok-feed.ensures.ok at.sessions here.0 shows.talks here.1)
-    (replaced at.sessions c.args.session here.0 first here.1) in
-    let did = feeds g.D.Disk.seen g.D.Disk.faults start c.args.self.now c.feed-2.new.self at c.args.session (c.args.text.now ++ 13 ∷ 10 ∷ []) here.0 shows stands here.1
-    (fed_again c.feed-2.new.self.talkers.items at.sessions c.args.session here.0 c.args.text.now (13 ∷ 10 ∷ []) talks) (c.in_ok-feed-2.ensures.count ∙ c.in_ok-feed.ensures.count) in
-    (did.0, stands, did.1, did.2)
+pub returns-in_err-leave-in-Ends-clause-said : goal.returns-in_err-leave-in-Ends-clause-said
+returns-in_err-leave-in-Ends-clause-said g c start p q onward saying held =
+    let e = err_from_is_err_and c.from_residual-in_err-leave-in-Ends.result c.from_residual-in_err-leave-in-Ends.ensures.1 in
+    let s = rw c.in-Ends.is at saying in
+    let work = said_work _ _ start _ p q c.args.place onward (Ends c.in-Ends.call) _ c.args.self.now s _
+    (as_gave p.held _ _ _ (c.args.place + 1) s.said true held c.number_of-in-Ends.ensures (c.in_ok-write_reply-in-Ends.ensures.written s.said s.lines s.says)) in
+    rw (e.1, e.2) (stopped_on _ _ start _ p _ _ _ _ work
+    (c.in_err-leave-in-Ends.ensures.left start (held_point q _) c.args.place onward (said_shows _ _ start _ p q c.args.place onward (Ends c.in-Ends.call) _ c.args.self.now s _)
+    (said_ends _ _ start _ p q c.args.place onward _ c.args.self.now _ c.in-Ends.call s)))
+
+pub returns-in_ok-write_reply-in-Stays-clause-said : goal.returns-in_ok-write_reply-in-Stays-clause-said
+returns-in_ok-write_reply-in-Stays-clause-said g c start p q onward saying held =
+    let s = rw c.in-Stays.is at saying in
+    said_on _ _ start _ p q c.args.place onward _ c.args.self.now _ s
+    (as_gave p.held _ _ _ (c.args.place + 1) s.said false held c.number_of.ensures (c.in_ok-write_reply-in-Stays.ensures.written s.said s.lines s.says))
+
+pub returns-in_ok-leave-in-Ends-clause-said : goal.returns-in_ok-leave-in-Ends-clause-said
+returns-in_ok-leave-in-Ends-clause-said g c start p q onward saying held =
+    let s = rw c.in-Ends.is at saying in
+    let work = said_work _ _ start _ p q c.args.place onward (Ends c.in-Ends.call) _ c.args.self.now s _
+    (as_gave p.held _ _ _ (c.args.place + 1) s.said true held c.number_of-in-Ends.ensures (c.in_ok-write_reply-in-Ends.ensures.written s.said s.lines s.says)) in
+    went_on _ _ start _ p _ _ _ _ work
+    (c.in_ok-leave-in-Ends.ensures.left start (held_point q _) c.args.place onward (said_shows _ _ start _ p q c.args.place onward (Ends c.in-Ends.call) _ c.args.self.now s _)
+    (said_ends _ _ start _ p q c.args.place onward _ c.args.self.now _ c.in-Ends.call s))

@@ -1,28 +1,121 @@
-use Rattle.std.proofs.Common.{◌≡◌, ◌<◌, Some, refl, inl, inr, ⊎_elim}
-use Rattle.std.specs.Prelude.{slice_get}
+use Rattle.std.proofs.Common.{◌++◌, ◌≡◌, ◌<◌, ◌≤◌, ℕ, List, [], ◌∷◌, length, Option, Some, None, true, false, refl, sym, ap, ◌∙◌, subst, arith, inl, inr}
+use Rattle.std.specs.Prelude.{slice_get, slice_set}
 use Rattle.std.proofs.lemmas.Option.{slice_get_read}
-use Rattle.drive_tape.specs.Talks.{talker_rest}
-use Rattle.drive_tape.specs.declared.talker.Heard.TheVariants.{Idle}
-use Rattle.drive_tape.proofs.Talks.{sessions_hear, none_hears, rest_here, rest_set}
+use Rattle.std.proofs.lemmas.Result.{on_ok_weaker}
+use Rattle.session_model.specs.Sessions.{Session}
+use Rattle.session_model.specs.Talk.{IsOn}
+use Rattle.session_model.specs.Acts.Deed.{Hears}
+use Rattle.session_model.specs.Talk.Standing.{EndedClosed}
+use Rattle.call_tickets.specs.Moves.{HasEnded}
+use Rattle.drive_tape.specs.Talks.{Converse, Sits}
+use Rattle.drive_tape.specs.declared.talker.Talker.{Talker}
+use Rattle.call_tickets.specs.Moves.Due.{Nothing}
+use Rattle.drive_tape.specs.Speakers.{Matches}
+use Rattle.drive_tape.proofs.Talks.{matches_at, node_at, found_at, sit_none, is_on_so, it_is, it_is_not, converse_more, converse_get, converse_set, none_at, at_place, set_here, set_here_with, set_length, set_same, set_twice, within_get, is_ended, on_not_ended, did_node, some_same, asks_waits}
+use Rattle.drive_tape.proofs.Moving.{seated, stays, waits_on, left_none, left_set, left_was}
 use Rattle.drive_tape.proofs.sessions.Sessions.next.Goals as goal
 
-pub returns-in_default-clause-ok : goal.returns-in_default-clause-ok
-returns-in_default-clause-ok c old all = none_hears c.args.plan.now c.args.self.now.talkers.items old c.args.number all (c.in_default.ensures.none refl)
+pub returns-in-None-clause-moved : goal.returns-in-None-clause-moved
+returns-in-None-clause-moved c sessions plain all here =
+    let was = slice_get_read _ _ _ _ refl c.requires.within c.index_mut.ensures.value in (
+      sit_none _ sessions c.args.place plain all (was ∙ ap Some c.in-None.is) here,
+      record { says = c.requires.empty; talks = subst (λ (l : List (Option Talker)). Converse l sessions) (sym (set_same c.args.self.now.talkers.items c.args.place c.index_mut.result.now was)) all; count = refl },
+    )
 
-pub returns-clause-ok : goal.returns-clause-ok
-returns-clause-ok c old all =
-    let place = c.in-Some.ensures.some in
-    let there : slice_get c.args.self.now.talkers.items c.in-Some.place ≡ Some c.index_mut.result.now = slice_get_read _ _ _ _ refl place.1 c.index_mut.ensures.value in
-    sessions_hear c.args.plan.now c.args.self.now.talkers.items old c.args.number c.in-Some.place c.in_ok-heard.heard c.index_mut.result.now c.next.new.self place.0 all there
-    c.in_ok-heard.ensures.leads
+pub returns-in-Said-clause-moved : goal.returns-in-Said-clause-moved
+returns-in-Said-clause-moved c sessions plain all here =
+    let there = slice_get_read _ _ _ _ refl c.requires.within c.index_mut.ensures.value ∙ ap Some c.in-Some.is in
+    let moved = rw c.in-Said.is at c.in_ok-did-in-Some.ensures.moved in
+    let out = moved.1 ∙ ap (λ (l : List ℕ). l ++ moved.0) c.requires.empty in
+    let h = moved.2 plain (matches_at _ sessions c.args.place _ plain all there here) in
+    let node = did_node c.args.plan.now plain (Hears h.one) h.one.reply h.after h.did ∙ node_at _ sessions c.args.place _ plain all there here in
+    let goes = c.after.ensures.goes_on sessions h.after c.next.new.self (set_here c.args.self.now.talkers.items c.args.place (Some c.next.new.self) c.requires.within) h.goes_on
+    (seated _ sessions c.args.place _ c.next.new.self plain h.after all there here h.goes_on (did_node c.args.plan.now plain (Hears h.one) h.one.reply h.after h.did)) node in
+    record { one = h.one; after = h.after; did = h.did; asks = h.asks; says = out ∙ h.says; lines = h.lines; talks = goes.0; goes_on = goes.1 }
 
-pub returns-clause-less : goal.returns-clause-less
-returns-clause-less c =
-    let place = c.in-Some.ensures.some in
-    let there : slice_get c.args.self.now.talkers.items c.in-Some.place ≡ Some c.index_mut.result.now = slice_get_read _ _ _ _ refl place.1 c.index_mut.ensures.value in
-    let was = rest_here c.args.self.now.talkers.items c.args.number c.in-Some.place c.index_mut.result.now place.0 there in
-    let now = rest_set c.args.self.now.talkers.items c.args.number c.in-Some.place c.index_mut.result.now c.next.new.self place.0 there in
-    ⊎_elim
-    (λ (idle : c.in_ok-heard.heard ≡ Idle). inl idle)
-    (λ (less : talker_rest c.next.new.self < talker_rest c.index_mut.result.now). inr (rw (was, now) less))
-    c.in_ok-heard.ensures.less
+pub returns-in-Said-clause-less : goal.returns-in-Said-clause-less
+returns-in-Said-clause-less c =
+    let there = slice_get_read _ _ _ _ refl c.requires.within c.index_mut.ensures.value ∙ ap Some c.in-Some.is in
+    let less = rw c.in-Said.is at c.in_ok-did-in-Some.ensures.less in
+    let now = left_set c.args.self.now.talkers.items c.args.place c.next.new.self c.requires.within in
+    let was = left_was c.args.self.now.talkers.items c.args.place c.in-Some.talker there in
+    let strictly = less.0 tt in
+    ((λ busy. omega (arith, c.after.ensures.less, now, was, strictly)), omega (arith, c.after.ensures.less, now, was, less.1))
+
+pub returns-in-Begin-clause-moved : goal.returns-in-Begin-clause-moved
+returns-in-Begin-clause-moved c sessions plain all here =
+    let there = slice_get_read _ _ _ _ refl c.requires.within c.index_mut.ensures.value ∙ ap Some c.in-Some.is in
+    let moved = rw c.in-Begin.is at c.in_ok-did-in-Some.ensures.moved in
+    let out = moved.1 ∙ ap (λ (l : List ℕ). l ++ moved.0) c.requires.empty in
+    let h = moved.2 plain (matches_at _ sessions c.args.place _ plain all there here) in
+    let waits = asks_waits c.args.plan.now plain h.2.one h.2.one.reply h.2.after h.0 h.2.did h.2.asks in (
+      h.0,
+      h.1,
+      record {
+        one = h.2.one;
+        after = h.2.after;
+        did = h.2.did;
+        asks = h.2.asks;
+        says = out ∙ h.2.says;
+        lines = h.2.lines;
+        talks = seated _ sessions c.args.place _ c.next.new.self plain h.2.after all there here h.2.goes_on (did_node c.args.plan.now plain (Hears h.2.one) h.2.one.reply h.2.after h.2.did);
+        goes_on = (waits_on h.2.after waits.0 h.0 waits.1, refl);
+      },
+    )
+
+pub returns-in-Begin-clause-less : goal.returns-in-Begin-clause-less
+returns-in-Begin-clause-less c =
+    let there = slice_get_read _ _ _ _ refl c.requires.within c.index_mut.ensures.value ∙ ap Some c.in-Some.is in
+    let less = rw c.in-Begin.is at c.in_ok-did-in-Some.ensures.less in
+    let now = left_set c.args.self.now.talkers.items c.args.place c.next.new.self c.requires.within in
+    let was = left_was c.args.self.now.talkers.items c.args.place c.in-Some.talker there in
+    let strictly = less.0 tt in
+    ((λ busy. omega (arith, now, was, strictly)), omega (arith, now, was, less.1))
+
+pub returns-in-Wait-clause-moved : goal.returns-in-Wait-clause-moved
+returns-in-Wait-clause-moved c sessions plain all here =
+    let there = slice_get_read _ _ _ _ refl c.requires.within c.index_mut.ensures.value ∙ ap Some c.in-Some.is in
+    let moved = rw c.in-Wait.is at c.in_ok-did-in-Some.ensures.moved in
+    let out = moved.1 ∙ ap (λ (l : List ℕ). l ++ moved.0) c.requires.empty in
+    let h = moved.2 plain (matches_at _ sessions c.args.place _ plain all there here) in
+    (h.0, record { says = out ∙ h.1; talks = stays _ sessions c.args.place _ c.next.new.self plain all there here h.2; count = refl })
+
+pub returns-in-Wait-clause-less : goal.returns-in-Wait-clause-less
+returns-in-Wait-clause-less c =
+    let there = slice_get_read _ _ _ _ refl c.requires.within c.index_mut.ensures.value ∙ ap Some c.in-Some.is in
+    let less = rw c.in-Wait.is at c.in_ok-did-in-Some.ensures.less in
+    let now = left_set c.args.self.now.talkers.items c.args.place c.next.new.self c.requires.within in
+    let was = left_was c.args.self.now.talkers.items c.args.place c.in-Some.talker there in
+    ((λ busy. absurd busy), omega (arith, now, was, less.1))
+
+pub returns-in-Idle-clause-moved : goal.returns-in-Idle-clause-moved
+returns-in-Idle-clause-moved c sessions plain all here =
+    let there = slice_get_read _ _ _ _ refl c.requires.within c.index_mut.ensures.value ∙ ap Some c.in-Some.is in
+    let moved = rw c.in-Idle.is at c.in_ok-did-in-Some.ensures.moved in
+    let out = moved.1 ∙ ap (λ (l : List ℕ). l ++ moved.0) c.requires.empty in
+    let h = moved.2 plain (matches_at _ sessions c.args.place _ plain all there here) in
+    (h.0, record { says = out ∙ h.1; talks = stays _ sessions c.args.place _ c.next.new.self plain all there here h.2; count = refl })
+
+pub returns-in-Idle-clause-less : goal.returns-in-Idle-clause-less
+returns-in-Idle-clause-less c =
+    let there = slice_get_read _ _ _ _ refl c.requires.within c.index_mut.ensures.value ∙ ap Some c.in-Some.is in
+    let less = rw c.in-Idle.is at c.in_ok-did-in-Some.ensures.less in
+    let now = left_set c.args.self.now.talkers.items c.args.place c.next.new.self c.requires.within in
+    let was = left_was c.args.self.now.talkers.items c.args.place c.in-Some.talker there in
+    ((λ busy. absurd busy), omega (arith, now, was, less.1))
+
+pub returns-in-End-clause-moved : goal.returns-in-End-clause-moved
+returns-in-End-clause-moved c sessions plain all here =
+    let there = slice_get_read _ _ _ _ refl c.requires.within c.index_mut.ensures.value ∙ ap Some c.in-Some.is in
+    let moved = rw c.in-End.is at c.in_ok-did-in-Some.ensures.moved in
+    let out = moved.1 ∙ ap (λ (l : List ℕ). l ++ moved.0) c.requires.empty in
+    let h = moved.2 plain (matches_at _ sessions c.args.place _ plain all there here) in
+    (h.0, record { says = out ∙ h.1; talks = stays _ sessions c.args.place _ c.next.new.self plain all there here h.2; count = refl })
+
+pub returns-in-End-clause-less : goal.returns-in-End-clause-less
+returns-in-End-clause-less c =
+    let there = slice_get_read _ _ _ _ refl c.requires.within c.index_mut.ensures.value ∙ ap Some c.in-Some.is in
+    let less = rw c.in-End.is at c.in_ok-did-in-Some.ensures.less in
+    let now = left_set c.args.self.now.talkers.items c.args.place c.next.new.self c.requires.within in
+    let was = left_was c.args.self.now.talkers.items c.args.place c.in-Some.talker there in
+    ((λ busy. absurd busy), omega (arith, now, was, less.1))

@@ -1,0 +1,137 @@
+-- Where the work on a tape is, and how it goes from there: acts, the steps that they led to, and what they wrote.
+use Rattle.std.specs.Prelude.{◌≡◌, ◌≢◌, ◌⊎◌, ℕ, true, false, Bool, Result, Ok, Err, List, [], ◌∷◌, ◌++◌, map, flat_map, All, ⊤, Option, None}
+use Rattle.std.specs.Io.KnownBytes.{Appends}
+use Rattle.mail_model.specs.Lines.{HasNoLf}
+use Rattle.mail_model.specs.Plan.{Plan}
+use Rattle.mail_model.specs.Transcript.{Entry, entry_line, written_of, all_of}
+use Rattle.call_tickets.specs.Moves.{HasEnded}
+use Rattle.session_model.specs.Sessions.{Session, session_at}
+use Rattle.session_model.specs.Acts.{Act, Acted}
+use Rattle.session_model.specs.Logs.{Asked, Answered, asked_by, answered_by}
+use Rattle.session_model.specs.Turns as turns
+use Rattle.session_model.specs.Turns.{Turn, Next}
+use Rattle.session_model.specs.Run.{Made, Stop, made_by, failed_in, MayHaveAsked, count_on}
+use Rattle.session_model.specs.Run.Stop.{SinkFailed, OutOfMemory, BehindLine}
+use Rattle.cluster_world.specs.Outcomes.{Outcome, Awaited, Makes, made_of, asked_in, answered_in}
+use Rattle.io_edge.specs.Causes.{Rose}
+use Rattle.cluster_world.specs.World.{plan_of, is_up, disk_of}
+use Rattle.cluster_world.specs.declared.world.World.{World}
+use Rattle.drive_tape.specs.declared.cluster.Cluster.{Cluster}
+use Rattle.drive_tape.specs.Parts.{IsCut}
+use Rattle.drive_tape.specs.Talks.{Converse, HaveTickets}
+use Rattle.drive_tape.specs.Worlds.{IsAt, IsSince}
+use Rattle.drive_tape.specs.declared.drove.Stop.{Stop as Why}
+use Rattle.drive_tape.specs.declared.drove.Stop.TheVariants as why
+
+-- What is under way, how the sessions stand, which nodes failed, what came of the steps, which calls are awaited, and what the sink holds.
+pub record Point : Type 0 where
+  pub turn : Turn
+  pub sessions : List Session
+  pub down : List ℕ
+  pub outcomes : List Outcome
+  pub awaited : List Awaited
+  pub held : Option (List ℕ)
+
+-- What came of the steps of these acts. A call that came to nothing is asked, and none of the cluster: it is lacking.
+pub record AreLinked (acts : List Act) (outcomes : List Outcome) (lacking : List Asked) (extra : List Made) : Type 0 where
+  pub made : map made_of outcomes ≡ flat_map made_by acts ++ extra
+  pub asked : flat_map asked_by acts ≡ flat_map asked_in outcomes ++ lacking
+  pub answered : flat_map answered_by acts ≡ flat_map answered_in outcomes
+
+-- the work went from one point to the other
+pub record Work (plan : Plan) (p q : Point) : Type 0 where
+  pub acts : List Act
+  pub outputs : List (List Entry)
+  pub outcomes : List Outcome
+  pub goes : turns.Goes plan p.turn p.sessions acts outputs q.turn q.sessions
+  pub linked : AreLinked acts outcomes [] []
+  pub came : q.outcomes ≡ p.outcomes ++ outcomes
+  pub failed : q.down ≡ p.down ++ failed_in acts
+  pub gave : Appends p.held q.held (written_of (all_of outputs))
+
+-- an act, and what it writes
+pub record OneAct (plan : Plan) (p : Point) (act : Act) (entries : List Entry) (outcomes : List Outcome) (turn : Turn) (sessions : List Session) : Type 0 where
+  pub next : Next p.turn p.sessions act turn
+  pub acted : Acted plan p.sessions act entries sessions
+  pub linked : AreLinked (act ∷ []) outcomes [] []
+
+-- nothing of it is missing, or lines of the last act
+abbrev pub IsTail : List (List Entry) → List Entry → Type 0
+IsTail outputs missing = (missing ≡ []) ⊎ ((before : List (List Entry)) × (front : List Entry) × (outputs ≡ before ++ (front ++ missing) ∷ []))
+
+-- what of the last act's lines may be missing
+abbrev pub MayLack : Stop → List Entry → List Asked → Type 0
+MayLack BehindLine missing lacking = ⊥
+MayLack SinkFailed missing lacking = (missing ≢ []) × (lacking ≡ [])
+MayLack OutOfMemory missing lacking = (lacking ≡ []) ⊎ ((one : Asked) × (lacking ≡ one ∷ []))
+
+-- the work went on from the point, and stopped: of what the last act writes a front was written
+pub record Cut (plan : Plan) (stop : Stop) (p : Point) (held : Option (List ℕ)) (outcomes : List Outcome) : Type 0 where
+  pub acts : List Act
+  pub outputs : List (List Entry)
+  pub turn : Turn
+  pub sessions : List Session
+  pub goes : turns.Goes plan p.turn p.sessions acts outputs turn sessions
+  pub new : List Outcome
+  pub lacking : List Asked
+  pub extra : List Made
+  pub linked : AreLinked acts new lacking extra
+  pub came : outcomes ≡ p.outcomes ++ new
+  pub asked : MayHaveAsked stop turn sessions extra
+  pub front : List Entry
+  pub missing : List Entry
+  pub parts : all_of outputs ≡ front ++ missing
+  pub tail : IsTail outputs missing
+  pub may : MayLack stop missing lacking
+  pub cut : List ℕ
+  pub is_cut : IsCut missing cut
+  pub gave : Appends p.held held (written_of front ++ cut)
+
+-- nobody stands
+abbrev pub AllEnded : List Session → Type 0
+AllEnded [] = ⊤
+AllEnded (session ∷ sessions) = HasEnded session.standing × AllEnded sessions
+
+-- the node is up exactly where it did not fail, and its sessions have ended where it did
+abbrev pub IsUp : Bool → List ℕ → List Session → Type 0
+IsUp up down sessions = ((up ≡ true) × (down ≡ [])) ⊎ ((up ≡ false) × (down ≡ 1 ∷ []) × AllEnded sessions)
+
+-- the cluster is at this point
+pub record Shows {D : Type 0} (seen : D → Option (List ℕ)) (faults : D → ℕ) (start : World D) (cluster : Cluster D) (p : Point) : Type 0 where
+  pub at : IsAt seen faults start p.outcomes p.awaited cluster.world
+  pub talks : Converse cluster.sessions.talkers.items p.sessions
+  pub tickets : HaveTickets cluster.sessions.tickets.items p.sessions p.awaited
+  pub count : cluster.sessions.standing ≡ count_on p.sessions
+  pub up : IsUp (is_up cluster.world) p.down p.sessions
+
+-- the stop is this one of the definitions
+abbrev pub IsStop : Why → Stop → Type 0
+IsStop why.WriteFault stop = stop ≡ SinkFailed
+IsStop why.NoMemory stop = stop ≡ OutOfMemory
+IsStop other stop = ⊥
+
+-- a node failed only where its disk did, or where the disk does not tell what it holds
+abbrev pub HasCauses : {D : Type 0} → (D → Option (List ℕ)) → (D → ℕ) → World D → List ℕ → World D → Type 0
+HasCauses seen faults start down last = (down ≡ []) ⊎ Rose (faults (disk_of start)) (faults (disk_of last)) ⊎ (seen (disk_of start) ≡ None)
+
+-- the work stopped
+pub record Stopped {D : Type 0} (seen : D → Option (List ℕ)) (faults : D → ℕ) (start : World D) (plan : Plan) (p : Point) (reason : Why) (held : Option (List ℕ)) (world : World D) : Type 0 where
+  pub stop : Stop
+  pub is : IsStop reason stop
+  pub outcomes : List Outcome
+  pub cut : Cut plan stop p held outcomes
+  pub cause : HasCauses seen faults start (p.down ++ failed_in cut.acts) world
+  pub since : IsSince seen faults start outcomes world
+
+-- the work went on to a point at which this is so
+pub record WentOn {D : Type 0} (seen : D → Option (List ℕ)) (faults : D → ℕ) (start : World D) (plan : Plan) (p : Point) (so : Point → Type 0) (held : Option (List ℕ)) (cluster : Cluster D) : Type 0 where
+  pub q : Point
+  pub work : Work plan p q
+  pub held_is : q.held ≡ held
+  pub shows : Shows seen faults start cluster q
+  pub so_is : so q
+
+-- what was done from a point on
+abbrev pub Goes : {D T : Type 0} → (D → Option (List ℕ)) → (D → ℕ) → World D → Plan → Point → (Point → Type 0) → Result T Why → Option (List ℕ) → Cluster D → Type 0
+Goes seen faults start plan p so (Ok _) held cluster = WentOn seen faults start plan p so held cluster
+Goes seen faults start plan p so (Err reason) held cluster = Stopped seen faults start plan p reason held cluster.world

@@ -1,0 +1,62 @@
+-- The promises to clients, over the octets that the program read and wrote and the store that it gave back.
+use Rattle.std.specs.Prelude.{◌≡◌, ◌⊎◌, ℕ, List, [], ◌∷◌, ◌++◌, flat_map, map, All, Option, Some, is_some}
+use Rattle.std.specs.Io.KnownBytes.{Consumes, Appends}
+use Rattle.io_edge.specs.Yards.{Adds}
+use Rattle.mail_model.specs.Lines.{HasNoLf, ended}
+use Rattle.mail_model.specs.Plan.{Plan}
+use Rattle.mail_model.specs.Tape.{Draft, empty_draft, planned, tape_plan_line}
+use Rattle.mail_model.specs.Tape.PlanLine.{Go}
+use Rattle.mail_model.specs.Transcript.{Entry, entry_line, written_of}
+use Rattle.mail_model.specs.Record.{Record}
+use Rattle.mail_model.specs.Listing.{octets_in}
+use Rattle.mail_model.specs.Book.{BookEntry}
+use Rattle.mail_model.specs.Shown.{lines_to}
+use Rattle.session_model.specs.Acts.{Act}
+use Rattle.session_model.specs.Logs.{Asked}
+use Rattle.session_model.specs.Run.{Stop}
+use Rattle.session_model.specs.Kept.{KeepsPromises}
+use Rattle.drive_tape.specs.Plans.{DraftsTo}
+use Rattle.porcupine_server.specs.Works.{Stores, Ends}
+
+-- The octets begin with plan lines, `go`, and these run lines.
+pub record IsTape (octets : List ℕ) (plan : Plan) (lines : List (List ℕ)) : Type 0 where
+  pub head : List (List ℕ)
+  pub draft : Draft
+  pub go : List ℕ
+  pub others : List ℕ
+  pub whole : octets ≡ flat_map ended head ++ (ended go ++ (flat_map ended lines ++ others))
+  pub head_each : All HasNoLf head
+  pub go_one : HasNoLf go
+  pub each : All HasNoLf lines
+  pub drafts : DraftsTo empty_draft head draft
+  pub goes : tape_plan_line go ≡ Some Go
+  pub plan_is : planned draft ≡ Some plan
+
+-- The octets are the lines of these entries; a last line that was cut short counts as not written.
+pub record IsTranscript (octets : List ℕ) (entries : List Entry) : Type 0 where
+  pub cut : List ℕ
+  pub whole : octets ≡ written_of entries ++ cut
+  pub lines : All HasNoLf (map entry_line entries)
+  pub rest : HasNoLf cut
+
+-- The run lines that were handled, over the store that was given back, with what its records say: of these all promises are kept.
+pub record KeepsAll {D : Type 0} (seen : D → Option (List ℕ)) (given : D) (read : List ℕ) (entries : List Entry) : Type 0 where
+  pub plan : Plan
+  pub lines : List (List ℕ)
+  pub tape : IsTape read plan lines
+  pub stop : Stop
+  pub records : List Record
+  pub book : List BookEntry
+  pub acts : List Act
+  pub begun : List Asked
+  pub promises : KeepsPromises plan (is_some (seen given)) stop lines entries (seen given ∷ []) (records ∷ []) (λ id. octets_in id records) book acts begun
+
+-- No session said anything; or the store was given back, and all promises are kept.
+pub record HasKept {D : Type 0} (seen : D → Option (List ℕ)) (stores : Stores D) (ends : Ends) : Type 0 where
+  pub read : List ℕ
+  pub written : List ℕ
+  pub entries : List Entry
+  pub took : Consumes ends.left0 ends.left1 read
+  pub gave : Appends ends.held0 ends.held1 written
+  pub transcript : IsTranscript written entries
+  pub promise : ((k : ℕ) → lines_to k entries ≡ []) ⊎ ((given : D) × Adds stores.returned0 stores.returned1 (0, 1, given) × KeepsAll seen given read entries)

@@ -1,0 +1,17 @@
+//! replica_push: what a node does with its objects and its update log as a letter of them is heard.
+//!
+//! A state that is pushed is joined to what stands, and the join is noted for its targets where it differs. An
+//! acknowledgement takes its sender out of an entry of that very state, and takes the entry out with the last one. A state
+//! that is retired loses its entry. `widen` gives a copy that is here one target more.
+//!
+//! Each call changes the table and the log together, or neither of them: where memory is wanting, both are as before.
+//! What is to be recorded is answered; this crate knows nothing of disks.
+#![tactic(auto)]
+
+mod acks;
+mod pushes;
+mod wider;
+
+pub use acks::{hear_ack, hear_retired};
+pub use pushes::hear_push;
+pub use wider::widen;
