@@ -1,0 +1,242 @@
+// Small tapes with what the description of tapes gives for them, and each public call once.
+ghost use Rattle.std.specs.Prelude.{◌≡◌, IfSome, []};
+
+use crate::reader::next_line;
+use crate::{Drove, Entry, LineStop, Row, TapeFault, drive, read_drive_head, write_entries};
+use cluster_world::{Entry as BookEntry, World};
+use io_edge::faulty::{FaultyDisk, FaultySink, FaultySource};
+use io_edge::{Disk, PlainDisk, Sink, SliceSource, Source, VecSink};
+use mail_base::Octets;
+use std::alloc::{AllocError, Global};
+use std::test::Fail;
+
+// In another order than the usual one, and with two users.
+const PLAN: &[u8] =
+    b"user alice a\npostmaster carol\nbuckets 1\ncopies 1 1\nuser carol c\nnodes 1\ngo\n";
+
+const MESSAGE: &[u8] =
+    b"open smtp 1\nsay 1 HELO c.example\nsay 1 MAIL FROM:<>\nsay 1 RCPT TO:<postmaster>\nsay 1 RCPT TO:<alice>\nsay 1 DATA\nsay 1 Subject: hi\nsay 1\nsay 1 hello\nsay 1 .\n";
+
+const ASKED: &[u8] =
+    b"1 220 node1 Porcupine ready\n1 250 node1\n1 250 sender ok\n1 250 recipient ok\n1 250 recipient ok\n1 354 end with a line that is a single period\n";
+
+fn joined(alloc: Global, front: &[u8], rest: &[u8]) -> Result<Vec<u8>, AllocError> {
+    let mut octets = front.to_vec(alloc)?;
+    octets.extend_from_slice(rest)?;
+    Ok(octets)
+}
+
+// What the book says: how many copies were acknowledged, were to be deleted, and were dropped, and how many times a node
+// went down.
+#[derive(Clone, Copy, Debug, PartialEq, Eq)]
+struct Counts {
+    acked: u32,
+    struck: u32,
+    dropped: u32,
+    down: u32,
+}
+
+fn none() -> Counts {
+    Counts {
+        acked: 0,
+        struck: 0,
+        dropped: 0,
+        down: 0,
+    }
+}
+
+fn counted_in(book: &[BookEntry]) -> Counts {
+    let mut found = none();
+    for entry in book {
+        match entry {
+            BookEntry::Acked { .. } => found.acked = found.acked.saturating_add(1),
+            BookEntry::Struck { .. } => found.struck = found.struck.saturating_add(1),
+            BookEntry::Dropped { .. } => found.dropped = found.dropped.saturating_add(1),
+            BookEntry::Down { .. } => found.down = found.down.saturating_add(1),
+        }
+    }
+    found
+}
+
+// What the tape leads to on that disk, and the counts of the book.
+fn run<S: Source, K: Sink, D: Disk + Drop>(
+    alloc: Global,
+    source: &mut S,
+    sink: &mut K,
+    disk: D,
+) -> (Drove, Counts)
+    requires { IfSome (D.seen disk) (λ held. held ≡ []) }
+{
+    let (plan, from) = match read_drive_head(alloc, source) {
+        Ok(head) => head,
+        Err(answer) => return (answer, none()),
+    };
+    let Ok(mut disks) = Vec::with_capacity(alloc, 1) else {
+        return (Drove::NoMemory(from), none());
+    };
+    disks.push_reserved(disk);
+    let Ok(world) = World::open(alloc, plan, disks) else {
+        return (Drove::NoMemory(from), none());
+    };
+    let (answer, world) = drive(alloc, source, sink, world, from);
+    let counted = counted_in(world.book().entries());
+    let _disks = world.close();
+    (answer, counted)
+}
+
+#[test]
+fn a_message_is_stored_or_the_disk_fails(rt: HostRuntime) -> Result<(), Fail> {
+    let alloc = rt.alloc();
+    let stored: &[u8] = b"1 250 stored\n2 220 node1 Porcupine ready\n";
+    let fallen: &[u8] = b"* fault 1\n1 421 node1 down\n* 1 closed\n";
+    let whole = Counts { acked: 2, ..none() };
+    let gone = Counts { down: 1, ..none() };
+    // The opening makes six disk calls, and the message for two mailboxes twelve.
+    let cases: [(u64, Drove, &[u8], Counts); 4] = [
+        (0, Drove::Ended, stored, whole),
+        (7, Drove::BadTape(18, TapeFault::NodeDown), fallen, gone),
+        (18, Drove::BadTape(18, TapeFault::NodeDown), fallen, gone),
+        (19, Drove::Ended, stored, whole),
+    ];
+    for (call, wanted, transcript, counted) in cases {
+        let front = joined(alloc, PLAN, MESSAGE)?;
+        let tape = joined(alloc, &front, b"open smtp 1\nend\n")?;
+        let mut sink = VecSink::new(alloc);
+        let disk = FaultyDisk::new(PlainDisk::new(alloc), call);
+        assert_eq!(rt;
+            run(alloc, &mut SliceSource::new(&tape), &mut sink, disk),
+            (wanted, counted)
+        );
+        assert_eq!(rt;
+            sink.held.as_slice(),
+            joined(alloc, ASKED, transcript)?.as_slice()
+        );
+    }
+    Ok(())
+}
+
+// The reader of one of them has it deleted; and one that closes its session has not.
+const DELETED: &[u8] =
+    b"open pop 1\nsay 2 USER alice\nsay 2 PASS a\nsay 2 DELE 1\nopen pop 1\nsay 3 USER carol\nsay 3 PASS c\nsay 3 DELE 1\nclose 3\nsay 2 QUIT\nend\n";
+
+const MARKED: &[u8] =
+    b"1 250 stored\n2 +OK node1 ready <1.2.0@node1>\n2 +OK send PASS\n2 +OK maildrop open\n2 +OK message 1 deleted\n3 +OK node1 ready <1.3.0@node1>\n3 +OK send PASS\n3 +OK maildrop open\n3 +OK message 1 deleted\n";
+
+#[test]
+fn a_marked_message_is_deleted_or_the_disk_fails(rt: HostRuntime) -> Result<(), Fail> {
+    let alloc = rt.alloc();
+    let dropped: &[u8] = b"2 +OK bye\n* 2 closed\n";
+    let fallen: &[u8] =
+        b"* fault 1\n1 421 node1 down\n* 1 closed\n2 -ERR [SYS/TEMP] node1 down\n* 2 closed\n";
+    let whole = Counts {
+        acked: 2,
+        struck: 1,
+        dropped: 1,
+        down: 0,
+    };
+    let down = Counts {
+        acked: 2,
+        struck: 1,
+        dropped: 0,
+        down: 1,
+    };
+    // The Gone state takes four disk calls, behind the eighteen before it.
+    let cases: [(u64, &[u8], Counts); 4] = [
+        (0, dropped, whole),
+        (19, fallen, down),
+        (22, fallen, down),
+        (23, dropped, whole),
+    ];
+    for (call, transcript, counted) in cases {
+        let front = joined(alloc, PLAN, MESSAGE)?;
+        let tape = joined(alloc, &front, DELETED)?;
+        let mut sink = VecSink::new(alloc);
+        let disk = FaultyDisk::new(PlainDisk::new(alloc), call);
+        assert_eq!(rt;
+            run(alloc, &mut SliceSource::new(&tape), &mut sink, disk),
+            (Drove::Ended, counted)
+        );
+        let asked = joined(alloc, ASKED, MARKED)?;
+        assert_eq!(rt;
+            sink.held.as_slice(),
+            joined(alloc, &asked, transcript)?.as_slice()
+        );
+    }
+    Ok(())
+}
+
+#[test]
+fn streams_fail(rt: HostRuntime) -> Result<(), Fail> {
+    let alloc = rt.alloc();
+    let tape = joined(alloc, PLAN, b"open smtp 1\nsay 1 QUIT\n")?;
+    // Each octet of the tape is one read, and each line of the transcript is one write.
+    let last = tape.len() as u64 + 1;
+    let cases: [(u64, u64, Drove, &[u8]); 4] = [
+        (1, 0, Drove::ReadFault, b""),
+        (
+            last,
+            0,
+            Drove::ReadFault,
+            b"1 220 node1 Porcupine ready\n1 221 node1 closing\n* 1 closed\n",
+        ),
+        (0, 2, Drove::WriteFault(9), b"1 220 node1 Porcupine ready\n"),
+        (
+            0,
+            3,
+            Drove::WriteFault(9),
+            b"1 220 node1 Porcupine ready\n1 221 node1 closing\n",
+        ),
+    ];
+    for (read, write, wanted, transcript) in cases {
+        let mut source = FaultySource::new(SliceSource::new(&tape), read);
+        let mut sink = FaultySink::new(VecSink::new(alloc), write);
+        let (answer, _) = run(alloc, &mut source, &mut sink, PlainDisk::new(alloc));
+        assert_eq!(rt; answer, wanted);
+        assert_eq!(rt; sink.inner.held.as_slice(), transcript);
+    }
+    Ok(())
+}
+
+#[test]
+fn lines_are_cut(rt: HostRuntime) -> Result<(), Fail> {
+    let mut source = SliceSource::new(b"ab\r\ncd");
+    let mut room = 6;
+    match next_line(rt.alloc(), &mut source, &mut room) {
+        Ok(line) => assert_eq!(rt; line.octets(), b"ab\r".as_slice()),
+        Err(_) => panic!(rt; "no line"),
+    }
+    assert_eq!(rt; room, 2);
+    assert!(rt;
+        next_line(rt.alloc(), &mut source, &mut room).is_err_and(|why| why == LineStop::TooLong)
+    );
+    let mut more = 3;
+    assert!(rt;
+        next_line(rt.alloc(), &mut SliceSource::new(b"cd"), &mut more).is_err_and(|why| why
+            == LineStop::EndedEarly)
+    );
+    assert_eq!(rt; more, 1);
+    Ok(())
+}
+
+#[test]
+fn entries_are_written(rt: HostRuntime) -> Result<(), Fail> {
+    let alloc = rt.alloc();
+    let mut row = Row::new(alloc);
+    row.push(Entry::Said {
+        session: 12,
+        text: Octets::from_vec(b"a~\\\x7f\n".to_vec(alloc)?),
+    })?;
+    row.push(Entry::Event {
+        text: Octets::from_vec(b"fault 1".to_vec(alloc)?),
+    })?;
+    row.push(Entry::Refused {
+        text: Octets::from_vec(TapeFault::BadLine.name().to_vec(alloc)?),
+    })?;
+    let mut sink = VecSink::new(alloc);
+    assert_eq!(rt; write_entries(alloc, &mut sink, row.as_slice()), Ok(()));
+    assert_eq!(rt;
+        sink.held.as_slice(),
+        b"12 a~\\x5C\\x7F\\x0A\n* fault 1\n! BadLine\n".as_slice()
+    );
+    Ok(())
+}
