@@ -10,21 +10,22 @@ use Rattle.mail_base.specs.declared.item.Item.{Item}
 use Rattle.mail_base.specs.declared.proof.Proof.{Proof}
 use Rattle.mail_base.specs.declared.ticket.Ticket.{Ticket}
 use Rattle.cluster_world.specs.Index.{kept_in, place_in}
-use Rattle.cluster_world.specs.Reads.{MayEndBefore, HasRead, IsPartAt, AnswersLogin, AnswersFetch}
+use Rattle.disk_journal.specs.Reading.{MayEndBefore}
+use Rattle.cluster_world.specs.Reads.{HasRead, IsPartAt, AnswersLogin, AnswersFetch}
 use Rattle.cluster_world.specs.World.{plan_of, is_up, drawn_of, stamps_of, tickets_of, kept_of, disk_of, gate_of, book_of, standing_of}
 use Rattle.cluster_world.specs.Found.{FindsLogin, FindsPart}
 use Rattle.cluster_world.specs.Steps.{IsSound, Finds, StopsReading, call_of, nth_ticket}
-use Rattle.cluster_world.specs.Journal.{end_of}
-use Rattle.cluster_world.specs.declared.journal.Journal.{Journal}
+use Rattle.disk_journal.specs.Journal.{end_of}
+use Rattle.disk_journal.specs.declared.journal.Journal.{Journal}
 use Rattle.cluster_world.specs.declared.index.Index.{Index}
 use Rattle.cluster_world.specs.declared.step.Pending.TheVariants.{Found}
 use Rattle.mail_model.specs.Book.BookEntry.{WentDown}
 use Rattle.cluster_world.proofs.Recalled.{recalls_same}
-use Rattle.cluster_world.specs.declared.place.Place.{Place}
+use Rattle.disk_journal.specs.declared.place.Place.{Place}
 use Rattle.cluster_world.specs.declared.index.Kept.{Kept}
 use Rattle.cluster_world.specs.declared.world.World.{World}
-use Rattle.cluster_world.specs.declared.journal.JournalFault.{JournalFault}
-use Rattle.cluster_world.specs.declared.journal.JournalFault.TheVariants.{DiskFault, NotAJournal, TooLarge, NoMemory}
+use Rattle.disk_journal.specs.declared.fault.JournalFault.{JournalFault}
+use Rattle.disk_journal.specs.declared.fault.JournalFault.TheVariants.{DiskFault, NotAJournal, TooLarge, NoMemory}
 use Rattle.call_tickets.specs.declared.answer.Answer.{Answer}
 use Rattle.call_tickets.specs.declared.answer.Answer.TheVariants.{Listed, Wrong, Part, GoneAlready}
 use Rattle.cluster_world.proofs.Origins.{all_by_node_1, all_stated}

@@ -12,9 +12,7 @@ pub mod Deleting
 pub mod Delivered
 pub mod Down
 pub mod Falling
-pub mod Filled
 pub mod Found
-pub mod Gates
 pub mod Gone
 pub mod Heads
 pub mod Listings

@@ -16,9 +16,10 @@ use Rattle.mail_base.specs.Orders.{id_cmp}
 use Rattle.mail_base.specs.Items.{item_seen}
 use Rattle.cluster_world.specs.Index.{kept_seen, listed, place_in}
 use Rattle.cluster_world.specs.Fits.{Lies, IsKept}
-use Rattle.cluster_world.specs.Reads.{IsAtNode1, MayEndBefore}
+use Rattle.cluster_world.specs.Reads.{IsAtNode1}
+use Rattle.disk_journal.specs.Reading.{MayEndBefore}
 use Rattle.cluster_world.specs.Appends.{RecordsStand}
-use Rattle.cluster_world.specs.declared.place.Place.{Place}
+use Rattle.disk_journal.specs.declared.place.Place.{Place}
 use Rattle.cluster_world.specs.declared.index.Kept.{Kept}
 
 then_is : (a b : Ordering) → is_eq (ordering_then a b) ≡ (is_eq a && is_eq b)

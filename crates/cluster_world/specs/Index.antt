@@ -9,7 +9,7 @@ use Rattle.mail_model.specs.Listing.{is_same_id}
 use Rattle.mail_model.specs.PopReplies as replies
 use Rattle.mail_model.specs.Site.{nth_stamp}
 use Rattle.mail_base.specs.declared.item.Item.{Item}
-use Rattle.cluster_world.specs.declared.place.Place.{Place}
+use Rattle.disk_journal.specs.declared.place.Place.{Place}
 use Rattle.cluster_world.specs.declared.index.Index.{Index}
 use Rattle.cluster_world.specs.declared.index.Kept.{Kept}
 

@@ -11,9 +11,10 @@ use Rattle.cluster_world.specs.Index.{listed, place_in}
 use Rattle.cluster_world.specs.declared.index.Kept.{Kept}
 use Rattle.call_tickets.specs.declared.answer.Answer.{Answer}
 use Rattle.call_tickets.specs.declared.answer.Answer.TheVariants.{Listed, Wrong, Part, GoneAlready}
-use Rattle.cluster_world.specs.declared.place.Place.{Place}
-use Rattle.cluster_world.specs.declared.journal.JournalFault.{JournalFault}
-use Rattle.cluster_world.specs.declared.journal.JournalFault.TheVariants.{DiskFault, NotAJournal, TooLarge, NoMemory}
+use Rattle.disk_journal.specs.Reading.{MayEndBefore}
+use Rattle.disk_journal.specs.declared.place.Place.{Place}
+use Rattle.disk_journal.specs.declared.fault.JournalFault.{JournalFault}
+use Rattle.disk_journal.specs.declared.fault.JournalFault.TheVariants.{DiskFault, NotAJournal, TooLarge, NoMemory}
 
 -- the proof is right for the user of this name
 abbrev pub is_right : Plan → List ℕ → Proof → Bool
@@ -23,11 +24,6 @@ is_right plan user proof = opens plan user (secret_in proof)
 pub record IsAtNode1 (item : Item) : Type 0 where
   pub targets : item.targets ≡ 1
   pub holders : item.holders ≡ 1
-
--- the disk may give fewer octets than reach to this place: it tells that it holds no more, or tells nothing
-abbrev pub MayEndBefore : Option (List ℕ) → ℕ → Type 0
-MayEndBefore None end = ⊤
-MayEndBefore (Some held) end = length held < end
 
 -- what a read of this place gives: all its octets, or the disk failed or ended too early; want of memory comes before the disk is asked
 abbrev pub HasRead : Result (List ℕ) JournalFault → Place → Option (List ℕ) → ℕ → ℕ → Type 0

@@ -5,7 +5,7 @@ ghost use Rattle.std.specs.Cmp.Lexicographic.{pointwise, slice_cmp};
 ghost use Rattle.std.specs.BTreeMap.{get};
 ghost use Rattle.cluster_world.specs.Index.{kept_in, added_for, is_among, left_for, without};
 
-use crate::place::Place;
+use disk_journal::Place;
 use mail_base::{MsgId, Name};
 use std::alloc::{AllocError, Global};
 use std::collections::BTreeMap;
