@@ -37,16 +37,16 @@ ends_later None a b le early = tt
 ends_later (Some held) a b le early = omega (arith, le, early)
 
 -- a read of a part that failed
-pub read_failed : (fault : JournalFault) (row : List Kept) (id : Id) (start most : ℕ) (place part : Place) (seen : Option (List ℕ)) (before now : ℕ) → place_in id row ≡ Some place
+pub read_failed : (fault : JournalFault) (found : Option Place) (start most : ℕ) (place part : Place) (seen : Option (List ℕ)) (before now : ℕ) → found ≡ Some place
     → part.at ≡ place.at + min start place.length → part.length ≡ min most (place.length - start) → HasRead (Err fault) part seen before now
-    → AnswersFetch (Err fault) row id start most seen before now
-read_failed DiskFault row id start most place part seen before now found at size read =
+    → AnswersFetch (Err fault) found start most seen before now
+read_failed DiskFault found start most place part seen before now is at size read =
     let within : part.at + part.length ≤ place.at + place.length = omega (arith, at, size) in
     let cause : Rose before now ⊎ MayEndBefore seen (place.at + place.length) = ⊎_elim (λ (rose : Rose before now). inl rose) (λ early. inr (ends_later seen (part.at + part.length) (place.at + place.length) within early)) read.0 in
-    (place, found, cause, read.1)
-read_failed NotAJournal row id start most place part seen before now found at size read = read
-read_failed TooLarge row id start most place part seen before now found at size read = read
-read_failed NoMemory row id start most place part seen before now found at size read = read
+    (place, is, cause, read.1)
+read_failed NotAJournal found start most place part seen before now is at size read = read
+read_failed TooLarge found start most place part seen before now is at size read = read
+read_failed NoMemory found start most place part seen before now is at size read = read
 
 -- a read of a part that was made
 pub read_done : (octets : List ℕ) (start most : ℕ) (place part : Place) (seen : Option (List ℕ)) (before now : ℕ)
@@ -77,7 +77,7 @@ module _ {D : Type 0} (seen : D → Option (List ℕ)) (old : World D) where
 
   -- what a fetch was answered, over the records
   pub finds_part : (answer : Answer) (user : List ℕ) (id : Id) (start most before now : ℕ)
-      → AnswersFetch (Ok answer) (kept_of user old) id start most (seen (disk_of old)) before now → FindsPart seen answer user id start most old
+      → AnswersFetch (Ok answer) (place_in id (kept_of user old)) start most (seen (disk_of old)) before now → FindsPart seen answer user id start most old
   finds_part (Part octets whole) user id start most before now a = λ records fits.
       let place = a.0 in
       let found = found_at user records id (kept_of user old) place (fits.places user) a.1 in
@@ -95,13 +95,13 @@ module _ {D : Type 0} (seen : D → Option (List ℕ)) (old : World D) where
   finds_part answer user id start most before now a = absurd a
 
   -- the count of faults is what it was
-  pub fetched_quiet : (answer : Answer) (row : List Kept) (id : Id) (start most : ℕ) (told : Option (List ℕ)) (before now : ℕ) → AnswersFetch (Ok answer) row id start most told before now → now ≡ before
-  fetched_quiet (Part octets whole) row id start most told before now a = a.4
-  fetched_quiet GoneAlready row id start most told before now a = a.1
-  fetched_quiet answer row id start most told before now a = absurd a
+  pub fetched_quiet : (answer : Answer) (found : Option Place) (start most : ℕ) (told : Option (List ℕ)) (before now : ℕ) → AnswersFetch (Ok answer) found start most told before now → now ≡ before
+  fetched_quiet (Part octets whole) found start most told before now a = a.4
+  fetched_quiet GoneAlready found start most told before now a = a.1
+  fetched_quiet answer found start most told before now a = absurd a
 
   -- a world whose disk tells its octets has a read fail only where that disk failed
-  pub has_cause : (user : List ℕ) (id : Id) (start most before now : ℕ) → AnswersFetch (Err DiskFault) (kept_of user old) id start most (seen (disk_of old)) before now
+  pub has_cause : (user : List ℕ) (id : Id) (start most before now : ℕ) → AnswersFetch (Err DiskFault) (place_in id (kept_of user old)) start most (seen (disk_of old)) before now
       → IsSound seen old → Rose before now ⊎ (seen (disk_of old) ≡ None)
   has_cause user id start most before now a sound =
       let found = found_at user sound.records id (kept_of user old) a.0 (sound.fits.places user) a.1 in

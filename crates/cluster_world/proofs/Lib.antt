@@ -20,6 +20,7 @@ pub mod Origins
 pub mod Others
 pub mod Owed
 pub mod Pieces
+pub mod Placed
 pub mod Quiet
 pub mod Readings
 pub mod Recalled

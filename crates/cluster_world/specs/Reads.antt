@@ -1,13 +1,12 @@
 -- What reading a maildrop gives.
 use Rattle.std.specs.Prelude.{◌≡◌, ◌⊎◌, ℕ, Bool, ◌+◌, ◌-◌, ◌<◌, ◌≤◌, min, true, false, List, length, map, take, drop, ⊤, Option, Some, None, IfSome, Result, Ok, Err}
 use Rattle.io_edge.specs.Causes.{Rose}
-use Rattle.mail_model.specs.Identity.{Id}
 use Rattle.mail_model.specs.Plan.{Plan, opens}
 use Rattle.mail_base.specs.declared.item.Item.{Item}
 use Rattle.mail_base.specs.declared.proof.Proof.{Proof}
 use Rattle.call_tickets.specs.Seen.{secret_in}
 use Rattle.mail_base.specs.declared.ticket.Ticket.{Ticket}
-use Rattle.cluster_world.specs.Index.{listed, place_in}
+use Rattle.cluster_world.specs.Index.{listed}
 use Rattle.cluster_world.specs.declared.index.Kept.{Kept}
 use Rattle.call_tickets.specs.declared.answer.Answer.{Answer}
 use Rattle.call_tickets.specs.declared.answer.Answer.TheVariants.{Listed, Wrong, Part, GoneAlready}
@@ -46,14 +45,14 @@ pub record IsPartAt (place : Place) (start most : ℕ) (octets : List ℕ) (seen
   pub count : length octets ≡ min most (place.length - start)
   pub part : IfSome seen (λ held. octets ≡ take (min most (place.length - start)) (drop (place.at + min start place.length) held))
 
--- what a fetch is answered, over the user's messages in the index
-abbrev pub AnswersFetch : Result Answer JournalFault → List Kept → Id → ℕ → ℕ → Option (List ℕ) → ℕ → ℕ → Type 0
-AnswersFetch (Ok (Part octets whole)) row wanted start most seen before now =
-    (place : Place) × (place_in wanted row ≡ Some place) × (whole ≡ place.length) × IsPartAt place start most octets seen × (now ≡ before)
-AnswersFetch (Ok GoneAlready) row wanted start most seen before now = (place_in wanted row ≡ None) × (now ≡ before)
-AnswersFetch (Ok answer) row wanted start most seen before now = ⊥
-AnswersFetch (Err DiskFault) row wanted start most seen before now =
-    (place : Place) × (place_in wanted row ≡ Some place) × (Rose before now ⊎ MayEndBefore seen (place.at + place.length)) × (before ≤ now)
-AnswersFetch (Err NotAJournal) row wanted start most seen before now = ⊥
-AnswersFetch (Err TooLarge) row wanted start most seen before now = ⊥
-AnswersFetch (Err NoMemory) row wanted start most seen before now = now ≡ before
+-- what a fetch is answered of a message that was found at this place
+abbrev pub AnswersFetch : Result Answer JournalFault → Option Place → ℕ → ℕ → Option (List ℕ) → ℕ → ℕ → Type 0
+AnswersFetch (Ok (Part octets whole)) found start most seen before now =
+    (place : Place) × (found ≡ Some place) × (whole ≡ place.length) × IsPartAt place start most octets seen × (now ≡ before)
+AnswersFetch (Ok GoneAlready) found start most seen before now = (found ≡ None) × (now ≡ before)
+AnswersFetch (Ok answer) found start most seen before now = ⊥
+AnswersFetch (Err DiskFault) found start most seen before now =
+    (place : Place) × (found ≡ Some place) × (Rose before now ⊎ MayEndBefore seen (place.at + place.length)) × (before ≤ now)
+AnswersFetch (Err NotAJournal) found start most seen before now = ⊥
+AnswersFetch (Err TooLarge) found start most seen before now = ⊥
+AnswersFetch (Err NoMemory) found start most seen before now = now ≡ before

@@ -98,15 +98,8 @@ impl<D: Disk> World<D> {
     {
         self.book.reserve(1)?;
         self.standing.reserve(1)?;
-        match fetch_answer(
-            alloc,
-            &self.journal,
-            &mut self.disk,
-            self.index.kept(&user),
-            id,
-            from,
-            most,
-        ) {
+        let found = self.index.place(&user, id);
+        match fetch_answer(alloc, &self.journal, &mut self.disk, found, from, most) {
             Ok(answer) => Ok(self.stand(Pending::Found(answer))),
             Err(JournalFault::NoMemory) => Err(StepFault::NoMemory { down: None }),
             Err(JournalFault::DiskFault) => {

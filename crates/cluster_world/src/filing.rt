@@ -129,7 +129,8 @@ impl<D: Disk> World<D> {
         // So that want of memory is met before anything is written.
         self.book.reserve(1)?;
         self.standing.reserve(1)?;
-        self.index.reserve(alloc, deliver.users.as_slice())?;
+        self.index
+            .reserve(alloc, deliver.users.as_slice(), id_of(self.drawn + 1))?;
         match self.file(alloc, &deliver) {
             Ok(measure) => {
                 let filing = filing_of(self.drawn, deliver.users, measure);

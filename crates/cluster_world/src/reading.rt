@@ -1,7 +1,7 @@
 //! What a login and a fetch read: whether a proof is right, the listing of a maildrop, and a part of a message.
 ghost use Rattle.std.specs.Prelude.{◌≡◌, ◌⊎◌, ◌≤◌, ◌<◌, [], List, ℕ, map, Some, None, IfOk, IfSome, OnOk};
 ghost use Rattle.io_edge.specs.Causes.{Rose};
-ghost use Rattle.cluster_world.specs.Index.{listed, place_in};
+ghost use Rattle.cluster_world.specs.Index.{listed};
 ghost use Rattle.cluster_world.specs.Steps.{nth_ticket};
 ghost use Rattle.cluster_world.specs.Reads.{is_right, AnswersLogin, AnswersFetch, HasRead};
 
@@ -47,18 +47,6 @@ pub(crate) fn items_of(alloc: Global, row: &[Kept]) -> Result<Items, AllocError>
         items.push(listed(*kept))?;
     }
     Ok(items)
-}
-
-/// Where the octets of the first message of this id lie.
-pub(crate) fn place_of(row: &[Kept], id: MsgId) -> Option<Place>
-    ensures { result ≡ place_in id row.now }
-{
-    for kept in row {
-        if kept.id == id {
-            return Some(kept.place);
-        }
-    }
-    None
 }
 
 /// What the login is answered whose ticket has this number.
@@ -110,21 +98,21 @@ fn read_at<D: Disk>(
     }
 }
 
-/// What a fetch is answered: the octets behind `from` ones, `most` at most. It reads these octets and no others.
+/// What a fetch is answered of a message that was found at this place: the octets behind `from` ones, `most` at most. It
+/// reads these octets and no others.
 pub(crate) fn fetch_answer<D: Disk>(
     alloc: Global,
     journal: &Journal,
     disk: &mut D,
-    row: &[Kept],
-    id: MsgId,
+    found: Option<Place>,
     from: u64,
     most: u64,
 ) -> Result<Answer, JournalFault>
-    ensures answer { AnswersFetch result row.now id from most (D.seen disk.old) (D.faults disk.old) (D.faults disk.new) }
+    ensures answer { AnswersFetch result found from most (D.seen disk.old) (D.faults disk.old) (D.faults disk.new) }
     ensures seen { D.seen disk.new ≡ D.seen disk.old }
     ensures settled { D.settled disk.old → D.settled disk.new }
 {
-    let Some(place) = place_of(row, id) else {
+    let Some(place) = found else {
         return Ok(Answer::GoneAlready);
     };
     let octets = read_at(alloc, journal, disk, place.part(from, most))?;
