@@ -6,7 +6,7 @@ use Rattle.std.specs.Ordering.{nat_cmp}
 use Rattle.std.specs.Cmp.Lexicographic.{slice_cmp, pointwise, texts_ties, bytes_decides}
 use Rattle.std.specs.BTreeMap as tree
 use Rattle.std.specs.BTreeMap.{BTreeMap}
-use Rattle.std.specs.declared.vec.Vec.{Vec}
+use Rattle.cluster_world.specs.declared.row.Row.{Row}
 use Rattle.mail_model.specs.Identity.{Id}
 use Rattle.mail_model.specs.Listing.{is_same_id}
 use Rattle.cluster_world.specs.Index.{held_in, is_among, left_for, without}
@@ -21,38 +21,23 @@ among-append id [] second = refl
 among-append id (other ∷ first) second =
     ap (λ (b : Bool). is_same_id other id || b) (among-append id first second) ∙ either_or (is_same_id other id) (is_among id first) (is_among id second)
 
-or_none : (b : Bool) → (b || false) ≡ b
-or_none true = refl
-or_none false = refl
+-- one id more
+pub among_more : (id : Id) (ids : List Id) (i : ℕ) (other : Id) → i < length ids → other ≡ get_or ids i other
+    → is_among id (take (i + 1) ids) ≡ (is_among id (take i ids) || (is_same_id other id || false))
+among_more id ids i other within is =
+    ap (λ (l : List Id). is_among id l) (take_more ids i other within ∙ ap (λ (j : Id). take i ids ++ j ∷ []) (sym is)) ∙ among-append id (take i ids) (other ∷ [])
 
-module _ (ids : List Id) (i : ℕ) (other id : Id) (within : i < length ids) (is : other ≡ get_or ids i other) (none : is_among id (take i ids) ≡ false) where
-  -- the id was found
-  pub among_found : is_same_id other id ≡ true → is_among id ids ≡ true
-  among_found same =
-      let split : ids ≡ take i ids ++ other ∷ drop (i + 1) ids = sym (take-append-drop i ids) ∙ ap (λ (l : List Id). take i ids ++ l) (drop_more ids i other within ∙ ap (λ (j : Id). j ∷ drop (i + 1) ids) (sym is)) in
-      ap (λ (l : List Id). is_among id l) split ∙ among-append id (take i ids) (other ∷ drop (i + 1) ids)
-      ∙ ap (λ (b : Bool). b || (is_same_id other id || is_among id (drop (i + 1) ids))) none
-      ∙ ap (λ (b : Bool). b || is_among id (drop (i + 1) ids)) same
-
-  -- it was passed by
-  pub among_passed : is_same_id other id ≡ false → is_among id (take (i + 1) ids) ≡ false
-  among_passed differs =
-      ap (λ (l : List Id). is_among id l) (take_more ids i other within ∙ ap (λ (j : Id). take i ids ++ j ∷ []) (sym is))
-      ∙ among-append id (take i ids) (other ∷ [])
-      ∙ ap (λ (b : Bool). b || (is_same_id other id || false)) none
-      ∙ or_none (is_same_id other id) ∙ differs
-
-module _ {A : Type 0} (old new : BTreeMap (List ℕ) (Vec Kept A)) (user : List ℕ) (row : Vec Kept A)
+module _ (old new : BTreeMap (List ℕ) Row) (user : List ℕ) (row : Row)
     (updates : (q : List ℕ) → tree.get (slice_cmp nat_cmp) new q ≡ cond (tree.is_at (slice_cmp nat_cmp user) q) (Some row) (tree.get (slice_cmp nat_cmp) old q)) where
-  chosen : (is : Bool) (ids : List Id) (x y : Option (Vec Kept A)) → (is ≡ true → held_in x ≡ without ids (held_in y)) → held_in (cond is x y) ≡ (if is then without ids (held_in y) else held_in y)
+  chosen : (is : Bool) (ids : List Id) (x y : Option Row) → (is ≡ true → held_in x ≡ without ids (held_in y)) → held_in (cond is x y) ≡ (if is then without ids (held_in y) else held_in y)
   chosen true ids x y h = h refl
   chosen false ids x y h = refl
 
   -- the row holds what is left for its user, and the others hold what they held
-  pub left_held : (ids : List Id) → row.items ≡ without ids (held_in (tree.get (slice_cmp nat_cmp) old user)) → (other : List ℕ)
+  pub left_held : (ids : List Id) → row.kept.items ≡ without ids (held_in (tree.get (slice_cmp nat_cmp) old user)) → (other : List ℕ)
       → held_in (tree.get (slice_cmp nat_cmp) new other) ≡ left_for other user ids (held_in (tree.get (slice_cmp nat_cmp) old other))
   left_held ids items other =
-      ap (λ (o : Option (Vec Kept A)). held_in o) (updates other)
+      ap (λ (o : Option Row). held_in o) (updates other)
       ∙ ap (λ (b : Bool). held_in (cond b (Some row) (tree.get (slice_cmp nat_cmp) old other))) (sym (texts_ties user other))
       ∙ chosen (pointwise nat_eq user other) ids (Some row) (tree.get (slice_cmp nat_cmp) old other)
       (λ same. items ∙ ap (λ (u : List ℕ). without ids (held_in (tree.get (slice_cmp nat_cmp) old u))) ((bytes_decides user other).0 same))
@@ -62,7 +47,7 @@ chosen_none true ids held none = none refl ∙ ap (λ (l : List Kept). without i
 chosen_none false ids held none = refl
 
 -- where the owner has no row, nothing is taken out
-pub none_left : {A : Type 0} (rows : BTreeMap (List ℕ) (Vec Kept A)) (user : List ℕ) (ids : List Id) → tree.get (slice_cmp nat_cmp) rows user ≡ None → (other : List ℕ)
+pub none_left : (rows : BTreeMap (List ℕ) Row) (user : List ℕ) (ids : List Id) → tree.get (slice_cmp nat_cmp) rows user ≡ None → (other : List ℕ)
     → held_in (tree.get (slice_cmp nat_cmp) rows other) ≡ left_for other user ids (held_in (tree.get (slice_cmp nat_cmp) rows other))
 none_left rows user ids none other =
     chosen_none (pointwise nat_eq user other) ids (held_in (tree.get (slice_cmp nat_cmp) rows other))

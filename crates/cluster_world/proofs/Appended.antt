@@ -10,7 +10,7 @@ use Rattle.mail_model.specs.Record.Record.{Octets}
 use Rattle.mail_model.specs.Record.{Record, IsJournal, payload_of, payloads_of}
 use Rattle.mail_model.specs.Site.{HoldsRecords, copies_of, nth_id}
 use Rattle.cluster_world.proofs.Recalled.{length-frames-append, length-one-frame}
-use Rattle.cluster_world.specs.Journal.{Stands, HasGate, HoldsEither}
+use Rattle.disk_journal.specs.Journal.{Stands, HasGate, HoldsEither}
 use Rattle.cluster_world.specs.Appends.{RecordsStand, HoldsFront, AppendsAll, AppendsMail, Stops, Wrote, IsHead, IsUntouched, WroteMail}
 use Rattle.cluster_world.specs.declared.append.Measure.{Measure}
 use Rattle.cluster_world.specs.declared.append.DeliverFault.{DeliverFault}

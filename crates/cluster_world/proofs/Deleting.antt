@@ -8,12 +8,12 @@ use Rattle.mail_model.specs.Site.{gone_records, drawn_through, struck_entries}
 use Rattle.cluster_world.specs.Appends.{RecordsStand}
 use Rattle.cluster_world.specs.Books.{entries_of, entry_of, told_by}
 use Rattle.cluster_world.specs.Index.{kept_in}
-use Rattle.cluster_world.specs.Journal.{end_of}
+use Rattle.disk_journal.specs.Journal.{end_of}
 use Rattle.cluster_world.specs.World.{Fits, Deleted, DeletedSome, IsUnwritten, plan_of, is_up, drawn_of, stamps_of, tickets_of, kept_of, disk_of, gate_of, book_of, standing_of}
 use Rattle.cluster_world.specs.Steps.{Strikes, call_of, nth_ticket}
 use Rattle.cluster_world.specs.declared.book.Book.{Book}
 use Rattle.cluster_world.specs.declared.book.Entry.{Entry}
-use Rattle.cluster_world.specs.declared.journal.Journal.{Journal}
+use Rattle.disk_journal.specs.declared.journal.Journal.{Journal}
 use Rattle.cluster_world.specs.declared.index.Index.{Index}
 use Rattle.cluster_world.specs.declared.step.Standing.{Standing}
 use Rattle.cluster_world.specs.declared.step.Pending.TheVariants.{Struck}

@@ -5,10 +5,10 @@ use Rattle.mail_model.specs.Mail.{IsStored}
 use Rattle.mail_model.specs.Record.{Record}
 use Rattle.mail_model.specs.Site.{message_records, nth_id, nth_stamp}
 use Rattle.mail_base.specs.declared.ticket.Ticket.{Ticket}
-use Rattle.cluster_world.specs.Journal.{end_of}
+use Rattle.disk_journal.specs.Journal.{end_of}
 use Rattle.cluster_world.specs.Appends.{RecordsStand}
 use Rattle.cluster_world.specs.Index.{kept_in}
-use Rattle.cluster_world.specs.declared.journal.Journal.{Journal}
+use Rattle.disk_journal.specs.declared.journal.Journal.{Journal}
 use Rattle.cluster_world.specs.declared.index.Index.{Index}
 use Rattle.cluster_world.specs.declared.append.Measure.{Measure}
 use Rattle.cluster_world.specs.declared.step.Filing.{Filing}

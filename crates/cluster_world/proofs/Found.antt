@@ -10,21 +10,22 @@ use Rattle.mail_base.specs.declared.item.Item.{Item}
 use Rattle.mail_base.specs.declared.proof.Proof.{Proof}
 use Rattle.mail_base.specs.declared.ticket.Ticket.{Ticket}
 use Rattle.cluster_world.specs.Index.{kept_in, place_in}
-use Rattle.cluster_world.specs.Reads.{MayEndBefore, HasRead, IsPartAt, AnswersLogin, AnswersFetch}
+use Rattle.disk_journal.specs.Reading.{MayEndBefore}
+use Rattle.cluster_world.specs.Reads.{HasRead, IsPartAt, AnswersLogin, AnswersFetch}
 use Rattle.cluster_world.specs.World.{plan_of, is_up, drawn_of, stamps_of, tickets_of, kept_of, disk_of, gate_of, book_of, standing_of}
 use Rattle.cluster_world.specs.Found.{FindsLogin, FindsPart}
 use Rattle.cluster_world.specs.Steps.{IsSound, Finds, StopsReading, call_of, nth_ticket}
-use Rattle.cluster_world.specs.Journal.{end_of}
-use Rattle.cluster_world.specs.declared.journal.Journal.{Journal}
+use Rattle.disk_journal.specs.Journal.{end_of}
+use Rattle.disk_journal.specs.declared.journal.Journal.{Journal}
 use Rattle.cluster_world.specs.declared.index.Index.{Index}
 use Rattle.cluster_world.specs.declared.step.Pending.TheVariants.{Found}
 use Rattle.mail_model.specs.Book.BookEntry.{WentDown}
 use Rattle.cluster_world.proofs.Recalled.{recalls_same}
-use Rattle.cluster_world.specs.declared.place.Place.{Place}
+use Rattle.disk_journal.specs.declared.place.Place.{Place}
 use Rattle.cluster_world.specs.declared.index.Kept.{Kept}
 use Rattle.cluster_world.specs.declared.world.World.{World}
-use Rattle.cluster_world.specs.declared.journal.JournalFault.{JournalFault}
-use Rattle.cluster_world.specs.declared.journal.JournalFault.TheVariants.{DiskFault, NotAJournal, TooLarge, NoMemory}
+use Rattle.disk_journal.specs.declared.fault.JournalFault.{JournalFault}
+use Rattle.disk_journal.specs.declared.fault.JournalFault.TheVariants.{DiskFault, NotAJournal, TooLarge, NoMemory}
 use Rattle.call_tickets.specs.declared.answer.Answer.{Answer}
 use Rattle.call_tickets.specs.declared.answer.Answer.TheVariants.{Listed, Wrong, Part, GoneAlready}
 use Rattle.cluster_world.proofs.Origins.{all_by_node_1, all_stated}
@@ -36,16 +37,16 @@ ends_later None a b le early = tt
 ends_later (Some held) a b le early = omega (arith, le, early)
 
 -- a read of a part that failed
-pub read_failed : (fault : JournalFault) (row : List Kept) (id : Id) (start most : ℕ) (place part : Place) (seen : Option (List ℕ)) (before now : ℕ) → place_in id row ≡ Some place
+pub read_failed : (fault : JournalFault) (found : Option Place) (start most : ℕ) (place part : Place) (seen : Option (List ℕ)) (before now : ℕ) → found ≡ Some place
     → part.at ≡ place.at + min start place.length → part.length ≡ min most (place.length - start) → HasRead (Err fault) part seen before now
-    → AnswersFetch (Err fault) row id start most seen before now
-read_failed DiskFault row id start most place part seen before now found at size read =
+    → AnswersFetch (Err fault) found start most seen before now
+read_failed DiskFault found start most place part seen before now is at size read =
     let within : part.at + part.length ≤ place.at + place.length = omega (arith, at, size) in
     let cause : Rose before now ⊎ MayEndBefore seen (place.at + place.length) = ⊎_elim (λ (rose : Rose before now). inl rose) (λ early. inr (ends_later seen (part.at + part.length) (place.at + place.length) within early)) read.0 in
-    (place, found, cause, read.1)
-read_failed NotAJournal row id start most place part seen before now found at size read = read
-read_failed TooLarge row id start most place part seen before now found at size read = read
-read_failed NoMemory row id start most place part seen before now found at size read = read
+    (place, is, cause, read.1)
+read_failed NotAJournal found start most place part seen before now is at size read = read
+read_failed TooLarge found start most place part seen before now is at size read = read
+read_failed NoMemory found start most place part seen before now is at size read = read
 
 -- a read of a part that was made
 pub read_done : (octets : List ℕ) (start most : ℕ) (place part : Place) (seen : Option (List ℕ)) (before now : ℕ)
@@ -76,7 +77,7 @@ module _ {D : Type 0} (seen : D → Option (List ℕ)) (old : World D) where
 
   -- what a fetch was answered, over the records
   pub finds_part : (answer : Answer) (user : List ℕ) (id : Id) (start most before now : ℕ)
-      → AnswersFetch (Ok answer) (kept_of user old) id start most (seen (disk_of old)) before now → FindsPart seen answer user id start most old
+      → AnswersFetch (Ok answer) (place_in id (kept_of user old)) start most (seen (disk_of old)) before now → FindsPart seen answer user id start most old
   finds_part (Part octets whole) user id start most before now a = λ records fits.
       let place = a.0 in
       let found = found_at user records id (kept_of user old) place (fits.places user) a.1 in
@@ -94,13 +95,13 @@ module _ {D : Type 0} (seen : D → Option (List ℕ)) (old : World D) where
   finds_part answer user id start most before now a = absurd a
 
   -- the count of faults is what it was
-  pub fetched_quiet : (answer : Answer) (row : List Kept) (id : Id) (start most : ℕ) (told : Option (List ℕ)) (before now : ℕ) → AnswersFetch (Ok answer) row id start most told before now → now ≡ before
-  fetched_quiet (Part octets whole) row id start most told before now a = a.4
-  fetched_quiet GoneAlready row id start most told before now a = a.1
-  fetched_quiet answer row id start most told before now a = absurd a
+  pub fetched_quiet : (answer : Answer) (found : Option Place) (start most : ℕ) (told : Option (List ℕ)) (before now : ℕ) → AnswersFetch (Ok answer) found start most told before now → now ≡ before
+  fetched_quiet (Part octets whole) found start most told before now a = a.4
+  fetched_quiet GoneAlready found start most told before now a = a.1
+  fetched_quiet answer found start most told before now a = absurd a
 
   -- a world whose disk tells its octets has a read fail only where that disk failed
-  pub has_cause : (user : List ℕ) (id : Id) (start most before now : ℕ) → AnswersFetch (Err DiskFault) (kept_of user old) id start most (seen (disk_of old)) before now
+  pub has_cause : (user : List ℕ) (id : Id) (start most before now : ℕ) → AnswersFetch (Err DiskFault) (place_in id (kept_of user old)) start most (seen (disk_of old)) before now
       → IsSound seen old → Rose before now ⊎ (seen (disk_of old) ≡ None)
   has_cause user id start most before now a sound =
       let found = found_at user sound.records id (kept_of user old) a.0 (sound.fits.places user) a.1 in

@@ -12,9 +12,7 @@ pub mod Deleting
 pub mod Delivered
 pub mod Down
 pub mod Falling
-pub mod Filled
 pub mod Found
-pub mod Gates
 pub mod Gone
 pub mod Heads
 pub mod Listings
@@ -22,6 +20,7 @@ pub mod Origins
 pub mod Others
 pub mod Owed
 pub mod Pieces
+pub mod Placed
 pub mod Quiet
 pub mod Readings
 pub mod Recalled

@@ -15,10 +15,12 @@ use Rattle.mail_model.specs.Listing.{is_same_id, octets_in, size_in}
 use Rattle.mail_base.specs.Orders.{id_cmp}
 use Rattle.mail_base.specs.Items.{item_seen}
 use Rattle.cluster_world.specs.Index.{kept_seen, listed, place_in}
+use Rattle.cluster_world.specs.Messages.{first_place}
 use Rattle.cluster_world.specs.Fits.{Lies, IsKept}
-use Rattle.cluster_world.specs.Reads.{IsAtNode1, MayEndBefore}
+use Rattle.cluster_world.specs.Reads.{IsAtNode1}
+use Rattle.disk_journal.specs.Reading.{MayEndBefore}
 use Rattle.cluster_world.specs.Appends.{RecordsStand}
-use Rattle.cluster_world.specs.declared.place.Place.{Place}
+use Rattle.disk_journal.specs.declared.place.Place.{Place}
 use Rattle.cluster_world.specs.declared.index.Kept.{Kept}
 
 then_is : (a b : Ordering) → is_eq (ordering_then a b) ≡ (is_eq a && is_eq b)
@@ -48,36 +50,13 @@ pub listed_more : (row : List Kept) (i : ℕ) (kept : Kept) → i < length row �
 listed_more row i kept within is =
     ap (λ (l : List Kept). map listed l) (take_more row i kept within ∙ ap (λ (k : Kept). take i row ++ k ∷ []) (sym is)) ∙ map-append listed (take i row) (kept ∷ [])
 
--- the first place of two that there is
-abbrev first_place : Option Place → Option Place → Option Place
-first_place None other = other
-first_place (Some place) other = Some place
-
 place_choice : (is : Bool) (place : Place) (a b x : Option Place) → a ≡ first_place b x → (if is then Some place else a) ≡ first_place (if is then Some place else b) x
 place_choice true place a b x e = refl
 place_choice false place a b x e = e
 
-place_in-append : (id : Id) (row more : List Kept) → place_in id (row ++ more) ≡ first_place (place_in id row) (place_in id more)
+pub place_in-append : (id : Id) (row more : List Kept) → place_in id (row ++ more) ≡ first_place (place_in id row) (place_in id more)
 place_in-append id [] more = refl
 place_in-append id (kept ∷ row) more = place_choice (is_same_id kept.id id) kept.place _ _ _ (place_in-append id row more)
-
--- the first message of the id was found
-pub place_found : (row : List Kept) (i : ℕ) (kept : Kept) (id : Id) → i < length row → kept ≡ get_or row i kept → place_in id (take i row) ≡ None
-    → is_same_id kept.id id ≡ true → place_in id row ≡ Some kept.place
-place_found row i kept id within is none same =
-    let split : row ≡ take i row ++ kept ∷ drop (i + 1) row = sym (take-append-drop i row) ∙ ap (λ (l : List Kept). take i row ++ l) (drop_more row i kept within ∙ ap (λ (k : Kept). k ∷ drop (i + 1) row) (sym is)) in
-    ap (λ (l : List Kept). place_in id l) split ∙ place_in-append id (take i row) (kept ∷ drop (i + 1) row)
-    ∙ ap (λ (o : Option Place). first_place o (place_in id (kept ∷ drop (i + 1) row))) none
-    ∙ ap (λ (b : Bool). if b then Some kept.place else place_in id (drop (i + 1) row)) same
-
--- it was passed by
-pub place_passed : (row : List Kept) (i : ℕ) (kept : Kept) (id : Id) → i < length row → kept ≡ get_or row i kept → place_in id (take i row) ≡ None
-    → is_same_id kept.id id ≡ false → place_in id (take (i + 1) row) ≡ None
-place_passed row i kept id within is none other =
-    ap (λ (l : List Kept). place_in id l) (take_more row i kept within ∙ ap (λ (k : Kept). take i row ++ k ∷ []) (sym is))
-    ∙ place_in-append id (take i row) (kept ∷ [])
-    ∙ ap (λ (o : Option Place). first_place o (place_in id (kept ∷ []))) none
-    ∙ ap (λ (b : Bool). if b then Some kept.place else None) other
 
 -- the size that a listing of these has for the id
 abbrev pub size_at : Option Place → Option ℕ

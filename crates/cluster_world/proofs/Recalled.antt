@@ -15,7 +15,7 @@ use Rattle.mail_model.specs.Site.{copies_of, message_records, nth_id, nth_stamp}
 use Rattle.cluster_world.specs.Heads.{here}
 use Rattle.cluster_world.specs.Index.{kept_seen, added_for}
 use Rattle.cluster_world.specs.Fits.{IsKept, Recalls}
-use Rattle.cluster_world.specs.declared.place.Place.{Place}
+use Rattle.disk_journal.specs.declared.place.Place.{Place}
 use Rattle.cluster_world.specs.declared.index.Kept.{Kept}
 use Rattle.cluster_world.proofs.Listings.{known_stays, own_octets, listing_more, drawn_more}
 

@@ -6,40 +6,40 @@ use Rattle.std.specs.Ordering.{nat_cmp}
 use Rattle.std.specs.Cmp.Lexicographic.{slice_cmp, pointwise, texts_ties, bytes_decides}
 use Rattle.std.specs.BTreeMap as tree
 use Rattle.std.specs.BTreeMap.{BTreeMap}
-use Rattle.std.specs.declared.vec.Vec.{Vec}
+use Rattle.cluster_world.specs.declared.row.Row.{Row}
 use Rattle.cluster_world.specs.Index.{held_in, added_for}
 use Rattle.cluster_world.specs.declared.index.Kept.{Kept}
 
-module _ {A : Type 0} (old new : BTreeMap (List ℕ) (Vec Kept A)) (user : List ℕ) (row : Vec Kept A)
+module _ (old new : BTreeMap (List ℕ) Row) (user : List ℕ) (row : Row)
     (updates : (q : List ℕ) → tree.get (slice_cmp nat_cmp) new q ≡ cond (tree.is_at (slice_cmp nat_cmp user) q) (Some row) (tree.get (slice_cmp nat_cmp) old q)) where
-  chosen : (is : Bool) (more : List Kept) (x y : Option (Vec Kept A)) → (is ≡ true → held_in x ≡ held_in y ++ more) → held_in (cond is x y) ≡ held_in y ++ (if is then more else [])
+  chosen : (is : Bool) (more : List Kept) (x y : Option Row) → (is ≡ true → held_in x ≡ held_in y ++ more) → held_in (cond is x y) ≡ held_in y ++ (if is then more else [])
   chosen true more x y h = h refl
   chosen false more x y h = sym (append-nil (held_in y))
 
   -- the row holds more for its user, and for no other
-  pub more_held : (more : List Kept) → row.items ≡ held_in (tree.get (slice_cmp nat_cmp) old user) ++ more → (other : List ℕ)
+  pub more_held : (more : List Kept) → row.kept.items ≡ held_in (tree.get (slice_cmp nat_cmp) old user) ++ more → (other : List ℕ)
       → held_in (tree.get (slice_cmp nat_cmp) new other) ≡ held_in (tree.get (slice_cmp nat_cmp) old other) ++ (if pointwise nat_eq user other then more else [])
   more_held more items other =
-      ap (λ (o : Option (Vec Kept A)). held_in o) (updates other)
+      ap (λ (o : Option Row). held_in o) (updates other)
       ∙ ap (λ (b : Bool). held_in (cond b (Some row) (tree.get (slice_cmp nat_cmp) old other))) (sym (texts_ties user other))
       ∙ chosen (pointwise nat_eq user other) more (Some row) (tree.get (slice_cmp nat_cmp) old other)
       (λ same. items ∙ ap (λ (u : List ℕ). held_in (tree.get (slice_cmp nat_cmp) old u) ++ more) ((bytes_decides user other).0 same))
 
-  chosen_same : (is : Bool) (x y : Option (Vec Kept A)) → (is ≡ true → held_in x ≡ held_in y) → held_in (cond is x y) ≡ held_in y
+  chosen_same : (is : Bool) (x y : Option Row) → (is ≡ true → held_in x ≡ held_in y) → held_in (cond is x y) ≡ held_in y
   chosen_same true x y h = h refl
   chosen_same false x y h = refl
 
   -- the row holds the same
-  pub same_held : row.items ≡ held_in (tree.get (slice_cmp nat_cmp) old user) → (other : List ℕ)
+  pub same_held : row.kept.items ≡ held_in (tree.get (slice_cmp nat_cmp) old user) → (other : List ℕ)
       → held_in (tree.get (slice_cmp nat_cmp) new other) ≡ held_in (tree.get (slice_cmp nat_cmp) old other)
   same_held items other =
-      ap (λ (o : Option (Vec Kept A)). held_in o) (updates other)
+      ap (λ (o : Option Row). held_in o) (updates other)
       ∙ ap (λ (b : Bool). held_in (cond b (Some row) (tree.get (slice_cmp nat_cmp) old other))) (sym (texts_ties user other))
       ∙ chosen_same (pointwise nat_eq user other) (Some row) (tree.get (slice_cmp nat_cmp) old other)
       (λ same. items ∙ ap (λ (u : List ℕ). held_in (tree.get (slice_cmp nat_cmp) old u)) ((bytes_decides user other).0 same))
 
 -- a row that is not there holds nothing
-pub none_held : {A : Type 0} (row : Option (Vec Kept A)) → is_some row ≡ false → held_in row ≡ []
+pub none_held : (row : Option Row) → is_some row ≡ false → held_in row ≡ []
 none_held None absent = refl
 none_held (Some row) absent = absurd (let never : true ≡ false = absent in cc)
 

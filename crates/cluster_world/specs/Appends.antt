@@ -8,7 +8,7 @@ use Rattle.mail_model.specs.Mail.{IsDate, IsStored, trace_lines}
 use Rattle.mail_model.specs.Record.{Record, payload_of, payloads_of, framed}
 use Rattle.mail_model.specs.Record.Record.{Octets}
 use Rattle.mail_model.specs.Site.{HoldsRecords, nth_id}
-use Rattle.cluster_world.specs.Journal.{Stands, HasGate}
+use Rattle.disk_journal.specs.Journal.{Stands, HasGate}
 use Rattle.cluster_world.specs.declared.append.Measure.{Measure}
 use Rattle.cluster_world.specs.declared.append.DeliverFault.{DeliverFault}
 use Rattle.cluster_world.specs.declared.append.DeliverFault.TheVariants.{Disk, NoMemory}

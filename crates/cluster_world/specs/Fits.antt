@@ -8,7 +8,7 @@ use Rattle.mail_model.specs.Listing.{octets_in, listing_of}
 use Rattle.mail_model.specs.Site.{nth_id, nth_stamp, number_in}
 use Rattle.cluster_world.specs.Heads.{here}
 use Rattle.cluster_world.specs.Index.{kept_seen}
-use Rattle.cluster_world.specs.declared.place.Place.{Place}
+use Rattle.disk_journal.specs.declared.place.Place.{Place}
 use Rattle.cluster_world.specs.declared.index.Kept.{Kept}
 
 -- the octets of the whole lie at this place

@@ -1,22 +1,21 @@
 -- The index of a node: where each user's messages lie in its journal.
-use Rattle.std.specs.Prelude.{ℕ, Bool, false, ◌||◌, not, filter, nat_eq, List, [], ◌∷◌, Option, Some, None, if◌then◌else◌}
+use Rattle.std.specs.Prelude.{ℕ, nat_eq, List, [], ◌∷◌, Option, Some, None, if◌then◌else◌}
 use Rattle.std.specs.Ordering.{nat_cmp}
 use Rattle.std.specs.Cmp.Lexicographic.{slice_cmp, pointwise}
 use Rattle.std.specs.BTreeMap as tree
-use Rattle.std.specs.declared.vec.Vec.{Vec}
 use Rattle.mail_model.specs.Identity.{Id}
-use Rattle.mail_model.specs.Listing.{is_same_id}
 use Rattle.mail_model.specs.PopReplies as replies
 use Rattle.mail_model.specs.Site.{nth_stamp}
 use Rattle.mail_base.specs.declared.item.Item.{Item}
-use Rattle.cluster_world.specs.declared.place.Place.{Place}
+pub use Rattle.cluster_world.specs.Messages.{is_among, without, place_in}
+use Rattle.cluster_world.specs.declared.row.Row.{Row}
 use Rattle.cluster_world.specs.declared.index.Index.{Index}
 use Rattle.cluster_world.specs.declared.index.Kept.{Kept}
 
 -- what a user's row of the index holds, where there is one
-abbrev pub held_in : {A : Type 0} → Option (Vec Kept A) → List Kept
+abbrev pub held_in : Option Row → List Kept
 held_in None = []
-held_in (Some row) = row.items
+held_in (Some row) = row.kept.items
 
 -- the user's messages, in the order in which they came
 abbrev pub kept_in : List ℕ → Index → List Kept
@@ -27,15 +26,6 @@ abbrev pub added_for : List ℕ → List (List ℕ) → Kept → List Kept
 added_for user [] kept = []
 added_for user (mailbox ∷ mailboxes) kept =
     if pointwise nat_eq mailbox user then kept ∷ added_for user mailboxes kept else added_for user mailboxes kept
-
--- whether the id is one of these
-abbrev pub is_among : Id → List Id → Bool
-is_among id [] = false
-is_among id (other ∷ ids) = is_same_id other id || is_among id ids
-
--- the messages of a row that have none of these ids
-abbrev pub without : List Id → List Kept → List Kept
-without ids row = filter (λ kept. not (is_among kept.id ids)) row
 
 -- what is left of the user's messages where those of these ids are taken from their owner
 abbrev pub left_for : List ℕ → List ℕ → List Id → List Kept → List Kept
@@ -48,8 +38,3 @@ kept_seen kept = record { id = kept.id; size = kept.place.length }
 -- a kept message as the node lists it: node 1 alone is to hold it and holds it
 abbrev pub listed : Kept → Item
 listed kept = record { id = kept.id; stamp = nth_stamp kept.count; targets = 1; holders = 1; length = kept.place.length }
-
--- where the first of these messages that has the id lies
-abbrev pub place_in : Id → List Kept → Option Place
-place_in id [] = None
-place_in id (kept ∷ row) = if is_same_id kept.id id then Some kept.place else place_in id row

@@ -5,7 +5,7 @@ pub mod Fits
 pub mod Found
 pub mod Heads
 pub mod Index
-pub mod Journal
+pub mod Messages
 pub mod Opens
 pub mod Outcomes
 pub mod Reads

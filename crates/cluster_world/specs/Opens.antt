@@ -2,11 +2,11 @@
 use Rattle.std.specs.Prelude.{◌≡◌, ℕ, ◌≤◌, List, [], ◌∷◌, Option, Result, Ok, Err}
 use Rattle.io_edge.specs.Causes.{Rose}
 use Rattle.mail_model.specs.Record.Record.{Boot}
-use Rattle.cluster_world.specs.Journal.{HasGate, end_of}
+use Rattle.disk_journal.specs.Journal.{HasGate, end_of}
 use Rattle.cluster_world.specs.Appends.{RecordsStand}
-use Rattle.cluster_world.specs.declared.journal.Journal.{Journal}
-use Rattle.cluster_world.specs.declared.journal.JournalFault.{JournalFault}
-use Rattle.cluster_world.specs.declared.journal.JournalFault.TheVariants as journal
+use Rattle.disk_journal.specs.declared.journal.Journal.{Journal}
+use Rattle.disk_journal.specs.declared.fault.JournalFault.{JournalFault}
+use Rattle.disk_journal.specs.declared.fault.JournalFault.TheVariants as journal
 use Rattle.cluster_world.specs.declared.world.OpenFault.{OpenFault}
 use Rattle.cluster_world.specs.declared.world.OpenFault.TheVariants.{DiskFault, NoMemory}
 

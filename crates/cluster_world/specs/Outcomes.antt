@@ -15,7 +15,7 @@ use Rattle.session_model.specs.Run.{Made}
 use Rattle.session_model.specs.Owes.{Owes}
 use Rattle.session_model.specs.Books.{Among}
 use Rattle.session_model.specs.OneNode.{IsSoundMail, IsTaken}
-use Rattle.cluster_world.specs.Journal.{IsToldAlike}
+use Rattle.io_edge.specs.Octets.{IsToldAlike}
 use Rattle.cluster_world.specs.World.{plan_of, is_up, drawn_of, stamps_of, standing_of, disk_of, book_of, steps_of, counted, one_more, Begins}
 use Rattle.call_tickets.specs.Seen.{call_seen, answer_seen, ids_in}
 use Rattle.cluster_world.specs.Steps.{Stepped, IsSound, call_of, nth_ticket}

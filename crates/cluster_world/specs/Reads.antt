@@ -1,19 +1,19 @@
 -- What reading a maildrop gives.
 use Rattle.std.specs.Prelude.{◌≡◌, ◌⊎◌, ℕ, Bool, ◌+◌, ◌-◌, ◌<◌, ◌≤◌, min, true, false, List, length, map, take, drop, ⊤, Option, Some, None, IfSome, Result, Ok, Err}
 use Rattle.io_edge.specs.Causes.{Rose}
-use Rattle.mail_model.specs.Identity.{Id}
 use Rattle.mail_model.specs.Plan.{Plan, opens}
 use Rattle.mail_base.specs.declared.item.Item.{Item}
 use Rattle.mail_base.specs.declared.proof.Proof.{Proof}
 use Rattle.call_tickets.specs.Seen.{secret_in}
 use Rattle.mail_base.specs.declared.ticket.Ticket.{Ticket}
-use Rattle.cluster_world.specs.Index.{listed, place_in}
+use Rattle.cluster_world.specs.Index.{listed}
 use Rattle.cluster_world.specs.declared.index.Kept.{Kept}
 use Rattle.call_tickets.specs.declared.answer.Answer.{Answer}
 use Rattle.call_tickets.specs.declared.answer.Answer.TheVariants.{Listed, Wrong, Part, GoneAlready}
-use Rattle.cluster_world.specs.declared.place.Place.{Place}
-use Rattle.cluster_world.specs.declared.journal.JournalFault.{JournalFault}
-use Rattle.cluster_world.specs.declared.journal.JournalFault.TheVariants.{DiskFault, NotAJournal, TooLarge, NoMemory}
+use Rattle.disk_journal.specs.Reading.{MayEndBefore}
+use Rattle.disk_journal.specs.declared.place.Place.{Place}
+use Rattle.disk_journal.specs.declared.fault.JournalFault.{JournalFault}
+use Rattle.disk_journal.specs.declared.fault.JournalFault.TheVariants.{DiskFault, NotAJournal, TooLarge, NoMemory}
 
 -- the proof is right for the user of this name
 abbrev pub is_right : Plan → List ℕ → Proof → Bool
@@ -23,11 +23,6 @@ is_right plan user proof = opens plan user (secret_in proof)
 pub record IsAtNode1 (item : Item) : Type 0 where
   pub targets : item.targets ≡ 1
   pub holders : item.holders ≡ 1
-
--- the disk may give fewer octets than reach to this place: it tells that it holds no more, or tells nothing
-abbrev pub MayEndBefore : Option (List ℕ) → ℕ → Type 0
-MayEndBefore None end = ⊤
-MayEndBefore (Some held) end = length held < end
 
 -- what a read of this place gives: all its octets, or the disk failed or ended too early; want of memory comes before the disk is asked
 abbrev pub HasRead : Result (List ℕ) JournalFault → Place → Option (List ℕ) → ℕ → ℕ → Type 0
@@ -50,14 +45,14 @@ pub record IsPartAt (place : Place) (start most : ℕ) (octets : List ℕ) (seen
   pub count : length octets ≡ min most (place.length - start)
   pub part : IfSome seen (λ held. octets ≡ take (min most (place.length - start)) (drop (place.at + min start place.length) held))
 
--- what a fetch is answered, over the user's messages in the index
-abbrev pub AnswersFetch : Result Answer JournalFault → List Kept → Id → ℕ → ℕ → Option (List ℕ) → ℕ → ℕ → Type 0
-AnswersFetch (Ok (Part octets whole)) row wanted start most seen before now =
-    (place : Place) × (place_in wanted row ≡ Some place) × (whole ≡ place.length) × IsPartAt place start most octets seen × (now ≡ before)
-AnswersFetch (Ok GoneAlready) row wanted start most seen before now = (place_in wanted row ≡ None) × (now ≡ before)
-AnswersFetch (Ok answer) row wanted start most seen before now = ⊥
-AnswersFetch (Err DiskFault) row wanted start most seen before now =
-    (place : Place) × (place_in wanted row ≡ Some place) × (Rose before now ⊎ MayEndBefore seen (place.at + place.length)) × (before ≤ now)
-AnswersFetch (Err NotAJournal) row wanted start most seen before now = ⊥
-AnswersFetch (Err TooLarge) row wanted start most seen before now = ⊥
-AnswersFetch (Err NoMemory) row wanted start most seen before now = now ≡ before
+-- what a fetch is answered of a message that was found at this place
+abbrev pub AnswersFetch : Result Answer JournalFault → Option Place → ℕ → ℕ → Option (List ℕ) → ℕ → ℕ → Type 0
+AnswersFetch (Ok (Part octets whole)) found start most seen before now =
+    (place : Place) × (found ≡ Some place) × (whole ≡ place.length) × IsPartAt place start most octets seen × (now ≡ before)
+AnswersFetch (Ok GoneAlready) found start most seen before now = (found ≡ None) × (now ≡ before)
+AnswersFetch (Ok answer) found start most seen before now = ⊥
+AnswersFetch (Err DiskFault) found start most seen before now =
+    (place : Place) × (found ≡ Some place) × (Rose before now ⊎ MayEndBefore seen (place.at + place.length)) × (before ≤ now)
+AnswersFetch (Err NotAJournal) found start most seen before now = ⊥
+AnswersFetch (Err TooLarge) found start most seen before now = ⊥
+AnswersFetch (Err NoMemory) found start most seen before now = now ≡ before

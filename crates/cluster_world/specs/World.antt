@@ -10,7 +10,8 @@ use Rattle.mail_model.specs.Book.{BookEntry}
 use Rattle.mail_model.specs.Record.Record.{Boot}
 use Rattle.mail_model.specs.Site.{message_records, gone_records, drawn_through, nth_id, nth_stamp}
 use Rattle.mail_model.specs.Identity.{Id}
-use Rattle.cluster_world.specs.Journal.{HasGate, IsToldAlike, end_of}
+use Rattle.disk_journal.specs.Journal.{HasGate, end_of}
+use Rattle.io_edge.specs.Octets.{IsToldAlike}
 use Rattle.cluster_world.specs.Index.{kept_in, left_for}
 use Rattle.cluster_world.specs.Fits.{Recalls}
 use Rattle.cluster_world.specs.Appends.{RecordsStand, HoldsFront, AppendsAll, Stops}

@@ -6,16 +6,17 @@ ghost use Rattle.mail_model.specs.Site.{copies_of, gone_records, nth_id, nth_sta
 ghost use Rattle.cluster_world.specs.Steps.{last_number};
 ghost use Rattle.mail_base.specs.Delivers.{mail_in, IsWithinLimits};
 ghost use Rattle.cluster_world.specs.Index.{kept_in, added_for};
-ghost use Rattle.cluster_world.specs.Journal.{HasGate, IsToldAlike, end_of, largest};
+ghost use Rattle.disk_journal.specs.Journal.{HasGate, end_of, largest};
+ghost use Rattle.io_edge.specs.Octets.{IsToldAlike};
 ghost use Rattle.cluster_world.specs.Appends.{Wrote, IsUntouched, IsHead, WroteMail, SettledBehind};
 
 use crate::index::{Index, Kept};
-use crate::journal::{Journal, JournalFault};
-use crate::place::Place;
-use crate::record::{gone_payload, here_payload, octets_head};
+use crate::payload::{gone_payload, here_payload};
 use crate::trace::{Trace, trace_into};
+use disk_journal::{Journal, JournalFault, Place};
 use io_edge::Disk;
-use mail_base::{Deliver, MsgId, Name, NodeNo, Stamp};
+use mail_base::{Deliver, MsgId, Name, NodeNo};
+use record_form::octets_head;
 use sha2::{Digest, Sha256};
 use std::alloc::{AllocError, Global};
 
@@ -101,7 +102,7 @@ fn append_copy<D: Disk>(
     ensures settled { OnOk result (D.settled disk.new) }
     ensures told { IsToldAlike (D.seen disk.old) (D.seen disk.new) }
 {
-    let Ok(payload) = here_payload(alloc, user, id_of(seq), Stamp::new(count, 1, 1), 1) else {
+    let Ok(payload) = here_payload(alloc, user, id_of(seq), count) else {
         return Err(DeliverFault::NoMemory);
     };
     append_record(alloc, journal, disk, &payload, &[])
@@ -127,7 +128,7 @@ fn append_one_gone<D: Disk>(
     ensures still { IsErrOf result DeliverFault.NoMemory → D.settled disk.old → D.settled disk.new }
     ensures told { IsToldAlike (D.seen disk.old) (D.seen disk.new) }
 {
-    let Ok(payload) = gone_payload(alloc, user, id, Stamp::new(before + 1, 1, 1), 1) else {
+    let Ok(payload) = gone_payload(alloc, user, id, before + 1) else {
         return Err(DeliverFault::NoMemory);
     };
     append_record(alloc, journal, disk, &payload, &[])
@@ -198,7 +199,7 @@ fn message_head(alloc: Global, deliver: &Deliver, seq: u64) -> Result<Vec<u8>, A
         id: id_of(seq),
         seconds: 0,
     };
-    let mut head = octets_head(alloc, trace.id)?;
+    let mut head = Vec::from_slice(alloc, &octets_head(trace.id))?;
     let Ok(()) = trace_into(alloc, &mut head, &trace) else {
         return Err(AllocError);
     };

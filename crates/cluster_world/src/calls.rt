@@ -6,7 +6,7 @@ ghost use Rattle.mail_base.specs.Delivers.{mail_in, IsWithinLimits};
 ghost use Rattle.cluster_world.specs.Appends.{Wrote};
 ghost use Rattle.cluster_world.specs.Opens.{Begun};
 ghost use Rattle.cluster_world.specs.Index.{kept_in, added_for};
-ghost use Rattle.cluster_world.specs.Journal.{IsToldAlike};
+ghost use Rattle.io_edge.specs.Octets.{IsToldAlike};
 ghost use Rattle.cluster_world.specs.World.{plan_of, is_up, drawn_of, stamps_of, steps_of, tickets_of, kept_of, disk_of, gate_of, book_of, standing_of, ShowsGate, Delivers};
 ghost use Rattle.cluster_world.specs.Books.{told_by, spare_of};
 ghost use Rattle.cluster_world.specs.Steps.{BeginDid, HasNumbers, nth_ticket, last_number, call_of};
@@ -14,11 +14,11 @@ ghost use Rattle.cluster_world.specs.Completes.{Completes, FetchedAsFiled, Settl
 
 use crate::append::first_node;
 use crate::book::Entry;
-use crate::journal::JournalFault;
 use crate::reading::{fetch_answer, login_answer};
 use crate::step::{Pending, Said, Standing, StepFault, ticket_of};
 use crate::world::World;
 use call_tickets::Call;
+use disk_journal::JournalFault;
 use io_edge::Disk;
 use mail_base::{MsgId, Name, NodeSet, Proof};
 use std::alloc::Global;
@@ -98,14 +98,8 @@ impl<D: Disk> World<D> {
     {
         self.book.reserve(1)?;
         self.standing.reserve(1)?;
-        match fetch_answer(
-            alloc,
-            &mut self.disk,
-            self.index.kept(&user),
-            id,
-            from,
-            most,
-        ) {
+        let found = self.index.place(&user, id);
+        match fetch_answer(alloc, &self.journal, &mut self.disk, found, from, most) {
             Ok(answer) => Ok(self.stand(Pending::Found(answer))),
             Err(JournalFault::NoMemory) => Err(StepFault::NoMemory { down: None }),
             Err(JournalFault::DiskFault) => {

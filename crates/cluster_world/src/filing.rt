@@ -6,17 +6,17 @@ ghost use Rattle.mail_base.specs.Delivers.{mail_in, IsWithinLimits};
 ghost use Rattle.cluster_world.specs.Appends.{Wrote};
 ghost use Rattle.cluster_world.specs.Opens.{Begun};
 ghost use Rattle.cluster_world.specs.Index.{kept_in, added_for};
-ghost use Rattle.cluster_world.specs.Journal.{IsToldAlike};
+ghost use Rattle.io_edge.specs.Octets.{IsToldAlike};
 ghost use Rattle.cluster_world.specs.World.{plan_of, is_up, drawn_of, stamps_of, steps_of, tickets_of, kept_of, disk_of, gate_of, book_of, standing_of, ShowsGate, Delivers};
 ghost use Rattle.cluster_world.specs.Books.{told_by, spare_of};
 ghost use Rattle.cluster_world.specs.Steps.{BeginDid, AskDid, Stepped, StandsNot, HasNumbers, Settles, entries_for, entries_in, nth_ticket, last_number, call_of};
 ghost use Rattle.cluster_world.specs.Completes.{Completes, FetchedAsFiled, SettledBy, SettledByDelivery};
 
 use crate::append::{DeliverFault, Measure, append_listed, append_octets, first_node, id_of};
-use crate::place::Place;
 use crate::step::{Filing, Pending, Said, StepFault};
 use crate::world::World;
 use call_tickets::Call;
+use disk_journal::Place;
 use io_edge::Disk;
 use mail_base::{Deliver, Names};
 use std::alloc::Global;
@@ -129,7 +129,8 @@ impl<D: Disk> World<D> {
         // So that want of memory is met before anything is written.
         self.book.reserve(1)?;
         self.standing.reserve(1)?;
-        self.index.reserve(alloc, deliver.users.as_slice())?;
+        self.index
+            .reserve(alloc, deliver.users.as_slice(), id_of(self.drawn + 1))?;
         match self.file(alloc, &deliver) {
             Ok(measure) => {
                 let filing = filing_of(self.drawn, deliver.users, measure);

@@ -1,11 +1,12 @@
 //! The index of a node: where each user's messages lie in its journal.
 ghost use Rattle.std.specs.Prelude.{◌≡◌, ◌++◌, ◌∷◌, [], List, ℕ, Some, None, nat_eq, IsSome, OnOk, IfSome, if◌then◌else◌};
 ghost use Rattle.std.specs.Ordering.{nat_cmp};
-ghost use Rattle.std.specs.Cmp.Lexicographic.{pointwise, slice_cmp};
+ghost use Rattle.std.specs.Cmp.Lexicographic.{slice_cmp};
 ghost use Rattle.std.specs.BTreeMap.{get};
-ghost use Rattle.cluster_world.specs.Index.{kept_in, added_for, is_among, left_for, without};
+ghost use Rattle.cluster_world.specs.Index.{kept_in, added_for, left_for, place_in};
 
-use crate::place::Place;
+use crate::row::Row;
+use disk_journal::Place;
 use mail_base::{MsgId, Name};
 use std::alloc::{AllocError, Global};
 use std::collections::BTreeMap;
@@ -21,10 +22,11 @@ pub(crate) struct Kept {
     pub(crate) place: Place,
 }
 
-/// For each user the messages that are kept, in the order in which they came.
+/// For each user the messages that are kept, in the order in which they came. To find one by its id costs the same among a
+/// hundred and among a hundred thousand.
 #[derive(Drop)]
 pub(crate) struct Index {
-    rows: BTreeMap<Name, Vec<Kept>>,
+    rows: BTreeMap<Name, Row>,
 }
 
 // The same message once more.
@@ -36,25 +38,6 @@ fn again(kept: &Kept) -> Kept
         count: kept.count,
         place: kept.place,
     }
-}
-
-// Whether the id is one of these.
-fn is_among(id: MsgId, ids: &[MsgId]) -> bool
-    ensures { result ≡ is_among id ids.now }
-{
-    for other in ids {
-        if *other == id {
-            return true;
-        }
-    }
-    false
-}
-
-// Takes the messages of these ids out of the row.
-fn take_out(row: &mut Vec<Kept>, ids: &[MsgId])
-    ensures { row.new.items ≡ without ids.now row.old.items }
-{
-    row.retain(|kept| !is_among(kept.id, ids));
 }
 
 impl Index {
@@ -72,8 +55,18 @@ impl Index {
         ensures { result.now ≡ kept_in user.now self.now }
     {
         match self.rows.get(user) {
-            Some(row) => row,
+            Some(row) => row.kept(),
             None => &[],
+        }
+    }
+
+    /// Where the octets of the user's first message of this id lie.
+    pub(crate) fn place(&self, user: &Name, id: MsgId) -> Option<Place>
+        ensures { result ≡ place_in id (kept_in user.now self.now) }
+    {
+        match self.rows.get(user) {
+            Some(row) => row.place(id),
+            None => None,
         }
     }
 
@@ -86,32 +79,37 @@ impl Index {
             return Ok(());
         }
         let name = user.copy()?;
-        self.rows.insert(name, Vec::new(alloc))?;
+        self.rows.insert(name, Row::new(alloc))?;
         Ok(())
     }
 
-    // Makes room for one message more of the user.
-    fn make_room(&mut self, alloc: Global, user: &Name) -> Result<(), AllocError>
+    // Makes room for one message more of the user, of this id.
+    fn make_room(&mut self, alloc: Global, user: &Name, id: MsgId) -> Result<(), AllocError>
         ensures { (other : List ℕ) → kept_in other self.new ≡ kept_in other self.old }
     {
         self.open_row(alloc, user)?;
         match self.rows.get_mut(user) {
-            Some(row) => row.reserve(1),
+            Some(row) => row.reserve(id),
             None => unreachable!(),
         }
     }
 
-    /// Makes room for one message more of each of these users, so that it can be added without memory where no user
-    /// stands twice among them.
+    /// Makes room for one message more of each of these users, of this id, so that it can be added without memory where no
+    /// user stands twice among them.
     ///
     /// # Errors
     ///
     /// Only want of memory. No user's messages are changed in either case.
-    pub(crate) fn reserve(&mut self, alloc: Global, users: &[Name]) -> Result<(), AllocError>
+    pub(crate) fn reserve(
+        &mut self,
+        alloc: Global,
+        users: &[Name],
+        id: MsgId,
+    ) -> Result<(), AllocError>
         ensures { (other : List ℕ) → kept_in other self.new ≡ kept_in other self.old }
     {
         for user in users {
-            self.make_room(alloc, user)?;
+            self.make_room(alloc, user, id)?;
         }
         Ok(())
     }
@@ -121,7 +119,7 @@ impl Index {
         ensures { (other : List ℕ) → kept_in other self.new ≡ left_for other user.now ids.now (kept_in other self.old) }
     {
         if let Some(row) = self.rows.get_mut(user) {
-            take_out(row, ids);
+            row.remove(ids);
         }
     }
 

@@ -47,10 +47,11 @@
 //! What the node has in memory is said over the records on its disk: for each user the listing that they
 //! give, and for each message the place in the journal where its octets lie (`Fits`). A login costs in
 //! proportion to the user's own messages and asks the disk nothing; a delivery adds one entry for each of its
-//! users; a deletion goes through the user's own messages once, compares each with its ids, and reads no
-//! octets; and a fetch goes through the ids of the user's own messages, and reads the octets that it gives
-//! and no others. Over a disk that tells its octets, those are the octets that were filed. A disk that tells
-//! nothing may give any.
+//! users. A message is found by its id in a map of the user's own, so a fetch costs the same in a mailbox of a
+//! hundred and of a hundred thousand, and reads the octets that it gives and no others. A deletion takes each of
+//! its ids out of that map, goes through the user's own messages once, however many ids it has, and reads no
+//! octets. Over a disk that tells its octets, those that a fetch gives are the octets that were filed. A disk
+//! that tells nothing may give any.
 //!
 //! FAULTS AND REFUSALS
 //!
@@ -63,24 +64,20 @@
 //! may find memory wanting after its last record. Room in the book is made before anything is written too.
 //! Other refusals change nothing. The book only grows, and an entry of it is never changed.
 //!
-//! THE JOURNAL
+//! COSTS
 //!
-//! A journal begins with a header of 16 octets. Each record has a gate octet, the length of its payload in
-//! four octets, and the payload. The gate 0xA5 is open, every other is closed, and the first closed gate ends
-//! the journal. A record is written after the closed gate, with the next gate, before its own gate is opened:
-//! so a write that fails anywhere leaves the records that were there, and at most the new one.
-//!
-//! An append costs four disk calls: the record and its sync, the gate and its sync. So to begin a delivery
-//! costs four for the octets and four for each mailbox; to begin a deletion costs four for each copy; to begin
-//! a fetch costs as many reads as the disk needs to give its octets, and none for no octets; to begin any
-//! other call and to ask costs none; and opening costs six: two for the journal, and four for the record of
-//! the boot. Room on the disk is asked for before the first call of each append, and is not counted here. The
-//! calls in progress, the index and the entries stay in memory, and an ask goes through the calls in progress.
+//! Each record is one append to the journal of `disk_journal`, which costs four disk calls: the record and its sync, the
+//! gate and its sync. So to begin a delivery costs four for the octets and four for each mailbox; to begin a deletion costs
+//! four for each copy; to begin a fetch costs as many reads as the disk needs to give its octets, and none for no octets; to
+//! begin any other call and to ask costs none; and opening costs six: two for the journal, and four for the record of the
+//! boot. Room on the disk is asked for before the first call of each append, and is not counted here. The calls in progress,
+//! the index and the entries stay in memory, and an ask goes through the calls in progress.
 //!
 //! STANDS ON
 //!
-//! The disk of `io_edge`, the words of `mail_base`, the calls of `call_tickets`, and the definitions of
-//! `mail_model` and `session_model`.
+//! The journal of `disk_journal`, the spelling of its records of `record_form`, the disk of `io_edge`, the words of
+//! `mail_base`, the calls of `call_tickets`, and the definitions of `mail_model` and `session_model`. Its tests use the
+//! disk in memory of `node_disk`.
 //!
 //! WHAT IT DOES NOT DO
 //!
@@ -95,11 +92,11 @@ mod calls;
 mod emptied;
 mod filing;
 mod index;
-mod journal;
 pub mod laws;
-mod place;
+mod payload;
+mod places;
 mod reading;
-mod record;
+mod row;
 mod spelling;
 mod step;
 mod striking;
@@ -109,9 +106,6 @@ mod trace;
 mod world;
 
 pub use book::{Book, Entry};
-pub use journal::{Journal, JournalFault};
-pub use place::Place;
-pub use record::{boot_payload, gone_payload, here_payload, octets_head};
 pub use step::{Filing, Pending, Said, Standing, Step, StepFault};
 pub use trace::{Trace, TraceFault, trace_into};
 pub use world::{OpenFault, World};

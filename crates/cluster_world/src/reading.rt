@@ -1,18 +1,17 @@
 //! What a login and a fetch read: whether a proof is right, the listing of a maildrop, and a part of a message.
 ghost use Rattle.std.specs.Prelude.{◌≡◌, ◌⊎◌, ◌≤◌, ◌<◌, [], List, ℕ, map, Some, None, IfOk, IfSome, OnOk};
 ghost use Rattle.io_edge.specs.Causes.{Rose};
-ghost use Rattle.cluster_world.specs.Index.{listed, place_in};
+ghost use Rattle.cluster_world.specs.Index.{listed};
 ghost use Rattle.cluster_world.specs.Steps.{nth_ticket};
-ghost use Rattle.cluster_world.specs.Reads.{is_right, AnswersLogin, AnswersFetch};
+ghost use Rattle.cluster_world.specs.Reads.{is_right, AnswersLogin, AnswersFetch, HasRead};
 
 use crate::append::first_node;
 use crate::index::Kept;
-use crate::journal::{Journal, JournalFault};
-use crate::place::Place;
 use crate::step::ticket_of;
 use call_tickets::Answer;
+use disk_journal::{Journal, JournalFault, Place};
 use io_edge::Disk;
-use mail_base::{Item, Items, MsgId, Name, NodeSet, Plan, Proof, Stamp};
+use mail_base::{Item, Items, MsgId, Name, NodeSet, Octets, Plan, Proof, Stamp};
 use std::alloc::{AllocError, Global};
 
 /// Whether the proof is right for the user of this name. No proof is for a name that the plan does not have.
@@ -50,18 +49,6 @@ pub(crate) fn items_of(alloc: Global, row: &[Kept]) -> Result<Items, AllocError>
     Ok(items)
 }
 
-/// Where the octets of the first message of this id lie.
-pub(crate) fn place_of(row: &[Kept], id: MsgId) -> Option<Place>
-    ensures { result ≡ place_in id row.now }
-{
-    for kept in row {
-        if kept.id == id {
-            return Some(kept.place);
-        }
-    }
-    None
-}
-
 /// What the login is answered whose ticket has this number.
 pub(crate) fn login_answer(
     alloc: Global,
@@ -89,23 +76,46 @@ pub(crate) fn login_answer(
     })
 }
 
-/// What a fetch is answered: the octets behind `from` ones, `most` at most. It reads these octets and no others.
-pub(crate) fn fetch_answer<D: Disk>(
+/// Reads the octets at the place. A disk that ends before they do counts as one that failed.
+fn read_at<D: Disk>(
     alloc: Global,
+    journal: &Journal,
     disk: &mut D,
-    row: &[Kept],
-    id: MsgId,
-    from: u64,
-    most: u64,
-) -> Result<Answer, JournalFault>
-    ensures answer { AnswersFetch result row.now id from most (D.seen disk.old) (D.faults disk.old) (D.faults disk.new) }
+    place: Place,
+) -> Result<Octets, JournalFault>
+    ensures read { HasRead result place (D.seen disk.old) (D.faults disk.old) (D.faults disk.new) }
     ensures seen { D.seen disk.new ≡ D.seen disk.old }
     ensures settled { D.settled disk.old → D.settled disk.new }
 {
-    let Some(place) = place_of(row, id) else {
+    let mut octets = vec![in alloc; 0; place.length as usize]?;
+    match journal.read(disk, place, 0, &mut octets) {
+        Ok(_) => Ok(Octets::from_vec(octets)),
+        Err(JournalFault::DiskFault) => Err(JournalFault::DiskFault),
+        Err(JournalFault::NotAJournal) => Err(JournalFault::DiskFault),
+        // A read takes no memory, and appends nothing.
+        Err(JournalFault::TooLarge) => unreachable!(),
+        Err(JournalFault::NoMemory) => unreachable!(),
+    }
+}
+
+/// What a fetch is answered of a message that was found at this place: the octets behind `from` ones, `most` at most. It
+/// reads these octets and no others.
+pub(crate) fn fetch_answer<D: Disk>(
+    alloc: Global,
+    journal: &Journal,
+    disk: &mut D,
+    found: Option<Place>,
+    from: u64,
+    most: u64,
+) -> Result<Answer, JournalFault>
+    ensures answer { AnswersFetch result found from most (D.seen disk.old) (D.faults disk.old) (D.faults disk.new) }
+    ensures seen { D.seen disk.new ≡ D.seen disk.old }
+    ensures settled { D.settled disk.old → D.settled disk.new }
+{
+    let Some(place) = found else {
         return Ok(Answer::GoneAlready);
     };
-    let octets = Journal::read(alloc, disk, place.part(from, most))?;
+    let octets = read_at(alloc, journal, disk, place.part(from, most))?;
     Ok(Answer::Part {
         octets,
         whole: place.length,

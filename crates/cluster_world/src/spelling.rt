@@ -15,7 +15,7 @@ pub(crate) fn is_within(_number: u64)
 {}
 
 /// A name is in lower case.
-fn is_name(name: &Name)
+pub(crate) fn is_name(name: &Name)
     ensures { IsLowerName name.now }
 {
     let _octets = name.octets();
@@ -31,7 +31,7 @@ fn are_names(names: &[Name])
 }
 
 /// An id is within its limits.
-fn is_id(id: MsgId)
+pub(crate) fn is_id(id: MsgId)
     ensures { IsId id }
 {
     let _node = id.node().number();

@@ -4,7 +4,7 @@ ghost use Rattle.mail_model.specs.Site.{number_in, drawn_through};
 ghost use Rattle.mail_base.specs.declared.item.Item.{Item};
 ghost use Rattle.call_tickets.specs.Seen.{ids_in};
 ghost use Rattle.cluster_world.specs.Appends.{SettledBehind};
-ghost use Rattle.cluster_world.specs.Journal.{IsToldAlike};
+ghost use Rattle.io_edge.specs.Octets.{IsToldAlike};
 ghost use Rattle.cluster_world.specs.World.{plan_of, is_up, stamps_of, steps_of, tickets_of, disk_of, ShowsGate, Deletes};
 ghost use Rattle.cluster_world.specs.Steps.{BeginDid, last_number};
 ghost use Rattle.cluster_world.specs.Completes.{SettledByStrike};

@@ -7,14 +7,11 @@ mod full_disk;
 mod reading;
 mod striking;
 
-use crate::{
-    Entry, Journal, OpenFault, Said, Step, StepFault, Trace, TraceFault, World, boot_payload,
-    gone_payload, here_payload, octets_head, trace_into,
-};
+use crate::{Entry, OpenFault, Said, Step, StepFault, Trace, TraceFault, World, trace_into};
 use call_tickets::{Answer, Ask, Call};
-use io_edge::faulty::FaultyDisk;
 use io_edge::{Disk, PlainDisk};
-use mail_base::{Deliver, MsgId, Name, Names, NodeNo, Octets, Plan, Secret, Stamp, Ticket, Users};
+use mail_base::{Deliver, MsgId, Name, Names, NodeNo, Octets, Plan, Secret, Ticket, Users};
+use node_disk::MemoryDisk;
 use std::alloc::{AllocError, Global};
 use std::test::Fail;
 
@@ -166,13 +163,21 @@ fn is_first_stored(said: &Result<Said, StepFault>) -> bool {
     *id == first_id() && confirmers.mask() == 1
 }
 
+// An empty disk whose call of this number fails.
+fn failing(alloc: Global, call: u64) -> Result<MemoryDisk, AllocError>
+    ensures { IfOk result (λ disk. disk.held.octets.items ≡ []) }
+{
+    let mut disk = MemoryDisk::new(alloc);
+    disk.fail_at(call)?;
+    Ok(disk)
+}
+
 // What a new world says of its first message where this call of its disk fails.
 fn said_with_fault(
     alloc: Global,
     call: u64,
 ) -> Result<Result<Result<Said, StepFault>, OpenFault>, AllocError> {
-    let disk = FaultyDisk::new(PlainDisk::new(alloc), call);
-    match open(alloc, disk) {
+    match open(alloc, failing(alloc, call)?) {
         Ok(mut world) => Ok(Ok(begin(alloc, &mut world, 1))),
         Err(fault) => Ok(Err(fault)),
     }
@@ -204,54 +209,6 @@ fn is_acked(entry: &Entry, name: &[u8]) -> bool {
         } => false,
         Entry::Down { node: _ } => false,
     }
-}
-
-#[test]
-fn journal_begins(rt: HostRuntime) -> Result<(), Fail> {
-    let alloc = rt.alloc();
-    let mut disk = PlainDisk::new(alloc);
-    let Ok(mut journal) = Journal::create(alloc, &mut disk, NodeNo::new(1).unwrap()) else {
-        panic!(rt; "no journal");
-    };
-    assert_eq!(rt;
-        disk.octets.as_slice(),
-        b"PORCUPN1\x00\x01\0\0\0\0\0\0\0".as_slice()
-    );
-    let boot = boot_payload(alloc, 1)?;
-    let Ok(place) = journal.append(alloc, &mut disk, &boot, &[]) else {
-        panic!(rt; "no record");
-    };
-    assert!(rt; place.at == 21 && place.length == 5);
-    let Ok(read) = Journal::read(alloc, &mut disk, place.part(1, 9)) else {
-        panic!(rt; "not read");
-    };
-    assert_eq!(rt; read.as_slice(), b"\0\0\0\x01".as_slice());
-    assert_eq!(rt;
-        disk.octets.as_slice(),
-        b"PORCUPN1\x00\x01\0\0\0\0\0\0\xa5\0\0\0\x05\x01\0\0\0\x01\0".as_slice()
-    );
-    Ok(())
-}
-
-#[test]
-fn payloads_are_spelt(rt: HostRuntime) -> Result<(), Fail> {
-    let alloc = rt.alloc();
-    let head = octets_head(alloc, first_id())?;
-    assert_eq!(rt;
-        head.as_slice(),
-        b"\x03\x01\0\0\0\x01\0\0\0\0\0\0\0\x01".as_slice()
-    );
-    let state = here_payload(alloc, &bob(alloc)?, first_id(), Stamp::new(1, 1, 1), 1)?;
-    assert_eq!(rt;
-        state.as_slice(),
-        b"\x04\x02\x03bob\x01\0\0\0\x01\0\0\0\0\0\0\0\x01\x01\0\0\0\0\0\0\0\x01\0\0\0\x01\x01\0\x01".as_slice()
-    );
-    let state = gone_payload(alloc, &bob(alloc)?, first_id(), Stamp::new(2, 1, 1), 1)?;
-    assert_eq!(rt;
-        state.as_slice(),
-        b"\x04\x02\x03bob\x01\0\0\0\x01\0\0\0\0\0\0\0\x01\x02\0\0\0\0\0\0\0\x02\0\0\0\x01\x01\0\x01".as_slice()
-    );
-    Ok(())
 }
 
 #[test]
@@ -326,8 +283,7 @@ fn each_fault_takes_the_node_down(rt: HostRuntime) -> Result<(), Fail> {
 #[test]
 fn node_that_fell_takes_no_step(rt: HostRuntime) -> Result<(), Fail> {
     let alloc = rt.alloc();
-    let disk = FaultyDisk::new(PlainDisk::new(alloc), 9);
-    let Ok(mut world) = open(alloc, disk) else {
+    let Ok(mut world) = open(alloc, failing(alloc, 9)?) else {
         panic!(rt; "no world");
     };
     let said = begin(alloc, &mut world, 1);

@@ -6,7 +6,7 @@ ghost use Rattle.mail_base.specs.Delivers.{mail_in, IsWithinLimits};
 ghost use Rattle.cluster_world.specs.Appends.{Wrote};
 ghost use Rattle.cluster_world.specs.Opens.{Begun};
 ghost use Rattle.cluster_world.specs.Index.{kept_in, added_for};
-ghost use Rattle.cluster_world.specs.Journal.{IsToldAlike};
+ghost use Rattle.io_edge.specs.Octets.{IsToldAlike};
 ghost use Rattle.cluster_world.specs.World.{plan_of, is_up, drawn_of, stamps_of, tickets_of, kept_of, disk_of, gate_of, book_of, standing_of, ShowsGate, Opened, Refused, counted, one_more, steps_of};
 ghost use Rattle.cluster_world.specs.Books.{entry_of, told_by, spare_of};
 ghost use Rattle.cluster_world.specs.Steps.{BeginDid, AskDid, Stepped, StandsNot, HasNumbers, Settles, entries_for, entries_in, prepared_for, struck_in};
@@ -17,11 +17,11 @@ use crate::append::first_node;
 use crate::book::{Book, Entry, dropped};
 use crate::emptied::{Emptied, take_only};
 use crate::index::Index;
-use crate::journal::{Journal, JournalFault};
-use crate::record::boot_payload;
+use crate::payload::boot_payload;
 use crate::spelling::{has_names, is_within};
 use crate::step::{Filing, Pending, Said, Standing, Step, StepFault};
 use call_tickets::{Answer, Ask, Call};
+use disk_journal::{Journal, JournalFault};
 use io_edge::Disk;
 use mail_base::{MsgId, NodeNo, NodeSet, Plan, Ticket};
 use std::alloc::{AllocError, Global};
@@ -70,7 +70,7 @@ fn begin<D: Disk>(alloc: Global, disk: &mut D) -> Result<Journal, OpenFault>
     ensures settled { OnOk result (D.settled disk.new) }
     ensures told { IsToldAlike (D.seen disk.old) (D.seen disk.new) }
 {
-    let boot = boot_payload(alloc, 1)?;
+    let boot = boot_payload(alloc)?;
     let mut journal = Journal::create(alloc, disk, first_node())?;
     journal.append(alloc, disk, &boot, &[])?;
     Ok(journal)

@@ -1,5 +1,5 @@
 //! The journal of a node: records behind gates, of which only an open one counts.
-ghost use Rattle.std.specs.Prelude.{◌≡◌, ◌+◌, ◌≤◌, ◌<◌, ◌++◌, ◌∷◌, [], ℕ, List, length, IfOk, IfSome, OnOk, ◌^◌};
+ghost use Rattle.std.specs.Prelude.{◌≡◌, ◌+◌, ◌≤◌, ◌<◌, ◌++◌, ◌∷◌, [], ℕ, List, length, IfOk, IfSome, OnOk, IsErrOf, ◌^◌};
 ghost use Rattle.io_edge.specs.Moments.{Tears, Keeps};
 ghost use Rattle.io_edge.specs.Octets.{IsToldAlike};
 ghost use Rattle.disk_journal.specs.Images.{Adds, AddsAll};
@@ -102,6 +102,7 @@ impl Journal {
         ensures settled { OnOk result (D.settled disk.new) }
         ensures refuses { Refuses result (length head.now + length body.now) (D.seen disk.old) (D.seen disk.new)
             (end_of self.old) (end_of self.new) (D.faults disk.old) (D.faults disk.new) }
+        ensures still { IsErrOf result JournalFault.NoMemory → D.settled disk.old → D.settled disk.new }
         ensures placed { IfOk result (λ place. (place.at ≡ end_of self.old + 5) × (place.length ≡ length head.now + length body.now)) }
         ensures told { IsToldAlike (D.seen disk.old) (D.seen disk.new) }
     {

@@ -6,7 +6,7 @@ use Rattle.call_tickets.specs.Seen.{answer_seen}
 use Rattle.cluster_world.specs.Outcomes.{Outcome, Awaited, Makes, Stands}
 use Rattle.cluster_world.specs.Outcomes.Outcome.{Began, Refused, Fell, Answers, Unanswered, Left}
 use Rattle.io_edge.specs.Causes.{Rose}
-use Rattle.cluster_world.specs.Journal.{IsToldAlike}
+use Rattle.io_edge.specs.Octets.{IsToldAlike}
 use Rattle.cluster_world.specs.Steps.{IsSound, nth_ticket}
 use Rattle.cluster_world.specs.World.{plan_of, is_up, disk_of, ShowsGate}
 use Rattle.cluster_world.specs.declared.world.World.{World}

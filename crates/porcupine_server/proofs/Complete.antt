@@ -10,7 +10,7 @@ use Rattle.mail_model.specs.Transcript.{Entry, written_of}
 use Rattle.session_model.specs.Sessions.{Session}
 use Rattle.session_model.specs.Acts.{Act}
 use Rattle.session_model.specs.Run.{Made, Stop, AreHandled, IsLeftOff, failed_in}
-use Rattle.cluster_world.specs.Journal.{IsToldAlike}
+use Rattle.io_edge.specs.Octets.{IsToldAlike}
 use Rattle.cluster_world.specs.World.{disk_of, plan_of}
 use Rattle.cluster_world.specs.declared.world.World.{World}
 use Rattle.drive_tape.specs.declared.drove.Drove.{Drove}

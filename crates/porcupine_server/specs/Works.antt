@@ -2,7 +2,7 @@
 use Rattle.std.specs.Prelude.{◌≡◌, ◌≢◌, ◌⊎◌, ◌≤◌, ℕ, true, List, [], Option, IfSome, Ok, Err, ⊤}
 use Rattle.io_edge.specs.Yards.{Adds, with_last}
 use Rattle.mail_model.specs.Plan.{Plan}
-use Rattle.cluster_world.specs.Journal.{IsToldAlike}
+use Rattle.io_edge.specs.Octets.{IsToldAlike}
 use Rattle.cluster_world.specs.World.{Begins, disk_of, is_up}
 use Rattle.cluster_world.specs.declared.world.World.{World}
 use Rattle.drive_tape.specs.declared.drove.Drove.{Drove}

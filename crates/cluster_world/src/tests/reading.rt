@@ -4,12 +4,11 @@ ghost use Rattle.mail_base.specs.Delivers.{IsWithinLimits};
 ghost use Rattle.cluster_world.specs.World.{ShowsGate, is_up};
 
 use super::{
-    ask, begin, bob, first_node, id_of, is_begun, is_faulted, is_refused, name, open, step,
-    ticket_of,
+    ask, begin, bob, failing, first_node, id_of, is_begun, is_faulted, is_refused, name, open,
+    step, ticket_of,
 };
 use crate::{Entry, Said, Step, StepFault, World};
 use call_tickets::{Answer, Ask, Call};
-use io_edge::faulty::FaultyDisk;
 use io_edge::{Disk, PlainDisk};
 use mail_base::{Deliver, Item, Names, NodeSet, Octets, Proof, Stamp};
 use std::alloc::{AllocError, Global};
@@ -302,8 +301,7 @@ fn leave_is_noted(rt: HostRuntime) -> Result<(), Fail> {
 fn read_that_fails_takes_the_node_down(rt: HostRuntime) -> Result<(), Fail> {
     let alloc = rt.alloc();
     // Six calls open the world, twelve store the first message, and eight each of the others.
-    let disk = FaultyDisk::new(PlainDisk::new(alloc), 35);
-    let Ok(mut world) = open(alloc, disk) else {
+    let Ok(mut world) = open(alloc, failing(alloc, 35)?) else {
         panic!(rt; "no world");
     };
     store_three(alloc, &mut world)?;

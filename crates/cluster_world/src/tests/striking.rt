@@ -4,12 +4,12 @@ ghost use Rattle.cluster_world.specs.World.{ShowsGate, is_up};
 
 use super::full_disk::FullDisk;
 use super::reading::{answer, fetch, gives, is_gone, lists, login, odd, store_three};
-use super::{first_node, id_of, is_begun, is_faulted, is_refused, name, open, step};
+use super::{failing, first_node, id_of, is_begun, is_faulted, is_refused, name, open, step};
 use crate::{Entry, Step, StepFault, World};
 use call_tickets::{Answer, Call};
-use io_edge::faulty::FaultyDisk;
 use io_edge::{Disk, PlainDisk};
 use mail_base::{Item, Items, MsgId, NodeNo, NodeSet, Stamp};
+use node_disk::Image;
 use std::alloc::{AllocError, Global};
 use std::test::Fail;
 
@@ -181,8 +181,15 @@ fn message_of_another_node_may_be_named(rt: HostRuntime) -> Result<(), Fail> {
 fn each_fault_of_a_deletion_leaves_a_front(rt: HostRuntime) -> Result<(), Fail> {
     let alloc = rt.alloc();
     // Six calls open the world, and twelve, eight and eight store the messages. Four write each state.
-    for call in 35..44u64 {
-        let disk = FaultyDisk::new(PlainDisk::new(alloc), call);
+    for call in [35, 36, 37, 38, 39, 40, 41, 42, 50] {
+        let mut disk = failing(alloc, call)?;
+        // What was written and not yet synced may be lost, all of it, or be there.
+        let image = if call % 2 == 0 {
+            Image::Nothing
+        } else {
+            Image::All
+        };
+        disk.leave(image)?;
         let Ok(mut world) = open(alloc, disk) else {
             panic!(rt; "no world");
         };
@@ -204,10 +211,17 @@ fn each_fault_of_a_deletion_leaves_a_front(rt: HostRuntime) -> Result<(), Fail> 
         );
         assert!(rt; world.is_up(first_node()) != down, "at {call}");
         assert!(rt; books_both(world.book().entries(), down), "at {call}");
-        let disks = world.close();
-        let octets = disks[0].inner.octets.as_slice();
-        assert!(rt; is_open(octets, 654) == (call > 37), "at {call}");
-        assert!(rt; is_open(octets, 694) == (call > 41), "at {call}");
+        let mut disks = world.close();
+        assert!(rt; disks[0].restart().is_ok());
+        let octets = disks[0].octets();
+        assert!(rt;
+            is_open(octets, 654) == (call == 37 || call > 38),
+            "at {call}"
+        );
+        assert!(rt;
+            is_open(octets, 694) == (call == 41 || call > 42),
+            "at {call}"
+        );
         assert!(rt; !is_open(octets, 734), "at {call}");
     }
     Ok(())

@@ -1,6 +1,6 @@
 use Rattle.std.proofs.Common.{◌∙◌}
 use Rattle.std.proofs.lemmas.Result.{err_from_is_err_and}
-use Rattle.cluster_world.specs.declared.place.Place.{Place}
+use Rattle.disk_journal.specs.declared.place.Place.{Place}
 use Rattle.cluster_world.proofs.Appended.{copy_appended, copy_failed}
 use Rattle.cluster_world.proofs.append.append_copies.Goals as goal
 

@@ -1,6 +1,6 @@
 use Rattle.std.proofs.Common.{◌≡◌, take, is_some}
 use Rattle.mail_model.specs.Site.{copies_of, nth_id, nth_stamp}
-use Rattle.cluster_world.specs.Journal.{end_of}
+use Rattle.disk_journal.specs.Journal.{end_of}
 use Rattle.cluster_world.specs.Appends.{AppendsAll}
 use Rattle.cluster_world.proofs.append.append_copies.Given as goal
 

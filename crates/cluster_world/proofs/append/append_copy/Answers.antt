@@ -8,6 +8,6 @@ use Rattle.cluster_world.proofs.append.append_copy.Goals as goal
 
 pub returns-clause-wrote : goal.returns-clause-wrote
 returns-clause-wrote g c =
-    let spelt = rw (c.id_of.ensures, c.new.ensures) at c.in-Ok.ensures.spelt in
+    let spelt = rw c.id_of.ensures at c.in-Ok.ensures.spelt in
     c.append_record.ensures.wrote (Stated (Message c.args.user.now (nth_id c.args.seq)) (here (nth_stamp c.args.count) 1))
     (no_body _ _ (payload_of (Stated (Message c.args.user.now (nth_id c.args.seq)) (here (nth_stamp c.args.count) 1))) c.deref.ensures.value spelt)

@@ -1,6 +1,6 @@
 use Rattle.std.proofs.Common.{◌∙◌, arith}
 use Rattle.std.proofs.lemmas.Result.{err_from_is_err_and}
-use Rattle.cluster_world.specs.declared.place.Place.{Place}
+use Rattle.disk_journal.specs.declared.place.Place.{Place}
 use Rattle.cluster_world.proofs.Stricken.{gone_appended, gone_failed, settled_more, gone_grows, settled_yet, none_written, refused_alike}
 use Rattle.cluster_world.proofs.append.append_gone.Goals as goal
 

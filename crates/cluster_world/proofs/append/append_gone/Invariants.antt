@@ -1,6 +1,6 @@
 use Rattle.std.proofs.Common.{◌≡◌, ◌<◌, ◌+◌, take, is_some}
 use Rattle.mail_model.specs.Site.{gone_records}
-use Rattle.cluster_world.specs.Journal.{end_of}
+use Rattle.disk_journal.specs.Journal.{end_of}
 use Rattle.cluster_world.specs.Appends.{AppendsAll, IsUntouched, SettledBehind}
 use Rattle.cluster_world.proofs.append.append_gone.Given as goal
 

@@ -1,6 +1,6 @@
 use Rattle.std.proofs.Common.{◌≡◌, ◌∙◌, ap, arith, List, ℕ, ◌+◌, ◌++◌}
 use Rattle.std.proofs.lemmas.Result.{err_from_is_err_and}
-use Rattle.cluster_world.specs.Journal.{end_of}
+use Rattle.disk_journal.specs.Journal.{end_of}
 use Rattle.cluster_world.proofs.Appended.{mail_appended, mail_failed}
 use Rattle.cluster_world.proofs.append.append_octets.Goals as goal
 

@@ -9,6 +9,5 @@ use Rattle.cluster_world.proofs.append.append_one_gone.Goals as goal
 
 pub returns-clause-wrote : goal.returns-clause-wrote
 returns-clause-wrote g c =
-    let spelt = rw c.new.ensures at c.in-Ok.ensures.spelt in
     c.append_record.ensures.wrote (Stated (Message c.args.user.now c.args.id) (gone (nth_stamp (c.args.before + 1)) 1))
-    (no_body _ _ (payload_of (Stated (Message c.args.user.now c.args.id) (gone (nth_stamp (c.args.before + 1)) 1))) c.deref.ensures.value spelt)
+    (no_body _ _ (payload_of (Stated (Message c.args.user.now c.args.id) (gone (nth_stamp (c.args.before + 1)) 1))) c.deref.ensures.value c.in-Ok.ensures.spelt)

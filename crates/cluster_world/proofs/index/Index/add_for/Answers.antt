@@ -11,6 +11,6 @@ returns c = λ other.
     let written = c.get_mut.follows.holds c.push.new.self in
     let kept = c.args.kept.now in
     more_held c.open_row.new.self.rows (c.get_mut.follows.lender c.push.new.self) c.args.user.now c.push.new.self (written.3 c.in_ok-open_row.ensures.there).0 (kept ∷ [])
-    (c.in_ok-push-in-Some.ensures.items ∙ ap (λ (k : Kept). c.in-Some.row.now.items ++ k ∷ []) c.again.ensures
+    (c.in_ok-push-in-Some.ensures ∙ ap (λ (k : Kept). c.in-Some.row.now.kept.items ++ k ∷ []) c.again.ensures
     ∙ ap (λ row. held_in row ++ kept ∷ []) c.in-Some.ensures.value) other
     ∙ ap (λ (l : List Kept). l ++ (if pointwise nat_eq c.args.user.now other then kept ∷ [] else [])) (c.in_ok-open_row.ensures.same other)

@@ -11,4 +11,4 @@ returns-clause-same c =
     let rows = c.args.self.now.rows in
     let absent = none_held (get (slice_cmp nat_cmp) rows c.args.user.now) (sym c.contains_key.ensures ∙ c.if-contains_key.false) in
     same_held rows c.insert.new.self c.in_ok-name.name c.new.result c.in_ok-insert.ensures.updates.0
-    (c.new.ensures.items ∙ sym (ap (λ (u : List ℕ). held_in (get (slice_cmp nat_cmp) rows u)) c.in_ok-name.ensures ∙ absent))
+    (c.new.ensures ∙ sym (ap (λ (u : List ℕ). held_in (get (slice_cmp nat_cmp) rows u)) c.in_ok-name.ensures ∙ absent))

@@ -5,7 +5,7 @@ use Rattle.cluster_world.proofs.index.Index.remove.Goals as goal
 
 pub returns-in-Some : goal.returns-in-Some
 returns-in-Some c = λ other.
-    let written = c.get_mut.follows.holds c.take_out.new.row in
-    left_held c.args.self.now.rows (c.get_mut.follows.lender c.take_out.new.row) c.args.user.now c.take_out.new.row
+    let written = c.get_mut.follows.holds c.remove.new.self in
+    left_held c.args.self.now.rows (c.get_mut.follows.lender c.remove.new.self) c.args.user.now c.remove.new.self
     (written.3 (ap (λ o. is_some o) (sym c.in-Some.ensures.value))).0 c.args.ids.now
-    (c.take_out.ensures ∙ ap (λ o. without c.args.ids.now (held_in o)) c.in-Some.ensures.value) other
+    (c.remove.ensures ∙ ap (λ o. without c.args.ids.now (held_in o)) c.in-Some.ensures.value) other

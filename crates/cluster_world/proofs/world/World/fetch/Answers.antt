@@ -15,7 +15,7 @@ returns-in-Ok-clause-did g c = λ node within.
     let old = c.args.self.now in
     let answer = c.in-Ok.answer in
     let ticket = nth_ticket (tickets_of old + 1) in
-    let row = c.kept.ensures in
+    let row = c.place-found.ensures in
     let found = c.in-Ok.ensures in
     let stand = c.stand.ensures in
     let rest = stand.rest in
@@ -26,7 +26,7 @@ returns-in-Ok-clause-did g c = λ node within.
       (
         answer,
         finds g.D.Disk.seen g.D.Disk.faults answer c.fetch_answer.new.disk old c.stand.new.self c.requires.up found.seen
-            (fetched_quiet g.D.Disk.seen old answer _ _ _ _ _ _ _ found.answer)
+            (fetched_quiet g.D.Disk.seen old answer _ _ _ _ _ _ found.answer)
             (rest.0, rest.1, rest.2, rest.3, rest.4, rest.5, rest.6, ap (λ (b : Book). told_by b) rest.7 ∙ ap (map entry_of) c.in_ok-reserve.ensures.entries) stand.tickets
             (stand.standing ∙ ap (λ (l : List Standing). l ++ call_of ticket (Found answer) ∷ []) c.in_ok-reserve-2.ensures.items),
         finds_part g.D.Disk.seen old answer c.args.user c.args.id c.args.from c.args.most _ _ (rw row at found.answer),
@@ -36,7 +36,7 @@ returns-in-Ok-clause-did g c = λ node within.
 pub returns-in-Err-DiskFault-clause-did : goal.returns-in-Err-DiskFault-clause-did
 returns-in-Err-DiskFault-clause-did g c = λ node within.
     let old = c.args.self.now in
-    let row = c.kept.ensures in
+    let row = c.place-found.ensures in
     let failed = rw c.in-Err-DiskFault.field-0-is at c.in-Err-DiskFault.ensures.answer in
     let down = c.go_down.ensures in (
       within,
