@@ -45,6 +45,13 @@ fn records<D: Disk>(alloc: Global, disk: &mut D) -> Result<(usize, [u8; 4]), Jou
 fn a_journal_is_created_and_appended_to(rt: HostRuntime) -> Result<(), Fail> {
     let alloc = rt.alloc();
     let mut disk = PlainDisk::new(alloc);
+    assert!(rt; Journal::create(alloc, &mut disk, NodeNo::new(1).unwrap()).is_ok());
+    assert_eq!(rt;
+        disk.octets.as_slice(),
+        b"PORCUPN1\x00\x01\x00\x00\x00\x00\x00\x00\x00".as_slice()
+    );
+
+    let mut disk = PlainDisk::new(alloc);
     assert!(rt; create_with_boot(alloc, &mut disk).is_ok());
     assert_eq!(rt; disk.octets.as_slice(), WITH_BOOT.as_slice());
     assert_eq!(rt; records(alloc, &mut disk), Ok((1, [1, 0, 0, 0])));
@@ -80,15 +87,16 @@ fn the_record_stands_or_not_whatever_fails(rt: HostRuntime) -> Result<(), Fail> 
         Image::Front(1),
         Image::All,
         Image::Garbage(0xA5),
+        Image::Garbage(0),
     ];
     let without = Ok((1, (2, *b"mail")));
     let with = Ok((2, (3, *b"mail")));
     // The four calls of the second append, which come after a creation of two calls, an append of four and an opening of five.
     for (call, wanted) in [
-        (12, [without; 4]),
-        (13, [without; 4]),
-        (14, [without, with, with, with]),
-        (15, [without, with, with, with]),
+        (12, [without; 5]),
+        (13, [without; 5]),
+        (14, [without, with, with, with, without]),
+        (15, [without, with, with, with, without]),
     ] {
         for (image, wanted) in images.into_iter().zip(wanted) {
             let found = survivors(rt.alloc(), call, image);
@@ -135,5 +143,39 @@ fn what_is_no_journal_is_refused(rt: HostRuntime) -> Result<(), Fail> {
         .append(alloc, &mut disk, &payload, &[])
         .map(|place| place.at);
     assert_eq!(rt; large, Err(JournalFault::TooLarge));
+    Ok(())
+}
+
+/// The journal that the document of formats shows, of a cluster of one node that stored one message.
+const EXAMPLE: [u8; 239] = *b"PORCUPN1\x00\x01\x00\x00\x00\x00\x00\x00\
+\xA5\x00\x00\x00\x05\x01\x00\x00\x00\x01\
+\xA5\x00\x00\x00\xA5\x03\x01\x00\x00\x00\x01\x00\x00\x00\x00\x00\x00\x00\x01\
+Return-Path: <bob@b.example>\r\n\
+Received: from c.example\r\n\
+\x20by node1 with SMTP id <1.1.1@node1>;\r\n\
+\x20Thu, 01 Jan 1970 00:00:00 +0000\r\n\
+Subject: hi\r\n\r\nhello\r\n\
+\xA5\x00\x00\x00\x25\x04\x02\x05alice\x01\x00\x00\x00\x01\x00\x00\x00\x00\x00\x00\x00\x01\
+\x01\x00\x00\x00\x00\x00\x00\x00\x01\x00\x00\x00\x01\x01\x00\x01\x00";
+
+#[test]
+fn the_example_of_the_formats_is_opened(rt: HostRuntime) -> Result<(), Fail> {
+    let alloc = rt.alloc();
+    let octets = Vec::from_slice(alloc, &EXAMPLE)?;
+    let mut disk = PlainDisk { octets };
+    let Ok((journal, places)) = Journal::open(alloc, &mut disk, NodeNo::new(1).unwrap()) else {
+        return Err(Fail::new("not opened"));
+    };
+    assert_eq!(rt; journal.gate(), 238);
+    assert_eq!(rt; places.len(), 3);
+    for (place, wanted) in places.iter().zip([(21, 5), (31, 165), (201, 37)]) {
+        assert_eq!(rt; (place.at, place.length), wanted);
+    }
+    let Some(message) = places.get(1) else {
+        return Err(Fail::new("no message"));
+    };
+    let mut found = [0; 11];
+    assert_eq!(rt; journal.read(&mut disk, *message, 14, &mut found), Ok(11));
+    assert_eq!(rt; found, *b"Return-Path");
     Ok(())
 }

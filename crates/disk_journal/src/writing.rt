@@ -68,6 +68,34 @@ pub(crate) fn write_sure<D: Disk>(disk: &mut D, at: u64, octets: &[u8]) -> Resul
     disk.sync()
 }
 
+// Writes a record behind the closed gate, and makes it sure before its gate is touched.
+fn write_record<D: Disk>(disk: &mut D, end: u64, octets: &[u8]) -> Result<(), Failed>
+    requires gate { HasGate (D.seen disk.old) end }
+    requires room { length octets.now ≤ D.room disk.old }
+    requires fits { end + 1 < 2 ^ 64 }
+    ensures written { WritesAt (D.seen disk.old) (D.seen disk.new) result (end + 1) octets.now }
+    ensures told { IsToldAlike (D.seen disk.old) (D.seen disk.new) }
+    ensures settled { OnOk result (D.settled disk.new) }
+    ensures images { Tears D.clock disk.old disk.new (end + 1) (length octets.now) }
+    ensures cause { HasCause (D.faults disk.old) (D.faults disk.new) result }
+    ensures quiet { OnOk result (D.faults disk.new ≡ D.faults disk.old) }
+{
+    write_sure(disk, end + 1, octets)
+}
+
+// Opens the gate of a record that is sure, and makes that sure.
+fn open_gate<D: Disk>(disk: &mut D, end: u64) -> Result<(), Failed>
+    requires { HasGate (D.seen disk.old) end }
+    ensures written { WritesAt (D.seen disk.old) (D.seen disk.new) result end (0xA5 ∷ []) }
+    ensures told { IsToldAlike (D.seen disk.old) (D.seen disk.new) }
+    ensures settled { OnOk result (D.settled disk.new) }
+    ensures images { Tears D.clock disk.old disk.new end 1 }
+    ensures cause { HasCause (D.faults disk.old) (D.faults disk.new) result }
+    ensures quiet { OnOk result (D.faults disk.new ≡ D.faults disk.old) }
+{
+    write_sure(disk, end, &[OPEN_GATE])
+}
+
 /// Writes a record behind the closed gate, makes it sure, opens the gate, and makes that sure.
 pub(crate) fn write_behind_gate<D: Disk>(
     disk: &mut D,
@@ -89,7 +117,7 @@ pub(crate) fn write_behind_gate<D: Disk>(
     ensures cause { HasCause (D.faults disk.old) (D.faults disk.new) result }
     ensures quiet { OnOk result (D.faults disk.new ≡ D.faults disk.old) }
 {
-    write_sure(disk, end + 1, octets)?;
-    write_sure(disk, end, &[OPEN_GATE])?;
+    write_record(disk, end, octets)?;
+    open_gate(disk, end)?;
     Ok(())
 }

@@ -13,8 +13,12 @@ use std::rt::Files;
 /// By how many octets the file grows at a time.
 const STEP: u64 = 8 << 20;
 
-/// A disk over a file. The file is kept longer than what the disk holds, in large steps, so that most syncs write no
-/// metadata; the room ahead reads as zeros, which are closed gates, and counts as held once the file is opened again.
+/// So many zeros are written at a time.
+static ZEROS: [u8; 65_536] = [0; 65_536];
+
+/// A disk over a file. Zeros are written ahead of what the disk holds, in large steps, so that most syncs write no
+/// metadata: a file that is only made longer has no blocks there, and each sync in it would have to write that it got one.
+/// The room ahead reads as zeros, which are closed gates, and counts as held once the file is opened again.
 ///
 /// After a write or a sync that failed nothing more can be relied on, since the system may have dropped what it could not
 /// write. So such a disk is not started again: open the file again once the machine has been started again.
@@ -69,13 +73,22 @@ impl FileDisk {
         Failed
     }
 
+    // Writes zeros from the file's end up to this place.
+    fn write_zeros(&self, end: u64) -> io::Result<()> {
+        for at in (self.reserved..end).step_by(ZEROS.len()) {
+            let count = (end - at).min(ZEROS.len() as u64);
+            self.file.write_all_at(&ZEROS[..count as usize], at)?;
+        }
+        Ok(())
+    }
+
     // Writes the octets, in a file that is made longer where they reach past its end.
     fn write_all(&mut self, at: u64, end: u64, octets: &[u8]) -> io::Result<()>
         ensures faults { self.new.faults ≡ self.old.faults }
     {
         if end > self.reserved {
             let reserved = end.div_ceil(STEP).saturating_mul(STEP);
-            self.file.set_len(reserved)?;
+            self.write_zeros(reserved)?;
             self.reserved = reserved;
         }
         self.file.write_all_at(octets, at)

@@ -11,6 +11,8 @@ mod joins;
 mod laws;
 mod states;
 mod table;
+#[cfg(test)]
+mod tests;
 mod user_keys;
 
 pub use joins::{is_news, join};

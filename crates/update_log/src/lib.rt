@@ -10,6 +10,8 @@
 
 mod log;
 mod logged;
+#[cfg(test)]
+mod tests;
 
 pub use log::UpdateLog;
 pub use logged::{Acked, Logged};

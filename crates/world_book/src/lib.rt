@@ -7,6 +7,8 @@
 
 mod book;
 mod entry;
+#[cfg(test)]
+mod tests;
 
 pub use book::Book;
 pub use entry::Entry;
