@@ -1,0 +1,4 @@
+pub mod Best
+pub mod Placing
+pub mod Assigned
+pub mod Turns
