@@ -1,0 +1,157 @@
+// Versions and marks of a node's rows.
+ghost use Rattle.std.specs.Prelude.{◌≡◌, ◌↔◌, ◌+◌, ◌-◌, ◌<◌, ◌^◌, ◌||◌, ◌&&◌, List, [], ℕ, true, false, nat_eq, if◌then◌else◌, IsTrue, IfOk, OnOk, OnErr};
+ghost use Rattle.std.specs.Ordering.{nat_cmp};
+ghost use Rattle.std.specs.Cmp.Lexicographic.{slice_cmp};
+ghost use Rattle.std.specs.List.Sorted.{IsStrictlySortedBy};
+ghost use Rattle.mail_model.specs.Identity.{no_epoch};
+ghost use Rattle.maps_model.specs.Rules.{set_at};
+ghost use Rattle.map_rebuild.specs.Users.{has_user};
+ghost use Rattle.map_rebuild.specs.Rows.{version_of, is_marked, marked_users, install_epoch, marks_of_install, IsAsBefore, KeepsVersions, KeepsCount, counted_after, due};
+
+use crate::marks::{due_in, has, put, put_all, take_out};
+use crate::versions::{set_version, version_in};
+use mail_base::{EpochId, Name, Names, NodeNo, UserMap};
+use std::alloc::{AllocError, Global};
+use std::collections::{BTreeMap, BTreeSet};
+
+/// The versions of a node's rows in this boot, and the users whose rows are still to be reported.
+#[derive(Drop)]
+pub struct Reports {
+    alloc: Global,
+    versions: BTreeMap<Name, u64>,
+    marked: BTreeSet<Name>,
+    // The last install that marked, and how many marks it made.
+    epoch: EpochId,
+    at_install: u64,
+}
+
+impl Reports {
+    /// No version, no mark, and no install. It takes no memory.
+    pub fn new(alloc: Global) -> Reports
+        ensures versions { (user : List ℕ) → version_of result user ≡ 0 }
+        ensures marks { (user : List ℕ) → is_marked result user ≡ false }
+        ensures epoch { install_epoch result ≡ no_epoch }
+        ensures count { marks_of_install result ≡ 0 }
+    {
+        Reports {
+            alloc,
+            versions: BTreeMap::new(alloc),
+            marked: BTreeSet::new(alloc),
+            epoch: EpochId::none(),
+            at_install: 0,
+        }
+    }
+
+    /// Notes a change of the user's row: its version rises by one, and the user is marked. It answers the version.
+    ///
+    /// # Errors
+    ///
+    /// Only out of memory; all is then as before.
+    pub fn mark_user(&mut self, user: &Name) -> Result<u64, AllocError>
+        requires { version_of self.old user.now + 1 < 2 ^ 64 }
+        ensures answer { IfOk result (λ version. version ≡ version_of self.old user.now + 1) }
+        ensures versions { OnOk result ((other : List ℕ) → version_of self.new other ≡ set_at (version_of self.old) user.now (version_of self.old user.now + 1) other) }
+        ensures marks { OnOk result ((other : List ℕ) → is_marked self.new other ≡ set_at (is_marked self.old) user.now true other) }
+        ensures count { KeepsCount self.old self.new }
+        ensures err { OnErr result (IsAsBefore self.old self.new) }
+    {
+        let version = version_in(&self.versions, user) + 1;
+        let fresh = put(&mut self.marked, user)?;
+        match set_version(&mut self.versions, user, version) {
+            Ok(()) => Ok(version),
+            Err(refused) => {
+                if fresh {
+                    take_out(&mut self.marked, user);
+                }
+                Err(refused)
+            }
+        }
+    }
+
+    /// Takes the user's mark away, where one stands: the node manages the user itself and has told its row. Versions stay.
+    /// It takes no memory.
+    pub fn told(&mut self, user: &Name)
+        ensures marks { (other : List ℕ) → is_marked self.new other ≡ set_at (is_marked self.old) user.now false other }
+        ensures versions { KeepsVersions self.old self.new }
+        ensures count { KeepsCount self.old self.new }
+    {
+        take_out(&mut self.marked, user);
+    }
+
+    /// Marks these users, since an install of this epoch gave their bucket to a manager who has to be told. Versions
+    /// stay, and so do earlier marks. It is called once for each bucket of each install, with no users too: the first call of
+    /// an epoch begins the count of `marked_at_install` at 0. Each user is copied.
+    ///
+    /// # Errors
+    ///
+    /// Only out of memory; all is then as before.
+    pub fn mark_bucket(&mut self, users: &[Name], epoch: EpochId) -> Result<(), AllocError>
+        ensures marks { OnOk result ((user : List ℕ) → is_marked self.new user ≡ (is_marked self.old user || has_user users.now user)) }
+        ensures versions { KeepsVersions self.old self.new }
+        ensures epoch { OnOk result (install_epoch self.new ≡ epoch) }
+        ensures count { OnOk result (marks_of_install self.new ≡ counted_after epoch self.old self.new) }
+        ensures err { OnErr result (IsAsBefore self.old self.new) }
+    {
+        let before = self.marked.len();
+        put_all(self.alloc, &mut self.marked, users)?;
+        let made = (self.marked.len() - before) as u64;
+        let counted = if self.epoch == epoch {
+            self.at_install
+        } else {
+            0
+        };
+        self.epoch = epoch;
+        self.at_install = counted.saturating_add(made);
+        Ok(())
+    }
+
+    /// The version of the user's row, 0 where it never changed. It takes no memory.
+    pub fn version(&self, user: &Name) -> u64
+        ensures { result ≡ version_of self.now user.now }
+    {
+        version_in(&self.versions, user)
+    }
+
+    /// The first marked users, as many as are wanted and in the order of their names, whom the node manages by this map. It
+    /// goes through the marked users in that order and stops once it has found so many.
+    ///
+    /// # Errors
+    ///
+    /// Only out of memory.
+    pub fn due(&self, map: &UserMap, to: NodeNo, most: usize) -> Result<Names, AllocError>
+        ensures users { IfOk result (λ users. users ≡ due map.now to most self.now) }
+        ensures in_order { IsStrictlySortedBy (slice_cmp nat_cmp) (marked_users self.now) }
+    {
+        due_in(&self.marked, self.alloc, map, to, most)
+    }
+
+    /// The manager has the user's row of this version: the mark is cleared. False, with nothing changed, exactly where no
+    /// mark of the user stands or the row's version is another. It takes no memory.
+    pub fn report_acknowledged(&mut self, user: &Name, version: u64) -> bool
+        ensures answer { result ≡ (is_marked self.old user.now && nat_eq (version_of self.old user.now) version) }
+        ensures marks { (other : List ℕ) → is_marked self.new other ≡ (if result then set_at (is_marked self.old) user.now false other else is_marked self.old other) }
+        ensures versions { KeepsVersions self.old self.new }
+        ensures count { KeepsCount self.old self.new }
+    {
+        if has(&self.marked, user) && self.version(user) == version {
+            take_out(&mut self.marked, user);
+            true
+        } else {
+            false
+        }
+    }
+
+    /// How many marks the last install made. A user who was marked before is not counted. It takes no memory.
+    pub fn marked_at_install(&self) -> u64
+        ensures { result ≡ marks_of_install self.now }
+    {
+        self.at_install
+    }
+
+    /// Whether no user is marked. It takes no memory.
+    pub fn is_clear(&self) -> bool
+        ensures { IsTrue result ↔ (marked_users self.now ≡ []) }
+    {
+        self.marked.is_empty()
+    }
+}
