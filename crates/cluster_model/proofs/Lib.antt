@@ -38,6 +38,7 @@ pub mod Opening
 pub mod Merged
 pub mod Ruled
 pub mod Sending
+pub mod Playing
 pub mod Worked
 pub mod Counting
 pub mod Fairness

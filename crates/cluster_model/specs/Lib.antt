@@ -17,5 +17,6 @@ pub mod Steps
 pub mod Makes
 pub mod WorldLaws
 pub mod RuleLaws
+pub mod Plain
 pub mod Rows
 pub mod TicketLaws

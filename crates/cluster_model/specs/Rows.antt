@@ -1,113 +1,202 @@
--- Worked cases, letter by letter: what the rules give where the numbers are known. Each case is a plan, a user alice, and one message from node 1.
-use Rattle.std.specs.Prelude.{◌≡◌, ℕ, true, false, List, [], ◌∷◌, map, Some, None}
-use Rattle.mail_model.specs.Identity.{Id, State}
+-- Worked cases, letter by letter: what the rules give where the values are known. Each is a plan of n nodes with R copies and F confirmations, a user alice, and
+-- mail from node 1. `TwoOfThree` and the others name the letters by their numbers.
+use Rattle.std.specs.Prelude.{◌≡◌, ℕ, true, false, List, [], ◌∷◌, length, Option, Some, None}
+use Rattle.std.specs.FinMap as fin
+use Rattle.mail_model.specs.Identity.{Id, Stamp, Key, State}
+use Rattle.mail_model.specs.Identity.Key.{Message}
 use Rattle.mail_model.specs.Identity.Value.{Here, Gone}
+use Rattle.mail_model.specs.Plan.{Plan}
+use Rattle.mail_model.specs.Record.{Record}
+use Rattle.mail_model.specs.Record.Record.{Boot, Octets, Stated, Retired}
 use Rattle.object_model.specs.Sets.{all_nodes, nodes_in}
-use Rattle.object_model.specs.States.{joined, is_news}
-use Rattle.object_model.specs.Letters.{Letter}
-use Rattle.object_model.specs.Letters.Body.{File, Filed}
-use Rattle.object_model.specs.UpdateLog.{new_entry, cleared, owes_state}
-use Rattle.object_model.specs.Mishaps.{no_mishaps}
-use Rattle.cluster_model.specs.Cluster.{Filing, Want}
-use Rattle.cluster_model.specs.Cluster.Asked.{Copies, Deletion}
-use Rattle.cluster_model.specs.Rules.{answer, told_want, failed_want, new_want, receivers, letters_to}
+use Rattle.object_model.specs.States.{is_news}
+use Rattle.object_model.specs.Letters.{Number, Body}
+use Rattle.object_model.specs.Letters.Body.{File, Filed, Strike, StrikeTold, Push, PushAck, Retire}
+use Rattle.cluster_model.specs.Cluster.{Slot, slot_at}
 use Rattle.cluster_model.specs.Starts.{first_epoch}
-use Rattle.cluster_model.specs.Targets.{deliver_targets, strike_asks}
-use Rattle.cluster_model.specs.Progress.{Ask, ask_of_wants}
+use Rattle.cluster_model.specs.Targets.{deliver_targets}
+use Rattle.cluster_model.specs.Thrown.Why.{Late}
 use Rattle.cluster_model.specs.Progress.Answer.{Stored, Dropped}
 use Rattle.cluster_model.specs.Progress.Ask.{Pending, Done}
-use Rattle.cluster_model.specs.Room.{has_room}
-use Rattle.cluster_model.specs.World.{World, put}
+use Rattle.cluster_model.specs.Room.{Flight}
+use Rattle.cluster_model.specs.World.{World}
+use Rattle.cluster_model.specs.Steps.{Step, Said}
+use Rattle.cluster_model.specs.Steps.Call.{Deliver, Strike as StrikeCall}
+use Rattle.cluster_model.specs.Steps.Step.{Begin, AskFor, GiveUp, Post, DropLetter, PushTo}
+use Rattle.cluster_model.specs.Steps.Said.{Begun, Asked, Heard, Thrown, Sent, Finished}
+use Rattle.cluster_model.specs.Steps.Outcome.{Says}
+use Rattle.cluster_model.specs.WorldLaws.{opening}
+use Rattle.cluster_model.specs.Plain.{Line, PlaysTo, disks_say}
 
 abbrev pub alice : List ℕ
 alice = 97 ∷ 108 ∷ 105 ∷ 99 ∷ 101 ∷ []
 
--- the id of the message of this number
+-- `hi` and CRLF stand for the octets of each message
+abbrev pub hi : List ℕ
+hi = 104 ∷ 105 ∷ 13 ∷ 10 ∷ []
+
+abbrev pub plan_of : ℕ → ℕ → ℕ → Plan
+plan_of nodes copies confirm = record { nodes = nodes; copies = copies; confirm = confirm; buckets = 1; users = fin.empty; postmaster = alice }
+
+-- the id, the ticket and the stamp of this number that node 1 draws in its first boot
 abbrev pub id_at : ℕ → Id
 id_at seq = record { node = 1; boot = 1; seq = seq }
 
-abbrev pub filing_at : ℕ → Filing
-filing_at seq = record { id = id_at seq; users = alice ∷ []; seconds = 0; size = 151; digest = [] }
+abbrev pub ticket_of : ℕ → Number
+ticket_of seq = record { node = 1; boot = 1; seq = seq }
 
--- the targets of the message of this number, of R copies in a plan of n nodes
+abbrev pub stamp_at : ℕ → Stamp
+stamp_at count = record { count = count; boot = 1; node = 1 }
+
+-- alice's copy of the message of this number: here, and gone
+abbrev pub copy_at : ℕ → Key
+copy_at seq = Message alice (id_at seq)
+
+abbrev pub here_at : ℕ → ℕ → State
+here_at count targets = record { value = Here; stamp = stamp_at count; targets = targets }
+
+abbrev pub gone_at : ℕ → ℕ → State
+gone_at count targets = record { value = Gone; stamp = stamp_at count; targets = targets }
+
+-- a letter by its number, sender, receiver, ticket and body
+abbrev pub flight : ℕ → ℕ → ℕ → Option Number → Body → Flight
+flight number from to ticket body = record { number = number; letter = record { from = from; to = to; epoch = first_epoch; ticket = ticket; body = body } }
+
+-- node 1 sends the message of this number for its targets, under its ticket, and is told that it is filed
+abbrev pub file : ℕ → ℕ → ℕ → ℕ → ℕ → Flight
+file number to ticket seq targets = flight number 1 to (Some (ticket_of ticket)) (File (id_at seq) (stamp_at seq) targets (alice ∷ []) hi)
+
+abbrev pub filed : ℕ → ℕ → ℕ → ℕ → Flight
+filed number from ticket seq = flight number from 1 (Some (ticket_of ticket)) (Filed (id_at seq))
+
+-- a line: a step, what it says, and the letters that it sends
+abbrev pub line : Step → Said → List Flight → Line
+line step said flights = record { step = step; outcome = Says said; sends = flights }
+
+-- a message for alice is delivered: its ticket, and the letters that are sent
+abbrev pub deliver : ℕ → List Flight → Line
+deliver ticket flights = line (Begin 1 (Deliver (record { sender = []; helo = []; extended = false; mailboxes = alice ∷ []; text = hi }))) (Begun (ticket_of ticket)) flights
+
+-- alice's copy of the message of this number is deleted
+abbrev pub strike : ℕ → ℕ → ℕ → List Flight → Line
+strike seq targets ticket flights = line (Begin 1 (StrikeCall alice (record { id = id_at seq; targets = targets } ∷ []))) (Begun (ticket_of ticket)) flights
+
+-- a ticket is asked: it has so many of the confirmations that it wants; its message is stored, confirmed by these nodes; its deletion is done, confirmed by node 1
+abbrev pub pending : ℕ → ℕ → ℕ → Line
+pending ticket got wanted = line (AskFor (ticket_of ticket)) (Asked (Pending got wanted)) []
+
+abbrev pub stored : ℕ → ℕ → ℕ → Line
+stored ticket seq confirmers = line (AskFor (ticket_of ticket)) (Asked (Done (Stored (id_at seq) confirmers))) []
+
+abbrev pub dropped : ℕ → Line
+dropped ticket = line (AskFor (ticket_of ticket)) (Asked (Done (Dropped (1 ∷ [])))) []
+
+abbrev pub give_up : ℕ → Line
+give_up ticket = line (GiveUp (ticket_of ticket)) Finished []
+
+-- a letter is heard, and sends these; heard and kept in flight; thrown, since it is late; or dropped
+abbrev pub post : ℕ → List Flight → Line
+post number flights = line (Post number false) Heard flights
+
+abbrev pub again : ℕ → List Flight → Line
+again number flights = line (Post number true) Heard flights
+
+abbrev pub late : ℕ → Line
+late number = line (Post number false) (Thrown Late) []
+
+abbrev pub drop_letter : ℕ → Line
+drop_letter number = line (DropLetter number) Finished []
+
+-- a node pushes what it owes to another
+abbrev pub push_to : ℕ → ℕ → List Flight → Line
+push_to from to flights = line (PushTo from to) (Sent (length flights)) flights
+
+-- the targets of the message of this number
 abbrev pub targets_at : ℕ → ℕ → ℕ → ℕ
 targets_at nodes copies seq = deliver_targets copies 1 seq (nodes_in (all_nodes nodes) nodes)
 
--- what its ticket wants as it begins
-abbrev pub begun_at : ℕ → ℕ → ℕ → Want
-begun_at nodes copies seq = new_want 1 (Copies (filing_at seq)) (targets_at nodes copies seq)
+-- the records of a node's disk
+abbrev pub records_in : Option Slot → List Record
+records_in None = []
+records_in (Some slot) = slot.disk
 
--- and once these nodes' confirmations were heard, one after another
-abbrev pub heard_from : ℕ → List ℕ → Want → Want
-heard_from seq [] want = want
-heard_from seq (from ∷ others) want = heard_from seq others (told_want (Filed (id_at seq)) from want)
+abbrev pub disk_at : ℕ → World → List Record
+disk_at n w = records_in (slot_at w.slots n)
 
-abbrev pub asked_at : ℕ → Want → Ask
-asked_at confirm want = ask_of_wants confirm no_mishaps (want ∷ [])
+-- a worked case: a plan, its lines from the opening on, and the world that they lead to
+abbrev pub Case : ℕ → ℕ → ℕ → List Line → World → Type 0
+Case nodes copies confirm lines end = PlaysTo (plan_of nodes copies confirm) hi (opening nodes) lines end
 
--- no letter is in flight, and none was sent
-abbrev pub quiet_world : World
-quiet_world = record { slots = []; flying = []; sent = 0; seconds = 0; book = [] }
-
--- the letters that a delivery sends
-abbrev pub files_at : ℕ → ℕ → ℕ → ℕ → List Letter
-files_at nodes copies seq ticket = letters_to 1 first_epoch (Some (record { node = 1; boot = 1; seq = ticket })) (receivers 1 (targets_at nodes copies seq) nodes)
-    (File (id_at seq) (record { count = seq; boot = 1; node = 1 }) (targets_at nodes copies seq) (alice ∷ []) [])
-
--- the answer to each of them
-abbrev pub filed_by : ℕ → ℕ → ℕ → ℕ → List Letter
-filed_by nodes copies seq ticket = map (λ letter. answer letter (Filed (id_at seq))) (files_at nodes copies seq ticket)
-
--- each letter in flight, by number, sender and receiver
-abbrev pub seen_flying : World → List (ℕ × (ℕ × ℕ))
-seen_flying w = map (λ flight. (flight.number, (flight.letter.from, flight.letter.to))) w.flying
-
--- Three nodes, R = 3, F = 2: letters 1 and 2 are the Files to nodes 2 and 3, and letter 3 is node 2's confirmation. Then it is stored, and nodes 1 and 2 confirmed it.
+-- Three nodes, R = 3, F = 2. Letters 1 and 2 are the Files to nodes 2 and 3, and letter 3 is node 2's confirmation. Then the message is stored, and nodes 1 and 2 confirmed it;
+-- node 3 has nothing yet.
 abbrev pub TwoOfThree : Type 0
-TwoOfThree = (targets_at 3 3 1 ≡ 7)
-    × (seen_flying (put has_room (files_at 3 3 1 1) quiet_world) ≡ (1, (1, 2)) ∷ (2, (1, 3)) ∷ [])
-    × (asked_at 2 (begun_at 3 3 1) ≡ Pending 1 2)
-    × (asked_at 2 (heard_from 1 (2 ∷ []) (begun_at 3 3 1)) ≡ Done (Stored (id_at 1) 3))
+TwoOfThree = (end : World)
+    × Case 3 3 2 (deliver 1 (file 1 2 1 1 7 ∷ file 2 3 1 1 7 ∷ []) ∷ pending 1 1 2 ∷ post 1 (filed 3 2 1 1 ∷ []) ∷ post 3 [] ∷ stored 1 1 3 ∷ []) end
+    × (disks_say (copy_at 1) end ≡ Some (here_at 1 7) ∷ Some (here_at 1 7) ∷ None ∷ [])
 
--- Three nodes, R = 3, F = 3: letter 1 is heard twice, so letters 3 and 4 are both node 2's confirmation, and count once. Letter 5 is node 3's, and then it is stored.
+-- Three nodes, R = 3, F = 3. Letter 1 is heard twice, so letters 3 and 4 are both node 2's confirmation, and count once. Letter 5 is node 3's, and then the message is stored.
+-- Node 2 has it once.
 abbrev pub HeardTwiceCountsOnce : Type 0
-HeardTwiceCountsOnce = (asked_at 3 (begun_at 3 3 1) ≡ Pending 1 3)
-    × (asked_at 3 (heard_from 1 (2 ∷ []) (begun_at 3 3 1)) ≡ Pending 2 3)
-    × (asked_at 3 (heard_from 1 (2 ∷ 2 ∷ []) (begun_at 3 3 1)) ≡ Pending 2 3)
-    × (asked_at 3 (heard_from 1 (2 ∷ 2 ∷ 3 ∷ []) (begun_at 3 3 1)) ≡ Done (Stored (id_at 1) 7))
+HeardTwiceCountsOnce = (end : World)
+    × Case 3 3 3 (deliver 1 (file 1 2 1 1 7 ∷ file 2 3 1 1 7 ∷ [])
+    ∷ again 1 (filed 3 2 1 1 ∷ []) ∷ again 1 (filed 4 2 1 1 ∷ []) ∷ post 3 [] ∷ post 4 [] ∷ pending 1 2 3
+    ∷ post 2 (filed 5 3 1 1 ∷ []) ∷ post 5 [] ∷ stored 1 1 7 ∷ []) end
+    × (disks_say (copy_at 1) end ≡ Some (here_at 1 7) ∷ Some (here_at 1 7) ∷ Some (here_at 1 7) ∷ [])
+    × (disk_at 2 end ≡ Boot 1 ∷ Octets (id_at 1) hi ∷ Stated (copy_at 1) (here_at 1 7) ∷ [])
 
--- Three nodes, R = 2, F = 2: the first message has nodes 1 and 2 as targets and sends letter 1. It is given up. The second has nodes 2 and 3, and sends letters 2 and 3;
--- their confirmations are letters 4 and 5. Letter 5 stores it.
+-- Three nodes, R = 2, F = 2. The first message has nodes 1 and 2 as targets and sends letter 1. It is given up. The second has nodes 2 and 3, and sends letters 2 and 3; their
+-- confirmations are letters 4 and 5, and letter 5 stores it. Letter 1 comes last of all: node 2 takes its copy, and its confirmation, letter 6, is late. A third message would
+-- have nodes 3 and 1.
 abbrev pub TargetsMoveOn : Type 0
-TargetsMoveOn = (targets_at 3 2 1 ≡ 3) × (targets_at 3 2 2 ≡ 6) × (targets_at 3 2 3 ≡ 5)
-    × (seen_flying (put has_room (filed_by 3 2 2 2) (put has_room (files_at 3 2 2 2) (put has_room (files_at 3 2 1 1) quiet_world)))
-    ≡ (1, (1, 2)) ∷ (2, (1, 2)) ∷ (3, (1, 3)) ∷ (4, (2, 1)) ∷ (5, (3, 1)) ∷ [])
-    × (asked_at 2 (begun_at 3 2 2) ≡ Pending 0 2)
-    × (asked_at 2 (heard_from 2 (2 ∷ []) (begun_at 3 2 2)) ≡ Pending 1 2)
-    × (asked_at 2 (heard_from 2 (2 ∷ 3 ∷ []) (begun_at 3 2 2)) ≡ Done (Stored (id_at 2) 6))
+TargetsMoveOn = (end : World)
+    × Case 3 2 2 (deliver 1 (file 1 2 1 1 3 ∷ []) ∷ pending 1 1 2 ∷ give_up 1
+    ∷ deliver 2 (file 2 2 2 2 6 ∷ file 3 3 2 2 6 ∷ []) ∷ pending 2 0 2
+    ∷ post 2 (filed 4 2 2 2 ∷ []) ∷ post 3 (filed 5 3 2 2 ∷ []) ∷ post 4 [] ∷ pending 2 1 2 ∷ post 5 [] ∷ stored 2 2 6
+    ∷ post 1 (filed 6 2 1 1 ∷ []) ∷ late 6 ∷ []) end
+    × (disks_say (copy_at 1) end ≡ Some (here_at 1 3) ∷ Some (here_at 1 3) ∷ None ∷ [])
+    × (disks_say (copy_at 2) end ≡ None ∷ Some (here_at 2 6) ∷ Some (here_at 2 6) ∷ [])
+    × (targets_at 3 2 1 ≡ 3) × (targets_at 3 2 2 ≡ 6) × (targets_at 3 2 3 ≡ 5)
 
--- the state of alice's copy of message 1: here with the message's stamp, and gone with a later one
-abbrev pub here_at : ℕ → State
-here_at targets = record { value = Here; stamp = record { count = 1; boot = 1; node = 1 }; targets = targets }
+-- letters about the state of message 1, which is here at nodes 1 and 2
+abbrev pub pushed : ℕ → ℕ → ℕ → Flight
+pushed number from to = flight number from to None (Push (copy_at 1) (here_at 1 3) (Some hi))
 
-abbrev pub gone_at : ℕ → State
-gone_at targets = record { value = Gone; stamp = record { count = 2; boot = 1; node = 1 }; targets = targets }
+abbrev pub acked : ℕ → ℕ → ℕ → Flight
+acked number from to = flight number from to None (PushAck (copy_at 1) (here_at 1 3))
 
--- Two nodes, R = 2, F = 1: it is stored at once. Letter 1 is dropped, so node 2 remains in the entry of node 1's log. The Push is heard three times and acknowledged three times:
--- the first acknowledgement empties the entry, and no entry is there for the others.
+abbrev pub retire : ℕ → ℕ → ℕ → Flight
+retire number from to = flight number from to None (Retire (copy_at 1) (here_at 1 3))
+
+-- Two nodes, R = 2, F = 1. The message is stored at once, and letter 1 is dropped, so node 1 owes the state to node 2. The Push, letter 2, is heard three times and acknowledged
+-- three times, by letters 3, 4 and 5. The first acknowledgement that is heard empties node 1's entry, which sends letter 6, the Retire; the others find no entry. Letter 6 empties
+-- node 2's entry, and then nothing is owed. Both disks have the message once.
 abbrev pub PushedThreeTimes : Type 0
-PushedThreeTimes = (asked_at 1 (begun_at 2 2 1) ≡ Done (Stored (id_at 1) 1))
-    × ((failed_want 2 (begun_at 2 2 1)).failed ≡ 2)
-    × ((new_entry 1 (here_at 3)).remaining ≡ 2)
-    × (owes_state (here_at 3) 2 (Some (new_entry 1 (here_at 3))) ≡ true)
-    × ((cleared 2 (new_entry 1 (here_at 3))).remaining ≡ 0)
-    × (owes_state (here_at 3) 2 None ≡ false)
-    × (is_news (Some (here_at 3)) (here_at 3) ≡ false)
+PushedThreeTimes = (end : World)
+    × Case 2 2 1 (deliver 1 (file 1 2 1 1 3 ∷ []) ∷ stored 1 1 1 ∷ drop_letter 1 ∷ push_to 1 2 (pushed 2 1 2 ∷ [])
+    ∷ again 2 (acked 3 2 1 ∷ []) ∷ again 2 (acked 4 2 1 ∷ []) ∷ post 2 (acked 5 2 1 ∷ [])
+    ∷ post 5 (retire 6 1 2 ∷ []) ∷ post 4 [] ∷ post 3 [] ∷ post 6 [] ∷ push_to 1 2 [] ∷ push_to 2 1 [] ∷ []) end
+    × (disk_at 1 end ≡ Boot 1 ∷ Octets (id_at 1) hi ∷ Stated (copy_at 1) (here_at 1 3) ∷ Retired (copy_at 1) (here_at 1 3) ∷ [])
+    × (disk_at 2 end ≡ Boot 1 ∷ Octets (id_at 1) hi ∷ Stated (copy_at 1) (here_at 1 3) ∷ Retired (copy_at 1) (here_at 1 3) ∷ [])
 
--- Two nodes, R = 2, F = 1: a deletion asks both targets, and is dropped at once, since its own node confirms it. The Here that comes late, whatever its stamp, brings nothing back.
+-- the letter by which node 1 asks node 2 to delete message 1, and the one that tells that it did
+abbrev pub struck : ℕ → Flight
+struck number = flight number 1 2 (Some (ticket_of 2)) (Strike alice (record { id = id_at 1; stamp = stamp_at 2 } ∷ []))
+
+abbrev pub struck_told : ℕ → Flight
+struck_told number = flight number 2 1 (Some (ticket_of 2)) (StrikeTold alice (id_at 1 ∷ []))
+
+-- Two nodes, R = 2, F = 1. A message is heard and kept in flight, deleted, and heard once more. The deletion is dropped at once, since its own node confirms it. The late Here,
+-- letter 1, is confirmed and changes nothing, whatever its stamp. What answers a ticket that was answered is late.
 abbrev pub LateHereChangesNothing : Type 0
-LateHereChangesNothing = (strike_asks 1 1 3 (nodes_in (all_nodes 2) 2) ≡ 3)
-    × (asked_at 1 (new_want 1 (Deletion alice (id_at 1)) 3) ≡ Done (Dropped (1 ∷ [])))
-    × (is_news (Some (gone_at 3)) (here_at 3) ≡ false)
-    × (is_news (Some (gone_at 3)) (record { value = Here; stamp = record { count = 9; boot = 9; node = 2 }; targets = 3 }) ≡ false)
-    × (joined (here_at 3) (gone_at 3) ≡ gone_at 3)
+LateHereChangesNothing = (end : World)
+    × Case 2 2 1 (deliver 1 (file 1 2 1 1 3 ∷ []) ∷ stored 1 1 1 ∷ again 1 (filed 2 2 1 1 ∷ [])
+    ∷ strike 1 3 2 (struck 3 ∷ []) ∷ dropped 2 ∷ post 3 (struck_told 4 ∷ []) ∷ post 1 (filed 5 2 1 1 ∷ [])
+    ∷ late 2 ∷ late 4 ∷ late 5 ∷ []) end
+    × (disks_say (copy_at 1) end ≡ Some (gone_at 2 3) ∷ Some (gone_at 2 3) ∷ [])
+    × (is_news (Some (gone_at 2 3)) (here_at 9 3) ≡ false)
+
+-- Where node 2 hears of the deletion before it hears of the message at all, it does not even store the octets.
+abbrev pub GoneBeforeItCame : Type 0
+GoneBeforeItCame = (end : World)
+    × Case 2 2 1 (deliver 1 (file 1 2 1 1 3 ∷ []) ∷ strike 1 3 2 (struck 2 ∷ []) ∷ post 2 (struck_told 3 ∷ []) ∷ post 1 (filed 4 2 1 1 ∷ []) ∷ []) end
+    × (disk_at 2 end ≡ Boot 1 ∷ Stated (copy_at 1) (gone_at 2 3) ∷ [])

@@ -1,7 +1,7 @@
 // The laws of the machine: functions that do nothing, whose contracts hold of the definitions alone.
 ghost use Rattle.cluster_model.specs.Laws.{MovesKeepSound, AcknowledgedStand, AcknowledgedKept, DroppedAreGone};
 ghost use Rattle.cluster_model.specs.RuleLaws.{ConfirmsAfterRecords, ConfirmsAfterGone, DiskSaysMerge, TakesNothingTwice, CountsOnce, TargetsStay, StoredAtF, LeavesLogAtLast, AnswersSender, SendsInOrder, IdsAreNew, FetchedAsFiled};
-ghost use Rattle.cluster_model.specs.Rows.{TwoOfThree, HeardTwiceCountsOnce, TargetsMoveOn, PushedThreeTimes, LateHereChangesNothing};
+ghost use Rattle.cluster_model.specs.Rows.{TwoOfThree, HeardTwiceCountsOnce, TargetsMoveOn, PushedThreeTimes, LateHereChangesNothing, GoneBeforeItCame};
 ghost use Rattle.cluster_model.specs.TicketLaws.{TargetsAreEnough, TicketsBeginFair, TicketsStayFair, FailedHasCause, AllHeardIsDone};
 ghost use Rattle.cluster_model.specs.WorldLaws.{StepsKeepSound, StepsBring, OpeningIsSound};
 ghost use Rattle.cluster_model.specs.NodeLaws.{NodesHear, NodesDeliver, NodesStrike, NodesPush, NodesWiden, NodesEnd, NodesRefuse, NodesNote, NodesFault, NodesFall, NodesStart, NodesStopStart, StartsOwe, NodesLearn, TakesJoin, TakesOnly};
@@ -205,6 +205,11 @@ pub fn pushed_three_times()
 /// A worked case: a Here that comes late brings no deleted copy back.
 pub fn late_here_changes_nothing()
     ensures { LateHereChangesNothing }
+{}
+
+/// A worked case: a message of which a node hears first that it is deleted leaves no octets there.
+pub fn gone_before_it_came()
+    ensures { GoneBeforeItCame }
 {}
 
 /// Where the epoch has F members, a delivery asks F nodes at least, and so does each item of a deletion.

@@ -46,8 +46,10 @@
 //! Of a ticket from its beginning to its answer: `targets_are_enough`, `tickets_begin_fair`,
 //! `tickets_stay_fair`, `failed_has_cause`, `all_heard_is_done`.
 //!
-//! `Rows` has worked cases, letter by letter, with values that were worked by hand: `two_of_three`,
-//! `heard_twice_counts_once`, `targets_move_on`, `pushed_three_times`, `late_here_changes_nothing`.
+//! `Plain` is a plain program of the rules: what each step makes of a world, where no disk fails.
+//! `Rows` has worked cases of it, letter by letter, with values that were worked by hand: `two_of_three`,
+//! `heard_twice_counts_once`, `targets_move_on`, `pushed_three_times`, `late_here_changes_nothing`,
+//! `gone_before_it_came`.
 //!
 //! STANDS ON
 //!
@@ -65,11 +67,11 @@ mod laws;
 pub use laws::{
     acknowledged_kept, acknowledged_stand, all_heard_is_done, answers_sender, confirms_after_gone,
     confirms_after_records, counts_once, disk_says_merge, dropped_are_gone, failed_has_cause,
-    fetched_as_filed, heard_twice_counts_once, ids_are_new, late_here_changes_nothing,
-    leaves_log_at_last, moves_keep_sound, nodes_deliver, nodes_end, nodes_fall, nodes_fault,
-    nodes_hear, nodes_learn, nodes_note, nodes_push, nodes_refuse, nodes_start, nodes_stop_start,
-    nodes_strike, nodes_widen, opening_is_sound, pushed_three_times, sends_in_order, starts_owe,
-    steps_bring, steps_keep_sound, stored_at_f, takes_join, takes_nothing_twice, takes_only,
-    targets_are_enough, targets_move_on, targets_stay, tickets_begin_fair, tickets_stay_fair,
-    two_of_three,
+    fetched_as_filed, gone_before_it_came, heard_twice_counts_once, ids_are_new,
+    late_here_changes_nothing, leaves_log_at_last, moves_keep_sound, nodes_deliver, nodes_end,
+    nodes_fall, nodes_fault, nodes_hear, nodes_learn, nodes_note, nodes_push, nodes_refuse,
+    nodes_start, nodes_stop_start, nodes_strike, nodes_widen, opening_is_sound, pushed_three_times,
+    sends_in_order, starts_owe, steps_bring, steps_keep_sound, stored_at_f, takes_join,
+    takes_nothing_twice, takes_only, targets_are_enough, targets_move_on, targets_stay,
+    tickets_begin_fair, tickets_stay_fair, two_of_three,
 };

@@ -1,0 +1,176 @@
+-- A plain program of the rules: what each step makes of a world and what it says, where no disk fails and memory is ample. It is slow, and made to be read and to compute.
+use Rattle.std.specs.Prelude.{◌≡◌, ℕ, ◌+◌, Bool, true, false, nat_eq, nat_lt, List, [], ◌∷◌, ◌++◌, length, map, Option, Some, None, if◌then◌else◌}
+use Rattle.std.specs.List.{filter}
+use Rattle.mail_model.specs.Identity.{Key, State}
+use Rattle.mail_model.specs.Identity.Key.{Message}
+use Rattle.mail_model.specs.Plan.{Plan}
+use Rattle.mail_model.specs.Record.{Record}
+use Rattle.mail_model.specs.Record.Record.{Boot}
+use Rattle.mail_model.specs.Book.BookEntry.{WentDown}
+use Rattle.object_model.specs.Said.{said as said_of}
+use Rattle.object_model.specs.Letters.{Number, Letter}
+use Rattle.object_model.specs.Mishaps.MishapKind.{Dropped, Stale as StaleKind, Down as DownKind}
+use Rattle.cluster_model.specs.Cluster.{Ticket, Node, Life, Slot, slot_at, with_slot}
+use Rattle.cluster_model.specs.Cluster.Life.{Up, Down, Lost}
+use Rattle.cluster_model.specs.Claims.{boot_of}
+use Rattle.cluster_model.specs.Rules.{ticket_at, push, can_widen, widen, end_ticket, refuse, new_number}
+use Rattle.cluster_model.specs.Starts.{started}
+use Rattle.cluster_model.specs.Thrown.{Why, thrown_by}
+use Rattle.cluster_model.specs.Thrown.Why.{WhileDown, Late}
+use Rattle.cluster_model.specs.Progress.{Ask, ask_of, entries_with}
+use Rattle.cluster_model.specs.Progress.Ask.{Pending, Done}
+use Rattle.cluster_model.specs.Deeds.{slot_up, hear}
+use Rattle.cluster_model.specs.Room.{Flight, keys_pushed}
+use Rattle.cluster_model.specs.World.{World, missed}
+use Rattle.cluster_model.specs.Steps.{Call, Step, Said, StepFault, Outcome, mishaps_of_call, fails_at_once, ids_drawn, letter_at, fault_of}
+use Rattle.cluster_model.specs.Steps.Step.{Begin, AskFor, GiveUp, Post, DropLetter, PushTo, Widen, Crash, Start, Lose, Tick}
+use Rattle.cluster_model.specs.Steps.Said.{Begun, Asked, Heard, Thrown, Sent, Widened, NodeUp, Finished}
+use Rattle.cluster_model.specs.Steps.StepFault.{NoSuchNode, NodeDown, NoSuchLetter, NoSuchTicket}
+use Rattle.cluster_model.specs.Steps.Outcome.{Says, Refused}
+use Rattle.cluster_model.specs.Makes.{after, with_struck, kind_of_call, begun_by}
+
+-- what a step comes to, and the world after it
+pub record Ran : Type 0 where
+  pub outcome : Outcome
+  pub world : World
+
+abbrev pub says : Said → World → Ran
+says said w = record { outcome = Says said; world = w }
+
+-- nothing is done
+abbrev pub refuses : StepFault → World → Ran
+refuses fault w = record { outcome = Refused fault; world = w }
+
+-- What to do with the node that a step names, and with its disk. Whether there is one is seen before.
+abbrev pub in_life : World → List Record → (Node → List Record → Ran) → Life → Ran
+in_life w disk act (Up node) = act node disk
+in_life w disk act (Down pending) = refuses NodeDown w
+in_life w disk act Lost = refuses NodeDown w
+
+abbrev pub in_slot : World → (Node → List Record → Ran) → Option Slot → Ran
+in_slot w act None = refuses NoSuchNode w
+in_slot w act (Some slot) = in_life w slot.disk act slot.life
+
+abbrev pub at_node : World → ℕ → (Node → List Record → Ran) → Ran
+at_node w own act = in_slot w act (slot_at w.slots own)
+
+-- a call begins, with the octets that it files
+abbrev pub begins : Plan → List ℕ → World → ℕ → Call → Node → List Record → Ran
+begins plan octets w own call node disk =
+    if fails_at_once plan w.seconds node call
+    then says (Begun (new_number own node)) (after (with_struck w call) own (refuse (kind_of_call call) (mishaps_of_call plan w.seconds node call) (ids_drawn call) node disk))
+    else says (Begun (new_number own node)) (after (with_struck w call) own (begun_by plan w own node disk call octets))
+
+-- a ticket is asked
+abbrev pub answered : World → Number → Node → List Record → Ticket → Ask → Ran
+answered w number node disk ticket (Pending got wanted) = says (Asked (Pending got wanted)) w
+answered w number node disk ticket (Done answer) = says (Asked (Done answer)) (record w {
+  slots = with_slot w.slots number.node (slot_up (end_ticket number.seq node disk).node disk);
+  book = w.book ++ entries_with answer ticket;
+})
+
+abbrev pub asks : Plan → World → Number → Node → List Record → Option Ticket → Ran
+asks plan w number node disk None = refuses NoSuchTicket w
+asks plan w number node disk (Some ticket) = answered w number node disk ticket (ask_of plan.confirm ticket)
+
+-- the letters in flight without the first of this number
+abbrev pub taken_out : ℕ → List Flight → List Flight
+taken_out number [] = []
+taken_out number (flight ∷ flying) = if nat_eq flight.number number then flying else flight ∷ taken_out number flying
+
+abbrev pub kept : ℕ → Bool → List Flight → List Flight
+kept number true flying = flying
+kept number false flying = taken_out number flying
+
+-- a letter is handed to its receiver, and heard or thrown
+abbrev pub handed : Plan → World → ℕ → Bool → Letter → Node → List Record → Option Why → Ran
+handed plan w number keep letter node disk None =
+    says Heard (after (record w { flying = kept number keep w.flying }) letter.to (hear letter.to plan.nodes node disk letter))
+handed plan w number keep letter node disk (Some Late) = says (Thrown Late) (record w { flying = kept number keep w.flying })
+handed plan w number keep letter node disk (Some why) = says (Thrown why) (record w { slots = missed StaleKind w.slots letter; flying = kept number keep w.flying })
+
+abbrev pub to_nobody : World → ℕ → Bool → Letter → Ran
+to_nobody w number keep letter = says (Thrown WhileDown) (record w { slots = missed DownKind w.slots letter; flying = kept number keep w.flying })
+
+abbrev pub to_life : Plan → World → ℕ → Bool → Letter → List Record → Life → Ran
+to_life plan w number keep letter disk (Up node) = handed plan w number keep letter node disk (thrown_by letter.to node letter)
+to_life plan w number keep letter disk life = to_nobody w number keep letter
+
+abbrev pub to_slot : Plan → World → ℕ → Bool → Letter → Option Slot → Ran
+to_slot plan w number keep letter None = to_nobody w number keep letter
+to_slot plan w number keep letter (Some slot) = to_life plan w number keep letter slot.disk slot.life
+
+abbrev pub posts : Plan → World → ℕ → Bool → Option Letter → Ran
+posts plan w number keep None = refuses NoSuchLetter w
+posts plan w number keep (Some letter) = to_slot plan w number keep letter (slot_at w.slots letter.to)
+
+-- a letter is dropped
+abbrev pub drops : World → ℕ → Option Letter → Ran
+drops w number None = refuses NoSuchLetter w
+drops w number (Some letter) = says Finished (record w { slots = missed Dropped w.slots letter; flying = taken_out number w.flying })
+
+-- a node pushes to another
+abbrev pub pushes : World → ℕ → ℕ → Node → List Record → Ran
+pushes w own to node disk =
+    let did = push own to (keys_pushed w.flying own to node disk) node disk in
+    says (Sent (length did.out)) (after w own did)
+
+-- a node goes down or is lost
+abbrev pub falls : World → ℕ → Life → Option Slot → Ran
+falls w n life None = refuses NoSuchNode w
+falls w n life (Some slot) = says Finished (record w { slots = with_slot w.slots n (record slot { life = life }); book = w.book ++ WentDown n ∷ [] })
+
+-- a node starts, and nothing was pending
+abbrev pub starts : Plan → World → ℕ → Option Slot → Ran
+starts plan w n None = refuses NoSuchNode w
+starts plan w n (Some slot) =
+    let boot = boot_of slot.disk + 1 in
+    let records = slot.disk ++ Boot boot ∷ [] in
+    says (NodeUp boot) (record w { slots = with_slot w.slots n (slot_up (started n plan.nodes boot records) records) })
+
+-- what a step does that is not refused
+abbrev pub does : Plan → List ℕ → World → Step → Ran
+does plan octets w (Begin node call) = at_node w node (begins plan octets w node call)
+does plan octets w (AskFor number) = at_node w number.node (λ node disk. asks plan w number node disk (ticket_at number.node node (Some number)))
+does plan octets w (GiveUp number) = at_node w number.node (λ node disk. says Finished (after w number.node (end_ticket number.seq node disk)))
+does plan octets w (Post number keep) = posts plan w number keep (letter_at number w.flying)
+does plan octets w (DropLetter number) = drops w number (letter_at number w.flying)
+does plan octets w (PushTo from to) = at_node w from (pushes w from to)
+does plan octets w (Widen at user id to) =
+    at_node w at (λ node disk. says (Widened (can_widen to (said_of (Message user id) disk))) (after w at (widen at to (Message user id) node disk)))
+does plan octets w (Crash node) = falls w node (Down []) (slot_at w.slots node)
+does plan octets w (Start node) = starts plan w node (slot_at w.slots node)
+does plan octets w (Lose node) = falls w node Lost (slot_at w.slots node)
+does plan octets w (Tick seconds) = says Finished (record w { seconds = seconds })
+
+abbrev pub unless_refused : Plan → List ℕ → World → Step → Option StepFault → Ran
+unless_refused plan octets w step None = does plan octets w step
+unless_refused plan octets w step (Some fault) = refuses fault w
+
+-- a step is made, or refused
+abbrev pub ran : Plan → List ℕ → World → Step → Ran
+ran plan octets w step = unless_refused plan octets w step (fault_of plan step w)
+
+-- the letters that were sent since
+abbrev pub sent_since : ℕ → World → List Flight
+sent_since number w = filter (λ flight. nat_lt number flight.number) w.flying
+
+-- a line of a worked case: a step, what comes of it, and the letters that it sends
+pub record Line : Type 0 where
+  pub step : Step
+  pub outcome : Outcome
+  pub sends : List Flight
+
+-- what it does with a step, and to which world that leads
+pub record Goes (plan : Plan) (octets : List ℕ) (w : World) (step : Step) (outcome : Outcome) (next : World) : Type 0 where
+  pub is : ran plan octets w step ≡ record { outcome = outcome; world = next }
+
+-- These lines, one after another, are what the program does with a world, and lead to another.
+abbrev pub PlaysTo : Plan → List ℕ → World → List Line → World → Type 0
+PlaysTo plan octets w [] end = w ≡ end
+PlaysTo plan octets w (line ∷ lines) end =
+    (next : World) × Goes plan octets w line.step line.outcome next × (sent_since w.sent next ≡ line.sends) × PlaysTo plan octets next lines end
+
+-- what each disk says of an object in the end
+abbrev pub disks_say : Key → World → List (Option State)
+disks_say key w = map (λ slot. said_of key slot.disk) w.slots
