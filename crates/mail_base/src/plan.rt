@@ -8,7 +8,7 @@ use crate::{Name, Users};
 use std::alloc::{AllocError, Global};
 use std::marker::Model;
 
-/// The plan of a cluster: how many nodes, copies of a profile and confirmations, how many buckets, the users, and the
+/// The plan of a cluster: how many nodes, copies of an object and confirmations, how many buckets, the users, and the
 /// mailbox of the postmaster. A contract sees the plain record.
 #[derive(Drop)]
 pub struct Plan {

@@ -30,7 +30,7 @@ pub record IsShownAlike (old new : List Slot) (n : ℕ) : Type 0 where
 abbrev pub NumbersStay : Type 0
 NumbersStay = (slots : List Slot) (marked n : ℕ) → (n ≡ marked → ⊥) → IsShownAlike slots (with_mark slots marked) n
 
--- The message that was marked is none any more.
+-- Under the number of a message that was marked there is no message any more.
 abbrev pub MarkedIsNone : Type 0
 MarkedIsNone = (slots : List Slot) (n : ℕ) → message_at (with_mark slots n) n ≡ None
 

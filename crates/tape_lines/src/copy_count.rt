@@ -1,4 +1,4 @@
-// How many copies of a profile stand, and how many confirm.
+// On how many nodes each object is kept, and how many have to confirm it.
 ghost use Rattle.std.specs.Prelude.{◌≡◌, ◌≤◌, Some, None, if◌then◌else◌};
 ghost use Rattle.mail_model.specs.Tape.{between};
 
