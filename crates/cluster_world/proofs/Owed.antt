@@ -347,7 +347,7 @@ owes_served : (plan : Plan) (lines : List (List ℕ)) (tells : Bool) (entries : 
     → Owes plan tells lines entries (store ∷ []) (has.node.records ∷ []) (λ id. octets_in id has.node.records) asked answered book
 owes_served plan lines tells entries store asked answered book one sure sound has =
     let sound_served = subst (AreOf lines) (sym has.asked_are) sound in
-    let owed = one_node_owes plan tells entries has.served has.node one sure (served_sound lines has.served sound_served) has.serves in
+    let owed = one_node_owes plan tells entries has.served has.node one sure (served_sound lines has.served sound_served) has.serves has.in_grammar in
     let stored = one_node_stores plan tells lines entries has.served has.node one sure (served_taken lines has.served sound_served) has.serves in
     let disks = has.node.records ∷ [] in
     record {
@@ -357,6 +357,7 @@ owes_served plan lines tells entries store asked answered book one sure sound ha
         asks = λ n user id gone. subst (λ (l : List Asked). AsksFor l user id) has.asked_are (owed.0.asks n user id gone);
         gone = λ k user ids id among within. owed.0.gone k user ids id (has.within _ among) within;
         once = λ k user secret items among. owed.0.once k user secret items (has.within _ among);
+        named = λ k user secret items among. owed.0.named k user secret items (has.within _ among);
       };
       parts = λ told. record {
         sizes = λ k user secret items among. (owed.1 told).sizes k user secret items (has.within _ among);

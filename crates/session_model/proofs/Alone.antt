@@ -100,7 +100,7 @@ at_place (first ∷ kinds) zero kind all at =
 at_place (first ∷ kinds) (suc n) kind all at = at_place kinds n kind (All-tail (λ (k : Protocol × ℕ). k.1 ≡ 1) first kinds all) at
 
 -- so is each of a run
-driven_at_1 : (plan : Plan) (stop : Stop) (handled left : List (List ℕ)) (acts others : List (List Act)) (made : List Made) (entries : List Entry) (last : List Session) → plan.nodes ≡ 1
+pub driven_at_1 : (plan : Plan) (stop : Stop) (handled left : List (List ℕ)) (acts others : List (List Act)) (made : List Made) (entries : List Entry) (last : List Session) → plan.nodes ≡ 1
     → IsDriven plan stop handled left acts others made entries last → (k : ℕ) (kind : Protocol × ℕ) → kind_at (opened (handled ++ left)) k ≡ Some kind → kind.1 ≡ 1
 driven_at_1 plan stop handled left acts others made entries last one driven zero kind at = absurd (none-some kind at)
 driven_at_1 plan stop handled left acts others made entries last one driven (suc n) kind at =
@@ -124,7 +124,7 @@ module _ (plan : Plan) (lines : List (List ℕ)) (entries : List Entry) (acts : 
       ((told.1.0, told.1.1, told.1.2, told.2), kind ∙ ap₂ (λ (p : Protocol) (n : ℕ). Some (p, n)) told.0 (at_node_1 k (session.protocol, session.node) kind))
 
   -- so is each call
-  call_asked : (k : ℕ) (call : Call) → Among (record { session = k; call = call }) (flat_map asked_by acts) → IsSoundMail call × IsTaken lines k call
+  pub call_asked : (k : ℕ) (call : Call) → Among (record { session = k; call = call }) (flat_map asked_by acts) → IsSoundMail call × IsTaken lines k call
   call_asked k (Deliver mail) among = deliver_asked k mail (session_at sessions k) refl (among_in (record { session = k; call = Deliver mail }) (flat_map asked_by acts) among)
   call_asked k (Login user secret) among = (tt, tt)
   call_asked k (Fetch user id) among = (tt, tt)
@@ -221,7 +221,7 @@ one_node_promises plan tells stop handled left acts others made entries ending s
         (begun_asked stop (flat_map asked_by done) (asked_of served) were (record { session = k; call = call }) among))
 
     node : OwesDeletions plan (entries ++ ending) (last.records ∷ []) (asked_of served) (answered_of served) × (tells ≡ true → OwesParts (λ id. octets_in id last.records) (answered_of served))
-    node = one_node_owes plan tells (entries ++ ending) served last one sure sound.0 serves
+    node = one_node_owes plan tells (entries ++ ending) served last one sure sound.0 serves records
 
     owes : Owes plan tells lines (entries ++ ending) (store ∷ []) (last.records ∷ []) (λ id. octets_in id last.records) (asked_of served) (answered_of served) book
     owes = record {

@@ -17,7 +17,7 @@ use Rattle.session_model.proofs.Striking.{each_at}
 use Rattle.session_model.proofs.Showing.{shown_as_listed}
 
 -- the item of a number is one of the listing
-item_at : (items : List Item) (n : ℕ) (item : Item) → numbered items n ≡ Some item → (i : ℕ) × (slice_get items i ≡ Some item)
+pub item_at : (items : List Item) (n : ℕ) (item : Item) → numbered items n ≡ Some item → (i : ℕ) × (slice_get items i ≡ Some item)
 item_at items zero item at = absurd (none-some item at)
 item_at items (suc i) item at = (i, at)
 
@@ -26,7 +26,7 @@ same_item : (items : List Item) (n : ℕ) (a b : Item) → numbered items n ≡ 
 same_item items n a b is is_too = let both : Some a ≡ Some b = sym is ∙ is_too in cc
 
 -- an empty listing has none
-no_item : (items : List Item) (n : ℕ) (item : Item) → items ≡ [] → numbered items n ≡ Some item → ⊥
+pub no_item : (items : List Item) (n : ℕ) (item : Item) → items ≡ [] → numbered items n ≡ Some item → ⊥
 no_item items zero item none at = none-some item at
 no_item items (suc n) item none at = none-some item (ap (λ (l : List Item). slice_get l n) (sym none) ∙ at)
 

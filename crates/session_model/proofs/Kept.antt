@@ -33,6 +33,7 @@ use Rattle.session_model.specs.Promises.{Deletes, IsTold}
 use Rattle.session_model.specs.Copies.{EachStands}
 use Rattle.session_model.specs.Facts.{DroppedAreTrue}
 use Rattle.session_model.specs.Books.{Among, AreBegun, IsBookOf, MayBeUnwritten, StruckAsMarked}
+use Rattle.session_model.specs.Owes.{OwesDeletions}
 use Rattle.session_model.specs.Kept.{OwedIsKept, IsEnding}
 use Rattle.session_model.proofs.Acts.{kind_of}
 use Rattle.session_model.proofs.InOrder.{AreAcked, Greeted, acks_in, kind_there, stored_both}
@@ -40,7 +41,8 @@ use Rattle.session_model.proofs.Books.{IsCallIn, among_in, in_among, call_at, at
 use Rattle.session_model.proofs.Storing.{IsShownMail, told_so, filings_both}
 use Rattle.session_model.proofs.Deleting.{goes_as, reads_mail, deletes, dropped, true_answers_delete}
 use Rattle.session_model.proofs.Filing.{true_answers_show}
-use Rattle.session_model.proofs.Owed.{logged, answer_among, owed_deletions_are_true, owed_parts_are_true}
+use Rattle.session_model.proofs.Once.{true_listings_show}
+use Rattle.session_model.proofs.Owed.{logged, answer_among, owed_deletions_are_true, owed_listings_are_true, owed_parts_are_true}
 use Rattle.session_model.proofs.Striking.{quit_strikes}
 use Rattle.session_model.proofs.Driven.{IsWritten, driven_written, wrote_shown, wrote_acked}
 
@@ -273,6 +275,7 @@ owed_is_kept plan tells stop handled left acts others made entries ending last s
   deleted_by_quit = true_answers_delete plan lines (entries ++ ending) disks sessions shows.are facts;
   shown_as_filed = λ told. true_answers_show plan lines (entries ++ ending) filed sessions shows.are
       (owed_parts_are_true plan lines (entries ++ ending) filed done sessions shows (owes.parts told));
+  shown_once = true_listings_show plan lines (entries ++ ending) sessions shows.are (owed_listings_are_true plan lines (entries ++ ending) disks done sessions shows owed);
   acknowledged_as_told = record {
     may = all.1;
     copies = subst (λ (a : List Ack). AreCopies lines a (acked_in book)) (sym acked.are) owes.books.is_book.acked;
@@ -316,10 +319,15 @@ owed_is_kept plan tells stop handled left acts others made entries ending last s
           (all.2.greeted k);
     }
 
-    facts : DroppedAreTrue plan (entries ++ ending) disks sessions
-    facts = owed_deletions_are_true plan lines (entries ++ ending) disks done sessions shows (record {
+    -- what is owed of what was begun is owed of what was asked
+    owed : OwesDeletions plan (entries ++ ending) disks (flat_map asked_by done) (flat_map answered_by done)
+    owed = record {
       asks = λ n user id gone. let found = owes.deletions.asks n user id gone in
           (found.0, found.1, begun_asked stop (flat_map asked_by done) begun were (record { session = found.0; call = Strike user found.1 }) found.2, found.3);
       gone = owes.deletions.gone;
       once = owes.deletions.once;
-    })
+      named = owes.deletions.named;
+    }
+
+    facts : DroppedAreTrue plan (entries ++ ending) disks sessions
+    facts = owed_deletions_are_true plan lines (entries ++ ending) disks done sessions shows owed

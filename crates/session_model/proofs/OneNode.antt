@@ -1,5 +1,5 @@
 -- One node gives what a cluster owes: of deletions, and of listings and parts.
-use Rattle.std.proofs.Common.{◌≡◌, ◌≢◌, inl, inr, ⊎_elim, ◌+◌, ◌≤◌, ℕ, zero, suc, List, [], ◌∷◌, ◌++◌, length, map, flat_map, AllPairs, Option, Some, None, refl, sym, ap, ◌∙◌, subst, arith, append_assoc, append-nil, slice_get, Bool, true}
+use Rattle.std.proofs.Common.{◌≡◌, ◌≢◌, inl, inr, ⊎_elim, ◌+◌, ◌≤◌, ℕ, zero, suc, List, [], ◌∷◌, ◌++◌, length, map, flat_map, AllPairs, Option, Some, None, refl, sym, ap, ◌∙◌, subst, arith, append_assoc, append-nil, slice_get, Bool, true, false, All, if◌then◌else◌}
 use Rattle.std.specs.Prelude.{⊤}
 use Rattle.std.proofs.lemmas.Option.{none-some}
 use Rattle.mail_model.specs.Identity.{Id, Stamp}
@@ -11,14 +11,16 @@ use Rattle.mail_model.specs.Mail.{IsStored}
 use Rattle.mail_model.specs.PopReplies.{Item}
 use Rattle.mail_model.specs.Record.{Record, SaysGone}
 use Rattle.mail_model.specs.Record.Record.{Boot, Promise, Retired, Octets, Stated}
-use Rattle.mail_model.specs.Listing.{octets_in}
+use Rattle.std.proofs.lemmas.List.Elements.{All-head, All-tail}
+use Rattle.mail_model.specs.Grammar.{IsId, IsRecord}
+use Rattle.mail_model.specs.Listing.{octets_in, is_same_id}
 use Rattle.mail_model.specs.Deleted.{IsCopyOf}
 use Rattle.mail_model.specs.Site.{nth_id, nth_stamp, message_records, gone_records, drawn_through}
 use Rattle.mail_model.proofs.Disk.{through_rises}
 use Rattle.mail_model.proofs.GoneCopies.{copies_by, copy_front, copy_behind, copy_either}
 use Rattle.mail_model.proofs.GoneRecords.{gone_front, gone_behind, gone_either, message_not_gone, gone_of_copies, copies_of_gone}
 use Rattle.mail_model.proofs.GoneHere.{Heres, HeresDrawn, heres_more, heres_none, heres_front, message_heres, gone_heres}
-use Rattle.mail_model.proofs.GoneListing.{listing_once}
+use Rattle.mail_model.proofs.GoneListing.{listing_once, same_id_is}
 use Rattle.session_model.proofs.OnNode.{on_one}
 use Rattle.mail_model.proofs.ShownReplies as shown
 use Rattle.mail_model.proofs.ShownReplies.{items_for, item_for}
@@ -317,8 +319,21 @@ first_sound = record {
     boots : (user : List ℕ) (id : Id) (stamp : Stamp) (targets : ℕ) → Boot 1 ≡ Stated (Message user id) (record { value = Gone; stamp = stamp; targets = targets }) → ⊥
     boots user id stamp targets is = cc
 
+-- an id whose octets are held is one that a journal can spell
+held_named : (id : Id) (records : List Record) (octets : List ℕ) → All IsRecord records → octets_in id records ≡ Some octets → IsId id
+held_named id [] octets all held = absurd (none-some octets held)
+held_named id (Boot boot ∷ records) octets all held = held_named id records octets (All-tail IsRecord (Boot boot) records all) held
+held_named id (Promise epoch ∷ records) octets all held = held_named id records octets (All-tail IsRecord (Promise epoch) records all) held
+held_named id (Retired key state ∷ records) octets all held = held_named id records octets (All-tail IsRecord (Retired key state) records all) held
+held_named id (Stated key state ∷ records) octets all held = held_named id records octets (All-tail IsRecord (Stated key state) records all) held
+held_named id (Octets other there ∷ records) octets all held = by_test (is_same_id other id) refl (held_named id records octets (All-tail IsRecord (Octets other there) records all)) held
+  where
+    by_test : (b : Bool) → is_same_id other id ≡ b → (octets_in id records ≡ Some octets → IsId id) → (if b then Some there else octets_in id records) ≡ Some octets → IsId id
+    by_test true same later held = subst IsId (same_id_is other id same) (All-head IsRecord (Octets other there) records all)
+    by_test false differ later held = later held
+
 pub one_node_owes : OneNodeOwes
-one_node_owes plan tells entries served last one sure mails serves =
+one_node_owes plan tells entries served last one sure mails serves grammar =
     let all = serves_all plan tells first_node last [] served first_sound mails serves in (
       record {
         asks = λ n user id gone. struck_asked user id served (all.sound.gone user id (gone_here n user id gone));
@@ -328,6 +343,9 @@ one_node_owes plan tells entries served last one sure mails serves =
               (answer_is tells last.records served all.true_of k (Strike user ids) Dropped among id within),
         );
         once = λ k user secret items among. (answer_is tells last.records served all.true_of k (Login user secret) (Listed items) among).0;
+        named = λ k user secret items among i item at.
+            let has = (answer_is tells last.records served all.true_of k (Login user secret) (Listed items) among).1 i item at in
+            held_named item.id last.records has.0 grammar has.1;
       },
       λ told. record {
         sizes = λ k user secret items among. (answer_is tells last.records served all.true_of k (Login user secret) (Listed items) among).1;

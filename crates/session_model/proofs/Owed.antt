@@ -8,14 +8,14 @@ use Rattle.session_model.specs.Calls.{Call, Answer}
 use Rattle.session_model.specs.Calls.Call.{Login, Fetch, Strike}
 use Rattle.session_model.specs.Calls.Answer.{Listed, Part, Dropped}
 use Rattle.session_model.specs.Talk.{Exchange}
-use Rattle.session_model.specs.Reading.{Each, ListsOnce}
+use Rattle.session_model.specs.Reading.{Each, ListsOnce, ListsNamed}
 use Rattle.session_model.specs.Sessions.{Session, session_at, exchanges_of}
 use Rattle.session_model.specs.Facts.{Strikes, SizesFiled, IsPartFiled}
 use Rattle.session_model.specs.Acts.{Act}
 use Rattle.session_model.specs.Logs.{Answered, IsLogged, answer_in, answers_of, asked_by, answered_by, asked_in, answered_in}
 use Rattle.session_model.specs.Runs.{Shows}
 use Rattle.session_model.specs.Books.{AmongAnswers}
-use Rattle.session_model.specs.Owes.{OwedDeletionsAreTrue, OwedPartsAreTrue}
+use Rattle.session_model.specs.Owes.{OwedDeletionsAreTrue, OwedListingsAreTrue, OwedPartsAreTrue}
 use Rattle.session_model.proofs.Books.{IsCallIn, among_in, call_at}
 
 -- the call with its answer is one of these
@@ -89,6 +89,14 @@ owed_deletions_are_true plan lines entries disks acts sessions shows owes = reco
       owes.gone k user ids id (answer_among plan lines entries acts sessions shows k session at (Strike user ids) Dropped before behind one are asks told) within;
   once = λ k session at. each_from ListsOnce [] (exchanges_of session) (λ before behind one are user secret items asks told.
       owes.once k user secret items (answer_among plan lines entries acts sessions shows k session at (Login user secret) (Listed items) before behind one are asks told));
+}
+
+pub owed_listings_are_true : OwedListingsAreTrue
+owed_listings_are_true plan lines entries disks acts sessions shows owes = record {
+  once = λ k session at. each_from ListsOnce [] (exchanges_of session) (λ before behind one are user secret items asks told.
+      owes.once k user secret items (answer_among plan lines entries acts sessions shows k session at (Login user secret) (Listed items) before behind one are asks told));
+  named = λ k session at. each_from ListsNamed [] (exchanges_of session) (λ before behind one are user secret items asks told.
+      owes.named k user secret items (answer_among plan lines entries acts sessions shows k session at (Login user secret) (Listed items) before behind one are asks told));
 }
 
 pub owed_parts_are_true : OwedPartsAreTrue

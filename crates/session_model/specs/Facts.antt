@@ -13,7 +13,7 @@ use Rattle.session_model.specs.Calls.Answer.{Listed, Part, Dropped}
 use Rattle.session_model.specs.Talk.{Exchange}
 use Rattle.session_model.specs.Copies.{AreGoneOn}
 use Rattle.session_model.specs.Mailing.{Filing}
-use Rattle.session_model.specs.Reading.{ListsOnce, Each}
+use Rattle.session_model.specs.Reading.{ListsOnce, ListsNamed, Each}
 use Rattle.session_model.specs.Sessions.{Session, session_at, exchanges_of}
 
 -- the id is one of these
@@ -40,6 +40,11 @@ pub record DroppedAreTrue (plan : Plan) (entries : List Entry) (disks : List (Li
   pub gone : (k : ℕ) (session : Session) (user : List ℕ) (ids : List Id) (one : Exchange) → session_at sessions k ≡ Some session → Strikes session user ids one
       → one.answer ≡ Some Dropped → (id : Id) → IsIn id ids → (nodes : List ℕ) × AreGoneOn plan entries disks user id nodes
   pub once : (k : ℕ) (session : Session) → session_at sessions k ≡ Some session → Each ListsOnce (exchanges_of session)
+
+-- each listing has each id once, and only ids that a journal can spell
+pub record ListingsAreTrue (sessions : List Session) : Type 0 where
+  pub once : (k : ℕ) (session : Session) → session_at sessions k ≡ Some session → Each ListsOnce (exchanges_of session)
+  pub named : (k : ℕ) (session : Session) → session_at sessions k ≡ Some session → Each ListsNamed (exchanges_of session)
 
 -- the sizes of a listing that a login was answered with are those of what is filed
 abbrev pub SizesFiled : (Id → Option (List ℕ)) → Exchange → Type 0

@@ -13,7 +13,7 @@ use Rattle.session_model.specs.Acts.{Act}
 use Rattle.session_model.specs.Logs.{Asked, asked_by, answered_by}
 use Rattle.session_model.specs.Run.{Stop, Made, IsDriven}
 use Rattle.session_model.specs.Runs.{Shows}
-use Rattle.session_model.specs.Promises.{StoredStands, DeletedByQuit, ShownAsFiled}
+use Rattle.session_model.specs.Promises.{StoredStands, DeletedByQuit, ShownAsFiled, ShownOnce}
 use Rattle.session_model.specs.Books.{AcknowledgedAsTold, StruckAsMarked, AreBegun}
 use Rattle.session_model.specs.Owes.{Owes}
 
@@ -31,6 +31,7 @@ pub record KeepsPromises (plan : Plan) (tells : Bool) (stop : Stop) (lines : Lis
   pub stored_stands : StoredStands plan lines entries disks sessions acks
   pub deleted_by_quit : DeletedByQuit plan entries disks sessions
   pub shown_as_filed : tells ≡ true → ShownAsFiled filed sessions
+  pub shown_once : ShownOnce sessions
   pub acknowledged_as_told : AcknowledgedAsTold plan stop lines sessions acks unwritten book
   pub struck_as_marked : StruckAsMarked stop entries sessions (flat_map asked_by acts) begun (flat_map answered_by acts) book
   pub dropped_are_gone : DroppedAreGone plan entries disks book

@@ -1,5 +1,5 @@
 -- A cluster of one node, by its calls: what each leaves on its disk, and what it answers.
-use Rattle.std.specs.Prelude.{◌≡◌, ◌≢◌, ◌⊎◌, ℕ, ◌+◌, Bool, true, false, List, [], ◌∷◌, ◌++◌, length, map, flat_map, ⊤, AllPairs, Option, Some, None}
+use Rattle.std.specs.Prelude.{◌≡◌, ◌≢◌, ◌⊎◌, ℕ, ◌+◌, Bool, true, false, List, [], ◌∷◌, ◌++◌, length, map, flat_map, ⊤, All, AllPairs, Option, Some, None}
 use Rattle.mail_model.specs.Plan.{Plan, opens}
 use Rattle.mail_model.specs.Session.{Told}
 use Rattle.mail_model.specs.Told.{mail_of}
@@ -9,6 +9,7 @@ use Rattle.mail_model.specs.Stored.{opened, kind_at}
 use Rattle.mail_model.specs.Transcript.{Entry}
 use Rattle.mail_model.specs.Record.{Record}
 use Rattle.mail_model.specs.Record.Record.{Boot}
+use Rattle.mail_model.specs.Grammar.{IsRecord}
 use Rattle.mail_model.specs.Listing.{octets_in, listing_of, size_in}
 use Rattle.mail_model.specs.Site.{nth_id, nth_stamp, message_records, gone_records, drawn_through}
 use Rattle.session_model.specs.Calls.{Call, Answer}
@@ -101,7 +102,7 @@ answered_of served = flat_map (λ one. told_of one.session one.call one.answer) 
 -- One node gives what a cluster owes.
 abbrev pub OneNodeOwes : Type 0
 OneNodeOwes = (plan : Plan) (tells : Bool) (entries : List Entry) (served : List Served) (last : Node) → plan.nodes ≡ 1 → plan.confirm ≡ 1
-    → AreSoundMails served → ServesAll plan tells first_node served last
+    → AreSoundMails served → ServesAll plan tells first_node served last → All IsRecord last.records
     → OwesDeletions plan entries (last.records ∷ []) (asked_of served) (answered_of served)
     × (tells ≡ true → OwesParts (λ id. octets_in id last.records) (answered_of served))
 

@@ -1,6 +1,7 @@
 -- What a cluster owes of the calls that it began and that it answered. It speaks of these two lists and of no session.
 use Rattle.std.specs.Prelude.{◌≡◌, ◌≢◌, ℕ, Bool, true, List, length, map, flat_map, AllPairs, Option, Some, slice_get}
 use Rattle.mail_model.specs.Identity.{Id}
+use Rattle.mail_model.specs.Grammar.{IsId}
 use Rattle.mail_model.specs.Lines.{closed}
 use Rattle.mail_model.specs.Plan.{Plan}
 use Rattle.mail_model.specs.Transcript.{Entry}
@@ -12,19 +13,21 @@ use Rattle.session_model.specs.Calls.Call.{Login, Fetch, Strike}
 use Rattle.session_model.specs.Calls.Answer.{Listed, Part, Dropped}
 use Rattle.session_model.specs.Copies.{AreDisks, EachStands, AreGoneOn, DroppedAreGone}
 use Rattle.session_model.specs.Sessions.{Session}
-use Rattle.session_model.specs.Facts.{IsIn, IsGoneIn, DroppedAreTrue, PartsAreTrue}
+use Rattle.session_model.specs.Facts.{IsIn, IsGoneIn, DroppedAreTrue, ListingsAreTrue, PartsAreTrue}
 use Rattle.session_model.specs.Acts.{Act}
 use Rattle.session_model.specs.Logs.{Asked, Answered, asked_by, answered_by}
 use Rattle.session_model.specs.Books.{Among, AmongAnswers, IsBookOf, AreConfirmed, acks_by}
 use Rattle.session_model.specs.Runs.{Shows}
 
--- what is gone was asked for, what was answered `Dropped` is gone, and a listing has each id once
+-- what is gone was asked for, what was answered `Dropped` is gone, and a listing has each id once, and only ids that a journal can spell
 pub record OwesDeletions (plan : Plan) (entries : List Entry) (disks : List (List Record)) (begun : List Asked) (answered : List Answered) : Type 0 where
   pub asks : (n : ℕ) (user : List ℕ) (id : Id) → IsGoneIn disks n user id → (k : ℕ) × (ids : List Id) × Among (record { session = k; call = Strike user ids }) begun × IsIn id ids
   pub gone : (k : ℕ) (user : List ℕ) (ids : List Id) (id : Id) → AmongAnswers (record { session = k; call = Strike user ids; answer = Dropped }) answered → IsIn id ids
       → (nodes : List ℕ) × AreGoneOn plan entries disks user id nodes
   pub once : (k : ℕ) (user secret : List ℕ) (items : List Item) → AmongAnswers (record { session = k; call = Login user secret; answer = Listed items }) answered
       → AllPairs (λ (a b : Id). a ≢ b) (map (λ (item : Item). item.id) items)
+  pub named : (k : ℕ) (user secret : List ℕ) (items : List Item) → AmongAnswers (record { session = k; call = Login user secret; answer = Listed items }) answered
+      → (i : ℕ) (item : Item) → slice_get items i ≡ Some item → IsId item.id
 
 -- each message that was answered `Stored` stands, under an id of its own and of the node of its session
 pub record OwesStored (plan : Plan) (lines : List (List ℕ)) (entries : List Entry) (disks : List (List Record)) (answered : List Answered) : Type 0 where
@@ -60,6 +63,10 @@ abbrev pub OwedDeletionsAreTrue : Type 0
 OwedDeletionsAreTrue = (plan : Plan) (lines : List (List ℕ)) (entries : List Entry) (disks : List (List Record)) (acts : List Act) (sessions : List Session)
     → Shows plan lines entries acts sessions → OwesDeletions plan entries disks (flat_map asked_by acts) (flat_map answered_by acts)
     → DroppedAreTrue plan entries disks sessions
+
+abbrev pub OwedListingsAreTrue : Type 0
+OwedListingsAreTrue = (plan : Plan) (lines : List (List ℕ)) (entries : List Entry) (disks : List (List Record)) (acts : List Act) (sessions : List Session)
+    → Shows plan lines entries acts sessions → OwesDeletions plan entries disks (flat_map asked_by acts) (flat_map answered_by acts) → ListingsAreTrue sessions
 
 abbrev pub OwedPartsAreTrue : Type 0
 OwedPartsAreTrue = (plan : Plan) (lines : List (List ℕ)) (entries : List Entry) (filed : Id → Option (List ℕ)) (acts : List Act) (sessions : List Session)

@@ -18,7 +18,7 @@ use Rattle.session_model.specs.Copies.{EachStands, AreGoneOn}
 use Rattle.session_model.specs.Mailing.{pairs}
 use Rattle.session_model.specs.Reading.{QuitsMarked, IsQuitUnit, all_seen, seen}
 use Rattle.session_model.specs.Sessions.{Session, AreSessions, session_at, exchanges_of}
-use Rattle.session_model.specs.Facts.{IsGoneIn, IsIn, DroppedAreTrue, PartsAreTrue}
+use Rattle.session_model.specs.Facts.{IsGoneIn, IsIn, DroppedAreTrue, ListingsAreTrue, PartsAreTrue}
 
 -- What the client of session k was told: the units that it sent, each with its reply, and the messages that these tell, which are those of its lines `250 stored`.
 pub record IsTold (plan : Plan) (acks : List Ack) (k : ℕ) (session : Session) : Type 0 where
@@ -67,6 +67,12 @@ ShownAsFiled filed sessions = (k : ℕ) (session : Session) → session_at sessi
     → ((size : List ℕ) → ShowsSize n size (seen other) → (octets : List ℕ) × AreFiled filed text octets × (size ≡ decimal (length octets)))
     × ((octets : List ℕ) → ShowsOctets n octets (seen other) → AreFiled filed text octets)
 
+-- UIDL shows no id for two numbers of one session: no message is listed twice.
+abbrev pub ShownOnce : List Session → Type 0
+ShownOnce sessions = (k : ℕ) (session : Session) → session_at sessions k ≡ Some session → session.protocol ≡ Pop
+    → (n m : ℕ) (text : List ℕ) (before behind before_it behind_it : List Exchange) (one other : Exchange) → n < 10 ^ 63 → m < 10 ^ 63
+    → session.whole ≡ before ++ one ∷ behind → ShowsId n text (seen one) → session.whole ≡ before_it ++ other ∷ behind_it → ShowsId m text (seen other) → n ≡ m
+
 -- The promises follow for every tape and every status from the sessions and from facts about answers.
 abbrev pub TrueAnswersDelete : Type 0
 TrueAnswersDelete = (plan : Plan) (lines : List (List ℕ)) (entries : List Entry) (disks : List (List Record)) (sessions : List Session)
@@ -75,3 +81,7 @@ TrueAnswersDelete = (plan : Plan) (lines : List (List ℕ)) (entries : List Entr
 abbrev pub TrueAnswersShow : Type 0
 TrueAnswersShow = (plan : Plan) (lines : List (List ℕ)) (entries : List Entry) (filed : Id → Option (List ℕ)) (sessions : List Session)
     → AreSessions plan lines entries sessions → PartsAreTrue filed sessions → ShownAsFiled filed sessions
+
+abbrev pub TrueListingsShow : Type 0
+TrueListingsShow = (plan : Plan) (lines : List (List ℕ)) (entries : List Entry) (sessions : List Session)
+    → AreSessions plan lines entries sessions → ListingsAreTrue sessions → ShownOnce sessions

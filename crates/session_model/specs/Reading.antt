@@ -1,6 +1,7 @@
 -- What the exchanges of a session that reads mail show and mark.
-use Rattle.std.specs.Prelude.{◌≡◌, ◌≢◌, ℕ, false, List, [], ◌∷◌, ◌++◌, map, ⊤, Some, Ok, AllPairs}
+use Rattle.std.specs.Prelude.{◌≡◌, ◌≢◌, ℕ, false, List, [], ◌∷◌, ◌++◌, map, ⊤, Some, Ok, AllPairs, slice_get}
 use Rattle.mail_model.specs.Identity.{Id}
+use Rattle.mail_model.specs.Grammar.{IsId}
 use Rattle.mail_model.specs.Plan.{Plan}
 use Rattle.mail_model.specs.Tape.Protocol.{Pop}
 use Rattle.mail_model.specs.Session.{Unit, is_long_line}
@@ -37,6 +38,11 @@ Each P (one ∷ more) = P one × Each P more
 abbrev pub ListsOnce : Exchange → Type 0
 ListsOnce one = (user secret : List ℕ) (items : List Item) → one.call ≡ Some (Login user secret) → one.answer ≡ Some (Listed items)
     → AllPairs (λ (a b : Id). a ≢ b) (map (λ (item : Item). item.id) items)
+
+-- and only ids that a journal can spell
+abbrev pub ListsNamed : Exchange → Type 0
+ListsNamed one = (user secret : List ℕ) (items : List Item) → one.call ≡ Some (Login user secret) → one.answer ≡ Some (Listed items)
+    → (i : ℕ) (item : Item) → slice_get items i ≡ Some item → IsId item.id
 
 -- the unit is QUIT
 pub record IsQuitUnit (unit : Unit) : Type 0 where

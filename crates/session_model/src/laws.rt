@@ -5,12 +5,12 @@ ghost use Rattle.session_model.specs.Mailing.{StoredAsTold, AsksAsTold};
 ghost use Rattle.session_model.specs.Reading.{StrikesAtQuit, QuitStrikes};
 ghost use Rattle.session_model.specs.Showing.{ShownAsListed};
 ghost use Rattle.session_model.specs.Runs.{ActsAreShown, DrivenIsShown, DrivenWritesLines, DrivenAnswersUnits};
-ghost use Rattle.session_model.specs.Owes.{OwedDeletionsAreTrue, OwedPartsAreTrue};
+ghost use Rattle.session_model.specs.Owes.{OwedDeletionsAreTrue, OwedListingsAreTrue, OwedPartsAreTrue};
 ghost use Rattle.session_model.specs.Kept.{OwedIsKept};
 ghost use Rattle.session_model.specs.Alone.{OneNodePromises};
 ghost use Rattle.session_model.specs.Readings.{OneReading};
 ghost use Rattle.session_model.specs.OneNode.{OneNodeOwes, OneNodeStores};
-ghost use Rattle.session_model.specs.Promises.{TrueAnswersDelete, TrueAnswersShow};
+ghost use Rattle.session_model.specs.Promises.{TrueAnswersDelete, TrueAnswersShow, TrueListingsShow};
 
 /// A session that was opened has said nothing but its greeting.
 pub fn begins()
@@ -77,6 +77,11 @@ pub fn true_answers_show()
     ensures { TrueAnswersShow }
 {}
 
+/// Where listings are true, no reader was shown an id for two numbers.
+pub fn true_listings_show()
+    ensures { TrueListingsShow }
+{}
+
 /// However the work on a tape is left off, its transcript shows the sessions that its acts
 /// made, with what these asked and were answered.
 pub fn acts_are_shown()
@@ -86,6 +91,11 @@ pub fn acts_are_shown()
 /// What a cluster owes of deletions is true in the sessions that asked for them.
 pub fn owed_deletions_are_true()
     ensures { OwedDeletionsAreTrue }
+{}
+
+/// Each listing that it owes has each id once.
+pub fn owed_listings_are_true()
+    ensures { OwedListingsAreTrue }
 {}
 
 /// What it owes of listings and parts is true in the sessions that were shown them.
