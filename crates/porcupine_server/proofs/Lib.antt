@@ -7,3 +7,4 @@ mod Complete
 pub mod OneWord
 pub mod Serving
 pub mod Promises
+pub mod OwnStores

@@ -4,3 +4,4 @@ pub mod Endings
 pub mod Works
 pub mod Promises
 pub mod Complete
+pub mod Fresh

@@ -10,6 +10,7 @@
 #![tactic(auto)]
 
 mod ending;
+mod program;
 mod real_yard;
 mod server;
 #[cfg(test)]
@@ -17,32 +18,16 @@ mod tests;
 mod words;
 
 use io_edge::{ReadSource, WriteSink};
-use real_yard::RealYard;
-use server::porcupine;
+use std::env;
 use std::io::BufReader;
 use std::process::ExitCode;
-use std::{env, io};
-
-// The words behind the program's name.
-fn words_of(rt: &HostRuntime) -> io::Result<Vec<String>> {
-    let mut words = Vec::new(rt.alloc());
-    for word in env::args(rt)?.skip(1) {
-        words.push(word)?;
-    }
-    Ok(words)
-}
 
 fn main(rt: HostRuntime) -> ExitCode {
-    // Without memory for the words, or for the buffer, the status is that of want of memory.
-    let Ok(words) = words_of(&rt) else {
-        return ExitCode::from(7);
-    };
-    // A tape is read octet by octet.
+    // A tape is read octet by octet. Without memory for the buffer the status is that of out of memory.
     let Ok(input) = BufReader::new(rt.alloc(), rt.stdin()) else {
         return ExitCode::from(7);
     };
     let mut source = ReadSource::new(input);
     let mut sink = WriteSink::new(rt.stdout());
-    let mut yard = RealYard::new(rt.alloc());
-    ExitCode::from(porcupine(rt.alloc(), &words, &mut source, &mut sink, &mut yard))
+    ExitCode::from(program::run(rt.alloc(), env::args(&rt), &mut source, &mut sink))
 }

@@ -1,6 +1,11 @@
 // The words of the command line.
-ghost use Rattle.std.specs.Prelude.{◌≡◌, true, ◌↔◌};
-ghost use Rattle.porcupine_server.specs.Words.{IsDrive};
+ghost use Rattle.std.specs.Prelude.{◌≡◌, true, ◌↔◌, IfOk, OnErr};
+ghost use Rattle.porcupine_server.specs.Words.{IsDrive, IsNotText, words_after_name};
+
+use std::alloc::{AllocError, Global};
+use std::env::Args;
+use std::io;
+use std::io::ErrorKind;
 
 /// Whether the words are the one word `drive`.
 pub fn is_drive(words: &[String]) -> bool
@@ -9,5 +14,31 @@ pub fn is_drive(words: &[String]) -> bool
     match words {
         [word] => word.as_str() == "drive",
         _ => false,
+    }
+}
+
+/// The words after the program's name, of those that the system hands over. Where one of them is not text there are none: no
+/// form has such a word, and none has no words.
+///
+/// # Errors
+///
+/// Only out of memory.
+pub fn words_of(alloc: Global, arguments: io::Result<Args>) -> Result<Vec<String>, AllocError>
+    ensures words { IfOk result (λ words. words.items ≡ words_after_name arguments) }
+    ensures text { OnErr result (IsNotText arguments → ⊥) }
+{
+    match arguments {
+        Ok(mut arguments) => {
+            let _name = arguments.next();
+            let mut words = Vec::new(alloc);
+            for word in arguments {
+                words.push(word)?;
+            }
+            Ok(words)
+        }
+        Err(fault) => match fault.kind() {
+            ErrorKind::InvalidData => Ok(Vec::new(alloc)),
+            _ => Err(AllocError),
+        },
     }
 }

@@ -1,0 +1,37 @@
+// The program over any source and sink: all of `main` but what the system itself gives.
+ghost use Rattle.std.specs.Prelude.{◌≡◌, ◌⊎◌, ℕ, List, Some};
+ghost use Rattle.io_edge.specs.Causes.{Rose};
+ghost use Rattle.porcupine_server.specs.Words.{IsDrive, IsNotText, RefusesWords, words_after_name};
+ghost use Rattle.porcupine_server.specs.Complete.{IsGoodTape};
+
+use crate::real_yard::RealYard;
+use crate::server::porcupine;
+use crate::words::words_of;
+use io_edge::{Sink, Source};
+use std::alloc::Global;
+use std::env::Args;
+use std::io;
+
+/// Does what the words that the system hands over name, with stores in memory, and answers the exit status.
+///
+/// The call `porcupine` says which status comes where. A word that is not text is of no form. A store in memory does not fail,
+/// so no run ends for the sake of one.
+pub fn run<S: Source, K: Sink>(
+    alloc: Global,
+    arguments: io::Result<Args>,
+    source: &mut S,
+    sink: &mut K,
+) -> u8
+    ensures refused { IsNotText arguments → (result ≡ 1) × (S.left source.new ≡ S.left source.old) }
+    ensures told { IsNotText arguments → RefusesWords (K.contents sink.old) (K.contents sink.new) (K.faults sink.old) (K.faults sink.new) }
+    ensures no_store_fault { result ≡ 6 → ⊥ }
+    ensures complete { IsDrive (words_after_name arguments) → (tape : List ℕ) → S.left source.old ≡ Some tape → IsGoodTape tape
+        → (Rose (S.faults source.old) (S.faults source.new) → ⊥) → (Rose (K.faults sink.old) (K.faults sink.new) → ⊥)
+        → (result ≡ 0) ⊎ (result ≡ 7) }
+{
+    let Ok(words) = words_of(alloc, arguments) else {
+        return 7;
+    };
+    let mut yard = RealYard::new(alloc);
+    porcupine(alloc, &words, source, sink, &mut yard)
+}
