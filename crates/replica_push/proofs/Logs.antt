@@ -40,7 +40,7 @@ value_self Here = refl
 value_self Gone = refl
 value_self (Secret octets) = (bytes_decides octets octets).1 refl
 
-state_self : (s : State) → is_same_state s s ≡ true
+pub state_self : (s : State) → is_same_state s s ≡ true
 state_self s = and_from (is_same_value s.value s.value && is_same_stamp s.stamp s.stamp) (nat_eq s.targets s.targets)
     (and_from (is_same_value s.value s.value) (is_same_stamp s.stamp s.stamp) (value_self s.value)
     (and_from (nat_eq s.stamp.count s.stamp.count && nat_eq s.stamp.boot s.stamp.boot) (nat_eq s.stamp.node s.stamp.node)
@@ -49,7 +49,7 @@ state_self s = and_from (is_same_value s.value s.value && is_same_stamp s.stamp 
     (eq-eqb s.targets s.targets refl)
 
 -- an entry of that state under the key is taken out
-retired_entry : (log : Log) (k : Key) (state : State) (entry : Logged) → is_same_state entry.state state ≡ true → retired k state (fin.insert log k entry) ≡ fin.remove log k
+pub retired_entry : (log : Log) (k : Key) (state : State) (entry : Logged) → is_same_state entry.state state ≡ true → retired k state (fin.insert log k entry) ≡ fin.remove log k
 retired_entry log k state entry same =
     ap (λ b. cond b (fin.remove (fin.insert log k entry) k) (fin.insert log k entry)) (ap (is_of state) (written key_total key_exact log k entry) ∙ same)
     ∙ removed_again log k entry
