@@ -1,33 +1,31 @@
 -- What a replica does, beside the rules of the cluster.
-use Rattle.std.proofs.Common.{◌≡◌, ◌≢◌, ⊎_elim, ℕ, zero, suc, ◌≤◌, ◌<◌, ◌&&◌, ◌||◌, not, nat_eq, Bool, true, false, cond, List, [], ◌∷◌, ◌++◌, Option, Some, None, refl, sym, ap, subst, ◌∙◌, true≢false, arith, append-nil, bit_or, if◌then◌else◌}
+use Rattle.std.proofs.Common.{◌≡◌, ◌≢◌, ⊎_elim, ℕ, zero, suc, ◌<◌, ◌&&◌, not, nat_eq, Bool, true, false, cond, List, [], ◌∷◌, ◌++◌, Option, Some, None, refl, sym, ap, subst, ◌∙◌, true≢false, arith, append-nil, bit_or, if◌then◌else◌}
 use Rattle.std.specs.FinMap as fin
 use Rattle.std.proofs.lemmas.Bool.{and_parts}
-use Rattle.mail_model.specs.Identity.{Key, Stamp, Value, State}
-use Rattle.mail_model.specs.Record.{Record}
+use Rattle.mail_model.specs.Identity.{Key, State}
 use Rattle.mail_model.specs.Record.Record.{Stated, Retired}
 use Rattle.mail_model.specs.Listing.{is_here}
 use Rattle.object_model.specs.Said.{said}
 use Rattle.object_model.specs.Sets.{has, one_node, with_node, without_node}
-use Rattle.object_model.specs.States.{is_below, joined, join_with, is_news, is_same_value, is_same_stamp, is_same_state}
+use Rattle.object_model.specs.States.{is_below, joined, join_with, is_news, is_same_state}
 use Rattle.object_model.specs.UpdateLog.{Logged, Log, new_entry, noted, is_of, cleared, cleared_at, retired}
 use Rattle.object_model.proofs.MapLaws.{key_total, key_exact, written, kept_other}
 use Rattle.object_model.proofs.SaidLaws.{or_again}
 use Rattle.object_model.proofs.SetLaws.{has_right, one_has}
 use Rattle.object_model.proofs.StateLaws.{state_is}
 use Rattle.mail_base.proofs.KeyWrites.{same_or}
-use Rattle.object_table.specs.Tables.{Table, taken}
-use Rattle.update_log.specs.declared.logged.Acked.{Acked}
+use Rattle.object_table.specs.Tables.{taken}
 use Rattle.update_log.specs.declared.logged.Acked.TheVariants.{Cleared, Emptied, Other}
-use Rattle.update_log.specs.Answers.{answer_of, answer_at}
+use Rattle.update_log.specs.Answers.{answer_at}
 use Rattle.object_model.specs.Letters.{Letter}
 use Rattle.object_model.specs.Letters.Body.{Retire}
-use Rattle.cluster_model.specs.Cluster.{Node, epoch_of}
+use Rattle.cluster_model.specs.Cluster.{epoch_of}
 use Rattle.cluster_model.specs.Store.{Store, recorded, take_one}
 use Rattle.cluster_model.specs.Rules as rule
 use Rattle.cluster_model.proofs.Takes.{took_join}
 use Rattle.replica_push.specs.Acks.{after_ack}
-use Rattle.replica_push.specs.Pushes.{news_of, note_news, wider_of}
-use Rattle.replica_push.specs.Rules.{Tells, records_of, settled, IsTaken, PushesFollow, WideningFollows, retired_by, IsLeft, AcksFollow, RetiringFollows}
+use Rattle.replica_push.specs.Pushes.{news_of, note_news}
+use Rattle.replica_push.specs.Rules.{records_of, settled, PushesFollow, WideningFollows, retired_by, IsLeft, AcksFollow, RetiringFollows}
 use Rattle.replica_push.proofs.Logs.{state_self, retired_entry}
 
 -- the log and the disk of a store that takes a state, by what is held

@@ -1,10 +1,9 @@
 -- Entries that are taken out of a log.
-use Rattle.std.proofs.Common.{◌≡◌, ◌≢◌, ◌⊎◌, ⊎_elim, ℕ, ◌&&◌, Bool, true, false, cond, Option, Some, None, nat_eq, refl, sym, ap, subst, ◌∙◌, true≢false, eq-eqb}
+use Rattle.std.proofs.Common.{◌≡◌, ⊎_elim, ℕ, ◌&&◌, Bool, true, false, cond, Option, Some, None, nat_eq, refl, sym, ap, subst, ◌∙◌, eq-eqb}
 use Rattle.std.specs.FinMap as fin
 use Rattle.std.specs.FinMap.{FinMap, same_map, get-remove}
-use Rattle.std.specs.Ordering.{eq_by_cmp}
 use Rattle.std.specs.Cmp.{Equal-is, tied_itself}
-use Rattle.std.specs.Cmp.Lexicographic.{pointwise, bytes_decides}
+use Rattle.std.specs.Cmp.Lexicographic.{bytes_decides}
 use Rattle.std.proofs.lemmas.Bool.{and_parts, and_from}
 use Rattle.mail_model.specs.Identity.{Key, Value, State}
 use Rattle.mail_model.specs.Identity.Value.{Here, Gone, Secret}
@@ -14,9 +13,8 @@ use Rattle.object_model.specs.States.{is_same_value, is_same_stamp, is_same_stat
 use Rattle.object_model.specs.UpdateLog.{Logged, Log, new_entry, noted, is_of, cleared, cleared_at, acknowledged, retired}
 use Rattle.object_model.proofs.MapLaws.{key_total, key_exact, written, kept_other, left_other}
 use Rattle.mail_base.proofs.KeyWrites.{same_or}
-use Rattle.update_log.specs.declared.logged.Acked.{Acked}
 use Rattle.update_log.specs.declared.logged.Acked.TheVariants.{Cleared, Emptied, Other}
-use Rattle.update_log.specs.Answers.{answer_of, answer_at}
+use Rattle.update_log.specs.Answers.{answer_at}
 
 -- nothing stands under a key that was taken out
 gone : {X : Type 0} (m : FinMap key_cmp X) (k : Key) → fin.get (fin.remove m k) k ≡ None

@@ -1,5 +1,5 @@
 -- How what a replica does with its table and its log follows the rules of the cluster: those of a node whose disk says what the table holds.
-use Rattle.std.specs.Prelude.{◌≡◌, ℕ, ◌≤◌, ◌<◌, nat_eq, List, [], ◌∷◌, ◌++◌, Option, Some, None, if◌then◌else◌}
+use Rattle.std.specs.Prelude.{◌≡◌, ℕ, ◌≤◌, nat_eq, List, [], ◌∷◌, ◌++◌, Option, Some, None, if◌then◌else◌}
 use Rattle.std.specs.FinMap as fin
 use Rattle.mail_model.specs.Identity.{Key, State}
 use Rattle.mail_model.specs.Record.{Record}
