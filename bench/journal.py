@@ -23,7 +23,7 @@ PROGRAM = ROOT / "crates" / "journal_bench" / "out" / "journal_bench"
 PATTERN = ROOT / "bench" / "append_pattern.c"
 ROUNDS = int(os.environ.get("ROUNDS", "7"))
 # How many journals at once, and how many records each gets.
-CASES = [(1, 3_000), (4, 6_000)]
+CASES = [(1, 2_000), (4, 4_000)]
 MODES = [(0, "C, no room ahead"), (1, "C, a longer file"), (3, "C, zeros written ahead")]
 HEADER = b"PORCUPN1\0\1\0\0\0\0\0\0"
 # How many octets the payloads of a journal of 1 GiB have.
