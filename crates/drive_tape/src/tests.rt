@@ -4,9 +4,10 @@ ghost use Rattle.std.specs.Prelude.{◌≡◌, IfSome, []};
 use crate::reader::next_line;
 use crate::{Drove, Entry, LineStop, Row, TapeFault, drive, read_drive_head, write_entries};
 use cluster_world::{Entry as BookEntry, World};
-use io_edge::faulty::{FaultyDisk, FaultySink, FaultySource};
+use io_edge::faulty::{FaultySink, FaultySource};
 use io_edge::{Disk, PlainDisk, Sink, SliceSource, Source, VecSink};
 use mail_base::Octets;
+use node_disk::MemoryDisk;
 use std::alloc::{AllocError, Global};
 use std::test::Fail;
 
@@ -102,7 +103,8 @@ fn a_message_is_stored_or_the_disk_fails(rt: HostRuntime) -> Result<(), Fail> {
         let front = joined(alloc, PLAN, MESSAGE)?;
         let tape = joined(alloc, &front, b"open smtp 1\nend\n")?;
         let mut sink = VecSink::new(alloc);
-        let disk = FaultyDisk::new(PlainDisk::new(alloc), call);
+        let mut disk = MemoryDisk::new(alloc);
+        disk.fail_at(call)?;
         assert_eq!(rt;
             run(alloc, &mut SliceSource::new(&tape), &mut sink, disk),
             (wanted, counted)
@@ -151,7 +153,8 @@ fn a_marked_message_is_deleted_or_the_disk_fails(rt: HostRuntime) -> Result<(), 
         let front = joined(alloc, PLAN, MESSAGE)?;
         let tape = joined(alloc, &front, DELETED)?;
         let mut sink = VecSink::new(alloc);
-        let disk = FaultyDisk::new(PlainDisk::new(alloc), call);
+        let mut disk = MemoryDisk::new(alloc);
+        disk.fail_at(call)?;
         assert_eq!(rt;
             run(alloc, &mut SliceSource::new(&tape), &mut sink, disk),
             (Drove::Ended, counted)

@@ -3,6 +3,7 @@ use Rattle.std.specs.Prelude.{◌≡◌, ◌⊎◌, ℕ, List, [], ◌∷◌, �
 use Rattle.io_edge.specs.Moments.{Clock}
 use Rattle.io_edge.specs.Octets.{Torn}
 use Rattle.node_disk.specs.declared.held.Range.{Range}
+use Rattle.node_disk.specs.declared.image.Image.{Image}
 use Rattle.node_disk.specs.declared.held.Held.{Held}
 use Rattle.node_disk.specs.declared.memory.Call.{Call}
 use Rattle.node_disk.specs.declared.memory.MemoryDisk.{MemoryDisk}
@@ -20,6 +21,14 @@ IsImage held c = (c ≡ held.octets.items) ⊎ Reaches held.synced.items held.un
 abbrev pub WasImage : List Call → List ℕ → Type 0
 WasImage [] c = ⊥
 WasImage (call ∷ calls) c = IsImage call.before.value c ⊎ WasImage calls c
+
+-- the numbers of the calls that are to fail, as they were told
+abbrev pub failing_of : MemoryDisk → List ℕ
+failing_of disk = disk.failing.items
+
+-- the images that restarts leave, the next one first
+abbrev pub images_of : MemoryDisk → List Image
+images_of disk = disk.images.items
 
 -- The moments are those before and behind each call, of which the disk keeps a record.
 abbrev pub memory_clock : Clock MemoryDisk

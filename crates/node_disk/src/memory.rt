@@ -1,5 +1,5 @@
 //! A disk in memory that fails where it is told to, and tells of each moment what a stop may leave.
-ghost use Rattle.std.specs.Prelude.{◌≡◌, ◌-◌, ◌≤◌, [], Some, vec_len, vec_capacity, OnOk};
+ghost use Rattle.std.specs.Prelude.{◌≡◌, ◌-◌, ◌≤◌, ◌++◌, ◌∷◌, [], Some, vec_len, vec_capacity, OnOk};
 ghost use Rattle.io_edge.specs.Causes.{Rose};
 
 use crate::held::{Held, Range};
@@ -50,7 +50,7 @@ pub struct MemoryDisk {
 impl MemoryDisk {
     ghost use Rattle.io_edge.specs.Causes.{HasCause};
     ghost use Rattle.io_edge.specs.Moments.{Keeps};
-    ghost use Rattle.node_disk.specs.Memory.{memory_clock, IsNoted};
+    ghost use Rattle.node_disk.specs.Memory.{memory_clock, IsNoted, failing_of, images_of};
 
     /// An empty disk, of which no call fails.
     pub fn new(alloc: Global) -> MemoryDisk
@@ -70,6 +70,7 @@ impl MemoryDisk {
 
     /// The call of this number is to fail.
     pub fn fail_at(&mut self, call: u64) -> Result<(), AllocError>
+        ensures noted { OnOk result (failing_of self.new ≡ failing_of self.old ++ call ∷ []) }
         ensures held { self.new.held ≡ self.old.held }
         ensures calls { self.new.calls ≡ self.old.calls }
         ensures faults { self.new.faults ≡ self.old.faults }
@@ -82,6 +83,7 @@ impl MemoryDisk {
 
     /// The next restart for which no image is chosen is to leave this one.
     pub fn leave(&mut self, image: Image) -> Result<(), AllocError>
+        ensures noted { OnOk result (images_of self.new ≡ images_of self.old ++ image ∷ []) }
         ensures held { self.new.held ≡ self.old.held }
         ensures calls { self.new.calls ≡ self.old.calls }
         ensures faults { self.new.faults ≡ self.old.faults }

@@ -1,2 +1,3 @@
 pub mod Logs
 pub mod News
+pub mod Follows

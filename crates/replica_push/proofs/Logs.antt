@@ -1,10 +1,9 @@
 -- Entries that are taken out of a log.
-use Rattle.std.proofs.Common.{◌≡◌, ◌≢◌, ◌⊎◌, ⊎_elim, ℕ, ◌&&◌, Bool, true, false, cond, Option, Some, None, nat_eq, refl, sym, ap, subst, ◌∙◌, true≢false, eq-eqb}
+use Rattle.std.proofs.Common.{◌≡◌, ⊎_elim, ℕ, ◌&&◌, Bool, true, false, cond, Option, Some, None, nat_eq, refl, sym, ap, subst, ◌∙◌, eq-eqb}
 use Rattle.std.specs.FinMap as fin
 use Rattle.std.specs.FinMap.{FinMap, same_map, get-remove}
-use Rattle.std.specs.Ordering.{eq_by_cmp}
 use Rattle.std.specs.Cmp.{Equal-is, tied_itself}
-use Rattle.std.specs.Cmp.Lexicographic.{pointwise, bytes_decides}
+use Rattle.std.specs.Cmp.Lexicographic.{bytes_decides}
 use Rattle.std.proofs.lemmas.Bool.{and_parts, and_from}
 use Rattle.mail_model.specs.Identity.{Key, Value, State}
 use Rattle.mail_model.specs.Identity.Value.{Here, Gone, Secret}
@@ -14,9 +13,8 @@ use Rattle.object_model.specs.States.{is_same_value, is_same_stamp, is_same_stat
 use Rattle.object_model.specs.UpdateLog.{Logged, Log, new_entry, noted, is_of, cleared, cleared_at, acknowledged, retired}
 use Rattle.object_model.proofs.MapLaws.{key_total, key_exact, written, kept_other, left_other}
 use Rattle.mail_base.proofs.KeyWrites.{same_or}
-use Rattle.update_log.specs.declared.logged.Acked.{Acked}
 use Rattle.update_log.specs.declared.logged.Acked.TheVariants.{Cleared, Emptied, Other}
-use Rattle.update_log.specs.Answers.{answer_of, answer_at}
+use Rattle.update_log.specs.Answers.{answer_at}
 
 -- nothing stands under a key that was taken out
 gone : {X : Type 0} (m : FinMap key_cmp X) (k : Key) → fin.get (fin.remove m k) k ≡ None
@@ -40,7 +38,7 @@ value_self Here = refl
 value_self Gone = refl
 value_self (Secret octets) = (bytes_decides octets octets).1 refl
 
-state_self : (s : State) → is_same_state s s ≡ true
+pub state_self : (s : State) → is_same_state s s ≡ true
 state_self s = and_from (is_same_value s.value s.value && is_same_stamp s.stamp s.stamp) (nat_eq s.targets s.targets)
     (and_from (is_same_value s.value s.value) (is_same_stamp s.stamp s.stamp) (value_self s.value)
     (and_from (nat_eq s.stamp.count s.stamp.count && nat_eq s.stamp.boot s.stamp.boot) (nat_eq s.stamp.node s.stamp.node)
@@ -49,7 +47,7 @@ state_self s = and_from (is_same_value s.value s.value && is_same_stamp s.stamp 
     (eq-eqb s.targets s.targets refl)
 
 -- an entry of that state under the key is taken out
-retired_entry : (log : Log) (k : Key) (state : State) (entry : Logged) → is_same_state entry.state state ≡ true → retired k state (fin.insert log k entry) ≡ fin.remove log k
+pub retired_entry : (log : Log) (k : Key) (state : State) (entry : Logged) → is_same_state entry.state state ≡ true → retired k state (fin.insert log k entry) ≡ fin.remove log k
 retired_entry log k state entry same =
     ap (λ b. cond b (fin.remove (fin.insert log k entry) k) (fin.insert log k entry)) (ap (is_of state) (written key_total key_exact log k entry) ∙ same)
     ∙ removed_again log k entry

@@ -9,9 +9,15 @@
 #![tactic(auto)]
 
 mod acks;
+mod laws;
 mod pushes;
+#[cfg(test)]
+mod tests;
 mod wider;
 
 pub use acks::{hear_ack, hear_retired};
+pub use laws::{
+    acks_follow_rules, pushes_follow_rules, retiring_follows_rules, widening_follows_rules,
+};
 pub use pushes::hear_push;
 pub use wider::widen;

@@ -1,5 +1,5 @@
 //! How a pushed state is heard.
-ghost use Rattle.std.specs.Prelude.{◌≡◌, IsSome, Some, None, IfOk, OnOk, OnErr};
+ghost use Rattle.std.specs.Prelude.{◌≡◌, IsSome, Some, None, IfOk, IsOk, OnOk, OnErr};
 ghost use Rattle.std.specs.FinMap as fin;
 ghost use Rattle.mail_model.specs.Grammar.{IsOfKind};
 ghost use Rattle.object_model.specs.UpdateLog.{noted};
@@ -14,7 +14,8 @@ use update_log::UpdateLog;
 
 // The join of both, where it differs from what is held.
 fn news(held: &ObjState, state: &ObjState) -> Result<Option<ObjState>, AllocError>
-    ensures { IfOk result (λ next. next ≡ news_of (Some held.now) state.now) }
+    ensures news { IfOk result (λ next. next ≡ news_of (Some held.now) state.now) }
+    ensures known { news_of (Some held.now) state.now ≡ None → IsOk result }
 {
     if !is_news(held, state) {
         return Ok(None);
@@ -24,7 +25,8 @@ fn news(held: &ObjState, state: &ObjState) -> Result<Option<ObjState>, AllocErro
 
 // What the state makes of the one that stands: the join where it is another; nothing where it is the same.
 fn news_at(table: &ObjectTable, key: &Key, state: &ObjState) -> Result<Option<ObjState>, AllocError>
-    ensures { IfOk result (λ next. next ≡ news_of (fin.get table.now (key_seen key.now)) state.now) }
+    ensures news { IfOk result (λ next. next ≡ news_of (fin.get table.now (key_seen key.now)) state.now) }
+    ensures known { news_of (fin.get table.now (key_seen key.now)) state.now ≡ None → IsOk result }
 {
     match table.state(key) {
         Some(held) => news(held, state),
@@ -129,11 +131,12 @@ fn put_first(
 /// from that. It answers that join, which is to be recorded; nothing where nothing changed. The push is acknowledged in
 /// both cases.
 ///
-/// It takes time logarithmic in the number of objects and of entries.
+/// It takes time logarithmic in the number of objects and of entries. A state that adds nothing takes no memory, so its
+/// push is always answered.
 ///
 /// # Errors
 ///
-/// Only want of memory; table and log are then as before.
+/// Only out of memory; table and log are then as before.
 pub fn hear_push(
     table: &mut ObjectTable,
     log: &mut UpdateLog,
@@ -147,6 +150,7 @@ pub fn hear_push(
     ensures log { OnOk result (log.new ≡ note_news own (key_seen key.now) (news_of (fin.get table.old (key_seen key.now)) state.now) log.old) }
     ensures table_err { OnErr result (table.new ≡ table.old) }
     ensures log_err { OnErr result (log.new ≡ log.old) }
+    ensures known { news_of (fin.get table.old (key_seen key.now)) state.now ≡ None → IsOk result }
 {
     match news_at(table, key, state)? {
         None => Ok(None),

@@ -1,4 +1,4 @@
-use Rattle.std.proofs.Common.{sym, ap, ◌∙◌}
+use Rattle.std.proofs.Common.{ap, ◌∙◌}
 use Rattle.object_model.specs.UpdateLog.{retired}
 use Rattle.mail_base.specs.Seen.{key_seen}
 use Rattle.replica_push.proofs.Logs.{noted_back}
