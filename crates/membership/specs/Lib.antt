@@ -1,0 +1,4 @@
+pub mod Groups
+pub mod Rounds
+pub mod Checks
+pub mod Laws
