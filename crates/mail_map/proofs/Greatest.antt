@@ -1,6 +1,6 @@
 -- That the fold over a user's rows finds the greatest profile.
-use Rattle.std.proofs.Common.{◌≡◌, ◌⊎◌, inl, inr, refl, sym, ap, subst, ◌∙◌, cond, ℕ, Bool, true, false, true≢false, List, [], ◌∷◌, map, fold, Option, Some, None, is_some, unwrap_or}
-use Rattle.std.specs.Ordering.{nat_cmp, is_gt, is_eq, ordering_reverse}
+use Rattle.std.proofs.Common.{◌≡◌, inl, inr, refl, sym, ap, subst, ◌∙◌, cond, Bool, true, false, true≢false, List, [], ◌∷◌, map, fold, Option, Some, None, is_some, unwrap_or}
+use Rattle.std.specs.Ordering.{is_gt, is_eq, ordering_reverse}
 use Rattle.std.specs.declared.cmp.Ordering.{Ordering}
 use Rattle.std.specs.declared.cmp.Ordering.TheVariants.{Less, Equal, Greater}
 use Rattle.std.specs.Cmp.{upto, tied_itself}
@@ -151,3 +151,10 @@ greatest_is rows ordered = by rows.entries refl
 -- of a user without rows nothing is known
 pub none_is : IsGreatest (λ n boot. row_at None n boot) None
 none_is n k row e = absurd (true≢false (sym (ap is_some e)))
+
+-- what a user's rows were found to have as the greatest
+pub greatest_at : (rows : BTreeMap Teller Row) (held : Option (BTreeMap Teller Row)) (profile : Option Profile) → Some rows ≡ held → profile ≡ profile_in (fold greater_of None (tree.values rows)) → tree.IsOrdered teller_cmp rows
+    → IsGreatest (λ n boot. row_at held n boot) profile
+greatest_at rows held profile found is ordered =
+    subst (λ (o : Option (BTreeMap Teller Row)). IsGreatest (λ n boot. row_at o n boot) profile) found
+    (subst (IsGreatest (λ n boot. row_at (Some rows) n boot)) (sym is) (greatest_is rows ordered))

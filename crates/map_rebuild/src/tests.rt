@@ -34,8 +34,10 @@ fn two_names(alloc: Global, first: &Name, second: &Name) -> Option<Names> {
 
 #[test]
 fn a_round_clears_a_mark(rt: HostRuntime) -> Result<(), Fail> {
-    let (Ok(ann), Ok(bob)) = (Name::read(rt.alloc(), b"ann"), Name::read(rt.alloc(), b"bob"))
-    else {
+    let (Ok(ann), Ok(bob)) = (
+        Name::read(rt.alloc(), b"ann"),
+        Name::read(rt.alloc(), b"bob"),
+    ) else {
         panic!(rt; "no names");
     };
     let (Some(one), Some(two)) = (NodeNo::new(1), NodeNo::new(2)) else {
@@ -73,8 +75,10 @@ fn a_round_clears_a_mark(rt: HostRuntime) -> Result<(), Fail> {
 
 #[test]
 fn two_installs_mark(rt: HostRuntime) -> Result<(), Fail> {
-    let (Ok(ann), Ok(bob)) = (Name::read(rt.alloc(), b"ann"), Name::read(rt.alloc(), b"bob"))
-    else {
+    let (Ok(ann), Ok(bob)) = (
+        Name::read(rt.alloc(), b"ann"),
+        Name::read(rt.alloc(), b"bob"),
+    ) else {
         panic!(rt; "no names");
     };
     let Some(both) = two_names(rt.alloc(), &ann, &bob) else {
@@ -82,15 +86,27 @@ fn two_installs_mark(rt: HostRuntime) -> Result<(), Fail> {
     };
     let mut reports = Reports::new(rt.alloc());
     assert!(rt; reports.mark_user(&bob) == Ok(1));
-    assert!(rt; reports.mark_bucket(both.as_slice(), EpochId::new(4, 1)).is_ok());
+    assert!(rt;
+        reports
+            .mark_bucket(both.as_slice(), EpochId::new(4, 1))
+            .is_ok()
+    );
     assert!(rt; reports.marked_at_install() == 1);
     assert!(rt; reports.version(&bob) == 1);
     assert!(rt; reports.version(&ann) == 0);
     assert!(rt; reports.report_acknowledged(&ann, 0));
-    assert!(rt; reports.mark_bucket(both.as_slice(), EpochId::new(4, 1)).is_ok());
+    assert!(rt;
+        reports
+            .mark_bucket(both.as_slice(), EpochId::new(4, 1))
+            .is_ok()
+    );
     assert!(rt; reports.marked_at_install() == 2);
     let nobody = Names::new(rt.alloc());
-    assert!(rt; reports.mark_bucket(nobody.as_slice(), EpochId::new(5, 2)).is_ok());
+    assert!(rt;
+        reports
+            .mark_bucket(nobody.as_slice(), EpochId::new(5, 2))
+            .is_ok()
+    );
     assert!(rt; reports.marked_at_install() == 0);
     assert!(rt; !reports.is_clear());
     Ok(())
