@@ -1,0 +1,3 @@
+pub mod OneUser
+pub mod Retained
+pub mod Greatest

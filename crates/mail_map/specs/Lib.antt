@@ -1,0 +1,4 @@
+pub mod Tellers
+pub mod Rows
+pub mod Installs
+pub mod Profiles
