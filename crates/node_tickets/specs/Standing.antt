@@ -1,5 +1,5 @@
 -- The tickets that stand at a node, and what a call does to them.
-use Rattle.std.specs.Prelude.{◌≡◌, ℕ, Bool, true, false, ◌&&◌, nat_eq, List, [], map, Option, Some, None, if◌then◌else◌}
+use Rattle.std.specs.Prelude.{◌≡◌, ℕ, Bool, true, false, ◌&&◌, nat_eq, List, [], ◌∷◌, map, Option, Some, None, if◌then◌else◌}
 use Rattle.std.specs.Ordering.{nat_cmp}
 use Rattle.std.specs.FinMap as fin
 use Rattle.std.specs.List.{list_any}
@@ -7,8 +7,9 @@ use Rattle.object_model.specs.Sets.{has}
 use Rattle.node_tickets.specs.declared.tickets.Tickets.{Tickets}
 use Rattle.mail_model.specs.Identity.{Id}
 use Rattle.mail_base.specs.declared.filing.CallKind.{CallKind}
+use Rattle.mail_base.specs.declared.filing.Filing.{Filing}
 use Rattle.call_tickets.specs.declared.answer.Ask as code
-use Rattle.node_tickets.specs.Seen.{kind_seen, ask_seen}
+use Rattle.node_tickets.specs.Seen.{kind_seen, filing_seen, ask_seen}
 use Rattle.object_model.specs.Letters.{Number, Body}
 use Rattle.object_model.specs.Mishaps.{MishapKind, no_mishaps, counted}
 use Rattle.cluster_model.specs.Cluster as plain
@@ -99,3 +100,20 @@ wants_at (Some ticket) = ticket.wants
 -- the ticket of a deletion of a user's messages, each with the nodes that are asked for it
 abbrev pub deletion_of : ℕ → List ℕ → List (Id × ℕ) → plain.Ticket
 deletion_of own user asks = record { kind = plain.CallKind.Striking; wants = map (λ item. new_want own (plain.Asked.Deletion user item.0) item.1) asks; mishaps = no_mishaps }
+
+-- what a delivery filed
+abbrev pub filing_of : Option Filing → Option plain.Filing
+filing_of None = None
+filing_of (Some filing) = Some (filing_seen filing)
+
+abbrev pub filing_asked : plain.Asked → Option plain.Filing
+filing_asked (plain.Asked.Copies filing) = Some filing
+filing_asked (plain.Asked.Deletion user id) = None
+
+abbrev pub filing_wanted : List plain.Want → Option plain.Filing
+filing_wanted [] = None
+filing_wanted (want ∷ wants) = filing_asked want.asked
+
+abbrev pub filing_at : Option plain.Ticket → Option plain.Filing
+filing_at None = None
+filing_at (Some ticket) = filing_wanted ticket.wants

@@ -29,6 +29,8 @@
 
 mod mishap;
 mod progress;
+#[cfg(test)]
+mod tests;
 mod tickets;
 mod want;
 

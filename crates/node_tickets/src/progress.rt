@@ -1,5 +1,6 @@
 //! How far a call has come.
 ghost use Rattle.std.specs.Prelude.{◌≡◌, ◌≤◌, ◌-◌, ℕ, [], ◌∷◌, length, map, not, true, false, Some, IfOk, vec_len, vec_capacity};
+ghost use Rattle.std.specs.Option.{option_copied};
 ghost use Rattle.std.specs.List.{list_any, list_all, filter};
 ghost use Rattle.object_model.specs.Sets.{has};
 ghost use Rattle.object_model.specs.Mishaps.{counted};
@@ -7,12 +8,12 @@ ghost use Rattle.mail_base.specs.Bodies.{body_seen};
 ghost use Rattle.cluster_model.specs.Rules.{told_want, failed_want, told_ticket};
 ghost use Rattle.cluster_model.specs.Progress.{is_confirmed, can_be_confirmed, has_failed, answer_to, ask_of};
 ghost use Rattle.node_tickets.specs.Seen.{kind_of_mishap, kind_seen, mishaps_seen, ask_seen, done_seen, answer_seen};
-ghost use Rattle.node_tickets.specs.Standing.{is_done, failed_ticket};
+ghost use Rattle.node_tickets.specs.Standing.{is_done, failed_ticket, filing_of, filing_wanted};
 
 use crate::mishap::{MishapKind, count};
 use crate::want::{Asked, Want};
 use call_tickets::{Answer, Ask, Mishaps};
-use mail_base::{Body, CallKind, NodeNo, NodeSet};
+use mail_base::{Body, CallKind, Filing, NodeNo, NodeSet};
 use std::marker::Model;
 
 /// A ticket: the kind of its call, what it wants, and what befell it. A contract sees the machine's ticket.
@@ -145,6 +146,19 @@ impl Progress {
         ensures { result.now ≡ self.now.wants }
     {
         &self.wants
+    }
+
+    /// What a delivery filed.
+    pub(crate) fn filing(&self) -> Option<&Filing>
+        ensures { filing_of (option_copied result) ≡ filing_wanted self.now.wants }
+    {
+        match self.wants.first() {
+            Some(want) => match want.asked() {
+                Asked::Copies(filing) => Some(filing),
+                Asked::Deletion { .. } => None,
+            },
+            None => None,
+        }
     }
 
     /// A letter of this node is heard.

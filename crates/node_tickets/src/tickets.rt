@@ -12,7 +12,7 @@ ghost use Rattle.node_tickets.specs.Seen.{kind_of_mishap, kind_seen, mishaps_see
 ghost use Rattle.cluster_model.specs.Cluster.Asked.{Copies, Deletion};
 ghost use Rattle.cluster_model.specs.Rules.{new_want};
 ghost use Rattle.cluster_model.specs.TicketLaws.{delivery_ticket};
-ghost use Rattle.node_tickets.specs.Standing.{seen, asks_seen, asks_at, kind_of, kind_at, wants_at, deletion_of, tickets_in, is_own, here, IsOf, told_in, befell_in, taken_out, asked_out, waits_at, done_at};
+ghost use Rattle.node_tickets.specs.Standing.{seen, asks_seen, asks_at, kind_of, kind_at, filing_of, filing_at, wants_at, deletion_of, tickets_in, is_own, here, IsOf, told_in, befell_in, taken_out, asked_out, waits_at, done_at};
 
 use crate::mishap::{MishapKind, none};
 use crate::progress::Progress;
@@ -297,6 +297,16 @@ impl Tickets {
         match self.find(ticket) {
             Some(progress) => progress.wants(),
             None => &[],
+        }
+    }
+
+    /// What the delivery filed; nothing exactly where no delivery stands under the ticket, or it failed at once. It takes no memory.
+    pub fn filing(&self, ticket: Ticket) -> Option<&Filing>
+        ensures { filing_of (option_copied result) ≡ filing_at (here self.now ticket) }
+    {
+        match self.find(ticket) {
+            Some(progress) => progress.filing(),
+            None => None,
         }
     }
 
