@@ -1,0 +1,4 @@
+pub mod Writes
+pub mod Asks
+pub mod Maps
+pub mod Stands
