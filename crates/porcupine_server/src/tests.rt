@@ -1,6 +1,8 @@
 // Whole tapes through the program's one call, over an outside in memory.
 
+mod command_line;
 mod deletions;
+mod examples;
 mod faults;
 mod maildrops;
 mod messages;
@@ -10,8 +12,8 @@ mod run_lines;
 mod store;
 
 use crate::server::porcupine;
-use io_edge::faulty::FaultyDisk;
-use io_edge::{MemoryYard, PlainDisk, SliceSource, VecSink};
+use io_edge::{MemoryYard, SliceSource, VecSink};
+use node_disk::MemoryDisk;
 use std::alloc::{AllocError, Global};
 use std::process::Abort;
 use std::test::Fail;
@@ -19,7 +21,7 @@ use std::test::Fail;
 /// A plan of six lines, with the one user alice.
 const PLAN: &[u8] = b"nodes 1\ncopies 1 1\nbuckets 1\nuser alice tanstaaf\npostmaster alice\ngo\n";
 
-// The pieces, one behind the other.
+// The pieces, one after the other.
 fn joined(alloc: Global, pieces: &[&[u8]]) -> Result<Vec<u8>, AllocError> {
     let mut octets = Vec::new(alloc);
     for piece in pieces {
@@ -47,26 +49,22 @@ fn words(alloc: Global, word: &str) -> Result<Vec<String>, AllocError> {
 struct Run {
     status: u8,
     transcript: Vec<u8>,
-    /// What the store holds that was given back, and nothing where none was.
-    store: Vec<u8>,
+    /// The disk that was given back, and an empty one where none was.
+    disk: MemoryDisk,
 }
 
-// A yard of one store, which holds these octets, and of which this disk call fails; none where it is 0.
-fn yard_of(
-    alloc: Global,
-    held: &[u8],
-    failing: u64,
-) -> Result<MemoryYard<FaultyDisk<PlainDisk>>, AllocError> {
-    let mut disk = PlainDisk::new(alloc);
-    disk.octets.extend_from_slice(held)?;
-    let mut stores = Vec::new(alloc);
-    stores.push(FaultyDisk::new(disk, failing))?;
-    Ok(MemoryYard::new(alloc, stores))
+// A yard of one empty disk, of which this call fails; none where it is 0.
+fn yard_of(alloc: Global, failing: u64) -> Result<MemoryYard<MemoryDisk>, AllocError> {
+    let mut disk = MemoryDisk::new(alloc);
+    disk.fail_at(failing)?;
+    let mut disks = Vec::new(alloc);
+    disks.push(disk)?;
+    Ok(MemoryYard::new(alloc, disks))
 }
 
-// Runs `drive` on the tape, over an empty store of which this disk call fails.
+// Runs `drive` on the tape, over an empty disk of which this call fails.
 fn drive(alloc: Global, tape: &[u8], failing: u64) -> Result<Run, AllocError> {
-    let mut yard = yard_of(alloc, b"", failing)?;
+    let mut yard = yard_of(alloc, failing)?;
     let mut sink = VecSink::new(alloc);
     let status = porcupine(
         alloc,
@@ -75,14 +73,14 @@ fn drive(alloc: Global, tape: &[u8], failing: u64) -> Result<Run, AllocError> {
         &mut sink,
         &mut yard,
     );
-    let store = match yard.returned.pop() {
-        Some((_, _, disk)) => disk.inner.octets,
-        None => Vec::new(alloc),
+    let disk = match yard.returned.pop() {
+        Some((_, _, disk)) => disk,
+        None => MemoryDisk::new(alloc),
     };
     Ok(Run {
         status,
         transcript: sink.held,
-        store,
+        disk,
     })
 }
 
@@ -132,14 +130,14 @@ impl Script {
     }
 }
 
-// Runs each case of the table behind these lines: a case goes through a line that begins with `!`.
-fn each_refused(rt: &impl Abort, alloc: Global, front: &[u8], table: &[u8]) -> Result<(), Fail> {
-    let mut script = Script::new(alloc, front)?;
+// Runs each case of the table after these lines: a case goes through a line that begins with `!`.
+fn each_refused(rt: &impl Abort, alloc: Global, first: &[u8], table: &[u8]) -> Result<(), Fail> {
+    let mut script = Script::new(alloc, first)?;
     for line in table.split_inclusive(|octet| *octet == b'\n') {
         script.add(line)?;
         if line.starts_with(b"  !") {
             script.run(rt, 3)?;
-            script = Script::new(alloc, front)?;
+            script = Script::new(alloc, first)?;
         }
     }
     Ok(())

@@ -1,7 +1,9 @@
 // Messages are deleted by a QUIT, and by nothing else.
 
+use super::faults::{begins_with, calls_of};
 use super::store::Journal;
 use super::{PLAN, Script, joined};
+use node_disk::Image;
 use std::alloc::{AllocError, Global};
 use std::test::Fail;
 
@@ -193,7 +195,7 @@ fn a_quit_deletes_what_its_session_marked(rt: HostRuntime) -> Result<(), Fail> {
     journal.gone(b"alice", 3)?;
     journal.gone(b"alice", 1)?;
     journal.message(b"", b"c.example", &[b"bob"], b"")?;
-    journal.is_held(&rt, &run.store)?;
+    journal.is_held(&rt, run.disk.octets())?;
     Ok(())
 }
 
@@ -239,11 +241,11 @@ fn a_session_that_does_not_quit_deletes_nothing(rt: HostRuntime) -> Result<(), F
     journal.message(b"", b"c.example", &both, b"one\r\n")?;
     journal.message(b"", b"c.example", &[b"alice"], b"second\r\n")?;
     journal.message(b"", b"c.example", &[b"alice"], b"three!!\r\n")?;
-    journal.is_held(&rt, &run.store)?;
+    journal.is_held(&rt, run.disk.octets())?;
     Ok(())
 }
 
-const ONE_MESSAGE: &[u8] = b"\
+const STORED: &[u8] = b"\
 open smtp 1
   1 220 node1 Porcupine ready
 say 1 HELO c.example
@@ -256,6 +258,9 @@ say 1 DATA
   1 354 end with a line that is a single period
 say 1 .
   1 250 stored
+";
+
+const MARKED: &[u8] = b"\
 open pop 1
   2 +OK node1 ready <1.2.0@node1>
 say 2 USER alice
@@ -280,7 +285,7 @@ open pop 1
 fn deleting(alloc: Global, failing: u64, rest: &[u8]) -> Result<Script, AllocError> {
     let mut script = Script::new(alloc, PLAN)?;
     script.failing = failing;
-    script.add(&joined(alloc, &[ONE_MESSAGE, rest])?)?;
+    script.add(&joined(alloc, &[STORED, MARKED, rest])?)?;
     Ok(script)
 }
 
@@ -289,13 +294,23 @@ fn a_disk_fault_in_a_deletion_takes_the_node_down(rt: HostRuntime) -> Result<(),
     let alloc = rt.alloc();
     let mut journal = Journal::new(alloc)?;
     journal.message(b"", b"c.example", &[b"alice"], b"")?;
-    // The opening costs seven disk calls, the message eight, and the Gone state four.
-    for failing in 16..20u64 {
-        let run = deleting(alloc, failing, FALLEN)?.run(&rt, 3)?;
-        journal.is_front(&rt, &run.store);
+    let stored = Script::new(alloc, &joined(alloc, &[PLAN, STORED, b"end\n"])?)?;
+    let stored = calls_of(&rt, &stored, 0)?;
+    let whole = deleting(alloc, 0, b"  2 +OK bye\n  * 2 closed\nend\n")?;
+    let deleted = calls_of(&rt, &whole, 0)?;
+    assert!(rt; stored < deleted);
+    for failing in stored + 1..=deleted {
+        for image in [
+            Image::Nothing,
+            Image::Front(5),
+            Image::All,
+            Image::Garbage(0),
+        ] {
+            let run = deleting(alloc, failing, FALLEN)?.run(&rt, 3)?;
+            begins_with(&rt, run.disk, image, &journal)?;
+        }
     }
-    let run = deleting(alloc, 20, b"  2 +OK bye\n  * 2 closed\nend\n")?.run(&rt, 0)?;
     journal.gone(b"alice", 1)?;
-    journal.is_held(&rt, &run.store)?;
+    journal.is_held(&rt, whole.run(&rt, 0)?.disk.octets())?;
     Ok(())
 }

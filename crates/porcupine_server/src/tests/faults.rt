@@ -1,11 +1,13 @@
 // Each part of the outside failing in turn, and other words.
 
 use super::store::Journal;
-use super::{PLAN, Script, joined, words, yard_of};
+use super::{PLAN, Script, drive, joined, words, yard_of};
 use crate::server::porcupine;
 use io_edge::faulty::{FaultySink, FaultySource, FaultyYard};
-use io_edge::{SliceSource, VecSink};
+use io_edge::{Disk, MemoryYard, PlainDisk, SliceSource, VecSink};
+use node_disk::{Image, MemoryDisk};
 use std::alloc::{AllocError, Global};
+use std::process::Abort;
 use std::test::Fail;
 
 const ASKED: &[u8] = b"\
@@ -45,21 +47,61 @@ fn asked(alloc: Global, failing: u64, rest: &[u8]) -> Result<Script, AllocError>
     Ok(script)
 }
 
+// How many calls of a disk the script leads to.
+pub(super) fn calls_of(rt: &impl Abort, script: &Script, status: u8) -> Result<u64, Fail> {
+    Ok(script.run(rt, status)?.disk.calls().len() as u64)
+}
+
+// The disk starts again and is left at this image, which begins with the journal.
+pub(super) fn begins_with(
+    rt: &impl Abort,
+    mut disk: MemoryDisk,
+    image: Image,
+    journal: &Journal,
+) -> Result<(), AllocError> {
+    disk.leave(image)?;
+    assert_eq!(rt; disk.restart(), Ok(()));
+    journal.is_prefix(rt, disk.octets());
+    Ok(())
+}
+
+// A run line that is refused at a node that is down, and what a stop of the machine then leaves of the disk.
+fn refusals() -> [(&'static [u8], Image); 4] {
+    [
+        (b"open smtp 1\n  ! line 16 NodeDown\n", Image::Nothing),
+        (b"open smtp 2\n  ! line 16 NoSuchNode\n", Image::Front(5)),
+        (b"say 2 QUIT\n  ! line 16 NoSuchSession\n", Image::All),
+        (
+            b"say 3 QUIT\n  ! line 16 NoSuchSession\n",
+            Image::Garbage(0xA5),
+        ),
+    ]
+}
+
 #[test]
 fn a_disk_fault_takes_the_node_down(rt: HostRuntime) -> Result<(), Fail> {
     let alloc = rt.alloc();
-    // The length of the store is one disk call, the opening six, and the message eight.
-    asked(alloc, 16, b"  2 250 stored\nend\n")?.run(&rt, 0)?;
-    let rests: [&[u8]; 4] = [
-        b"open smtp 1\n  ! line 16 NodeDown\n",
-        b"open smtp 2\n  ! line 16 NoSuchNode\n",
-        b"say 2 QUIT\n  ! line 16 NoSuchSession\n",
-        b"say 3 QUIT\n  ! line 16 NoSuchSession\n",
-    ];
-    for failing in 8..16u64 {
-        for rest in rests {
-            let lines = joined(alloc, &[FALLEN, rest])?;
-            asked(alloc, failing, &lines)?.run(&rt, 3)?;
+    let journal = Journal::new(alloc)?;
+    let opened = calls_of(
+        &rt,
+        &Script::new(
+            alloc,
+            b"nodes 1\ncopies 1 1\nbuckets 1\nuser alice tanstaaf\npostmaster alice\ngo\nend\n",
+        )?,
+        0,
+    )?;
+    let stored = calls_of(&rt, &asked(alloc, 0, b"  2 250 stored\nend\n")?, 0)?;
+    assert!(rt; opened < stored);
+    for failing in 1..=opened {
+        let run = drive(alloc, PLAN, failing)?;
+        assert_eq!(rt; run.transcript.as_slice(), b"! disk 0 1\n".as_slice());
+        assert_eq!(rt; run.status, 6);
+    }
+    for failing in opened + 1..=stored {
+        for (refusal, image) in refusals() {
+            let lines = joined(alloc, &[FALLEN, refusal])?;
+            let run = asked(alloc, failing, &lines)?.run(&rt, 3)?;
+            begins_with(&rt, run.disk, image, &journal)?;
         }
     }
     Ok(())
@@ -97,8 +139,14 @@ close 4
 #[test]
 fn a_read_that_fails_takes_the_node_down(rt: HostRuntime) -> Result<(), Fail> {
     let alloc = rt.alloc();
-    // LIST reads nothing, and RETR is the first disk call behind those of the message.
-    asked(alloc, 16, &joined(alloc, &[RETRIEVED, READ_FAILED])?)?.run(&rt, 3)?;
+    // LIST reads nothing, and RETR is the first disk call after those of the message.
+    let stored = calls_of(&rt, &asked(alloc, 0, b"  2 250 stored\nend\n")?, 0)?;
+    asked(
+        alloc,
+        stored.saturating_add(1),
+        &joined(alloc, &[RETRIEVED, READ_FAILED])?,
+    )?
+    .run(&rt, 3)?;
     Ok(())
 }
 
@@ -115,7 +163,7 @@ fn what_a_unit_gives_is_written_before_the_next_is_heard(rt: HostRuntime) -> Res
     let cases: [(u64, u64); 5] = [(5, 0), (6, 1), (9, 1), (10, 2), (11, 2)];
     for (write, messages) in cases {
         let mut sink = FaultySink::new(VecSink::new(alloc), write);
-        let mut yard = yard_of(alloc, b"", 0)?;
+        let mut yard = yard_of(alloc, 0)?;
         let answer = porcupine(
             alloc,
             &words(alloc, "drive")?,
@@ -129,20 +177,9 @@ fn what_a_unit_gives_is_written_before_the_next_is_heard(rt: HostRuntime) -> Res
             journal.message(b"", b"c", &[b"alice"], b"")?;
         }
         match yard.returned.pop() {
-            Some((_, _, disk)) => journal.is_held(&rt, &disk.inner.octets)?,
+            Some((_, _, disk)) => journal.is_held(&rt, disk.octets())?,
             None => assert!(rt; false),
         }
-    }
-    Ok(())
-}
-
-#[test]
-fn a_store_fails_as_it_is_opened(rt: HostRuntime) -> Result<(), Fail> {
-    for failing in 1..8u64 {
-        let mut script = Script::new(rt.alloc(), PLAN)?;
-        script.failing = failing;
-        script.add(b"open smtp 1\nend\n  ! disk 0 1\n")?;
-        script.run(&rt, 6)?;
     }
     Ok(())
 }
@@ -151,25 +188,50 @@ fn a_store_fails_as_it_is_opened(rt: HostRuntime) -> Result<(), Fail> {
 fn the_outside_fails(rt: HostRuntime) -> Result<(), Fail> {
     let alloc = rt.alloc();
     let tape = joined(alloc, &[PLAN, b"open smtp 1\nsay 1 QUIT\nend\n"])?;
-    // Which read, which write and which store fails, the first being 1; what the store holds; the status and the transcript.
-    let cases: [(u64, u64, u64, &[u8], u8, &[u8]); 5] = [
-        (1, 0, 0, b"", 4, b"! read\n"),
-        (0, 1, 0, b"", 5, b""),
-        (0, 2, 0, b"", 5, b"1 220 node1 Porcupine ready\n"),
-        (0, 0, 1, b"", 6, b"! disk 0 1\n"),
-        (0, 0, 0, b"x", 6, b"! disk 0 1\n"),
+    // Which read, which write and which store fails, the first being 1; the status and the transcript.
+    let cases: [(u64, u64, u64, u8, &[u8]); 4] = [
+        (1, 0, 0, 4, b"! read\n"),
+        (0, 1, 0, 5, b""),
+        (0, 2, 0, 5, b"1 220 node1 Porcupine ready\n"),
+        (0, 0, 1, 6, b"! disk 0 1\n"),
     ];
-    for (read, write, store, held, status, transcript) in cases {
+    for (read, write, store, status, transcript) in cases {
         let mut sink = FaultySink::new(VecSink::new(alloc), write);
         let answer = porcupine(
             alloc,
             &words(alloc, "drive")?,
             &mut FaultySource::new(SliceSource::new(&tape), read),
             &mut sink,
-            &mut FaultyYard::new(yard_of(alloc, held, 0)?, store),
+            &mut FaultyYard::new(yard_of(alloc, 0)?, store),
         );
         assert_eq!(rt; answer, status);
         assert_eq!(rt; sink.inner.held.as_slice(), transcript);
+    }
+    Ok(())
+}
+
+#[test]
+fn a_store_that_holds_something_is_given_back_as_it_was(rt: HostRuntime) -> Result<(), Fail> {
+    let alloc = rt.alloc();
+    let mut disk = PlainDisk::new(alloc);
+    disk.octets.extend_from_slice(b"mail")?;
+    let mut disks = Vec::new(alloc);
+    disks.push(disk)?;
+    let mut yard = MemoryYard::new(alloc, disks);
+    let mut sink = VecSink::new(alloc);
+    let tape = joined(alloc, &[PLAN, b"open smtp 1\nend\n"])?;
+    let answer = porcupine(
+        alloc,
+        &words(alloc, "drive")?,
+        &mut SliceSource::new(&tape),
+        &mut sink,
+        &mut yard,
+    );
+    assert_eq!(rt; answer, 6);
+    assert_eq!(rt; sink.held.as_slice(), b"! disk 0 1\n".as_slice());
+    match yard.returned.pop() {
+        Some((_, _, disk)) => assert_eq!(rt; disk.octets.as_slice(), b"mail".as_slice()),
+        None => assert!(rt; false),
     }
     Ok(())
 }
@@ -192,7 +254,7 @@ fn other_words_are_refused(rt: HostRuntime) -> Result<(), Fail> {
             &words(alloc, word)?,
             &mut SliceSource::new(b""),
             &mut sink,
-            &mut yard_of(alloc, b"", 0)?,
+            &mut yard_of(alloc, 0)?,
         );
         assert_eq!(rt; answer, 1);
         assert_eq!(rt; sink.inner.held.as_slice(), written);

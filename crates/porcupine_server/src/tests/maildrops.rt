@@ -452,7 +452,7 @@ fn a_client_that_closes_leaves_nothing(rt: HostRuntime) -> Result<(), Fail> {
     script.add(CLOSED)?;
     let run = script.run(&rt, 3)?;
     // The header, and the record of the boot.
-    assert_eq!(rt; run.store.len(), 27);
+    assert_eq!(rt; run.disk.octets().len(), 27);
     Ok(())
 }
 

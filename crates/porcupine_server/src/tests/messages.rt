@@ -53,10 +53,10 @@ fn one_message_is_stored(rt: HostRuntime) -> Result<(), Fail> {
     ];
     for (lines, text, length) in cases {
         let run = sent(alloc, &[lines])?.run(&rt, 0)?;
-        assert_eq!(rt; run.store.len(), length + 88);
+        assert_eq!(rt; run.disk.octets().len(), length + 88);
         let mut journal = Journal::new(alloc)?;
         journal.message(b"bob@b.example", b"c.example", &[b"alice"], text)?;
-        journal.is_held(&rt, &run.store)?;
+        journal.is_held(&rt, run.disk.octets())?;
     }
     Ok(())
 }
@@ -88,7 +88,7 @@ fn texts_are_stored_octet_for_octet(rt: HostRuntime) -> Result<(), Fail> {
     for text in [b".\r\n".as_slice(), TEXT, b".\r\n\r.\r\n"] {
         journal.message(b"bob@b.example", b"c.example", &[b"alice"], text)?;
     }
-    journal.is_held(&rt, &run.store)?;
+    journal.is_held(&rt, run.disk.octets())?;
     Ok(())
 }
 
@@ -102,7 +102,7 @@ fn a_line_of_a_text_has_no_limit(rt: HostRuntime) -> Result<(), Fail> {
     let run = sent(alloc, &[&lines])?.run(&rt, 0)?;
     let mut journal = Journal::new(alloc)?;
     journal.message(b"bob@b.example", b"c.example", &[b"alice"], &text)?;
-    journal.is_held(&rt, &run.store)?;
+    journal.is_held(&rt, run.disk.octets())?;
     Ok(())
 }
 
@@ -197,7 +197,7 @@ fn two_sessions_take_turns(rt: HostRuntime) -> Result<(), Fail> {
     journal.message(b"c@one", one, &[b"alice", b"bob"], b"")?;
     journal.message(b"", two, &[b"bob"], b"second of two\r\n")?;
     journal.message(b"d@two", b"three.example", &[b"bob"], b"third of two\r\n")?;
-    journal.is_held(&rt, &run.store)?;
+    journal.is_held(&rt, run.disk.octets())?;
     Ok(())
 }
 
@@ -249,6 +249,6 @@ fn texts_have_a_greatest_length(rt: HostRuntime) -> Result<(), Fail> {
     let mut journal = Journal::new(alloc)?;
     journal.message(b"bob@b.example", b"c.example", &[b"alice"], &text)?;
     journal.message(b"bob@b.example", b"c.example", &[b"alice"], b"")?;
-    journal.is_held(&rt, &run.store)?;
+    journal.is_held(&rt, run.disk.octets())?;
     Ok(())
 }

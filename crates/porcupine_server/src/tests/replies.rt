@@ -212,7 +212,7 @@ fn each_command_is_answered(rt: HostRuntime) -> Result<(), Fail> {
     let users: [&[u8]; 2] = [b"alice", b"\"q\""];
     journal.message(b"Joe: @ home", helo, &users, b"HELO third.example\r\n")?;
     journal.message(b"", helo, &[b"bob@b.example"], b"")?;
-    journal.is_held(&rt, &run.store)?;
+    journal.is_held(&rt, run.disk.octets())?;
     Ok(())
 }
 
@@ -331,6 +331,6 @@ fn a_hundred_recipients_are_taken(rt: HostRuntime) -> Result<(), Fail> {
     let run = script.run(&rt, 0)?;
     let mut journal = Journal::new(alloc)?;
     journal.message(b"bob@b.example", b"c.example", &users, b"to many\r\n")?;
-    journal.is_held(&rt, &run.store)?;
+    journal.is_held(&rt, run.disk.octets())?;
     Ok(())
 }

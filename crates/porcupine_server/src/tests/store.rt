@@ -108,11 +108,11 @@ impl Journal {
     }
 
     /// The store begins with the journal.
-    pub(super) fn is_front(&self, rt: &impl Abort, store: &[u8]) {
+    pub(super) fn is_prefix(&self, rt: &impl Abort, store: &[u8]) {
         assert!(rt; store.starts_with(&self.octets));
     }
 
-    /// The store holds the journal, and one closed gate behind it.
+    /// The store holds the journal, and one closed gate after it.
     pub(super) fn is_held(&mut self, rt: &impl Abort, store: &[u8]) -> Result<(), AllocError> {
         self.octets.push(0)?;
         assert!(rt; self.octets.as_slice() == store);
