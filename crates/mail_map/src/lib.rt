@@ -31,6 +31,7 @@
 #![tactic(auto)]
 
 mod installs;
+mod laws;
 mod map;
 mod profiles;
 mod rows;
@@ -38,4 +39,5 @@ mod teller;
 #[cfg(test)]
 mod tests;
 
+pub use laws::{names_as_the_machine, the_latest_row_stands};
 pub use map::MailMap;
