@@ -17,8 +17,8 @@
 //! rows, since a node that came from elsewhere reports anew.
 //!
 //! Contracts see a row for each node, boot and user, as the machine of `maps_model` does. The laws say that
-//! the row that stands is the one of greatest version, the later told among equals, and that an install
-//! keeps what that machine keeps.
+//! the row that stands is the one of greatest version, the later told among equals, and that the members
+//! named are those whom that machine names.
 //!
 //! STANDS ON
 //!
