@@ -1,3 +1,4 @@
 pub mod OneUser
 pub mod Retained
 pub mod Greatest
+pub mod Latest

@@ -17,8 +17,8 @@
 //! rows, since a node that came from elsewhere reports anew.
 //!
 //! Contracts see a row for each node, boot and user, as the machine of `maps_model` does. The laws say that
-//! the row that stands is the one of greatest version, the later told among equals, and that an install
-//! keeps what that machine keeps.
+//! the row that stands is the one of greatest version, the later told among equals, and that the members
+//! named are those whom that machine names.
 //!
 //! STANDS ON
 //!
@@ -31,6 +31,7 @@
 #![tactic(auto)]
 
 mod installs;
+mod laws;
 mod map;
 mod profiles;
 mod rows;
@@ -38,4 +39,5 @@ mod teller;
 #[cfg(test)]
 mod tests;
 
+pub use laws::{names_as_the_machine, the_latest_row_stands};
 pub use map::MailMap;
