@@ -2,6 +2,8 @@
 ghost use Rattle.std.specs.Prelude.{◌<◌};
 
 mod answers;
+mod lines;
+mod logins;
 mod marks;
 
 use crate::PopSession;
@@ -421,152 +423,11 @@ fn hears_octets_in_any_pieces(rt: HostRuntime) -> Result<(), Fail> {
     let sizes: [usize; 4] = [1, 2, 7, 100_000];
     for size in sizes {
         says_in_pieces(&rt, rt.alloc(), &[(1, 1, 1, 151)], ONE_MESSAGE, size.max(1))?;
-        says_in_pieces(&rt, rt.alloc(), &[], LOGINS, size.max(1))?;
+        says_in_pieces(&rt, rt.alloc(), &[], logins::LOGINS, size.max(1))?;
     }
-    Ok(())
-}
-
-const LOGINS: &[u8] = b"\
-STAT
-  -ERR bad order
-LIST
-  -ERR bad order
-LIST 1
-  -ERR bad order
-UIDL
-  -ERR bad order
-RETR 1
-  -ERR bad order
-DELE 1
-  -ERR bad order
-PASS sesame
-  -ERR bad order
-USER nobody
-  +OK send PASS
-PASS sesame
-  -ERR name or secret is wrong
-PASS sesame
-  -ERR bad order
-USER alice
-  +OK send PASS
-STAT
-  -ERR bad order
-PASS sesame
-  -ERR bad order
-USER alice
-  +OK send PASS
-NOOP
-  -ERR unknown command
-PASS sesame
-  -ERR bad order
-USER alice
-  +OK send PASS
-USER @
-  -ERR bad argument
-PASS sesame
-  -ERR bad order
-USER alice
-  +OK send PASS
-PASS
-  -ERR bad argument
-PASS sesame
-  -ERR bad order
-USER alice
-  +OK send PASS
-PASS sesame\x20
-  asks for alice
-  -ERR name or secret is wrong
-PASS sesame
-  -ERR bad order
-USER alice
-  +OK send PASS
-PASS \x00\xFF
-  asks for alice
-  -ERR name or secret is wrong
-USER nobody
-  +OK send PASS
-USER BOB
-  +OK send PASS
-PASS sesame
-  asks for bob
-  +OK maildrop open
-";
-
-#[test]
-fn logs_in(rt: HostRuntime) -> Result<(), Fail> {
-    Client::new(rt.alloc(), &[])?.says(&rt, LOGINS)?;
-    let mut client = Client::new(rt.alloc(), &[])?;
-    client.says(&rt, b"QUIT\n  +OK bye\n  closed\n")?;
-    Ok(())
-}
-
-#[test]
-fn hears_long_lines(rt: HostRuntime) -> Result<(), Fail> {
-    let mut client = Client::new(rt.alloc(), &[])?;
-    let mut long = b"PASS ".to_vec(rt.alloc())?;
-    long.resize(1022, b'x')?;
-    client.say(b"USER alice")?;
-    client.say(&long)?;
-    assert!(rt;
-        client
-            .said
-            .ends_with(b"\n  asks for alice\n  -ERR name or secret is wrong\n")
-    );
-    long.push(b'x')?;
-    client.say(b"USER alice")?;
-    client.say(&long)?;
-    assert!(rt; client.said.ends_with(b"\n  -ERR line too long\n"));
-    client.say(b"PASS sesame")?;
-    assert!(rt; client.said.ends_with(b"\n  -ERR bad order\n"));
     Ok(())
 }
 
 fn has_said(rt: &impl Abort, client: &Client, wanted: &[u8]) {
     assert!(rt; client.said.as_slice() == wanted, "{:?}", client.said);
-}
-
-// A line ends at CRLF alone, and none is heard before.
-#[test]
-fn waits_for_crlf(rt: HostRuntime) -> Result<(), Fail> {
-    let mut client = Client::new(rt.alloc(), &[])?;
-    client.feed(b"USER alice\n")?;
-    client.feed(b"PASS sesame\r")?;
-    client.feed(b"QUIT\r")?;
-    assert!(rt; client.said.is_empty());
-    client.feed(b"\nQU")?;
-    client.feed(b"IT\r\nSTAT")?;
-    has_said(&rt, &client, b"  -ERR bad argument\n  +OK bye\n  closed\n");
-    Ok(())
-}
-
-// A line of so many octets with its CRLF, and what it leads to. No more of it is held than the limit, however it
-// comes, and one that never ends leads to nothing.
-#[test]
-fn holds_no_long_line(rt: HostRuntime) -> Result<(), Fail> {
-    let cases: [(usize, &[u8]); 3] = [
-        (1_024, b"  -ERR unknown command\n"),
-        (1_025, b"  -ERR line too long\n"),
-        (100_000, b"  -ERR line too long\n"),
-    ];
-    for (length, wanted) in cases {
-        let mut client = Client::new(rt.alloc(), &[])?;
-        let mut line = Vec::new(rt.alloc());
-        line.resize(length.saturating_sub(2), b'x')?;
-        for piece in line.chunks(999) {
-            client.feed(piece)?;
-            assert!(rt; client.session.held() < 1_024);
-        }
-        assert!(rt; client.said.is_empty());
-        client.feed(b"\r\n")?;
-        has_said(&rt, &client, wanted);
-    }
-    let mut client = Client::new(rt.alloc(), &[])?;
-    let piece = [b'x'; 1000];
-    for _ in 0..5_000u16 {
-        client.session.feed(&piece)?;
-        assert!(rt; client.session.held() < 1_024);
-    }
-    client.feed(b"")?;
-    assert!(rt; client.said.is_empty());
-    Ok(())
 }
