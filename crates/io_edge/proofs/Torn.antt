@@ -1,16 +1,11 @@
 -- Writes that changed nothing, and writes that were done.
-use Rattle.std.proofs.Common.{◌≡◌, refl, ℕ, ◌+◌, ◌-◌, ◌≤◌, List, ◌++◌, length, take, drop, Option, Some, None, IfSome, ap, ◌∙◌, arith, append_assoc, length-append}
+use Rattle.std.proofs.Common.{◌≡◌, refl, ℕ, ◌+◌, ◌-◌, ◌≤◌, List, ◌++◌, length, take, drop, ap, ◌∙◌, arith, append_assoc, length-append}
 use Rattle.std.proofs.lemmas.List.{take_at, drop_at, length-take-le, length-drop}
 use Rattle.io_edge.specs.Octets.{Holds, Torn}
 
 -- a write that left all as it was is a failed one
 pub torn_nothing : (at n : ℕ) (c : List ℕ) → Torn at n c c
 torn_nothing at n c = record { before = refl; after = refl; no_shorter = omega arith; no_longer = omega arith }
-
--- the same of what is told
-pub stays_torn : (told : Option (List ℕ)) (at n : ℕ) → IfSome told (λ held. (now : List ℕ) × (told ≡ Some now) × Torn at n held now)
-stays_torn None at n = tt
-stays_torn (Some held) at n = (held, refl, torn_nothing at n held)
 
 -- a write that was done may have been one that failed
 pub torn_by : (at : ℕ) (octets old new : List ℕ) → at ≤ length old → Holds old at octets new → Torn at (length octets) old new

@@ -3,5 +3,4 @@ pub mod Faulty
 pub mod Moments
 pub mod Octets
 pub mod Plain
-pub mod Wrapped
 pub mod Yards

@@ -1,11 +1,9 @@
 //! Wrappers of which one chosen call fails, for tests of the crates above. After it they go on
 //! working as what they wrap does.
 mod countdown;
-mod disk;
 mod streams;
 mod yard;
 
 pub use countdown::Countdown;
-pub use disk::FaultyDisk;
 pub use streams::{FaultySink, FaultySource, ShortSink};
 pub use yard::FaultyYard;

@@ -11,16 +11,16 @@
 //! The crate stands on the standard library alone.
 //!
 //! In memory there are `SliceSource`, `VecSink`, `PlainDisk` and `MemoryYard`; over std's readers
-//! and writers `ReadSource` and `WriteSink`. The module `faulty` wraps any of the four so that one
-//! chosen call fails, and cuts a sink's writes short, for the tests of the crates above.
+//! and writers `ReadSource` and `WriteSink`. The module `faulty` wraps a source, a sink or a yard so
+//! that one chosen call fails, and cuts a sink's writes short, for the tests of the crates above. A
+//! disk that fails and tears is `MemoryDisk` of `node_disk`.
 //!
 //! Refused: a write to a disk that begins past its end, or goes further past the end than the room
 //! that was reserved. Want of memory is no fault of the outside where a call has an answer for it
 //! (`reserve` of a disk, `store` of a yard); a `VecSink` has none and counts it as a fault.
 //!
-//! Not done here: nothing is tried again, nothing is buffered, and a disk has no restart. After a
-//! failed write the written range may hold any octets. What a real file or socket holds is not
-//! told.
+//! Not done here: nothing is tried again, and nothing is buffered. After a failed write the written
+//! range may hold any octets. What a real file or socket holds is not told.
 #![tactic(auto)]
 
 mod disk;

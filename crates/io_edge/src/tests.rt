@@ -2,7 +2,7 @@
 ghost use Rattle.std.specs.Prelude.{◌≡◌, OnOk};
 ghost use Rattle.io_edge.specs.Yards.{Adds, with_last};
 
-use crate::faulty::{FaultyDisk, FaultySink, FaultySource, FaultyYard, ShortSink};
+use crate::faulty::{FaultySink, FaultySource, FaultyYard, ShortSink};
 use crate::*;
 use std::io::Cursor;
 use std::test::Fail;
@@ -69,19 +69,12 @@ fn streams_fail_once(rt: HostRuntime) -> Result<(), Fail> {
 }
 
 #[test]
-fn each_call_of_a_disk_fails_once(rt: HostRuntime) -> Result<(), Fail> {
-    for (call, wanted, size) in [
-        (0, Ok(*b"mail"), 4),
-        (1, Err(Failed), 0),
-        (2, Err(Failed), 0),
-        (3, Err(Failed), 4),
-        (4, Err(Failed), 4),
-        (5, Ok(*b"mail"), 4),
-    ] {
-        let mut disk = FaultyDisk::new(PlainDisk::new(rt.alloc()), call);
-        assert_eq!(rt; append(&mut disk, b"mail"), wanted, "at {call}");
-        assert_eq!(rt; disk.inner.octets.len(), size, "at {call}");
-    }
+fn a_disk_holds_what_was_written(rt: HostRuntime) -> Result<(), Fail> {
+    let mut disk = PlainDisk::new(rt.alloc());
+    assert_eq!(rt; append(&mut disk, b"mail"), Ok(*b"mail"));
+    assert_eq!(rt; disk.restart(), Ok(()));
+    assert_eq!(rt; append(&mut disk, b"over"), Ok(*b"over"));
+    assert_eq!(rt; disk.octets.as_slice(), b"mailover".as_slice());
     Ok(())
 }
 
