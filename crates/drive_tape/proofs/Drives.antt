@@ -43,6 +43,7 @@ use Rattle.drive_tape.specs.Runs.{Progress, Turned, TurnStopped}
 use Rattle.drive_tape.specs.Stops.{of_line}
 use Rattle.drive_tape.specs.Talks.{Converse, NoTickets}
 use Rattle.drive_tape.specs.Worlds.{IsAt, IsSince}
+use Rattle.drive_tape.proofs.Kept.{kept_in}
 use Rattle.drive_tape.proofs.Works.{linked_more}
 
 abbrev IsNoLf : ℕ → Type 0
@@ -257,7 +258,8 @@ cut_line missing cut part all = ⊎_elim (λ (none : cut ≡ []). subst HasNoLf 
     part
 
 module _ {D : Type 0} (seen : D → Option (List ℕ)) (faults : D → ℕ) (start : World D) (left0 left1 left2 held0 held1 held2 : Option (List ℕ)) (old : Cluster D) (count room1 room2 from : ℕ) (world : World D) (answer : Drove)
-    (p : Progress seen faults start left0 left1 held0 held1 old count room1) (names : NamesLine answer (from + count + 1)) where
+    (p : Progress seen faults start left0 left1 held0 held1 old count room1) (names : NamesLine answer (from + count + 1))
+    (one : (plan_of start).nodes ≡ 1) (begins : Begins seen (plan_of start) start) where
   module _ (stop : Stop) (midst : List (List ℕ)) (sessions : List Session) (h : Halt seen faults start (plan_of start) p.point held2 world stop midst sessions)
       (taken others : List ℕ) (took : Consumes left1 left2 taken) (size : room2 + length taken ≡ room1) (parts : taken ≡ flat_map ended midst ++ others) (each : All HasNoLf midst)
       (stops : Stops (stop_of answer) stop (plan_of start) p.point.down sessions midst left2 others room2) where
@@ -331,6 +333,8 @@ module _ {D : Type 0} (seen : D → Option (List ℕ)) (faults : D → ℕ) (sta
       later = h.since.later;
       fallen = subst (λ (d : List ℕ). HasCauses seen faults start d world) (ap (λ (l : List ℕ). l ++ failed_in (joined h.behind)) p.failed ∙ sym (failed_more p.acts h.behind)) h.cause;
       quiet = h.since.quiet;
+      kept = kept_in seen faults start world one begins stop p.handled midst p.acts h.behind _ entries sessions is_driven (p.point.outcomes ++ h.new) h.since.awaited h.since.made
+          h.lacking linked.asked h.lack linked.answered;
     }
 
 -- a line that is not handled: `end`, one that is no order, or one for whose order memory ran out
@@ -427,12 +431,12 @@ line_why why.ReadFault plan p line stop midst sessions left room one same at is 
 pub stops : {D T : Type 0} (seen : D → Option (List ℕ)) (faults : D → ℕ) (start : World D) (left0 left1 left2 held0 held1 held2 : Option (List ℕ)) (old new : Cluster D) (count room1 room2 from : ℕ) (reason : Why) (answer : Drove)
     (p : Progress seen faults start left0 left1 held0 held1 old count room1)
     → (plan : Plan) → plan ≡ plan_of start → Turned {T = T} seen faults start plan p.point (Err reason) left1 left2 room1 room2 held2 old new → stop_of answer ≡ reason → NamesLine answer (from + count + 1)
-    → Drives seen faults start left0 left2 held0 held2 answer from new.world
-stops {D} {T} seen faults start left0 left1 left2 held0 held1 held2 old new count room1 room2 from reason answer p plan same turned is names = ⊎_elim
+    → (plan_of start).nodes ≡ 1 → Begins seen (plan_of start) start → Drives seen faults start left0 left2 held0 held2 answer from new.world
+stops {D} {T} seen faults start left0 left1 left2 held0 held1 held2 old new count room1 room2 from reason answer p plan same turned is names one begins = ⊎_elim
     (λ (none : (why : LineStop) × (reason ≡ of_line why) × Reads (Err why) left2 t.taken room2 × (p.point.held ≡ held2) × (new ≡ old)).
     let because = no_line_why none.0 (plan_of start) p.point.down p.point.sessions left2 t.taken room2 none.2 in
     subst (λ (cluster : Cluster _). Drives seen faults start left0 left2 held0 held2 answer from cluster.world) (sym none.4)
-    (drives_of seen faults start left0 left1 left2 held0 held1 held2 old count room1 room2 from old.world answer p names because.0 [] p.point.sessions
+    (drives_of seen faults start left0 left1 left2 held0 held1 held2 old count room1 room2 from old.world answer p names one begins because.0 [] p.point.sessions
     (halt_none seen faults start (plan_of start) p.point held2 old because.0 p.shows none.3 because.1)
     t.taken t.taken t.took t.size refl (All-nil HasNoLf)
     (subst (λ (r : Why). Stops r because.0 (plan_of start) p.point.down p.point.sessions [] left2 t.taken room2) (sym (is ∙ none.1)) because.2)))
@@ -440,7 +444,7 @@ stops {D} {T} seen faults start left0 left1 left2 held0 held1 held2 old new coun
     let s = some.3 in
     let because = line_why reason (plan_of start) p.point some.0 s.stop s.midst s.sessions left2 room2 some.2
     (λ none. none_left (plan_of start) p.point.down s.stop p.point.sessions s.midst s.behind s.tail s.extra s.sessions none s.off) s.at_line s.why in
-    drives_of seen faults start left0 left1 left2 held0 held1 held2 old count room1 room2 from new.world answer p names s.stop s.midst s.sessions
+    drives_of seen faults start left0 left1 left2 held0 held1 held2 old count room1 room2 from new.world answer p names one begins s.stop s.midst s.sessions
     (halt_line seen faults start (plan_of start) p.point some.0 reason held2 new.world s)
     t.taken because.0 t.took t.size (some.1 ∙ because.1) because.2
     (subst (λ (r : Why). Stops r s.stop (plan_of start) p.point.down s.sessions s.midst left2 because.0 room2) (sym is) because.3))

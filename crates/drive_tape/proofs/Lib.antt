@@ -12,5 +12,6 @@ pub mod Hearing
 pub mod Joins
 pub mod Fed
 pub mod Asking
+pub mod Kept
 pub mod Drives
 pub mod Talkers

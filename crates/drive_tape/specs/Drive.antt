@@ -11,6 +11,7 @@ use Rattle.session_model.specs.Sessions.{Session}
 use Rattle.session_model.specs.Acts.{Act}
 use Rattle.session_model.specs.Logs.{Asked, asked_by, answered_by}
 use Rattle.session_model.specs.Run.{Made, Stop, IsDriven, refusal, failed_in}
+use Rattle.session_model.specs.Kept.{IsEnding}
 use Rattle.session_model.specs.Run.Stop.{BehindLine, SinkFailed, OutOfMemory}
 use Rattle.cluster_world.specs.Outcomes.{Outcome, Awaited, Makes, made_of, asked_in, answered_in}
 use Rattle.cluster_world.specs.World.{plan_of, disk_of, is_up}
@@ -23,6 +24,7 @@ use Rattle.drive_tape.specs.declared.drove.TapeFault.TheVariants.{BadLine, TapeT
 use Rattle.drive_tape.specs.declared.drove.Stop.{Stop as Why}
 use Rattle.drive_tape.specs.declared.drove.Stop.TheVariants as why
 use Rattle.drive_tape.specs.Faults.{fault_of}
+use Rattle.drive_tape.specs.Kept.{KeptIn}
 
 -- the octets are a line that is this order
 pub record IsOrder (octets : List ℕ) (order : Order) : Type 0 where
@@ -76,8 +78,8 @@ MayLackOne OutOfMemory lacking = (lacking ≡ []) ⊎ ((one : Asked) × (lacking
 MayLackOne stop lacking = lacking ≡ []
 
 -- The whole: the octets that were read begin with the lines that were handled, and the one in whose midst the work stopped, if there is one; the run of these
--- lines is this; what was written is its entries, the last line of them perhaps in part; the world made its steps and no others; and the answer says why it
--- stopped.
+-- lines is this; what was written is its entries, the last line of them perhaps in part; the world made its steps and no others; the answer says why it
+-- stopped; and the world that came back keeps what was promised.
 pub record Drives {D : Type 0} (seen : D → Option (List ℕ)) (faults : D → ℕ) (start : World D) (left0 left1 held0 held1 : Option (List ℕ)) (answer : Drove) (from : ℕ) (last : World D) : Type 0 where
   pub read : List ℕ
   pub handled : List (List ℕ)
@@ -113,3 +115,6 @@ pub record Drives {D : Type 0} (seen : D → Option (List ℕ)) (faults : D → 
   pub later : faults (disk_of start) ≤ faults (disk_of last)
   pub fallen : (failed_in (flat_map (λ a. a) (acts ++ behind)) ≡ []) ⊎ Rose (faults (disk_of start)) (faults (disk_of last)) ⊎ (seen (disk_of start) ≡ None)
   pub quiet : is_up last ≡ true → faults (disk_of last) ≡ faults (disk_of start)
+  -- all promises are kept by the disk and the book of the world that came back, whatever line then says why the program ended
+  pub kept : (plan_of start).confirm ≡ 1 → (ending : List Entry) → IsEnding ending
+      → KeptIn seen last (plan_of start) stop (handled ++ midst) (entries ++ ending) (flat_map (λ a. a) (acts ++ behind)) (flat_map asked_in outcomes)

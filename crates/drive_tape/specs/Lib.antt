@@ -11,6 +11,7 @@ pub mod Worlds
 pub mod Points
 pub mod Clusters
 pub mod Stops
+pub mod Kept
 pub mod Drive
 pub mod Plans
 pub mod Lines

@@ -34,7 +34,7 @@ returns-in-Err-clause-drives g c begins =
     let loop = c.loop-handled.invariant in
     let p = loop.progress begins in
     stops _ _ _ _ _ _ _ _ _ _ _ _ _ _ _ c.in-Err.stop c.at_line.result p (plan_of c.loop-handled.cluster.world) loop.plan (c.in-Err.ensures.turned c.args.world p.point p.shows p.held_is p.quiet)
-    c.at_line.ensures.stop c.at_line.ensures.number
+    c.at_line.ensures.stop c.at_line.ensures.number c.requires.one begins
 
 pub returns-in-Err-clause-read_fault : goal.returns-in-Err-clause-read_fault
 returns-in-Err-clause-read_fault g c begins is =
