@@ -1,4 +1,3 @@
-mod AtNode
 mod NextLine
 mod GoodRun
 mod GoodPlan

@@ -47,7 +47,7 @@ use Rattle.porcupine_server.specs.declared.ending.Ending.{Ending}
 use Rattle.porcupine_server.specs.declared.ending.Ending.TheVariants.{Done, Line, Read, Write, Store, NoMemory}
 use Rattle.porcupine_server.specs.Endings.{ending_of, status_of, last_entries, Finishes}
 use Rattle.porcupine_server.specs.Works.{Ends, Stores, Works, NoPlan, NoStore, Served, NotOpened, Ran}
-use Rattle.porcupine_server.proofs.AtNode.{driven_at_1, call_asked}
+use Rattle.session_model.proofs.Alone.{driven_at_1, call_asked}
 use Rattle.porcupine_server.specs.Promises.{IsTape, IsTranscript, KeepsAll, HasKept}
 
 abbrev IsNoLf : ℕ → Type 0
