@@ -21,7 +21,7 @@ pub data Due : Type 0 where
   Reply : (answer : model.Answer) → Due
 
 -- One unit was heard, asks this and was replied to with these octets, and the session goes on so. A line of a reply has no CRLF in it.
-pub record Heard (follows : Session → Due → Type 0) (plan : Plan) (plain : Session) (call : Option model.Call) (octets : List ℕ) : Type 0 where
+pub record HeardUnit (follows : Session → Due → Type 0) (plan : Plan) (plain : Session) (call : Option model.Call) (octets : List ℕ) : Type 0 where
   pub one : Exchange
   pub after : Session
   pub did : Did plan plain (Hears one) one.reply after
@@ -74,8 +74,8 @@ HearsNothing EndedClosed rest = ⊥
 abbrev pub Moves : (Session → Due → Type 0) → List ℕ → Plan → Session → Due → Move → List ℕ → Type 0
 Moves follows greeting plan plain Greeting Said octets = Greeted follows greeting plain octets
 Moves follows greeting plan plain (Reply answer) Said octets = Replied follows plan plain answer octets
-Moves follows greeting plan plain Nothing Said octets = Heard follows plan plain None octets
-Moves follows greeting plan plain Nothing (Begin call) octets = (asked : model.Call) × (call_seen call ≡ Some asked) × Heard follows plan plain (Some asked) octets
+Moves follows greeting plan plain Nothing Said octets = HeardUnit follows plan plain None octets
+Moves follows greeting plan plain Nothing (Begin call) octets = (asked : model.Call) × (call_seen call ≡ Some asked) × HeardUnit follows plan plain (Some asked) octets
 Moves follows greeting plan plain Nothing Wait octets = IsWaiting plain.standing × (octets ≡ []) × follows plain Nothing
 Moves follows greeting plan plain Nothing Idle octets = HearsNothing plain.standing plain.rest × (octets ≡ []) × follows plain Nothing
 Moves follows greeting plan plain Nothing End octets = HasEnded plain.standing × (octets ≡ []) × follows plain Nothing

@@ -4,22 +4,22 @@ use Rattle.mail_model.specs.Identity.{Id}
 use Rattle.mail_model.specs.Book.{BookEntry}
 use Rattle.mail_model.specs.Book.BookEntry.{Struck}
 use Rattle.object_model.specs.Lists.{Among}
-use Rattle.cluster_model.specs.Cluster.{Slot, slot_at, with_slot, Asked}
+use Rattle.cluster_model.specs.Cluster.{Slot, slot_at, with_slot, AskedOfNodes}
 use Rattle.object_model.specs.Letters.{Letter, Number}
 use Rattle.cluster_model.specs.Claims.{SlotSpeaks, Covered}
-use Rattle.cluster_model.specs.Moves.{Act, IsAct, IsInOrder, IsSpoken, SlotFits}
-use Rattle.cluster_model.specs.Parts.{AllInOrder, Deletions, AllFit, Waits}
+use Rattle.cluster_model.specs.Moves.{NodeAct, IsAct, IsInOrder, IsSpoken, SlotFits}
+use Rattle.cluster_model.specs.Parts.{AllInOrder, Deletions, AllFit, WaitsForLetters}
 use Rattle.object_model.proofs.Lists.{among_front, among_behind, among_either}
 use Rattle.cluster_model.proofs.Slots.{read_after}
 use Rattle.cluster_model.proofs.Drawing.{waits_after}
 
-pub covered_more : (letters more : List Letter) (number : Number) (m : ℕ) (asked : Asked) → Covered letters number m asked → Covered (letters ++ more) number m asked
+pub covered_more : (letters more : List Letter) (number : Number) (m : ℕ) (asked : AskedOfNodes) → Covered letters number m asked → Covered (letters ++ more) number m asked
 covered_more letters more number m asked c = record { letter = c.letter; inside = among_front c.letter letters more c.inside; covers = c.covers }
 
-pub covered_new : (letters more : List Letter) (number : Number) (m : ℕ) (asked : Asked) → Covered more number m asked → Covered (letters ++ more) number m asked
+pub covered_new : (letters more : List Letter) (number : Number) (m : ℕ) (asked : AskedOfNodes) → Covered more number m asked → Covered (letters ++ more) number m asked
 covered_new letters more number m asked c = record { letter = c.letter; inside = among_behind c.letter letters more c.inside; covers = c.covers }
 
-module _ (slots : List Slot) (flying : List Letter) (book : List BookEntry) (act : Act) (here : slot_at slots act.node ≡ Some act.before) (is : IsAct act)
+module _ (slots : List Slot) (flying : List Letter) (book : List BookEntry) (act : NodeAct) (here : slot_at slots act.node ≡ Some act.before) (is : IsAct act)
     (flew : (letter : Letter) → act.heard ≡ Some letter → Among letter flying) where
   abbrev After : List Slot
   After = with_slot slots act.node act.after
@@ -62,7 +62,7 @@ module _ (slots : List Slot) (flying : List Letter) (book : List BookEntry) (act
         (among_either letter flying act.out m);
   }
 
-  pub waits_acted : Waits slots flying → Waits After (flying ++ act.out)
+  pub waits_acted : WaitsForLetters slots flying → WaitsForLetters After (flying ++ act.out)
   waits_acted p = record {
     each = λ number m asked wait. ⊎_elim
         (λ old. covered_more flying act.out number m asked (p.each number m asked old))

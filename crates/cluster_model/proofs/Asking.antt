@@ -13,13 +13,13 @@ use Rattle.object_model.specs.Lists.{Among}
 use Rattle.object_model.specs.Letters.{Number}
 use Rattle.object_model.specs.Sets.{count_in}
 use Rattle.object_model.specs.Mishaps.{Mishaps}
-use Rattle.cluster_model.specs.Cluster.{Filing, Asked, Want, Ticket, Node, Slot, slot_at, with_slot}
-use Rattle.cluster_model.specs.Cluster.Asked.{Copies, Deletion}
+use Rattle.cluster_model.specs.Cluster.{NodeFiling, AskedOfNodes, Want, Ticket, Node, Slot, slot_at, with_slot}
+use Rattle.cluster_model.specs.Cluster.AskedOfNodes.{Copies, Deletion}
 use Rattle.cluster_model.specs.Claims.{Wants}
 use Rattle.cluster_model.specs.Moves.{MayEnter}
 use Rattle.cluster_model.specs.Rules.{ticket_at, end_ticket}
-use Rattle.cluster_model.specs.Progress.{Answer, is_confirmed, has_failed, answer_to, pending_of_call, ask_of_wants, ask_of, entries_of, wants_entries, entries_with}
-use Rattle.cluster_model.specs.Progress.Answer.{Stored, Dropped, Failed}
+use Rattle.cluster_model.specs.Progress.{NodeAnswer, is_confirmed, has_failed, answer_once_confirmed, pending_of_call, ask_of_wants, ask_of, confirmed_entries, wants_entries, entries_with}
+use Rattle.cluster_model.specs.Progress.NodeAnswer.{Stored, Dropped, Failed}
 use Rattle.cluster_model.specs.Progress.Ask.{Done}
 use Rattle.cluster_model.specs.Deeds.{slot_up, act_of}
 use Rattle.cluster_model.specs.World.{World, Leads, cluster_of}
@@ -36,18 +36,18 @@ all_one p (one ∷ wants) h want m =
     let parts = and_parts (p one) (list_all p wants) h in
     ⊎_elim (λ is. subst (λ (x : Want). p x ≡ true) is parts.0) (λ more. all_one p wants parts.1 want more) m
 
-not_pending : (confirm : ℕ) (wants : List Want) (want : Want) (asked : Asked) (answer : Answer) → pending_of_call confirm wants want asked ≡ Done answer → ⊥
+not_pending : (confirm : ℕ) (wants : List Want) (want : Want) (asked : AskedOfNodes) (answer : NodeAnswer) → pending_of_call confirm wants want asked ≡ Done answer → ⊥
 not_pending confirm wants want (Copies filing) answer e = cc
 not_pending confirm wants want (Deletion user id) answer e = cc
 
-other_answer : (mishaps : Mishaps) (answer : Answer) → ((m : Mishaps) → answer ≡ Failed m → ⊥) → Done (Failed mishaps) ≡ Done answer → ⊥
+other_answer : (mishaps : Mishaps) (answer : NodeAnswer) → ((m : Mishaps) → answer ≡ Failed m → ⊥) → Done (Failed mishaps) ≡ Done answer → ⊥
 other_answer mishaps answer good e = good mishaps (back e)
   where
     back : Done (Failed mishaps) ≡ Done answer → answer ≡ Failed mishaps
     back e = cc
 
 -- an answer that is no failure comes only where all is confirmed
-all_confirmed : (confirm : ℕ) (mishaps : Mishaps) (wants : List Want) (answer : Answer) → ask_of_wants confirm mishaps wants ≡ Done answer → ((m : Mishaps) → answer ≡ Failed m → ⊥)
+all_confirmed : (confirm : ℕ) (mishaps : Mishaps) (wants : List Want) (answer : NodeAnswer) → ask_of_wants confirm mishaps wants ≡ Done answer → ((m : Mishaps) → answer ≡ Failed m → ⊥)
     → list_all (is_confirmed confirm) wants ≡ true
 all_confirmed confirm mishaps [] answer e good = absurd (other_answer mishaps answer good e)
 all_confirmed confirm mishaps (want ∷ wants) answer e good = by (list_all (is_confirmed confirm) (want ∷ wants)) refl e
@@ -57,7 +57,7 @@ all_confirmed confirm mishaps (want ∷ wants) answer e good = by (list_all (is_
     failed false g = not_pending confirm (want ∷ wants) want want.asked answer g
 
     by : (b : Bool) → list_all (is_confirmed confirm) (want ∷ wants) ≡ b
-        → (if b then Done (answer_to (want ∷ wants) want want.asked) else (if has_failed confirm (want ∷ wants) then Done (Failed mishaps) else pending_of_call confirm (want ∷ wants) want want.asked)) ≡ Done answer
+        → (if b then Done (answer_once_confirmed (want ∷ wants) want want.asked) else (if has_failed confirm (want ∷ wants) then Done (Failed mishaps) else pending_of_call confirm (want ∷ wants) want want.asked)) ≡ Done answer
         → list_all (is_confirmed confirm) (want ∷ wants) ≡ true
     by true t g = t
     by false t g = absurd (failed (has_failed confirm (want ∷ wants)) g)
@@ -67,14 +67,14 @@ le_of a b e = grind (arith, nat_tests)
 
 -- the entries of each want may be added
 want_enters : (confirm : ℕ) (slots : List Slot) (own seq : ℕ) (slot : Slot) (want : Want) → slot_at slots own ≡ Some slot → Wants slot.life seq want → confirm ≤ count_in want.confirmed
-    → (entry : BookEntry) → Among entry (entries_of want want.asked) → MayEnter confirm entry slots
+    → (entry : BookEntry) → Among entry (confirmed_entries want want.asked) → MayEnter confirm entry slots
 want_enters confirm slots own seq slot want here stands enough entry m = by want.asked refl m
   where
-    copies : (filing : Filing) → want.asked ≡ Copies filing → (user : List ℕ) → Among user filing.users
+    copies : (filing : NodeFiling) → want.asked ≡ Copies filing → (user : List ℕ) → Among user filing.users
         → MayEnter confirm (Acknowledged (record { user = user; id = filing.id; seconds = filing.seconds; size = filing.size; digest = filing.digest; confirmers = want.confirmed })) slots
     copies filing is user inside = (filing, own, slot, seq, want, here, stands, is, inside, refl, refl, refl, refl, enough)
 
-    by : (asked : Asked) → want.asked ≡ asked → Among entry (entries_of want asked) → MayEnter confirm entry slots
+    by : (asked : AskedOfNodes) → want.asked ≡ asked → Among entry (confirmed_entries want asked) → MayEnter confirm entry slots
     by (Copies filing) is k =
         let r = among_map (λ (user : List ℕ). Acknowledged (record { user = user; id = filing.id; seconds = filing.seconds; size = filing.size; digest = filing.digest; confirmers = want.confirmed })) entry filing.users k in
         subst (λ (x : BookEntry). MayEnter confirm x slots) r.2 (copies filing is r.0 r.1)
@@ -87,9 +87,9 @@ wants_enter confirm slots own seq slot [] here each entry m = absurd m
 wants_enter confirm slots own seq slot (want ∷ wants) here each entry m = ⊎_elim
     (λ front. let e = each want (inl refl) in want_enters confirm slots own seq slot want here e.0 e.1 entry front)
     (λ behind. wants_enter confirm slots own seq slot wants here (λ w k. each w (inr k)) entry behind)
-    (among_either entry (entries_of want want.asked) (wants_entries wants) m)
+    (among_either entry (confirmed_entries want want.asked) (wants_entries wants) m)
 
-answer_enters : (confirm : ℕ) (slots : List Slot) (own seq : ℕ) (node : Node) (disk : List Record) (ticket : Ticket) (answer : Answer) → slot_at slots own ≡ Some (slot_up node disk)
+answer_enters : (confirm : ℕ) (slots : List Slot) (own seq : ℕ) (node : Node) (disk : List Record) (ticket : Ticket) (answer : NodeAnswer) → slot_at slots own ≡ Some (slot_up node disk)
     → fin.get node.tickets seq ≡ Some ticket → ask_of confirm ticket ≡ Done answer → (entry : BookEntry) → Among entry (entries_with answer ticket) → MayEnter confirm entry slots
 answer_enters confirm slots own seq node disk ticket answer here stands e entry m = by answer refl m
   where
@@ -97,13 +97,13 @@ answer_enters confirm slots own seq node disk ticket answer here stands e entry 
     entered all k = wants_enter confirm slots own seq (slot_up node disk) ticket.wants here
         (λ want inside. (record { ticket = ticket; here = stands; inside = inside }, le_of confirm (count_in want.confirmed) (all_one (is_confirmed confirm) ticket.wants all want inside))) entry k
 
-    by : (a : Answer) → answer ≡ a → Among entry (entries_with a ticket) → MayEnter confirm entry slots
+    by : (a : NodeAnswer) → answer ≡ a → Among entry (entries_with a ticket) → MayEnter confirm entry slots
     by (Stored id confirmers) is k = entered (all_confirmed confirm ticket.mishaps ticket.wants answer e (λ f g. cc (sym is ∙ g))) k
     by (Dropped confirmers) is k = entered (all_confirmed confirm ticket.mishaps ticket.wants answer e (λ f g. cc (sym is ∙ g))) k
     by (Failed mishaps) is k = absurd k
 
 -- a ticket that is done: first the book has so, then it ends
-pub ends_lead : (confirm : ℕ) (May : Id → List ℕ → Type 0) (w : World) (number : Number) (node : Node) (disk : List Record) (ticket : Ticket) (answer : Answer)
+pub ends_lead : (confirm : ℕ) (May : Id → List ℕ → Type 0) (w : World) (number : Number) (node : Node) (disk : List Record) (ticket : Ticket) (answer : NodeAnswer)
     → slot_at w.slots number.node ≡ Some (slot_up node disk) → ticket_at number.node node (Some number) ≡ Some ticket → ask_of confirm ticket ≡ Done answer
     → Leads confirm May (cluster_of w)
     (cluster_of (record w { slots = with_slot w.slots number.node (slot_up (end_ticket number.seq node disk).node disk); book = w.book ++ entries_with answer ticket }))

@@ -11,13 +11,13 @@ use Rattle.object_model.specs.Sets.{has, one_node, without_node}
 use Rattle.object_model.specs.Lists.{Among}
 use Rattle.object_model.specs.Letters.{Letter}
 use Rattle.object_model.specs.Letters.Body.{File}
-use Rattle.cluster_model.specs.Cluster.{Want, Ticket, Filing, Node, epoch_of}
-use Rattle.cluster_model.specs.Cluster.Asked.{Copies}
+use Rattle.cluster_model.specs.Cluster.{Want, Ticket, NodeFiling, Node, epoch_of}
+use Rattle.cluster_model.specs.Cluster.AskedOfNodes.{Copies}
 use Rattle.cluster_model.specs.Cluster.Life.{Up}
 use Rattle.cluster_model.specs.Store.{Store, Update, take_all, here_updates, with_octets}
-use Rattle.cluster_model.specs.Claims.{Says, Wants, Covered}
+use Rattle.cluster_model.specs.Claims.{SaysFact, Wants, Covered}
 use Rattle.cluster_model.specs.Claims.Fact.{HasCopies}
-use Rattle.cluster_model.specs.Moves.{Content, Act, IsDone, IsReady, IsBacked}
+use Rattle.cluster_model.specs.Moves.{Content, NodeAct, IsCallDone, IsReady, IsBacked}
 use Rattle.cluster_model.specs.Rules.{Reaction, store_of, receivers, new_want, new_number, begin_deliver}
 use Rattle.object_model.proofs.Lists.{among_front, among_behind}
 use Rattle.object_model.proofs.SetLaws.{has_one, has_none, left_in}
@@ -53,7 +53,7 @@ module _ (own nodes seconds : ℕ) (node : Node) (disk : List Record) (users : L
   abbrev stamp : Stamp
   stamp = record { count = node.count + 1; boot = node.boot; node = own }
 
-  abbrev filing : Filing
+  abbrev filing : NodeFiling
   filing = record { id = id; users = users; seconds = seconds; size = length octets; digest = sha256 octets }
 
   abbrev content : Content
@@ -71,7 +71,7 @@ module _ (own nodes seconds : ℕ) (node : Node) (disk : List Record) (users : L
   abbrev did : Reaction
   did = begin_deliver own nodes seconds node disk users octets targets
 
-  abbrev deed : Act
+  abbrev deed : NodeAct
   deed = act_of own node disk did None (Some content) []
 
   same_content : (c : Content) → Some content ≡ Some c → content ≡ c
@@ -96,7 +96,7 @@ module _ (own nodes seconds : ℕ) (node : Node) (disk : List Record) (users : L
   own_confirms m h = by (has targets own) refl h
     where
       by : (b : Bool) → has targets own ≡ b → has (if b then one_node own else 0) m ≡ true → IsBacked deed m (HasCopies users id)
-      by true e g = inr (inl (has_one own m g, subst (λ b. Says (if b then filed else store_of node disk).disk (HasCopies users id)) (sym e) (all_copied own id stamp targets users octets (store_of node disk))))
+      by true e g = inr (inl (has_one own m g, subst (λ b. SaysFact (if b then filed else store_of node disk).disk (HasCopies users id)) (sym e) (all_copied own id stamp targets users octets (store_of node disk))))
       by false e g = absurd (true≢false (sym g ∙ has_none m))
 
   covered : (seq m : ℕ) → seq ≡ node.calls + 1 → has (without_node targets own) m ≡ true → Covered did.out (numbered own node disk did None (Some content) [] refl seq) m (Copies filing)
@@ -116,9 +116,9 @@ module _ (own nodes seconds : ℕ) (node : Node) (disk : List Record) (users : L
         opens = λ f g. let h = same_filing f g in record {
           content = content;
           is = refl;
-          same_id = ap (λ (x : Filing). x.id) h;
-          same_users = ap (λ (x : Filing). x.users) h;
-          octets = (sym (ap (λ (x : Filing). x.size) h), sym (ap (λ (x : Filing). x.digest) h));
+          same_id = ap (λ (x : NodeFiling). x.id) h;
+          same_users = ap (λ (x : NodeFiling). x.users) h;
+          octets = (sym (ap (λ (x : NodeFiling). x.size) h), sym (ap (λ (x : NodeFiling). x.digest) h));
         };
         strikes = λ user other g. absurd (cc g);
         confirmed = own_confirms;
@@ -129,7 +129,7 @@ module _ (own nodes seconds : ℕ) (node : Node) (disk : List Record) (users : L
       (λ (apart, old). inl (as_it_was deed seq want (record { ticket = w.ticket; here = old; inside = w.inside })))
       (found nat_cmp_total exact_unsigned node.tickets (node.calls + 1) (record { kind = Delivering; wants = new_want own (Copies filing) targets ∷ []; mishaps = no_mishaps }) seq w.ticket w.here)
     where
-      same_filing : (f : Filing) → Copies filing ≡ Copies f → filing ≡ f
+      same_filing : (f : NodeFiling) → Copies filing ≡ Copies f → filing ≡ f
       same_filing f g = cc
 
   letter_out : (letter : Letter) → Among letter did.out → LetterReacts deed letter
@@ -144,7 +144,7 @@ module _ (own nodes seconds : ℕ) (node : Node) (disk : List Record) (users : L
         fit = (receiver_is own targets nodes r.0 r.1).0;
       })
 
-  pub deliver_acts : IsDone deed
+  pub deliver_acts : IsCallDone deed
   deliver_acts = is_act own node disk did None (Some content) [] (if has targets own then updates else []) ready (store (has targets own) refl)
       (record {
         boot = refl;

@@ -7,10 +7,10 @@ use Rattle.mail_model.specs.Record.{Record}
 use Rattle.object_model.specs.Sets.{has, with_node, without_node}
 use Rattle.object_model.specs.Lists.{Among}
 use Rattle.object_model.specs.Letters.{Number, Letter}
-use Rattle.cluster_model.specs.Cluster.{Asked, Want, Ticket, Node, Life, CallKind}
+use Rattle.cluster_model.specs.Cluster.{AskedOfNodes, Want, Ticket, Node, Life, CallKind}
 use Rattle.cluster_model.specs.Cluster.Life.{Up}
 use Rattle.cluster_model.specs.Claims.{Wants, LifeWaits, Covers, Covered}
-use Rattle.cluster_model.specs.Moves.{IsDone, IsReady}
+use Rattle.cluster_model.specs.Moves.{IsCallDone, IsReady}
 use Rattle.cluster_model.specs.Rules.{Reaction, idle, with_ticket, end_ticket, refuse, failed_want, failed_at, mishap}
 use Rattle.object_model.proofs.SetLaws.{left_in}
 use Rattle.object_model.proofs.MapLaws.{found, left_found}
@@ -33,11 +33,11 @@ failed_is at want = by (has want.waiting at) refl
     by false e = record { asked = refl; confirmed = refl; waits = λ m h. (h, λ is. true≢false (sym h ∙ ap (has want.waiting) is ∙ e)) }
 
 module _ (own : ℕ) (node : Node) (disk : List Record) (ready : IsReady own (slot_up node disk) None) where
-  pub unheard : (out : List Letter) (life : Life) (letter : Letter) → None ≡ Some letter → (number : Number) (m : ℕ) (asked : Asked) → Covers letter number m asked
+  pub unheard : (out : List Letter) (life : Life) (letter : Letter) → None ≡ Some letter → (number : Number) (m : ℕ) (asked : AskedOfNodes) → Covers letter number m asked
       → Covered out number m asked ⊎ ((number.node ≡ own) × (LifeWaits life number m asked → ⊥))
   unheard out life letter e = absurd (cc e)
 
-  failed_acts : (kind : MishapKind) (seq at : ℕ) (found : Option Ticket) → fin.get node.tickets seq ≡ found → IsDone (act_of own node disk (failed_at kind node disk seq at found) None None [])
+  failed_acts : (kind : MishapKind) (seq at : ℕ) (found : Option Ticket) → fin.get node.tickets seq ≡ found → IsCallDone (act_of own node disk (failed_at kind node disk seq at found) None None [])
   failed_acts kind seq at None e = still_acts own node disk None node refl refl (le_refl node.drawn) ready
       (tickets_react own node disk (idle node disk) None None [] refl (λ s want w. inl (as_it_was (act_of own node disk (idle node disk) None None []) s want w)) (unheard [] (Up node)))
   failed_acts kind seq at (Some ticket) e = still_acts own node disk None after refl refl (le_refl node.drawn) ready (tickets_react own node disk did None None [] refl came (unheard [] (Up after)))
@@ -60,10 +60,10 @@ module _ (own : ℕ) (node : Node) (disk : List Record) (ready : IsReady own (sl
           (λ (apart, old). as_it_was (act_of own node disk did None None []) s want old)
           (rewanted node seq ticket (failed_want at) (counted kind ticket.mishaps) e s want w))
 
-  pub mishap_acts : (kind : MishapKind) (seq at : ℕ) → IsDone (act_of own node disk (mishap kind seq at node disk) None None [])
+  pub mishap_acts : (kind : MishapKind) (seq at : ℕ) → IsCallDone (act_of own node disk (mishap kind seq at node disk) None None [])
   mishap_acts kind seq at = failed_acts kind seq at (fin.get node.tickets seq) refl
 
-  pub refuse_acts : (kind : CallKind) (mishaps : Mishaps) (drawn : ℕ) → IsDone (act_of own node disk (refuse kind mishaps drawn node disk) None None [])
+  pub refuse_acts : (kind : CallKind) (mishaps : Mishaps) (drawn : ℕ) → IsCallDone (act_of own node disk (refuse kind mishaps drawn node disk) None None [])
   refuse_acts kind mishaps drawn = still_acts own node disk None after refl refl (omega arith) ready (tickets_react own node disk (refuse kind mishaps drawn node disk) None None [] refl
       (λ s want w. inl (⊎_elim
       (λ (at, is). absurd (subst (λ (t : Ticket). Among want t.wants) is w.inside))
@@ -74,7 +74,7 @@ module _ (own : ℕ) (node : Node) (disk : List Record) (ready : IsReady own (sl
       after : Node
       after = record node { drawn = node.drawn + drawn; calls = node.calls + 1; tickets = fin.insert node.tickets (node.calls + 1) (record { kind = kind; wants = []; mishaps = mishaps }) }
 
-  pub end_acts : (seq : ℕ) → IsDone (act_of own node disk (end_ticket seq node disk) None None [])
+  pub end_acts : (seq : ℕ) → IsCallDone (act_of own node disk (end_ticket seq node disk) None None [])
   end_acts seq = still_acts own node disk None after refl refl (le_refl node.drawn) ready (tickets_react own node disk (end_ticket seq node disk) None None [] refl
       (λ s want w. inl (as_it_was (act_of own node disk (end_ticket seq node disk) None None []) s want
       (record { ticket = w.ticket; here = (left_found nat_cmp_total exact_unsigned node.tickets seq s w.ticket w.here).1; inside = w.inside })))
@@ -84,7 +84,7 @@ module _ (own : ℕ) (node : Node) (disk : List Record) (ready : IsReady own (sl
       after = record node { tickets = fin.remove node.tickets seq }
 
 -- Where a mishap was noted, the ticket waits for that node no more.
-failed_settles : (kind : MishapKind) (node : Node) (disk : List Record) (seq at : ℕ) (found : Option Ticket) → fin.get node.tickets seq ≡ found → (number : Number) (asked : Asked) → number.seq ≡ seq
+failed_settles : (kind : MishapKind) (node : Node) (disk : List Record) (seq at : ℕ) (found : Option Ticket) → fin.get node.tickets seq ≡ found → (number : Number) (asked : AskedOfNodes) → number.seq ≡ seq
     → LifeWaits (Up (failed_at kind node disk seq at found).node) number at asked → ⊥
 failed_settles kind node disk seq at None e number asked same w = clash (fin.get node.tickets number.seq) w.stands.ticket (ap (fin.get node.tickets) same ∙ e) w.stands.here
   where
@@ -95,5 +95,5 @@ failed_settles kind node disk seq at (Some ticket) e number asked same w = ⊎_e
     (λ (apart, old). apart same)
     (rewanted node seq ticket (failed_want at) (counted kind ticket.mishaps) e number.seq w.want w.stands)
 
-pub mishap_settles : (kind : MishapKind) (node : Node) (disk : List Record) (seq at : ℕ) (number : Number) (asked : Asked) → number.seq ≡ seq → LifeWaits (Up (mishap kind seq at node disk).node) number at asked → ⊥
+pub mishap_settles : (kind : MishapKind) (node : Node) (disk : List Record) (seq at : ℕ) (number : Number) (asked : AskedOfNodes) → number.seq ≡ seq → LifeWaits (Up (mishap kind seq at node disk).node) number at asked → ⊥
 mishap_settles kind node disk seq at number asked same w = failed_settles kind node disk seq at (fin.get node.tickets seq) refl number asked same w

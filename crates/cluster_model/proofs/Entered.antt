@@ -5,39 +5,39 @@ use Rattle.mail_model.specs.Book.{Acked, BookEntry}
 use Rattle.mail_model.specs.Book.BookEntry.{Acknowledged, Struck, Dropped, WentDown}
 use Rattle.object_model.specs.Sets.{has, count_in}
 use Rattle.object_model.specs.Lists.{Among}
-use Rattle.cluster_model.specs.Cluster.{Slot, Filing}
+use Rattle.cluster_model.specs.Cluster.{Slot, NodeFiling}
 use Rattle.object_model.specs.Letters.{Letter}
-use Rattle.cluster_model.specs.Claims.{Fact, Says, Stands, NodesWant, EntryClaims, AreOf, IsDrawn, TicketClaims, fact_of}
+use Rattle.cluster_model.specs.Claims.{Fact, SaysFact, FactStands, NodesWant, EntryClaims, AreOf, IsIdDrawn, TicketClaims, fact_of}
 use Rattle.cluster_model.specs.Claims.Fact.{HasCopies, IsGone}
 use Rattle.cluster_model.specs.Moves.{MayEnter}
-use Rattle.cluster_model.specs.Parts.{Holds, Contents, Deletions, Claims, Enough}
+use Rattle.cluster_model.specs.Parts.{IsHeldSomewhere, Contents, Deletions, Claims, Enough}
 use Rattle.object_model.proofs.Lists.{among_front, among_last}
 
 -- the copies of all users are those of each
-pub of_each : (slots : List Slot) (m : ℕ) (users : List (List ℕ)) (user : List ℕ) (id : Id) → Among user users → Stands slots m (HasCopies users id) → Stands slots m (HasCopies (user ∷ []) id)
+pub of_each : (slots : List Slot) (m : ℕ) (users : List (List ℕ)) (user : List ℕ) (id : Id) → Among user users → FactStands slots m (HasCopies users id) → FactStands slots m (HasCopies (user ∷ []) id)
 of_each slots m users user id inside h = record {
   slot = h.slot;
   here = h.here;
   stands = ⊎_elim (λ lost. inl lost)
-      (λ (says : Says h.slot.disk (HasCopies users id)). inr (λ other e. ⊎_elim (λ same. says other (subst (λ u. Among u users) same inside)) (λ none. absurd none) e))
+      (λ (says : SaysFact h.slot.disk (HasCopies users id)). inr (λ other e. ⊎_elim (λ same. says other (subst (λ u. Among u users) same inside)) (λ none. absurd none) e))
       h.stands;
 }
 
 module _ (confirm : ℕ) (slots : List Slot) (flying : List Letter) (book : List BookEntry) (entry : BookEntry) (may : MayEnter confirm entry slots)
     (held : Contents slots flying book) (p : Claims slots flying book) where
   -- what an entry of a message was taken from
-  wants_of : (copy : Acked) → MayEnter confirm (Acknowledged copy) slots → (filing : Filing) × NodesWant slots filing × (copy.id ≡ filing.id) × (copy.size ≡ filing.size) × (copy.digest ≡ filing.digest)
+  wants_of : (copy : Acked) → MayEnter confirm (Acknowledged copy) slots → (filing : NodeFiling) × NodesWant slots filing × (copy.id ≡ filing.id) × (copy.size ≡ filing.size) × (copy.digest ≡ filing.digest)
   wants_of copy (filing, node, slot, seq, want, here, stands, is, inside, same_id, same_size, same_digest, confirmers, enough) =
       (filing, record { node = node; slot = slot; here = here; seq = seq; want = want; stands = stands; is = is }, same_id, same_size, same_digest)
 
-  acked_new : (copy : Acked) (octets : List ℕ) → MayEnter confirm (Acknowledged copy) slots → Holds slots flying copy.id octets → AreOf copy.size copy.digest octets
+  acked_new : (copy : Acked) (octets : List ℕ) → MayEnter confirm (Acknowledged copy) slots → IsHeldSomewhere slots flying copy.id octets → AreOf copy.size copy.digest octets
   acked_new copy octets m h =
       let w = wants_of copy m in
-      let a = held.wanted w.0 octets w.1 (subst (λ i. Holds slots flying i octets) w.2 h) in
+      let a = held.wanted w.0 octets w.1 (subst (λ i. IsHeldSomewhere slots flying i octets) w.2 h) in
       (w.3 ∙ a.0, w.4 ∙ a.1)
 
-  drawn_new : (copy : Acked) → MayEnter confirm (Acknowledged copy) slots → IsDrawn slots copy.id
-  drawn_new copy m = let w = wants_of copy m in subst (IsDrawn slots) (sym w.2) (held.wanted_drawn w.0 w.1)
+  drawn_new : (copy : Acked) → MayEnter confirm (Acknowledged copy) slots → IsIdDrawn slots copy.id
+  drawn_new copy m = let w = wants_of copy m in subst (IsIdDrawn slots) (sym w.2) (held.wanted_drawn w.0 w.1)
 
   pub contents_entered : Contents slots flying (book ++ entry ∷ [])
   contents_entered = record {
@@ -63,7 +63,7 @@ module _ (confirm : ℕ) (slots : List Slot) (flying : List Letter) (book : List
     letters = λ letter m user id s. among_front (Struck user id) book (entry ∷ []) (d.letters letter m user id s);
   }
 
-  claimed_new : (one : BookEntry) → MayEnter confirm one slots → (m : ℕ) (fact : Fact) → EntryClaims one m fact → Stands slots m fact
+  claimed_new : (one : BookEntry) → MayEnter confirm one slots → (m : ℕ) (fact : Fact) → EntryClaims one m fact → FactStands slots m fact
   claimed_new (Acknowledged copy) (filing, node, slot, seq, want, here, stands, is, inside, same_id, same_size, same_digest, confirmers, enough) m fact (counts, same) =
       let claim : TicketClaims slot.life m (HasCopies filing.users filing.id) = record {
         seq = seq;
@@ -72,7 +72,7 @@ module _ (confirm : ℕ) (slots : List Slot) (flying : List Letter) (book : List
         counts = subst (λ c. has c m ≡ true) confirmers counts;
         is = ap fact_of is;
       } in
-      subst (Stands slots m) same (subst (λ i. Stands slots m (HasCopies (copy.user ∷ []) i)) (sym same_id)
+      subst (FactStands slots m) same (subst (λ i. FactStands slots m (HasCopies (copy.user ∷ []) i)) (sym same_id)
       (of_each slots m filing.users copy.user filing.id inside (p.nodes m (HasCopies filing.users filing.id) (record { node = node; slot = slot; here = here; claims = inl claim }))))
   claimed_new (Struck user id) may_ m fact claim = absurd claim
   claimed_new (Dropped user id confirmers) (node, slot, seq, want, here, stands, is, same, enough) m fact (counts, e) =
@@ -83,7 +83,7 @@ module _ (confirm : ℕ) (slots : List Slot) (flying : List Letter) (book : List
         counts = subst (λ c. has c m ≡ true) same counts;
         is = ap fact_of is;
       } in
-      subst (Stands slots m) e (p.nodes m (IsGone user id) (record { node = node; slot = slot; here = here; claims = inl claim }))
+      subst (FactStands slots m) e (p.nodes m (IsGone user id) (record { node = node; slot = slot; here = here; claims = inl claim }))
   claimed_new (WentDown node) may_ m fact claim = absurd claim
 
   pub claims_entered : Claims slots flying (book ++ entry ∷ [])

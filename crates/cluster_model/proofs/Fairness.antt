@@ -9,13 +9,13 @@ use Rattle.object_model.specs.Sets.{has, with_node, without_node, count_in}
 use Rattle.object_model.specs.Letters.{Body}
 use Rattle.object_model.specs.Mishaps.{MishapKind, Mishaps, one_more, counted, mishaps_of}
 use Rattle.object_model.specs.Mishaps.MishapKind.{FewMembers, Year, Dropped as WasDropped, Stale, Down, Disk, Crowded}
-use Rattle.cluster_model.specs.Cluster.{Filing, Asked, Want, CallKind, Ticket}
-use Rattle.cluster_model.specs.Cluster.Asked.{Copies, Deletion}
-use Rattle.cluster_model.specs.Rules.{Item, tells, new_want, told_want, told_ticket, failed_want}
-use Rattle.cluster_model.specs.Progress.{is_confirmed, can_be_confirmed, has_failed, answer_to, pending_of_call, ask_of_wants, ask_of}
-use Rattle.cluster_model.specs.Progress.Answer.{Failed}
+use Rattle.cluster_model.specs.Cluster.{NodeFiling, AskedOfNodes, Want, CallKind, Ticket}
+use Rattle.cluster_model.specs.Cluster.AskedOfNodes.{Copies, Deletion}
+use Rattle.cluster_model.specs.Rules.{StrikeItem, tells, new_want, told_want, told_ticket, failed_want}
+use Rattle.cluster_model.specs.Progress.{is_confirmed, can_be_confirmed, has_failed, answer_once_confirmed, pending_of_call, ask_of_wants, ask_of}
+use Rattle.cluster_model.specs.Progress.NodeAnswer.{Failed}
 use Rattle.cluster_model.specs.Progress.Ask.{Done}
-use Rattle.cluster_model.specs.RuleLaws.{IsAsked}
+use Rattle.cluster_model.specs.RuleLaws.{IsNodeAsked}
 use Rattle.cluster_model.specs.TicketLaws.{all_asked, IsFair, delivery_ticket, deletion_ticket}
 use Rattle.object_model.proofs.SetLaws.{or_has, has_left, has_right, left_in, has_none}
 use Rattle.cluster_model.proofs.Filing.{among_map}
@@ -23,16 +23,16 @@ use Rattle.cluster_model.proofs.Counting.{count_le}
 use Rattle.cluster_model.proofs.Ruled.{asked_told, asked_failed, begins_asked}
 
 -- whoever is asked is in the set of all asked, and the other way round
-in_all : (want : Want) (m : ℕ) → IsAsked want m → has (all_asked want) m ≡ true
+in_all : (want : Want) (m : ℕ) → IsNodeAsked want m → has (all_asked want) m ≡ true
 in_all want m asked = ⊎_elim
     (λ c. has_left want.confirmed (bit_or want.waiting want.failed) m c)
     (λ other. has_right want.confirmed (bit_or want.waiting want.failed) m (⊎_elim (λ w. has_left want.waiting want.failed m w) (λ f. has_right want.waiting want.failed m f) other))
     asked
 
-of_all : (want : Want) (m : ℕ) → has (all_asked want) m ≡ true → IsAsked want m
+of_all : (want : Want) (m : ℕ) → has (all_asked want) m ≡ true → IsNodeAsked want m
 of_all want m h = ⊎_elim (λ c. inl c) (λ other. inr (or_has want.waiting want.failed m other)) (or_has want.confirmed (bit_or want.waiting want.failed) m h)
 
-no_fewer : (confirm : ℕ) (old new : Want) → ((m : ℕ) → IsAsked old m → IsAsked new m) → confirm ≤ count_in (all_asked old) → confirm ≤ count_in (all_asked new)
+no_fewer : (confirm : ℕ) (old new : Want) → ((m : ℕ) → IsNodeAsked old m → IsNodeAsked new m) → confirm ≤ count_in (all_asked old) → confirm ≤ count_in (all_asked new)
 no_fewer confirm old new more le = le_trans le (count_le (all_asked old) (all_asked new) (λ m h. in_all new m (more m (of_all old m h))) 64)
 
 -- a count of mishaps that rose is above 0
@@ -64,8 +64,8 @@ not_empty f [] e = refl
 not_empty f (x ∷ xs) e = absurd (cc e)
 
 pub begin_fair : (confirm own : ℕ)
-    → ((filing : Filing) (targets : ℕ) → confirm ≤ count_in targets → IsFair confirm (delivery_ticket own filing targets))
-    × ((user : List ℕ) (items : List Item) → items ≢ [] → ((item : Item) → Among item items → confirm ≤ count_in item.asks) → IsFair confirm (deletion_ticket own user items))
+    → ((filing : NodeFiling) (targets : ℕ) → confirm ≤ count_in targets → IsFair confirm (delivery_ticket own filing targets))
+    × ((user : List ℕ) (items : List StrikeItem) → items ≢ [] → ((item : StrikeItem) → Among item items → confirm ≤ count_in item.asks) → IsFair confirm (deletion_ticket own user items))
     × ((kind : CallKind) (mishaps : Mishaps) → 0 < mishaps_of mishaps → IsFair confirm (record { kind = kind; wants = []; mishaps = mishaps }))
 begin_fair confirm own = (
   λ filing targets le. record {
@@ -74,16 +74,16 @@ begin_fair confirm own = (
     at_once = λ e. absurd (cc e);
   },
   λ user items some each. record {
-    enough = λ want m. let r = among_map (λ (item : Item). new_want own (Deletion user item.mark.id) item.asks) want items m in
+    enough = λ want m. let r = among_map (λ (item : StrikeItem). new_want own (Deletion user item.mark.id) item.asks) want items m in
         subst (λ (w : Want). confirm ≤ count_in (all_asked w)) r.2 (begins (Deletion user r.0.mark.id) r.0.asks (each r.0 r.1));
-    caused = λ want m n h. let r = among_map (λ (item : Item). new_want own (Deletion user item.mark.id) item.asks) want items m in
+    caused = λ want m n h. let r = among_map (λ (item : StrikeItem). new_want own (Deletion user item.mark.id) item.asks) want items m in
         absurd (true≢false (sym (subst (λ (w : Want). has w.failed n ≡ true) (sym r.2) h) ∙ has_none n));
-    at_once = λ e. absurd (some (not_empty (λ (item : Item). new_want own (Deletion user item.mark.id) item.asks) items e));
+    at_once = λ e. absurd (some (not_empty (λ (item : StrikeItem). new_want own (Deletion user item.mark.id) item.asks) items e));
   },
   λ kind mishaps above. record { enough = λ want m. absurd m; caused = λ want m. absurd m; at_once = λ e. above },
 )
   where
-    begins : (asked : Asked) (targets : ℕ) → confirm ≤ count_in targets → confirm ≤ count_in (all_asked (new_want own asked targets))
+    begins : (asked : AskedOfNodes) (targets : ℕ) → confirm ≤ count_in targets → confirm ≤ count_in (all_asked (new_want own asked targets))
     begins asked targets le = le_trans le (count_le targets (all_asked (new_want own asked targets)) (λ m h. in_all (new_want own asked targets) m (begins_asked own asked targets m h)) 64)
 
 told_failed : (body : Body) (from : ℕ) (want : Want) (m : ℕ) → has (told_want body from want).failed m ≡ true → has want.failed m ≡ true
@@ -134,11 +134,11 @@ failed_cause confirm ticket mishaps fair e = by (nat_lt 0 (mishaps_of ticket.mis
     done_same : (a b : Mishaps) → Done (Failed a) ≡ Done (Failed b) → a ≡ b
     done_same a b f = cc
 
-    stored_not : (wants : List Want) (want : Want) (asked : Asked) (m : Mishaps) → Done (answer_to wants want asked) ≡ Done (Failed m) → ⊥
+    stored_not : (wants : List Want) (want : Want) (asked : AskedOfNodes) (m : Mishaps) → Done (answer_once_confirmed wants want asked) ≡ Done (Failed m) → ⊥
     stored_not wants want (Copies filing) m f = cc
     stored_not wants want (Deletion user id) m f = cc
 
-    pending_not : (wants : List Want) (want : Want) (asked : Asked) (m : Mishaps) → pending_of_call confirm wants want asked ≡ Done (Failed m) → ⊥
+    pending_not : (wants : List Want) (want : Want) (asked : AskedOfNodes) (m : Mishaps) → pending_of_call confirm wants want asked ≡ Done (Failed m) → ⊥
     pending_not wants want (Copies filing) m f = cc
     pending_not wants want (Deletion user id) m f = cc
 
@@ -152,7 +152,7 @@ failed_cause confirm ticket mishaps fair e = by (nat_lt 0 (mishaps_of ticket.mis
     goes (want ∷ wants) is f = pick (list_all (is_confirmed confirm) (want ∷ wants)) (list_all (can_be_confirmed confirm) (want ∷ wants)) refl f
       where
         pick : (a c : Bool) → list_all (can_be_confirmed confirm) (want ∷ wants) ≡ c
-            → (if a then Done (answer_to (want ∷ wants) want want.asked) else (if not c then Done (Failed ticket.mishaps) else pending_of_call confirm (want ∷ wants) want want.asked)) ≡ Done (Failed mishaps)
+            → (if a then Done (answer_once_confirmed (want ∷ wants) want want.asked) else (if not c then Done (Failed ticket.mishaps) else pending_of_call confirm (want ∷ wants) want want.asked)) ≡ Done (Failed mishaps)
             → (ticket.mishaps ≡ mishaps) × (((want ∷ wants) ≡ []) ⊎ (list_all (can_be_confirmed confirm) (want ∷ wants) ≡ false))
         pick true c p g = absurd (stored_not (want ∷ wants) want want.asked mishaps g)
         pick false true p g = absurd (pending_not (want ∷ wants) want want.asked mishaps g)
@@ -187,7 +187,7 @@ confirmed_all confirm (want ∷ wants) each =
     nobody mask m is h = true≢false (sym h ∙ ap (λ s. has s m) is ∙ has_none m)
 
 pub heard_done : (confirm : ℕ) (ticket : Ticket) (want : Want) (wants : List Want) → IsFair confirm ticket → ticket.wants ≡ want ∷ wants
-    → ((one : Want) → Among one ticket.wants → (one.waiting ≡ 0) × (one.failed ≡ 0)) → ask_of confirm ticket ≡ Done (answer_to (want ∷ wants) want want.asked)
+    → ((one : Want) → Among one ticket.wants → (one.waiting ≡ 0) × (one.failed ≡ 0)) → ask_of confirm ticket ≡ Done (answer_once_confirmed (want ∷ wants) want want.asked)
 heard_done confirm ticket want wants fair is heard = ap (ask_of_wants confirm ticket.mishaps) is
-    ∙ ap (λ b. if b then Done (answer_to (want ∷ wants) want want.asked) else (if has_failed confirm (want ∷ wants) then Done (Failed ticket.mishaps) else pending_of_call confirm (want ∷ wants) want want.asked))
+    ∙ ap (λ b. if b then Done (answer_once_confirmed (want ∷ wants) want want.asked) else (if has_failed confirm (want ∷ wants) then Done (Failed ticket.mishaps) else pending_of_call confirm (want ∷ wants) want want.asked))
     (confirmed_all confirm (want ∷ wants) (λ one m. let there = subst (Among one) (sym is) m in let h = heard one there in (fair.enough one there, h.0, h.1)))

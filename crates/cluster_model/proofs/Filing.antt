@@ -11,7 +11,7 @@ use Rattle.mail_model.specs.Listing.{is_same_id, is_gone, octets_in}
 use Rattle.object_model.specs.Lists.{Among}
 use Rattle.object_model.specs.Said.{said, is_gone_held}
 use Rattle.cluster_model.specs.Store.{Store, Update, take_all, here_updates, is_wanted, with_octets}
-use Rattle.cluster_model.specs.Claims.{Stores, Says, ShowsGone}
+use Rattle.cluster_model.specs.Claims.{StoresMessage, SaysFact, ShowsGone}
 use Rattle.cluster_model.specs.Claims.Fact.{HasCopies, IsGone}
 use Rattle.object_model.proofs.Lists.{among_front, among_behind, among_either}
 use Rattle.object_model.proofs.StateLaws.{id_is}
@@ -67,13 +67,13 @@ gone_held user id disk h = by (said (Message user id) disk) refl h
     by (Some one) e g = let b = said_backed (Message user id) disk one e in record { state = b.top; inside = b.inside; gone = b.same_value ∙ gone_is one.value g }
 
 pub stored_or_gone : (id : Id) (users : List (List ℕ)) (octets : List ℕ) (disk : List Record) (user : List ℕ) → Among user users
-    → ShowsGone user id (with_octets id users octets disk) ⊎ Stores id (with_octets id users octets disk)
+    → ShowsGone user id (with_octets id users octets disk) ⊎ StoresMessage id (with_octets id users octets disk)
 stored_or_gone id users octets disk user m = by (is_gone_held (said (Message user id) disk)) refl
   where
     more : List Record
     more = if is_wanted id users disk then Octets id octets ∷ [] else []
 
-    stores : is_gone_held (said (Message user id) disk) ≡ false → (held : Option (List ℕ)) → octets_in id disk ≡ held → Stores id (with_octets id users octets disk)
+    stores : is_gone_held (said (Message user id) disk) ≡ false → (held : Option (List ℕ)) → octets_in id disk ≡ held → StoresMessage id (with_octets id users octets disk)
     stores h (Some o) e = record { octets = o; inside = among_front (Octets id o) disk more (octets_stand id o disk e) }
     stores h None e = record {
       octets = octets;
@@ -83,7 +83,7 @@ stored_or_gone id users octets disk user m = by (is_gone_held (said (Message use
           (among_behind (Octets id octets) disk (Octets id octets ∷ []) (inl refl));
     }
 
-    by : (b : Bool) → is_gone_held (said (Message user id) disk) ≡ b → ShowsGone user id (with_octets id users octets disk) ⊎ Stores id (with_octets id users octets disk)
+    by : (b : Bool) → is_gone_held (said (Message user id) disk) ≡ b → ShowsGone user id (with_octets id users octets disk) ⊎ StoresMessage id (with_octets id users octets disk)
     by true h = inl (says_more disk more (IsGone user id) (gone_held user id disk h))
     by false h = inr (stores h (octets_in id disk) refl)
 
@@ -134,15 +134,15 @@ octets_step own updates Brought Acks store id users octets brought = by (is_want
 
 -- once all copies are taken, each user's copy is here with octets, or gone
 pub all_copied : (own : ℕ) (id : Id) (stamp : Stamp) (targets : ℕ) (users : List (List ℕ)) (octets : List ℕ) (store : Store)
-    → Says (take_all own (here_updates id stamp targets users) (record store { disk = with_octets id users octets store.disk })).disk (HasCopies users id)
+    → SaysFact (take_all own (here_updates id stamp targets users) (record store { disk = with_octets id users octets store.disk })).disk (HasCopies users id)
 all_copied own id stamp targets users octets store = λ user m.
     let u : Update = record { key = Message user id; state = record { value = Here; stamp = stamp; targets = targets } } in
     let inside = map_among (λ (user : List ℕ). record { key = Message user id; state = record { value = Here; stamp = stamp; targets = targets } }) user users m in
     let c = all_cover own updates (λ i o. ⊥) (λ k s n. ⊥) updates (λ v k. k) first u inside in
     let g = (took_all own updates (λ i o. ⊥) (λ k s n. ⊥) updates (λ v k. k) first).grows in
     ⊎_elim
-    (λ (s : ShowsGone user id first.disk). let t = subst (λ d. Says d (IsGone user id)) (sym g.1) (says_more first.disk g.0 (IsGone user id) s) in record { state = t.state; inside = t.inside; stored = inl t.gone })
-    (λ (s : Stores id first.disk). record {
+    (λ (s : ShowsGone user id first.disk). let t = subst (λ d. SaysFact d (IsGone user id)) (sym g.1) (says_more first.disk g.0 (IsGone user id) s) in record { state = t.state; inside = t.inside; stored = inl t.gone })
+    (λ (s : StoresMessage id first.disk). record {
       state = c.top;
       inside = c.inside;
       stored = inr (record {

@@ -10,14 +10,14 @@ use Rattle.object_model.specs.Lists.{Among}
 use Rattle.mail_model.specs.Grammar.{IsOfKind}
 use Rattle.object_model.specs.States.{is_below}
 use Rattle.object_model.specs.Said.{CoversAtLeast}
-use Rattle.object_model.specs.Letters.{Mark, Body, Letter}
+use Rattle.object_model.specs.Letters.{DeletionMark, Body, Letter}
 use Rattle.object_model.specs.Letters.Body.{File, Filed, Strike, StrikeTold, Push, PushAck}
-use Rattle.cluster_model.specs.Cluster.{Asked, Node}
-use Rattle.cluster_model.specs.Cluster.Asked.{Copies, Deletion}
+use Rattle.cluster_model.specs.Cluster.{AskedOfNodes, Node}
+use Rattle.cluster_model.specs.Cluster.AskedOfNodes.{Copies, Deletion}
 use Rattle.cluster_model.specs.Store.{Store, Update, take_all, here_updates, gone_updates, with_octets}
-use Rattle.cluster_model.specs.Claims.{Says, LetterHolds, BodyHolds, BodySpeaks, ShowsGone, Asks, Tells}
+use Rattle.cluster_model.specs.Claims.{SaysFact, LetterHolds, BodyHolds, BodySpeaks, ShowsGone, Asks, Tells}
 use Rattle.cluster_model.specs.Claims.Fact.{HasCopies}
-use Rattle.cluster_model.specs.Moves.{Act, IsDone, IsReady, BodyFits}
+use Rattle.cluster_model.specs.Moves.{NodeAct, IsCallDone, IsReady, BodyFits}
 use Rattle.cluster_model.specs.Rules.{Reaction, store_of, answer, hear_file, hear_strike, hear_push, with_pushed}
 use Rattle.object_model.proofs.SetLaws.{all_has}
 use Rattle.cluster_model.proofs.StoreSteps.{StoreStep, UpdatesFit, UpdatesSpeak, stays, followed}
@@ -47,16 +47,16 @@ here_speaks id stamp targets users user other s =
     clash e = cc
 
 -- deletions fit where the node is a target
-pub gone_fit : (own : ℕ) (user : List ℕ) (targets : ℕ) (marks : List Mark) → has targets own ≡ true → UpdatesFit own (gone_updates user targets marks)
+pub gone_fit : (own : ℕ) (user : List ℕ) (targets : ℕ) (marks : List DeletionMark) → has targets own ≡ true → UpdatesFit own (gone_updates user targets marks)
 gone_fit own user targets marks target update m =
-    let r = among_map (λ (mark : Mark). record { key = Message user mark.id; state = record { value = Gone; stamp = mark.stamp; targets = targets } }) update marks m in
+    let r = among_map (λ (mark : DeletionMark). record { key = Message user mark.id; state = record { value = Gone; stamp = mark.stamp; targets = targets } }) update marks m in
     subst (λ (u : Update). (has u.state.targets own ≡ true) × IsOfKind u.key u.state.value) r.2 (target, tt)
 
 -- and speak of what is marked
-pub struck : (user : List ℕ) (targets : ℕ) (marks : List Mark) (other : List ℕ) (id : Id) → UpdatesSpeak (gone_updates user targets marks) other id
-    → (user ≡ other) × ((mark : Mark) × Among mark marks × (mark.id ≡ id))
+pub struck : (user : List ℕ) (targets : ℕ) (marks : List DeletionMark) (other : List ℕ) (id : Id) → UpdatesSpeak (gone_updates user targets marks) other id
+    → (user ≡ other) × ((mark : DeletionMark) × Among mark marks × (mark.id ≡ id))
 struck user targets marks other id s =
-    let r = among_map (λ (mark : Mark). record { key = Message user mark.id; state = record { value = Gone; stamp = mark.stamp; targets = targets } }) s.update marks s.inside in
+    let r = among_map (λ (mark : DeletionMark). record { key = Message user mark.id; state = record { value = Gone; stamp = mark.stamp; targets = targets } }) s.update marks s.inside in
     let k : Message user r.0.id ≡ Message other id = ap (λ (u : Update). u.key) r.2 ∙ s.key in
     (cc, (r.0, r.1, cc))
 
@@ -79,7 +79,7 @@ module _ (own : ℕ) (node : Node) (disk : List Record) (letter : Letter) (to : 
   same one e = cc
 
   pub file_acts : (id : Id) (stamp : Stamp) (targets : ℕ) (users : List (List ℕ)) (octets : List ℕ) → letter.body ≡ File id stamp targets users octets
-      → IsDone (act_of own node disk (hear_file own node disk letter id stamp targets users octets) (Some letter) None [])
+      → IsCallDone (act_of own node disk (hear_file own node disk letter id stamp targets users octets) (Some letter) None [])
   file_acts id stamp targets users octets is = is_act own node disk did (Some letter) None [] updates ready
       (record {
         step = followed own updates (BroughtBy act) (AckedBy act) (store_of node disk) first (take_all own updates first)
@@ -100,7 +100,7 @@ module _ (own : ℕ) (node : Node) (disk : List Record) (letter : Letter) (to : 
           (
             users,
             record { letter = letter; is = refl; holds = record { stamp = stamp; targets = targets; octets = octets; is = is ∙ file_as other (same_filed other e) } },
-            subst (λ i. Says did.disk (HasCopies users i)) (same_filed other e) (all_copied own id stamp targets users octets (store_of node disk)),
+            subst (λ i. SaysFact did.disk (HasCopies users i)) (same_filed other e) (all_copied own id stamp targets users octets (store_of node disk)),
           ),
         );
         claims = λ m fact c. absurd c;
@@ -117,14 +117,14 @@ module _ (own : ℕ) (node : Node) (disk : List Record) (letter : Letter) (to : 
       did : Reaction
       did = hear_file own node disk letter id stamp targets users octets
 
-      act : Act
+      act : NodeAct
       act = act_of own node disk did (Some letter) None []
 
-      tells : (asked : Asked) → Asks (File id stamp targets users octets) asked → Tells (Filed id) asked
+      tells : (asked : AskedOfNodes) → Asks (File id stamp targets users octets) asked → Tells (Filed id) asked
       tells (Copies filing) a = a
       tells (Deletion user other) a = a
 
-      nothing : (asked : Asked) → Tells (File id stamp targets users octets) asked → ⊥
+      nothing : (asked : AskedOfNodes) → Tells (File id stamp targets users octets) asked → ⊥
       nothing (Copies filing) a = a
       nothing (Deletion user other) a = a
 
@@ -135,8 +135,8 @@ module _ (own : ℕ) (node : Node) (disk : List Record) (letter : Letter) (to : 
       file_as other e = ap (λ i. File i stamp targets users octets) e
 
   module _ (nodes : ℕ) (numbered : own ≢ 0) (within : own ≤ nodes) (few : nodes ≤ 64) where
-    pub strike_acts : (user : List ℕ) (marks : List Mark) → letter.body ≡ Strike user marks
-        → IsDone (act_of own node disk (hear_strike own nodes node disk letter user marks) (Some letter) None [])
+    pub strike_acts : (user : List ℕ) (marks : List DeletionMark) → letter.body ≡ Strike user marks
+        → IsCallDone (act_of own node disk (hear_strike own nodes node disk letter user marks) (Some letter) None [])
     strike_acts user marks is = is_act own node disk did (Some letter) None [] updates ready
         (record { step = step; fits = fits; speaks = λ other id s. inl (record { letter = letter; is = refl; holds = subst (λ b. BodySpeaks b other id) (sym is) (struck user (all_nodes nodes) marks other id s) }) })
         (record { boot = refl; drawn = drawn_rises own node.boot node.drawn updates; fresh = λ content e. absurd (cc e); ended = λ content e. absurd (cc e) })
@@ -146,7 +146,7 @@ module _ (own : ℕ) (node : Node) (disk : List Record) (letter : Letter) (to : 
           holds = λ other o h. absurd h;
           file = λ other us f. absurd (cc f.is);
           filed = λ other e. absurd (cc e);
-          claims = λ m fact (from, some). inr (inl (sym from ∙ to, subst (Says did.disk) some.2 (shows some.0 some.1)));
+          claims = λ m fact (from, some). inr (inl (sym from ∙ to, subst (SaysFact did.disk) some.2 (shows some.0 some.1)));
           speaks = λ other id (same_user, inside). inr (inl (record { letter = letter; is = refl; holds = subst (λ b. BodySpeaks b other id) (sym is) (same_user, marked id inside) }));
           fit = tt;
         }))
@@ -160,7 +160,7 @@ module _ (own : ℕ) (node : Node) (disk : List Record) (letter : Letter) (to : 
         did : Reaction
         did = hear_strike own nodes node disk letter user marks
 
-        act : Act
+        act : NodeAct
         act = act_of own node disk did (Some letter) None []
 
         step : StoreStep own updates (BroughtBy act) (AckedBy act) (store_of node disk) (take_all own updates (store_of node disk))
@@ -169,8 +169,8 @@ module _ (own : ℕ) (node : Node) (disk : List Record) (letter : Letter) (to : 
         fits : UpdatesFit own updates
         fits = gone_fit own user (all_nodes nodes) marks (all_has nodes own numbered within few)
 
-        marked : (id : Id) → Among id ids → (mark : Mark) × Among mark marks × (mark.id ≡ id)
-        marked id m = among_map (λ (mark : Mark). mark.id) id marks m
+        marked : (id : Id) → Among id ids → (mark : DeletionMark) × Among mark marks × (mark.id ≡ id)
+        marked id m = among_map (λ (mark : DeletionMark). mark.id) id marks m
 
         shows : (id : Id) → Among id ids → ShowsGone user id did.disk
         shows id m =
@@ -179,18 +179,18 @@ module _ (own : ℕ) (node : Node) (disk : List Record) (letter : Letter) (to : 
             subst (λ i. ShowsGone user i did.disk) r.2
             (covers_gone user r.0.id r.0.stamp (all_nodes nodes) did.disk d.kind (all_cover own updates (λ i o. ⊥) (λ k s n. ⊥) updates (λ v k. k) (store_of node disk)
             (record { key = Message user r.0.id; state = record { value = Gone; stamp = r.0.stamp; targets = all_nodes nodes } })
-            (map_among (λ (mark : Mark). record { key = Message user mark.id; state = record { value = Gone; stamp = mark.stamp; targets = all_nodes nodes } }) r.0 marks r.1)))
+            (map_among (λ (mark : DeletionMark). record { key = Message user mark.id; state = record { value = Gone; stamp = mark.stamp; targets = all_nodes nodes } }) r.0 marks r.1)))
 
-        tells : (asked : Asked) → Asks (Strike user marks) asked → Tells (StrikeTold user ids) asked
+        tells : (asked : AskedOfNodes) → Asks (Strike user marks) asked → Tells (StrikeTold user ids) asked
         tells (Copies filing) a = a
-        tells (Deletion other id) (same_user, (mark, inside, same_id)) = (same_user, subst (λ i. Among i ids) same_id (map_among (λ (m : Mark). m.id) mark marks inside))
+        tells (Deletion other id) (same_user, (mark, inside, same_id)) = (same_user, subst (λ i. Among i ids) same_id (map_among (λ (m : DeletionMark). m.id) mark marks inside))
 
-        nothing : (asked : Asked) → Tells (Strike user marks) asked → ⊥
+        nothing : (asked : AskedOfNodes) → Tells (Strike user marks) asked → ⊥
         nothing (Copies filing) a = a
         nothing (Deletion other id) a = a
 
   pub push_acts : (key : Key) (state : State) (octets : Option (List ℕ)) → letter.body ≡ Push key state octets
-      → IsDone (act_of own node disk (hear_push own node disk letter key state octets) (Some letter) None [])
+      → IsCallDone (act_of own node disk (hear_push own node disk letter key state octets) (Some letter) None [])
   push_acts key state octets is = is_act own node disk did (Some letter) None [] updates ready
       (record {
         step = followed own updates (BroughtBy act) (AckedBy act) (store_of node disk) first (take_all own updates first) (pushed key octets is) (took_all own updates (BroughtBy act) (AckedBy act) updates (λ u m. m) first);
@@ -206,7 +206,7 @@ module _ (own : ℕ) (node : Node) (disk : List Record) (letter : Letter) (to : 
         filed = λ other e. absurd (cc e);
         claims = λ m fact (from, same_fact). inr (inl (
           sym from ∙ to,
-          subst (Says did.disk) same_fact
+          subst (SaysFact did.disk) same_fact
               (all_cover own updates (λ i o. ⊥) (λ k s n. ⊥) updates (λ v k. k) first (record { key = key; state = state }) (inl refl)),
         ));
         speaks = λ user id s. inr (inl (record { letter = letter; is = refl; holds = subst (λ b. BodySpeaks b user id) (sym is) s }));
@@ -222,7 +222,7 @@ module _ (own : ℕ) (node : Node) (disk : List Record) (letter : Letter) (to : 
       did : Reaction
       did = hear_push own node disk letter key state octets
 
-      act : Act
+      act : NodeAct
       act = act_of own node disk did (Some letter) None []
 
       fit : (has state.targets letter.to ≡ true) × IsOfKind key state.value
@@ -237,10 +237,10 @@ module _ (own : ℕ) (node : Node) (disk : List Record) (letter : Letter) (to : 
       spoken : (user : List ℕ) (id : Id) → UpdatesSpeak updates user id → (key ≡ Message user id) × (state.value ≡ Gone)
       spoken user id s = ⊎_elim (λ e. (ap (λ (u : Update). u.key) e ∙ s.key, ap (λ (u : Update). u.state.value) e ∙ s.gone)) (λ none. absurd none) s.inside
 
-      no_asks : (asked : Asked) → Asks (Push key state octets) asked → ⊥
+      no_asks : (asked : AskedOfNodes) → Asks (Push key state octets) asked → ⊥
       no_asks (Copies filing) a = a
       no_asks (Deletion other id) a = a
 
-      no_tells : (asked : Asked) → Tells (Push key state octets) asked → ⊥
+      no_tells : (asked : AskedOfNodes) → Tells (Push key state octets) asked → ⊥
       no_tells (Copies filing) a = a
       no_tells (Deletion other id) a = a

@@ -14,11 +14,11 @@ use Rattle.object_model.specs.Said.{said}
 use Rattle.object_model.specs.Letters.{Number, Letter}
 use Rattle.object_model.specs.Letters.Body.{PushAck, Retire}
 use Rattle.object_model.specs.UpdateLog.{Logged, cleared}
-use Rattle.cluster_model.specs.Cluster.{Asked, Node, epoch_of}
-use Rattle.cluster_model.specs.Cluster.Asked.{Copies, Deletion}
-use Rattle.cluster_model.specs.Claims.{Fact, Says, BodyClaims, SlotSpeaks, Asks, Tells, Covers, Covered}
+use Rattle.cluster_model.specs.Cluster.{AskedOfNodes, Node, epoch_of}
+use Rattle.cluster_model.specs.Cluster.AskedOfNodes.{Copies, Deletion}
+use Rattle.cluster_model.specs.Claims.{Fact, SaysFact, BodyClaims, SlotSpeaks, Asks, Tells, Covers, Covered}
 use Rattle.cluster_model.specs.Claims.Fact.{IsAtLeast}
-use Rattle.cluster_model.specs.Moves.{Act, IsDone, IsReady, IsBacked}
+use Rattle.cluster_model.specs.Moves.{NodeAct, IsCallDone, IsReady, IsBacked}
 use Rattle.cluster_model.specs.Rules.{Reaction, store_of, idle, receivers, letters_to, shrunk, acked_at, hear_ack, retired_at, hear_retired}
 use Rattle.object_model.proofs.Lists.{among_front, among_either}
 use Rattle.object_model.proofs.SetLaws.{left_in, still_in, has_none}
@@ -45,24 +45,24 @@ speaks_said own node disk key state says user id same gone = let b = said_backed
 })
 
 module _ (own : ℕ) (node : Node) (disk : List Record) (letter : Letter) (ready : IsReady own (slot_up node disk) (Some letter)) where
-  abbrev log_act : Reaction → Act
+  abbrev log_act : Reaction → NodeAct
   log_act did = act_of own node disk did (Some letter) None []
 
   same_letter : (one : Letter) → Some letter ≡ Some one → letter ≡ one
   same_letter one e = cc
 
   -- the letter is under no ticket's want
-  unasked : (out : List Letter) → ((asked : Asked) → Asks letter.body asked → ⊥) → ((asked : Asked) → Tells letter.body asked → ⊥)
-      → (one : Letter) → Some letter ≡ Some one → (number : Number) (m : ℕ) (asked : Asked) → Covers one number m asked → Covered out number m asked
+  unasked : (out : List Letter) → ((asked : AskedOfNodes) → Asks letter.body asked → ⊥) → ((asked : AskedOfNodes) → Tells letter.body asked → ⊥)
+      → (one : Letter) → Some letter ≡ Some one → (number : Number) (m : ℕ) (asked : AskedOfNodes) → Covers one number m asked → Covered out number m asked
   unasked out asks tells one is number m asked c =
       let d : Covers letter number m asked = subst (λ (l : Letter). Covers l number m asked) (sym (same_letter one is)) c in
       ⊎_elim (λ (from, at, a). absurd (asks asked a)) (λ (at, from, t). absurd (tells asked t)) d.1
 
   -- a reaction that changes log and disk alone
   logs_act : (did : Reaction) → did.node.tickets ≡ node.tickets → did.node.boot ≡ node.boot → did.node.drawn ≡ node.drawn
-      → ((asked : Asked) → Asks letter.body asked → ⊥) → ((asked : Asked) → Tells letter.body asked → ⊥)
+      → ((asked : AskedOfNodes) → Asks letter.body asked → ⊥) → ((asked : AskedOfNodes) → Tells letter.body asked → ⊥)
       → StoreStep own [] (BroughtBy (log_act did)) (AckedBy (log_act did)) (store_of node disk) (store_of did.node did.disk)
-      → ((one : Letter) → Among one did.out → LetterReacts (log_act did) one) → IsDone (log_act did)
+      → ((one : Letter) → Among one did.out → LetterReacts (log_act did) one) → IsCallDone (log_act did)
   logs_act did tickets boot drawn asks tells step sent = is_act own node disk did (Some letter) None [] [] ready
       (record { step = step; fits = λ u m. absurd m; speaks = λ user id s. absurd s.inside })
       (record { boot = boot; drawn = subst (λ d. node.drawn ≤ d) (sym drawn) (le_refl node.drawn); fresh = λ content e. absurd (cc e); ended = λ content e. absurd (cc e) })
@@ -72,21 +72,21 @@ module _ (own : ℕ) (node : Node) (disk : List Record) (letter : Letter) (ready
   ok : InLog (store_of node disk)
   ok = in_log node disk ready.order
 
-  quiet : ((asked : Asked) → Asks letter.body asked → ⊥) → ((asked : Asked) → Tells letter.body asked → ⊥) → IsDone (log_act (idle node disk))
+  quiet : ((asked : AskedOfNodes) → Asks letter.body asked → ⊥) → ((asked : AskedOfNodes) → Tells letter.body asked → ⊥) → IsCallDone (log_act (idle node disk))
   quiet asks tells = logs_act (idle node disk) refl refl refl asks tells (stays own [] (BroughtBy (log_act (idle node disk))) (AckedBy (log_act (idle node disk))) (store_of node disk)) (λ one m. absurd m)
 
   module _ (nodes : ℕ) (key : Key) (state : State) (is : letter.body ≡ PushAck key state) where
-    ack_asks : (asked : Asked) → Asks letter.body asked → ⊥
+    ack_asks : (asked : AskedOfNodes) → Asks letter.body asked → ⊥
     ack_asks asked a = by asked (subst (λ b. Asks b asked) is a)
       where
-        by : (asked : Asked) → Asks (PushAck key state) asked → ⊥
+        by : (asked : AskedOfNodes) → Asks (PushAck key state) asked → ⊥
         by (Copies filing) a = a
         by (Deletion user id) a = a
 
-    ack_tells : (asked : Asked) → Tells letter.body asked → ⊥
+    ack_tells : (asked : AskedOfNodes) → Tells letter.body asked → ⊥
     ack_tells asked a = by asked (subst (λ b. Tells b asked) is a)
       where
-        by : (asked : Asked) → Tells (PushAck key state) asked → ⊥
+        by : (asked : AskedOfNodes) → Tells (PushAck key state) asked → ⊥
         by (Copies filing) a = a
         by (Deletion user id) a = a
 
@@ -135,7 +135,7 @@ module _ (own : ℕ) (node : Node) (disk : List Record) (letter : Letter) (ready
       -- the Retire that goes to another target is true of all targets
       retire_claims : nat_eq left 0 ≡ true → (m : ℕ) (fact : Fact) → (has entry.state.targets m ≡ true) × (IsAtLeast key entry.state ≡ fact) → IsBacked (log_act retire_did) m fact
       retire_claims e m fact (target, same_fact) = ⊎_elim
-          (λ own_is. inr (inl (own_is, subst (Says retire_did.disk) same_fact (said_covers key retire_did.disk entry.state entry.state says_after (not_below_self entry.state) (λ k h. h)))))
+          (λ own_is. inr (inl (own_is, subst (SaysFact retire_did.disk) same_fact (said_covers key retire_did.disk entry.state entry.state says_after (not_below_self entry.state) (λ k h. h)))))
           (λ apart. backs own node disk retire_did (Some letter) None [] [] m fact key entry.state same_fact (done retire_did m target apart (none_left e m)))
           (cases_eq m own)
 
@@ -151,7 +151,7 @@ module _ (own : ℕ) (node : Node) (disk : List Record) (letter : Letter) (ready
             fit = tt;
           })
 
-      acked_by : (b : Bool) → nat_eq left 0 ≡ b → IsDone (log_act (if b then retire_did else trim_did))
+      acked_by : (b : Bool) → nat_eq left 0 ≡ b → IsCallDone (log_act (if b then retire_did else trim_did))
       acked_by true e = logs_act retire_did refl refl refl ack_asks ack_tells
           (retire_step own [] (BroughtBy (log_act retire_did)) (AckedBy (log_act retire_did)) (store_of node disk) key entry here ok (λ m target other. done retire_did m target other (none_left e m)))
           (retire_letter e)
@@ -159,41 +159,41 @@ module _ (own : ℕ) (node : Node) (disk : List Record) (letter : Letter) (ready
           (trim_step own [] (BroughtBy (log_act trim_did)) (AckedBy (log_act trim_did)) (store_of node disk) key entry here ok left (λ m h. (left_in entry.remaining letter.from m h).0) (done trim_did))
           (λ one m. absurd m)
 
-    ack_by : (found : Option Logged) → fin.get node.log key ≡ found → IsDone (log_act (acked_at own nodes node disk key state letter.from found))
+    ack_by : (found : Option Logged) → fin.get node.log key ≡ found → IsCallDone (log_act (acked_at own nodes node disk key state letter.from found))
     ack_by None e = quiet ack_asks ack_tells
     ack_by (Some entry) e = by (is_same_state entry.state state && has entry.remaining letter.from) refl
       where
         by : (b : Bool) → (is_same_state entry.state state && has entry.remaining letter.from) ≡ b
-            → IsDone (log_act (if b then shrunk own nodes node disk key (cleared letter.from entry) else idle node disk))
+            → IsCallDone (log_act (if b then shrunk own nodes node disk key (cleared letter.from entry) else idle node disk))
         by true t = acked_by entry e (state_is entry.state state (and_parts (is_same_state entry.state state) (has entry.remaining letter.from) t).0) (nat_eq (without_node entry.remaining letter.from) 0) refl
         by false t = quiet ack_asks ack_tells
 
-    pub ack_acts : IsDone (log_act (hear_ack own nodes node disk key state letter.from))
+    pub ack_acts : IsCallDone (log_act (hear_ack own nodes node disk key state letter.from))
     ack_acts = ack_by (fin.get node.log key) refl
 
   module _ (key : Key) (state : State) (is : letter.body ≡ Retire key state) where
-    retire_asks : (asked : Asked) → Asks letter.body asked → ⊥
+    retire_asks : (asked : AskedOfNodes) → Asks letter.body asked → ⊥
     retire_asks asked a = by asked (subst (λ b. Asks b asked) is a)
       where
-        by : (asked : Asked) → Asks (Retire key state) asked → ⊥
+        by : (asked : AskedOfNodes) → Asks (Retire key state) asked → ⊥
         by (Copies filing) a = a
         by (Deletion user id) a = a
 
-    retire_tells : (asked : Asked) → Tells letter.body asked → ⊥
+    retire_tells : (asked : AskedOfNodes) → Tells letter.body asked → ⊥
     retire_tells asked a = by asked (subst (λ b. Tells b asked) is a)
       where
-        by : (asked : Asked) → Tells (Retire key state) asked → ⊥
+        by : (asked : AskedOfNodes) → Tells (Retire key state) asked → ⊥
         by (Copies filing) a = a
         by (Deletion user id) a = a
 
-    retired_by : (found : Option Logged) → fin.get node.log key ≡ found → IsDone (log_act (retired_at node disk key state found))
+    retired_by : (found : Option Logged) → fin.get node.log key ≡ found → IsCallDone (log_act (retired_at node disk key state found))
     retired_by None e = quiet retire_asks retire_tells
     retired_by (Some entry) e = by (is_same_state entry.state state) refl
       where
         did : Reaction
         did = record { node = record node { log = fin.remove node.log key }; disk = disk ++ Retired key entry.state ∷ []; out = [] }
 
-        by : (b : Bool) → is_same_state entry.state state ≡ b → IsDone (log_act (if b then did else idle node disk))
+        by : (b : Bool) → is_same_state entry.state state ≡ b → IsCallDone (log_act (if b then did else idle node disk))
         by true t = let same = state_is entry.state state t in logs_act did refl refl refl retire_asks retire_tells
             (retire_step own [] (BroughtBy (log_act did)) (AckedBy (log_act did)) (store_of node disk) key entry e ok
             (λ m target other. inr (record {
@@ -204,5 +204,5 @@ module _ (own : ℕ) (node : Node) (disk : List Record) (letter : Letter) (ready
             (λ one m. absurd m)
         by false t = quiet retire_asks retire_tells
 
-    pub retired_acts : IsDone (log_act (hear_retired node disk key state))
+    pub retired_acts : IsCallDone (log_act (hear_retired node disk key state))
     retired_acts = retired_by (fin.get node.log key) refl

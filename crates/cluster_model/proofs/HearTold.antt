@@ -11,12 +11,12 @@ use Rattle.object_model.specs.Sets.{has, with_node, without_node}
 use Rattle.object_model.specs.Lists.{Among}
 use Rattle.object_model.specs.Letters.{Number, Body, Letter}
 use Rattle.object_model.specs.Letters.Body.{Filed, StrikeTold}
-use Rattle.cluster_model.specs.Cluster.{Asked, Want, Ticket, Node}
-use Rattle.cluster_model.specs.Cluster.Asked.{Copies, Deletion}
+use Rattle.cluster_model.specs.Cluster.{AskedOfNodes, Want, Ticket, Node}
+use Rattle.cluster_model.specs.Cluster.AskedOfNodes.{Copies, Deletion}
 use Rattle.cluster_model.specs.Cluster.Life.{Up}
 use Rattle.cluster_model.specs.Claims.{fact_of, Wants, LifeWaits, Asks, Tells, Covers, Covered, BodyClaims}
 use Rattle.cluster_model.specs.Claims.Fact.{IsGone}
-use Rattle.cluster_model.specs.Moves.{Act, IsDone, IsReady, IsBacked, IsConfirmed}
+use Rattle.cluster_model.specs.Moves.{NodeAct, IsCallDone, IsReady, IsBacked, IsFactConfirmed}
 use Rattle.cluster_model.specs.Rules.{Reaction, store_of, idle, tells, told_want, told_ticket, ticket_at, seq_at, with_ticket, told_at, hear_told}
 use Rattle.object_model.proofs.SetLaws.{has_with, left_in}
 use Rattle.object_model.proofs.StateLaws.{id_is, id_self}
@@ -32,7 +32,7 @@ module _ (own : ℕ) (node : Node) (disk : List Record) (heard : Option Letter) 
   abbrev still_did : Reaction
   still_did = record { node = after; disk = disk; out = [] }
 
-  pub still_acts : IsReady own (slot_up node disk) heard → TicketsReact (act_of own node disk still_did heard None []) → IsDone (act_of own node disk still_did heard None [])
+  pub still_acts : IsReady own (slot_up node disk) heard → TicketsReact (act_of own node disk still_did heard None []) → IsCallDone (act_of own node disk still_did heard None [])
   still_acts ready tickets = is_act own node disk still_did heard None [] [] ready
       (record {
         step = subst (λ l. StoreStep own [] (BroughtBy act) (AckedBy act) (store_of node disk) (record { log = l; disk = disk })) (sym log) (stays own [] (BroughtBy act) (AckedBy act) (store_of node disk));
@@ -42,11 +42,11 @@ module _ (own : ℕ) (node : Node) (disk : List Record) (heard : Option Letter) 
       (record { boot = boot; drawn = drawn; fresh = λ content e. absurd (cc e); ended = λ content e. absurd (cc e) })
       tickets (λ letter m. absurd m)
     where
-      act : Act
+      act : NodeAct
       act = act_of own node disk still_did heard None []
 
 -- the test decides whether a letter tells
-pub tells_true : (body : Body) (asked : Asked) → Tells body asked → tells body asked ≡ true
+pub tells_true : (body : Body) (asked : AskedOfNodes) → Tells body asked → tells body asked ≡ true
 tells_true (Filed id) (Copies filing) t = subst (λ i. is_same_id id i ≡ true) t (id_self id)
 tells_true (StrikeTold user ids) (Deletion name id) (same, inside) =
     and_from (pointwise nat_eq user name) (list_any (λ one. is_same_id one id) ids) ((bytes_decides user name).1 same) (any_among (λ one. is_same_id one id) id ids inside (id_self id))
@@ -62,7 +62,7 @@ any_is id (one ∷ ids) e = by (λ f. any_is id ids f) (is_same_id one id) refl 
     by rest true same f = inl (id_is one id same)
     by rest false same f = inr (rest f)
 
-pub tells_is : (body : Body) (asked : Asked) → tells body asked ≡ true → Tells body asked
+pub tells_is : (body : Body) (asked : AskedOfNodes) → tells body asked ≡ true → Tells body asked
 tells_is (Filed id) (Copies filing) e = id_is id filing.id e
 tells_is (StrikeTold user ids) (Deletion name id) e =
     let parts = and_parts (pointwise nat_eq user name) (list_any (λ one. is_same_id one id) ids) e in
@@ -117,16 +117,16 @@ stands_at own node number here boot = ap (λ b. cond b (fin.get node.tickets num
     (and_from (nat_eq number.node own) (nat_eq number.boot node.boot) (eq-eqb number.node own here) (eq-eqb number.boot node.boot boot))
 
 module _ (own : ℕ) (node : Node) (disk : List Record) (letter : Letter) (to : letter.to ≡ own) (ready : IsReady own (slot_up node disk) (Some letter))
-    (answers : (asked : Asked) → Asks letter.body asked → ⊥) where
+    (answers : (asked : AskedOfNodes) → Asks letter.body asked → ⊥) where
   -- what the letter tells backs what is confirmed by it
   tell_backs : (did : Reaction) (m : ℕ) (seq : ℕ) (want : Want) → Wants (Up node) seq want → m ≡ letter.from → Tells letter.body want.asked
-      → IsBacked (act_of own node disk did (Some letter) None []) m (fact_of want.asked) ⊎ IsConfirmed (act_of own node disk did (Some letter) None []) m (fact_of want.asked)
+      → IsBacked (act_of own node disk did (Some letter) None []) m (fact_of want.asked) ⊎ IsFactConfirmed (act_of own node disk did (Some letter) None []) m (fact_of want.asked)
   tell_backs did m seq want stands from told = by letter.body refl want.asked refl told
     where
-      act : Act
+      act : NodeAct
       act = act_of own node disk did (Some letter) None []
 
-      by : (body : Body) → letter.body ≡ body → (asked : Asked) → want.asked ≡ asked → Tells body asked → IsBacked act m (fact_of asked) ⊎ IsConfirmed act m (fact_of asked)
+      by : (body : Body) → letter.body ≡ body → (asked : AskedOfNodes) → want.asked ≡ asked → Tells body asked → IsBacked act m (fact_of asked) ⊎ IsFactConfirmed act m (fact_of asked)
       by (Filed id) is (Copies filing) e t = inr (record {
         filing = filing;
         stood = record { seq = seq; want = want; stands = stands; is = e };
@@ -142,7 +142,7 @@ module _ (own : ℕ) (node : Node) (disk : List Record) (letter : Letter) (to : 
       by (StrikeTold user ids) is (Copies filing) e t = absurd t
       by body is asked e t = absurd t
 
-  told_react : (found : Option Ticket) → ticket_at own node letter.ticket ≡ found → IsDone (act_of own node disk (told_at node disk letter found) (Some letter) None [])
+  told_react : (found : Option Ticket) → ticket_at own node letter.ticket ≡ found → IsCallDone (act_of own node disk (told_at node disk letter found) (Some letter) None [])
   told_react None e = still_acts own node disk (Some letter) node refl refl (le_refl node.drawn) ready (tickets_react own node disk did (Some letter) None [] refl
       (λ seq want w. inl (as_it_was act seq want w))
       settled)
@@ -150,10 +150,10 @@ module _ (own : ℕ) (node : Node) (disk : List Record) (letter : Letter) (to : 
       did : Reaction
       did = idle node disk
 
-      act : Act
+      act : NodeAct
       act = act_of own node disk did (Some letter) None []
 
-      not_here : (number : Number) (m : ℕ) (asked : Asked) → letter.ticket ≡ Some number → number.node ≡ own → LifeWaits (Up node) number m asked → ⊥
+      not_here : (number : Number) (m : ℕ) (asked : AskedOfNodes) → letter.ticket ≡ Some number → number.node ≡ own → LifeWaits (Up node) number m asked → ⊥
       not_here number m asked is here w =
           let boot : number.boot ≡ node.boot = w.boot ∙ ap (λ (x : Node). x.boot) (sym (up_node node w.node w.up)) in
           let none : fin.get node.tickets number.seq ≡ None = sym (stands_at own node number here boot) ∙ ap (ticket_at own node) (sym is) ∙ e in
@@ -162,7 +162,7 @@ module _ (own : ℕ) (node : Node) (disk : List Record) (letter : Letter) (to : 
           clash : (o : Option Ticket) (t : Ticket) → o ≡ None → o ≡ Some t → ⊥
           clash o t p q = cc
 
-      settled : (one : Letter) → Some letter ≡ Some one → (number : Number) (m : ℕ) (asked : Asked) → Covers one number m asked
+      settled : (one : Letter) → Some letter ≡ Some one → (number : Number) (m : ℕ) (asked : AskedOfNodes) → Covers one number m asked
           → Covered [] number m asked ⊎ ((number.node ≡ own) × (LifeWaits (Up node) number m asked → ⊥))
       settled one is number m asked c =
           let d : Covers letter number m asked = subst (λ (l : Letter). Covers l number m asked) (sym (same one is)) c in
@@ -182,7 +182,7 @@ module _ (own : ℕ) (node : Node) (disk : List Record) (letter : Letter) (to : 
       did : Reaction
       did = record { node = with_ticket node (seq_at letter.ticket) (told_ticket letter.body letter.from ticket); disk = disk; out = [] }
 
-      act : Act
+      act : NodeAct
       act = act_of own node disk did (Some letter) None []
 
       here : fin.get node.tickets (seq_at letter.ticket) ≡ Some ticket
@@ -197,13 +197,13 @@ module _ (own : ℕ) (node : Node) (disk : List Record) (letter : Letter) (to : 
             waits = λ m h. t.waits m (subst (λ (x : Want). has x.waiting m ≡ true) (sym is) h);
             confirmed = λ m h. ⊎_elim
                 (λ before. inl before)
-                (λ (from, told). inr (subst (λ a. IsBacked act m (fact_of a) ⊎ IsConfirmed act m (fact_of a)) (t.asked ∙ ap (λ (x : Want). x.asked) is) (tell_backs did m seq old stood from told)))
+                (λ (from, told). inr (subst (λ a. IsBacked act m (fact_of a) ⊎ IsFactConfirmed act m (fact_of a)) (t.asked ∙ ap (λ (x : Want). x.asked) is) (tell_backs did m seq old stood from told)))
                 (t.confirmed m (subst (λ (x : Want). has x.confirmed m ≡ true) (sym is) h));
           })
           (λ (apart, old). as_it_was act seq want old)
           (rewanted node (seq_at letter.ticket) ticket f ticket.mishaps here seq want w))
 
-      settled : (one : Letter) → Some letter ≡ Some one → (number : Number) (m : ℕ) (asked : Asked) → Covers one number m asked
+      settled : (one : Letter) → Some letter ≡ Some one → (number : Number) (m : ℕ) (asked : AskedOfNodes) → Covers one number m asked
           → Covered [] number m asked ⊎ ((number.node ≡ own) × (LifeWaits (Up did.node) number m asked → ⊥))
       settled one is number m asked c =
           let d : Covers letter number m asked = subst (λ (l : Letter). Covers l number m asked) (sym (same one is)) c in
@@ -223,5 +223,5 @@ module _ (own : ℕ) (node : Node) (disk : List Record) (letter : Letter) (to : 
           same : (one : Letter) → Some letter ≡ Some one → letter ≡ one
           same one e = cc
 
-  pub told_acts : IsDone (act_of own node disk (hear_told own node disk letter) (Some letter) None [])
+  pub told_acts : IsCallDone (act_of own node disk (hear_told own node disk letter) (Some letter) None [])
   told_acts = told_react (ticket_at own node letter.ticket) refl

@@ -5,11 +5,11 @@ use Rattle.mail_model.specs.Book.{BookEntry}
 use Rattle.mail_model.specs.Book.BookEntry.{Struck}
 use Rattle.object_model.specs.Lists.{Among}
 use Rattle.object_model.specs.Letters.{Number, Letter}
-use Rattle.cluster_model.specs.Cluster.{Asked, Cluster, slot_at, with_slot}
+use Rattle.cluster_model.specs.Cluster.{AskedOfNodes, Cluster, slot_at, with_slot}
 use Rattle.cluster_model.specs.Claims.{NodesWait, Covers, Covered}
-use Rattle.cluster_model.specs.Moves.{Act, Brings, Content, Move, IsReady, IsAct, MayEnter, MayMoves, after_move, after_moves}
+use Rattle.cluster_model.specs.Moves.{NodeAct, Brings, Content, Move, IsReady, IsAct, MayEnter, MayMoves, after_move, after_moves}
 use Rattle.cluster_model.specs.Moves.Move.{Acted, Taken, Entered}
-use Rattle.cluster_model.specs.Parts.{Holds, Sound}
+use Rattle.cluster_model.specs.Parts.{IsHeldSomewhere, Sound}
 use Rattle.cluster_model.specs.World.{Leads}
 use Rattle.cluster_model.proofs.ActsContents.{origin}
 use Rattle.cluster_model.proofs.Kept.{all_kept}
@@ -25,7 +25,7 @@ may_both confirm (move ∷ first) second c p q = (p.0, may_both confirm first se
 
 module _ (confirm : ℕ) (May : Id → List ℕ → Type 0) where
   pub no_move : (c d : Cluster) → d ≡ c → Leads confirm May c d
-  no_move c d e = record { moves = []; may = tt; is = e; brings = λ sound id octets h. inl (subst (λ (x : Cluster). Holds x.slots x.flying id octets) e h) }
+  no_move c d e = record { moves = []; may = tt; is = e; brings = λ sound id octets h. inl (subst (λ (x : Cluster). IsHeldSomewhere x.slots x.flying id octets) e h) }
 
   pub led_on : (c d e : Cluster) → Leads confirm May c d → Leads confirm May d e → Leads confirm May c e
   led_on c d e p q = record {
@@ -38,7 +38,7 @@ module _ (confirm : ℕ) (May : Id → List ℕ → Type 0) where
         (q.brings (subst (Sound confirm) (sym p.is) (all_kept confirm c p.moves p.may sound)) id octets h);
   }
 
-  pub acted_leads : (c : Cluster) (act : Act) → slot_at c.slots act.node ≡ Some act.before → (IsReady act.node act.before act.heard → IsAct act)
+  pub acted_leads : (c : Cluster) (act : NodeAct) → slot_at c.slots act.node ≡ Some act.before → (IsReady act.node act.before act.heard → IsAct act)
       → ((letter : Letter) → act.heard ≡ Some letter → Among letter c.flying)
       → ((user : List ℕ) (id : Id) → Among (user, id) act.strikes → Among (Struck user id) c.book)
       → ((content : Content) → act.files ≡ Some content → May content.id content.octets)
@@ -61,7 +61,7 @@ module _ (confirm : ℕ) (May : Id → List ℕ → Type 0) where
 
   -- a letter at a place is taken out
   pub taken_leads : (c : Cluster) (letter : Letter) (front back : List Letter) → c.flying ≡ front ++ letter ∷ back
-      → ((number : Number) (m : ℕ) (asked : Asked) → Covers letter number m asked → NodesWait c.slots number m asked → Covered (front ++ back) number m asked)
+      → ((number : Number) (m : ℕ) (asked : AskedOfNodes) → Covers letter number m asked → NodesWait c.slots number m asked → Covered (front ++ back) number m asked)
       → Leads confirm May c (record c { flying = front ++ back })
   taken_leads c letter front back is missed = record {
     moves = Taken letter (front ++ back) ∷ [];

@@ -3,10 +3,10 @@ use Rattle.std.proofs.Common.{◌≡◌, ⊎_elim, ℕ, List, [], Option, Some, 
 use Rattle.std.specs.FinMap as fin
 use Rattle.mail_model.specs.Record.{Record}
 use Rattle.object_model.specs.Letters.{Letter}
-use Rattle.cluster_model.specs.Cluster.{Asked, Node, Life}
+use Rattle.cluster_model.specs.Cluster.{AskedOfNodes, Node, Life}
 use Rattle.cluster_model.specs.Cluster.Life.{Up}
 use Rattle.cluster_model.specs.Claims.{Asks, Tells, Covers, boot_of}
-use Rattle.cluster_model.specs.Moves.{IsReady, IsDone}
+use Rattle.cluster_model.specs.Moves.{IsReady, IsCallDone}
 use Rattle.cluster_model.specs.Rules.{idle}
 use Rattle.cluster_model.specs.Deeds.{act_of, slot_up}
 use Rattle.cluster_model.proofs.HearTold.{still_acts}
@@ -34,14 +34,14 @@ counted_ready own node disk count heard r = record {
 
 -- it learns stamps
 pub learns : (own : ℕ) (node : Node) (disk : List Record) (count : ℕ) → IsReady own (slot_up node disk) None
-    → IsDone (act_of own node disk (idle (record node { count = count }) disk) None None [])
+    → IsCallDone (act_of own node disk (idle (record node { count = count }) disk) None None [])
 learns own node disk count ready = still_acts own node disk None (record node { count = count }) refl refl (le_refl node.drawn) ready
     (same_tickets own node disk (idle (record node { count = count }) disk) None None [] refl refl (λ letter e. absurd (cc e)))
 
 -- a letter that asks nothing and tells nothing
 pub unknown_acts : (own : ℕ) (node : Node) (disk : List Record) (letter : Letter) → IsReady own (slot_up node disk) (Some letter)
-    → ((asked : Asked) → Asks letter.body asked → ⊥) → ((asked : Asked) → Tells letter.body asked → ⊥)
-    → IsDone (act_of own node disk (idle node disk) (Some letter) None [])
+    → ((asked : AskedOfNodes) → Asks letter.body asked → ⊥) → ((asked : AskedOfNodes) → Tells letter.body asked → ⊥)
+    → IsCallDone (act_of own node disk (idle node disk) (Some letter) None [])
 unknown_acts own node disk letter ready asks tells = still_acts own node disk (Some letter) node refl refl (le_refl node.drawn) ready
     (same_tickets own node disk (idle node disk) (Some letter) None [] refl refl (λ one is number m asked c.
     let d : Covers letter number m asked = subst (λ (l : Letter). Covers l number m asked) (back one is) c in

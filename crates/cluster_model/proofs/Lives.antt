@@ -10,7 +10,7 @@ use Rattle.object_model.specs.Letters.{Letter}
 use Rattle.cluster_model.specs.Cluster.{Ticket, Tickets, Want, Node, Life, Slot, tickets_of, pending_of}
 use Rattle.cluster_model.specs.Cluster.Life.{Up, Down, Lost}
 use Rattle.cluster_model.specs.Claims.{Fact, Wants, LetterHolds, LetterClaims, LetterSpeaks, DrawnIn, TicketClaims, LogClaims, DiskClaims, SlotClaims, DiskSpeaks, TicketSpeaks, all_records, boot_of, boot_after}
-use Rattle.cluster_model.specs.Moves.{Content, Act, IsReady, Heard, ComesFrom, IsBacked, IsConfirmed, IsAct}
+use Rattle.cluster_model.specs.Moves.{Content, NodeAct, IsReady, Heard, ComesFrom, IsBacked, IsFactConfirmed, IsAct}
 use Rattle.cluster_model.specs.Rules.{Reaction}
 use Rattle.object_model.proofs.Lists.{among_front, among_behind, among_either}
 use Rattle.cluster_model.proofs.StoreSteps.{boot_both}
@@ -43,13 +43,13 @@ nothing_behind (x ∷ xs) = ap (λ (l : List Record). x ∷ l) (nothing_behind x
 module _ (own : ℕ) (node : Node) (disk : List Record) (did : Reaction) (heard : Option Letter) (files : Option Content) (strikes : List (List ℕ × Id))
     (ready : IsReady own (slot_up node disk) heard) (is : IsAct (act_of own node disk did heard files strikes))
     (front pending missing : List Record) (split : is.grows.0 ≡ (front ++ pending) ++ missing) where
-  abbrev whole : Act
+  abbrev whole : NodeAct
   whole = act_of own node disk did heard files strikes
 
   abbrev fallen : Slot
   fallen = record { life = Down pending; disk = disk ++ front }
 
-  abbrev cut : Act
+  abbrev cut : NodeAct
   cut = cut_act own node disk heard files strikes front pending
 
   -- what stands, stands once the call is done
@@ -83,7 +83,7 @@ module _ (own : ℕ) (node : Node) (disk : List Record) (did : Reaction) (heard 
   from_too id octets (inr (inl h)) = inr (inl (heard_too (λ letter. LetterHolds letter id octets) h))
   from_too id octets (inr (inr b)) = inr (inr (record { content = b.content; is = b.is; same_id = b.same_id; same_octets = b.same_octets }))
 
-  claimed : (m : ℕ) (fact : Fact) → SlotClaims own fallen m fact → IsBacked cut m fact ⊎ IsConfirmed cut m fact
+  claimed : (m : ℕ) (fact : Fact) → SlotClaims own fallen m fact → IsBacked cut m fact ⊎ IsFactConfirmed cut m fact
   claimed m fact (inl c) = absurd (no_wants (Down pending) refl c.seq c.want c.stands)
   claimed m fact (inr (inl c)) = absurd (cc c.up)
   claimed m fact (inr (inr c)) = ⊎_elim
@@ -92,7 +92,7 @@ module _ (own : ℕ) (node : Node) (disk : List Record) (did : Reaction) (heard 
       (λ other. ⊎_elim
       (λ mine. absurd (c.other mine.0))
       (λ h. inl (inr (inr (heard_too (λ letter. LetterClaims letter m fact) h)))) other) b)
-      (λ (k : IsConfirmed whole m fact). inr (record { filing = k.filing; stood = k.stood; heard = record { letter = k.heard.letter; is = k.heard.is; holds = k.heard.holds }; is = k.is }))
+      (λ (k : IsFactConfirmed whole m fact). inr (record { filing = k.filing; stood = k.stood; heard = record { letter = k.heard.letter; is = k.heard.is; holds = k.heard.holds }; is = k.is }))
       (is.claims.claimed m fact (inr (inr (record { key = c.key; state = c.state; inside = stands_whole (Retired c.key c.state) c.inside; target = c.target; other = c.other; is = c.is }))))
 
   pub cut_acts : IsAct cut

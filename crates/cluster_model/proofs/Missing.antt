@@ -4,7 +4,7 @@ use Rattle.std.specs.FinMap as fin
 use Rattle.mail_model.specs.Identity.{Id}
 use Rattle.mail_model.specs.Record.{Record}
 use Rattle.object_model.specs.Letters.{Number, Letter}
-use Rattle.cluster_model.specs.Cluster.{Asked, Ticket, Node, Life, Slot, Cluster, slot_at, with_slot}
+use Rattle.cluster_model.specs.Cluster.{AskedOfNodes, Ticket, Node, Life, Slot, Cluster, slot_at, with_slot}
 use Rattle.cluster_model.specs.Cluster.Life.{Up, Down, Lost}
 use Rattle.cluster_model.specs.Claims.{LifeWaits, NodesWait, Covers}
 use Rattle.cluster_model.specs.Rules.{Reaction, mishap, failed_at}
@@ -64,7 +64,7 @@ module _ (confirm : ℕ) (May : Id → List ℕ → Type 0) (kind : MishapKind) 
       by None = no_move confirm May c c refl
       by (Some number) = found_by number (slot_at c.slots number.node) refl
 
-end_is : (letter : Letter) (number : Number) (m : ℕ) (asked : Asked) → Covers letter number m asked → m ≡ other_end letter number
+end_is : (letter : Letter) (number : Number) (m : ℕ) (asked : AskedOfNodes) → Covers letter number m asked → m ≡ other_end letter number
 end_is letter number m asked c = by (nat_eq letter.from number.node) refl
   where
     by : (b : Bool) → nat_eq letter.from number.node ≡ b → m ≡ (if b then letter.to else letter.from)
@@ -72,7 +72,7 @@ end_is letter number m asked c = by (nat_eq letter.from number.node) refl
     by false e = ⊎_elim (λ (from, to, asks). absurd (true≢false (sym (eq-eqb letter.from number.node from) ∙ e))) (λ (to, from, told). sym from) c.1
 
 -- then nobody waits on account of the letter
-pub missed_settled : (kind : MishapKind) (slots : List Slot) (letter : Letter) (number : Number) (m : ℕ) (asked : Asked) → Covers letter number m asked → NodesWait (missed kind slots letter) number m asked → ⊥
+pub missed_settled : (kind : MishapKind) (slots : List Slot) (letter : Letter) (number : Number) (m : ℕ) (asked : AskedOfNodes) → Covers letter number m asked → NodesWait (missed kind slots letter) number m asked → ⊥
 missed_settled kind slots letter number m asked c w =
     by (slot_at slots number.node) refl (subst (λ t. NodesWait (missed_under kind slots letter t) number m asked) c.0 w)
   where

@@ -14,9 +14,9 @@ use Rattle.cluster_model.specs.Cluster.{Ticket, Node, Slot, slot_at, Want}
 use Rattle.cluster_model.specs.Cluster.Life.{Up}
 use Rattle.cluster_model.specs.Claims.{Fact, Wants, SlotClaims, TicketClaims, LogClaims, DiskClaims, NodesWant, SlotSpeaks, DiskSpeaks, TicketSpeaks, SlotHolds}
 use Rattle.cluster_model.specs.Moves.{IsInOrder, SlotFits}
-use Rattle.cluster_model.specs.Parts.{Holds, Sound}
+use Rattle.cluster_model.specs.Parts.{IsHeldSomewhere, Sound}
 use Rattle.cluster_model.specs.World.{cluster_of}
-use Rattle.cluster_model.specs.WorldLaws.{fresh_slot, fresh_slots, opening, InPlan}
+use Rattle.cluster_model.specs.WorldLaws.{fresh_slot, fresh_slots, opening_world, InPlan}
 
 get_fresh : (all nodes k : ℕ) (slot : Slot) → slice_get (fresh_slots all nodes) k ≡ Some slot → (fresh_slot all ≡ slot) × (suc k ≤ nodes)
 get_fresh all zero k slot e = absurd (cc e)
@@ -85,7 +85,7 @@ no_speech all user id s = ⊎_elim
     retires p q = cc
 
 module _ (nodes confirm : ℕ) (few : nodes ≤ 64) where
-  none_held : (id : Id) (octets : List ℕ) → Holds (fresh_slots nodes nodes) [] id octets → ⊥
+  none_held : (id : Id) (octets : List ℕ) → IsHeldSomewhere (fresh_slots nodes nodes) [] id octets → ⊥
   none_held id octets h = ⊎_elim
       (λ (n, slot, here, holds). boot_octets (only_boot (Octets id octets) (subst (λ (s : Slot). SlotHolds s id octets) (sym (at_fresh nodes n slot here).0) holds)))
       (λ (letter, m, holds). absurd m)
@@ -97,7 +97,7 @@ module _ (nodes confirm : ℕ) (few : nodes ≤ 64) where
   none_wanted : (filing : _) → NodesWant (fresh_slots nodes nodes) filing → ⊥
   none_wanted filing w = no_ticket nodes w.seq w.want (subst (λ (s : Slot). Wants s.life w.seq w.want) (sym (at_fresh nodes w.node w.slot w.here).0) w.stands)
 
-  pub opening_sound : InPlan nodes (opening nodes).slots × Sound confirm (cluster_of (opening nodes))
+  pub opening_sound : InPlan nodes (opening_world nodes).slots × Sound confirm (cluster_of (opening_world nodes))
   opening_sound = (
     λ n slot here. let r = at_fresh nodes n slot here in record { some = r.1; within = r.2; few = few },
     record {

@@ -11,19 +11,19 @@ use Rattle.object_model.specs.Lists.{Among}
 use Rattle.object_model.specs.Letters.{Number, Body, Letter}
 use Rattle.object_model.specs.Letters.Body.{File, Strike}
 use Rattle.object_model.specs.Mishaps.MishapKind.{Down as DownKind, Stale as StaleKind, Disk}
-use Rattle.cluster_model.specs.Cluster.{Asked, Ticket, Node, Life, Slot, slot_at, with_slot, tickets_of}
+use Rattle.cluster_model.specs.Cluster.{AskedOfNodes, Ticket, Node, Life, Slot, slot_at, with_slot, tickets_of}
 use Rattle.cluster_model.specs.Cluster.Life.{Up, Down}
 use Rattle.cluster_model.specs.Claims.{NodesWait, Covers, Asks}
-use Rattle.cluster_model.specs.Moves.{IsReady, IsDone}
+use Rattle.cluster_model.specs.Moves.{IsReady, IsCallDone}
 use Rattle.cluster_model.specs.Parts.{Sound}
 use Rattle.cluster_model.specs.Rules.{Reaction, idle, ticket_at}
 use Rattle.cluster_model.specs.Thrown.{is_stale, is_late, answers_ticket, thrown_by, with_stamps, stamps_in, count_through}
 use Rattle.cluster_model.specs.Thrown.Why.{Stale, Late}
-use Rattle.cluster_model.specs.Deeds.{slot_up, act_of, IsNumbered, hear}
+use Rattle.cluster_model.specs.Deeds.{slot_up, act_of, IsOfPlan, hear}
 use Rattle.cluster_model.specs.Room.{Flight, has_room}
 use Rattle.cluster_model.specs.World.{World, Leads, letters_of, cluster_of, missed, put, Flies, flies_on}
 use Rattle.cluster_model.specs.Steps.{Said}
-use Rattle.cluster_model.specs.Makes.{IsUp, after, GoesDown, Posts}
+use Rattle.cluster_model.specs.Makes.{IsUp, after, NodeGoesDown, Posts}
 use Rattle.cluster_model.specs.Makes.Posts.{NobodyUp, OfOtherEpoch, TooLate, IsHeard, FailsHearing}
 use Rattle.object_model.proofs.Lists.{same_some}
 use Rattle.cluster_model.proofs.Slots.{at_same}
@@ -47,15 +47,15 @@ no_ticket None e = refl
 no_ticket (Some t) e = cc
 
 -- what asks is no answer
-asks_no_answer : (body : Body) (asked : Asked) → Asks body asked → answers_ticket body ≡ true → ⊥
+asks_no_answer : (body : Body) (asked : AskedOfNodes) → Asks body asked → answers_ticket body ≡ true → ⊥
 asks_no_answer (File id stamp targets users octets) asked a e = true≢false (sym e)
 asks_no_answer (Strike user marks) asked a e = true≢false (sym e)
 asks_no_answer body asked a e = a
 
-module _ (plan : Plan) (May : Id → List ℕ → Type 0) (old : World) (in_plan : (n : ℕ) (slot : Slot) → slot_at old.slots n ≡ Some slot → IsNumbered n plan.nodes) (sound : Sound plan.confirm (cluster_of old))
+module _ (plan : Plan) (May : Id → List ℕ → Type 0) (old : World) (in_plan : (n : ℕ) (slot : Slot) → slot_at old.slots n ≡ Some slot → IsOfPlan n plan.nodes) (sound : Sound plan.confirm (cluster_of old))
     (number : ℕ) (flies : Flies old number) (node : Node) (disk : List Record) (up : IsUp old flies.letter.to node disk) where
   -- nobody waits on account of a late letter
-  nobody_waits : thrown_by flies.letter.to node flies.letter ≡ Some Late → (n : Number) (m : ℕ) (asked : Asked) → Covers flies.letter n m asked → NodesWait old.slots n m asked → ⊥
+  nobody_waits : thrown_by flies.letter.to node flies.letter ≡ Some Late → (n : Number) (m : ℕ) (asked : AskedOfNodes) → Covers flies.letter n m asked → NodesWait old.slots n m asked → ⊥
   nobody_waits thrown n m asked c wait = ⊎_elim
       (λ (from, to, asks). asks_no_answer flies.letter.body asked asks late.0)
       (λ (to, from, told). not_there to)
@@ -109,7 +109,7 @@ module _ (plan : Plan) (May : Id → List ℕ → Type 0) (old : World) (in_plan
   abbrev did : Reaction
   did = hear flies.letter.to plan.nodes node disk flies.letter
 
-  done : IsDone (act_of flies.letter.to known disk did (Some flies.letter) None [])
+  done : IsCallDone (act_of flies.letter.to known disk did (Some flies.letter) None [])
   done = hears flies.letter.to plan.nodes node disk flies.letter (in_plan flies.letter.to (slot_up node disk) up) refl ready
 
   same_flying : (keep : Bool) → flies_on learnt number flies_on_then keep ≡ flies_on old number flies keep
@@ -125,7 +125,7 @@ module _ (plan : Plan) (May : Id → List ℕ → Type 0) (old : World) (in_plan
       (heard_leads plan.confirm May learnt number flies_on_then known disk did now_up done keep)))
 
   -- its disk fails as it hears, or memory runs out
-  pub failing_leads : (down : World) → GoesDown old flies.letter.to disk did.disk down → Leads plan.confirm May (cluster_of old) (cluster_of down)
+  pub failing_leads : (down : World) → NodeGoesDown old flies.letter.to disk did.disk down → Leads plan.confirm May (cluster_of old) (cluster_of down)
   failing_leads down g = led_on plan.confirm May (cluster_of old) (cluster_of learnt) _ learns_lead
       (down_leads plan.confirm May learnt down flies.letter.to known disk did (Some flies.letter) None [] now_up (λ r. done)
       (λ one e. subst (λ (l : Letter). Among l (letters_of old.flying)) (same one e) (flew old number flies)) (λ user id m. absurd m) (λ content f. absurd (cc f))
@@ -143,7 +143,7 @@ module _ (plan : Plan) (May : Id → List ℕ → Type 0) (old : World) (in_plan
   pub late_leads : (keep : Bool) → thrown_by flies.letter.to node flies.letter ≡ Some Late → Leads plan.confirm May (cluster_of old) (cluster_of (record old { flying = flies_on old number flies keep }))
   late_leads keep thrown = letter_idle plan.confirm May old number flies keep (nobody_waits thrown)
 
-pub posts_lead : (plan : Plan) (May : Id → List ℕ → Type 0) (old new : World) → ((n : ℕ) (slot : Slot) → slot_at old.slots n ≡ Some slot → IsNumbered n plan.nodes) → Sound plan.confirm (cluster_of old)
+pub posts_lead : (plan : Plan) (May : Id → List ℕ → Type 0) (old new : World) → ((n : ℕ) (slot : Slot) → slot_at old.slots n ≡ Some slot → IsOfPlan n plan.nodes) → Sound plan.confirm (cluster_of old)
     → (number : ℕ) (keep : Bool) (said : Said) → Posts plan old number keep said new → Leads plan.confirm May (cluster_of old) (cluster_of new)
 posts_lead plan May old new in_plan sound number keep said (NobodyUp flies nobody is new_world) = subst (λ (w : World). Leads plan.confirm May (cluster_of old) (cluster_of w)) (sym new_world)
     (letter_lost plan.confirm May old DownKind number flies keep)
@@ -158,10 +158,10 @@ posts_lead plan May old new in_plan sound number keep said (FailsHearing flies n
     (failing_leads plan May old in_plan sound number flies node disk up down g)
     (lost_then down g keep))
   where
-    flying_same : (down : World) → GoesDown old flies.letter.to disk (hear flies.letter.to plan.nodes node disk flies.letter).disk down → down.flying ≡ old.flying
+    flying_same : (down : World) → NodeGoesDown old flies.letter.to disk (hear flies.letter.to plan.nodes node disk flies.letter).disk down → down.flying ≡ old.flying
     flying_same down g = ap (λ (w : World). w.flying) g.is
 
-    lost_then : (down : World) (g : GoesDown old flies.letter.to disk (hear flies.letter.to plan.nodes node disk flies.letter).disk down) (keep : Bool)
+    lost_then : (down : World) (g : NodeGoesDown old flies.letter.to disk (hear flies.letter.to plan.nodes node disk flies.letter).disk down) (keep : Bool)
         → Leads plan.confirm May (cluster_of down) (cluster_of (record down { slots = missed Disk down.slots flies.letter; flying = flies_on old number flies keep }))
     lost_then down g keep = subst (λ (f : List Flight). Leads plan.confirm May (cluster_of down) (cluster_of (record down { slots = missed Disk down.slots flies.letter; flying = f }))) (on_same keep)
         (letter_lost plan.confirm May down Disk number there keep)

@@ -4,7 +4,7 @@ use Rattle.sha2.specs.Sha256.{sha256}
 use Rattle.mail_model.specs.Identity.{Id, Key, Value, State}
 use Rattle.mail_model.specs.Identity.Key.{Message}
 use Rattle.mail_model.specs.Identity.Value.{Here, Gone, Secret}
-use Rattle.mail_model.specs.Record.{Record, Member, SaysHere, HoldsOctets}
+use Rattle.mail_model.specs.Record.{Record, IsAmongRecords, SaysHere, HoldsOctets}
 use Rattle.mail_model.specs.Record.Record.{Boot, Octets, Stated, Promise, Retired}
 use Rattle.mail_model.specs.Book.{Acked}
 use Rattle.mail_model.specs.Book.BookEntry.{Acknowledged, Struck, Dropped}
@@ -13,7 +13,7 @@ use Rattle.object_model.specs.Sets.{has, count_in}
 use Rattle.object_model.specs.Lists.{Among}
 use Rattle.mail_model.specs.Grammar.{IsOfKind}
 use Rattle.cluster_model.specs.Cluster.{Slot, Cluster, slot_at, pending_of}
-use Rattle.cluster_model.specs.Claims.{HasCopy, ShowsGone, Stores, Says}
+use Rattle.cluster_model.specs.Claims.{HasCopy, ShowsGone, StoresMessage, SaysFact}
 use Rattle.cluster_model.specs.Claims.Fact.{HasCopies, IsGone}
 use Rattle.cluster_model.specs.Parts.{Sound}
 use Rattle.cluster_model.specs.Laws.{KeepsCopyOf, HasCopyOf, LacksCopy}
@@ -21,11 +21,11 @@ use Rattle.object_model.proofs.Lists.{among_front}
 use Rattle.cluster_model.proofs.Takes.{same_key}
 
 -- both ways to say that a record stands
-pub member_of : (one : Record) (records : List Record) → Among one records → Member one records
+pub member_of : (one : Record) (records : List Record) → Among one records → IsAmongRecords one records
 member_of one [] m = m
 member_of one (other ∷ records) m = ⊎_elim (λ e. inl e) (λ behind. inr (member_of one records behind)) m
 
-pub among_of : (one : Record) (records : List Record) → Member one records → Among one records
+pub among_of : (one : Record) (records : List Record) → IsAmongRecords one records → Among one records
 among_of one [] m = m
 among_of one (other ∷ records) m = ⊎_elim (λ e. inl e) (λ behind. inr (among_of one records behind)) m
 
@@ -115,7 +115,7 @@ module _ (confirm : ℕ) (w : Cluster) (s : Sound confirm w) where
       let alive : c.state.value ≡ Gone → ⊥ = none_gone c.state c.inside in
       let fits = (s.fit.slots_fit m slot here).kind key c.state (among_front (Stated key c.state) slot.disk (pending_of slot.life) c.inside) in
       let is_here : c.state.value ≡ Here = ⊎_elim (λ h. h) (λ g. absurd (alive g)) (here_or_gone copy.user copy.id c.state.value fits) in
-      let stored : Stores copy.id slot.disk = ⊎_elim (λ g. absurd (alive g)) (λ st. st) c.stored in
+      let stored : StoresMessage copy.id slot.disk = ⊎_elim (λ g. absurd (alive g)) (λ st. st) c.stored in
       let first = first_octets copy.id stored.octets slot.disk stored.inside in
       let of : (copy.size ≡ length first.0) × (copy.digest ≡ sha256 first.0) = s.contents.acked copy first.0 acked (record { where_ = inl (m, slot, here, among_front (Octets copy.id first.0) slot.disk (pending_of slot.life) first.2) }) in (
         record {
@@ -136,7 +136,7 @@ module _ (confirm : ℕ) (w : Cluster) (s : Sound confirm w) where
         record {
           slot = h.slot;
           here = h.here;
-          stands = ⊎_elim (λ lost. inl lost) (λ (says : Says h.slot.disk (HasCopies (copy.user ∷ []) copy.id)). inr (has_copy copy acked m h.slot h.here (not_gone copy.user copy.id unstruck m h.slot h.here) (says copy.user (inl refl)))) h.stands;
+          stands = ⊎_elim (λ lost. inl lost) (λ (says : SaysFact h.slot.disk (HasCopies (copy.user ∷ []) copy.id)). inr (has_copy copy acked m h.slot h.here (not_gone copy.user copy.id unstruck m h.slot h.here) (says copy.user (inl refl)))) h.stands;
         },
   )
 
@@ -167,7 +167,7 @@ module _ (confirm : ℕ) (w : Cluster) (s : Sound confirm w) where
           here = h.here;
           stands = ⊎_elim
               (λ lost. inl lost)
-              (λ (says : Says h.slot.disk (HasCopies (copy.user ∷ []) copy.id)). ⊎_elim
+              (λ (says : SaysFact h.slot.disk (HasCopies (copy.user ∷ []) copy.id)). ⊎_elim
               (λ (g : ShowsGone copy.user copy.id h.slot.disk). inr (inr (record {
                 stamp = g.state.stamp;
                 targets = g.state.targets;

@@ -18,7 +18,7 @@ use Rattle.object_model.specs.UpdateLog.{Logged}
 use Rattle.cluster_model.specs.Cluster.{Node, epoch_of}
 use Rattle.cluster_model.specs.Store.{Store, Update, take_all}
 use Rattle.cluster_model.specs.Claims.{BodyHolds}
-use Rattle.cluster_model.specs.Moves.{Act, IsDone, IsReady}
+use Rattle.cluster_model.specs.Moves.{NodeAct, IsCallDone, IsReady}
 use Rattle.cluster_model.specs.Rules.{Reaction, store_of, idle, pushed_octets, push_of, push, widened, widen, with_updates}
 use Rattle.object_model.proofs.Lists.{among_front}
 use Rattle.object_model.proofs.SetLaws.{has_left}
@@ -52,10 +52,10 @@ said_fits own disk key held fits says =
     (said_has key None disk b.top held own says b.inside (fits.target key b.top b.inside), subst (IsOfKind key) b.same_value (fits.kind key b.top b.inside))
 
 module _ (own : ℕ) (node : Node) (disk : List Record) (ready : IsReady own (slot_up node disk) None) where
-  abbrev deed : Reaction → Act
+  abbrev deed : Reaction → NodeAct
   deed did = act_of own node disk did None None []
 
-  pub push_acts : (to : ℕ) (keys : List Key) → IsDone (deed (push own to keys node disk))
+  pub push_acts : (to : ℕ) (keys : List Key) → IsCallDone (deed (push own to keys node disk))
   push_acts to keys = is_act own node disk did None None [] [] ready
       (record { step = stays own [] (BroughtBy (deed did)) (AckedBy (deed did)) (store_of node disk); fits = λ u m. absurd m; speaks = λ user id s. absurd s.inside })
       (record { boot = refl; drawn = le_refl node.drawn; fresh = λ content e. absurd (cc e); ended = λ content e. absurd (cc e) })
@@ -87,7 +87,7 @@ module _ (own : ℕ) (node : Node) (disk : List Record) (ready : IsReady own (sl
           by true t inside = ⊎_elim (λ is. sent letter key entry e t is) (λ none. absurd none) inside
           by false t inside = absurd inside
 
-  idle_acts : IsDone (deed (idle node disk))
+  idle_acts : IsCallDone (deed (idle node disk))
   idle_acts = is_act own node disk (idle node disk) None None [] [] ready
       (record { step = stays own [] (BroughtBy (deed (idle node disk))) (AckedBy (deed (idle node disk))) (store_of node disk); fits = λ u m. absurd m; speaks = λ user id s. absurd s.inside })
       (record { boot = refl; drawn = le_refl node.drawn; fresh = λ content e. absurd (cc e); ended = λ content e. absurd (cc e) })
@@ -95,7 +95,7 @@ module _ (own : ℕ) (node : Node) (disk : List Record) (ready : IsReady own (sl
       (λ letter m. absurd m)
 
   module _ (to : ℕ) (key : Key) where
-    widened_acts : (held : Option State) → said key disk ≡ held → IsDone (deed (widened own to key node disk held))
+    widened_acts : (held : Option State) → said key disk ≡ held → IsCallDone (deed (widened own to key node disk held))
     widened_acts None e = idle_acts
     widened_acts (Some held) e = by (is_here held.value && not (has held.targets to)) refl
       where
@@ -114,7 +114,7 @@ module _ (own : ℕ) (node : Node) (disk : List Record) (ready : IsReady own (sl
         not_gone : is_here held.value ≡ true → held.value ≡ Gone → ⊥
         not_gone h g = true≢false (sym h ∙ ap is_here g)
 
-        by : (b : Bool) → (is_here held.value && not (has held.targets to)) ≡ b → IsDone (deed (if b then did else idle node disk))
+        by : (b : Bool) → (is_here held.value && not (has held.targets to)) ≡ b → IsCallDone (deed (if b then did else idle node disk))
         by true t = is_act own node disk did None None [] updates ready
             (record {
               step = took_all own updates (BroughtBy (deed did)) (AckedBy (deed did)) updates (λ u m. m) (store_of node disk);
@@ -128,5 +128,5 @@ module _ (own : ℕ) (node : Node) (disk : List Record) (ready : IsReady own (sl
             (λ letter m. absurd m)
         by false t = idle_acts
 
-    pub widen_acts : IsDone (deed (widen own to key node disk))
+    pub widen_acts : IsCallDone (deed (widen own to key node disk))
     widen_acts = widened_acts (said key disk) refl

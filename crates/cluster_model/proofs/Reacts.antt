@@ -8,32 +8,32 @@ use Rattle.mail_model.specs.Record.Record.{Octets, Stated, Retired}
 use Rattle.object_model.specs.Lists.{Among}
 use Rattle.object_model.specs.Letters.{Number, Letter}
 use Rattle.object_model.specs.Letters.Body.{Filed}
-use Rattle.cluster_model.specs.Cluster.{Asked, Filing, Node, Life}
+use Rattle.cluster_model.specs.Cluster.{AskedOfNodes, NodeFiling, Node, Life}
 use Rattle.cluster_model.specs.Cluster.Life.{Up}
 use Rattle.cluster_model.specs.Store.{Store, Update}
-use Rattle.cluster_model.specs.Claims.{Fact, Says, LetterHolds, LetterClaims, LetterSpeaks, IsFile, DrawnAt, TicketClaims, LogClaims, SlotClaims, TicketSpeaks, SlotSpeaks, LifeWaits, Covers, Covered, boot_of}
+use Rattle.cluster_model.specs.Claims.{Fact, SaysFact, LetterHolds, LetterClaims, LetterSpeaks, IsFile, DrawnAt, TicketClaims, LogClaims, SlotClaims, TicketSpeaks, SlotSpeaks, LifeWaits, Covers, Covered, boot_of}
 use Rattle.cluster_model.specs.Claims.Fact.{HasCopies, IsAtLeast}
-use Rattle.cluster_model.specs.Moves.{Content, Act, IsInOrder, IsReady, SlotFits, LetterFits, Heard, Brings, ComesFrom, Opens, LifeWants, IsBacked, IsConfirmed, IsSpoken, IsAct, IsDone}
+use Rattle.cluster_model.specs.Moves.{Content, NodeAct, IsInOrder, IsReady, SlotFits, LetterFits, Heard, Brings, ComesFrom, Opens, LifeWants, IsBacked, IsFactConfirmed, IsSpoken, IsAct, IsCallDone}
 use Rattle.cluster_model.specs.Rules.{Reaction, store_of}
 use Rattle.cluster_model.specs.Deeds.{slot_up, act_of}
 use Rattle.object_model.proofs.Lists.{among_front, among_either}
 use Rattle.cluster_model.proofs.StoreSteps.{InLog, Settled, DiskFits, UpdatesFit, UpdatesSpeak, StoreStep}
 
 -- what a step of the store may take from: the letter that was heard, and the message that is filed
-abbrev pub BroughtBy : Act → Id → List ℕ → Type 0
+abbrev pub BroughtBy : NodeAct → Id → List ℕ → Type 0
 BroughtBy act id octets = Heard act (λ letter. LetterHolds letter id octets) ⊎ Brings act id octets
 
-abbrev pub AckedBy : Act → Key → State → ℕ → Type 0
+abbrev pub AckedBy : NodeAct → Key → State → ℕ → Type 0
 AckedBy act key state m = Heard act (λ letter. LetterClaims letter m (IsAtLeast key state))
 
 -- the store
-pub record StoreReacts (act : Act) (old new : Store) (updates : List Update) : Type 0 where
+pub record StoreReacts (act : NodeAct) (old new : Store) (updates : List Update) : Type 0 where
   pub step : StoreStep act.node updates (BroughtBy act) (AckedBy act) old new
   pub fits : UpdatesFit act.node updates
   pub speaks : (user : List ℕ) (id : Id) → UpdatesSpeak updates user id → Heard act (λ letter. LetterSpeaks letter user id) ⊎ Among (user, id) act.strikes
 
 -- the numbers that are drawn
-pub record NumbersReact (act : Act) (old new : Node) : Type 0 where
+pub record NumbersReact (act : NodeAct) (old new : Node) : Type 0 where
   pub boot : new.boot ≡ old.boot
   pub drawn : old.drawn ≤ new.drawn
   pub fresh : (content : Content) → act.files ≡ Some content
@@ -41,21 +41,21 @@ pub record NumbersReact (act : Act) (old new : Node) : Type 0 where
   pub ended : (content : Content) → act.files ≡ Some content → ends_in_crlf content.octets ≡ true
 
 -- the tickets
-pub record TicketsReact (act : Act) : Type 0 where
-  pub claimed : (m : ℕ) (fact : Fact) → TicketClaims act.after.life m fact → IsBacked act m fact ⊎ IsConfirmed act m fact
-  pub wanted : (filing : Filing) → LifeWants act.after.life filing → LifeWants act.before.life filing ⊎ Opens act filing
+pub record TicketsReact (act : NodeAct) : Type 0 where
+  pub claimed : (m : ℕ) (fact : Fact) → TicketClaims act.after.life m fact → IsBacked act m fact ⊎ IsFactConfirmed act m fact
+  pub wanted : (filing : NodeFiling) → LifeWants act.after.life filing → LifeWants act.before.life filing ⊎ Opens act filing
   pub speaks : (user : List ℕ) (id : Id) → TicketSpeaks act.after.life user id → TicketSpeaks act.before.life user id ⊎ Among (user, id) act.strikes
-  pub waits : (number : Number) → number.node ≡ act.node → (m : ℕ) (asked : Asked) → LifeWaits act.after.life number m asked
+  pub waits : (number : Number) → number.node ≡ act.node → (m : ℕ) (asked : AskedOfNodes) → LifeWaits act.after.life number m asked
       → LifeWaits act.before.life number m asked ⊎ Covered act.out number m asked
-  pub settled : (letter : Letter) → act.heard ≡ Some letter → (number : Number) (m : ℕ) (asked : Asked) → Covers letter number m asked
+  pub settled : (letter : Letter) → act.heard ≡ Some letter → (number : Number) (m : ℕ) (asked : AskedOfNodes) → Covers letter number m asked
       → Covered act.out number m asked ⊎ ((number.node ≡ act.node) × (LifeWaits act.after.life number m asked → ⊥))
 
 -- a letter that goes out
-pub record LetterReacts (act : Act) (letter : Letter) : Type 0 where
+pub record LetterReacts (act : NodeAct) (letter : Letter) : Type 0 where
   pub holds : (id : Id) (octets : List ℕ) → LetterHolds letter id octets → ComesFrom act id octets
   pub file : (id : Id) (users : List (List ℕ)) → IsFile letter id users → (content : Content) × (act.files ≡ Some content) × (content.id ≡ id) × (content.users ≡ users)
   pub filed : (id : Id) → letter.body ≡ Filed id
-      → (letter.from ≡ act.node) × ((users : List (List ℕ)) × Heard act (λ one. IsFile one id users) × Says act.after.disk (HasCopies users id))
+      → (letter.from ≡ act.node) × ((users : List (List ℕ)) × Heard act (λ one. IsFile one id users) × SaysFact act.after.disk (HasCopies users id))
   pub claims : (m : ℕ) (fact : Fact) → LetterClaims letter m fact → IsBacked act m fact
   pub speaks : (user : List ℕ) (id : Id) → LetterSpeaks letter user id → IsSpoken act user id
   pub fit : LetterFits letter
@@ -81,7 +81,7 @@ up_same : (a b : Node) → ◌≡◌ {A = Life} (Up a) (Up b) → a ≡ b
 up_same a b e = cc
 
 module _ (own : ℕ) (node : Node) (disk : List Record) (did : Reaction) (heard : Option Letter) (files : Option Content) (strikes : List (List ℕ × Id)) (updates : List Update) where
-  abbrev act : Act
+  abbrev act : NodeAct
   act = act_of own node disk did heard files strikes
 
   claims_of : (m : ℕ) (key : Key) (state : State) → Settled own (store_of node disk) key state m → LogClaims own (slot_up node disk) m (IsAtLeast key state)
@@ -113,7 +113,7 @@ module _ (own : ℕ) (node : Node) (disk : List Record) (did : Reaction) (heard 
       told = λ entry h. c.told entry (subst (λ (x : Node). fin.get x.log c.key ≡ Some entry) (up_same did.node c.node c.up) h);
     }
 
-    claimed : (m : ℕ) (fact : Fact) → SlotClaims own (slot_up did.node did.disk) m fact → IsBacked act m fact ⊎ IsConfirmed act m fact
+    claimed : (m : ℕ) (fact : Fact) → SlotClaims own (slot_up did.node did.disk) m fact → IsBacked act m fact ⊎ IsFactConfirmed act m fact
     claimed m fact (inl c) = t.claimed m fact c
     claimed m fact (inr (inl c)) = inl (backs m fact c.key c.state c.is (s.step.settled c.key c.state m (settled_of m fact c)))
     claimed m fact (inr (inr c)) = inl (⊎_elim
@@ -167,5 +167,5 @@ module _ (own : ℕ) (node : Node) (disk : List Record) (did : Reaction) (heard 
       waits = record { waits = t.waits };
     }
 
-    pub is_act : IsDone act
+    pub is_act : IsCallDone act
     is_act = record { is = acts; settles = record { settled = t.settled } }

@@ -15,24 +15,24 @@ use Rattle.mail_model.specs.Book.BookEntry.{Acknowledged}
 use Rattle.object_model.specs.Lists.{Among}
 use Rattle.object_model.specs.Sets.{has, with_node, without_node, one_node, count_in, all_nodes}
 use Rattle.object_model.specs.States.{is_same_state}
-use Rattle.object_model.specs.Letters.{Mark, Body, Letter}
+use Rattle.object_model.specs.Letters.{DeletionMark, Body, Letter}
 use Rattle.object_model.specs.Letters.Body.{File, Filed, Strike, StrikeTold, Retire}
 use Rattle.object_model.specs.UpdateLog.{Logged, cleared}
 use Rattle.object_model.specs.Mishaps.{Mishaps}
-use Rattle.cluster_model.specs.Cluster.{Filing, Asked, Want, Node, Slot, Cluster, slot_at, epoch_of}
-use Rattle.cluster_model.specs.Cluster.Asked.{Copies}
-use Rattle.cluster_model.specs.Claims.{Says, ShowsGone, DrawnAt, IsDrawn}
+use Rattle.cluster_model.specs.Cluster.{NodeFiling, AskedOfNodes, Want, Node, Slot, Cluster, slot_at, epoch_of}
+use Rattle.cluster_model.specs.Cluster.AskedOfNodes.{Copies}
+use Rattle.cluster_model.specs.Claims.{SaysFact, ShowsGone, DrawnAt, IsIdDrawn}
 use Rattle.cluster_model.specs.Claims.Fact.{HasCopies}
 use Rattle.cluster_model.specs.Moves.{IsReady}
-use Rattle.cluster_model.specs.Parts.{Holds, Sound}
+use Rattle.cluster_model.specs.Parts.{IsHeldSomewhere, Sound}
 use Rattle.cluster_model.specs.Store.{Store, Update, take_all, gone_updates}
 use Rattle.cluster_model.specs.Rules.{Reaction, answer, tells, told_want, failed_want, new_want, idle, receivers, letters_to, shrunk, acked_at, hear_ack, store_of}
 use Rattle.cluster_model.specs.Progress.{Ask}
 use Rattle.cluster_model.specs.Progress.Ask.{Pending, Done}
-use Rattle.cluster_model.specs.Progress.Answer.{Stored, Failed}
+use Rattle.cluster_model.specs.Progress.NodeAnswer.{Stored, Failed}
 use Rattle.cluster_model.specs.Thrown.{with_stamps}
-use Rattle.cluster_model.specs.Deeds.{slot_up, IsNumbered, hear_body, hear}
-use Rattle.cluster_model.specs.RuleLaws.{IsAsked, TargetsStand, StoredByCount}
+use Rattle.cluster_model.specs.Deeds.{slot_up, IsOfPlan, hear_body, hear}
+use Rattle.cluster_model.specs.RuleLaws.{IsNodeAsked, TargetsStand, StoredByCount}
 use Rattle.object_model.proofs.SetLaws.{has_left, has_right, has_one, one_has, has_with, left_in, still_in, has_none, all_has}
 use Rattle.object_model.proofs.StateLaws.{state_is}
 use Rattle.object_model.proofs.MapLaws.{key_total, key_exact, written}
@@ -43,25 +43,25 @@ use Rattle.cluster_model.proofs.HearCopies.{gone_fit, covers_gone}
 
 pub after_records : (own nodes : ℕ) (node : Node) (disk : List Record) (letter : Letter) (id : Id) (stamp : Stamp) (targets : ℕ) (users : List (List ℕ)) (octets : List ℕ)
     → letter.body ≡ File id stamp targets users octets
-    → ((hear own nodes node disk letter).out ≡ answer letter (Filed id) ∷ []) × Says (hear own nodes node disk letter).disk (HasCopies users id)
+    → ((hear own nodes node disk letter).out ≡ answer letter (Filed id) ∷ []) × SaysFact (hear own nodes node disk letter).disk (HasCopies users id)
 after_records own nodes node disk letter id stamp targets users octets is =
-    subst (λ b. ((hear_body own nodes (with_stamps letter.body node) disk letter b).out ≡ answer letter (Filed id) ∷ []) × Says (hear_body own nodes (with_stamps letter.body node) disk letter b).disk (HasCopies users id))
+    subst (λ b. ((hear_body own nodes (with_stamps letter.body node) disk letter b).out ≡ answer letter (Filed id) ∷ []) × SaysFact (hear_body own nodes (with_stamps letter.body node) disk letter b).disk (HasCopies users id))
     (sym is) (refl, all_copied own id stamp targets users octets (store_of (with_stamps letter.body node) disk))
 
-pub after_gone : (own nodes : ℕ) (node : Node) (disk : List Record) (letter : Letter) (user : List ℕ) (marks : List Mark)
-    → IsNumbered own nodes → IsReady own (slot_up node disk) (Some letter) → letter.body ≡ Strike user marks
+pub after_gone : (own nodes : ℕ) (node : Node) (disk : List Record) (letter : Letter) (user : List ℕ) (marks : List DeletionMark)
+    → IsOfPlan own nodes → IsReady own (slot_up node disk) (Some letter) → letter.body ≡ Strike user marks
     → ((hear own nodes node disk letter).out ≡ answer letter (StrikeTold user (map (λ mark. mark.id) marks)) ∷ [])
-    × ((mark : Mark) → Among mark marks → ShowsGone user mark.id (hear own nodes node disk letter).disk)
+    × ((mark : DeletionMark) → Among mark marks → ShowsGone user mark.id (hear own nodes node disk letter).disk)
 after_gone own nodes node disk letter user marks numbered ready is =
     subst (λ b. ((hear_body own nodes (with_stamps letter.body node) disk letter b).out ≡ answer letter (StrikeTold user (map (λ mark. mark.id) marks)) ∷ [])
-    × ((mark : Mark) → Among mark marks → ShowsGone user mark.id (hear_body own nodes (with_stamps letter.body node) disk letter b).disk))
+    × ((mark : DeletionMark) → Among mark marks → ShowsGone user mark.id (hear_body own nodes (with_stamps letter.body node) disk letter b).disk))
     (sym is) (
       refl,
       λ mark inside.
           let d = (took_all own updates (λ i o. ⊥) (λ k s n. ⊥) updates (λ v k. k) store).fits (gone_fit own user (all_nodes nodes) marks (all_has nodes own numbered.some numbered.within numbered.few)) (fits_of own node disk ready.fits) in
           covers_gone user mark.id mark.stamp (all_nodes nodes) (take_all own updates store).disk d.kind
           (all_cover own updates (λ i o. ⊥) (λ k s n. ⊥) updates (λ v k. k) store (record { key = Message user mark.id; state = record { value = Gone; stamp = mark.stamp; targets = all_nodes nodes } })
-          (map_among (λ (one : Mark). record { key = Message user one.id; state = record { value = Gone; stamp = one.stamp; targets = all_nodes nodes } }) mark marks inside)),
+          (map_among (λ (one : DeletionMark). record { key = Message user one.id; state = record { value = Gone; stamp = one.stamp; targets = all_nodes nodes } }) mark marks inside)),
     )
   where
     updates : List Update
@@ -107,7 +107,7 @@ bounded mask (suc k) h = (k, refl, small (and_parts (nat_lt k 64) (nat_eq (bit_a
     small : nat_lt k 64 ≡ true → k ≤ 63
     small e = let lt : k < 64 = grind (arith, nat_tests) in omega (arith, lt)
 
-pub asked_told : (body : Body) (from : ℕ) (want : Want) (m : ℕ) → IsAsked want m → IsAsked (told_want body from want) m
+pub asked_told : (body : Body) (from : ℕ) (want : Want) (m : ℕ) → IsNodeAsked want m → IsNodeAsked (told_want body from want) m
 asked_told body from want m asked = by (tells body want.asked && (has want.waiting from || has want.failed from)) refl
   where
     said : Want
@@ -116,7 +116,7 @@ asked_told body from want m asked = by (tells body want.asked && (has want.waiti
     now : (mask : ℕ) → has mask from ≡ true → has (with_node want.confirmed from) from ≡ true
     now mask h = let b = bounded mask from h in with_self want.confirmed from b.0 b.1 b.2
 
-    by : (b : Bool) → (tells body want.asked && (has want.waiting from || has want.failed from)) ≡ b → IsAsked (if b then said else want) m
+    by : (b : Bool) → (tells body want.asked && (has want.waiting from || has want.failed from)) ≡ b → IsNodeAsked (if b then said else want) m
     by true e = ⊎_elim
         (λ c. inl (has_left want.confirmed (one_node from) m c))
         (λ other. ⊎_elim
@@ -126,10 +126,10 @@ asked_told body from want m asked = by (tells body want.asked && (has want.waiti
         asked
     by false e = asked
 
-pub asked_failed : (at : ℕ) (want : Want) (m : ℕ) → IsAsked want m → IsAsked (failed_want at want) m
+pub asked_failed : (at : ℕ) (want : Want) (m : ℕ) → IsNodeAsked want m → IsNodeAsked (failed_want at want) m
 asked_failed at want m asked = by (has want.waiting at) refl
   where
-    by : (b : Bool) → has want.waiting at ≡ b → IsAsked (if b then record want { waiting = without_node want.waiting at; failed = with_node want.failed at } else want) m
+    by : (b : Bool) → has want.waiting at ≡ b → IsNodeAsked (if b then record want { waiting = without_node want.waiting at; failed = with_node want.failed at } else want) m
     by true e = ⊎_elim
         (λ c. inl c)
         (λ other. ⊎_elim
@@ -156,7 +156,7 @@ stays_failed at want m h = by (has want.waiting at)
     by true = h
     by false = h
 
-pub begins_asked : (own : ℕ) (asked : Asked) (targets m : ℕ) → has targets m ≡ true → IsAsked (new_want own asked targets) m
+pub begins_asked : (own : ℕ) (asked : AskedOfNodes) (targets m : ℕ) → has targets m ≡ true → IsNodeAsked (new_want own asked targets) m
 begins_asked own asked targets m h = ⊎_elim
     (λ is. let t : has targets own ≡ true = subst (λ n. has targets n ≡ true) is h in
     let b = bounded targets own t in
@@ -164,7 +164,7 @@ begins_asked own asked targets m h = ⊎_elim
     (λ apart. inr (inl (still_in targets own m h apart)))
     (cases_eq m own)
 
-only_begins : (own : ℕ) (asked : Asked) (targets m : ℕ) → IsAsked (new_want own asked targets) m → has targets m ≡ true
+only_begins : (own : ℕ) (asked : AskedOfNodes) (targets m : ℕ) → IsNodeAsked (new_want own asked targets) m → has targets m ≡ true
 only_begins own asked targets m a = ⊎_elim
     (λ c. by (has targets own) refl c)
     (λ other. ⊎_elim (λ w. (left_in targets own m w).0) (λ f. absurd (true≢false (sym f ∙ has_none m))) other)
@@ -174,30 +174,30 @@ only_begins own asked targets m a = ⊎_elim
     by true e h = subst (λ n. has targets n ≡ true) (sym (has_one own m h)) e
     by false e h = absurd (true≢false (sym h ∙ has_none m))
 
-only_told : (body : Body) (from : ℕ) (want : Want) (m : ℕ) → IsAsked (told_want body from want) m → IsAsked want m
+only_told : (body : Body) (from : ℕ) (want : Want) (m : ℕ) → IsNodeAsked (told_want body from want) m → IsNodeAsked want m
 only_told body from want m a = by (tells body want.asked && (has want.waiting from || has want.failed from)) refl a
   where
     said : Want
     said = record want { confirmed = with_node want.confirmed from; waiting = without_node want.waiting from; failed = without_node want.failed from }
 
-    sender : (w f : Bool) → has want.waiting from ≡ w → has want.failed from ≡ f → (w || f) ≡ true → IsAsked want from
+    sender : (w f : Bool) → has want.waiting from ≡ w → has want.failed from ≡ f → (w || f) ≡ true → IsNodeAsked want from
     sender true f p q e = inr (inl p)
     sender false true p q e = inr (inr q)
     sender false false p q e = absurd (true≢false (sym e))
 
-    by : (b : Bool) → (tells body want.asked && (has want.waiting from || has want.failed from)) ≡ b → IsAsked (if b then said else want) m → IsAsked want m
+    by : (b : Bool) → (tells body want.asked && (has want.waiting from || has want.failed from)) ≡ b → IsNodeAsked (if b then said else want) m → IsNodeAsked want m
     by true e g = ⊎_elim
         (λ c. ⊎_elim (λ old. inl old)
-        (λ is. subst (IsAsked want) (sym is) (sender (has want.waiting from) (has want.failed from) refl refl (and_parts (tells body want.asked) (has want.waiting from || has want.failed from) e).1))
+        (λ is. subst (IsNodeAsked want) (sym is) (sender (has want.waiting from) (has want.failed from) refl refl (and_parts (tells body want.asked) (has want.waiting from || has want.failed from) e).1))
         (has_with want.confirmed from m c))
         (λ other. ⊎_elim (λ w. inr (inl (left_in want.waiting from m w).0)) (λ f. inr (inr (left_in want.failed from m f).0)) other)
         g
     by false e g = g
 
-only_failed : (at : ℕ) (want : Want) (m : ℕ) → IsAsked (failed_want at want) m → IsAsked want m
+only_failed : (at : ℕ) (want : Want) (m : ℕ) → IsNodeAsked (failed_want at want) m → IsNodeAsked want m
 only_failed at want m a = by (has want.waiting at) refl a
   where
-    by : (b : Bool) → has want.waiting at ≡ b → IsAsked (if b then record want { waiting = without_node want.waiting at; failed = with_node want.failed at } else want) m → IsAsked want m
+    by : (b : Bool) → has want.waiting at ≡ b → IsNodeAsked (if b then record want { waiting = without_node want.waiting at; failed = with_node want.failed at } else want) m → IsNodeAsked want m
     by true e g = ⊎_elim
         (λ c. inl c)
         (λ other. ⊎_elim
@@ -206,7 +206,7 @@ only_failed at want m a = by (has want.waiting at) refl a
         g
     by false e g = g
 
-pub targets_stand : (own : ℕ) (asked : Asked) (targets : ℕ) (want : Want) (body : Body) (from at : ℕ) → TargetsStand own asked targets want body from at
+pub targets_stand : (own : ℕ) (asked : AskedOfNodes) (targets : ℕ) (want : Want) (body : Body) (from at : ℕ) → TargetsStand own asked targets want body from at
 targets_stand own asked targets want body from at = record {
   begins = λ m h. begins_asked own asked targets m h;
   told = λ m h. asked_told body from want m h;
@@ -219,7 +219,7 @@ targets_stand own asked targets want body from at = record {
 }
 
 -- an ask of a delivery goes by count
-pub stored_at : (confirm : ℕ) (mishaps : Mishaps) (filing : Filing) (want : Want) → want.asked ≡ Copies filing → StoredByCount confirm mishaps filing want
+pub stored_at : (confirm : ℕ) (mishaps : Mishaps) (filing : NodeFiling) (want : Want) → want.asked ≡ Copies filing → StoredByCount confirm mishaps filing want
 stored_at confirm mishaps filing want is = subst (λ a. StoredByCount confirm mishaps filing (record want { asked = a })) (sym is) (record {
   stored = λ enough. ap (λ b. when b (nat_le confirm (count_in (bit_or want.confirmed want.waiting)))) (le_true enough);
   failed = λ few left. ap (λ b. when b (nat_le confirm (count_in (bit_or want.confirmed want.waiting)))) (lt_false few) ∙ ap (when false) (lt_false left);
@@ -284,10 +284,10 @@ leaves_at_last own nodes node disk key state from entry here gone = at (subst (�
 -- the next id of a node is new
 pub ids_new : (confirm : ℕ) (w : Cluster) → Sound confirm w → (own : ℕ) (node : Node) (disk : List Record) → slot_at w.slots own ≡ Some (slot_up node disk)
     → (id : Id) → (record { node = own; boot = node.boot; seq = node.drawn + 1 }) ≡ id
-    → ((octets : List ℕ) → Holds w.slots w.flying id octets → ⊥) × ((copy : Acked) → Among (Acknowledged copy) w.book → copy.id ≢ id)
+    → ((octets : List ℕ) → IsHeldSomewhere w.slots w.flying id octets → ⊥) × ((copy : Acked) → Among (Acknowledged copy) w.book → copy.id ≢ id)
 ids_new confirm w sound own node disk here id is = (
-  λ octets h. not_drawn (subst (λ (i : Id). IsDrawn w.slots i) (sym is) (sound.contents.held_drawn id octets h)),
-  λ copy m same. not_drawn (subst (λ (i : Id). IsDrawn w.slots i) (same ∙ sym is) (sound.contents.acked_drawn copy m)),
+  λ octets h. not_drawn (subst (λ (i : Id). IsIdDrawn w.slots i) (sym is) (sound.contents.held_drawn id octets h)),
+  λ copy m same. not_drawn (subst (λ (i : Id). IsIdDrawn w.slots i) (same ∙ sym is) (sound.contents.acked_drawn copy m)),
 )
   where
     next : Id
@@ -296,6 +296,6 @@ ids_new confirm w sound own node disk here id is = (
     same_slot : (o : Option Slot) (a b : Slot) → o ≡ Some a → o ≡ Some b → a ≡ b
     same_slot o a b p q = cc
 
-    not_drawn : IsDrawn w.slots (record { node = own; boot = node.boot; seq = node.drawn + 1 }) → ⊥
+    not_drawn : IsIdDrawn w.slots (record { node = own; boot = node.boot; seq = node.drawn + 1 }) → ⊥
     not_drawn d = ⊎_elim (λ below. omega (arith, below)) (λ (same, le). omega (arith, le))
         (subst (λ (s : Slot). DrawnAt s (record { node = own; boot = node.boot; seq = node.drawn + 1 })) (same_slot (slot_at w.slots own) d.slot (slot_up node disk) d.here here) d.drawn)

@@ -9,22 +9,22 @@ use Rattle.object_model.specs.Letters.{Number}
 use Rattle.object_model.specs.Mishaps.MishapKind.{Dropped}
 use Rattle.cluster_model.specs.Cluster.{Node, Life, Cluster, slot_at, with_slot}
 use Rattle.cluster_model.specs.Cluster.Life.{Down, Lost}
-use Rattle.cluster_model.specs.Moves.{Act, IsReady, IsAct, Move, MayMoves, after_move, after_moves}
+use Rattle.cluster_model.specs.Moves.{NodeAct, IsReady, IsAct, Move, MayMoves, after_move, after_moves}
 use Rattle.cluster_model.specs.Moves.Move.{Acted, Taken, Entered}
-use Rattle.cluster_model.specs.Parts.{Holds, Sound}
+use Rattle.cluster_model.specs.Parts.{IsHeldSomewhere, Sound}
 use Rattle.cluster_model.specs.Rules.{push, widen, end_ticket}
 use Rattle.cluster_model.specs.Starts.{StopsStart}
 use Rattle.cluster_model.specs.Progress.{ask_of}
 use Rattle.cluster_model.specs.Progress.Ask.{Done}
-use Rattle.cluster_model.specs.Deeds.{slot_up, hear, drop_act, start_act, stop_act, IsNumbered}
+use Rattle.cluster_model.specs.Deeds.{slot_up, hear, drop_act, start_act, stop_act, IsOfPlan}
 use Rattle.cluster_model.specs.Room.{keys_pushed}
 use Rattle.cluster_model.specs.World.{World, Leads, letters_of, cluster_of}
-use Rattle.cluster_model.specs.Steps.{Step, Said, Outcome}
+use Rattle.cluster_model.specs.Steps.{Step, Said, StepOutcome}
 use Rattle.cluster_model.specs.Steps.Step.{Begin, AskFor, GiveUp, Post, DropLetter, PushTo, Widen, Crash, Start, Lose, Tick}
-use Rattle.cluster_model.specs.Steps.Outcome.{Says, Refused, NoMemory}
-use Rattle.cluster_model.specs.Makes.{IsUp, GoesDown, Begins, Answers, Pushes, Widens, StartsUp, Falls, Does, RunsShort, Made, Makes, MakesAll}
-use Rattle.cluster_model.specs.Makes.Begins.{FailsAtOnce, Goes, FailsInIt}
-use Rattle.cluster_model.specs.Makes.Answers.{Waits, Ends}
+use Rattle.cluster_model.specs.Steps.StepOutcome.{Says, Refused, NoMemory}
+use Rattle.cluster_model.specs.Makes.{IsUp, NodeGoesDown, BeginsCall, AnswersAsk, Pushes, Widens, StartsUp, NodeFalls, DoesStep, RunsShort, MadeStep, MakesStep, MakesAll}
+use Rattle.cluster_model.specs.Makes.BeginsCall.{FailsAtOnce, Goes, FailsInIt}
+use Rattle.cluster_model.specs.Makes.AnswersAsk.{Waits, Ends}
 use Rattle.cluster_model.specs.Makes.Pushes.{Sends, FailsPushing}
 use Rattle.cluster_model.specs.Makes.Widens.{Adds, FailsWidening}
 use Rattle.cluster_model.specs.Makes.StartsUp.{Comes, FailsStarting}
@@ -45,7 +45,7 @@ use Rattle.cluster_model.proofs.Posting.{posts_lead, failing_leads}
 in_plan : (nodes confirm : ℕ) (moves : List Move) (c : Cluster) → MayMoves confirm moves c → InPlan nodes c.slots → InPlan nodes (after_moves moves c).slots
 in_plan nodes confirm [] c may p = p
 in_plan nodes confirm (Acted act ∷ moves) c may p = in_plan nodes confirm moves (after_move (Acted act) c) may.1 (λ n slot at. ⊎_elim
-    (λ new. subst (λ k. IsNumbered k nodes) (sym new.0) (p act.node act.before may.0.0))
+    (λ new. subst (λ k. IsOfPlan k nodes) (sym new.0) (p act.node act.before may.0.0))
     (λ old. p n slot old)
     (read_after c.slots act.node n act.before act.after slot may.0.0 at))
 in_plan nodes confirm (Taken letter left ∷ moves) c may p = in_plan nodes confirm moves (after_move (Taken letter left) c) may.1 p
@@ -60,13 +60,13 @@ module _ (confirm : ℕ) (May : Id → List ℕ → Type 0) (old : World) where
   To new = Leads confirm May (cluster_of old) (cluster_of new)
 
   -- an act that sends nothing, and then the book has that the node is down
-  goes_down : (act : Act) → act.out ≡ [] → act.heard ≡ None → act.files ≡ None → act.strikes ≡ [] → slot_at old.slots act.node ≡ Some act.before → (IsReady act.node act.before None → IsAct act)
+  goes_down : (act : NodeAct) → act.out ≡ [] → act.heard ≡ None → act.files ≡ None → act.strikes ≡ [] → slot_at old.slots act.node ≡ Some act.before → (IsReady act.node act.before None → IsAct act)
       → To (record old { slots = with_slot old.slots act.node act.after; book = old.book ++ WentDown act.node ∷ [] })
   goes_down act a b c d here acts = led_on confirm May (cluster_of old) (cluster_of (record old { slots = with_slot old.slots act.node act.after })) _
       (quiet_leads confirm May old act a b c d here acts)
       (books_down confirm May (cluster_of (record old { slots = with_slot old.slots act.node act.after })) act.node)
 
-  answers_lead : (plan : Plan) → plan.confirm ≡ confirm → (number : Number) (said : Said) (new : World) → Answers plan old number said new → To new
+  answers_lead : (plan : Plan) → plan.confirm ≡ confirm → (number : Number) (said : Said) (new : World) → AnswersAsk plan old number said new → To new
   answers_lead plan same number said new (Waits node disk ticket up found got wanted e is new_world) = no_move confirm May (cluster_of old) (cluster_of new) (ap cluster_of new_world)
   answers_lead plan same number said new (Ends node disk ticket up found answer e is new_world) = subst To (sym new_world)
       (ends_lead confirm May old number node disk ticket answer up found (subst (λ f. ask_of f ticket ≡ Done answer) same e))
@@ -80,7 +80,7 @@ module _ (confirm : ℕ) (May : Id → List ℕ → Type 0) (old : World) where
       (λ ready. push_acts own node disk ready to (keys_pushed old.flying own to node disk)) (λ letter e. absurd (cc e)) (λ user id m. absurd m) (λ content e. absurd (cc e))
       (record { front = []; pending = []; cut = record { missing = []; is = behind_nothing disk }; is = new_world })
 
-  widening_leads : (own to : ℕ) (key : Key) (node : Node) (disk : List Record) (new : World) → IsUp old own node disk → GoesDown old own disk (widen own to key node disk).disk new → To new
+  widening_leads : (own to : ℕ) (key : Key) (node : Node) (disk : List Record) (new : World) → IsUp old own node disk → NodeGoesDown old own disk (widen own to key node disk).disk new → To new
   widening_leads own to key node disk new up g = down_leads confirm May old new own node disk (widen own to key node disk) None None [] up
       (λ ready. widen_acts own node disk ready to key) (λ letter e. absurd (cc e)) (λ user id m. absurd m) (λ content e. absurd (cc e)) g
 
@@ -99,15 +99,15 @@ module _ (confirm : ℕ) (May : Id → List ℕ → Type 0) (old : World) where
       (quiet_leads confirm May old (start_act n disk pending node records) refl refl refl refl here (λ ready. start_acts n plan.nodes disk pending records node starts ready))
   starts_lead plan n said new (FailsStarting disk pending next records here stops is new_world) = stops_lead n disk pending next records new here stops new_world
 
-  falls_lead : (n : ℕ) (life : Life) (said : Said) (new : World) → (life ≡ Down []) ⊎ (life ≡ Lost) → Falls old n life said new → To new
+  falls_lead : (n : ℕ) (life : Life) (said : Said) (new : World) → (life ≡ Down []) ⊎ (life ≡ Lost) → NodeFalls old n life said new → To new
   falls_lead n life said new ends f = subst To (sym f.new_world)
       (goes_down (drop_act n f.slot life) refl refl refl refl f.here (λ ready. drop_acts n f.slot life f.was ends ready))
 
 module _ (plan : Plan) (old new : World) (p : InPlan plan.nodes old.slots) (s : Sound plan.confirm (cluster_of old)) where
-  does_lead : (step : Step) (said : Said) → Does plan old step said new → Leads plan.confirm (MayBring old step) (cluster_of old) (cluster_of new)
+  does_lead : (step : Step) (said : Said) → DoesStep plan old step said new → Leads plan.confirm (MayBring old step) (cluster_of old) (cluster_of new)
   does_lead (Begin node call) said d = begins_lead plan old node (numbered d) call said new d
     where
-      numbered : Begins plan old node call said new → IsNumbered node plan.nodes
+      numbered : BeginsCall plan old node call said new → IsOfPlan node plan.nodes
       numbered (FailsAtOnce own disk up fails is e) = p node (slot_up own disk) up
       numbered (Goes own disk octets up fails filed is e) = p node (slot_up own disk) up
       numbered (FailsInIt own disk octets up filed is g) = p node (slot_up own disk) up
@@ -128,19 +128,19 @@ module _ (plan : Plan) (old new : World) (p : InPlan plan.nodes old.slots) (s : 
   short_leads step n (Beginning call node disk octets is up filed g) = subst (λ (st : Step). Leads plan.confirm (MayBring old st) (cluster_of old) (cluster_of new)) (sym is)
       (fails_lead plan old n (p n (slot_up node disk) up) call node disk octets new up filed g)
   short_leads step n (Hearing number keep flies node disk is at up g) = subst (λ (st : Step). Leads plan.confirm (MayBring old st) (cluster_of old) (cluster_of new)) (sym is)
-      (failing_leads plan (λ id o. ⊥) old p s number flies node disk (subst (λ k. IsUp old k node disk) (sym at) up) new (subst (λ k. GoesDown old k disk (hear k plan.nodes node disk flies.letter).disk new) (sym at) g))
+      (failing_leads plan (λ id o. ⊥) old p s number flies node disk (subst (λ k. IsUp old k node disk) (sym at) up) new (subst (λ k. NodeGoesDown old k disk (hear k plan.nodes node disk flies.letter).disk new) (sym at) g))
   short_leads step n (Widening user id to node disk is up g) = subst (λ (st : Step). Leads plan.confirm (MayBring old st) (cluster_of old) (cluster_of new)) (sym is)
       (widening_leads plan.confirm (λ id o. ⊥) old n to (Message user id) node disk new up g)
   short_leads step n (Starting disk pending next records is here stops new_world) = subst (λ (st : Step). Leads plan.confirm (MayBring old st) (cluster_of old) (cluster_of new)) (sym is)
       (stops_lead plan.confirm (λ id o. ⊥) old n disk pending next records new here stops new_world)
 
-  pub leads : (step : Step) (outcome : Outcome) → Makes plan old step outcome new → Leads plan.confirm (MayBring old step) (cluster_of old) (cluster_of new)
+  pub leads : (step : Step) (outcome : StepOutcome) → MakesStep plan old step outcome new → Leads plan.confirm (MayBring old step) (cluster_of old) (cluster_of new)
   leads step (Says said) m = does_lead step said m.1
   leads step (Refused fault) m = no_move plan.confirm (MayBring old step) (cluster_of old) (cluster_of new) (ap cluster_of m.1)
   leads step (NoMemory None) m = no_move plan.confirm (MayBring old step) (cluster_of old) (cluster_of new) (ap cluster_of m)
   leads step (NoMemory (Some n)) m = short_leads step n m
 
-pub steps_sound : (plan : Plan) (old new : World) (steps : List Made) → MakesAll plan old steps new → InPlan plan.nodes old.slots → Sound plan.confirm (cluster_of old)
+pub steps_sound : (plan : Plan) (old new : World) (steps : List MadeStep) → MakesAll plan old steps new → InPlan plan.nodes old.slots → Sound plan.confirm (cluster_of old)
     → InPlan plan.nodes new.slots × Sound plan.confirm (cluster_of new)
 steps_sound plan old new [] is p s = (subst (λ (w : World). InPlan plan.nodes w.slots) (sym is) p, subst (λ (w : World). Sound plan.confirm (cluster_of w)) (sym is) s)
 steps_sound plan old new (made ∷ steps) (mid, first, others) p s =
@@ -149,6 +149,6 @@ steps_sound plan old new (made ∷ steps) (mid, first, others) p s =
     (subst (λ (c : Cluster). InPlan plan.nodes c.slots) (sym l.is) (in_plan plan.nodes plan.confirm l.moves (cluster_of old) l.may p))
     (subst (Sound plan.confirm) (sym l.is) (all_kept plan.confirm (cluster_of old) l.moves l.may s))
 
-pub steps_bring : (plan : Plan) (old new : World) (step : Step) (outcome : Outcome) → Makes plan old step outcome new → InPlan plan.nodes old.slots → Sound plan.confirm (cluster_of old) → (id : Id) (octets : List ℕ)
-    → Holds new.slots (letters_of new.flying) id octets → Holds old.slots (letters_of old.flying) id octets ⊎ MayBring old step id octets
+pub steps_bring : (plan : Plan) (old new : World) (step : Step) (outcome : StepOutcome) → MakesStep plan old step outcome new → InPlan plan.nodes old.slots → Sound plan.confirm (cluster_of old) → (id : Id) (octets : List ℕ)
+    → IsHeldSomewhere new.slots (letters_of new.flying) id octets → IsHeldSomewhere old.slots (letters_of old.flying) id octets ⊎ MayBring old step id octets
 steps_bring plan old new step outcome made p s = (leads plan old new p s step outcome made).brings s

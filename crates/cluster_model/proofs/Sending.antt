@@ -9,11 +9,11 @@ use Rattle.object_model.specs.Lists.{Among}
 use Rattle.object_model.specs.Sets.{has}
 use Rattle.object_model.specs.Keys.{is_same_epoch}
 use Rattle.object_model.specs.States.{is_same_state}
-use Rattle.object_model.specs.Letters.{Number, Mark, Membership, Body, Letter}
+use Rattle.object_model.specs.Letters.{Number, DeletionMark, Membership, Body, Letter}
 use Rattle.object_model.specs.Letters.Body.{File, Filed, Strike, StrikeTold, Push, PushAck, Retire}
 use Rattle.object_model.specs.UpdateLog.{Logged, cleared}
 use Rattle.cluster_model.specs.Cluster.{Ticket, Node, epoch_in, epoch_of}
-use Rattle.cluster_model.specs.Rules.{Reaction, Item, answer, idle, receivers, letters_to, shrunk, acked_at, retired_at, told_at, ticket_at, marks_for, strike_to, strikes_to, dated, new_number, begin_deliver, begin_strike}
+use Rattle.cluster_model.specs.Rules.{Reaction, StrikeItem, answer, idle, receivers, letters_to, shrunk, acked_at, retired_at, told_at, ticket_at, marks_for, strike_to, strikes_to, dated, new_number, begin_deliver, begin_strike}
 use Rattle.cluster_model.specs.Thrown.{has_epoch, is_stale, is_late, thrown_by, with_stamps}
 use Rattle.cluster_model.specs.Thrown.Why.{Stale, Late}
 use Rattle.cluster_model.specs.Deeds.{hear_body, hear}
@@ -147,8 +147,8 @@ letters_rise own mask (suc k) epoch ticket body = by (letters_rise own mask k ep
         rest (λ l m. letters_within own mask k epoch ticket body l m) (omega arith) refl)
     by rest false = subst (IsRising 0) (sym (letters_both own epoch ticket (receivers own mask k) [] body)) (subst (IsRising 0) (sym (nothing_behind (letters_to own epoch ticket (receivers own mask k) body))) rest)
 
-module _ (own : ℕ) (epoch : EpochId) (number : Number) (user : List ℕ) (items : List Item) where
-  strike_has : (m : ℕ) (marks : List Mark) (l : Letter) → Among l (strike_to own epoch number user m marks) → m ≡ l.to
+module _ (own : ℕ) (epoch : EpochId) (number : Number) (user : List ℕ) (items : List StrikeItem) where
+  strike_has : (m : ℕ) (marks : List DeletionMark) (l : Letter) → Among l (strike_to own epoch number user m marks) → m ≡ l.to
   strike_has m [] l inside = absurd inside
   strike_has m (mark ∷ marks) l inside = ⊎_elim (λ is. ap (λ (x : Letter). x.to) is) (λ none. absurd none) inside
 
@@ -169,7 +169,7 @@ module _ (own : ℕ) (epoch : EpochId) (number : Number) (user : List ℕ) (item
   strikes_rise zero = tt
   strikes_rise (suc k) = by (strikes_rise k) (nat_eq (suc k) own) (marks_for (suc k) items)
     where
-      by : IsRising 0 (strikes_to own epoch number user items k) → (b : Bool) (marks : List Mark) → IsRising 0 (strikes_to own epoch number user items k ++ (if b then [] else strike_to own epoch number user (suc k) marks))
+      by : IsRising 0 (strikes_to own epoch number user items k) → (b : Bool) (marks : List DeletionMark) → IsRising 0 (strikes_to own epoch number user items k ++ (if b then [] else strike_to own epoch number user (suc k) marks))
       by rest true marks = subst (IsRising 0) (sym (nothing_behind (strikes_to own epoch number user items k))) rest
       by rest false [] = subst (IsRising 0) (sym (nothing_behind (strikes_to own epoch number user items k))) rest
       by rest false (mark ∷ marks) = rising_more 0 k (strikes_to own epoch number user items k) (record { from = own; to = suc k; epoch = epoch; ticket = Some number; body = Strike user (mark ∷ marks) })

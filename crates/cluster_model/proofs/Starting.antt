@@ -9,7 +9,7 @@ use Rattle.cluster_model.specs.Cluster.{Node, Life, Slot}
 use Rattle.cluster_model.specs.Cluster.Life.{Up, Down}
 use Rattle.cluster_model.specs.Claims.{TicketClaims, LogClaims, DiskClaims, DiskSpeaks, TicketSpeaks, boot_of}
 use Rattle.cluster_model.specs.Moves.{IsReady, IsAct}
-use Rattle.cluster_model.specs.Starts.{Starts, StopsStart, IsRecovered}
+use Rattle.cluster_model.specs.Starts.{StartsNode, StopsStart, IsRecovered}
 use Rattle.object_model.proofs.Lists.{among_front, among_behind, among_either}
 use Rattle.cluster_model.proofs.StoreSteps.{boot_both}
 use Rattle.cluster_model.specs.Deeds.{slot_up, start_act, stop_act}
@@ -25,7 +25,7 @@ record Restarts (own : ℕ) (disk pending : List Record) (node : Node) (new : Li
   tickets : node.tickets ≡ fin.empty
   log : IsRecovered own node.log new
 
-restarts : (own nodes : ℕ) (disk pending new : List Record) (node : Node) → Starts own nodes disk pending node new → Restarts own disk pending node new
+restarts : (own nodes : ℕ) (disk pending new : List Record) (node : Node) → StartsNode own nodes disk pending node new → Restarts own disk pending node new
 restarts own nodes disk pending new node s =
     let boot : node.boot ≡ boot_of (disk ++ s.kept) + 1 = ap (λ (x : Node). x.boot) s.is in
     record {
@@ -154,7 +154,7 @@ module _ (n : ℕ) (disk pending new : List Record) (node : Node) (starts : Rest
         boot_retires : {one : Record} {a : Key} {x : State} → Boot node.boot ≡ one → one ≡ Retired a x → ⊥
         boot_retires p q = cc
 
-pub start_acts : (n nodes : ℕ) (disk pending new : List Record) (node : Node) → Starts n nodes disk pending node new → IsReady n (record { life = Down pending; disk = disk }) None
+pub start_acts : (n nodes : ℕ) (disk pending new : List Record) (node : Node) → StartsNode n nodes disk pending node new → IsReady n (record { life = Down pending; disk = disk }) None
     → IsAct (start_act n disk pending node new)
 start_acts n nodes disk pending new node starts ready = restart_acts n disk pending new node (restarts n nodes disk pending new node starts) ready
 

@@ -8,15 +8,15 @@ use Rattle.mail_model.specs.Book.BookEntry.{Struck, WentDown}
 use Rattle.object_model.specs.Lists.{Among}
 use Rattle.object_model.specs.Letters.{Number, Letter}
 use Rattle.object_model.specs.Mishaps.{MishapKind}
-use Rattle.cluster_model.specs.Cluster.{Asked, Node, Slot, Cluster, slot_at, with_slot}
+use Rattle.cluster_model.specs.Cluster.{AskedOfNodes, Node, Slot, Cluster, slot_at, with_slot}
 use Rattle.cluster_model.specs.Cluster.Life.{Down}
 use Rattle.cluster_model.specs.Claims.{LifeWaits, NodesWait, Covers, Covered}
-use Rattle.cluster_model.specs.Moves.{Content, Act, IsReady, IsAct, IsDone, MayEnter}
+use Rattle.cluster_model.specs.Moves.{Content, NodeAct, IsReady, IsAct, IsCallDone, MayEnter}
 use Rattle.cluster_model.specs.Rules.{Reaction}
 use Rattle.cluster_model.specs.Deeds.{slot_up, act_of, cut_act}
 use Rattle.cluster_model.specs.Room.{Flight, has_room}
 use Rattle.cluster_model.specs.World.{World, Leads, letters_of, cluster_of, missed, put, Flies, flies_on}
-use Rattle.cluster_model.specs.Makes.{after, lost_letter, IsCut, GoesDown, cut_world}
+use Rattle.cluster_model.specs.Makes.{after, lost_letter, IsWorkCut, NodeGoesDown, cut_world}
 use Rattle.object_model.proofs.Lists.{among_behind, same_some}
 use Rattle.cluster_model.proofs.Slots.{at_same}
 use Rattle.cluster_model.proofs.Lives.{cut_acts}
@@ -57,7 +57,7 @@ same_rest (x ∷ xs) ys zs e = same_rest xs ys zs (tails e)
 module _ (confirm : ℕ) (May : Id → List ℕ → Type 0) where
   -- a node that hears nothing acts, and what it sends is put in flight
   pub unheard_leads : (w : World) (own : ℕ) (node : Node) (disk : List Record) (did : Reaction) (files : Option Content) (strikes : List (List ℕ × Id)) → slot_at w.slots own ≡ Some (slot_up node disk)
-      → (IsReady own (slot_up node disk) None → IsDone (act_of own node disk did None files strikes))
+      → (IsReady own (slot_up node disk) None → IsCallDone (act_of own node disk did None files strikes))
       → ((user : List ℕ) (id : Id) → Among (user, id) strikes → Among (Struck user id) w.book)
       → ((content : Content) → files ≡ Some content → May content.id content.octets)
       → Leads confirm May (cluster_of w) (cluster_of (after w own did))
@@ -66,7 +66,7 @@ module _ (confirm : ℕ) (May : Id → List ℕ → Type 0) where
       (put_leads confirm May has_room did.out (record w { slots = with_slot w.slots own (slot_up did.node did.disk) }))
 
   -- an act that hears and sends nothing
-  pub quiet_leads : (w : World) (act : Act) → act.out ≡ [] → act.heard ≡ None → act.files ≡ None → act.strikes ≡ [] → slot_at w.slots act.node ≡ Some act.before
+  pub quiet_leads : (w : World) (act : NodeAct) → act.out ≡ [] → act.heard ≡ None → act.files ≡ None → act.strikes ≡ [] → slot_at w.slots act.node ≡ Some act.before
       → (IsReady act.node act.before None → IsAct act) → Leads confirm May (cluster_of w) (cluster_of (record w { slots = with_slot w.slots act.node act.after }))
   quiet_leads w act none_out none_heard no_files no_strikes here acts = led_on confirm May (cluster_of w) (record now { flying = letters_of w.flying ++ act.out }) now
       (acted_leads confirm May (cluster_of w) act here (λ ready. acts (subst (IsReady act.node act.before) none_heard ready))
@@ -98,7 +98,7 @@ module _ (confirm : ℕ) (May : Id → List ℕ → Type 0) where
 
   -- a letter that nobody waits for any more is taken out, where it is not kept
   pub letter_idle : (w : World) (number : ℕ) (flies : Flies w number) (keep : Bool)
-      → ((n : Number) (m : ℕ) (asked : Asked) → Covers flies.letter n m asked → NodesWait w.slots n m asked → ⊥)
+      → ((n : Number) (m : ℕ) (asked : AskedOfNodes) → Covers flies.letter n m asked → NodesWait w.slots n m asked → ⊥)
       → Leads confirm May (cluster_of w) (cluster_of (record w { flying = flies_on w number flies keep }))
   letter_idle w number flies true nobody = no_move confirm May (cluster_of w) (cluster_of w) refl
   letter_idle w number flies false nobody = subst (λ (f : List Letter). Leads confirm May (cluster_of w) (record { slots = w.slots; flying = f; book = w.book }))
@@ -107,7 +107,7 @@ module _ (confirm : ℕ) (May : Id → List ℕ → Type 0) where
 
   -- a letter is heard, and what its receiver sends is put in flight
   module _ (w : World) (number : ℕ) (flies : Flies w number) (node : Node) (disk : List Record) (did : Reaction) (here : slot_at w.slots flies.letter.to ≡ Some (slot_up node disk))
-      (done : IsDone (act_of flies.letter.to node disk did (Some flies.letter) None [])) where
+      (done : IsCallDone (act_of flies.letter.to node disk did (Some flies.letter) None [])) where
     abbrev letter : Letter
     letter = flies.letter
 
@@ -127,7 +127,7 @@ module _ (confirm : ℕ) (May : Id → List ℕ → Type 0) where
     around = ap (λ (f : List Letter). f ++ did.out) (letters_around w number flies) ∙ assoc (letters_of flies.front) (letter ∷ letters_of flies.back) did.out
 
     -- the letter was answered, or its ticket waits for it no more
-    missed_by_none : (n : Number) (m : ℕ) (asked : Asked) → Covers letter n m asked → NodesWait slots n m asked → Covered (letters_of flies.front ++ left) n m asked
+    missed_by_none : (n : Number) (m : ℕ) (asked : AskedOfNodes) → Covers letter n m asked → NodesWait slots n m asked → Covered (letters_of flies.front ++ left) n m asked
     missed_by_none n m asked covers wait = ⊎_elim
         (λ (c : Covered did.out n m asked). record {
           letter = c.letter;
@@ -156,8 +156,8 @@ module _ (confirm : ℕ) (May : Id → List ℕ → Type 0) where
 
   -- A node goes down in its work: its disk has a front of the records, and the book has it.
   module _ (w : World) (own : ℕ) (node : Node) (disk : List Record) (did : Reaction) (heard : Option Letter) (files : Option Content) (strikes : List (List ℕ × Id))
-      (here : slot_at w.slots own ≡ Some (slot_up node disk)) (done : IsReady own (slot_up node disk) heard → IsDone (act_of own node disk did heard files strikes))
-      (front pending : List Record) (cut : IsCut disk did.disk front pending) where
+      (here : slot_at w.slots own ≡ Some (slot_up node disk)) (done : IsReady own (slot_up node disk) heard → IsCallDone (act_of own node disk did heard files strikes))
+      (front pending : List Record) (cut : IsWorkCut disk did.disk front pending) where
     abbrev down : World
     down = record w { slots = with_slot w.slots own (record { life = Down pending; disk = disk ++ front }) }
 
@@ -176,9 +176,9 @@ module _ (confirm : ℕ) (May : Id → List ℕ → Type 0) where
         (books_down (cluster_of down) own)
 
   pub down_leads : (w new : World) (own : ℕ) (node : Node) (disk : List Record) (did : Reaction) (heard : Option Letter) (files : Option Content) (strikes : List (List ℕ × Id))
-      → slot_at w.slots own ≡ Some (slot_up node disk) → (IsReady own (slot_up node disk) heard → IsDone (act_of own node disk did heard files strikes))
+      → slot_at w.slots own ≡ Some (slot_up node disk) → (IsReady own (slot_up node disk) heard → IsCallDone (act_of own node disk did heard files strikes))
       → ((letter : Letter) → heard ≡ Some letter → Among letter (letters_of w.flying)) → ((user : List ℕ) (id : Id) → Among (user, id) strikes → Among (Struck user id) w.book)
       → ((content : Content) → files ≡ Some content → May content.id content.octets)
-      → GoesDown w own disk did.disk new → Leads confirm May (cluster_of w) (cluster_of new)
+      → NodeGoesDown w own disk did.disk new → Leads confirm May (cluster_of w) (cluster_of new)
   down_leads w new own node disk did heard files strikes here done flown struck allowed g = subst (λ (x : World). Leads confirm May (cluster_of w) (cluster_of x)) (sym g.is)
       (cut_leads w own node disk did heard files strikes here done g.front g.pending g.cut flown struck allowed)

@@ -3,13 +3,13 @@ use Rattle.std.proofs.Common.{◌≡◌, ◌⊎◌, inl, inr, ⊎_elim, ℕ, Lis
 use Rattle.mail_model.specs.Identity.{Id}
 use Rattle.mail_model.specs.Book.{BookEntry}
 use Rattle.object_model.specs.Lists.{Among}
-use Rattle.cluster_model.specs.Cluster.{Slot, Asked}
+use Rattle.cluster_model.specs.Cluster.{Slot, AskedOfNodes}
 use Rattle.object_model.specs.Letters.{Letter, Number}
 use Rattle.cluster_model.specs.Claims.{NodesWait, Covers, Covered}
-use Rattle.cluster_model.specs.Parts.{Holds, Contents, Deletions, Claims, AllFit, Waits}
+use Rattle.cluster_model.specs.Parts.{IsHeldSomewhere, Contents, Deletions, Claims, AllFit, WaitsForLetters}
 
 module _ (slots : List Slot) (flying left : List Letter) (book : List BookEntry) (fewer : (one : Letter) → Among one left → Among one flying) where
-  held_less : (id : Id) (octets : List ℕ) → Holds slots left id octets → Holds slots flying id octets
+  held_less : (id : Id) (octets : List ℕ) → IsHeldSomewhere slots left id octets → IsHeldSomewhere slots flying id octets
   held_less id octets h = record { where_ = ⊎_elim (λ disk. inl disk) (λ (letter, m, holds). inr (letter, fewer letter m, holds)) h.where_ }
 
   pub contents_taken : Contents slots flying book → Contents slots left book
@@ -40,8 +40,8 @@ module _ (slots : List Slot) (flying left : List Letter) (book : List BookEntry)
   fit_taken p = record { slots_fit = p.slots_fit; letters_fit = λ letter m. p.letters_fit letter (fewer letter m) }
 
   pub waits_taken : (letter : Letter) → ((one : Letter) → Among one flying → Among one left ⊎ (one ≡ letter))
-      → ((number : Number) (m : ℕ) (asked : Asked) → Covers letter number m asked → NodesWait slots number m asked → Covered left number m asked)
-      → Waits slots flying → Waits slots left
+      → ((number : Number) (m : ℕ) (asked : AskedOfNodes) → Covers letter number m asked → NodesWait slots number m asked → Covered left number m asked)
+      → WaitsForLetters slots flying → WaitsForLetters slots left
   waits_taken letter others missed p = record {
     each = λ number m asked wait. let c = p.each number m asked wait in ⊎_elim
         (λ stays. record { letter = c.letter; inside = stays; covers = c.covers })

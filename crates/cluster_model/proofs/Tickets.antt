@@ -8,11 +8,11 @@ use Rattle.mail_model.specs.Record.{Record}
 use Rattle.object_model.specs.Sets.{has}
 use Rattle.object_model.specs.Lists.{Among}
 use Rattle.object_model.specs.Letters.{Number, Letter}
-use Rattle.cluster_model.specs.Cluster.{Asked, Want, Ticket, Filing, Node}
-use Rattle.cluster_model.specs.Cluster.Asked.{Copies, Deletion}
+use Rattle.cluster_model.specs.Cluster.{AskedOfNodes, Want, Ticket, NodeFiling, Node}
+use Rattle.cluster_model.specs.Cluster.AskedOfNodes.{Copies, Deletion}
 use Rattle.cluster_model.specs.Cluster.Life.{Up}
 use Rattle.cluster_model.specs.Claims.{Fact, fact_of, Wants, TicketClaims, TicketSpeaks, LifeWaits, Covers, Covered}
-use Rattle.cluster_model.specs.Moves.{Content, Act, Opens, LifeWants, IsBacked, IsConfirmed}
+use Rattle.cluster_model.specs.Moves.{Content, NodeAct, Opens, LifeWants, IsBacked, IsFactConfirmed}
 use Rattle.cluster_model.specs.Rules.{Reaction, with_ticket}
 use Rattle.object_model.proofs.MapLaws.{found}
 use Rattle.cluster_model.proofs.Filing.{among_map}
@@ -22,32 +22,32 @@ use Rattle.cluster_model.proofs.Quiet.{up_node}
 use Rattle.object_model.specs.Mishaps.{Mishaps}
 
 -- a want that was there before, under the same number
-pub record Came (act : Act) (seq : ℕ) (want : Want) : Type 0 where
+pub record Came (act : NodeAct) (seq : ℕ) (want : Want) : Type 0 where
   pub old : Want
   pub stood : Wants act.before.life seq old
   pub asked : old.asked ≡ want.asked
   pub waits : (m : ℕ) → has want.waiting m ≡ true → has old.waiting m ≡ true
-  pub confirmed : (m : ℕ) → has want.confirmed m ≡ true → (has old.confirmed m ≡ true) ⊎ IsBacked act m (fact_of want.asked) ⊎ IsConfirmed act m (fact_of want.asked)
+  pub confirmed : (m : ℕ) → has want.confirmed m ≡ true → (has old.confirmed m ≡ true) ⊎ IsBacked act m (fact_of want.asked) ⊎ IsFactConfirmed act m (fact_of want.asked)
 
 -- a want of the call that begins
-pub record Begins (act : Act) (number : Number) (want : Want) : Type 0 where
-  pub opens : (filing : Filing) → want.asked ≡ Copies filing → Opens act filing
+pub record Begins (act : NodeAct) (number : Number) (want : Want) : Type 0 where
+  pub opens : (filing : NodeFiling) → want.asked ≡ Copies filing → Opens act filing
   pub strikes : (user : List ℕ) (id : Id) → want.asked ≡ Deletion user id → Among (user, id) act.strikes
   pub confirmed : (m : ℕ) → has want.confirmed m ≡ true → IsBacked act m (fact_of want.asked)
   pub waits : (m : ℕ) → has want.waiting m ≡ true → Covered act.out number m want.asked
 
 module _ (own : ℕ) (node : Node) (disk : List Record) (did : Reaction) (heard : Option Letter) (files : Option Content) (strikes : List (List ℕ × Id)) (boots : did.node.boot ≡ node.boot) where
-  abbrev act : Act
+  abbrev act : NodeAct
   act = act_of own node disk did heard files strikes
 
   abbrev pub numbered : ℕ → Number
   numbered seq = record { node = own; boot = node.boot; seq = seq }
 
   module _ (came : (seq : ℕ) (want : Want) → Wants (Up did.node) seq want → Came act seq want ⊎ Begins act (numbered seq) want)
-      (settled : (letter : Letter) → heard ≡ Some letter → (number : Number) (m : ℕ) (asked : Asked) → Covers letter number m asked
+      (settled : (letter : Letter) → heard ≡ Some letter → (number : Number) (m : ℕ) (asked : AskedOfNodes) → Covers letter number m asked
       → Covered did.out number m asked ⊎ ((number.node ≡ own) × (LifeWaits (Up did.node) number m asked → ⊥))) where
-    claimed : (m : ℕ) (fact : Fact) → TicketClaims (Up did.node) m fact → IsBacked act m fact ⊎ IsConfirmed act m fact
-    claimed m fact c = subst (λ f. IsBacked act m f ⊎ IsConfirmed act m f) c.is (⊎_elim
+    claimed : (m : ℕ) (fact : Fact) → TicketClaims (Up did.node) m fact → IsBacked act m fact ⊎ IsFactConfirmed act m fact
+    claimed m fact c = subst (λ f. IsBacked act m f ⊎ IsFactConfirmed act m f) c.is (⊎_elim
         (λ (o : Came act c.seq c.want). ⊎_elim
         (λ old. inl (inl (inl (record { seq = c.seq; want = o.old; stands = o.stood; counts = old; is = ap fact_of o.asked }))))
         (λ new. new)
@@ -55,7 +55,7 @@ module _ (own : ℕ) (node : Node) (disk : List Record) (did : Reaction) (heard 
         (λ (b : Begins act (numbered c.seq) c.want). inl (b.confirmed m c.counts))
         (came c.seq c.want c.stands))
 
-    wanted : (filing : Filing) → LifeWants (Up did.node) filing → LifeWants (Up node) filing ⊎ Opens act filing
+    wanted : (filing : NodeFiling) → LifeWants (Up did.node) filing → LifeWants (Up node) filing ⊎ Opens act filing
     wanted filing w = ⊎_elim
         (λ (o : Came act w.seq w.want). inl (record { seq = w.seq; want = o.old; stands = o.stood; is = o.asked ∙ w.is }))
         (λ (b : Begins act (numbered w.seq) w.want). inr (b.opens filing w.is))
@@ -67,7 +67,7 @@ module _ (own : ℕ) (node : Node) (disk : List Record) (did : Reaction) (heard 
         (λ (b : Begins act (numbered w.seq) w.want). inr (b.strikes user id w.is))
         (came w.seq w.want w.stands)
 
-    waits : (number : Number) → number.node ≡ own → (m : ℕ) (asked : Asked) → LifeWaits (Up did.node) number m asked → LifeWaits (Up node) number m asked ⊎ Covered did.out number m asked
+    waits : (number : Number) → number.node ≡ own → (m : ℕ) (asked : AskedOfNodes) → LifeWaits (Up did.node) number m asked → LifeWaits (Up node) number m asked ⊎ Covered did.out number m asked
     waits number here m asked w =
         let boot : number.boot ≡ node.boot = w.boot ∙ ap (λ (x : Node). x.boot) (sym (up_node did.node w.node w.up)) ∙ boots in
         ⊎_elim
@@ -91,5 +91,5 @@ rewanted node seq ticket f mishaps here other want w = ⊎_elim
     (found nat_cmp_total exact_unsigned node.tickets seq (record ticket { wants = map f ticket.wants; mishaps = mishaps }) other w.ticket w.here)
 
 -- a want that stayed as it was
-pub as_it_was : (deed : Act) (seq : ℕ) (want : Want) → Wants deed.before.life seq want → Came deed seq want
+pub as_it_was : (deed : NodeAct) (seq : ℕ) (want : Want) → Wants deed.before.life seq want → Came deed seq want
 as_it_was deed seq want w = record { old = want; stood = w; asked = refl; waits = λ m h. h; confirmed = λ m h. inl h }

@@ -6,7 +6,7 @@ use Rattle.object_model.specs.Sets.{count_below}
 use Rattle.object_model.specs.Keys.{key_cmp}
 use Rattle.object_model.specs.UpdateLog.{Logged}
 use Rattle.object_model.proofs.MapLaws.{key_total}
-use Rattle.cluster_model.specs.Rows.{hi, plan_of, ticket_of, copy_at, here_at, pushed, TwoOfThree, HeardTwiceCountsOnce, TargetsMoveOn, PushedThreeTimes, LateHereChangesNothing, GoneBeforeItCame}
+use Rattle.cluster_model.specs.Rows.{hi, row_plan, ticket_of, copy_at, here_at, pushed, TwoOfThree, HeardTwiceCountsOnce, TargetsMoveOn, PushedThreeTimes, LateHereChangesNothing, GoneBeforeItCame}
 use Rattle.cluster_model.proofs.Playing.{waits, ends, gives_up, hears_told, throws_late, hears_ack, hears_retired, pushes_due, pushes_nothing, drops, one_entry, emptied}
 
 got_copy : (entry : Logged) → get (insert (empty {R = key_cmp}) (copy_at 1) entry) (copy_at 1) ≡ Some entry
@@ -28,7 +28,7 @@ two_of_three = (
     refl,
     (
       _,
-      waits (plan_of 3 3 2) hi _ _ _ (ticket_of 1) _ refl (get-insert nat_cmp_total _ _ _ _) 1 2 refl refl,
+      waits (row_plan 3 3 2) hi _ _ _ (ticket_of 1) _ refl (get-insert nat_cmp_total _ _ _ _) 1 2 refl refl,
       refl,
       (
         _,
@@ -36,9 +36,9 @@ two_of_three = (
         refl,
         (
           _,
-          hears_told (plan_of 3 3 2) hi _ _ _ 3 false _ refl refl refl refl _ (get-insert nat_cmp_total _ _ _ _) refl refl refl,
+          hears_told (row_plan 3 3 2) hi _ _ _ 3 false _ refl refl refl refl _ (get-insert nat_cmp_total _ _ _ _) refl refl refl,
           refl,
-          (_, ends (plan_of 3 3 2) hi _ _ _ (ticket_of 1) _ refl (get-insert nat_cmp_total _ _ _ _) _ refl refl, refl, refl),
+          (_, ends (row_plan 3 3 2) hi _ _ _ (ticket_of 1) _ refl (get-insert nat_cmp_total _ _ _ _) _ refl refl, refl, refl),
         ),
       ),
     ),
@@ -64,15 +64,15 @@ twice_once = (
         refl,
         (
           _,
-          hears_told (plan_of 3 3 3) hi _ _ _ 3 false _ refl refl refl refl _ (get-insert nat_cmp_total _ _ _ _) refl refl refl,
+          hears_told (row_plan 3 3 3) hi _ _ _ 3 false _ refl refl refl refl _ (get-insert nat_cmp_total _ _ _ _) refl refl refl,
           refl,
           (
             _,
-            hears_told (plan_of 3 3 3) hi _ _ _ 4 false _ refl refl refl refl _ (get-insert nat_cmp_total _ _ _ _) refl refl refl,
+            hears_told (row_plan 3 3 3) hi _ _ _ 4 false _ refl refl refl refl _ (get-insert nat_cmp_total _ _ _ _) refl refl refl,
             refl,
             (
               _,
-              waits (plan_of 3 3 3) hi _ _ _ (ticket_of 1) _ refl (get-insert nat_cmp_total _ _ _ _) 2 3 refl refl,
+              waits (row_plan 3 3 3) hi _ _ _ (ticket_of 1) _ refl (get-insert nat_cmp_total _ _ _ _) 2 3 refl refl,
               refl,
               (
                 _,
@@ -80,9 +80,9 @@ twice_once = (
                 refl,
                 (
                   _,
-                  hears_told (plan_of 3 3 3) hi _ _ _ 5 false _ refl refl refl refl _ (get-insert nat_cmp_total _ _ _ _) refl refl refl,
+                  hears_told (row_plan 3 3 3) hi _ _ _ 5 false _ refl refl refl refl _ (get-insert nat_cmp_total _ _ _ _) refl refl refl,
                   refl,
-                  (_, ends (plan_of 3 3 3) hi _ _ _ (ticket_of 1) _ refl (get-insert nat_cmp_total _ _ _ _) _ refl refl, refl, refl),
+                  (_, ends (row_plan 3 3 3) hi _ _ _ (ticket_of 1) _ refl (get-insert nat_cmp_total _ _ _ _) _ refl refl, refl, refl),
                 ),
               ),
             ),
@@ -105,11 +105,11 @@ move_on = (
     refl,
     (
       _,
-      waits (plan_of 3 2 2) hi _ _ _ (ticket_of 1) _ refl (get-insert nat_cmp_total _ _ _ _) 1 2 refl refl,
+      waits (row_plan 3 2 2) hi _ _ _ (ticket_of 1) _ refl (get-insert nat_cmp_total _ _ _ _) 1 2 refl refl,
       refl,
       (
         _,
-        gives_up (plan_of 3 2 2) hi _ _ _ (ticket_of 1) _ refl (get-insert nat_cmp_total _ _ _ _) refl refl,
+        gives_up (row_plan 3 2 2) hi _ _ _ (ticket_of 1) _ refl (get-insert nat_cmp_total _ _ _ _) refl refl,
         refl,
         (
           _,
@@ -117,7 +117,7 @@ move_on = (
           refl,
           (
             _,
-            waits (plan_of 3 2 2) hi _ _ _ (ticket_of 2) _ refl (get-insert nat_cmp_total _ _ _ _) 0 2 refl refl,
+            waits (row_plan 3 2 2) hi _ _ _ (ticket_of 2) _ refl (get-insert nat_cmp_total _ _ _ _) 0 2 refl refl,
             refl,
             (
               _,
@@ -129,25 +129,25 @@ move_on = (
                 refl,
                 (
                   _,
-                  hears_told (plan_of 3 2 2) hi _ _ _ 4 false _ refl refl refl refl _ (get-insert nat_cmp_total _ _ _ _) refl refl refl,
+                  hears_told (row_plan 3 2 2) hi _ _ _ 4 false _ refl refl refl refl _ (get-insert nat_cmp_total _ _ _ _) refl refl refl,
                   refl,
                   (
                     _,
-                    waits (plan_of 3 2 2) hi _ _ _ (ticket_of 2) _ refl (get-insert nat_cmp_total _ _ _ _) 1 2 refl refl,
+                    waits (row_plan 3 2 2) hi _ _ _ (ticket_of 2) _ refl (get-insert nat_cmp_total _ _ _ _) 1 2 refl refl,
                     refl,
                     (
                       _,
-                      hears_told (plan_of 3 2 2) hi _ _ _ 5 false _ refl refl refl refl _ (get-insert nat_cmp_total _ _ _ _) refl refl refl,
+                      hears_told (row_plan 3 2 2) hi _ _ _ 5 false _ refl refl refl refl _ (get-insert nat_cmp_total _ _ _ _) refl refl refl,
                       refl,
                       (
                         _,
-                        ends (plan_of 3 2 2) hi _ _ _ (ticket_of 2) _ refl (get-insert nat_cmp_total _ _ _ _) _ refl refl,
+                        ends (row_plan 3 2 2) hi _ _ _ (ticket_of 2) _ refl (get-insert nat_cmp_total _ _ _ _) _ refl refl,
                         refl,
                         (
                           _,
                           record { is = refl },
                           refl,
-                          (_, throws_late (plan_of 3 2 2) hi _ _ _ 6 false _ refl refl refl refl (get-remove nat_cmp_total _ _ _ ∙ get-insert nat_cmp_total _ _ _ _ ∙ get-insert nat_cmp_total _ _ _ _ ∙ get-insert nat_cmp_total _ _ _ _ ∙ get-remove nat_cmp_total _ _ _) refl, refl, refl),
+                          (_, throws_late (row_plan 3 2 2) hi _ _ _ 6 false _ refl refl refl refl (get-remove nat_cmp_total _ _ _ ∙ get-insert nat_cmp_total _ _ _ _ ∙ get-insert nat_cmp_total _ _ _ _ ∙ get-insert nat_cmp_total _ _ _ _ ∙ get-remove nat_cmp_total _ _ _) refl, refl, refl),
                         ),
                       ),
                     ),
@@ -177,15 +177,15 @@ three_times = (
     refl,
     (
       _,
-      ends (plan_of 2 2 1) hi _ _ _ (ticket_of 1) _ refl (get-insert nat_cmp_total _ _ _ _) _ refl refl,
+      ends (row_plan 2 2 1) hi _ _ _ (ticket_of 1) _ refl (get-insert nat_cmp_total _ _ _ _) _ refl refl,
       refl,
       (
         _,
-        drops (plan_of 2 2 1) hi _ 1 _ refl refl (simp gets),
+        drops (row_plan 2 2 1) hi _ 1 _ refl refl (simp gets),
         refl,
         (
           _,
-          pushes_due (plan_of 2 2 1) hi _ _ _ 1 2 (copy_at 1 ∷ []) ((pushed 2 1 2).letter ∷ []) refl (simp told) (simp told) (simp told),
+          pushes_due (row_plan 2 2 1) hi _ _ _ 1 2 (copy_at 1 ∷ []) ((pushed 2 1 2).letter ∷ []) refl (simp told) (simp told) (simp told),
           refl,
           (
             _,
@@ -201,25 +201,25 @@ three_times = (
                 refl,
                 (
                   _,
-                  hears_ack (plan_of 2 2 1) hi _ _ _ 5 false _ refl refl refl refl (copy_at 1) (here_at 1 3) _ (get-insert key_total _ _ _ _) refl refl,
+                  hears_ack (row_plan 2 2 1) hi _ _ _ 5 false _ refl refl refl refl (copy_at 1) (here_at 1 3) _ (get-insert key_total _ _ _ _) refl refl,
                   refl,
                   (
                     _,
-                    hears_ack (plan_of 2 2 1) hi _ _ _ 4 false _ refl refl refl refl (copy_at 1) (here_at 1 3) _ (get-remove key_total _ _ _) refl refl,
+                    hears_ack (row_plan 2 2 1) hi _ _ _ 4 false _ refl refl refl refl (copy_at 1) (here_at 1 3) _ (get-remove key_total _ _ _) refl refl,
                     refl,
                     (
                       _,
-                      hears_ack (plan_of 2 2 1) hi _ _ _ 3 false _ refl refl refl refl (copy_at 1) (here_at 1 3) _ (get-remove key_total _ _ _) refl refl,
+                      hears_ack (row_plan 2 2 1) hi _ _ _ 3 false _ refl refl refl refl (copy_at 1) (here_at 1 3) _ (get-remove key_total _ _ _) refl refl,
                       refl,
                       (
                         _,
-                        hears_retired (plan_of 2 2 1) hi _ _ _ 6 false _ refl refl refl refl (copy_at 1) (here_at 1 3) _ (get-insert key_total _ _ _ _) refl refl,
+                        hears_retired (row_plan 2 2 1) hi _ _ _ 6 false _ refl refl refl refl (copy_at 1) (here_at 1 3) _ (get-insert key_total _ _ _ _) refl refl,
                         refl,
                         (
                           _,
-                          pushes_nothing (plan_of 2 2 1) hi _ _ _ 1 2 refl refl refl (rw (emptied_copy _) refl),
+                          pushes_nothing (row_plan 2 2 1) hi _ _ _ 1 2 refl refl refl (rw (emptied_copy _) refl),
                           refl,
-                          (_, pushes_nothing (plan_of 2 2 1) hi _ _ _ 2 1 refl refl refl (rw (emptied_copy _) refl), refl, refl),
+                          (_, pushes_nothing (row_plan 2 2 1) hi _ _ _ 2 1 refl refl refl (rw (emptied_copy _) refl), refl, refl),
                         ),
                       ),
                     ),
@@ -246,7 +246,7 @@ late_here = (
     refl,
     (
       _,
-      ends (plan_of 2 2 1) hi _ _ _ (ticket_of 1) _ refl (get-insert nat_cmp_total _ _ _ _) _ refl refl,
+      ends (row_plan 2 2 1) hi _ _ _ (ticket_of 1) _ refl (get-insert nat_cmp_total _ _ _ _) _ refl refl,
       refl,
       (
         _,
@@ -258,7 +258,7 @@ late_here = (
           refl,
           (
             _,
-            ends (plan_of 2 2 1) hi _ _ _ (ticket_of 2) _ refl (get-insert nat_cmp_total _ _ _ _) _ refl refl,
+            ends (row_plan 2 2 1) hi _ _ _ (ticket_of 2) _ refl (get-insert nat_cmp_total _ _ _ _) _ refl refl,
             refl,
             (
               _,
@@ -270,13 +270,13 @@ late_here = (
                 refl,
                 (
                   _,
-                  throws_late (plan_of 2 2 1) hi _ _ _ 2 false _ refl refl refl refl (get-remove nat_cmp_total _ _ _ ∙ get-insert nat_cmp_total _ _ _ _ ∙ get-remove nat_cmp_total _ _ _) refl,
+                  throws_late (row_plan 2 2 1) hi _ _ _ 2 false _ refl refl refl refl (get-remove nat_cmp_total _ _ _ ∙ get-insert nat_cmp_total _ _ _ _ ∙ get-remove nat_cmp_total _ _ _) refl,
                   refl,
                   (
                     _,
-                    throws_late (plan_of 2 2 1) hi _ _ _ 4 false _ refl refl refl refl (get-remove nat_cmp_total _ _ _) refl,
+                    throws_late (row_plan 2 2 1) hi _ _ _ 4 false _ refl refl refl refl (get-remove nat_cmp_total _ _ _) refl,
                     refl,
-                    (_, throws_late (plan_of 2 2 1) hi _ _ _ 5 false _ refl refl refl refl (get-remove nat_cmp_total _ _ _ ∙ get-insert nat_cmp_total _ _ _ _ ∙ get-remove nat_cmp_total _ _ _) refl, refl, refl),
+                    (_, throws_late (row_plan 2 2 1) hi _ _ _ 5 false _ refl refl refl refl (get-remove nat_cmp_total _ _ _ ∙ get-insert nat_cmp_total _ _ _ _ ∙ get-remove nat_cmp_total _ _ _) refl, refl, refl),
                   ),
                 ),
               ),

@@ -12,11 +12,11 @@ use Rattle.mail_model.specs.Book.BookEntry.{Acknowledged, Struck, Dropped, WentD
 use Rattle.object_model.specs.Sets.{has}
 use Rattle.object_model.specs.Lists.{Among}
 use Rattle.object_model.specs.Said.{said, CoversAtLeast}
-use Rattle.object_model.specs.Letters.{Number, Mark, Body, Letter}
+use Rattle.object_model.specs.Letters.{Number, DeletionMark, Body, Letter}
 use Rattle.object_model.specs.Letters.Body.{File, Filed, Strike, StrikeTold, Push, PushAck, Retire}
 use Rattle.object_model.specs.UpdateLog.{Logged}
-use Rattle.cluster_model.specs.Cluster.{Filing, Asked, Want, Ticket, Node, Life, Slot, slot_at, tickets_of, pending_of}
-use Rattle.cluster_model.specs.Cluster.Asked.{Copies, Deletion}
+use Rattle.cluster_model.specs.Cluster.{NodeFiling, AskedOfNodes, Want, Ticket, Node, Life, Slot, slot_at, tickets_of, pending_of}
+use Rattle.cluster_model.specs.Cluster.AskedOfNodes.{Copies, Deletion}
 use Rattle.cluster_model.specs.Cluster.Life.{Up, Down, Lost}
 
 -- all that a disk may turn out to hold
@@ -30,7 +30,7 @@ pub data Fact : Type 0 where
   IsAtLeast : (key : Key) (state : State) → Fact
 
 -- it has octets of the message
-pub record Stores (id : Id) (disk : List Record) : Type 0 where
+pub record StoresMessage (id : Id) (disk : List Record) : Type 0 where
   pub octets : List ℕ
   pub inside : Among (Octets id octets) disk
 
@@ -38,7 +38,7 @@ pub record Stores (id : Id) (disk : List Record) : Type 0 where
 pub record HasCopy (user : List ℕ) (id : Id) (disk : List Record) : Type 0 where
   pub state : State
   pub inside : Among (Stated (Message user id) state) disk
-  pub stored : (state.value ≡ Gone) ⊎ Stores id disk
+  pub stored : (state.value ≡ Gone) ⊎ StoresMessage id disk
 
 -- it is gone
 pub record ShowsGone (user : List ℕ) (id : Id) (disk : List Record) : Type 0 where
@@ -46,23 +46,23 @@ pub record ShowsGone (user : List ℕ) (id : Id) (disk : List Record) : Type 0 w
   pub inside : Among (Stated (Message user id) state) disk
   pub gone : state.value ≡ Gone
 
-abbrev pub Says : List Record → Fact → Type 0
-Says disk (HasCopies users id) = (user : List ℕ) → Among user users → HasCopy user id disk
-Says disk (IsGone user id) = ShowsGone user id disk
-Says disk (IsAtLeast key state) = CoversAtLeast key state disk
+abbrev pub SaysFact : List Record → Fact → Type 0
+SaysFact disk (HasCopies users id) = (user : List ℕ) → Among user users → HasCopy user id disk
+SaysFact disk (IsGone user id) = ShowsGone user id disk
+SaysFact disk (IsAtLeast key state) = CoversAtLeast key state disk
 
 -- a node that is lost, or whose disk says the fact
 abbrev pub SlotSays : Slot → Fact → Type 0
-SlotSays slot fact = (slot.life ≡ Lost) ⊎ Says slot.disk fact
+SlotSays slot fact = (slot.life ≡ Lost) ⊎ SaysFact slot.disk fact
 
 -- the same of node m
-pub record Stands (slots : List Slot) (m : ℕ) (fact : Fact) : Type 0 where
+pub record FactStands (slots : List Slot) (m : ℕ) (fact : Fact) : Type 0 where
   pub slot : Slot
   pub here : slot_at slots m ≡ Some slot
   pub stands : SlotSays slot fact
 
 -- what a target that confirmed says
-abbrev pub fact_of : Asked → Fact
+abbrev pub fact_of : AskedOfNodes → Fact
 fact_of (Copies filing) = HasCopies filing.users filing.id
 fact_of (Deletion user id) = IsGone user id
 
@@ -136,7 +136,7 @@ pub record IsFile (letter : Letter) (id : Id) (users : List (List ℕ)) : Type 0
   pub is : letter.body ≡ File id stamp targets users octets
 
 -- a ticket of some node asks for copies
-pub record NodesWant (slots : List Slot) (filing : Filing) : Type 0 where
+pub record NodesWant (slots : List Slot) (filing : NodeFiling) : Type 0 where
   pub node : ℕ
   pub slot : Slot
   pub here : slot_at slots node ≡ Some slot
@@ -183,7 +183,7 @@ abbrev pub DrawnAt : Slot → Id → Type 0
 DrawnAt slot id = DrawnIn slot.life slot.disk id
 
 -- by the node that it names
-pub record IsDrawn (slots : List Slot) (id : Id) : Type 0 where
+pub record IsIdDrawn (slots : List Slot) (id : Id) : Type 0 where
   pub slot : Slot
   pub here : slot_at slots id.node ≡ Some slot
   pub drawn : DrawnAt slot id
@@ -209,7 +209,7 @@ abbrev pub SlotSpeaks : Slot → List ℕ → Id → Type 0
 SlotSpeaks slot user id = DiskSpeaks (all_records slot) user id ⊎ TicketSpeaks slot.life user id
 
 abbrev pub BodySpeaks : Body → List ℕ → Id → Type 0
-BodySpeaks (Strike name marks) user id = (name ≡ user) × ((mark : Mark) × Among mark marks × (mark.id ≡ id))
+BodySpeaks (Strike name marks) user id = (name ≡ user) × ((mark : DeletionMark) × Among mark marks × (mark.id ≡ id))
 BodySpeaks (StrikeTold name ids) user id = (name ≡ user) × Among id ids
 BodySpeaks (Push key state octets) user id = (key ≡ Message user id) × (state.value ≡ Gone)
 BodySpeaks (PushAck key state) user id = (key ≡ Message user id) × (state.value ≡ Gone)
@@ -220,28 +220,28 @@ abbrev pub LetterSpeaks : Letter → List ℕ → Id → Type 0
 LetterSpeaks letter user id = BodySpeaks letter.body user id
 
 -- a letter asks a node for this, or tells that it was done
-abbrev pub Asks : Body → Asked → Type 0
+abbrev pub Asks : Body → AskedOfNodes → Type 0
 Asks (File id stamp targets users octets) (Copies filing) = id ≡ filing.id
-Asks (Strike user marks) (Deletion name id) = (user ≡ name) × ((mark : Mark) × Among mark marks × (mark.id ≡ id))
+Asks (Strike user marks) (Deletion name id) = (user ≡ name) × ((mark : DeletionMark) × Among mark marks × (mark.id ≡ id))
 Asks body asked = ⊥
 
-abbrev pub Tells : Body → Asked → Type 0
+abbrev pub Tells : Body → AskedOfNodes → Type 0
 Tells (Filed id) (Copies filing) = id ≡ filing.id
 Tells (StrikeTold user ids) (Deletion name id) = (user ≡ name) × Among id ids
 Tells body asked = ⊥
 
 -- under this ticket its node asks m, or m tells it
-abbrev pub Covers : Letter → Number → ℕ → Asked → Type 0
+abbrev pub Covers : Letter → Number → ℕ → AskedOfNodes → Type 0
 Covers letter number m asked = (letter.ticket ≡ Some number)
     × (((letter.from ≡ number.node) × (letter.to ≡ m) × Asks letter.body asked) ⊎ ((letter.to ≡ number.node) × (letter.from ≡ m) × Tells letter.body asked))
 
-pub record Covered (letters : List Letter) (number : Number) (m : ℕ) (asked : Asked) : Type 0 where
+pub record Covered (letters : List Letter) (number : Number) (m : ℕ) (asked : AskedOfNodes) : Type 0 where
   pub letter : Letter
   pub inside : Among letter letters
   pub covers : Covers letter number m asked
 
 -- a ticket of this life and number waits for m
-pub record LifeWaits (life : Life) (number : Number) (m : ℕ) (asked : Asked) : Type 0 where
+pub record LifeWaits (life : Life) (number : Number) (m : ℕ) (asked : AskedOfNodes) : Type 0 where
   pub node : Node
   pub up : life ≡ Up node
   pub boot : number.boot ≡ node.boot
@@ -250,7 +250,7 @@ pub record LifeWaits (life : Life) (number : Number) (m : ℕ) (asked : Asked) :
   pub waits : has want.waiting m ≡ true
   pub is : want.asked ≡ asked
 
-pub record NodesWait (slots : List Slot) (number : Number) (m : ℕ) (asked : Asked) : Type 0 where
+pub record NodesWait (slots : List Slot) (number : Number) (m : ℕ) (asked : AskedOfNodes) : Type 0 where
   pub slot : Slot
   pub here : slot_at slots number.node ≡ Some slot
   pub waits : LifeWaits slot.life number m asked

@@ -11,7 +11,7 @@ use Rattle.object_model.specs.Mishaps.{Mishaps}
 use Rattle.object_model.specs.Letters.{Member, Membership, Letter}
 
 -- A message that was filed: its id, its users, the seconds at which it came, and the number and SHA-256 of its octets.
-pub record Filing : Type 0 where
+pub record NodeFiling : Type 0 where
   pub id : Id
   pub users : List (List ℕ)
   pub seconds : ℕ
@@ -19,13 +19,13 @@ pub record Filing : Type 0 where
   pub digest : List ℕ
 
 -- what a ticket asks of nodes: copies of a message, or one deletion
-pub data Asked : Type 0 where
-  Copies : (filing : Filing) → Asked
-  Deletion : (user : List ℕ) (id : Id) → Asked
+pub data AskedOfNodes : Type 0 where
+  Copies : (filing : NodeFiling) → AskedOfNodes
+  Deletion : (user : List ℕ) (id : Id) → AskedOfNodes
 
 -- something that is asked, with its targets by how they answered
 pub record Want : Type 0 where
-  pub asked : Asked
+  pub asked : AskedOfNodes
   pub confirmed : ℕ
   pub waiting : ℕ
   pub failed : ℕ

@@ -6,7 +6,7 @@ use Rattle.object_model.specs.Letters.{Body, Letter}
 use Rattle.object_model.specs.Letters.Body.{File, Filed, Strike, StrikeTold, Push, PushAck, Retire}
 use Rattle.cluster_model.specs.Cluster.{Node, Life, Slot}
 use Rattle.cluster_model.specs.Cluster.Life.{Up, Down}
-use Rattle.cluster_model.specs.Moves.{Content, Act}
+use Rattle.cluster_model.specs.Moves.{Content, NodeAct}
 use Rattle.cluster_model.specs.Thrown.{with_stamps}
 use Rattle.cluster_model.specs.Rules.{Reaction, idle, hear_file, hear_told, hear_strike, hear_push, hear_ack, hear_retired}
 
@@ -15,31 +15,31 @@ abbrev pub slot_up : Node → List Record → Slot
 slot_up node disk = record { life = Up node; disk = disk }
 
 -- what it does: with a letter that it hears, a message that it files, or deletions that it begins
-abbrev pub act_of : ℕ → Node → List Record → Reaction → Option Letter → Option Content → List (List ℕ × Id) → Act
+abbrev pub act_of : ℕ → Node → List Record → Reaction → Option Letter → Option Content → List (List ℕ × Id) → NodeAct
 act_of own node disk did heard files strikes =
     record { node = own; before = slot_up node disk; after = slot_up did.node did.disk; heard = heard; out = did.out; files = files; strikes = strikes }
 
 -- Its disk fails before it is done: a prefix of its records stands, the next may stand, nothing is sent, and the node is down.
-abbrev pub cut_act : ℕ → Node → List Record → Option Letter → Option Content → List (List ℕ × Id) → List Record → List Record → Act
+abbrev pub cut_act : ℕ → Node → List Record → Option Letter → Option Content → List (List ℕ × Id) → List Record → List Record → NodeAct
 cut_act own node disk heard files strikes front pending =
     record { node = own; before = slot_up node disk; after = record { life = Down pending; disk = disk ++ front }; heard = heard; out = []; files = files; strikes = strikes }
 
 -- a node goes down or is lost
-abbrev pub drop_act : ℕ → Slot → Life → Act
+abbrev pub drop_act : ℕ → Slot → Life → NodeAct
 drop_act n before life = record { node = n; before = before; after = record before { life = life }; heard = None; out = []; files = None; strikes = [] }
 
 -- a node starts
-abbrev pub start_act : ℕ → List Record → List Record → Node → List Record → Act
+abbrev pub start_act : ℕ → List Record → List Record → Node → List Record → NodeAct
 start_act n disk pending node new =
     record { node = n; before = record { life = Down pending; disk = disk }; after = slot_up node new; heard = None; out = []; files = None; strikes = [] }
 
 -- a start that its disk cuts
-abbrev pub stop_act : ℕ → List Record → List Record → List Record → List Record → Act
+abbrev pub stop_act : ℕ → List Record → List Record → List Record → List Record → NodeAct
 stop_act n disk pending next new =
     record { node = n; before = record { life = Down pending; disk = disk }; after = record { life = Down next; disk = new }; heard = None; out = []; files = None; strikes = [] }
 
 -- node n is one of the plan's
-pub record IsNumbered (own nodes : ℕ) : Type 0 where
+pub record IsOfPlan (own nodes : ℕ) : Type 0 where
   pub some : own ≢ 0
   pub within : own ≤ nodes
   pub few : nodes ≤ 64

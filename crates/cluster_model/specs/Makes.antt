@@ -18,19 +18,19 @@ use Rattle.cluster_model.specs.Cluster.CallKind.{Delivering, Striking}
 use Rattle.cluster_model.specs.Cluster.Life.{Down, Lost}
 use Rattle.cluster_model.specs.Rules.{Reaction, ticket_at, push, can_widen, widen, begin_deliver, begin_strike, end_ticket, refuse, new_number}
 use Rattle.cluster_model.specs.Targets.{deliver_targets, strike_asks}
-use Rattle.cluster_model.specs.Starts.{Starts, StopsStart}
+use Rattle.cluster_model.specs.Starts.{StartsNode, StopsStart}
 use Rattle.cluster_model.specs.Thrown.{thrown_by}
 use Rattle.cluster_model.specs.Thrown.Why.{WhileDown, Stale, Late}
-use Rattle.cluster_model.specs.Progress.{Answer, ask_of, entries_with}
+use Rattle.cluster_model.specs.Progress.{NodeAnswer, ask_of, entries_with}
 use Rattle.cluster_model.specs.Progress.Ask.{Pending, Done}
 use Rattle.cluster_model.specs.Deeds.{slot_up, hear}
 use Rattle.cluster_model.specs.Room.{has_room, keys_pushed}
 use Rattle.cluster_model.specs.World.{World, missed, put, Flies, flies_on}
-use Rattle.cluster_model.specs.Steps.{Struck, Call, Step, Said, Outcome, mishaps_of_call, fails_at_once, ids_drawn, fault_of}
-use Rattle.cluster_model.specs.Steps.Call.{Deliver, Strike}
+use Rattle.cluster_model.specs.Steps.{Struck, NodeCall, Step, Said, StepOutcome, mishaps_of_call, fails_at_once, ids_drawn, step_fault}
+use Rattle.cluster_model.specs.Steps.NodeCall.{Deliver, Strike}
 use Rattle.cluster_model.specs.Steps.Step.{Begin, AskFor, GiveUp, Post, DropLetter, PushTo, Widen, Crash, Start, Lose, Tick}
 use Rattle.cluster_model.specs.Steps.Said.{Begun, Asked, Heard, Thrown, Sent, Widened, NodeUp, Finished, Faulted}
-use Rattle.cluster_model.specs.Steps.Outcome.{Says, Refused, NoMemory}
+use Rattle.cluster_model.specs.Steps.StepOutcome.{Says, Refused, NoMemory}
 
 -- node `own` is up, with this soft state and this disk
 abbrev pub IsUp : World → ℕ → Node → List Record → Type 0
@@ -44,11 +44,11 @@ after w own did = put has_room did.out (record w { slots = with_slot w.slots own
 abbrev pub struck_entries : List ℕ → List Struck → List BookEntry
 struck_entries user items = map (λ item. StruckEntry user item.id) items
 
-abbrev pub with_struck : World → Call → World
+abbrev pub with_struck : World → NodeCall → World
 with_struck w (Deliver mail) = w
 with_struck w (Strike user items) = record w { book = w.book ++ struck_entries user items }
 
-abbrev pub kind_of_call : Call → CallKind
+abbrev pub kind_of_call : NodeCall → CallKind
 kind_of_call (Deliver mail) = Delivering
 kind_of_call (Strike user items) = Striking
 
@@ -60,18 +60,18 @@ abbrev pub asked_for : Plan → ℕ → Node → List Struck → List (Id × ℕ
 asked_for plan own node items = map (λ item. (item.id, strike_asks plan.confirm own item.targets (nodes_in (members_of node) plan.nodes))) items
 
 -- The octets that a call files: those of its message under the next id of the node, at the seconds of the world. A Strike files none.
-abbrev pub IsFiled : World → ℕ → Node → Call → List ℕ → Type 0
+abbrev pub IsFiled : World → ℕ → Node → NodeCall → List ℕ → Type 0
 IsFiled w own node (Deliver mail) octets =
     IsStored mail (record { node = own; boot = node.boot; seq = node.drawn + 1 }) w.seconds octets × (ends_in_crlf octets ≡ true)
 IsFiled w own node (Strike user items) octets = octets ≡ []
 
 -- what the node does as a call begins that does not fail at once
-abbrev pub begun_by : Plan → World → ℕ → Node → List Record → Call → List ℕ → Reaction
+abbrev pub begun_by : Plan → World → ℕ → Node → List Record → NodeCall → List ℕ → Reaction
 begun_by plan w own node disk (Deliver mail) octets = begin_deliver own plan.nodes w.seconds node disk mail.mailboxes octets (targets_for plan own node)
 begun_by plan w own node disk (Strike user items) octets = begin_strike own plan.nodes node disk user (asked_for plan own node items)
 
 -- The disk of a node fails in its work: a prefix of its records stands, and the next may.
-pub record IsCut (disk whole : List Record) (front pending : List Record) : Type 0 where
+pub record IsWorkCut (disk whole : List Record) (front pending : List Record) : Type 0 where
   pub missing : List Record
   pub is : whole ≡ disk ++ ((front ++ pending) ++ missing)
 
@@ -80,34 +80,34 @@ abbrev pub cut_world : World → ℕ → List Record → List Record → List Re
 cut_world w n disk front pending = record w { slots = with_slot w.slots n (record { life = Down pending; disk = disk ++ front }); book = w.book ++ WentDown n ∷ [] }
 
 -- node n went down in work that would have left its disk so
-pub record GoesDown (w : World) (n : ℕ) (disk whole : List Record) (new : World) : Type 0 where
+pub record NodeGoesDown (w : World) (n : ℕ) (disk whole : List Record) (new : World) : Type 0 where
   pub front : List Record
   pub pending : List Record
-  pub cut : IsCut disk whole front pending
+  pub cut : IsWorkCut disk whole front pending
   pub is : new ≡ cut_world w n disk front pending
 
 -- A call begins. The book has at once what a Strike is to delete, also where the disk then fails.
-pub data Begins (plan : Plan) (old : World) (own : ℕ) (call : Call) (said : Said) (new : World) : Type 0 where
+pub data BeginsCall (plan : Plan) (old : World) (own : ℕ) (call : NodeCall) (said : Said) (new : World) : Type 0 where
   -- it fails at once: its ticket has its mishaps
   FailsAtOnce : (node : Node) (disk : List Record) → IsUp old own node disk → fails_at_once plan old.seconds node call ≡ true → said ≡ Begun (new_number own node)
       → new ≡ after (with_struck old call) own (refuse (kind_of_call call) (mishaps_of_call plan old.seconds node call) (ids_drawn call) node disk)
-      → Begins plan old own call said new
+      → BeginsCall plan old own call said new
   Goes : (node : Node) (disk : List Record) (octets : List ℕ) → IsUp old own node disk → fails_at_once plan old.seconds node call ≡ false → IsFiled old own node call octets
       → said ≡ Begun (new_number own node) → new ≡ after (with_struck old call) own (begun_by plan old own node disk call octets)
-      → Begins plan old own call said new
+      → BeginsCall plan old own call said new
   FailsInIt : (node : Node) (disk : List Record) (octets : List ℕ) → IsUp old own node disk → IsFiled old own node call octets
-      → said ≡ Faulted own → GoesDown (with_struck old call) own disk (begun_by plan old own node disk call octets).disk new
-      → Begins plan old own call said new
+      → said ≡ Faulted own → NodeGoesDown (with_struck old call) own disk (begun_by plan old own node disk call octets).disk new
+      → BeginsCall plan old own call said new
 
 -- A ticket is asked. While it is pending nothing changes. A ticket that is done ends, and the book has what was confirmed.
-pub data Answers (plan : Plan) (old : World) (number : Number) (said : Said) (new : World) : Type 0 where
+pub data AnswersAsk (plan : Plan) (old : World) (number : Number) (said : Said) (new : World) : Type 0 where
   Waits : (node : Node) (disk : List Record) (ticket : Ticket) → IsUp old number.node node disk → ticket_at number.node node (Some number) ≡ Some ticket
       → (got wanted : ℕ) → ask_of plan.confirm ticket ≡ Pending got wanted → said ≡ Asked (Pending got wanted) → new ≡ old
-      → Answers plan old number said new
+      → AnswersAsk plan old number said new
   Ends : (node : Node) (disk : List Record) (ticket : Ticket) → IsUp old number.node node disk → ticket_at number.node node (Some number) ≡ Some ticket
-      → (answer : Answer) → ask_of plan.confirm ticket ≡ Done answer → said ≡ Asked (Done answer)
+      → (answer : NodeAnswer) → ask_of plan.confirm ticket ≡ Done answer → said ≡ Asked (Done answer)
       → new ≡ record old { slots = with_slot old.slots number.node (slot_up (end_ticket number.seq node disk).node disk); book = old.book ++ entries_with answer ticket }
-      → Answers plan old number said new
+      → AnswersAsk plan old number said new
 
 -- A ticket is given up: it ends, and the book has nothing.
 pub record IsGivenUp (old : World) (number : Number) (said : Said) (new : World) : Type 0 where
@@ -138,7 +138,7 @@ pub data Posts (plan : Plan) (old : World) (number : ℕ) (keep : Bool) (said : 
   -- its disk fails: the letter has a mishap
   FailsHearing : (flies : Flies old number) (node : Node) (disk : List Record) → IsUp old flies.letter.to node disk → thrown_by flies.letter.to node flies.letter ≡ None
       → said ≡ Faulted flies.letter.to
-      → (down : World) → GoesDown old flies.letter.to disk (hear flies.letter.to plan.nodes node disk flies.letter).disk down
+      → (down : World) → NodeGoesDown old flies.letter.to disk (hear flies.letter.to plan.nodes node disk flies.letter).disk down
       → new ≡ record down { slots = missed Disk down.slots flies.letter; flying = flies_on old number flies keep }
       → Posts plan old number keep said new
 
@@ -159,12 +159,12 @@ pub data Pushes (old : World) (own to : ℕ) (said : Said) (new : World) : Type 
 -- A message gets a target more, where it is here and has not that target.
 pub data Widens (old : World) (own to : ℕ) (key : Key) (said : Said) (new : World) : Type 0 where
   Adds : (node : Node) (disk : List Record) → IsUp old own node disk → said ≡ Widened (can_widen to (said_of key disk)) → new ≡ after old own (widen own to key node disk) → Widens old own to key said new
-  FailsWidening : (node : Node) (disk : List Record) → IsUp old own node disk → said ≡ Faulted own → GoesDown old own disk (widen own to key node disk).disk new → Widens old own to key said new
+  FailsWidening : (node : Node) (disk : List Record) → IsUp old own node disk → said ≡ Faulted own → NodeGoesDown old own disk (widen own to key node disk).disk new → Widens old own to key said new
 
 -- A node that is down starts. Where its disk fails it stays down.
 pub data StartsUp (plan : Plan) (old : World) (n : ℕ) (said : Said) (new : World) : Type 0 where
   Comes : (disk pending : List Record) (node : Node) (records : List Record) → slot_at old.slots n ≡ Some (record { life = Down pending; disk = disk })
-      → Starts n plan.nodes disk pending node records → said ≡ NodeUp node.boot → new ≡ record old { slots = with_slot old.slots n (slot_up node records) }
+      → StartsNode n plan.nodes disk pending node records → said ≡ NodeUp node.boot → new ≡ record old { slots = with_slot old.slots n (slot_up node records) }
       → StartsUp plan old n said new
   FailsStarting : (disk pending next records : List Record) → slot_at old.slots n ≡ Some (record { life = Down pending; disk = disk })
       → StopsStart disk pending next records → said ≡ Faulted n
@@ -172,7 +172,7 @@ pub data StartsUp (plan : Plan) (old : World) (n : ℕ) (said : Said) (new : Wor
       → StartsUp plan old n said new
 
 -- A node goes down, or is lost. The book has it.
-pub record Falls (old : World) (n : ℕ) (life : Life) (said : Said) (new : World) : Type 0 where
+pub record NodeFalls (old : World) (n : ℕ) (life : Life) (said : Said) (new : World) : Type 0 where
   pub slot : Slot
   pub here : slot_at old.slots n ≡ Some slot
   pub was : slot.life ≢ Lost
@@ -180,29 +180,29 @@ pub record Falls (old : World) (n : ℕ) (life : Life) (said : Said) (new : Worl
   pub new_world : new ≡ record old { slots = with_slot old.slots n (record slot { life = life }); book = old.book ++ WentDown n ∷ [] }
 
 -- what each step does that is not refused, by what it says
-abbrev pub Does : Plan → World → Step → Said → World → Type 0
-Does plan old (Begin node call) said new = Begins plan old node call said new
-Does plan old (AskFor ticket) said new = Answers plan old ticket said new
-Does plan old (GiveUp ticket) said new = IsGivenUp old ticket said new
-Does plan old (Post letter keep) said new = Posts plan old letter keep said new
-Does plan old (DropLetter letter) said new = Drops old letter said new
-Does plan old (PushTo from to) said new = Pushes old from to said new
-Does plan old (Widen at user id to) said new = Widens old at to (Message user id) said new
-Does plan old (Crash node) said new = Falls old node (Down []) said new
-Does plan old (Start node) said new = StartsUp plan old node said new
-Does plan old (Lose node) said new = Falls old node Lost said new
-Does plan old (Tick seconds) said new = (said ≡ Finished) × (new ≡ record old { seconds = seconds })
+abbrev pub DoesStep : Plan → World → Step → Said → World → Type 0
+DoesStep plan old (Begin node call) said new = BeginsCall plan old node call said new
+DoesStep plan old (AskFor ticket) said new = AnswersAsk plan old ticket said new
+DoesStep plan old (GiveUp ticket) said new = IsGivenUp old ticket said new
+DoesStep plan old (Post letter keep) said new = Posts plan old letter keep said new
+DoesStep plan old (DropLetter letter) said new = Drops old letter said new
+DoesStep plan old (PushTo from to) said new = Pushes old from to said new
+DoesStep plan old (Widen at user id to) said new = Widens old at to (Message user id) said new
+DoesStep plan old (Crash node) said new = NodeFalls old node (Down []) said new
+DoesStep plan old (Start node) said new = StartsUp plan old node said new
+DoesStep plan old (Lose node) said new = NodeFalls old node Lost said new
+DoesStep plan old (Tick seconds) said new = (said ≡ Finished) × (new ≡ record old { seconds = seconds })
 
 -- Memory ran out in a step that had begun its work on a disk: some records are written, and the node is down. A letter that was posted stays in flight.
 pub data RunsShort (plan : Plan) (old : World) (step : Step) (n : ℕ) (new : World) : Type 0 where
-  Beginning : (call : Call) (node : Node) (disk : List Record) (octets : List ℕ) → step ≡ Begin n call → IsUp old n node disk → IsFiled old n node call octets
-      → GoesDown (with_struck old call) n disk (begun_by plan old n node disk call octets).disk new
+  Beginning : (call : NodeCall) (node : Node) (disk : List Record) (octets : List ℕ) → step ≡ Begin n call → IsUp old n node disk → IsFiled old n node call octets
+      → NodeGoesDown (with_struck old call) n disk (begun_by plan old n node disk call octets).disk new
       → RunsShort plan old step n new
   Hearing : (number : ℕ) (keep : Bool) (flies : Flies old number) (node : Node) (disk : List Record) → step ≡ Post number keep → flies.letter.to ≡ n → IsUp old n node disk
-      → GoesDown old n disk (hear n plan.nodes node disk flies.letter).disk new
+      → NodeGoesDown old n disk (hear n plan.nodes node disk flies.letter).disk new
       → RunsShort plan old step n new
   Widening : (user : List ℕ) (id : Id) (to : ℕ) (node : Node) (disk : List Record) → step ≡ Widen n user id to → IsUp old n node disk
-      → GoesDown old n disk (widen n to (Message user id) node disk).disk new
+      → NodeGoesDown old n disk (widen n to (Message user id) node disk).disk new
       → RunsShort plan old step n new
   Starting : (disk pending next records : List Record) → step ≡ Start n → slot_at old.slots n ≡ Some (record { life = Down pending; disk = disk })
       → StopsStart disk pending next records
@@ -210,17 +210,17 @@ pub data RunsShort (plan : Plan) (old : World) (step : Step) (n : ℕ) (new : Wo
       → RunsShort plan old step n new
 
 -- A step is refused exactly where it has a fault, and then changes nothing. Want of memory has no cause that is told.
-abbrev pub Makes : Plan → World → Step → Outcome → World → Type 0
-Makes plan old step (Says said) new = (fault_of plan step old ≡ None) × Does plan old step said new
-Makes plan old step (Refused fault) new = (fault_of plan step old ≡ Some fault) × (new ≡ old)
-Makes plan old step (NoMemory None) new = new ≡ old
-Makes plan old step (NoMemory (Some n)) new = RunsShort plan old step n new
+abbrev pub MakesStep : Plan → World → Step → StepOutcome → World → Type 0
+MakesStep plan old step (Says said) new = (step_fault plan step old ≡ None) × DoesStep plan old step said new
+MakesStep plan old step (Refused fault) new = (step_fault plan step old ≡ Some fault) × (new ≡ old)
+MakesStep plan old step (NoMemory None) new = new ≡ old
+MakesStep plan old step (NoMemory (Some n)) new = RunsShort plan old step n new
 
 -- a step and what came of it
-pub record Made : Type 0 where
+pub record MadeStep : Type 0 where
   pub step : Step
-  pub outcome : Outcome
+  pub outcome : StepOutcome
 
-abbrev pub MakesAll : Plan → World → List Made → World → Type 0
+abbrev pub MakesAll : Plan → World → List MadeStep → World → Type 0
 MakesAll plan old [] new = new ≡ old
-MakesAll plan old (made ∷ others) new = (mid : World) × Makes plan old made.step made.outcome mid × MakesAll plan mid others new
+MakesAll plan old (made ∷ others) new = (mid : World) × MakesStep plan old made.step made.outcome mid × MakesAll plan mid others new

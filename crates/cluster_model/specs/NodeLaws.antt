@@ -12,15 +12,15 @@ use Rattle.object_model.specs.Mishaps.{MishapKind, Mishaps}
 use Rattle.cluster_model.specs.Cluster.{CallKind, Node, Life, Slot}
 use Rattle.cluster_model.specs.Cluster.Life.{Down, Lost}
 use Rattle.cluster_model.specs.Store.{Store, Update, take_one, take_all}
-use Rattle.cluster_model.specs.Moves.{Content, IsReady, IsAct, IsDone}
-use Rattle.cluster_model.specs.Starts.{Starts, StopsStart, IsRecovered, recovered}
+use Rattle.cluster_model.specs.Moves.{Content, IsReady, IsAct, IsCallDone}
+use Rattle.cluster_model.specs.Starts.{StartsNode, StopsStart, IsRecovered, recovered}
 use Rattle.cluster_model.specs.Thrown.{with_stamps}
 use Rattle.cluster_model.specs.Rules.{Reaction, idle, push, widen, begin_deliver, begin_strike, end_ticket, refuse, mishap}
-use Rattle.cluster_model.specs.Deeds.{slot_up, act_of, cut_act, drop_act, start_act, stop_act, IsNumbered, hear}
+use Rattle.cluster_model.specs.Deeds.{slot_up, act_of, cut_act, drop_act, start_act, stop_act, IsOfPlan, hear}
 
 abbrev pub NodesHear : Type 0
-NodesHear = (own nodes : ℕ) (node : Node) (disk : List Record) (letter : Letter) → IsNumbered own nodes → letter.to ≡ own → IsReady own (slot_up node disk) (Some letter)
-    → IsDone (act_of own (with_stamps letter.body node) disk (hear own nodes node disk letter) (Some letter) None [])
+NodesHear = (own nodes : ℕ) (node : Node) (disk : List Record) (letter : Letter) → IsOfPlan own nodes → letter.to ≡ own → IsReady own (slot_up node disk) (Some letter)
+    → IsCallDone (act_of own (with_stamps letter.body node) disk (hear own nodes node disk letter) (Some letter) None [])
 
 -- the message that a Deliver files
 abbrev pub content_of : ℕ → Node → List (List ℕ) → List ℕ → Content
@@ -29,27 +29,27 @@ content_of own node users octets = record { id = record { node = own; boot = nod
 abbrev pub NodesDeliver : Type 0
 NodesDeliver = (own nodes seconds : ℕ) (node : Node) (disk : List Record) (users : List (List ℕ)) (octets : List ℕ) (targets : ℕ) → ((m : ℕ) → has targets m ≡ true → m ≤ nodes) → ends_in_crlf octets ≡ true
     → IsReady own (slot_up node disk) None
-    → IsDone (act_of own node disk (begin_deliver own nodes seconds node disk users octets targets) None (Some (content_of own node users octets)) [])
+    → IsCallDone (act_of own node disk (begin_deliver own nodes seconds node disk users octets targets) None (Some (content_of own node users octets)) [])
 
 abbrev pub NodesStrike : Type 0
-NodesStrike = (own nodes : ℕ) (node : Node) (disk : List Record) (user : List ℕ) (asked : List (Id × ℕ)) → IsNumbered own nodes
+NodesStrike = (own nodes : ℕ) (node : Node) (disk : List Record) (user : List ℕ) (asked : List (Id × ℕ)) → IsOfPlan own nodes
     → ((pair : Id × ℕ) → Among pair asked → (m : ℕ) → has pair.1 m ≡ true → m ≤ nodes) → IsReady own (slot_up node disk) None
-    → IsDone (act_of own node disk (begin_strike own nodes node disk user asked) None None (map (λ pair. (user, pair.0)) asked))
+    → IsCallDone (act_of own node disk (begin_strike own nodes node disk user asked) None None (map (λ pair. (user, pair.0)) asked))
 
 abbrev pub NodesPush : Type 0
-NodesPush = (own to : ℕ) (keys : List Key) (node : Node) (disk : List Record) → IsReady own (slot_up node disk) None → IsDone (act_of own node disk (push own to keys node disk) None None [])
+NodesPush = (own to : ℕ) (keys : List Key) (node : Node) (disk : List Record) → IsReady own (slot_up node disk) None → IsCallDone (act_of own node disk (push own to keys node disk) None None [])
 
 abbrev pub NodesWiden : Type 0
-NodesWiden = (own to : ℕ) (key : Key) (node : Node) (disk : List Record) → IsReady own (slot_up node disk) None → IsDone (act_of own node disk (widen own to key node disk) None None [])
+NodesWiden = (own to : ℕ) (key : Key) (node : Node) (disk : List Record) → IsReady own (slot_up node disk) None → IsCallDone (act_of own node disk (widen own to key node disk) None None [])
 
 abbrev pub NodesEnd : Type 0
-NodesEnd = (own seq : ℕ) (node : Node) (disk : List Record) → IsReady own (slot_up node disk) None → IsDone (act_of own node disk (end_ticket seq node disk) None None [])
+NodesEnd = (own seq : ℕ) (node : Node) (disk : List Record) → IsReady own (slot_up node disk) None → IsCallDone (act_of own node disk (end_ticket seq node disk) None None [])
 
 abbrev pub NodesRefuse : Type 0
-NodesRefuse = (own : ℕ) (kind : CallKind) (mishaps : Mishaps) (drawn : ℕ) (node : Node) (disk : List Record) → IsReady own (slot_up node disk) None → IsDone (act_of own node disk (refuse kind mishaps drawn node disk) None None [])
+NodesRefuse = (own : ℕ) (kind : CallKind) (mishaps : Mishaps) (drawn : ℕ) (node : Node) (disk : List Record) → IsReady own (slot_up node disk) None → IsCallDone (act_of own node disk (refuse kind mishaps drawn node disk) None None [])
 
 abbrev pub NodesNote : Type 0
-NodesNote = (kind : MishapKind) (own seq at : ℕ) (node : Node) (disk : List Record) → IsReady own (slot_up node disk) None → IsDone (act_of own node disk (mishap kind seq at node disk) None None [])
+NodesNote = (kind : MishapKind) (own seq at : ℕ) (node : Node) (disk : List Record) → IsReady own (slot_up node disk) None → IsCallDone (act_of own node disk (mishap kind seq at node disk) None None [])
 
 -- whatever call it is, a fault of the disk may cut it
 abbrev pub NodesFault : Type 0
@@ -61,7 +61,7 @@ abbrev pub NodesFall : Type 0
 NodesFall = (n : ℕ) (before : Slot) (life : Life) → before.life ≢ Lost → (life ≡ Down []) ⊎ (life ≡ Lost) → IsReady n before None → IsAct (drop_act n before life)
 
 abbrev pub NodesStart : Type 0
-NodesStart = (n nodes : ℕ) (disk pending new : List Record) (node : Node) → Starts n nodes disk pending node new → IsReady n (record { life = Down pending; disk = disk }) None
+NodesStart = (n nodes : ℕ) (disk pending new : List Record) (node : Node) → StartsNode n nodes disk pending node new → IsReady n (record { life = Down pending; disk = disk }) None
     → IsAct (start_act n disk pending node new)
 
 -- a start that its disk cuts is one, too
@@ -76,7 +76,7 @@ StartsOwe = (own : ℕ) (records : List Record) → IsRecovered own (recovered o
 -- A node that hears a letter learns its stamps first, which is an act that changes nothing else.
 abbrev pub NodesLearn : Type 0
 NodesLearn = (own : ℕ) (node : Node) (disk : List Record) (letter : Letter) → IsReady own (slot_up node disk) None
-    → IsDone (act_of own node disk (idle (with_stamps letter.body node) disk) None None [])
+    → IsCallDone (act_of own node disk (idle (with_stamps letter.body node) disk) None None [])
 
 -- A state that is taken: the disk then says the join of what it said and of the state, and of every other key what it said.
 abbrev pub TakesJoin : Type 0

@@ -16,16 +16,16 @@ use Rattle.cluster_model.specs.Cluster.{Slot, slot_at}
 use Rattle.cluster_model.specs.Starts.{first_epoch}
 use Rattle.cluster_model.specs.Targets.{deliver_targets}
 use Rattle.cluster_model.specs.Thrown.Why.{Late}
-use Rattle.cluster_model.specs.Progress.Answer.{Stored, Dropped}
+use Rattle.cluster_model.specs.Progress.NodeAnswer.{Stored, Dropped}
 use Rattle.cluster_model.specs.Progress.Ask.{Pending, Done}
 use Rattle.cluster_model.specs.Room.{Flight}
 use Rattle.cluster_model.specs.World.{World}
 use Rattle.cluster_model.specs.Steps.{Step, Said}
-use Rattle.cluster_model.specs.Steps.Call.{Deliver, Strike as StrikeCall}
+use Rattle.cluster_model.specs.Steps.NodeCall.{Deliver, Strike as StrikeCall}
 use Rattle.cluster_model.specs.Steps.Step.{Begin, AskFor, GiveUp, Post, DropLetter, PushTo}
 use Rattle.cluster_model.specs.Steps.Said.{Begun, Asked, Heard, Thrown, Sent, Finished}
-use Rattle.cluster_model.specs.Steps.Outcome.{Says}
-use Rattle.cluster_model.specs.WorldLaws.{opening}
+use Rattle.cluster_model.specs.Steps.StepOutcome.{Says}
+use Rattle.cluster_model.specs.WorldLaws.{opening_world}
 use Rattle.cluster_model.specs.Plain.{Line, PlaysTo, disks_say}
 
 abbrev pub alice : List ℕ
@@ -35,28 +35,28 @@ alice = 97 ∷ 108 ∷ 105 ∷ 99 ∷ 101 ∷ []
 abbrev pub hi : List ℕ
 hi = 104 ∷ 105 ∷ 13 ∷ 10 ∷ []
 
-abbrev pub plan_of : ℕ → ℕ → ℕ → Plan
-plan_of nodes copies confirm = record { nodes = nodes; copies = copies; confirm = confirm; buckets = 1; users = fin.empty; postmaster = alice }
+abbrev pub row_plan : ℕ → ℕ → ℕ → Plan
+row_plan nodes copies confirm = record { nodes = nodes; copies = copies; confirm = confirm; buckets = 1; users = fin.empty; postmaster = alice }
 
 -- the id, the ticket and the stamp of this number that node 1 draws in its first boot
-abbrev pub id_at : ℕ → Id
-id_at seq = record { node = 1; boot = 1; seq = seq }
+abbrev pub row_id : ℕ → Id
+row_id seq = record { node = 1; boot = 1; seq = seq }
 
 abbrev pub ticket_of : ℕ → Number
 ticket_of seq = record { node = 1; boot = 1; seq = seq }
 
-abbrev pub stamp_at : ℕ → Stamp
-stamp_at count = record { count = count; boot = 1; node = 1 }
+abbrev pub row_stamp : ℕ → Stamp
+row_stamp count = record { count = count; boot = 1; node = 1 }
 
 -- alice's copy of the message of this number: here, and gone
 abbrev pub copy_at : ℕ → Key
-copy_at seq = Message alice (id_at seq)
+copy_at seq = Message alice (row_id seq)
 
 abbrev pub here_at : ℕ → ℕ → State
-here_at count targets = record { value = Here; stamp = stamp_at count; targets = targets }
+here_at count targets = record { value = Here; stamp = row_stamp count; targets = targets }
 
 abbrev pub gone_at : ℕ → ℕ → State
-gone_at count targets = record { value = Gone; stamp = stamp_at count; targets = targets }
+gone_at count targets = record { value = Gone; stamp = row_stamp count; targets = targets }
 
 -- a letter by its number, sender, receiver, ticket and body
 abbrev pub flight : ℕ → ℕ → ℕ → Option Number → Body → Flight
@@ -64,10 +64,10 @@ flight number from to ticket body = record { number = number; letter = record { 
 
 -- node 1 sends the message of this number for its targets, under its ticket, and is told that it is filed
 abbrev pub file : ℕ → ℕ → ℕ → ℕ → ℕ → Flight
-file number to ticket seq targets = flight number 1 to (Some (ticket_of ticket)) (File (id_at seq) (stamp_at seq) targets (alice ∷ []) hi)
+file number to ticket seq targets = flight number 1 to (Some (ticket_of ticket)) (File (row_id seq) (row_stamp seq) targets (alice ∷ []) hi)
 
 abbrev pub filed : ℕ → ℕ → ℕ → ℕ → Flight
-filed number from ticket seq = flight number from 1 (Some (ticket_of ticket)) (Filed (id_at seq))
+filed number from ticket seq = flight number from 1 (Some (ticket_of ticket)) (Filed (row_id seq))
 
 -- a line: a step, what it says, and the letters that it sends
 abbrev pub line : Step → Said → List Flight → Line
@@ -79,14 +79,14 @@ deliver ticket flights = line (Begin 1 (Deliver (record { sender = []; helo = []
 
 -- alice's copy of the message of this number is deleted
 abbrev pub strike : ℕ → ℕ → ℕ → List Flight → Line
-strike seq targets ticket flights = line (Begin 1 (StrikeCall alice (record { id = id_at seq; targets = targets } ∷ []))) (Begun (ticket_of ticket)) flights
+strike seq targets ticket flights = line (Begin 1 (StrikeCall alice (record { id = row_id seq; targets = targets } ∷ []))) (Begun (ticket_of ticket)) flights
 
 -- a ticket is asked: it has so many of the confirmations that it wants; its message is stored, confirmed by these nodes; its deletion is done, confirmed by node 1
 abbrev pub pending : ℕ → ℕ → ℕ → Line
 pending ticket got wanted = line (AskFor (ticket_of ticket)) (Asked (Pending got wanted)) []
 
 abbrev pub stored : ℕ → ℕ → ℕ → Line
-stored ticket seq confirmers = line (AskFor (ticket_of ticket)) (Asked (Done (Stored (id_at seq) confirmers))) []
+stored ticket seq confirmers = line (AskFor (ticket_of ticket)) (Asked (Done (Stored (row_id seq) confirmers))) []
 
 abbrev pub dropped : ℕ → Line
 dropped ticket = line (AskFor (ticket_of ticket)) (Asked (Done (Dropped (1 ∷ [])))) []
@@ -112,8 +112,8 @@ abbrev pub push_to : ℕ → ℕ → List Flight → Line
 push_to from to flights = line (PushTo from to) (Sent (length flights)) flights
 
 -- the targets of the message of this number
-abbrev pub targets_at : ℕ → ℕ → ℕ → ℕ
-targets_at nodes copies seq = deliver_targets copies 1 seq (nodes_in (all_nodes nodes) nodes)
+abbrev pub row_targets : ℕ → ℕ → ℕ → ℕ
+row_targets nodes copies seq = deliver_targets copies 1 seq (nodes_in (all_nodes nodes) nodes)
 
 -- the records of a node's disk
 abbrev pub records_in : Option Slot → List Record
@@ -125,7 +125,7 @@ disk_at n w = records_in (slot_at w.slots n)
 
 -- a worked case: a plan, its lines from the opening on, and the world that they lead to
 abbrev pub Case : ℕ → ℕ → ℕ → List Line → World → Type 0
-Case nodes copies confirm lines end = PlaysTo (plan_of nodes copies confirm) hi (opening nodes) lines end
+Case nodes copies confirm lines end = PlaysTo (row_plan nodes copies confirm) hi (opening_world nodes) lines end
 
 -- Three nodes, R = 3, F = 2. Letters 1 and 2 are the Files to nodes 2 and 3, and letter 3 is node 2's confirmation. Then the message is stored, and nodes 1 and 2 confirmed it;
 -- node 3 has nothing yet.
@@ -142,7 +142,7 @@ HeardTwiceCountsOnce = (end : World)
     ∷ again 1 (filed 3 2 1 1 ∷ []) ∷ again 1 (filed 4 2 1 1 ∷ []) ∷ post 3 [] ∷ post 4 [] ∷ pending 1 2 3
     ∷ post 2 (filed 5 3 1 1 ∷ []) ∷ post 5 [] ∷ stored 1 1 7 ∷ []) end
     × (disks_say (copy_at 1) end ≡ Some (here_at 1 7) ∷ Some (here_at 1 7) ∷ Some (here_at 1 7) ∷ [])
-    × (disk_at 2 end ≡ Boot 1 ∷ Octets (id_at 1) hi ∷ Stated (copy_at 1) (here_at 1 7) ∷ [])
+    × (disk_at 2 end ≡ Boot 1 ∷ Octets (row_id 1) hi ∷ Stated (copy_at 1) (here_at 1 7) ∷ [])
 
 -- Three nodes, R = 2, F = 2. The first message has nodes 1 and 2 as targets and sends letter 1. It is given up. The second has nodes 2 and 3, and sends letters 2 and 3; their
 -- confirmations are letters 4 and 5, and letter 5 stores it. Letter 1 comes last of all: node 2 takes its copy, and its confirmation, letter 6, is late. A third message would
@@ -155,7 +155,7 @@ TargetsMoveOn = (end : World)
     ∷ post 1 (filed 6 2 1 1 ∷ []) ∷ late 6 ∷ []) end
     × (disks_say (copy_at 1) end ≡ Some (here_at 1 3) ∷ Some (here_at 1 3) ∷ None ∷ [])
     × (disks_say (copy_at 2) end ≡ None ∷ Some (here_at 2 6) ∷ Some (here_at 2 6) ∷ [])
-    × (targets_at 3 2 1 ≡ 3) × (targets_at 3 2 2 ≡ 6) × (targets_at 3 2 3 ≡ 5)
+    × (row_targets 3 2 1 ≡ 3) × (row_targets 3 2 2 ≡ 6) × (row_targets 3 2 3 ≡ 5)
 
 -- letters about the state of message 1, which is here at nodes 1 and 2
 abbrev pub pushed : ℕ → ℕ → ℕ → Flight
@@ -175,15 +175,15 @@ PushedThreeTimes = (end : World)
     × Case 2 2 1 (deliver 1 (file 1 2 1 1 3 ∷ []) ∷ stored 1 1 1 ∷ drop_letter 1 ∷ push_to 1 2 (pushed 2 1 2 ∷ [])
     ∷ again 2 (acked 3 2 1 ∷ []) ∷ again 2 (acked 4 2 1 ∷ []) ∷ post 2 (acked 5 2 1 ∷ [])
     ∷ post 5 (retire 6 1 2 ∷ []) ∷ post 4 [] ∷ post 3 [] ∷ post 6 [] ∷ push_to 1 2 [] ∷ push_to 2 1 [] ∷ []) end
-    × (disk_at 1 end ≡ Boot 1 ∷ Octets (id_at 1) hi ∷ Stated (copy_at 1) (here_at 1 3) ∷ Retired (copy_at 1) (here_at 1 3) ∷ [])
-    × (disk_at 2 end ≡ Boot 1 ∷ Octets (id_at 1) hi ∷ Stated (copy_at 1) (here_at 1 3) ∷ Retired (copy_at 1) (here_at 1 3) ∷ [])
+    × (disk_at 1 end ≡ Boot 1 ∷ Octets (row_id 1) hi ∷ Stated (copy_at 1) (here_at 1 3) ∷ Retired (copy_at 1) (here_at 1 3) ∷ [])
+    × (disk_at 2 end ≡ Boot 1 ∷ Octets (row_id 1) hi ∷ Stated (copy_at 1) (here_at 1 3) ∷ Retired (copy_at 1) (here_at 1 3) ∷ [])
 
 -- the letter by which node 1 asks node 2 to delete message 1, and the one that tells that it did
 abbrev pub struck : ℕ → Flight
-struck number = flight number 1 2 (Some (ticket_of 2)) (Strike alice (record { id = id_at 1; stamp = stamp_at 2 } ∷ []))
+struck number = flight number 1 2 (Some (ticket_of 2)) (Strike alice (record { id = row_id 1; stamp = row_stamp 2 } ∷ []))
 
 abbrev pub struck_told : ℕ → Flight
-struck_told number = flight number 2 1 (Some (ticket_of 2)) (StrikeTold alice (id_at 1 ∷ []))
+struck_told number = flight number 2 1 (Some (ticket_of 2)) (StrikeTold alice (row_id 1 ∷ []))
 
 -- Two nodes, R = 2, F = 1. A message is heard and kept in flight, deleted, and heard once more. The deletion is dropped at once, since its own node confirms it. The late Here,
 -- letter 1, is confirmed and changes nothing, whatever its stamp. What answers a ticket that was answered is late.

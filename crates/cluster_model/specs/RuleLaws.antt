@@ -9,36 +9,36 @@ use Rattle.object_model.specs.Lists.{Among}
 use Rattle.object_model.specs.Sets.{has, count_in}
 use Rattle.object_model.specs.States.{join_after}
 use Rattle.object_model.specs.Said.{said}
-use Rattle.object_model.specs.Letters.{Mark, Body, Letter}
+use Rattle.object_model.specs.Letters.{DeletionMark, Body, Letter}
 use Rattle.object_model.specs.Letters.Body.{File, Filed, Strike, StrikeTold}
 use Rattle.object_model.specs.UpdateLog.{Logged}
 use Rattle.object_model.specs.Mishaps.{Mishaps}
-use Rattle.cluster_model.specs.Cluster.{Filing, Asked, Want, Node, Cluster, slot_at, epoch_of}
-use Rattle.cluster_model.specs.Cluster.Asked.{Copies}
+use Rattle.cluster_model.specs.Cluster.{NodeFiling, AskedOfNodes, Want, Node, Cluster, slot_at, epoch_of}
+use Rattle.cluster_model.specs.Cluster.AskedOfNodes.{Copies}
 use Rattle.cluster_model.specs.Store.{Store, Update, take_all, updates_of}
-use Rattle.cluster_model.specs.Claims.{Says, ShowsGone}
+use Rattle.cluster_model.specs.Claims.{SaysFact, ShowsGone}
 use Rattle.cluster_model.specs.Claims.Fact.{HasCopies}
 use Rattle.cluster_model.specs.Moves.{IsReady}
-use Rattle.cluster_model.specs.Parts.{Holds, Sound}
+use Rattle.cluster_model.specs.Parts.{IsHeldSomewhere, Sound}
 use Rattle.cluster_model.specs.Rules.{answer, told_want, failed_want, new_want, hear_ack, begin_deliver, begin_strike}
 use Rattle.cluster_model.specs.Thrown.{thrown_by}
 use Rattle.cluster_model.specs.Progress.{ask_of_wants}
 use Rattle.cluster_model.specs.Progress.Ask.{Pending, Done}
-use Rattle.cluster_model.specs.Progress.Answer.{Stored, Failed}
-use Rattle.cluster_model.specs.Deeds.{slot_up, IsNumbered, hear}
+use Rattle.cluster_model.specs.Progress.NodeAnswer.{Stored, Failed}
+use Rattle.cluster_model.specs.Deeds.{slot_up, IsOfPlan, hear}
 
 -- A confirmation comes after the records: once a node has answered a File, its disk has each user's copy with its octets, or says that it is gone.
 abbrev pub ConfirmsAfterRecords : Type 0
 ConfirmsAfterRecords = (own nodes : ℕ) (node : Node) (disk : List Record) (letter : Letter) (id : Id) (stamp : Stamp) (targets : ℕ) (users : List (List ℕ)) (octets : List ℕ)
     → letter.body ≡ File id stamp targets users octets
-    → ((hear own nodes node disk letter).out ≡ answer letter (Filed id) ∷ []) × Says (hear own nodes node disk letter).disk (HasCopies users id)
+    → ((hear own nodes node disk letter).out ≡ answer letter (Filed id) ∷ []) × SaysFact (hear own nodes node disk letter).disk (HasCopies users id)
 
 -- So with a deletion: once a node has answered a Strike, its disk says that each copy is gone.
 abbrev pub ConfirmsAfterGone : Type 0
-ConfirmsAfterGone = (own nodes : ℕ) (node : Node) (disk : List Record) (letter : Letter) (user : List ℕ) (marks : List Mark)
-    → IsNumbered own nodes → IsReady own (slot_up node disk) (Some letter) → letter.body ≡ Strike user marks
+ConfirmsAfterGone = (own nodes : ℕ) (node : Node) (disk : List Record) (letter : Letter) (user : List ℕ) (marks : List DeletionMark)
+    → IsOfPlan own nodes → IsReady own (slot_up node disk) (Some letter) → letter.body ≡ Strike user marks
     → ((hear own nodes node disk letter).out ≡ answer letter (StrikeTold user (map (λ mark. mark.id) marks)) ∷ [])
-    × ((mark : Mark) → Among mark marks → ShowsGone user mark.id (hear own nodes node disk letter).disk)
+    × ((mark : DeletionMark) → Among mark marks → ShowsGone user mark.id (hear own nodes node disk letter).disk)
 
 -- The disk says the merge: of each key the join of what it said and of all states that were taken, and of other keys what it said.
 abbrev pub DiskSaysMerge : Type 0
@@ -54,32 +54,32 @@ abbrev pub CountsOnce : Type 0
 CountsOnce = (body : Body) (from : ℕ) (want : Want) → told_want body from (told_want body from want) ≡ told_want body from want
 
 -- node m is one of those that are asked
-abbrev pub IsAsked : Want → ℕ → Type 0
-IsAsked want m = (has want.confirmed m ≡ true) ⊎ (has want.waiting m ≡ true) ⊎ (has want.failed m ≡ true)
+abbrev pub IsNodeAsked : Want → ℕ → Type 0
+IsNodeAsked want m = (has want.confirmed m ≡ true) ⊎ (has want.waiting m ≡ true) ⊎ (has want.failed m ≡ true)
 
 -- Each target is confirmed, waiting or failed, and stays one of these, and no other node is. Who confirmed stays confirmed.
-pub record TargetsStand (own : ℕ) (asked : Asked) (targets : ℕ) (want : Want) (body : Body) (from at : ℕ) : Type 0 where
-  pub begins : (m : ℕ) → has targets m ≡ true → IsAsked (new_want own asked targets) m
-  pub told : (m : ℕ) → IsAsked want m → IsAsked (told_want body from want) m
-  pub failed : (m : ℕ) → IsAsked want m → IsAsked (failed_want at want) m
+pub record TargetsStand (own : ℕ) (asked : AskedOfNodes) (targets : ℕ) (want : Want) (body : Body) (from at : ℕ) : Type 0 where
+  pub begins : (m : ℕ) → has targets m ≡ true → IsNodeAsked (new_want own asked targets) m
+  pub told : (m : ℕ) → IsNodeAsked want m → IsNodeAsked (told_want body from want) m
+  pub failed : (m : ℕ) → IsNodeAsked want m → IsNodeAsked (failed_want at want) m
   -- and nobody else is asked, or confirmed
-  pub only_begins : (m : ℕ) → IsAsked (new_want own asked targets) m → has targets m ≡ true
-  pub only_told : (m : ℕ) → IsAsked (told_want body from want) m → IsAsked want m
-  pub only_failed : (m : ℕ) → IsAsked (failed_want at want) m → IsAsked want m
+  pub only_begins : (m : ℕ) → IsNodeAsked (new_want own asked targets) m → has targets m ≡ true
+  pub only_told : (m : ℕ) → IsNodeAsked (told_want body from want) m → IsNodeAsked want m
+  pub only_failed : (m : ℕ) → IsNodeAsked (failed_want at want) m → IsNodeAsked want m
   pub stays_told : (m : ℕ) → has want.confirmed m ≡ true → has (told_want body from want).confirmed m ≡ true
   pub stays_failed : (m : ℕ) → has want.confirmed m ≡ true → has (failed_want at want).confirmed m ≡ true
 
 abbrev pub TargetsStay : Type 0
-TargetsStay = (own : ℕ) (asked : Asked) (targets : ℕ) (want : Want) (body : Body) (from at : ℕ) → TargetsStand own asked targets want body from at
+TargetsStay = (own : ℕ) (asked : AskedOfNodes) (targets : ℕ) (want : Want) (body : Body) (from at : ℕ) → TargetsStand own asked targets want body from at
 
 -- A delivery is stored exactly where F nodes have confirmed it, has failed exactly where no F nodes are left, and waits otherwise.
-pub record StoredByCount (confirm : ℕ) (mishaps : Mishaps) (filing : Filing) (want : Want) : Type 0 where
+pub record StoredByCount (confirm : ℕ) (mishaps : Mishaps) (filing : NodeFiling) (want : Want) : Type 0 where
   pub stored : confirm ≤ count_in want.confirmed → ask_of_wants confirm mishaps (want ∷ []) ≡ Done (Stored filing.id want.confirmed)
   pub failed : count_in want.confirmed < confirm → count_in (bit_or want.confirmed want.waiting) < confirm → ask_of_wants confirm mishaps (want ∷ []) ≡ Done (Failed mishaps)
   pub waits : count_in want.confirmed < confirm → confirm ≤ count_in (bit_or want.confirmed want.waiting) → ask_of_wants confirm mishaps (want ∷ []) ≡ Pending (count_in want.confirmed) confirm
 
 abbrev pub StoredAtF : Type 0
-StoredAtF = (confirm : ℕ) (mishaps : Mishaps) (filing : Filing) (want : Want) → want.asked ≡ Copies filing → StoredByCount confirm mishaps filing want
+StoredAtF = (confirm : ℕ) (mishaps : Mishaps) (filing : NodeFiling) (want : Want) → want.asked ≡ Copies filing → StoredByCount confirm mishaps filing want
 
 -- An acknowledgement takes an entry out of the log only if it is of that entry's very state, and of the last node that remains in it.
 abbrev pub LeavesLogAtLast : Type 0
@@ -110,8 +110,8 @@ SendsInOrder = (own nodes seconds : ℕ) (node : Node) (disk : List Record)
 abbrev pub IdsAreNew : Type 0
 IdsAreNew = (confirm : ℕ) (w : Cluster) → Sound confirm w → (own : ℕ) (node : Node) (disk : List Record) → slot_at w.slots own ≡ Some (slot_up node disk)
     → (id : Id) → (record { node = own; boot = node.boot; seq = node.drawn + 1 }) ≡ id
-    → ((octets : List ℕ) → Holds w.slots w.flying id octets → ⊥) × ((copy : Acked) → Among (Acknowledged copy) w.book → copy.id ≢ id)
+    → ((octets : List ℕ) → IsHeldSomewhere w.slots w.flying id octets → ⊥) × ((copy : Acked) → Among (Acknowledged copy) w.book → copy.id ≢ id)
 
 -- All octets of one id, on disks and in letters, are the same: whoever fetches a message gets what was filed.
 abbrev pub FetchedAsFiled : Type 0
-FetchedAsFiled = (confirm : ℕ) (w : Cluster) → Sound confirm w → (id : Id) (octets others : List ℕ) → Holds w.slots w.flying id octets → Holds w.slots w.flying id others → octets ≡ others
+FetchedAsFiled = (confirm : ℕ) (w : Cluster) → Sound confirm w → (id : Id) (octets others : List ℕ) → IsHeldSomewhere w.slots w.flying id octets → IsHeldSomewhere w.slots w.flying id others → octets ≡ others

@@ -13,13 +13,13 @@ use Rattle.mail_model.specs.Listing.{is_same_id, is_here, octets_in}
 use Rattle.object_model.specs.Sets.{has, one_node, with_node, without_node, all_nodes}
 use Rattle.object_model.specs.States.{is_same_state}
 use Rattle.object_model.specs.Said.{said}
-use Rattle.object_model.specs.Letters.{Number, Mark, Body, Letter}
+use Rattle.object_model.specs.Letters.{Number, DeletionMark, Body, Letter}
 use Rattle.object_model.specs.Letters.Body.{File, Filed, Strike, StrikeTold, Push, PushAck, Retire}
 use Rattle.object_model.specs.UpdateLog.{Logged, cleared}
 use Rattle.object_model.specs.Mishaps.{MishapKind, Mishaps, no_mishaps, counted}
-use Rattle.cluster_model.specs.Cluster.{Filing, Asked, Want, CallKind, Ticket, Node, epoch_of}
+use Rattle.cluster_model.specs.Cluster.{NodeFiling, AskedOfNodes, Want, CallKind, Ticket, Node, epoch_of}
 use Rattle.cluster_model.specs.Cluster.CallKind.{Delivering, Striking}
-use Rattle.cluster_model.specs.Cluster.Asked.{Copies, Deletion}
+use Rattle.cluster_model.specs.Cluster.AskedOfNodes.{Copies, Deletion}
 use Rattle.cluster_model.specs.Store.{Store, Update, take_all, here_updates, gone_updates, with_octets}
 
 -- what a call leaves of the node and of its disk, and the letters that it sends in order of receiver
@@ -41,17 +41,17 @@ abbrev pub answer : Letter → Body → Letter
 answer letter body = record { from = letter.to; to = letter.from; epoch = letter.epoch; ticket = letter.ticket; body = body }
 
 -- the greatest number that was drawn for a message, or that a record names for the node and its boot
-abbrev pub named_by : ℕ → ℕ → Key → ℕ
-named_by own boot (Profile user) = 0
-named_by own boot (Message user id) = if nat_eq id.node own && nat_eq id.boot boot then id.seq else 0
+abbrev pub greatest_named : ℕ → ℕ → Key → ℕ
+greatest_named own boot (Profile user) = 0
+greatest_named own boot (Message user id) = if nat_eq id.node own && nat_eq id.boot boot then id.seq else 0
 
-abbrev pub drawn_through : ℕ → ℕ → ℕ → List Update → ℕ
-drawn_through own boot drawn [] = drawn
-drawn_through own boot drawn (update ∷ updates) = drawn_through own boot (max drawn (named_by own boot update.key)) updates
+abbrev pub drawn_past : ℕ → ℕ → ℕ → List Update → ℕ
+drawn_past own boot drawn [] = drawn
+drawn_past own boot drawn (update ∷ updates) = drawn_past own boot (max drawn (greatest_named own boot update.key)) updates
 
 -- the node once it took these updates
 abbrev pub with_updates : ℕ → Node → List Update → Store → Node
-with_updates own node updates store = record node { drawn = drawn_through own node.boot node.drawn updates; log = store.log }
+with_updates own node updates store = record node { drawn = drawn_past own node.boot node.drawn updates; log = store.log }
 
 -- File: each user's copy is taken, and octets are stored where a copy is here and has none yet. It is confirmed in every case.
 abbrev pub hear_file : ℕ → Node → List Record → Letter → Id → Stamp → ℕ → List (List ℕ) → List ℕ → Reaction
@@ -60,7 +60,7 @@ hear_file own node disk letter id stamp targets users octets =
     record { node = with_updates own node (here_updates id stamp targets users) store; disk = store.disk; out = answer letter (Filed id) ∷ [] }
 
 -- Strike: each deletion is taken, for all nodes of the plan
-abbrev pub hear_strike : ℕ → ℕ → Node → List Record → Letter → List ℕ → List Mark → Reaction
+abbrev pub hear_strike : ℕ → ℕ → Node → List Record → Letter → List ℕ → List DeletionMark → Reaction
 hear_strike own nodes node disk letter user marks =
     let store = take_all own (gone_updates user (all_nodes nodes) marks) (store_of node disk) in
     record {
@@ -83,7 +83,7 @@ hear_push own node disk letter key state octets =
     record { node = with_updates own node updates store; disk = store.disk; out = answer letter (PushAck key state) ∷ [] }
 
 -- whether a letter tells that this was done
-abbrev pub tells : Body → Asked → Bool
+abbrev pub tells : Body → AskedOfNodes → Bool
 tells (Filed id) (Copies filing) = is_same_id id filing.id
 tells (StrikeTold user ids) (Deletion name id) = pointwise nat_eq user name && list_any (λ one. is_same_id one id) ids
 tells body asked = false
@@ -197,7 +197,7 @@ abbrev pub widen : ℕ → ℕ → Key → Node → List Record → Reaction
 widen own to key node disk = widened own to key node disk (said key disk)
 
 -- a want that begins: the own node has confirmed where it is asked, and the others are waited for
-abbrev pub new_want : ℕ → Asked → ℕ → Want
+abbrev pub new_want : ℕ → AskedOfNodes → ℕ → Want
 new_want own asked targets = record { asked = asked; confirmed = if has targets own then one_node own else 0; waiting = without_node targets own; failed = 0 }
 
 -- a ticket that begins
@@ -209,7 +209,7 @@ abbrev pub begin_deliver : ℕ → ℕ → ℕ → Node → List Record → List
 begin_deliver own nodes seconds node disk users octets targets =
     let id : Id = record { node = own; boot = node.boot; seq = node.drawn + 1 } in
     let stamp : Stamp = record { count = node.count + 1; boot = node.boot; node = own } in
-    let filing : Filing = record { id = id; users = users; seconds = seconds; size = length octets; digest = sha256 octets } in
+    let filing : NodeFiling = record { id = id; users = users; seconds = seconds; size = length octets; digest = sha256 octets } in
     let store = if has targets own then take_all own (here_updates id stamp targets users) (store_of node (with_octets id users octets disk)) else store_of node disk in
     record {
       node = record node {
@@ -224,26 +224,26 @@ begin_deliver own nodes seconds node disk users octets targets =
     }
 
 -- one deletion of a Strike, and the nodes that are asked for it
-pub record Item : Type 0 where
-  pub mark : Mark
+pub record StrikeItem : Type 0 where
+  pub mark : DeletionMark
   pub asks : ℕ
 
 -- each deletion gets a stamp of its own
-abbrev pub dated : ℕ → Node → ℕ → List (Id × ℕ) → List Item
+abbrev pub dated : ℕ → Node → ℕ → List (Id × ℕ) → List StrikeItem
 dated own node count [] = []
 dated own node count (item ∷ items) =
     record { mark = record { id = item.0; stamp = record { count = count + 1; boot = node.boot; node = own } }; asks = item.1 } ∷ dated own node (count + 1) items
 
 -- the deletions that node m is asked for
-abbrev pub marks_for : ℕ → List Item → List Mark
+abbrev pub marks_for : ℕ → List StrikeItem → List DeletionMark
 marks_for m [] = []
 marks_for m (item ∷ items) = (if has item.asks m then item.mark ∷ [] else []) ++ marks_for m items
 
-abbrev pub strike_to : ℕ → EpochId → Number → List ℕ → ℕ → List Mark → List Letter
+abbrev pub strike_to : ℕ → EpochId → Number → List ℕ → ℕ → List DeletionMark → List Letter
 strike_to own epoch number user m [] = []
 strike_to own epoch number user m (mark ∷ marks) = record { from = own; to = m; epoch = epoch; ticket = Some number; body = Strike user (mark ∷ marks) } ∷ []
 
-abbrev pub strikes_to : ℕ → EpochId → Number → List ℕ → List Item → ℕ → List Letter
+abbrev pub strikes_to : ℕ → EpochId → Number → List ℕ → List StrikeItem → ℕ → List Letter
 strikes_to own epoch number user items zero = []
 strikes_to own epoch number user items (suc k) =
     strikes_to own epoch number user items k ++ (if nat_eq (suc k) own then [] else strike_to own epoch number user (suc k) (marks_for (suc k) items))
@@ -256,7 +256,7 @@ begin_strike own nodes node disk user asked =
     let store = take_all own updates (store_of node disk) in
     record {
       node = record node {
-        drawn = drawn_through own node.boot node.drawn updates;
+        drawn = drawn_past own node.boot node.drawn updates;
         count = node.count + length asked;
         calls = node.calls + 1;
         log = store.log;

@@ -12,7 +12,7 @@ use Rattle.object_model.specs.Letters.{Member, Membership}
 use Rattle.object_model.specs.UpdateLog.{Logged, Log, noted, retired}
 use Rattle.cluster_model.specs.Cluster.{Node}
 use Rattle.cluster_model.specs.Claims.{boot_of}
-use Rattle.cluster_model.specs.Rules.{named_by}
+use Rattle.cluster_model.specs.Rules.{greatest_named}
 
 -- The first epoch has all nodes of the plan as members. As yet there is no other, and each node that is up has it.
 abbrev pub first_epoch : EpochId
@@ -26,20 +26,20 @@ abbrev pub first_membership : ℕ → Membership
 first_membership nodes = record { epoch = first_epoch; members = first_members nodes; map = [] }
 
 -- the greatest count of a stamp in the states of these records
-abbrev pub count_on : ℕ → List Record → ℕ
-count_on count [] = count
-count_on count (Stated key state ∷ records) = count_on (max count state.stamp.count) records
-count_on count (Boot boot ∷ records) = count_on count records
-count_on count (Promise epoch ∷ records) = count_on count records
-count_on count (Octets id octets ∷ records) = count_on count records
-count_on count (Retired key state ∷ records) = count_on count records
+abbrev pub greatest_count_on : ℕ → List Record → ℕ
+greatest_count_on count [] = count
+greatest_count_on count (Stated key state ∷ records) = greatest_count_on (max count state.stamp.count) records
+greatest_count_on count (Boot boot ∷ records) = greatest_count_on count records
+greatest_count_on count (Promise epoch ∷ records) = greatest_count_on count records
+greatest_count_on count (Octets id octets ∷ records) = greatest_count_on count records
+greatest_count_on count (Retired key state ∷ records) = greatest_count_on count records
 
 -- the greatest number of a message that these records name for a node and its boot
 abbrev pub drawn_on : ℕ → ℕ → ℕ → List Record → ℕ
 drawn_on own boot drawn [] = drawn
 drawn_on own boot drawn (Octets id octets ∷ records) = drawn_on own boot (max drawn (if nat_eq id.node own && nat_eq id.boot boot then id.seq else 0)) records
-drawn_on own boot drawn (Stated key state ∷ records) = drawn_on own boot (max drawn (named_by own boot key)) records
-drawn_on own boot drawn (Retired key state ∷ records) = drawn_on own boot (max drawn (named_by own boot key)) records
+drawn_on own boot drawn (Stated key state ∷ records) = drawn_on own boot (max drawn (greatest_named own boot key)) records
+drawn_on own boot drawn (Retired key state ∷ records) = drawn_on own boot (max drawn (greatest_named own boot key)) records
 drawn_on own boot drawn (Boot other ∷ records) = drawn_on own boot drawn records
 drawn_on own boot drawn (Promise epoch ∷ records) = drawn_on own boot drawn records
 
@@ -72,7 +72,7 @@ abbrev pub started : ℕ → ℕ → ℕ → List Record → Node
 started own nodes boot records = record {
   boot = boot;
   drawn = drawn_on own boot 0 records;
-  count = count_on 0 records;
+  count = greatest_count_on 0 records;
   calls = 0;
   installed = Some (first_membership nodes);
   log = recovered own records;
@@ -80,7 +80,7 @@ started own nodes boot records = record {
 }
 
 -- A start keeps or loses what was pending, and records the next boot before all else.
-pub record Starts (own nodes : ℕ) (disk pending : List Record) (node : Node) (new : List Record) : Type 0 where
+pub record StartsNode (own nodes : ℕ) (disk pending : List Record) (node : Node) (new : List Record) : Type 0 where
   pub kept : List Record
   pub pending_is : (kept ≡ []) ⊎ (kept ≡ pending)
   pub records : new ≡ (disk ++ kept) ++ Boot (boot_of (disk ++ kept) + 1) ∷ []

@@ -23,12 +23,12 @@ pub record Struck : Type 0 where
   pub targets : ℕ
 
 -- the calls that have a rule here: that a message be stored, and that copies of a user be deleted
-pub data Call : Type 0 where
-  Deliver : (mail : Mail) → Call
-  Strike : (user : List ℕ) (items : List Struck) → Call
+pub data NodeCall : Type 0 where
+  Deliver : (mail : Mail) → NodeCall
+  Strike : (user : List ℕ) (items : List Struck) → NodeCall
 
 pub data Step : Type 0 where
-  Begin : (node : ℕ) (call : Call) → Step
+  Begin : (node : ℕ) (call : NodeCall) → Step
   AskFor : (ticket : Number) → Step
   GiveUp : (ticket : Number) → Step
   -- a letter is handed to its receiver, and kept in flight or not
@@ -66,10 +66,10 @@ pub data StepFault : Type 0 where
   NoRoom : StepFault
 
 -- What comes of a step: what it says, its refusal, or that memory ran out, which may have taken a node down.
-pub data Outcome : Type 0 where
-  Says : (said : Said) → Outcome
-  Refused : (fault : StepFault) → Outcome
-  NoMemory : (down : Option ℕ) → Outcome
+pub data StepOutcome : Type 0 where
+  Says : (said : Said) → StepOutcome
+  Refused : (fault : StepFault) → StepOutcome
+  NoMemory : (down : Option ℕ) → StepOutcome
 
 -- the nodes that a step names; the node in an id is not meant
 abbrev pub nodes_named : Step → List ℕ
@@ -127,14 +127,14 @@ letter_fault (DropLetter letter) flying = if is_some (letter_at letter flying) t
 letter_fault step flying = None
 
 -- whether a ticket stands
-abbrev pub stands_in : Number → Life → Bool
-stands_in number (Up node) = is_some (ticket_at number.node node (Some number))
-stands_in number (Down pending) = false
-stands_in number Lost = false
+abbrev pub ticket_stands_in : Number → Life → Bool
+ticket_stands_in number (Up node) = is_some (ticket_at number.node node (Some number))
+ticket_stands_in number (Down pending) = false
+ticket_stands_in number Lost = false
 
 abbrev pub stands_at : Number → Option Slot → Bool
 stands_at number None = false
-stands_at number (Some slot) = stands_in number slot.life
+stands_at number (Some slot) = ticket_stands_in number slot.life
 
 abbrev pub ticket_fault : Step → List Slot → Option StepFault
 ticket_fault (AskFor ticket) slots = if stands_at ticket (slot_at slots ticket.node) then None else Some NoSuchTicket
@@ -153,11 +153,11 @@ end_of_dates = 253402300800
 abbrev pub few_mishaps : Plan → Node → Mishaps
 few_mishaps plan node = if has_few_members plan node then counted FewMembers no_mishaps else no_mishaps
 
-abbrev pub mishaps_of_call : Plan → ℕ → Node → Call → Mishaps
+abbrev pub mishaps_of_call : Plan → ℕ → Node → NodeCall → Mishaps
 mishaps_of_call plan seconds node (Deliver mail) = if nat_le end_of_dates seconds then counted Year (few_mishaps plan node) else few_mishaps plan node
 mishaps_of_call plan seconds node (Strike user items) = few_mishaps plan node
 
-abbrev pub fails_at_once : Plan → ℕ → Node → Call → Bool
+abbrev pub fails_at_once : Plan → ℕ → Node → NodeCall → Bool
 fails_at_once plan seconds node call = nat_lt 0 (mishaps_of (mishaps_of_call plan seconds node call))
 
 -- the greatest numbers of messages, stamps and tickets, and of boots; and the number from which on no letter is sent
@@ -171,16 +171,16 @@ abbrev pub letters_end : ℕ
 letters_end = 2 ^ 64 - 2 ^ 32
 
 -- how many stamps a call draws, and how many numbers of messages
-abbrev pub stamps_drawn : Call → ℕ
+abbrev pub stamps_drawn : NodeCall → ℕ
 stamps_drawn (Deliver mail) = 1
 stamps_drawn (Strike user items) = length items
 
-abbrev pub ids_drawn : Call → ℕ
+abbrev pub ids_drawn : NodeCall → ℕ
 ids_drawn (Deliver mail) = 1
 ids_drawn (Strike user items) = 0
 
 -- whether the call would draw a number above the greatest; one that fails at once draws no stamp
-abbrev pub is_worn_for : Plan → ℕ → Node → Call → Bool
+abbrev pub is_worn_for : Plan → ℕ → Node → NodeCall → Bool
 is_worn_for plan seconds node call =
     nat_lt greatest (node.calls + 1) || nat_lt greatest (node.drawn + ids_drawn call) || (not (fails_at_once plan seconds node call) && nat_lt greatest (node.count + stamps_drawn call))
 
@@ -229,17 +229,17 @@ room_fault step w = None
 abbrev pub is_node : Plan → ℕ → Bool
 is_node plan n = nat_lt 0 n && nat_le n plan.nodes
 
-abbrev pub name_fault : Plan → Step → Option StepFault
-name_fault plan step = if list_all (is_node plan) (nodes_named step) then None else Some NoSuchNode
+abbrev pub node_name_fault : Plan → Step → Option StepFault
+node_name_fault plan step = if list_all (is_node plan) (nodes_named step) then None else Some NoSuchNode
 
 -- the first fault there is
-abbrev pub first_of : List (Option StepFault) → Option StepFault
-first_of [] = None
-first_of (None ∷ faults) = first_of faults
-first_of (Some fault ∷ faults) = Some fault
+abbrev pub first_fault : List (Option StepFault) → Option StepFault
+first_fault [] = None
+first_fault (None ∷ faults) = first_fault faults
+first_fault (Some fault ∷ faults) = Some fault
 
 -- why a step is refused, if it is: the first that fits
-abbrev pub fault_of : Plan → Step → World → Option StepFault
-fault_of plan step w = first_of (
-    name_fault plan step ∷ actor_fault step w.slots (actor_of step) ∷ letter_fault step w.flying ∷ ticket_fault step w.slots ∷ worn_fault plan step w ∷ room_fault step w ∷ []
+abbrev pub step_fault : Plan → Step → World → Option StepFault
+step_fault plan step w = first_fault (
+    node_name_fault plan step ∷ actor_fault step w.slots (actor_of step) ∷ letter_fault step w.flying ∷ ticket_fault step w.slots ∷ worn_fault plan step w ∷ room_fault step w ∷ []
     )

@@ -12,7 +12,7 @@ use Rattle.object_model.specs.Sets.{without_node}
 use Rattle.object_model.specs.Keys.{is_same_key}
 use Rattle.object_model.specs.States.{join_with, is_news}
 use Rattle.object_model.specs.Said.{said, is_gone_held}
-use Rattle.object_model.specs.Letters.{Mark}
+use Rattle.object_model.specs.Letters.{DeletionMark}
 use Rattle.object_model.specs.UpdateLog.{Log, noted}
 
 -- an update log and the records of its node's disk
@@ -47,7 +47,7 @@ abbrev pub here_updates : Id → Stamp → ℕ → List (List ℕ) → List Upda
 here_updates id stamp targets users = map (λ user. record { key = Message user id; state = record { value = Here; stamp = stamp; targets = targets } }) users
 
 -- a copy that is gone, for each mark
-abbrev pub gone_updates : List ℕ → ℕ → List Mark → List Update
+abbrev pub gone_updates : List ℕ → ℕ → List DeletionMark → List Update
 gone_updates user targets marks = map (λ mark. record { key = Message user mark.id; state = record { value = Gone; stamp = mark.stamp; targets = targets } }) marks
 
 -- whether octets of the message are to be stored: some user's join is here, and none are stored yet

@@ -4,14 +4,14 @@ use Rattle.object_model.specs.Lists.{Among}
 use Rattle.object_model.specs.Sets.{has, count_in, nodes_in}
 use Rattle.object_model.specs.Letters.{Body}
 use Rattle.object_model.specs.Mishaps.{MishapKind, Mishaps, no_mishaps, counted, mishaps_of}
-use Rattle.cluster_model.specs.Cluster.{Filing, Want, CallKind, Ticket}
-use Rattle.cluster_model.specs.Cluster.Asked.{Copies, Deletion}
+use Rattle.cluster_model.specs.Cluster.{NodeFiling, Want, CallKind, Ticket}
+use Rattle.cluster_model.specs.Cluster.AskedOfNodes.{Copies, Deletion}
 use Rattle.cluster_model.specs.Cluster.CallKind.{Delivering, Striking}
-use Rattle.cluster_model.specs.Rules.{Item, new_want, told_ticket, failed_want}
+use Rattle.cluster_model.specs.Rules.{StrikeItem, new_want, told_ticket, failed_want}
 use Rattle.cluster_model.specs.Targets.{deliver_targets, strike_asks}
-use Rattle.cluster_model.specs.Progress.{answer_to, ask_of}
+use Rattle.cluster_model.specs.Progress.{answer_once_confirmed, ask_of}
 use Rattle.cluster_model.specs.Progress.Ask.{Done}
-use Rattle.cluster_model.specs.Progress.Answer.{Failed}
+use Rattle.cluster_model.specs.Progress.NodeAnswer.{Failed}
 
 -- all nodes that something asks
 abbrev pub all_asked : Want → ℕ
@@ -24,10 +24,10 @@ pub record IsFair (confirm : ℕ) (ticket : Ticket) : Type 0 where
   pub at_once : ticket.wants ≡ [] → 0 < mishaps_of ticket.mishaps
 
 -- the ticket of a delivery to these targets, and of the deletion of these items
-abbrev pub delivery_ticket : ℕ → Filing → ℕ → Ticket
+abbrev pub delivery_ticket : ℕ → NodeFiling → ℕ → Ticket
 delivery_ticket own filing targets = record { kind = Delivering; wants = new_want own (Copies filing) targets ∷ []; mishaps = no_mishaps }
 
-abbrev pub deletion_ticket : ℕ → List ℕ → List Item → Ticket
+abbrev pub deletion_ticket : ℕ → List ℕ → List StrikeItem → Ticket
 deletion_ticket own user items = record { kind = Striking; wants = map (λ item. new_want own (Deletion user item.mark.id) item.asks) items; mishaps = no_mishaps }
 
 -- Where the epoch has F members, the targets of a delivery are F at least, and so are those that a deletion asks for each item.
@@ -39,8 +39,8 @@ TargetsAreEnough = (confirm copies own mask nodes : ℕ) → confirm ≤ copies 
 -- so their tickets begin fair,
 abbrev pub TicketsBeginFair : Type 0
 TicketsBeginFair = (confirm own : ℕ)
-    → ((filing : Filing) (targets : ℕ) → confirm ≤ count_in targets → IsFair confirm (delivery_ticket own filing targets))
-    × ((user : List ℕ) (items : List Item) → items ≢ [] → ((item : Item) → Among item items → confirm ≤ count_in item.asks) → IsFair confirm (deletion_ticket own user items))
+    → ((filing : NodeFiling) (targets : ℕ) → confirm ≤ count_in targets → IsFair confirm (delivery_ticket own filing targets))
+    × ((user : List ℕ) (items : List StrikeItem) → items ≢ [] → ((item : StrikeItem) → Among item items → confirm ≤ count_in item.asks) → IsFair confirm (deletion_ticket own user items))
     × ((kind : CallKind) (mishaps : Mishaps) → 0 < mishaps_of mishaps → IsFair confirm (record { kind = kind; wants = []; mishaps = mishaps }))
 
 -- and stay so with each answer that is heard and each mishap that is noted.
@@ -56,4 +56,4 @@ FailedHasCause = (confirm : ℕ) (ticket : Ticket) (mishaps : Mishaps) → IsFai
 -- Where no node failed and all have answered, the call is done, and has not failed.
 abbrev pub AllHeardIsDone : Type 0
 AllHeardIsDone = (confirm : ℕ) (ticket : Ticket) (want : Want) (wants : List Want) → IsFair confirm ticket → ticket.wants ≡ want ∷ wants
-    → ((one : Want) → Among one ticket.wants → (one.waiting ≡ 0) × (one.failed ≡ 0)) → ask_of confirm ticket ≡ Done (answer_to (want ∷ wants) want want.asked)
+    → ((one : Want) → Among one ticket.wants → (one.waiting ≡ 0) × (one.failed ≡ 0)) → ask_of confirm ticket ≡ Done (answer_once_confirmed (want ∷ wants) want want.asked)

@@ -9,7 +9,7 @@ use Rattle.object_model.specs.Mishaps.MishapKind.{Crowded}
 use Rattle.cluster_model.specs.Cluster.{Life, Slot, Cluster, slot_at, with_slot}
 use Rattle.cluster_model.specs.Cluster.Life.{Up, Down, Lost}
 use Rattle.cluster_model.specs.Moves.{Move, after_moves, MayMoves}
-use Rattle.cluster_model.specs.Parts.{Holds, Sound}
+use Rattle.cluster_model.specs.Parts.{IsHeldSomewhere, Sound}
 use Rattle.cluster_model.specs.Rules.{mishap}
 use Rattle.cluster_model.specs.Deeds.{slot_up}
 use Rattle.cluster_model.specs.Room.{Flight}
@@ -34,7 +34,7 @@ pub record Leads (confirm : ℕ) (May : Id → List ℕ → Type 0) (old new : C
   pub moves : List Move
   pub may : MayMoves confirm moves old
   pub is : new ≡ after_moves moves old
-  pub brings : Sound confirm old → (id : Id) (octets : List ℕ) → Holds new.slots new.flying id octets → Holds old.slots old.flying id octets ⊎ May id octets
+  pub brings : Sound confirm old → (id : Id) (octets : List ℕ) → IsHeldSomewhere new.slots new.flying id octets → IsHeldSomewhere old.slots old.flying id octets ⊎ May id octets
 
 -- the end of a letter that is not the node of its ticket
 abbrev pub other_end : Letter → Number → ℕ

@@ -9,22 +9,22 @@ use Rattle.mail_model.specs.Told.{Mail}
 use Rattle.mail_model.specs.Mail.{IsStored}
 use Rattle.cluster_model.specs.Cluster.{Node, Slot, slot_at}
 use Rattle.cluster_model.specs.Cluster.Life.{Up}
-use Rattle.cluster_model.specs.Parts.{Holds, Sound}
+use Rattle.cluster_model.specs.Parts.{IsHeldSomewhere, Sound}
 use Rattle.cluster_model.specs.Starts.{first_membership}
-use Rattle.cluster_model.specs.Deeds.{IsNumbered}
+use Rattle.cluster_model.specs.Deeds.{IsOfPlan}
 use Rattle.cluster_model.specs.World.{World, letters_of, cluster_of}
-use Rattle.cluster_model.specs.Steps.{Step, Outcome}
-use Rattle.cluster_model.specs.Steps.Call.{Deliver}
+use Rattle.cluster_model.specs.Steps.{Step, StepOutcome}
+use Rattle.cluster_model.specs.Steps.NodeCall.{Deliver}
 use Rattle.cluster_model.specs.Steps.Step.{Begin}
-use Rattle.cluster_model.specs.Makes.{Made, Makes, MakesAll, IsUp}
+use Rattle.cluster_model.specs.Makes.{MadeStep, MakesStep, MakesAll, IsUp}
 
 -- each slot is that of a node of the plan
 abbrev pub InPlan : ℕ → List Slot → Type 0
-InPlan nodes slots = (n : ℕ) (slot : Slot) → slot_at slots n ≡ Some slot → IsNumbered n nodes
+InPlan nodes slots = (n : ℕ) (slot : Slot) → slot_at slots n ≡ Some slot → IsOfPlan n nodes
 
 -- whatever steps are made and whatever comes of them, a sound world stays sound
 abbrev pub StepsKeepSound : Type 0
-StepsKeepSound = (plan : Plan) (old new : World) (steps : List Made) → MakesAll plan old steps new
+StepsKeepSound = (plan : Plan) (old new : World) (steps : List MadeStep) → MakesAll plan old steps new
     → InPlan plan.nodes old.slots → Sound plan.confirm (cluster_of old) → InPlan plan.nodes new.slots × Sound plan.confirm (cluster_of new)
 
 -- where a cluster opens over empty disks: each node in its first boot, which is on its disk, and in the first epoch
@@ -38,12 +38,12 @@ abbrev pub fresh_slots : ℕ → ℕ → List Slot
 fresh_slots nodes zero = []
 fresh_slots nodes (suc k) = fresh_slot nodes ∷ fresh_slots nodes k
 
-abbrev pub opening : ℕ → World
-opening nodes = record { slots = fresh_slots nodes nodes; flying = []; sent = 0; seconds = 0; book = [] }
+abbrev pub opening_world : ℕ → World
+opening_world nodes = record { slots = fresh_slots nodes nodes; flying = []; sent = 0; seconds = 0; book = [] }
 
 -- it is sound
 abbrev pub OpeningIsSound : Type 0
-OpeningIsSound = (nodes confirm : ℕ) → nodes ≤ 64 → InPlan nodes (opening nodes).slots × Sound confirm (cluster_of (opening nodes))
+OpeningIsSound = (nodes confirm : ℕ) → nodes ≤ 64 → InPlan nodes (opening_world nodes).slots × Sound confirm (cluster_of (opening_world nodes))
 
 -- a message that a Deliver files has the next id of its node, and is the message that was told, at the seconds of the world
 pub record FiledBy (old : World) (own : ℕ) (mail : Mail) (id : Id) (octets : List ℕ) : Type 0 where
@@ -60,6 +60,6 @@ MayBring old step id octets = ⊥
 
 -- Whatever octets a sound world holds after a step it held before, or the step is the Deliver of that message.
 abbrev pub StepsBring : Type 0
-StepsBring = (plan : Plan) (old new : World) (step : Step) (outcome : Outcome) → Makes plan old step outcome new
-    → InPlan plan.nodes old.slots → Sound plan.confirm (cluster_of old) → (id : Id) (octets : List ℕ) → Holds new.slots (letters_of new.flying) id octets
-    → Holds old.slots (letters_of old.flying) id octets ⊎ MayBring old step id octets
+StepsBring = (plan : Plan) (old new : World) (step : Step) (outcome : StepOutcome) → MakesStep plan old step outcome new
+    → InPlan plan.nodes old.slots → Sound plan.confirm (cluster_of old) → (id : Id) (octets : List ℕ) → IsHeldSomewhere new.slots (letters_of new.flying) id octets
+    → IsHeldSomewhere old.slots (letters_of old.flying) id octets ⊎ MayBring old step id octets

@@ -9,23 +9,23 @@ use Rattle.std.specs.BTreeMap.{BTreeMap}
 use Rattle.cluster_world.specs.declared.row.Row.{Row}
 use Rattle.mail_model.specs.Identity.{Id}
 use Rattle.mail_model.specs.Listing.{is_same_id}
-use Rattle.cluster_world.specs.Index.{held_in, is_among, left_for, without}
+use Rattle.cluster_world.specs.Index.{held_in, is_id_among, left_for, without}
 use Rattle.cluster_world.specs.declared.index.Kept.{Kept}
 
 either_or : (a b c : Bool) → (a || (b || c)) ≡ ((a || b) || c)
 either_or true b c = refl
 either_or false b c = refl
 
-among-append : (id : Id) (first second : List Id) → is_among id (first ++ second) ≡ (is_among id first || is_among id second)
+among-append : (id : Id) (first second : List Id) → is_id_among id (first ++ second) ≡ (is_id_among id first || is_id_among id second)
 among-append id [] second = refl
 among-append id (other ∷ first) second =
-    ap (λ (b : Bool). is_same_id other id || b) (among-append id first second) ∙ either_or (is_same_id other id) (is_among id first) (is_among id second)
+    ap (λ (b : Bool). is_same_id other id || b) (among-append id first second) ∙ either_or (is_same_id other id) (is_id_among id first) (is_id_among id second)
 
 -- one id more
 pub among_more : (id : Id) (ids : List Id) (i : ℕ) (other : Id) → i < length ids → other ≡ get_or ids i other
-    → is_among id (take (i + 1) ids) ≡ (is_among id (take i ids) || (is_same_id other id || false))
+    → is_id_among id (take (i + 1) ids) ≡ (is_id_among id (take i ids) || (is_same_id other id || false))
 among_more id ids i other within is =
-    ap (λ (l : List Id). is_among id l) (take_more ids i other within ∙ ap (λ (j : Id). take i ids ++ j ∷ []) (sym is)) ∙ among-append id (take i ids) (other ∷ [])
+    ap (λ (l : List Id). is_id_among id l) (take_more ids i other within ∙ ap (λ (j : Id). take i ids ++ j ∷ []) (sym is)) ∙ among-append id (take i ids) (other ∷ [])
 
 module _ (old new : BTreeMap (List ℕ) Row) (user : List ℕ) (row : Row)
     (updates : (q : List ℕ) → tree.get (slice_cmp nat_cmp) new q ≡ cond (tree.is_at (slice_cmp nat_cmp user) q) (Some row) (tree.get (slice_cmp nat_cmp) old q)) where

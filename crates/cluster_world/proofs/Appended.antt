@@ -10,8 +10,8 @@ use Rattle.mail_model.specs.Record.Record.{Octets}
 use Rattle.mail_model.specs.Record.{Record, IsJournal, payload_of, payloads_of}
 use Rattle.mail_model.specs.Site.{HoldsRecords, copies_of, nth_id}
 use Rattle.cluster_world.proofs.Recalled.{length-frames-append, length-one-frame}
-use Rattle.disk_journal.specs.Journal.{Stands, HasGate, HoldsEither}
-use Rattle.cluster_world.specs.Appends.{RecordsStand, HoldsFront, AppendsAll, AppendsMail, Stops, Wrote, IsHead, IsUntouched, WroteMail}
+use Rattle.disk_journal.specs.Journal.{TellsJournal, HasGate, HoldsEither}
+use Rattle.cluster_world.specs.Appends.{RecordsStand, HoldsFront, AppendsAll, AppendsMail, StopsAppending, Wrote, IsHead, IsUntouched, WroteMail}
 use Rattle.cluster_world.specs.declared.append.Measure.{Measure}
 use Rattle.cluster_world.specs.declared.append.DeliverFault.{DeliverFault}
 use Rattle.cluster_world.specs.declared.append.DeliverFault.TheVariants.{Disk, NoMemory}
@@ -21,13 +21,13 @@ one_payload records entry payload spelt = ap (λ (l : List ℕ). payloads_of rec
 
 -- one record that was appended
 pub one_stands : (old new : Option (List ℕ)) (end end' before now : ℕ) (entry : Record) (payload : List ℕ) → payload ≡ payload_of entry
-    → ((node : ℕ) (payloads : List (List ℕ)) → Stands old node payloads end → Stands new node (payloads ++ payload ∷ []) end')
+    → ((node : ℕ) (payloads : List (List ℕ)) → TellsJournal old node payloads end → TellsJournal new node (payloads ++ payload ∷ []) end')
     → HasGate new end' → now ≡ before → end' ≡ end + 5 + length payload → AppendsAll old new end end' before now (entry ∷ [])
 one_stands old new end end' before now entry payload spelt appended gate quiet grew = record {
   grew = omega (arith, grew, length-one-frame entry payload spelt);
   quiet = quiet;
   gate = gate;
-  stand = λ records stands. subst (λ (l : List (List ℕ)). Stands new 1 l end') (one_payload records entry payload spelt) (appended 1 (payloads_of records) stands);
+  stand = λ records stands. subst (λ (l : List (List ℕ)). TellsJournal new 1 l end') (one_payload records entry payload spelt) (appended 1 (payloads_of records) stands);
 }
 
 -- nothing follows what stood
@@ -40,7 +40,7 @@ holds_none (Some held) records wanted end stands = record {
   holds = subst (λ (l : List Record). HoldsRecords l held) (sym (append-nil records)) stands.journal;
 }
 
-pub nothing_written : (old new : Option (List ℕ)) (end : ℕ) (wanted : List Record) → new ≡ old → Stops old new end wanted
+pub nothing_written : (old new : Option (List ℕ)) (end : ℕ) (wanted : List Record) → new ≡ old → StopsAppending old new end wanted
 nothing_written old new end wanted same = record {
   holds = λ records stands. subst (λ (o : Option (List ℕ)). HoldsFront o records wanted) (sym same) (holds_none old records wanted end stands);
 }
@@ -65,8 +65,8 @@ holds_first (Some held) records entry payload spelt either = ⊎_elim
     either
 
 pub one_stops : (old new : Option (List ℕ)) (end : ℕ) (entry : Record) (payload : List ℕ) → payload ≡ payload_of entry
-    → ((node : ℕ) (payloads : List (List ℕ)) → Stands old node payloads end → HoldsEither new node payloads payload)
-    → Stops old new end (entry ∷ [])
+    → ((node : ℕ) (payloads : List (List ℕ)) → TellsJournal old node payloads end → HoldsEither new node payloads payload)
+    → StopsAppending old new end (entry ∷ [])
 one_stops old new end entry payload spelt failed = record {
   holds = λ records stands. holds_first new records entry payload spelt (failed 1 (payloads_of records) stands);
 }
@@ -100,7 +100,7 @@ holds_behind seen records first second h = record {
 
 -- some records, and then a front of more
 pub stops_more : (old mid new : Option (List ℕ)) (end end' before between : ℕ) (first second : List Record)
-    → AppendsAll old mid end end' before between first → Stops mid new end' second → Stops old new end (first ++ second)
+    → AppendsAll old mid end end' before between first → StopsAppending mid new end' second → StopsAppending old new end (first ++ second)
 stops_more old mid new end end' before between first second a b = record {
   holds = λ records stands. holds_behind new records first second (b.holds (records ++ first) (a.stand records stands));
 }
@@ -110,11 +110,11 @@ holds_all None records wanted end stands = record { added = wanted; missing = []
 holds_all (Some held) records wanted end stands = record { added = wanted; missing = []; front = sym (append-nil wanted); holds = stands.journal }
 
 -- all of the records are a front of them
-pub all_stop : (old new : Option (List ℕ)) (end end' before now : ℕ) (wanted : List Record) → AppendsAll old new end end' before now wanted → Stops old new end wanted
+pub all_stop : (old new : Option (List ℕ)) (end end' before now : ℕ) (wanted : List Record) → AppendsAll old new end end' before now wanted → StopsAppending old new end wanted
 all_stop old new end end' before now wanted a = record { holds = λ records stands. holds_all new records wanted end' (a.stand records stands) }
 
 -- a front of these is a front of more
-pub stops_before : (old new : Option (List ℕ)) (end : ℕ) (first second : List Record) → Stops old new end first → Stops old new end (first ++ second)
+pub stops_before : (old new : Option (List ℕ)) (end : ℕ) (first second : List Record) → StopsAppending old new end first → StopsAppending old new end (first ++ second)
 stops_before old new end first second stops = record {
   holds = λ records stands. let h = stops.holds records stands in record {
     added = h.added;
@@ -141,12 +141,12 @@ copies_split id stamp users i = ap (λ (l : List (List ℕ)). copies_of id stamp
 
 stops_in_copies : (old mid new : Option (List ℕ)) (end end' before between : ℕ) (id : Id) (stamp : Stamp) (users : List (List ℕ)) (i : ℕ) (user : List ℕ)
     → i < length users → user ≡ get_or users i user
-    → AppendsAll old mid end end' before between (copies_of id stamp (take i users)) → Stops mid new end' (copies_of id stamp (user ∷ []))
-    → Stops old new end (copies_of id stamp users)
+    → AppendsAll old mid end end' before between (copies_of id stamp (take i users)) → StopsAppending mid new end' (copies_of id stamp (user ∷ []))
+    → StopsAppending old new end (copies_of id stamp users)
 stops_in_copies old mid new end end' before between id stamp users i user within is front stops =
     let some = stops_more old mid new end end' before between _ _ front stops in
-    let through = subst (λ (l : List Record). Stops old new end l) (sym (copies_more id stamp users i user within is)) some in
-    subst (λ (l : List Record). Stops old new end l) (sym (copies_split id stamp users (i + 1))) (stops_before old new end _ (copies_of id stamp (drop (i + 1) users)) through)
+    let through = subst (λ (l : List Record). StopsAppending old new end l) (sym (copies_more id stamp users i user within is)) some in
+    subst (λ (l : List Record). StopsAppending old new end l) (sym (copies_split id stamp users (i + 1))) (stops_before old new end _ (copies_of id stamp (drop (i + 1) users)) through)
 
 -- the state of one user was not appended
 pub copy_failed : (S T : Type 0) (old mid new : Option (List ℕ)) (end end' end'' before between now : ℕ) (id : Id) (stamp : Stamp) (users : List (List ℕ)) (i : ℕ) (user : List ℕ) (fault : DeliverFault)

@@ -6,14 +6,14 @@ use Rattle.mail_base.specs.declared.ticket.Ticket.{Ticket}
 use Rattle.mail_base.specs.Delivers.{mail_in}
 use Rattle.session_model.specs.Calls.{Call, IsAnswerTo}
 use Rattle.session_model.specs.Calls.Call.{Deliver, Login, Fetch, Strike}
-use Rattle.call_tickets.specs.Seen.{call_seen, answer_seen, ids_in, secret_in}
+use Rattle.call_tickets.specs.Seen.{call_seen, answer_seen, ids_in, secret_given}
 use Rattle.call_tickets.specs.declared.call.Call.{Call as WorldCall}
 use Rattle.call_tickets.specs.declared.call.Call.TheVariants as call
 use Rattle.call_tickets.specs.declared.answer.Answer.{Answer as WorldAnswer}
 use Rattle.call_tickets.specs.declared.answer.Answer.TheVariants as own
 use Rattle.call_tickets.specs.declared.answer.Ask.TheVariants.{Pending as InProgress, Done}
-use Rattle.cluster_world.specs.World.{plan_of, is_up, tickets_of, drawn_of, book_of, standing_of, counted}
-use Rattle.cluster_world.specs.Steps.{BeginDid, AskDid, HasBegun, HasFallen, HasBrokenOff, Settles, IsDropped, call_of, nth_filing, nth_ticket}
+use Rattle.cluster_world.specs.World.{plan_of, is_up, tickets_drawn, drawn_of, book_of, standing_of, with_step_counted}
+use Rattle.cluster_world.specs.Steps.{BeginDid, AskDid, HasBegun, HasFallen, HasBrokenOff, SettlesCall, IsDropped, call_of, nth_filing, nth_ticket}
 use Rattle.cluster_world.specs.Found.{FindsLogin, FindsPart}
 use Rattle.cluster_world.specs.Outcomes.{IsFall, MakesMore, WillAnswer, AtOnce, AskedAtOnce}
 use Rattle.cluster_world.specs.declared.world.World.{World}
@@ -34,7 +34,7 @@ makes_more seen faults (first ∷ outcomes) outcome awaited between left old mid
     (next, world, first_came, makes_more seen faults outcomes outcome next between left world mid new rest came)
 
 -- so is what it is answered
-ready_given : (asked : Call) (pending : Pending) (given : WorldAnswer) (old new : _) → WillAnswer asked pending → Settles pending given old new → IsAnswerTo asked (answer_seen given)
+ready_given : (asked : Call) (pending : Pending) (given : WorldAnswer) (old new : _) → WillAnswer asked pending → SettlesCall pending given old new → IsAnswerTo asked (answer_seen given)
 ready_given (Deliver mail) (Filed filing) given old new ready settles = subst (λ (a : WorldAnswer). IsAnswerTo (Deliver mail) (answer_seen a)) (sym settles.0) tt
 ready_given (Login user secret) (Found found) given old new ready settles = subst (λ (a : WorldAnswer). IsAnswerTo (Login user secret) (answer_seen a)) (sym settles.0) ready
 ready_given (Fetch user id) (Found found) given old new ready settles = subst (λ (a : WorldAnswer). IsAnswerTo (Fetch user id) (answer_seen a)) (sym settles.0) ready
@@ -50,12 +50,12 @@ module _ {D : Type 0} (seen : D → Option (List ℕ)) (faults : D → ℕ) wher
   pub record IsAlone (asked : Call) (ticket : Ticket) (old new : World D) : Type 0 where
     pub plan : plan_of new ≡ plan_of old
     pub up : IsTrue (is_up new)
-    pub ticket_is : ticket ≡ nth_ticket (tickets_of old + 1)
+    pub ticket_is : ticket ≡ nth_ticket (tickets_drawn old + 1)
     pub pending : Pending
     pub standing : standing_of new ≡ standing_of old ++ call_of ticket pending ∷ []
     pub ready : WillAnswer asked pending
 
-  found_login : (user : List ℕ) (proof : _) (found : WorldAnswer) (ticket : Ticket) (old : World D) → FindsLogin found user proof ticket old → IsAnswerTo (Login user (secret_in proof)) (answer_seen found)
+  found_login : (user : List ℕ) (proof : _) (found : WorldAnswer) (ticket : Ticket) (old : World D) → FindsLogin found user proof ticket old → IsAnswerTo (Login user (secret_given proof)) (answer_seen found)
   found_login user proof (own.Listed login manager nodes items) ticket old finds = tt
   found_login user proof (own.Wrong stamp) ticket old finds = tt
   found_login user proof found ticket old finds = absurd finds
@@ -70,7 +70,7 @@ module _ {D : Type 0} (seen : D → Option (List ℕ)) (faults : D → ℕ) wher
       subst (λ (c : Call). IsAlone c ticket old new) (some_is (Deliver (mail_in deliver)) asked e)
       (record { plan = did.plan; up = did.up; ticket_is = did.ticket_is; pending = Filed (nth_filing (drawn_of old + 1) did.octets (mail_in deliver).mailboxes); standing = did.standing; ready = tt })
   alone (call.Login user proof) asked ticket old new e did =
-      subst (λ (c : Call). IsAlone c ticket old new) (some_is (Login user (secret_in proof)) asked e)
+      subst (λ (c : Call). IsAlone c ticket old new) (some_is (Login user (secret_given proof)) asked e)
       (record { plan = did.1.plan; up = did.1.up; ticket_is = did.1.ticket_is; pending = Found did.0; standing = did.1.standing; ready = found_login user proof did.0 ticket old did.2 })
   alone (call.Fetch user id holders start most) asked ticket old new e did =
       subst (λ (c : Call). IsAlone c ticket old new) (fetched_whole user id start most asked e).2
@@ -108,9 +108,9 @@ module _ {D : Type 0} (seen : D → Option (List ℕ)) (faults : D → ℕ) wher
 
   pub asked_at_once : AskedAtOnce seen faults
   asked_at_once begun asked number stirs result old mid new one none e begins asks =
-      let own = alone begun asked (nth_ticket number) (counted old) mid e begins.did.3 in
+      let own = alone begun asked (nth_ticket number) (with_step_counted old) mid e begins.did.3 in
       let nodes : (plan_of mid).nodes ≡ 1 = ap (λ p. p.nodes) own.plan ∙ one in
-      asked_for asked number result (counted mid) new own.pending nodes own.up
+      asked_for asked number result (with_step_counted mid) new own.pending nodes own.up
       (own.standing ∙ ap (λ (l : List Standing). l ++ call_of (nth_ticket number) own.pending ∷ []) none) own.ready asks.did
 
   -- a node that went down has no calls in progress

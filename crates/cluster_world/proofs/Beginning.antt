@@ -22,11 +22,11 @@ use Rattle.session_model.specs.Books.{AmongAnswers, IsBookOf, acks_by}
 use Rattle.session_model.specs.OneNode.{Served, Serves, IsSoundMail, first_node, told_of, answered_of}
 use Rattle.mail_base.specs.declared.proof.Proof.{Proof}
 use Rattle.mail_model.proofs.Disk.{through_rises}
-use Rattle.call_tickets.specs.Seen.{answer_seen, secret_in}
+use Rattle.call_tickets.specs.Seen.{answer_seen, secret_given}
 use Rattle.call_tickets.specs.declared.answer.Answer.{Answer as WorldAnswer}
 use Rattle.call_tickets.specs.declared.answer.Answer.TheVariants as own
-use Rattle.cluster_world.specs.World.{plan_of, is_up, drawn_of, stamps_of, tickets_of, disk_of, book_of, standing_of, Fits, WorldHolds}
-use Rattle.cluster_world.specs.Steps.{Takes, Finds, Strikes, call_of, nth_filing, nth_ticket}
+use Rattle.cluster_world.specs.World.{plan_of, is_up, drawn_of, stamps_of, tickets_drawn, disk_of, book_of, standing_of, MemoryFits, WorldHolds}
+use Rattle.cluster_world.specs.Steps.{BeginsDelivery, BeginsReading, BeginsDeletion, call_of, nth_filing, nth_ticket}
 use Rattle.cluster_world.specs.Found.{FindsLogin, FindsPart}
 use Rattle.cluster_world.specs.Outcomes.{Awaited, AreWithin}
 use Rattle.cluster_world.specs.declared.world.World.{World}
@@ -71,11 +71,11 @@ module _ {D : Type 0} (seen : D → Option (List ℕ)) (faults : D → ℕ) (pla
     pub plan_is : plan_of new ≡ plan_of old
     pub up : IsTrue (is_up new)
     pub told : is_some (seen (disk_of new)) ≡ is_some (seen (disk_of old))
-    pub fits : Fits records new
+    pub fits : MemoryFits records new
     pub holds : WorldHolds seen records new
     pub serves : Serves plan tells (node_of old is.records) call (Some answer) (node_of new records)
-    pub number_is : number ≡ tickets_of old + 1
-    pub tickets : tickets_of new ≡ tickets_of old + 1
+    pub number_is : number ≡ tickets_drawn old + 1
+    pub tickets : tickets_drawn new ≡ tickets_drawn old + 1
     pub standing : standing_of new ≡ standing_of old ++ call_of (nth_ticket number) pending ∷ []
     pub due : IsDue call pending answer
     pub sound : IsSoundMail call
@@ -112,7 +112,7 @@ module _ {D : Type 0} (seen : D → Option (List ℕ)) (faults : D → ℕ) (pla
         calls = is.calls ++ one ∷ [];
         awaited_are = map-append awaited_by is.calls (one ∷ []) ∙ ap (λ (l : List Awaited). l ++ awaited_by one ∷ []) is.awaited_are;
         standing_are = map-append standing_by is.calls (one ∷ []) ∙ ap (λ (l : List Standing). l ++ standing_by one ∷ []) is.standing_are ∙ sym begun.standing;
-        rising = subst (λ (n : ℕ). AreRising 0 n (is.calls ++ one ∷ [])) (sym begun.tickets) (rising_push 0 (tickets_of old) is.calls one begun.number_is is.rising);
+        rising = subst (λ (n : ℕ). AreRising 0 n (is.calls ++ one ∷ [])) (sym begun.tickets) (rising_push 0 (tickets_drawn old) is.calls one begun.number_is is.rising);
         due = due_both (answered_of (is.served ++ served_one ∷ [])) is.calls (one ∷ []) (due_more (answered_of is.served) (answered_of (is.served ++ served_one ∷ [])) is.calls ready.0 is.due)
             ((begun.due, begun.sound, ready.1), tt);
         others = subst HaveOtherIds acks begun.others;
@@ -123,7 +123,7 @@ module _ {D : Type 0} (seen : D → Option (List ℕ)) (faults : D → ℕ) (pla
       }
 
   -- a delivery
-  pub delivery_began : (mail : Mail) → Takes seen faults mail (nth_ticket number) old new → is_some (seen (disk_of new)) ≡ is_some (seen (disk_of old)) → IsSoundMail (Deliver mail)
+  pub delivery_began : (mail : Mail) → BeginsDelivery seen faults mail (nth_ticket number) old new → is_some (seen (disk_of new)) ≡ is_some (seen (disk_of old)) → IsSoundMail (Deliver mail)
       → All IsLowerName mail.mailboxes → AreWithin new
       → IsServing seen plan lines tells (asked ++ record { session = k; call = Deliver mail } ∷ []) answered (awaited ++ record { number = number; session = k; call = Deliver mail } ∷ []) new
   delivery_began mail takes told sound names within =
@@ -151,7 +151,7 @@ module _ {D : Type 0} (seen : D → Option (List ℕ)) (faults : D → ℕ) (pla
       })
 
   -- what was found, and where it was found nothing has changed
-  found_began : (call : Call) (found : WorldAnswer) → Finds seen faults (nth_ticket number) found old new → is_some (seen (disk_of new)) ≡ is_some (seen (disk_of old))
+  found_began : (call : Call) (found : WorldAnswer) → BeginsReading seen faults (nth_ticket number) found old new → is_some (seen (disk_of new)) ≡ is_some (seen (disk_of old))
       → IsDue call (Found found) (answer_seen found) → IsSoundMail call → acks_by (record { session = k; call = call; answer = answer_seen found }) ≡ []
       → IsBookOf lines (asked ++ record { session = k; call = call } ∷ []) answered (book_of old ++ [])
       → (node_of new is.records ≡ node_of old is.records → Serves plan tells (node_of old is.records) call (Some (answer_seen found)) (node_of new is.records))
@@ -178,21 +178,21 @@ module _ {D : Type 0} (seen : D → Option (List ℕ)) (faults : D → ℕ) (pla
       })
 
   -- a login
-  pub login_began : (user : List ℕ) (proof : Proof) (found : WorldAnswer) → Finds seen faults (nth_ticket number) found old new → is_some (seen (disk_of new)) ≡ is_some (seen (disk_of old))
+  pub login_began : (user : List ℕ) (proof : Proof) (found : WorldAnswer) → BeginsReading seen faults (nth_ticket number) found old new → is_some (seen (disk_of new)) ≡ is_some (seen (disk_of old))
       → FindsLogin found user proof (nth_ticket number) old
-      → IsServing seen plan lines tells (asked ++ record { session = k; call = Login user (secret_in proof) } ∷ []) answered (awaited ++ record { number = number; session = k; call = Login user (secret_in proof) } ∷ []) new
+      → IsServing seen plan lines tells (asked ++ record { session = k; call = Login user (secret_given proof) } ∷ []) answered (awaited ++ record { number = number; session = k; call = Login user (secret_given proof) } ∷ []) new
   login_began user proof (own.Listed login manager nodes items) finds told finds_login =
-      found_began (Login user (secret_in proof)) (own.Listed login manager nodes items) finds told refl tt refl
-      (book_begun lines asked answered (book_of old) [] (record { session = k; call = Login user (secret_in proof) }) refl refl refl is.book_is)
-      (λ same. (ap (λ (p : Plan). opens p user (secret_in proof)) (sym is.plan_is) ∙ finds_login.0, finds_login.1.are is.records is.fits, same))
+      found_began (Login user (secret_given proof)) (own.Listed login manager nodes items) finds told refl tt refl
+      (book_begun lines asked answered (book_of old) [] (record { session = k; call = Login user (secret_given proof) }) refl refl refl is.book_is)
+      (λ same. (ap (λ (p : Plan). opens p user (secret_given proof)) (sym is.plan_is) ∙ finds_login.0, finds_login.1.are is.records is.fits, same))
   login_began user proof (own.Wrong stamp) finds told finds_login =
-      found_began (Login user (secret_in proof)) (own.Wrong stamp) finds told refl tt refl
-      (book_begun lines asked answered (book_of old) [] (record { session = k; call = Login user (secret_in proof) }) refl refl refl is.book_is)
-      (λ same. (ap (λ (p : Plan). opens p user (secret_in proof)) (sym is.plan_is) ∙ finds_login.0, same))
+      found_began (Login user (secret_given proof)) (own.Wrong stamp) finds told refl tt refl
+      (book_begun lines asked answered (book_of old) [] (record { session = k; call = Login user (secret_given proof) }) refl refl refl is.book_is)
+      (λ same. (ap (λ (p : Plan). opens p user (secret_given proof)) (sym is.plan_is) ∙ finds_login.0, same))
   login_began user proof found finds told finds_login = absurd finds_login
 
   -- the reading of a whole message
-  pub fetch_began : (user : List ℕ) (id : Id) (found : WorldAnswer) → Finds seen faults (nth_ticket number) found old new → is_some (seen (disk_of new)) ≡ is_some (seen (disk_of old))
+  pub fetch_began : (user : List ℕ) (id : Id) (found : WorldAnswer) → BeginsReading seen faults (nth_ticket number) found old new → is_some (seen (disk_of new)) ≡ is_some (seen (disk_of old))
       → FindsPart seen found user id 0 18446744073709551615 old
       → IsServing seen plan lines tells (asked ++ record { session = k; call = Fetch user id } ∷ []) answered (awaited ++ record { number = number; session = k; call = Fetch user id } ∷ []) new
   fetch_began user id (own.Part octets whole) finds told finds_part =
@@ -211,7 +211,7 @@ module _ {D : Type 0} (seen : D → Option (List ℕ)) (faults : D → ℕ) (pla
   fetch_began user id found finds told finds_part = absurd finds_part
 
   -- a deletion
-  pub strike_began : (user : List ℕ) (ids : List Id) → Strikes seen faults user ids (nth_ticket number) old new → is_some (seen (disk_of new)) ≡ is_some (seen (disk_of old))
+  pub strike_began : (user : List ℕ) (ids : List Id) → BeginsDeletion seen faults user ids (nth_ticket number) old new → is_some (seen (disk_of new)) ≡ is_some (seen (disk_of old))
       → IsLowerName user → All IsId ids → AreWithin new
       → IsServing seen plan lines tells (asked ++ record { session = k; call = Strike user ids } ∷ []) answered (awaited ++ record { number = number; session = k; call = Strike user ids } ∷ []) new
   strike_began user ids strikes told name are_ids within =

@@ -18,7 +18,7 @@ use Rattle.session_model.specs.Alone.{AreByOne}
 use Rattle.call_tickets.specs.Seen.{answer_seen}
 use Rattle.call_tickets.specs.declared.answer.Answer.{Answer as WorldAnswer}
 use Rattle.call_tickets.specs.declared.answer.Answer.TheVariants as own
-use Rattle.cluster_world.specs.Steps.{Settles, IsDropped, entries_for, nth_filing}
+use Rattle.cluster_world.specs.Steps.{SettlesCall, IsDropped, entries_for, nth_filing}
 use Rattle.cluster_world.specs.declared.step.Filing.{Filing}
 use Rattle.cluster_world.specs.declared.step.Pending.{Pending}
 use Rattle.cluster_world.specs.declared.step.Pending.TheVariants.{Filed, Found, Struck}
@@ -102,7 +102,7 @@ module _ (lines : List (List ℕ)) (asked : List Asked) (answered : List Answere
       }
 
   -- whatever was answered
-  pub book_answered : (call : Call) (pending : Pending) (answer : Answer) (given : WorldAnswer) → IsDue call pending answer → IsSoundMail call → Settles pending given old new
+  pub book_answered : (call : Call) (pending : Pending) (answer : Answer) (given : WorldAnswer) → IsDue call pending answer → IsSoundMail call → SettlesCall pending given old new
       → IsBookOf lines asked (answered ++ record { session = k; call = call; answer = answer } ∷ []) new
   book_answered (Deliver mail) (Filed filing) (Stored id) given (n, octets, filing_is, id_is, stored) sound settles =
       subst (λ (i : Id). IsBookOf lines asked (answered ++ record { session = k; call = Deliver mail; answer = Stored i } ∷ []) new) (sym id_is)
@@ -134,13 +134,13 @@ by_one_filed filing [] = tt
 by_one_filed filing (user ∷ users) = (refl, by_one_filed filing users)
 
 -- so it is of what is answered
-pub by_one_answered : (pending : Pending) (given : WorldAnswer) (old new : List BookEntry) → Settles pending given old new → AreByOne old → AreByOne new
+pub by_one_answered : (pending : Pending) (given : WorldAnswer) (old new : List BookEntry) → SettlesCall pending given old new → AreByOne old → AreByOne new
 by_one_answered (Filed filing) given old new settles is = subst AreByOne (sym settles.1) (by_one_both old (entries_for filing 1) is (by_one_filed filing filing.users))
 by_one_answered (Found found) given old new settles is = subst AreByOne (sym settles.1) is
 by_one_answered (Struck user ids) given old new settles is = subst AreByOne (sym settles.1) (by_one_both old (dropped_entries user ids) is (by_one_dropped user ids))
 
 -- the answer is what was due
-pub due_given : (call : Call) (pending : Pending) (answer : Answer) (given : WorldAnswer) (old new : List BookEntry) → IsDue call pending answer → Settles pending given old new → answer_seen given ≡ answer
+pub due_given : (call : Call) (pending : Pending) (answer : Answer) (given : WorldAnswer) (old new : List BookEntry) → IsDue call pending answer → SettlesCall pending given old new → answer_seen given ≡ answer
 due_given (Deliver mail) (Filed filing) (Stored id) given old new (n, octets, filing_is, id_is, stored) settles =
     ap (λ (a : WorldAnswer). answer_seen a) settles.0 ∙ ap (λ (f : Filing). Stored f.id) filing_is ∙ ap (λ (i : Id). Stored i) (sym id_is)
 due_given (Login user secret) (Found found) answer given old new due settles = ap (λ (a : WorldAnswer). answer_seen a) settles.0 ∙ sym due

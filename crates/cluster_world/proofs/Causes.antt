@@ -9,7 +9,7 @@ use Rattle.call_tickets.specs.Seen.{call_seen, ids_in}
 use Rattle.call_tickets.specs.declared.call.Call.{Call}
 use Rattle.call_tickets.specs.declared.call.Call.TheVariants.{Deliver, Login, Fetch, Strike, Leave}
 use Rattle.call_tickets.specs.declared.answer.Ask.TheVariants.{Pending as InProgress, Done}
-use Rattle.cluster_world.specs.World.{is_up, drawn_of, stamps_of, disk_of, counted}
+use Rattle.cluster_world.specs.World.{is_up, drawn_of, stamps_of, disk_of, with_step_counted}
 use Rattle.cluster_world.specs.Steps.{BeginDid, AskDid, HasBegun, HasFallen, HasBrokenOff, HasMishap, IsSound, nth_ticket}
 use Rattle.cluster_world.specs.Outcomes.{Outcome, Awaited, Came, Makes, IsFetch, FallHasCause, SoundAfter, LaterAfter}
 use Rattle.cluster_world.specs.Outcomes.Outcome.{Began, Refused, Fell, Answers, Unanswered, Left}
@@ -106,16 +106,16 @@ module _ {D : Type 0} (seen : D → Option (List ℕ)) (faults : D → ℕ) (old
   ask_keeps (Err (NoMemory (Some failed))) number did = absurd did
 
 module _ {D : Type 0} (seen : D → Option (List ℕ)) (faults : D → ℕ) where
-  pub came_keeps : (outcome : Outcome) (awaited left : List Awaited) (old new : World D) → Came seen faults outcome awaited old left new → Keeps seen faults (counted old) new
-  came_keeps (Began k one number) awaited left old new came = begin_keeps seen faults (counted old) new (Ok (Begun (nth_ticket number) came.1)) came.0 came.3.did
-  came_keeps (Refused k one) awaited left old new came = begin_keeps seen faults (counted old) new came.1 came.0 came.4.did
-  came_keeps (Fell k one) awaited left old new came = begin_keeps seen faults (counted old) new came.1 came.0 came.4.did
-  came_keeps (Answers k one number given) awaited left old new came = ask_keeps seen faults (counted old) new (Ok (Asked (Done came.0))) number came.6.did
-  came_keeps (Unanswered k number) awaited left old new came = ask_keeps seen faults (counted old) new (Err came.0) number came.1.did
-  came_keeps (Left k user) awaited left old new came = begin_keeps seen faults (counted old) new came.1 came.0 came.3.did
+  pub came_keeps : (outcome : Outcome) (awaited left : List Awaited) (old new : World D) → Came seen faults outcome awaited old left new → Keeps seen faults (with_step_counted old) new
+  came_keeps (Began k one number) awaited left old new came = begin_keeps seen faults (with_step_counted old) new (Ok (Begun (nth_ticket number) came.1)) came.0 came.3.did
+  came_keeps (Refused k one) awaited left old new came = begin_keeps seen faults (with_step_counted old) new came.1 came.0 came.4.did
+  came_keeps (Fell k one) awaited left old new came = begin_keeps seen faults (with_step_counted old) new came.1 came.0 came.4.did
+  came_keeps (Answers k one number given) awaited left old new came = ask_keeps seen faults (with_step_counted old) new (Ok (Asked (Done came.0))) number came.6.did
+  came_keeps (Unanswered k number) awaited left old new came = ask_keeps seen faults (with_step_counted old) new (Err came.0) number came.1.did
+  came_keeps (Left k user) awaited left old new came = begin_keeps seen faults (with_step_counted old) new came.1 came.0 came.3.did
 
   -- so it is counted
-  pub recounted : (world : World D) → IsSound seen world → IsSound seen (counted world)
+  pub recounted : (world : World D) → IsSound seen world → IsSound seen (with_step_counted world)
   recounted world is = record { records = is.records; fits = is.fits; holds = is.holds }
 
   pub later_after : LaterAfter seen faults
@@ -138,7 +138,7 @@ module _ {D : Type 0} (seen : D → Option (List ℕ)) (faults : D → ℕ) wher
   pub fall_has_cause : FallHasCause seen faults
   fall_has_cause begun asked failed old new e sound step = by begun e (step.did.4 (recounted old sound))
     where
-      by : (begun : Call) → call_seen begun ≡ Some asked → HasMishap seen faults begun (counted old) new
+      by : (begun : Call) → call_seen begun ≡ Some asked → HasMishap seen faults begun (with_step_counted old) new
           → Rose (faults (disk_of old)) (faults (disk_of new)) ⊎ ((seen (disk_of old) ≡ None) × IsFetch asked)
       by (Deliver deliver) e mishap = inl mishap
       by (Login user proof) e mishap = absurd mishap

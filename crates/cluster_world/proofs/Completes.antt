@@ -4,7 +4,7 @@ use Rattle.std.specs.Prelude.{IsTrue}
 use Rattle.mail_base.specs.declared.ticket.Ticket.{Ticket}
 use Rattle.cluster_world.specs.World.{plan_of, is_up}
 use Rattle.cluster_world.specs.Steps.{AskDid, BeginDid, HasNumbers, IsSound, HasMishap, StandsNot}
-use Rattle.cluster_world.specs.Completes.{IsAnswer, IsBegun}
+use Rattle.cluster_world.specs.Completes.{IsAnswer, IsCallBegun}
 use Rattle.cluster_world.specs.declared.world.World.{World}
 use Rattle.call_tickets.specs.declared.answer.Ask.TheVariants.{Pending as InProgress, Done}
 use Rattle.cluster_world.specs.declared.step.Said.{Said}
@@ -32,7 +32,7 @@ answers seen faults (Err (NoMemory down)) ticket old new did of_plan up stands =
 
 -- a call at a node that is up and has numbers left begins where the disk has no mishap
 pub begins : {D : Type 0} (seen : D → Option (List ℕ)) (faults : D → ℕ) (result : Result Said StepFault) (node : ℕ) (call : Call) (old new : World D) → BeginDid seen faults result node call old new
-    → node ≤ (plan_of old).nodes → IsTrue (is_up old) → HasNumbers call old → IsSound seen old → (HasMishap seen faults call old new → ⊥) → IsBegun result
+    → node ≤ (plan_of old).nodes → IsTrue (is_up old) → HasNumbers call old → IsSound seen old → (HasMishap seen faults call old new → ⊥) → IsCallBegun result
 begins seen faults (Ok (Begun ticket stirs)) node call old new did of_plan up numbers sound spared = tt
 begins seen faults (Ok Noted) node call old new did of_plan up numbers sound spared = tt
 begins seen faults (Ok (Asked ask)) node call old new did of_plan up numbers sound spared = did

@@ -4,10 +4,10 @@ use Rattle.mail_model.specs.Told.{Mail}
 use Rattle.mail_model.specs.Mail.{IsStored}
 use Rattle.mail_model.specs.Record.Record.{Octets}
 use Rattle.mail_model.specs.Site.{copies_of, message_records, nth_id, nth_stamp}
-use Rattle.cluster_world.specs.Appends.{AppendsAll, AppendsMail, Stops, Wrote}
+use Rattle.cluster_world.specs.Appends.{AppendsAll, AppendsMail, StopsAppending, Wrote}
 use Rattle.cluster_world.specs.Index.{added_for}
 use Rattle.cluster_world.specs.Fits.{Recalls}
-use Rattle.cluster_world.specs.World.{Falls, Files, Delivers, is_up, drawn_of, stamps_of, kept_of, disk_of, gate_of}
+use Rattle.cluster_world.specs.World.{FilesInPart, Files, Delivers, is_up, drawn_of, stamps_of, kept_of, disk_of, gate_of}
 use Rattle.cluster_world.specs.declared.world.World.{World}
 use Rattle.cluster_world.specs.declared.append.Measure.{Measure}
 use Rattle.cluster_world.specs.declared.append.DeliverFault.{DeliverFault}
@@ -17,12 +17,12 @@ use Rattle.cluster_world.proofs.Appended.{appends_more, stops_more, stops_before
 
 module _ {D : Type 0} (seen : D → Option (List ℕ)) (faults : D → ℕ) (mail : Mail) (old new : World D) where
   -- a front of the message's records follows those that stood
-  falls : (octets : List ℕ) → IsStored mail (nth_id (drawn_of old + 1)) 0 octets → Stops (seen (disk_of old)) (seen (disk_of new)) (gate_of old) (message_records (nth_id (drawn_of old + 1)) (nth_stamp (stamps_of old + 1)) octets mail.mailboxes)
-      → Falls seen mail old new
+  falls : (octets : List ℕ) → IsStored mail (nth_id (drawn_of old + 1)) 0 octets → StopsAppending (seen (disk_of old)) (seen (disk_of new)) (gate_of old) (message_records (nth_id (drawn_of old + 1)) (nth_stamp (stamps_of old + 1)) octets mail.mailboxes)
+      → FilesInPart seen mail old new
   falls octets stored stops = record { holds = λ records stands. record { octets = octets; stored = stored; front = stops.holds records stands } }
 
   -- the octets were not appended
-  pub octets_failed : (octets : List ℕ) → IsStored mail (nth_id (drawn_of old + 1)) 0 octets → Stops (seen (disk_of old)) (seen (disk_of new)) (gate_of old) (Octets (nth_id (drawn_of old + 1)) octets ∷ []) → Falls seen mail old new
+  pub octets_failed : (octets : List ℕ) → IsStored mail (nth_id (drawn_of old + 1)) 0 octets → StopsAppending (seen (disk_of old)) (seen (disk_of new)) (gate_of old) (Octets (nth_id (drawn_of old + 1)) octets ∷ []) → FilesInPart seen mail old new
   octets_failed octets stored stops = falls octets stored (stops_before _ _ _ _ (copies_of (nth_id (drawn_of old + 1)) (nth_stamp (stamps_of old + 1)) mail.mailboxes) stops)
 
   -- the octets were appended, and all states

@@ -18,9 +18,9 @@ use Rattle.cluster_world.proofs.Recalled.{recalls_same}
 use Rattle.io_edge.specs.Causes.{Rose}
 use Rattle.mail_model.specs.Told.{Mail}
 use Rattle.mail_model.specs.Book.BookEntry.{WentDown}
-use Rattle.cluster_world.specs.Books.{entries_of, entry_of, told_by}
-use Rattle.cluster_world.specs.World.{Falls, Breaks, Files, Fits, IsUnwritten, plan_of, is_up, drawn_of, stamps_of, tickets_of, kept_of, disk_of, gate_of, book_of, standing_of}
-use Rattle.cluster_world.specs.Steps.{GoesDown, IsAsBefore, Takes, call_of, nth_filing, nth_ticket}
+use Rattle.cluster_world.specs.Books.{entries_of, entry_of, booked_by}
+use Rattle.cluster_world.specs.World.{FilesInPart, BreaksFiling, Files, MemoryFits, IsUnwritten, plan_of, is_up, drawn_of, stamps_of, tickets_drawn, kept_of, disk_of, gate_of, book_of, standing_of}
+use Rattle.cluster_world.specs.Steps.{GoesDownFiling, IsAsBefore, BeginsDelivery, call_of, nth_filing, nth_ticket}
 use Rattle.cluster_world.specs.declared.book.Book.{Book}
 use Rattle.cluster_world.specs.declared.world.World.{World}
 
@@ -29,7 +29,7 @@ pub record IsReserved {D : Type 0} (old new : World D) : Type 0 where
   pub plan : plan_of new ≡ plan_of old
   pub drawn : drawn_of new ≡ drawn_of old
   pub stamps : stamps_of new ≡ stamps_of old
-  pub tickets : tickets_of new ≡ tickets_of old
+  pub tickets : tickets_drawn new ≡ tickets_drawn old
   pub disk : disk_of new ≡ disk_of old
   pub gate : gate_of new ≡ gate_of old
   pub entries : entries_of new.book ≡ entries_of old.book
@@ -37,13 +37,13 @@ pub record IsReserved {D : Type 0} (old new : World D) : Type 0 where
 
 module _ {D : Type 0} (seen : D → Option (List ℕ)) (faults : D → ℕ) (old mid filed : World D) where
   -- the same is recalled
-  pub fits_reserved : (records : List Record) → IsReserved old mid → Fits records old → Fits records mid
+  pub fits_reserved : (records : List Record) → IsReserved old mid → MemoryFits records old → MemoryFits records mid
   fits_reserved records same fits =
       recalls_same records (gate_of old) (gate_of mid) (drawn_of old) (drawn_of mid) (λ user. kept_of user old) (λ user. kept_of user mid) same.gate same.drawn same.kept fits
 
   -- nothing was written, and nothing that tells has changed
   pub as_before : IsReserved old mid → standing_of mid ≡ standing_of old → is_up mid ≡ is_up old → IsTrue (is_up mid) → IsUnwritten seen faults mid filed
-      → plan_of filed ≡ plan_of mid → tickets_of filed ≡ tickets_of mid → filed.standing ≡ mid.standing → filed.book ≡ mid.book → IsAsBefore seen faults old filed
+      → plan_of filed ≡ plan_of mid → tickets_drawn filed ≡ tickets_drawn mid → filed.standing ≡ mid.standing → filed.book ≡ mid.book → IsAsBefore seen faults old filed
   as_before same stood up_too up unwritten plan tickets standing kept = record {
     plan = plan ∙ same.plan;
     up = unwritten.up ∙ sym up ∙ up_too;
@@ -51,7 +51,7 @@ module _ {D : Type 0} (seen : D → Option (List ℕ)) (faults : D → ℕ) (old
     stamps = unwritten.stamps ∙ same.stamps;
     tickets = tickets ∙ same.tickets;
     standing = rw standing stood;
-    book = ap (λ (b : Book). told_by b) kept ∙ ap (λ l. map entry_of l) same.entries;
+    book = ap (λ (b : Book). booked_by b) kept ∙ ap (λ l. map entry_of l) same.entries;
     octets = unwritten.octets ∙ ap seen same.disk;
     gate = unwritten.gate ∙ same.gate;
     count = unwritten.count ∙ ap faults same.disk;
@@ -60,7 +60,7 @@ module _ {D : Type 0} (seen : D → Option (List ℕ)) (faults : D → ℕ) (old
   }
 
 module _ {D : Type 0} (seen : D → Option (List ℕ)) (faults : D → ℕ) (mail : Mail) (old mid filed new : World D) where
-  falls_too : IsReserved old mid → Falls seen mail mid filed → disk_of new ≡ disk_of filed → Falls seen mail old new
+  falls_too : IsReserved old mid → FilesInPart seen mail mid filed → disk_of new ≡ disk_of filed → FilesInPart seen mail old new
   falls_too same falls disk = record {
     holds = λ records stands.
         let some = falls.holds records (rw (same.disk, same.gate) stands) in
@@ -69,9 +69,9 @@ module _ {D : Type 0} (seen : D → Option (List ℕ)) (faults : D → ℕ) (mai
   }
 
   -- a front of the message was filed, and then the node went down
-  pub goes_down : IsReserved old mid → Breaks seen faults mail mid filed → plan_of filed ≡ plan_of mid → tickets_of filed ≡ tickets_of mid → filed.book ≡ mid.book
-      → (plan_of new ≡ plan_of filed) × (drawn_of new ≡ drawn_of filed) × (stamps_of new ≡ stamps_of filed) × (tickets_of new ≡ tickets_of filed) × (disk_of new ≡ disk_of filed)
-      → IsFalse (is_up new) → standing_of new ≡ [] → book_of new ≡ book_of filed ++ WentDown 1 ∷ [] → GoesDown seen faults mail old new
+  pub goes_down : IsReserved old mid → BreaksFiling seen faults mail mid filed → plan_of filed ≡ plan_of mid → tickets_drawn filed ≡ tickets_drawn mid → filed.book ≡ mid.book
+      → (plan_of new ≡ plan_of filed) × (drawn_of new ≡ drawn_of filed) × (stamps_of new ≡ stamps_of filed) × (tickets_drawn new ≡ tickets_drawn filed) × (disk_of new ≡ disk_of filed)
+      → IsFalse (is_up new) → standing_of new ≡ [] → book_of new ≡ book_of filed ++ WentDown 1 ∷ [] → GoesDownFiling seen faults mail old new
   goes_down same breaks plan tickets kept rest down standing book = record {
     plan = rest.0 ∙ plan ∙ same.plan;
     down = down;
@@ -98,25 +98,25 @@ module _ {D : Type 0} (seen : D → Option (List ℕ)) (faults : D → ℕ) (mai
   -- the message was filed, and its ticket stands
   pub takes : (measure : Measure) (ticket : Ticket) → IsReserved old mid → standing_of mid ≡ standing_of old
       → Files seen mail measure mid filed × (faults (disk_of filed) ≡ faults (disk_of mid))
-      → plan_of filed ≡ plan_of mid → tickets_of filed ≡ tickets_of mid → filed.standing ≡ mid.standing → filed.book ≡ mid.book
-      → ticket ≡ nth_ticket (tickets_of filed + 1) → tickets_of new ≡ tickets_of filed + 1
-      → standing_of new ≡ standing_of filed ++ call_of (nth_ticket (tickets_of filed + 1))
+      → plan_of filed ≡ plan_of mid → tickets_drawn filed ≡ tickets_drawn mid → filed.standing ≡ mid.standing → filed.book ≡ mid.book
+      → ticket ≡ nth_ticket (tickets_drawn filed + 1) → tickets_drawn new ≡ tickets_drawn filed + 1
+      → standing_of new ≡ standing_of filed ++ call_of (nth_ticket (tickets_drawn filed + 1))
       (Filed (record { id = nth_id (drawn_of filed); users = mail.mailboxes; seconds = 0; length = measure.place.length; digest = measure.digest })) ∷ []
       → (plan_of new ≡ plan_of filed) × (is_up new ≡ is_up filed) × (drawn_of new ≡ drawn_of filed) × (stamps_of new ≡ stamps_of filed) × (disk_of new ≡ disk_of filed)
       × (new.journal ≡ filed.journal) × (new.index ≡ filed.index) × (new.book ≡ filed.book)
-      → Takes seen faults mail ticket old new
+      → BeginsDelivery seen faults mail ticket old new
   takes measure ticket same stood both plan tickets standing kept is more stands rest =
       let files = both.0 in
       let octets = files.octets in
       let stood_too : standing_of filed ≡ standing_of old = rw standing stood in
-      let number : tickets_of filed ≡ tickets_of old = tickets ∙ same.tickets in
+      let number : tickets_drawn filed ≡ tickets_drawn old = tickets ∙ same.tickets in
       record {
         plan = rest.0 ∙ plan ∙ same.plan;
         up = rest.1 ∙ files.up;
         drawn = rest.2 ∙ files.drawn ∙ ap (λ (n : ℕ). n + 1) same.drawn;
         stamps = rest.3 ∙ files.stamps ∙ ap (λ (n : ℕ). n + 1) same.stamps;
         tickets = more ∙ ap (λ (n : ℕ). n + 1) number;
-        book = ap (λ (b : Book). told_by b) (rest.7 ∙ kept) ∙ ap (λ l. map entry_of l) same.entries;
+        book = ap (λ (b : Book). booked_by b) (rest.7 ∙ kept) ∙ ap (λ l. map entry_of l) same.entries;
         quiet = rw (rest.4, ← same.disk) both.1;
         gate = rw (rest.4, rest.5) files.gate;
         octets = octets;
@@ -129,11 +129,11 @@ module _ {D : Type 0} (seen : D → Option (List ℕ)) (faults : D → ℕ) (mai
             recalls_same (records ++ message_records (nth_id (drawn_of old + 1)) (nth_stamp (stamps_of old + 1)) octets mail.mailboxes)
             (gate_of filed) (gate_of new) (drawn_of filed) (drawn_of new) (λ user. kept_of user filed) (λ user. kept_of user new)
             (ap (λ (j : Journal). end_of j) rest.5) rest.2 (λ user. ap (λ (i : Index). kept_in user i) rest.6)
-            (subst (λ (n : ℕ). Fits (records ++ message_records (nth_id (n + 1)) (nth_stamp (stamps_of old + 1)) octets mail.mailboxes) filed) same.drawn
-            (subst (λ (m : ℕ). Fits (records ++ message_records (nth_id (drawn_of mid + 1)) (nth_stamp (m + 1)) octets mail.mailboxes) filed) same.stamps
+            (subst (λ (n : ℕ). MemoryFits (records ++ message_records (nth_id (n + 1)) (nth_stamp (stamps_of old + 1)) octets mail.mailboxes) filed) same.drawn
+            (subst (λ (m : ℕ). MemoryFits (records ++ message_records (nth_id (drawn_of mid + 1)) (nth_stamp (m + 1)) octets mail.mailboxes) filed) same.stamps
             (files.fits records (fits_reserved seen faults old mid filed records same fits))));
         ticket_is = is ∙ ap (λ (n : ℕ). nth_ticket (n + 1)) number;
-        standing = stands ∙ ap (λ (l : List Standing). l ++ call_of (nth_ticket (tickets_of filed + 1))
+        standing = stands ∙ ap (λ (l : List Standing). l ++ call_of (nth_ticket (tickets_drawn filed + 1))
             (Filed (record { id = nth_id (drawn_of filed); users = mail.mailboxes; seconds = 0; length = measure.place.length; digest = measure.digest })) ∷ []) stood_too
             ∙ ap (λ (t : Ticket). standing_of old ++ call_of t
             (Filed (record { id = nth_id (drawn_of filed); users = mail.mailboxes; seconds = 0; length = measure.place.length; digest = measure.digest })) ∷ []) (sym is)
@@ -142,15 +142,15 @@ module _ {D : Type 0} (seen : D → Option (List ℕ)) (faults : D → ℕ) (mai
       }
 
   -- of a node that is up, nothing was written
-  pub wrote_none : IsTrue (is_up filed) → IsUnwritten seen faults mid filed ⊎ Breaks seen faults mail mid filed → IsUnwritten seen faults mid filed
+  pub wrote_none : IsTrue (is_up filed) → IsUnwritten seen faults mid filed ⊎ BreaksFiling seen faults mail mid filed → IsUnwritten seen faults mid filed
   wrote_none up either = ⊎_elim
       (λ (unwritten : IsUnwritten seen faults mid filed). unwritten)
-      (λ (breaks : Breaks seen faults mail mid filed). absurd (let never : false ≡ true = sym breaks.down ∙ up in cc))
+      (λ (breaks : BreaksFiling seen faults mail mid filed). absurd (let never : false ≡ true = sym breaks.down ∙ up in cc))
       either
 
   -- of a node that is not up, some of the message was written
-  pub wrote_some : IsFalse (is_up filed) → IsUnwritten seen faults mid filed ⊎ Breaks seen faults mail mid filed → Breaks seen faults mail mid filed
+  pub wrote_some : IsFalse (is_up filed) → IsUnwritten seen faults mid filed ⊎ BreaksFiling seen faults mail mid filed → BreaksFiling seen faults mail mid filed
   wrote_some down either = ⊎_elim
       (λ (unwritten : IsUnwritten seen faults mid filed). absurd (let never : false ≡ true = sym down ∙ unwritten.up in cc))
-      (λ (breaks : Breaks seen faults mail mid filed). breaks)
+      (λ (breaks : BreaksFiling seen faults mail mid filed). breaks)
       either

@@ -19,12 +19,12 @@ use Rattle.session_model.specs.Calls.{Call}
 use Rattle.session_model.specs.Calls.Call.{Deliver, Fetch, Strike}
 use Rattle.session_model.specs.Logs.{Asked, Answered}
 use Rattle.session_model.specs.Books.{IsBookOf}
-use Rattle.session_model.specs.OneNode.{Node, Served, Serves, first_node, told_of, answered_of}
+use Rattle.session_model.specs.OneNode.{NodeState, Served, Serves, first_node, told_of, answered_of}
 use Rattle.call_tickets.specs.Seen.{call_seen, ids_in, asks_whole}
 use Rattle.call_tickets.specs.declared.call.Call.{Call as WorldCall}
 use Rattle.call_tickets.specs.declared.call.Call.TheVariants as call
 use Rattle.cluster_world.specs.World.{is_up, drawn_of, stamps_of, disk_of, book_of, gate_of}
-use Rattle.cluster_world.specs.Steps.{BeginDid, HasFallen, HasBrokenOff, GoesDown, StopsReading, StopsStriking}
+use Rattle.cluster_world.specs.Steps.{BeginDid, HasFallen, HasBrokenOff, GoesDownFiling, StopsReading, StopsDeleting}
 use Rattle.cluster_world.specs.Outcomes.{Awaited, IsFall, HasNames, AreWithin}
 use Rattle.cluster_world.specs.declared.step.Step.TheVariants.{Begin}
 use Rattle.cluster_world.specs.declared.world.World.{World}
@@ -64,7 +64,7 @@ fetched_whole user id start most asked e = by (asks_whole start most) refl e
 module _ {D : Type 0} (seen : D → Option (List ℕ)) (faults : D → ℕ) (plan : Plan) (lines : List (List ℕ)) (tells : Bool) (asked : List Asked) (answered : List Answered) (awaited : List Awaited) (old new : World D)
     (is : IsServing seen plan lines tells asked answered awaited old) (k : ℕ) (told : is_some (seen (disk_of new)) ≡ is_some (seen (disk_of old))) where
   -- what such a call leaves
-  stops : (one : Call) (node : Node) → All IsRecord node.records → AreByOne (book_of new) → Serves plan tells (node_of old is.records) one None node → IfSome (seen (disk_of new)) (HoldsRecords node.records)
+  stops : (one : Call) (node : NodeState) → All IsRecord node.records → AreByOne (book_of new) → Serves plan tells (node_of old is.records) one None node → IfSome (seen (disk_of new)) (HoldsRecords node.records)
       → IsBookOf lines (asked ++ record { session = k; call = one } ∷ []) answered (book_of new)
       → HasServed plan lines tells (seen (disk_of new)) (asked ++ record { session = k; call = one } ∷ []) answered (book_of new)
   stops one node in_grammar by_one serves holds book =
@@ -91,7 +91,7 @@ module _ {D : Type 0} (seen : D → Option (List ℕ)) (faults : D → ℕ) (pla
       subst (λ (b : List BookEntry). IsBookOf lines (asked ++ one ∷ []) answered b) (sym added)
       (book_down lines (asked ++ one ∷ []) answered (book_of old) (subst (λ (b : List BookEntry). IsBookOf lines (asked ++ one ∷ []) answered b) (append-nil (book_of old)) booked))
 
-  message_fell : (mail : Mail) → All IsLowerName mail.mailboxes → AreWithin new → GoesDown seen faults mail old new → HasServed plan lines tells (seen (disk_of new)) (asked ++ record { session = k; call = Deliver mail } ∷ []) answered (book_of new)
+  message_fell : (mail : Mail) → All IsLowerName mail.mailboxes → AreWithin new → GoesDownFiling seen faults mail old new → HasServed plan lines tells (seen (disk_of new)) (asked ++ record { session = k; call = Deliver mail } ∷ []) answered (book_of new)
   message_fell mail names within down =
       let some = down.falls.holds is.records is.holds in
       stops (Deliver mail) (record { drawn = drawn_of old + 1; stamps = stamps_of new; records = is.records ++ some.front.added })
@@ -108,7 +108,7 @@ module _ {D : Type 0} (seen : D → Option (List ℕ)) (faults : D → ℕ) (pla
       (rw down.octets (holds_journal (seen (disk_of old)) is.records (gate_of old) is.holds))
       (quiet_book (record { session = k; call = Fetch user id }) down.book (book_begun lines asked answered (book_of old) [] (record { session = k; call = Fetch user id }) refl refl refl is.book_is))
 
-  strike_fell : (user : List ℕ) (ids : List Id) → IsLowerName user → All IsId ids → AreWithin new → StopsStriking seen faults user ids old new
+  strike_fell : (user : List ℕ) (ids : List Id) → IsLowerName user → All IsId ids → AreWithin new → StopsDeleting seen faults user ids old new
       → HasServed plan lines tells (seen (disk_of new)) (asked ++ record { session = k; call = Strike user ids } ∷ []) answered (book_of new)
   strike_fell user ids name own within down =
       let some = down.holds is.records is.holds in

@@ -12,9 +12,9 @@ use Rattle.mail_base.specs.declared.ticket.Ticket.{Ticket}
 use Rattle.cluster_world.specs.Index.{kept_in, place_in}
 use Rattle.disk_journal.specs.Reading.{MayEndBefore}
 use Rattle.cluster_world.specs.Reads.{HasRead, IsPartAt, AnswersLogin, AnswersFetch}
-use Rattle.cluster_world.specs.World.{plan_of, is_up, drawn_of, stamps_of, tickets_of, kept_of, disk_of, gate_of, book_of, standing_of}
+use Rattle.cluster_world.specs.World.{plan_of, is_up, drawn_of, stamps_of, tickets_drawn, kept_of, disk_of, gate_of, book_of, standing_of}
 use Rattle.cluster_world.specs.Found.{FindsLogin, FindsPart}
-use Rattle.cluster_world.specs.Steps.{IsSound, Finds, StopsReading, call_of, nth_ticket}
+use Rattle.cluster_world.specs.Steps.{IsSound, BeginsReading, StopsReading, call_of, nth_ticket}
 use Rattle.disk_journal.specs.Journal.{end_of}
 use Rattle.disk_journal.specs.declared.journal.Journal.{Journal}
 use Rattle.cluster_world.specs.declared.index.Index.{Index}
@@ -112,9 +112,9 @@ pub finds : {D : Type 0} (seen : D → Option (List ℕ)) (faults : D → ℕ) (
     → seen disk ≡ seen (disk_of old) → faults disk ≡ faults (disk_of old)
     → (plan_of new ≡ plan_of old) × (is_up new ≡ is_up old) × (drawn_of new ≡ drawn_of old) × (stamps_of new ≡ stamps_of old) × (disk_of new ≡ disk)
     × (new.journal ≡ old.journal) × (new.index ≡ old.index) × (book_of new ≡ book_of old)
-    → tickets_of new ≡ tickets_of old + 1
-    → standing_of new ≡ standing_of old ++ call_of (nth_ticket (tickets_of old + 1)) (Found answer) ∷ []
-    → Finds seen faults (nth_ticket (tickets_of old + 1)) answer old new
+    → tickets_drawn new ≡ tickets_drawn old + 1
+    → standing_of new ≡ standing_of old ++ call_of (nth_ticket (tickets_drawn old + 1)) (Found answer) ∷ []
+    → BeginsReading seen faults (nth_ticket (tickets_drawn old + 1)) answer old new
 finds seen faults answer disk old new up same quiet rest more stands = record {
   plan = rest.0;
   up = rest.1 ∙ up;
@@ -134,7 +134,7 @@ finds seen faults answer disk old new up same quiet rest more stands = record {
 -- The node has gone down as it read.
 pub stops_reading : {D : Type 0} (seen : D → Option (List ℕ)) (faults : D → ℕ) (disk : D) (old new : World D)
     → seen disk ≡ seen (disk_of old) → faults (disk_of old) ≤ faults disk
-    → (plan_of new ≡ plan_of old) × (drawn_of new ≡ drawn_of old) × (stamps_of new ≡ stamps_of old) × (tickets_of new ≡ tickets_of old) × (disk_of new ≡ disk)
+    → (plan_of new ≡ plan_of old) × (drawn_of new ≡ drawn_of old) × (stamps_of new ≡ stamps_of old) × (tickets_drawn new ≡ tickets_drawn old) × (disk_of new ≡ disk)
     × (new.journal ≡ old.journal) × (new.index ≡ old.index)
     → IsFalse (is_up new) → standing_of new ≡ [] → book_of new ≡ book_of old ++ WentDown 1 ∷ [] → StopsReading seen faults old new
 stops_reading seen faults disk old new same later rest down standing book = record {

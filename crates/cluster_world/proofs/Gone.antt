@@ -11,8 +11,8 @@ use Rattle.mail_model.specs.PopReplies as replies
 use Rattle.mail_model.specs.Record.{Record, journal_of, payloads_of}
 use Rattle.mail_model.specs.Record.Record.{Boot, Promise, Retired, Octets, Stated}
 use Rattle.mail_model.specs.Listing.{is_same_id, octets_in, item_of, is_here, has_gone, items_in, listing_of}
-use Rattle.mail_model.specs.Site.{gone_records, number_in, drawn_through}
-use Rattle.cluster_world.specs.Index.{kept_seen, is_among, without, left_for}
+use Rattle.mail_model.specs.Site.{gone_records, number_of_id, drawn_through}
+use Rattle.cluster_world.specs.Index.{kept_seen, is_id_among, without, left_for}
 use Rattle.cluster_world.specs.Fits.{AreDrawn, IsKept, Recalls}
 use Rattle.cluster_world.specs.declared.index.Kept.{Kept}
 use Rattle.cluster_world.proofs.Listings.{first_of, first_or_none, octets_in-append, has_gone-append, items_in-append, shown}
@@ -50,15 +50,15 @@ module _ (owner : List ℕ) where
       ∙ gone_items user all (count + 1) ids
 
   -- and what they say is gone is these messages of the owner
-  gone_among : (user : List ℕ) (wanted : Id) (count : ℕ) (ids : List Id) → has_gone user wanted (gone_records owner count ids) ≡ (pointwise nat_eq owner user && is_among wanted ids)
+  gone_among : (user : List ℕ) (wanted : Id) (count : ℕ) (ids : List Id) → has_gone user wanted (gone_records owner count ids) ≡ (pointwise nat_eq owner user && is_id_among wanted ids)
   gone_among user wanted count [] = none_of (pointwise nat_eq owner user)
   gone_among user wanted count (id ∷ ids) =
       ap (λ (b : Bool). (pointwise nat_eq owner user && is_same_id id wanted && true) || b) (gone_among user wanted (count + 1) ids)
-      ∙ spread (pointwise nat_eq owner user) (is_same_id id wanted) (is_among wanted ids)
+      ∙ spread (pointwise nat_eq owner user) (is_same_id id wanted) (is_id_among wanted ids)
 
 -- whether a message stays, where these are gone for its user or not
 abbrev stays : Bool → List Id → replies.Item → Bool
-stays own ids item = not (own && is_among item.id ids)
+stays own ids item = not (own && is_id_among item.id ids)
 
 none_left : (is : Bool) → ◌≡◌ {A = List replies.Item} (if is then [] else []) []
 none_left true = refl
@@ -69,10 +69,10 @@ one_left true item = refl
 one_left false item = refl
 
 shown_left : (own : Bool) (ids : List Id) (a b gone : Bool) (id : Id) (octets : Option (List ℕ))
-    → (if a && b && not (gone || (own && is_among id ids)) then item_of id octets else []) ≡ filter (stays own ids) (if a && b && not gone then item_of id octets else [])
+    → (if a && b && not (gone || (own && is_id_among id ids)) then item_of id octets else []) ≡ filter (stays own ids) (if a && b && not gone then item_of id octets else [])
 shown_left own ids true true true id octets = refl
-shown_left own ids true true false id None = none_left (not (own && is_among id ids))
-shown_left own ids true true false id (Some octets) = one_left (not (own && is_among id ids)) (record { id = id; size = length octets })
+shown_left own ids true true false id None = none_left (not (own && is_id_among id ids))
+shown_left own ids true true false id (Some octets) = one_left (not (own && is_id_among id ids)) (record { id = id; size = length octets })
 shown_left own ids true false true id octets = refl
 shown_left own ids true false false id octets = refl
 shown_left own ids false true true id octets = refl
@@ -92,7 +92,7 @@ module _ (owner user : List ℕ) (count : ℕ) (ids : List Id) where
   same_octets id records = octets_in-append id records added
       ∙ ap (λ (o : Option (List ℕ)). first_of (octets_in id records) o) (gone_octets owner id count ids) ∙ first_or_none (octets_in id records)
 
-  more_gone : (id : Id) (records : List Record) → has_gone user id (records ++ added) ≡ (has_gone user id records || (own && is_among id ids))
+  more_gone : (id : Id) (records : List Record) → has_gone user id (records ++ added) ≡ (has_gone user id records || (own && is_id_among id ids))
   more_gone id records = has_gone-append user id records added ∙ ap (λ (b : Bool). has_gone user id records || b) (gone_among owner user id count ids)
 
   left_items : (all records : List Record) → items_in user (all ++ added) records ≡ filter (stays own ids) (items_in user all records)
@@ -126,7 +126,7 @@ choice false kept row items e = e
 -- so has what is left in memory
 seen_left : (own : Bool) (ids : List Id) (row : List Kept) → map kept_seen (if own then without ids row else row) ≡ filter (stays own ids) (map kept_seen row)
 seen_left true ids [] = refl
-seen_left true ids (kept ∷ row) = choice (not (is_among kept.id ids)) kept (without ids row) _ (seen_left true ids row)
+seen_left true ids (kept ∷ row) = choice (not (is_id_among kept.id ids)) kept (without ids row) _ (seen_left true ids row)
 seen_left false ids [] = refl
 seen_left false ids (kept ∷ row) = ap (λ (l : List replies.Item). kept_seen kept ∷ l) (seen_left false ids row)
 
@@ -140,7 +140,7 @@ raised_to n k = grind (arith, nat_tests)
 pub through_above : (n : ℕ) (ids : List Id) → n ≤ drawn_through n ids
 through_above n [] = omega arith
 through_above n (id ∷ ids) =
-    omega (arith, raised n (number_in id), through_above (if nat_lt n (number_in id) then number_in id else n) ids)
+    omega (arith, raised n (number_of_id id), through_above (if nat_lt n (number_of_id id) then number_of_id id else n) ids)
 
 -- what was drawn is below a greater number too
 drawn_below : (n m : ℕ) (records : List Record) → n ≤ m → AreDrawn n records → AreDrawn m records
@@ -155,8 +155,8 @@ drawn_below n m (Stated (Message user id) state ∷ records) le drawn = ((let lo
 drawn_gone : (owner : List ℕ) (n count : ℕ) (ids : List Id) → AreDrawn (drawn_through n ids) (gone_records owner count ids)
 drawn_gone owner n count [] = tt
 drawn_gone owner n count (id ∷ ids) = (
-  omega (arith, raised_to n (number_in id), through_above (if nat_lt n (number_in id) then number_in id else n) ids),
-  drawn_gone owner (if nat_lt n (number_in id) then number_in id else n) (count + 1) ids,
+  omega (arith, raised_to n (number_of_id id), through_above (if nat_lt n (number_of_id id) then number_of_id id else n) ids),
+  drawn_gone owner (if nat_lt n (number_of_id id) then number_of_id id else n) (count + 1) ids,
 )
 
 drawn_both : (n : ℕ) (records more : List Record) → AreDrawn n records → AreDrawn n more → AreDrawn n (records ++ more)
@@ -169,7 +169,7 @@ drawn_both n (Stated (Profile user) state ∷ records) more drawn others = drawn
 drawn_both n (Stated (Message user id) state ∷ records) more drawn others = (drawn.0, drawn_both n records more drawn.1 others)
 
 all_left : (P : Kept → Type 0) (own : Bool) (ids : List Id) (row : List Kept) → All P row → All P (if own then without ids row else row)
-all_left P true ids row all = All-filter (λ kept. not (is_among kept.id ids)) P row all
+all_left P true ids row all = All-filter (λ kept. not (is_id_among kept.id ids)) P row all
 all_left P false ids row all = all
 
 -- Gone states were written, and these messages taken out of the owner's row

@@ -9,9 +9,9 @@ use Rattle.mail_model.specs.PopReplies as replies
 use Rattle.mail_model.specs.Record.{Record}
 use Rattle.mail_model.specs.Record.Record.{Boot, Promise, Retired, Octets, Stated}
 use Rattle.mail_model.specs.Listing.{is_same_id, octets_in, item_of, is_here, is_gone, has_gone, items_in, listing_of}
-use Rattle.mail_model.specs.Site.{copies_of, message_records, nth_id, number_in}
+use Rattle.mail_model.specs.Site.{copies_of, message_records, nth_id, number_of_id}
 use Rattle.cluster_world.specs.Index.{kept_seen, added_for}
-use Rattle.cluster_world.specs.Fits.{IsDrawn, AreDrawn}
+use Rattle.cluster_world.specs.Fits.{IsAmongDrawn, AreDrawn}
 use Rattle.cluster_world.specs.declared.index.Kept.{Kept}
 
 -- the first of two that there is
@@ -40,15 +40,15 @@ same_number : (n : ℕ) → is_same_id (nth_id n) (nth_id n) ≡ true
 same_number n = grind (arith, nat_tests)
 
 -- an id that has no greater number is none that is still to be drawn
-other_than : (n : ℕ) (id : Id) → number_in id ≤ n → is_same_id id (nth_id (n + 1)) ≡ false
+other_than : (n : ℕ) (id : Id) → number_of_id id ≤ n → is_same_id id (nth_id (n + 1)) ≡ false
 other_than n id named = grind (arith, nat_tests)
 
-earlier_than : (n : ℕ) (id : Id) → number_in id ≤ n → is_same_id (nth_id (n + 1)) id ≡ false
+earlier_than : (n : ℕ) (id : Id) → number_of_id id ≤ n → is_same_id (nth_id (n + 1)) id ≡ false
 earlier_than n id named = grind (arith, nat_tests)
 
 -- nor is one that was drawn
-named_by_drawn : (n : ℕ) (id : Id) → IsDrawn n id → number_in id ≤ n
-named_by_drawn n id drawn = let low = drawn.1 in omega (arith, ap number_in drawn.2)
+named_by_drawn : (n : ℕ) (id : Id) → IsAmongDrawn n id → number_of_id id ≤ n
+named_by_drawn n id drawn = let low = drawn.1 in omega (arith, ap number_of_id drawn.2)
 
 -- records have no octets of an id that was not drawn
 none_yet : (n : ℕ) (records : List Record) → AreDrawn n records → octets_in (nth_id (n + 1)) records ≡ None
@@ -145,13 +145,13 @@ module _ (n : ℕ) (stamp : Stamp) (octets : List ℕ) (mailboxes : List (List �
       ∙ ap (λ (o : Option (List ℕ)). first_of o (octets_in (nth_id (n + 1)) new_records)) (none_yet n records drawn)
       ∙ ap (λ (b : Bool). if b then Some octets else octets_in (nth_id (n + 1)) (copies_of (nth_id (n + 1)) stamp mailboxes)) (same_number (n + 1))
 
-  not_among : (id : Id) → number_in id ≤ n → octets_in id new_records ≡ None
+  not_among : (id : Id) → number_of_id id ≤ n → octets_in id new_records ≡ None
   not_among id named =
       ap (λ (b : Bool). if b then Some octets else octets_in id (copies_of (nth_id (n + 1)) stamp mailboxes)) (earlier_than n id named)
       ∙ no_octets id (nth_id (n + 1)) stamp mailboxes
 
   -- and of the others nothing has changed
-  same_octets : (id : Id) (records : List Record) → number_in id ≤ n → octets_in id (records ++ new_records) ≡ octets_in id records
+  same_octets : (id : Id) (records : List Record) → number_of_id id ≤ n → octets_in id (records ++ new_records) ≡ octets_in id records
   same_octets id records named = octets_in-append id records new_records
       ∙ ap (λ (o : Option (List ℕ)). first_of (octets_in id records) o) (not_among id named) ∙ first_or_none (octets_in id records)
 
@@ -202,7 +202,7 @@ module _ (n : ℕ) (stamp : Stamp) (octets : List ℕ) (mailboxes : List (List �
       ∙ ap (λ (l : List replies.Item). listing_of user records ++ l)
       (new_items user (records ++ new_records) kept mailboxes own size (own_octets records drawn) (own_gone user records drawn))
 
-  drawn_later : (id : Id) → IsDrawn n id → IsDrawn (n + 1) id
+  drawn_later : (id : Id) → IsAmongDrawn n id → IsAmongDrawn (n + 1) id
   drawn_later id drawn = (drawn.0, (let low = drawn.1 in omega arith), drawn.2)
 
   drawn_copies : (names : List (List ℕ)) → AreDrawn (n + 1) (copies_of (nth_id (n + 1)) stamp names)

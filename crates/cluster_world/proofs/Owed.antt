@@ -24,16 +24,16 @@ use Rattle.session_model.specs.Books.{AmongAnswers, IsBookOf, Among, acks_by}
 use Rattle.session_model.specs.Facts.{IsIn}
 use Rattle.mail_model.specs.Identity.{Id}
 use Rattle.session_model.specs.Owes.{Owes}
-use Rattle.session_model.specs.OneNode.{Served, IsSoundMail, AreSoundMails, IsTaken, AreTaken, asked_of, answered_of}
+use Rattle.session_model.specs.OneNode.{Served, IsSoundMail, AreSoundMails, IsTaken, AreCallsTaken, asked_of, answered_of}
 use Rattle.session_model.proofs.OneNode.{one_node_owes}
 use Rattle.session_model.proofs.NodeStores.{one_node_stores}
-use Rattle.call_tickets.specs.Seen.{call_seen, answer_seen, ids_in, secret_in}
+use Rattle.call_tickets.specs.Seen.{call_seen, answer_seen, ids_in, secret_given}
 use Rattle.call_tickets.specs.declared.call.Call.{Call as WorldCall}
 use Rattle.call_tickets.specs.declared.call.Call.TheVariants as call
 use Rattle.call_tickets.specs.declared.answer.Answer.{Answer as WorldAnswer}
-use Rattle.cluster_world.specs.World.{plan_of, is_up, drawn_of, stamps_of, tickets_of, disk_of, book_of, standing_of, gate_of, steps_of, Fits, counted, Begins}
-use Rattle.cluster_world.specs.Steps.{BeginDid, AskDid, HasBegun, IsAsBefore, IsAnswered, call_of, nth_ticket}
-use Rattle.cluster_world.specs.Outcomes.{Outcome, Awaited, IsRefusal, IsFall, IsLeave, Came, Makes, HasNames, AreWithin, AreOfSessions, WorldOwes, StepsAreCounted, asked_in, answered_in}
+use Rattle.cluster_world.specs.World.{plan_of, is_up, drawn_of, stamps_of, tickets_drawn, disk_of, book_of, standing_of, gate_of, steps_of, MemoryFits, with_step_counted, IsAtBeginning}
+use Rattle.cluster_world.specs.Steps.{BeginDid, AskDid, HasBegun, IsAsBefore, IsCallAnswered, call_of, nth_ticket}
+use Rattle.cluster_world.specs.Outcomes.{Outcome, Awaited, IsRefusal, IsFall, IsLeave, Came, Makes, HasNames, AreWithin, AreOfSessions, WorldOwes, StepsAreCounted, asked_by_outcome, answered_by_outcome}
 use Rattle.cluster_world.specs.declared.step.Step.TheVariants.{Begin}
 use Rattle.cluster_world.specs.Outcomes.Outcome.{Began, Refused, Fell, Answers, Unanswered, Left}
 use Rattle.cluster_world.specs.declared.world.World.{World}
@@ -52,15 +52,15 @@ use Rattle.cluster_world.proofs.Falling.{some_is, fetched_whole, fell_in}
 -- what one answer more leaves
 module _ {D : Type 0} (seen : D → Option (List ℕ)) (plan : Plan) (lines : List (List ℕ)) (tells : Bool) (asked : List Asked) (answered : List Answered) (old new : World D) where
   answered_one : (awaited : List Awaited) (is : IsServing seen plan lines tells asked answered awaited old) (k number : ℕ) (one : Call) (given : Answer) (own : WorldAnswer) (before behind : List Awaited)
-      → given ≡ answer_seen own → awaited ≡ before ++ record { number = number; session = k; call = one } ∷ behind → IsAnswered (nth_ticket number) own old new
+      → given ≡ answer_seen own → awaited ≡ before ++ record { number = number; session = k; call = one } ∷ behind → IsCallAnswered (nth_ticket number) own old new
       → IsServing seen plan lines tells asked (answered ++ record { session = k; call = one; answer = given } ∷ []) (before ++ behind) new
   answered_one awaited is k number one given own before behind given_is split done =
       let here = split_map awaited_by is.calls before behind (record { number = number; session = k; call = one }) (is.awaited_are ∙ split) in
       let there = split_map standing_by is.calls done.before done.behind (call_of (nth_ticket number) done.pending) (is.standing_are ∙ done.stood) in
       let number_here : here.own.number ≡ number = ap (λ (a : Awaited). a.number) here.own_is in
       let number_there : there.own.number ≡ number = ap (λ (s : Standing). s.ticket.seq) there.own_is in
-      let rising = subst (λ (l : List InProgress). AreRising 0 (tickets_of old) l) here.whole is.rising in
-      let same = same_place 0 (tickets_of old) here.front here.back there.front there.back here.own there.own rising (sym here.whole ∙ there.whole) (number_here ∙ sym number_there) in
+      let rising = subst (λ (l : List InProgress). AreRising 0 (tickets_drawn old) l) here.whole is.rising in
+      let same = same_place 0 (tickets_drawn old) here.front here.back there.front there.back here.own there.own rising (sym here.whole ∙ there.whole) (number_here ∙ sym number_there) in
       let pending_is : here.own.pending ≡ done.pending = ap (λ (c : InProgress). c.pending) same.1 ∙ ap (λ (s : Standing). s.pending) there.own_is in
       let due = subst (λ (l : List InProgress). AreDue (answered_of is.served) l) here.whole is.due in
       let own_due = (due_behind (answered_of is.served) here.front (here.own ∷ here.back) due).0 in
@@ -92,7 +92,7 @@ module _ {D : Type 0} (seen : D → Option (List ℕ)) (plan : Plan) (lines : Li
         calls = here.front ++ here.back;
         awaited_are = map-append awaited_by here.front here.back ∙ ap₂ ◌++◌ here.front_is here.back_is;
         standing_are = ap₂ (λ (a b : List InProgress). map standing_by (a ++ b)) same.0 same.2 ∙ map-append standing_by there.front there.back ∙ ap₂ ◌++◌ there.front_is there.back_is ∙ sym done.stands;
-        rising = rw done.tickets (rising_without 0 (tickets_of old) here.front here.back here.own rising);
+        rising = rw done.tickets (rising_without 0 (tickets_drawn old) here.front here.back here.own rising);
         due = due_both (answered_of is.served) here.front here.back (due_front (answered_of is.served) here.front (here.own ∷ here.back) due)
             (due_behind (answered_of is.served) here.front (here.own ∷ here.back) due).1;
         others = subst HaveOtherIds acks_new (have_moved (acks_in answered) (acks_in (map due_by here.front)) (acks_by (due_by here.own)) (acks_in (map due_by here.back)) (subst HaveOtherIds acks_are is.others));
@@ -110,12 +110,12 @@ module _ {D : Type 0} (seen : D → Option (List ℕ)) (plan : Plan) (lines : Li
     up = ap (λ (w : World D). is_up w) same;
     drawn = ap (λ (w : World D). drawn_of w) same;
     stamps = ap (λ (w : World D). stamps_of w) same;
-    tickets = ap (λ (w : World D). tickets_of w) same;
+    tickets = ap (λ (w : World D). tickets_drawn w) same;
     standing = ap (λ (w : World D). standing_of w) same;
     book = ap (λ (w : World D). book_of w) same;
     octets = ap (λ (w : World D). seen (disk_of w)) same;
     gate = ap (λ (w : World D). gate_of w) same;
-    fits = λ records fits. subst (λ (w : World D). Fits records w) (sym same) fits;
+    fits = λ records fits. subst (λ (w : World D). MemoryFits records w) (sym same) fits;
   }
 
   before_alike : (faults : D → ℕ) → IsAsBefore seen faults old new → IsAlike seen old new
@@ -172,7 +172,7 @@ module _ {D : Type 0} (seen : D → Option (List ℕ)) (plan : Plan) (lines : Li
       (delivery_began seen faults plan lines tells asked answered awaited old new is k number (mail_in deliver) did told (subst IsSoundMail (sym same) sound) names within)
   began_one faults awaited is k number one stirs (call.Login user proof) e sound names within told did =
       subst (λ (c : Call). IsServing seen plan lines tells (asked ++ record { session = k; call = c } ∷ []) answered (awaited ++ record { number = number; session = k; call = c } ∷ []) new)
-      (some_is (Login user (secret_in proof)) one e)
+      (some_is (Login user (secret_given proof)) one e)
       (login_began seen faults plan lines tells asked answered awaited old new is k number user proof did.0 did.1 told did.2)
   began_one faults awaited is k number one stirs (call.Fetch user id holders start most) e sound names within told did =
       let whole = fetched_whole user id start most one e in
@@ -211,7 +211,7 @@ module _ {D : Type 0} (seen : D → Option (List ℕ)) (faults : D → ℕ) (pla
       known
 
   -- a step that is only counted
-  same_counted : (world : World D) → IsAlike seen world (counted world)
+  same_counted : (world : World D) → IsAlike seen world (with_step_counted world)
   same_counted world = record {
     plan_is = refl;
     up = refl;
@@ -225,37 +225,37 @@ module _ {D : Type 0} (seen : D → Option (List ℕ)) (faults : D → ℕ) (pla
     fits = λ records fits. fits;
   }
 
-  as_it_was : (asked : List Asked) (answered : List Answered) (awaited left : List Awaited) (old new : World D) → left ≡ awaited → IsAlike seen (counted old) new
+  as_it_was : (asked : List Asked) (answered : List Answered) (awaited left : List Awaited) (old new : World D) → left ≡ awaited → IsAlike seen (with_step_counted old) new
       → Known seen plan lines tells asked answered awaited old → Known seen plan lines tells (asked ++ []) (answered ++ []) left new
   as_it_was asked answered awaited left old new left_is same known =
       subst (λ (l : List Asked). Known seen plan lines tells l (answered ++ []) left new) (sym (append-nil asked))
       (subst (λ (l : List Answered). Known seen plan lines tells asked l left new) (sym (append-nil answered))
       (subst (λ (l : List Awaited). Known seen plan lines tells asked answered l new) (sym left_is)
-      (stays_known asked answered awaited (counted old) new same (stays_known asked answered awaited old (counted old) (same_counted old) known))))
+      (stays_known asked answered awaited (with_step_counted old) new same (stays_known asked answered awaited old (with_step_counted old) (same_counted old) known))))
 
   -- whoever did what, the lists are one longer, or are as they were
-  one_step : (outcome : Outcome) (asked : List Asked) (answered : List Answered) (awaited left : List Awaited) (old new : World D) → AreOf lines (asked_in outcome)
+  one_step : (outcome : Outcome) (asked : List Asked) (answered : List Answered) (awaited left : List Awaited) (old new : World D) → AreOf lines (asked_by_outcome outcome)
       → Came seen faults outcome awaited old left new → Known seen plan lines tells asked answered awaited old
-      → Known seen plan lines tells (asked ++ asked_in outcome) (answered ++ answered_in outcome) left new
+      → Known seen plan lines tells (asked ++ asked_by_outcome outcome) (answered ++ answered_by_outcome outcome) left new
   one_step (Began k one number) asked answered awaited left old new sound (begun, stirs, is_call, step, left_is) known = ⊎_elim
       (λ is.
       subst (λ (l : List Answered). Known seen plan lines tells (asked ++ record { session = k; call = one } ∷ []) l left new) (sym (append-nil answered))
       (subst (λ (l : List Awaited). Known seen plan lines tells (asked ++ record { session = k; call = one } ∷ []) answered l new) (sym left_is)
-      (inl (began_one seen plan lines tells asked answered (counted old) new faults awaited
-      (stays_serving seen plan lines tells asked answered awaited old (counted old) (same_counted old) is) k number one stirs begun is_call sound.0 step.names step.numbers step.told step.did.3))))
+      (inl (began_one seen plan lines tells asked answered (with_step_counted old) new faults awaited
+      (stays_serving seen plan lines tells asked answered awaited old (with_step_counted old) (same_counted old) is) k number one stirs begun is_call sound.0 step.names step.numbers step.told step.did.3))))
       (λ down. never_up old down.0 step.did.1)
       known
   one_step (Refused k one) asked answered awaited left old new sound (begun, result, is_call, refusal, step, left_is) known =
-      as_it_was asked answered awaited left old new left_is (refused_alike seen plan lines tells asked answered (counted old) new faults result begun refusal step.did) known
+      as_it_was asked answered awaited left old new left_is (refused_alike seen plan lines tells asked answered (with_step_counted old) new faults result begun refusal step.did) known
   one_step (Fell k one) asked answered awaited left old new sound (begun, result, is_call, fall, step, left_is) known = ⊎_elim
       (λ is.
-      let fell = fell_in seen faults plan lines tells asked answered awaited (counted old) new (stays_serving seen plan lines tells asked answered awaited old (counted old) (same_counted old) is) k step.told
+      let fell = fell_in seen faults plan lines tells asked answered awaited (with_step_counted old) new (stays_serving seen plan lines tells asked answered awaited old (with_step_counted old) (same_counted old) is) k step.told
       result begun one is_call step.names step.numbers fall step.did in
       inr (fell.1, subst (λ (l : List Answered). HasServed plan lines tells (seen (disk_of new)) (asked ++ record { session = k; call = one } ∷ []) l (book_of new)) (sym (append-nil answered)) fell.0))
       (λ down. never_up old down.0 (up_before result begun fall step.did))
       known
     where
-      up_before : (result : Result Said StepFault) (begun : WorldCall) → IsFall result → BeginDid seen faults result 1 begun (counted old) new → IsTrue (is_up old)
+      up_before : (result : Result Said StepFault) (begun : WorldCall) → IsFall result → BeginDid seen faults result 1 begun (with_step_counted old) new → IsTrue (is_up old)
       up_before (Ok (Faulted failed)) begun fall did = did.1
       up_before (Err (NoMemory (Some failed))) begun fall did = did.1
       up_before (Ok (Begun ticket stirs)) begun fall did = absurd fall
@@ -270,33 +270,33 @@ module _ {D : Type 0} (seen : D → Option (List ℕ)) (faults : D → ℕ) (pla
       (λ is.
       subst (λ (l : List Asked). Known seen plan lines tells l (answered ++ record { session = k; call = one; answer = given } ∷ []) left new) (sym (append-nil asked))
       (subst (λ (l : List Awaited). Known seen plan lines tells asked (answered ++ record { session = k; call = one; answer = given } ∷ []) l new) (sym left_is)
-      (inl (answered_one seen plan lines tells asked answered (counted old) new awaited
-      (stays_serving seen plan lines tells asked answered awaited old (counted old) (same_counted old) is) k number one given own before behind given_is split step.did.1))))
+      (inl (answered_one seen plan lines tells asked answered (with_step_counted old) new awaited
+      (stays_serving seen plan lines tells asked answered awaited old (with_step_counted old) (same_counted old) is) k number one given own before behind given_is split step.did.1))))
       (λ down. never_up old down.0 step.did.0)
       known
   one_step (Unanswered k number) asked answered awaited left old new sound (fault, step, left_is) known =
-      as_it_was asked answered awaited left old new left_is (asked_alike seen plan lines tells asked answered (counted old) new faults number fault step.did) known
+      as_it_was asked answered awaited left old new left_is (asked_alike seen plan lines tells asked answered (with_step_counted old) new faults number fault step.did) known
   one_step (Left k user) asked answered awaited left old new sound (begun, result, leave, step, left_is) known =
-      as_it_was asked answered awaited left old new left_is (left_alike seen plan lines tells asked answered (counted old) new faults result user begun leave step.did) known
+      as_it_was asked answered awaited left old new left_is (left_alike seen plan lines tells asked answered (with_step_counted old) new faults result user begun leave step.did) known
 
   sound_both : (first more : List Asked) → AreOf lines (first ++ more) → AreOf lines first × AreOf lines more
   sound_both [] more all = (tt, all)
   sound_both (one ∷ first) more all = let rest = sound_both first more all.2 in ((all.0, all.1, rest.0), rest.1)
 
   -- all of them
-  all_steps : (outcomes : List Outcome) (asked : List Asked) (answered : List Answered) (awaited left : List Awaited) (old new : World D) → AreOf lines (flat_map asked_in outcomes)
+  all_steps : (outcomes : List Outcome) (asked : List Asked) (answered : List Answered) (awaited left : List Awaited) (old new : World D) → AreOf lines (flat_map asked_by_outcome outcomes)
       → Makes seen faults outcomes awaited old left new → Known seen plan lines tells asked answered awaited old
-      → Known seen plan lines tells (asked ++ flat_map asked_in outcomes) (answered ++ flat_map answered_in outcomes) left new
+      → Known seen plan lines tells (asked ++ flat_map asked_by_outcome outcomes) (answered ++ flat_map answered_by_outcome outcomes) left new
   all_steps [] asked answered awaited left old new sound (left_is, same) known =
       subst (λ (l : List Asked). Known seen plan lines tells l (answered ++ []) left new) (sym (append-nil asked))
       (subst (λ (l : List Answered). Known seen plan lines tells asked l left new) (sym (append-nil answered))
       (subst (λ (l : List Awaited). Known seen plan lines tells asked answered l new) (sym left_is)
       (subst (λ (w : World D). Known seen plan lines tells asked answered awaited w) (sym same) known)))
   all_steps (outcome ∷ outcomes) asked answered awaited left old new sound (between, mid, came, rest) known =
-      let parts = sound_both (asked_in outcome) (flat_map asked_in outcomes) sound in
-      subst (λ (l : List Asked). Known seen plan lines tells l (answered ++ (answered_in outcome ++ flat_map answered_in outcomes)) left new) (append_assoc asked (asked_in outcome) (flat_map asked_in outcomes))
-      (subst (λ (l : List Answered). Known seen plan lines tells ((asked ++ asked_in outcome) ++ flat_map asked_in outcomes) l left new) (append_assoc answered (answered_in outcome) (flat_map answered_in outcomes))
-      (all_steps outcomes (asked ++ asked_in outcome) (answered ++ answered_in outcome) between left mid new parts.1 rest
+      let parts = sound_both (asked_by_outcome outcome) (flat_map asked_by_outcome outcomes) sound in
+      subst (λ (l : List Asked). Known seen plan lines tells l (answered ++ (answered_by_outcome outcome ++ flat_map answered_by_outcome outcomes)) left new) (append_assoc asked (asked_by_outcome outcome) (flat_map asked_by_outcome outcomes))
+      (subst (λ (l : List Answered). Known seen plan lines tells ((asked ++ asked_by_outcome outcome) ++ flat_map asked_by_outcome outcomes) l left new) (append_assoc answered (answered_by_outcome outcome) (flat_map answered_by_outcome outcomes))
+      (all_steps outcomes (asked ++ asked_by_outcome outcome) (answered ++ answered_by_outcome outcome) between left mid new parts.1 rest
       (one_step outcome asked answered awaited between old mid parts.0 came known)))
 
 -- the calls that were served are those of sessions
@@ -304,7 +304,7 @@ served_sound : (lines : List (List ℕ)) (served : List Served) → AreOf lines 
 served_sound lines [] all = tt
 served_sound lines (one ∷ served) all = (all.0, served_sound lines served all.2)
 
-served_taken : (lines : List (List ℕ)) (served : List Served) → AreOf lines (asked_of served) → AreTaken lines served
+served_taken : (lines : List (List ℕ)) (served : List Served) → AreOf lines (asked_of served) → AreCallsTaken lines served
 served_taken lines [] all = tt
 served_taken lines (one ∷ served) all = (all.1, served_taken lines served all.2)
 
@@ -381,7 +381,7 @@ module _ {D : Type 0} (seen : D → Option (List ℕ)) (faults : D → ℕ) wher
   counted_one (Unanswered k number) awaited left old new came = came.1.count
   counted_one (Left k user) awaited left old new came = came.3.count
 
-  at_first : (plan : Plan) (lines : List (List ℕ)) (start : World D) → Begins seen plan start → IsServing seen plan lines (is_some (seen (disk_of start))) [] [] [] start
+  at_first : (plan : Plan) (lines : List (List ℕ)) (start : World D) → IsAtBeginning seen plan start → IsServing seen plan lines (is_some (seen (disk_of start))) [] [] [] start
   at_first plan lines start begins = record {
     plan_is = begins.plan_is;
     up = begins.up;
@@ -408,13 +408,13 @@ module _ {D : Type 0} (seen : D → Option (List ℕ)) (faults : D → ℕ) wher
   pub world_owes : WorldOwes seen faults
   world_owes plan lines entries outcomes left start last one sure begins makes sound =
       let tells = is_some (seen (disk_of start)) in
-      let own = each_of lines (flat_map asked_in outcomes) sound in
+      let own = each_of lines (flat_map asked_by_outcome outcomes) sound in
       let has = ⊎_elim
-      (λ (is : IsServing seen plan lines tells (flat_map asked_in outcomes) (flat_map answered_in outcomes) left last).
-      served_so_far seen plan lines tells (flat_map asked_in outcomes) (flat_map answered_in outcomes) left last is)
-      (λ (down : IsFalse (is_up last) × HasServed plan lines tells (seen (disk_of last)) (flat_map asked_in outcomes) (flat_map answered_in outcomes) (book_of last)). down.1)
+      (λ (is : IsServing seen plan lines tells (flat_map asked_by_outcome outcomes) (flat_map answered_by_outcome outcomes) left last).
+      served_so_far seen plan lines tells (flat_map asked_by_outcome outcomes) (flat_map answered_by_outcome outcomes) left last is)
+      (λ (down : IsFalse (is_up last) × HasServed plan lines tells (seen (disk_of last)) (flat_map asked_by_outcome outcomes) (flat_map answered_by_outcome outcomes) (book_of last)). down.1)
       (all_steps seen faults plan lines tells outcomes [] [] [] left start last own makes (inl (at_first plan lines start begins))) in
-      (has.node.records, owes_served plan lines tells entries (seen (disk_of last)) (flat_map asked_in outcomes) (flat_map answered_in outcomes) (book_of last) one sure own has)
+      (has.node.records, owes_served plan lines tells entries (seen (disk_of last)) (flat_map asked_by_outcome outcomes) (flat_map answered_by_outcome outcomes) (book_of last) one sure own has)
 
   -- as many steps were counted
   many : (outcomes : List Outcome) (awaited left : List Awaited) (old last : World D) → steps_of old ≤ 2 ^ 64 - 1 → Makes seen faults outcomes awaited old left last

@@ -7,7 +7,7 @@ use Rattle.mail_model.specs.Identity.{Id}
 use Rattle.mail_model.specs.Listing.{is_same_id}
 use Rattle.mail_base.specs.Orders.{id_cmp}
 use Rattle.disk_journal.specs.declared.place.Place.{Place}
-use Rattle.cluster_world.specs.Messages.{is_among, without, place_in, noted, first_place}
+use Rattle.cluster_world.specs.Messages.{is_id_among, without, place_in, noted_place, first_place}
 use Rattle.cluster_world.specs.declared.index.Kept.{Kept}
 use Rattle.cluster_world.proofs.Readings.{same_id, one_id, place_in-append}
 use Rattle.cluster_world.proofs.Among.{among_more}
@@ -16,12 +16,12 @@ first_none : (b : Option Place) → first_place b None ≡ b
 first_none None = refl
 first_none (Some place) = refl
 
-noted_choice : (is : Bool) (a : Option (Option Place)) (b own : Option Place) (place : Place) → noted a ≡ b → (is ≡ true → b ≡ own)
-    → noted (cond is (Some (first_place own (Some place))) a) ≡ first_place b (if is then Some place else None)
+noted_choice : (is : Bool) (a : Option (Option Place)) (b own : Option Place) (place : Place) → noted_place a ≡ b → (is ≡ true → b ≡ own)
+    → noted_place (cond is (Some (first_place own (Some place))) a) ≡ first_place b (if is then Some place else None)
 noted_choice true a b own place e same = ap (λ (o : Option Place). first_place o (Some place)) (sym (same refl))
 noted_choice false a b own place e same = e ∙ sym (first_none b)
 
-left_choice : (gone : Bool) (a : Option (Option Place)) (b : Option Place) → noted a ≡ b → noted (if gone then None else a) ≡ (if gone then None else b)
+left_choice : (gone : Bool) (a : Option (Option Place)) (b : Option Place) → noted_place a ≡ b → noted_place (if gone then None else a) ≡ (if gone then None else b)
 left_choice true a b e = refl
 left_choice false a b e = e
 
@@ -40,11 +40,11 @@ choice false true false kept id left rest is both e = ap (λ (b : Bool). if b th
 choice false false gone kept id left rest is both e = ap (λ (b : Bool). if b then Some kept.place else place_in id left) is ∙ e
 
 -- what is left of a row has the places of the ids that are left
-place_left : (id : Id) (ids : List Id) (row : List Kept) → place_in id (without ids row) ≡ (if is_among id ids then None else place_in id row)
-place_left id ids [] = none_either (is_among id ids)
+place_left : (id : Id) (ids : List Id) (row : List Kept) → place_in id (without ids row) ≡ (if is_id_among id ids then None else place_in id row)
+place_left id ids [] = none_either (is_id_among id ids)
 place_left id ids (kept ∷ row) =
-    choice (is_among kept.id ids) (is_same_id kept.id id) (is_among id ids) kept id (without ids row) (place_in id row) refl
-    (λ same. ap (λ (i : Id). is_among i ids) (one_id kept.id id same)) (place_left id ids row)
+    choice (is_id_among kept.id ids) (is_same_id kept.id id) (is_id_among id ids) kept id (without ids row) (place_in id row) refl
+    (λ same. ap (λ (i : Id). is_id_among i ids) (one_id kept.id id same)) (place_left id ids row)
 
 same_self : (id : Id) → is_same_id id id ≡ true
 same_self id = grind (arith, nat_tests)
@@ -71,27 +71,27 @@ some_left : (gone : Bool) (place : Option Place) → is_some place ≡ true → 
 some_left true place e = refl
 some_left false place e = e
 
-module _ (old new : Id → Option (Option Place)) (row : List Kept) (found : (id : Id) → noted (old id) ≡ place_in id row) where
+module _ (old new : Id → Option (Option Place)) (row : List Kept) (found : (id : Id) → noted_place (old id) ≡ place_in id row) where
   -- one message more
-  pub pushed : (kept : Kept) → ((id : Id) → new id ≡ cond (is_at (id_cmp kept.id) id) (Some (first_place (noted (old kept.id)) (Some kept.place))) (old id))
-      → (id : Id) → noted (new id) ≡ place_in id (row ++ kept ∷ [])
+  pub pushed : (kept : Kept) → ((id : Id) → new id ≡ cond (is_at (id_cmp kept.id) id) (Some (first_place (noted_place (old kept.id)) (Some kept.place))) (old id))
+      → (id : Id) → noted_place (new id) ≡ place_in id (row ++ kept ∷ [])
   pushed kept put id =
-      ap (λ (o : Option (Option Place)). noted o) (put id)
-      ∙ ap (λ (b : Bool). noted (cond b (Some (first_place (noted (old kept.id)) (Some kept.place))) (old id))) (same_id kept.id id)
-      ∙ noted_choice (is_same_id kept.id id) (old id) (place_in id row) (noted (old kept.id)) kept.place (found id)
-      (λ same. sym (found id) ∙ ap (λ (i : Id). noted (old i)) (sym (one_id kept.id id same)))
+      ap (λ (o : Option (Option Place)). noted_place o) (put id)
+      ∙ ap (λ (b : Bool). noted_place (cond b (Some (first_place (noted_place (old kept.id)) (Some kept.place))) (old id))) (same_id kept.id id)
+      ∙ noted_choice (is_same_id kept.id id) (old id) (place_in id row) (noted_place (old kept.id)) kept.place (found id)
+      (λ same. sym (found id) ∙ ap (λ (i : Id). noted_place (old i)) (sym (one_id kept.id id same)))
       ∙ sym (place_in-append id row (kept ∷ []))
 
-  module _ (ids : List Id) (forgot : (id : Id) → new id ≡ (if is_among id ids then None else old id)) where
-    left : (id : Id) → noted (new id) ≡ (if is_among id ids then None else place_in id row)
-    left id = ap (λ (o : Option (Option Place)). noted o) (forgot id) ∙ left_choice (is_among id ids) (old id) (place_in id row) (found id)
+  module _ (ids : List Id) (forgot : (id : Id) → new id ≡ (if is_id_among id ids then None else old id)) where
+    left : (id : Id) → noted_place (new id) ≡ (if is_id_among id ids then None else place_in id row)
+    left id = ap (λ (o : Option (Option Place)). noted_place o) (forgot id) ∙ left_choice (is_id_among id ids) (old id) (place_in id row) (found id)
 
     -- those of these ids are gone
-    pub kept_left : filter (λ (kept : Kept). is_some (noted (new kept.id))) row ≡ without ids row
-    kept_left = same_left (λ (kept : Kept). is_some (noted (new kept.id))) (λ (kept : Kept). not (is_among kept.id ids)) [] row
-        (λ kept at. ap (λ (o : Option Place). is_some o) (left kept.id) ∙ some_left (is_among kept.id ids) (place_in kept.id row) at)
+    pub kept_left : filter (λ (kept : Kept). is_some (noted_place (new kept.id))) row ≡ without ids row
+    kept_left = same_left (λ (kept : Kept). is_some (noted_place (new kept.id))) (λ (kept : Kept). not (is_id_among kept.id ids)) [] row
+        (λ kept at. ap (λ (o : Option Place). is_some o) (left kept.id) ∙ some_left (is_id_among kept.id ids) (place_in kept.id row) at)
 
-    pub found_left : (id : Id) → noted (new id) ≡ place_in id (without ids row)
+    pub found_left : (id : Id) → noted_place (new id) ≡ place_in id (without ids row)
     found_left id = left id ∙ sym (place_left id ids row)
 
 forgot_choice : (same gone : Bool) (x : Option (Option Place)) → cond same None (if gone then None else x) ≡ (if gone || (same || false) then None else x)
@@ -102,9 +102,9 @@ forgot_choice false false x = refl
 
 -- the ids so far have no place, and one more has none
 pub forgot_more : (start between now : Option (Option Place)) (id : Id) (ids : List Id) (i : ℕ) (other : Id) → i < length ids → other ≡ get_or ids i other
-    → between ≡ (if is_among id (take i ids) then None else start) → now ≡ cond (is_at (id_cmp other) id) None between
-    → now ≡ (if is_among id (take (i + 1) ids) then None else start)
+    → between ≡ (if is_id_among id (take i ids) then None else start) → now ≡ cond (is_at (id_cmp other) id) None between
+    → now ≡ (if is_id_among id (take (i + 1) ids) then None else start)
 forgot_more start between now id ids i other within is so_far one =
     one ∙ ap (λ (b : Bool). cond b None between) (same_id other id) ∙ ap (λ (o : Option (Option Place)). cond (is_same_id other id) None o) so_far
-    ∙ forgot_choice (is_same_id other id) (is_among id (take i ids)) start
+    ∙ forgot_choice (is_same_id other id) (is_id_among id (take i ids)) start
     ∙ ap (λ (b : Bool). if b then None else start) (sym (among_more id ids i other within is))

@@ -9,7 +9,7 @@ use Rattle.std.proofs.lemmas.List.Concat.{flat_map-append}
 use Rattle.mail_model.specs.Identity.{Id, Stamp}
 use Rattle.mail_model.specs.Identity.Key.{Message}
 use Rattle.mail_model.specs.PopReplies as replies
-use Rattle.mail_model.specs.Record.{Record, Member, journal_of, header_of, payload_of, payloads_of, framed, id_octets}
+use Rattle.mail_model.specs.Record.{Record, IsAmongRecords, journal_of, header_of, payload_of, payloads_of, framed, id_octets}
 use Rattle.mail_model.specs.Record.Record.{Boot, Octets, Stated}
 use Rattle.mail_model.specs.Site.{copies_of, message_records, nth_id, nth_stamp}
 use Rattle.cluster_world.specs.Heads.{here}
@@ -58,11 +58,11 @@ recalls_boot kept none = record {
 }
 
 -- what some record says, one of more says too
-stated_before : (wanted : Record) (records more : List Record) → Member wanted records → Member wanted (records ++ more)
+stated_before : (wanted : Record) (records more : List Record) → IsAmongRecords wanted records → IsAmongRecords wanted (records ++ more)
 stated_before wanted [] more never = absurd never
-stated_before wanted (other ∷ records) more said = ⊎_elim (λ (here : other ≡ wanted). inl here) (λ (later : Member wanted records). inr (stated_before wanted records more later)) said
+stated_before wanted (other ∷ records) more said = ⊎_elim (λ (here : other ≡ wanted). inl here) (λ (later : IsAmongRecords wanted records). inr (stated_before wanted records more later)) said
 
-stated_behind : (wanted : Record) (records more : List Record) → Member wanted more → Member wanted (records ++ more)
+stated_behind : (wanted : Record) (records more : List Record) → IsAmongRecords wanted more → IsAmongRecords wanted (records ++ more)
 stated_behind wanted [] more said = said
 stated_behind wanted (other ∷ records) more said = inr (stated_behind wanted records more said)
 
@@ -72,7 +72,7 @@ IsFor user [] = ⊥
 IsFor user (name ∷ names) = (pointwise nat_eq name user ≡ true) ⊎ IsFor user names
 
 -- a state says of the copy of each user of a message that it is here
-stated_for : (user : List ℕ) (id : Id) (stamp : Stamp) (names : List (List ℕ)) → IsFor user names → Member (Stated (Message user id) (here stamp 1)) (copies_of id stamp names)
+stated_for : (user : List ℕ) (id : Id) (stamp : Stamp) (names : List (List ℕ)) → IsFor user names → IsAmongRecords (Stated (Message user id) (here stamp 1)) (copies_of id stamp names)
 stated_for user id stamp [] never = absurd never
 stated_for user id stamp (name ∷ names) own = ⊎_elim
     (λ (is : pointwise nat_eq name user ≡ true). inl (ap (λ (u : List ℕ). Stated (Message u id) (here stamp 1)) ((bytes_decides name user).0 is)))

@@ -10,9 +10,9 @@ use Rattle.mail_model.specs.Site.{HoldsRecords}
 use Rattle.session_model.specs.Logs.{Asked, Answered}
 use Rattle.session_model.specs.Alone.{AreByOne}
 use Rattle.session_model.specs.Books.{AmongAnswers, IsBookOf, acks_by}
-use Rattle.session_model.specs.OneNode.{Node, Served, Serves, ServesAll, first_node, asked_of, answered_of}
+use Rattle.session_model.specs.OneNode.{NodeState, Served, Serves, ServesAll, first_node, asked_of, answered_of}
 use Rattle.cluster_world.specs.Appends.{RecordsStand}
-use Rattle.cluster_world.specs.World.{plan_of, is_up, drawn_of, stamps_of, tickets_of, disk_of, gate_of, book_of, standing_of, Fits, WorldHolds}
+use Rattle.cluster_world.specs.World.{plan_of, is_up, drawn_of, stamps_of, tickets_drawn, disk_of, gate_of, book_of, standing_of, MemoryFits, WorldHolds}
 use Rattle.cluster_world.specs.Outcomes.{Awaited}
 use Rattle.cluster_world.specs.declared.world.World.{World}
 use Rattle.cluster_world.proofs.Others.{AreBelow, have_front}
@@ -23,9 +23,9 @@ abbrev pub acks_in : List Answered → List Ack
 acks_in answered = flat_map acks_by answered
 
 -- one call more
-pub serves_push : (plan : Plan) (tells : Bool) (old mid new : Node) (served : List Served) (one : Served) → ServesAll plan tells old served mid
+pub serves_push : (plan : Plan) (tells : Bool) (old mid new : NodeState) (served : List Served) (one : Served) → ServesAll plan tells old served mid
     → Serves plan tells mid one.call one.answer new → ServesAll plan tells old (served ++ one ∷ []) new
-serves_push plan tells old mid new [] one same serves = (new, subst (λ (n : Node). Serves plan tells n one.call one.answer new) same serves, refl)
+serves_push plan tells old mid new [] one same serves = (new, subst (λ (n : NodeState). Serves plan tells n one.call one.answer new) same serves, refl)
 serves_push plan tells old mid new (first ∷ served) one (next, first_serves, rest) serves = (next, first_serves, serves_push plan tells next mid new served one rest serves)
 
 pub among_front : (one : Answered) (a b : List Answered) → AmongAnswers one a → AmongAnswers one (a ++ b)
@@ -42,7 +42,7 @@ among_either one (first ∷ a) b in_a in_b among =
     ⊎_elim (λ is. in_a (inl is)) (λ rest. among_either one a b (λ later. in_a (inr later)) in_b rest) among
 
 -- the node as the world has it, with these records
-abbrev pub node_of : {D : Type 0} → World D → List Record → Node
+abbrev pub node_of : {D : Type 0} → World D → List Record → NodeState
 node_of world records = record { drawn = drawn_of world; stamps = stamps_of world; records = records }
 
 -- what stands is a journal
@@ -53,7 +53,7 @@ holds_journal (Some held) records gate stands = stands.journal
 -- What was served so far, and that the answers and the book are of that; this stays once the node is down.
 pub record HasServed (plan : Plan) (lines : List (List ℕ)) (tells : Bool) (store : Option (List ℕ)) (asked : List Asked) (answered : List Answered) (book : List BookEntry) : Type 0 where
   pub served : List Served
-  pub node : Node
+  pub node : NodeState
   pub serves : ServesAll plan tells first_node served node
   pub asked_are : asked_of served ≡ asked
   pub within : (one : Answered) → AmongAnswers one answered → AmongAnswers one (answered_of served)
@@ -70,12 +70,12 @@ pub record IsAlike {D : Type 0} (seen : D → Option (List ℕ)) (old new : Worl
   pub up : is_up new ≡ is_up old
   pub drawn : drawn_of new ≡ drawn_of old
   pub stamps : stamps_of new ≡ stamps_of old
-  pub tickets : tickets_of new ≡ tickets_of old
+  pub tickets : tickets_drawn new ≡ tickets_drawn old
   pub standing : standing_of new ≡ standing_of old
   pub book : book_of new ≡ book_of old
   pub octets : seen (disk_of new) ≡ seen (disk_of old)
   pub gate : gate_of new ≡ gate_of old
-  pub fits : (records : List Record) → Fits records old → Fits records new
+  pub fits : (records : List Record) → MemoryFits records old → MemoryFits records new
 
 module _ {D : Type 0} (seen : D → Option (List ℕ)) (plan : Plan) (lines : List (List ℕ)) (tells : Bool) where
   -- The node is up: what it has in memory and on its disk is what it served, and each call in progress has its answer ready.
@@ -84,7 +84,7 @@ module _ {D : Type 0} (seen : D → Option (List ℕ)) (plan : Plan) (lines : Li
     pub up : IsTrue (is_up world)
     pub told : is_some (seen (disk_of world)) ≡ tells
     pub records : List Record
-    pub fits : Fits records world
+    pub fits : MemoryFits records world
     pub holds : WorldHolds seen records world
     pub served : List Served
     pub serves : ServesAll plan tells first_node served (node_of world records)
@@ -93,7 +93,7 @@ module _ {D : Type 0} (seen : D → Option (List ℕ)) (plan : Plan) (lines : Li
     pub calls : List InProgress
     pub awaited_are : map awaited_by calls ≡ awaited
     pub standing_are : map standing_by calls ≡ standing_of world
-    pub rising : AreRising 0 (tickets_of world) calls
+    pub rising : AreRising 0 (tickets_drawn world) calls
     pub due : AreDue (answered_of served) calls
     pub others : HaveOtherIds (acks_in answered ++ acks_in (map due_by calls))
     pub below : AreBelow (drawn_of world) (acks_in answered ++ acks_in (map due_by calls))

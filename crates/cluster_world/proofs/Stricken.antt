@@ -7,7 +7,7 @@ use Rattle.mail_model.specs.Record.{Record, payload_of}
 use Rattle.mail_model.specs.Record.Record.{Stated}
 use Rattle.mail_model.specs.Site.{gone_records, nth_stamp}
 use Rattle.cluster_world.specs.Heads.{gone}
-use Rattle.cluster_world.specs.Appends.{AppendsAll, Stops, Wrote, IsUntouched, SettledBehind}
+use Rattle.cluster_world.specs.Appends.{AppendsAll, StopsAppending, Wrote, IsUntouched, SettledBehind}
 use Rattle.cluster_world.specs.declared.append.DeliverFault.{DeliverFault}
 use Rattle.cluster_world.specs.declared.append.DeliverFault.TheVariants.{Disk, NoMemory}
 use Rattle.cluster_world.proofs.Recalled.{frames_of, length-one-frame}
@@ -46,12 +46,12 @@ module _ (user : List ℕ) (count : ℕ) (ids : List Id) (i : ℕ) (id : Id) (wi
       (subst (λ (n : ℕ). AppendsAll mid new end' end'' between now (gone_records user n (id ∷ []))) number more))
 
   stops_in_gone : (old mid new : Option (List ℕ)) (end end' before between so_far : ℕ) → so_far ≡ count + i
-      → AppendsAll old mid end end' before between (gone_records user count (take i ids)) → Stops mid new end' (gone_records user so_far (id ∷ []))
-      → Stops old new end (gone_records user count ids)
+      → AppendsAll old mid end end' before between (gone_records user count (take i ids)) → StopsAppending mid new end' (gone_records user so_far (id ∷ []))
+      → StopsAppending old new end (gone_records user count ids)
   stops_in_gone old mid new end end' before between so_far number front stops =
-      let some = stops_more old mid new end end' before between _ _ front (subst (λ (n : ℕ). Stops mid new end' (gone_records user n (id ∷ []))) number stops) in
-      let through = subst (λ (l : List Record). Stops old new end l) (sym gone_more) some in
-      subst (λ (l : List Record). Stops old new end l) (sym gone_split) (stops_before old new end _ (gone_records user (count + length (take (i + 1) ids)) (drop (i + 1) ids)) through)
+      let some = stops_more old mid new end end' before between _ _ front (subst (λ (n : ℕ). StopsAppending mid new end' (gone_records user n (id ∷ []))) number stops) in
+      let through = subst (λ (l : List Record). StopsAppending old new end l) (sym gone_more) some in
+      subst (λ (l : List Record). StopsAppending old new end l) (sym gone_split) (stops_before old new end _ (gone_records user (count + length (take (i + 1) ids)) (drop (i + 1) ids)) through)
 
   -- it was not appended
   pub gone_failed : (S T : Type 0) (fault : DeliverFault) (old mid new : Option (List ℕ)) (end end' end'' before between now so_far : ℕ) → so_far ≡ count + i

@@ -8,14 +8,14 @@ use Rattle.mail_model.specs.Mail.{IsDate, IsStored, trace_lines}
 use Rattle.mail_model.specs.Record.{Record, payload_of, payloads_of, framed}
 use Rattle.mail_model.specs.Record.Record.{Octets}
 use Rattle.mail_model.specs.Site.{HoldsRecords, nth_id}
-use Rattle.disk_journal.specs.Journal.{Stands, HasGate}
+use Rattle.disk_journal.specs.Journal.{TellsJournal, HasGate}
 use Rattle.cluster_world.specs.declared.append.Measure.{Measure}
 use Rattle.cluster_world.specs.declared.append.DeliverFault.{DeliverFault}
 use Rattle.cluster_world.specs.declared.append.DeliverFault.TheVariants.{Disk, NoMemory}
 
 -- the octets are told, and are the journal of node 1 with these records, up to the gate at `end`
 abbrev pub RecordsStand : Option (List ℕ) → List Record → ℕ → Type 0
-RecordsStand seen records end = Stands seen 1 (payloads_of records) end
+RecordsStand seen records end = TellsJournal seen 1 (payloads_of records) end
 
 -- The octets are told, and are the journal of node 1 with these records and a front of those that were to follow.
 pub record HoldsFront (seen : Option (List ℕ)) (records wanted : List Record) : Type 0 where
@@ -32,14 +32,14 @@ pub record AppendsAll (old new : Option (List ℕ)) (end end' before now : ℕ) 
   pub grew : end' ≡ end + length (flat_map framed (payloads_of wanted))
 
 -- a front of them follows those that stood
-pub record Stops (old new : Option (List ℕ)) (end : ℕ) (wanted : List Record) : Type 0 where
+pub record StopsAppending (old new : Option (List ℕ)) (end : ℕ) (wanted : List Record) : Type 0 where
   pub holds : (records : List Record) → RecordsStand old records end → HoldsFront new records wanted
 
 -- what was done to the journal where these records were to be appended
 abbrev pub Wrote : {T : Type 0} → Result T DeliverFault → Option (List ℕ) → Option (List ℕ) → ℕ → ℕ → ℕ → ℕ → List Record → Type 0
 Wrote (Ok _) old new end end' before now wanted = AppendsAll old new end end' before now wanted
-Wrote (Err Disk) old new end end' before now wanted = Stops old new end wanted × (before ≤ now) × Rose before now
-Wrote (Err NoMemory) old new end end' before now wanted = Stops old new end wanted × (before ≤ now)
+Wrote (Err Disk) old new end end' before now wanted = StopsAppending old new end wanted × (before ≤ now) × Rose before now
+Wrote (Err NoMemory) old new end end' before now wanted = StopsAppending old new end wanted × (before ≤ now)
 
 -- nothing was done to it
 pub record IsUntouched (old new : Option (List ℕ)) (end end' before now : ℕ) : Type 0 where
@@ -66,7 +66,7 @@ pub record AppendsMail (old new : Option (List ℕ)) (end end' before now : ℕ)
 abbrev pub WroteMail : Result Measure DeliverFault → Option (List ℕ) → Option (List ℕ) → ℕ → ℕ → ℕ → ℕ → Mail → ℕ → Type 0
 WroteMail (Ok measure) old new end end' before now mail seq = AppendsMail old new end end' before now mail seq measure
 WroteMail (Err Disk) old new end end' before now mail seq =
-    ((octets : List ℕ) × IsStored mail (nth_id seq) 0 octets × Stops old new end (Octets (nth_id seq) octets ∷ [])) × (before ≤ now) × Rose before now
+    ((octets : List ℕ) × IsStored mail (nth_id seq) 0 octets × StopsAppending old new end (Octets (nth_id seq) octets ∷ [])) × (before ≤ now) × Rose before now
 WroteMail (Err NoMemory) old new end end' before now mail seq = IsUntouched old new end end' before now
 
 -- behind records of these messages the disk is settled, and behind those of none it is where it was

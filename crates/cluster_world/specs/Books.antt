@@ -21,5 +21,5 @@ entry_of (entry.Struck user id) = Struck user id
 entry_of (entry.Dropped user id confirmers) = Dropped user id confirmers
 entry_of (entry.Down node) = WentDown node
 
-abbrev pub told_by : Book → List BookEntry
-told_by book = map entry_of (entries_of book)
+abbrev pub booked_by : Book → List BookEntry
+booked_by book = map entry_of (entries_of book)

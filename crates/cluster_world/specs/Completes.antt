@@ -23,16 +23,16 @@ use Rattle.cluster_world.specs.declared.step.Pending.TheVariants.{Found}
 use Rattle.cluster_world.specs.declared.step.Standing.{Standing}
 
 -- the call has begun or is noted, or memory was wanting
-abbrev pub IsBegun : Result Said StepFault → Type 0
-IsBegun (Ok (Begun ticket stirs)) = ⊤
-IsBegun (Ok Noted) = ⊤
-IsBegun (Ok (Asked ask)) = ⊥
-IsBegun (Ok (Faulted failed)) = ⊥
-IsBegun (Err NoSuchNode) = ⊥
-IsBegun (Err NodeDown) = ⊥
-IsBegun (Err NoSuchTicket) = ⊥
-IsBegun (Err Worn) = ⊥
-IsBegun (Err (NoMemory down)) = ⊤
+abbrev pub IsCallBegun : Result Said StepFault → Type 0
+IsCallBegun (Ok (Begun ticket stirs)) = ⊤
+IsCallBegun (Ok Noted) = ⊤
+IsCallBegun (Ok (Asked ask)) = ⊥
+IsCallBegun (Ok (Faulted failed)) = ⊥
+IsCallBegun (Err NoSuchNode) = ⊥
+IsCallBegun (Err NodeDown) = ⊥
+IsCallBegun (Err NoSuchTicket) = ⊥
+IsCallBegun (Err Worn) = ⊥
+IsCallBegun (Err (NoMemory down)) = ⊤
 
 -- the call is answered, or memory was wanting
 abbrev pub IsAnswer : Result Said StepFault → Type 0
@@ -50,7 +50,7 @@ IsAnswer (Err (NoMemory down)) = ⊤
 -- A call at a node that is up and has numbers left begins where the disk has no mishap, and is answered where it is asked for; want of memory alone is in the way.
 abbrev pub Completes : {D : Type 0} → (D → Option (List ℕ)) → (D → ℕ) → Result Said StepFault → Step → World D → World D → Type 0
 Completes seen faults result (Begin node call) old new =
-    node ≤ (plan_of old).nodes → IsTrue (is_up old) → HasNumbers call old → IsSound seen old → (HasMishap seen faults call old new → ⊥) → IsBegun result
+    node ≤ (plan_of old).nodes → IsTrue (is_up old) → HasNumbers call old → IsSound seen old → (HasMishap seen faults call old new → ⊥) → IsCallBegun result
 Completes seen faults result (Ask ticket) old new =
     ticket.node ≤ (plan_of old).nodes → IsTrue (is_up old) → (StandsNot ticket old → ⊥) → IsAnswer result
 
@@ -62,18 +62,18 @@ SettledByDelivery settled (Asked ask) new = ⊤
 SettledByDelivery settled (Faulted failed) new = ⊤
 
 -- A deletion that was begun leaves the disk settled: its messages are gone whatever happens. One of no message writes nothing.
-abbrev pub SettledByStrike : {D : Type 0} → (D → Type 0) → Said → List Id → World D → World D → Type 0
-SettledByStrike settled (Begun ticket stirs) ids old new = SettledBehind settled ids (disk_of old) (disk_of new)
-SettledByStrike settled Noted ids old new = ⊤
-SettledByStrike settled (Asked ask) ids old new = ⊤
-SettledByStrike settled (Faulted failed) ids old new = ⊤
+abbrev pub SettledByDeletion : {D : Type 0} → (D → Type 0) → Said → List Id → World D → World D → Type 0
+SettledByDeletion settled (Begun ticket stirs) ids old new = SettledBehind settled ids (disk_of old) (disk_of new)
+SettledByDeletion settled Noted ids old new = ⊤
+SettledByDeletion settled (Asked ask) ids old new = ⊤
+SettledByDeletion settled (Faulted failed) ids old new = ⊤
 
 -- What a step that was made leaves settled: every step but a delivery and a deletion writes nothing.
 abbrev pub SettledBy : {D : Type 0} → (D → Type 0) → Step → Said → World D → World D → Type 0
 SettledBy settled (Begin node (Deliver deliver)) said old new = SettledByDelivery settled said new
 SettledBy settled (Begin node (Login user proof)) said old new = settled (disk_of old) → settled (disk_of new)
 SettledBy settled (Begin node (Fetch user id holders start most)) said old new = settled (disk_of old) → settled (disk_of new)
-SettledBy settled (Begin node (Strike user items)) said old new = SettledByStrike settled said (ids_in items) old new
+SettledBy settled (Begin node (Strike user items)) said old new = SettledByDeletion settled said (ids_in items) old new
 SettledBy settled (Begin node (Leave user login manager)) said old new = settled (disk_of old) → settled (disk_of new)
 SettledBy settled (Ask ticket) said old new = settled (disk_of old) → settled (disk_of new)
 
@@ -84,12 +84,12 @@ StandsAsFiled seen (Ok (Begun ticket stirs)) (Fetch user id holders start most) 
 StandsAsFiled seen _ _ old new = ⊤
 
 -- An ask hands out the part that its beginning found.
-abbrev pub HandsOut : {D : Type 0} → Result Said StepFault → Ticket → World D → Type 0
-HandsOut (Ok (Asked (Done (Part octets whole)))) ticket old =
+abbrev pub HandsOutPart : {D : Type 0} → Result Said StepFault → Ticket → World D → Type 0
+HandsOutPart (Ok (Asked (Done (Part octets whole)))) ticket old =
     (before : List Standing) × (behind : List Standing) × (standing_of old ≡ before ++ call_of ticket (Found (Part octets whole)) ∷ behind)
-HandsOut _ ticket old = ⊤
+HandsOutPart _ ticket old = ⊤
 
 -- the octets of a fetch are those that were filed under its id: found so as it begins, and handed out so as it is asked for
 abbrev pub FetchedAsFiled : {D : Type 0} → (D → Option (List ℕ)) → Result Said StepFault → Step → World D → World D → Type 0
 FetchedAsFiled seen result (Begin node call) old new = StandsAsFiled seen result call old new
-FetchedAsFiled seen result (Ask ticket) old new = HandsOut result ticket old
+FetchedAsFiled seen result (Ask ticket) old new = HandsOutPart result ticket old

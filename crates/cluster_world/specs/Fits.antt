@@ -2,10 +2,10 @@
 use Rattle.std.specs.Prelude.{◌≡◌, ℕ, ◌≤◌, List, [], ◌∷◌, ◌++◌, length, map, All, ⊤, Some}
 use Rattle.mail_model.specs.Identity.{Id}
 use Rattle.mail_model.specs.Identity.Key.{Profile, Message}
-use Rattle.mail_model.specs.Record.{Record, Member, journal_of, payloads_of}
+use Rattle.mail_model.specs.Record.{Record, IsAmongRecords, journal_of, payloads_of}
 use Rattle.mail_model.specs.Record.Record.{Boot, Promise, Retired, Octets, Stated}
 use Rattle.mail_model.specs.Listing.{octets_in, listing_of}
-use Rattle.mail_model.specs.Site.{nth_id, nth_stamp, number_in}
+use Rattle.mail_model.specs.Site.{nth_id, nth_stamp, number_of_id}
 use Rattle.cluster_world.specs.Heads.{here}
 use Rattle.cluster_world.specs.Index.{kept_seen}
 use Rattle.disk_journal.specs.declared.place.Place.{Place}
@@ -21,14 +21,14 @@ pub record Lies (octets : List ℕ) (place : Place) (whole : List ℕ) : Type 0 
 
 -- some record says with this stamp that the user's copy is here, the records have octets under its id, and the place in their journal is where these lie
 pub record IsKept (user : List ℕ) (records : List Record) (kept : Kept) : Type 0 where
-  pub stated : Member (Stated (Message user kept.id) (here (nth_stamp kept.count) 1)) records
+  pub stated : IsAmongRecords (Stated (Message user kept.id) (here (nth_stamp kept.count) 1)) records
   pub octets : List ℕ
   pub known : octets_in kept.id records ≡ Some octets
   pub lies : Lies octets kept.place (journal_of 1 (payloads_of records))
 
 -- the id is one of the first n
-abbrev pub IsDrawn : ℕ → Id → Type 0
-IsDrawn n id = (m : ℕ) × (m ≤ n) × (id ≡ nth_id m)
+abbrev pub IsAmongDrawn : ℕ → Id → Type 0
+IsAmongDrawn n id = (m : ℕ) × (m ≤ n) × (id ≡ nth_id m)
 
 -- so is each id of these records under which there are octets; and an id that is named may be another's, and is none that is still to be drawn
 abbrev pub AreDrawn : ℕ → List Record → Type 0
@@ -36,9 +36,9 @@ AreDrawn n [] = ⊤
 AreDrawn n (Boot boot ∷ records) = AreDrawn n records
 AreDrawn n (Promise epoch ∷ records) = AreDrawn n records
 AreDrawn n (Retired key state ∷ records) = AreDrawn n records
-AreDrawn n (Octets id octets ∷ records) = IsDrawn n id × AreDrawn n records
+AreDrawn n (Octets id octets ∷ records) = IsAmongDrawn n id × AreDrawn n records
 AreDrawn n (Stated (Profile user) state ∷ records) = AreDrawn n records
-AreDrawn n (Stated (Message user id) state ∷ records) = (number_in id ≤ n) × AreDrawn n records
+AreDrawn n (Stated (Message user id) state ∷ records) = (number_of_id id ≤ n) × AreDrawn n records
 
 -- Numbers, a gate and an index that say what these records say: where their journal ends, which ids were drawn, and for each user which messages
 -- there are and where they lie.

@@ -3,7 +3,7 @@ use Rattle.std.specs.Prelude.{◌≡◌, ℕ, ◌-◌, ◌^◌, ◌≤◌, true,
 use Rattle.mail_model.specs.Identity.{Id}
 use Rattle.mail_model.specs.Listing.{octets_in, listing_of, size_in}
 use Rattle.mail_model.specs.Identity.Key.{Message}
-use Rattle.mail_model.specs.Record.{Record, Member}
+use Rattle.mail_model.specs.Record.{Record, IsAmongRecords}
 use Rattle.mail_model.specs.Record.Record.{Stated}
 use Rattle.cluster_world.specs.Heads.{here}
 use Rattle.mail_base.specs.Items.{item_seen}
@@ -11,14 +11,14 @@ use Rattle.mail_base.specs.declared.item.Item.{Item}
 use Rattle.mail_base.specs.declared.proof.Proof.{Proof}
 use Rattle.mail_base.specs.declared.ticket.Ticket.{Ticket}
 use Rattle.cluster_world.specs.Reads.{is_right, IsAtNode1}
-use Rattle.cluster_world.specs.World.{plan_of, disk_of, Fits, WorldHolds}
+use Rattle.cluster_world.specs.World.{plan_of, disk_of, MemoryFits, WorldHolds}
 use Rattle.cluster_world.specs.declared.world.World.{World}
 use Rattle.call_tickets.specs.declared.answer.Answer.{Answer}
 use Rattle.call_tickets.specs.declared.answer.Answer.TheVariants.{Listed, Wrong, Part, GoneAlready}
 
 -- some record says with the stamp of the listing that the user's copy is here
 abbrev pub IsStated : List ℕ → List Record → Item → Type 0
-IsStated user records item = Member (Stated (Message user item.id) (here item.stamp 1)) records
+IsStated user records item = IsAmongRecords (Stated (Message user item.id) (here item.stamp 1)) records
 
 -- The maildrop is listed: node 1 alone was asked and manages the login, and these are the user's messages, in the order in which they came.
 pub record Lists {D : Type 0} (user : List ℕ) (login : Ticket) (manager asked : ℕ) (items : List Item) (ticket : Ticket) (old : World D) : Type 0 where
@@ -26,11 +26,11 @@ pub record Lists {D : Type 0} (user : List ℕ) (login : Ticket) (manager asked 
   pub by_node_1 : manager ≡ 1
   pub asked_node_1 : asked ≡ 1
   pub held : All IsAtNode1 items
-  pub are : (records : List Record) → Fits records old → map item_seen items ≡ listing_of user records
+  pub are : (records : List Record) → MemoryFits records old → map item_seen items ≡ listing_of user records
   -- each is listed with the stamp of its state
-  pub stated : (records : List Record) → Fits records old → All (IsStated user records) items
+  pub stated : (records : List Record) → MemoryFits records old → All (IsStated user records) items
   -- and was drawn by node 1
-  pub drawn : (records : List Record) → Fits records old → All (λ item. item.id.node ≡ 1) items
+  pub drawn : (records : List Record) → MemoryFits records old → All (λ item. item.id.node ≡ 1) items
 
 -- what a login finds: the listing exactly where the proof is right
 abbrev pub FindsLogin : {D : Type 0} → Answer → List ℕ → Proof → Ticket → World D → Type 0
@@ -51,6 +51,6 @@ pub record IsPartOf {D : Type 0} (seen : D → Option (List ℕ)) (octets : List
 
 -- what a fetch finds: a part of the message exactly where the user's listing has its id
 abbrev pub FindsPart : {D : Type 0} → (D → Option (List ℕ)) → Answer → List ℕ → Id → ℕ → ℕ → World D → Type 0
-FindsPart seen (Part octets whole) user wanted start most old = (records : List Record) → Fits records old → IsPartOf seen octets whole user wanted start most records old
-FindsPart seen GoneAlready user wanted start most old = (records : List Record) → Fits records old → size_in wanted (listing_of user records) ≡ None
+FindsPart seen (Part octets whole) user wanted start most old = (records : List Record) → MemoryFits records old → IsPartOf seen octets whole user wanted start most records old
+FindsPart seen GoneAlready user wanted start most old = (records : List Record) → MemoryFits records old → size_in wanted (listing_of user records) ≡ None
 FindsPart seen answer user wanted start most old = ⊥

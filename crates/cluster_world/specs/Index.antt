@@ -7,7 +7,7 @@ use Rattle.mail_model.specs.Identity.{Id}
 use Rattle.mail_model.specs.PopReplies as replies
 use Rattle.mail_model.specs.Site.{nth_stamp}
 use Rattle.mail_base.specs.declared.item.Item.{Item}
-pub use Rattle.cluster_world.specs.Messages.{is_among, without, place_in}
+pub use Rattle.cluster_world.specs.Messages.{is_id_among, without, place_in}
 use Rattle.cluster_world.specs.declared.row.Row.{Row}
 use Rattle.cluster_world.specs.declared.index.Index.{Index}
 use Rattle.cluster_world.specs.declared.index.Kept.{Kept}

@@ -16,7 +16,7 @@ use Rattle.session_model.specs.Owes.{Owes}
 use Rattle.session_model.specs.Books.{Among}
 use Rattle.session_model.specs.OneNode.{IsSoundMail, IsTaken}
 use Rattle.io_edge.specs.Octets.{IsToldAlike}
-use Rattle.cluster_world.specs.World.{plan_of, is_up, drawn_of, stamps_of, standing_of, disk_of, book_of, steps_of, counted, one_more, Begins}
+use Rattle.cluster_world.specs.World.{plan_of, is_up, drawn_of, stamps_of, standing_of, disk_of, book_of, steps_of, with_step_counted, one_more, IsAtBeginning}
 use Rattle.call_tickets.specs.Seen.{call_seen, answer_seen, ids_in}
 use Rattle.cluster_world.specs.Steps.{Stepped, IsSound, call_of, nth_ticket}
 use Rattle.cluster_world.specs.declared.world.World.{World}
@@ -64,15 +64,15 @@ made_of (Unanswered k number) = Made.Asks k
 made_of (Left k user) = Made.Leaves k user
 
 -- What it was asked. A call that was refused is none: nothing came of it.
-abbrev pub asked_in : Outcome → List Asked
-asked_in (Began k asked number) = record { session = k; call = asked } ∷ []
-asked_in (Fell k asked) = record { session = k; call = asked } ∷ []
-asked_in outcome = []
+abbrev pub asked_by_outcome : Outcome → List Asked
+asked_by_outcome (Began k asked number) = record { session = k; call = asked } ∷ []
+asked_by_outcome (Fell k asked) = record { session = k; call = asked } ∷ []
+asked_by_outcome outcome = []
 
 -- and what it answered
-abbrev pub answered_in : Outcome → List Answered
-answered_in (Answers k asked number given) = record { session = k; call = asked; answer = given } ∷ []
-answered_in outcome = []
+abbrev pub answered_by_outcome : Outcome → List Answered
+answered_by_outcome (Answers k asked number given) = record { session = k; call = asked; answer = given } ∷ []
+answered_by_outcome outcome = []
 
 -- a call that has begun and was not answered yet: the number of its ticket, and whose it is
 pub record Awaited : Type 0 where
@@ -105,7 +105,7 @@ AreWithin world = (drawn_of world < 2 ^ 64) × (stamps_of world < 2 ^ 64)
 -- What is known of a step: what it did, that it was counted, that whether the disk tells its octets has not changed, and what the types of names and numbers
 -- say.
 pub record IsStep {D : Type 0} (seen : D → Option (List ℕ)) (faults : D → ℕ) (result : Result Said StepFault) (step : Step) (old new : World D) : Type 0 where
-  pub did : Stepped seen faults result step (counted old) new
+  pub did : Stepped seen faults result step (with_step_counted old) new
   pub count : steps_of new ≡ one_more (steps_of old)
   pub told : IsToldAlike (seen (disk_of old)) (seen (disk_of new))
   pub names : HasNames step
@@ -144,11 +144,11 @@ WillAnswer (Strike user ids) (Struck name struck) = ⊤
 WillAnswer asked pending = ⊥
 
 -- no call is in progress, or the one that is awaited
-abbrev pub Stands : {D : Type 0} → List Awaited → World D → Type 0
-Stands [] world = standing_of world ≡ []
-Stands (one ∷ []) world =
+abbrev pub IsAwaited : {D : Type 0} → List Awaited → World D → Type 0
+IsAwaited [] world = standing_of world ≡ []
+IsAwaited (one ∷ []) world =
     IsTrue (is_up world) × ((pending : Pending) × (standing_of world ≡ call_of (nth_ticket one.number) pending ∷ []) × WillAnswer one.call pending)
-Stands (one ∷ other ∷ more) world = ⊥
+IsAwaited (one ∷ other ∷ more) world = ⊥
 
 -- a call that was asked for at once is answered by an answer of its kind, and none is then in progress; or memory ran out
 abbrev pub AtOnce : {D : Type 0} → Result Said StepFault → Call → World D → Type 0
@@ -170,7 +170,7 @@ MakesMore {D} seen faults = (outcomes : List Outcome) (outcome : Outcome) (await
 -- A world that was opened has on its disk and in memory what some records say, as long as its node is up.
 abbrev pub SoundAfter : {D : Type 0} → (D → Option (List ℕ)) → (D → ℕ) → Type 0
 SoundAfter {D} seen faults = (plan : Plan) (outcomes : List Outcome) (left : List Awaited) (start last : World D)
-    → Begins seen plan start → Makes seen faults outcomes [] start left last → IsTrue (is_up last) → IsSound seen last
+    → IsAtBeginning seen plan start → Makes seen faults outcomes [] start left last → IsTrue (is_up last) → IsSound seen last
 
 -- The count of faults of its disk never falls.
 abbrev pub LaterAfter : {D : Type 0} → (D → Option (List ℕ)) → (D → ℕ) → Type 0
@@ -193,11 +193,11 @@ AreOfSessions lines asked = (k : ℕ) (call : Call) → Among (record { session 
 -- Whatever steps a world of one node makes, in whatever order its calls begin and are asked for: it owes that, and has it.
 abbrev pub WorldOwes : {D : Type 0} → (D → Option (List ℕ)) → (D → ℕ) → Type 0
 WorldOwes {D} seen faults = (plan : Plan) (lines : List (List ℕ)) (entries : List Entry) (outcomes : List Outcome) (left : List Awaited) (start last : World D)
-    → plan.nodes ≡ 1 → plan.confirm ≡ 1 → Begins seen plan start → Makes seen faults outcomes [] start left last → AreOfSessions lines (flat_map asked_in outcomes)
+    → plan.nodes ≡ 1 → plan.confirm ≡ 1 → IsAtBeginning seen plan start → Makes seen faults outcomes [] start left last → AreOfSessions lines (flat_map asked_by_outcome outcomes)
     → (records : List Record) × Owes plan (is_some (seen (disk_of start))) lines entries (seen (disk_of last) ∷ []) (records ∷ []) (λ id. octets_in id records)
-    (flat_map asked_in outcomes) (flat_map answered_in outcomes) (book_of last)
+    (flat_map asked_by_outcome outcomes) (flat_map answered_by_outcome outcomes) (book_of last)
 
 -- Each of them was counted, up to the end of the count, and nothing else was.
 abbrev pub StepsAreCounted : {D : Type 0} → (D → Option (List ℕ)) → (D → ℕ) → Type 0
 StepsAreCounted {D} seen faults = (plan : Plan) (outcomes : List Outcome) (left : List Awaited) (start last : World D)
-    → Begins seen plan start → Makes seen faults outcomes [] start left last → steps_of last ≡ min (length outcomes) (2 ^ 64 - 1)
+    → IsAtBeginning seen plan start → Makes seen faults outcomes [] start left last → steps_of last ≡ min (length outcomes) (2 ^ 64 - 1)

@@ -4,7 +4,7 @@ use Rattle.io_edge.specs.Causes.{Rose}
 use Rattle.mail_model.specs.Plan.{Plan, opens}
 use Rattle.mail_base.specs.declared.item.Item.{Item}
 use Rattle.mail_base.specs.declared.proof.Proof.{Proof}
-use Rattle.call_tickets.specs.Seen.{secret_in}
+use Rattle.call_tickets.specs.Seen.{secret_given}
 use Rattle.mail_base.specs.declared.ticket.Ticket.{Ticket}
 use Rattle.cluster_world.specs.Index.{listed}
 use Rattle.cluster_world.specs.declared.index.Kept.{Kept}
@@ -17,7 +17,7 @@ use Rattle.disk_journal.specs.declared.fault.JournalFault.TheVariants.{DiskFault
 
 -- the proof is right for the user of this name
 abbrev pub is_right : Plan → List ℕ → Proof → Bool
-is_right plan user proof = opens plan user (secret_in proof)
+is_right plan user proof = opens plan user (secret_given proof)
 
 -- node 1 alone is to hold the copy and holds it
 pub record IsAtNode1 (item : Item) : Type 0 where

@@ -14,8 +14,8 @@ use Rattle.disk_journal.specs.Journal.{HasGate, end_of}
 use Rattle.io_edge.specs.Octets.{IsToldAlike}
 use Rattle.cluster_world.specs.Index.{kept_in, left_for}
 use Rattle.cluster_world.specs.Fits.{Recalls}
-use Rattle.cluster_world.specs.Appends.{RecordsStand, HoldsFront, AppendsAll, Stops}
-use Rattle.cluster_world.specs.Books.{told_by}
+use Rattle.cluster_world.specs.Appends.{RecordsStand, HoldsFront, AppendsAll, StopsAppending}
+use Rattle.cluster_world.specs.Books.{booked_by}
 use Rattle.cluster_world.specs.Opens.{BeginFails}
 use Rattle.cluster_world.specs.declared.world.World.{World}
 use Rattle.cluster_world.specs.declared.index.Kept.{Kept}
@@ -41,8 +41,8 @@ abbrev pub stamps_of : {D : Type 0} → World D → ℕ
 stamps_of world = world.stamps
 
 -- how many tickets were drawn
-abbrev pub tickets_of : {D : Type 0} → World D → ℕ
-tickets_of world = world.tickets
+abbrev pub tickets_drawn : {D : Type 0} → World D → ℕ
+tickets_drawn world = world.tickets
 
 -- the calls in progress, in the order in which they began
 abbrev pub standing_of : {D : Type 0} → World D → List Standing
@@ -57,12 +57,12 @@ abbrev pub one_more : ℕ → ℕ
 one_more steps = min (steps + 1) (2 ^ 64 - 1)
 
 -- the world that has counted one step more
-abbrev pub counted : {D : Type 0} → World D → World D
-counted world = record world { steps = one_more world.steps }
+abbrev pub with_step_counted : {D : Type 0} → World D → World D
+with_step_counted world = record world { steps = one_more world.steps }
 
 -- what the book says
 abbrev pub book_of : {D : Type 0} → World D → List BookEntry
-book_of world = told_by world.book
+book_of world = booked_by world.book
 
 abbrev pub disk_of : {D : Type 0} → World D → D
 disk_of world = world.disk
@@ -76,8 +76,8 @@ abbrev pub kept_of : {D : Type 0} → List ℕ → World D → List Kept
 kept_of user world = kept_in user world.index
 
 -- what the world has in memory is what these records say
-abbrev pub Fits : {D : Type 0} → List Record → World D → Type 0
-Fits records world = Recalls records (gate_of world) (drawn_of world) (λ user. kept_of user world)
+abbrev pub MemoryFits : {D : Type 0} → List Record → World D → Type 0
+MemoryFits records world = Recalls records (gate_of world) (drawn_of world) (λ user. kept_of user world)
 
 -- the disk tells its octets, and they reach past the closed gate's place
 abbrev pub ShowsGate : {D : Type 0} → (D → Option (List ℕ)) → World D → Type 0
@@ -88,22 +88,22 @@ abbrev pub WorldHolds : {D : Type 0} → (D → Option (List ℕ)) → List Reco
 WorldHolds seen records world = RecordsStand (seen (disk_of world)) records (gate_of world)
 
 -- where a world begins: the record of the node's first boot, and no message
-pub record Begins {D : Type 0} (seen : D → Option (List ℕ)) (plan : Plan) (world : World D) : Type 0 where
+pub record IsAtBeginning {D : Type 0} (seen : D → Option (List ℕ)) (plan : Plan) (world : World D) : Type 0 where
   pub plan_is : plan_of world ≡ plan
   pub up : IsTrue (is_up world)
   pub drawn : drawn_of world ≡ 0
   pub stamps : stamps_of world ≡ 0
-  pub tickets : tickets_of world ≡ 0
+  pub tickets : tickets_drawn world ≡ 0
   pub steps : steps_of world ≡ 0
   pub standing : standing_of world ≡ []
   pub book : book_of world ≡ []
   pub gate : ShowsGate seen world
   pub holds : WorldHolds seen (Boot 1 ∷ []) world
-  pub fits : Fits (Boot 1 ∷ []) world
+  pub fits : MemoryFits (Boot 1 ∷ []) world
 
 -- a world was opened over the one disk of its plan
 pub record Opened {D : Type 0} (seen : D → Option (List ℕ)) (faults : D → ℕ) (is_settled : D → Type 0) (plan : Plan) (disk : D) (world : World D) : Type 0 where
-  pub begins : Begins seen plan world
+  pub begins : IsAtBeginning seen plan world
   pub told : IsToldAlike (seen disk) (seen (disk_of world))
   pub quiet : faults (disk_of world) ≡ faults disk
   pub settled : is_settled (disk_of world)
@@ -127,8 +127,8 @@ pub record Files {D : Type 0} (seen : D → Option (List ℕ)) (mail : Mail) (me
   pub digest : measure.digest ≡ sha256 octets
   pub holds : (records : List Record) → WorldHolds seen records old
       → WorldHolds seen (records ++ message_records (nth_id (drawn_of old + 1)) (nth_stamp (stamps_of old + 1)) octets mail.mailboxes) new
-  pub fits : (records : List Record) → Fits records old
-      → Fits (records ++ message_records (nth_id (drawn_of old + 1)) (nth_stamp (stamps_of old + 1)) octets mail.mailboxes) new
+  pub fits : (records : List Record) → MemoryFits records old
+      → MemoryFits (records ++ message_records (nth_id (drawn_of old + 1)) (nth_stamp (stamps_of old + 1)) octets mail.mailboxes) new
 
 -- some of the message's records are on the disk behind those that were there
 pub record HoldsSome {D : Type 0} (seen : D → Option (List ℕ)) (mail : Mail) (records : List Record) (old new : World D) : Type 0 where
@@ -137,7 +137,7 @@ pub record HoldsSome {D : Type 0} (seen : D → Option (List ℕ)) (mail : Mail)
   pub front : HoldsFront (seen (disk_of new)) records (message_records (nth_id (drawn_of old + 1)) (nth_stamp (stamps_of old + 1)) octets mail.mailboxes)
 
 -- The message is not on the disk, or a front of its records is.
-pub record Falls {D : Type 0} (seen : D → Option (List ℕ)) (mail : Mail) (old new : World D) : Type 0 where
+pub record FilesInPart {D : Type 0} (seen : D → Option (List ℕ)) (mail : Mail) (old new : World D) : Type 0 where
   pub holds : (records : List Record) → WorldHolds seen records old → HoldsSome seen mail records old new
 
 -- nothing was written, and no number was drawn
@@ -151,8 +151,8 @@ pub record IsUnwritten {D : Type 0} (seen : D → Option (List ℕ)) (faults : D
   pub kept : (user : List ℕ) → kept_of user new ≡ kept_of user old
 
 -- a front of the message's records may be there, and the node is down
-pub record Breaks {D : Type 0} (seen : D → Option (List ℕ)) (faults : D → ℕ) (mail : Mail) (old new : World D) : Type 0 where
-  pub falls : Falls seen mail old new
+pub record BreaksFiling {D : Type 0} (seen : D → Option (List ℕ)) (faults : D → ℕ) (mail : Mail) (old new : World D) : Type 0 where
+  pub falls : FilesInPart seen mail old new
   pub down : IsFalse (is_up new)
   pub drawn : drawn_of new ≡ drawn_of old + 1
   pub stamps : stamps_of new ≡ stamps_of old + 1
@@ -161,8 +161,8 @@ pub record Breaks {D : Type 0} (seen : D → Option (List ℕ)) (faults : D → 
 -- what filing a message leaves; a node that stays up after a refusal has its disk as it was
 abbrev pub Delivers : {D : Type 0} → (D → Option (List ℕ)) → (D → ℕ) → Result Measure DeliverFault → Mail → World D → World D → Type 0
 Delivers seen faults (Ok measure) mail old new = Files seen mail measure old new × (faults (disk_of new) ≡ faults (disk_of old))
-Delivers seen faults (Err deliver.Disk) mail old new = Breaks seen faults mail old new × Rose (faults (disk_of old)) (faults (disk_of new))
-Delivers seen faults (Err deliver.NoMemory) mail old new = IsUnwritten seen faults old new ⊎ Breaks seen faults mail old new
+Delivers seen faults (Err deliver.Disk) mail old new = BreaksFiling seen faults mail old new × Rose (faults (disk_of old)) (faults (disk_of new))
+Delivers seen faults (Err deliver.NoMemory) mail old new = IsUnwritten seen faults old new ⊎ BreaksFiling seen faults mail old new
 
 -- Each of the user's copies is gone on the disk and in memory.
 pub record Deleted {D : Type 0} (seen : D → Option (List ℕ)) (faults : D → ℕ) (user : List ℕ) (ids : List Id) (old new : World D) : Type 0 where
@@ -177,11 +177,11 @@ pub record DeletedSome {D : Type 0} (seen : D → Option (List ℕ)) (faults : D
   pub down : IsFalse (is_up new)
   pub drawn : drawn_of new ≡ drawn_through (drawn_of old) ids
   pub stamps : stamps_of new ≡ stamps_of old + length ids
-  pub stops : Stops (seen (disk_of old)) (seen (disk_of new)) (gate_of old) (gone_records user (stamps_of old) ids)
+  pub stops : StopsAppending (seen (disk_of old)) (seen (disk_of new)) (gate_of old) (gone_records user (stamps_of old) ids)
   pub later : faults (disk_of old) ≤ faults (disk_of new)
 
 -- what a deletion leaves; a node that stays up after a refusal has its disk as it was
-abbrev pub Deletes : {D : Type 0} → (D → Option (List ℕ)) → (D → ℕ) → Result (Unit {0}) DeliverFault → List ℕ → List Id → World D → World D → Type 0
-Deletes seen faults (Ok _) user ids old new = Deleted seen faults user ids old new
-Deletes seen faults (Err deliver.Disk) user ids old new = DeletedSome seen faults user ids old new × Rose (faults (disk_of old)) (faults (disk_of new))
-Deletes seen faults (Err deliver.NoMemory) user ids old new = IsUnwritten seen faults old new ⊎ DeletedSome seen faults user ids old new
+abbrev pub DeletesCopies : {D : Type 0} → (D → Option (List ℕ)) → (D → ℕ) → Result (Unit {0}) DeliverFault → List ℕ → List Id → World D → World D → Type 0
+DeletesCopies seen faults (Ok _) user ids old new = Deleted seen faults user ids old new
+DeletesCopies seen faults (Err deliver.Disk) user ids old new = DeletedSome seen faults user ids old new × Rose (faults (disk_of old)) (faults (disk_of new))
+DeletesCopies seen faults (Err deliver.NoMemory) user ids old new = IsUnwritten seen faults old new ⊎ DeletedSome seen faults user ids old new

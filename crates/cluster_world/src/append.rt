@@ -4,7 +4,7 @@ ghost use Rattle.sha2.specs.Sha256.{sha256};
 ghost use Rattle.mail_model.specs.Record.{Record, payload_of};
 ghost use Rattle.mail_model.specs.Site.{copies_of, gone_records, nth_id, nth_stamp};
 ghost use Rattle.cluster_world.specs.Steps.{last_number};
-ghost use Rattle.mail_base.specs.Delivers.{mail_in, IsWithinLimits};
+ghost use Rattle.mail_base.specs.Delivers.{mail_in, IsMessageWithinLimits};
 ghost use Rattle.cluster_world.specs.Index.{kept_in, added_for};
 ghost use Rattle.disk_journal.specs.Journal.{HasGate, end_of, largest};
 ghost use Rattle.io_edge.specs.Octets.{IsToldAlike};
@@ -187,7 +187,7 @@ pub(crate) fn append_copies<D: Disk>(
 
 /// How the payload of the message's octets begins. Its year is 1970, so that nothing but memory can be wanting.
 fn message_head(alloc: Global, deliver: &Deliver, seq: u64) -> Result<Vec<u8>, AllocError>
-    requires small { IsWithinLimits deliver.now }
+    requires small { IsMessageWithinLimits deliver.now }
     requires drawn { 0 < seq }
     ensures head { IfOk result (λ head. IsHead (mail_in deliver.now) seq head.items) }
     ensures short { IfOk result (λ head. length head.items ≤ 65_536) }
@@ -253,7 +253,7 @@ pub(crate) fn append_octets<D: Disk>(
     seq: u64,
 ) -> Result<Measure, DeliverFault>
     requires gate { HasGate (D.seen disk.old) (end_of journal.old) }
-    requires small { IsWithinLimits deliver.now }
+    requires small { IsMessageWithinLimits deliver.now }
     requires drawn { 0 < seq }
     ensures wrote { WroteMail result (D.seen disk.old) (D.seen disk.new) (end_of journal.old) (end_of journal.new)
         (D.faults disk.old) (D.faults disk.new) (mail_in deliver.now) seq }

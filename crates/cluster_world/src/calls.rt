@@ -2,13 +2,13 @@
 ghost use Rattle.std.specs.Prelude.{◌≡◌, ◌+◌, ◌≤◌, ◌<◌, ◌++◌, ◌∷◌, [], ◌&&◌, List, ℕ, length, nat_eq, vec_len, vec_capacity, slice_get, ◌-◌, ◌^◌, IfOk, OnOk, is_ok, IfSome, None, IsTrue, IsFalse};
 ghost use Rattle.mail_model.specs.Site.{copies_of, nth_id, nth_stamp};
 ghost use Rattle.mail_model.specs.Book.BookEntry.{WentDown};
-ghost use Rattle.mail_base.specs.Delivers.{mail_in, IsWithinLimits};
+ghost use Rattle.mail_base.specs.Delivers.{mail_in, IsMessageWithinLimits};
 ghost use Rattle.cluster_world.specs.Appends.{Wrote};
 ghost use Rattle.cluster_world.specs.Opens.{Begun};
 ghost use Rattle.cluster_world.specs.Index.{kept_in, added_for};
 ghost use Rattle.io_edge.specs.Octets.{IsToldAlike};
-ghost use Rattle.cluster_world.specs.World.{plan_of, is_up, drawn_of, stamps_of, steps_of, tickets_of, kept_of, disk_of, gate_of, book_of, standing_of, ShowsGate, Delivers};
-ghost use Rattle.cluster_world.specs.Books.{told_by, spare_of};
+ghost use Rattle.cluster_world.specs.World.{plan_of, is_up, drawn_of, stamps_of, steps_of, tickets_drawn, kept_of, disk_of, gate_of, book_of, standing_of, ShowsGate, Delivers};
+ghost use Rattle.cluster_world.specs.Books.{booked_by, spare_of};
 ghost use Rattle.cluster_world.specs.Steps.{BeginDid, HasNumbers, nth_ticket, last_number, call_of};
 ghost use Rattle.cluster_world.specs.Completes.{Completes, FetchedAsFiled, SettledBy, SettledByDelivery};
 
@@ -27,11 +27,11 @@ impl<D: Disk> World<D> {
     // The call has begun, and its ticket stands with what is to be answered.
     pub(crate) fn stand(&mut self, pending: Pending) -> Said
         requires room { vec_len self.old.standing < vec_capacity self.old.standing }
-        requires tickets { tickets_of self.old < last_number }
+        requires tickets { tickets_drawn self.old < last_number }
         ensures steps { steps_of self.new ≡ steps_of self.old }
-        ensures said { result ≡ Said.Begun (nth_ticket (tickets_of self.old + 1)) 0 }
-        ensures standing { standing_of self.new ≡ standing_of self.old ++ call_of (nth_ticket (tickets_of self.old + 1)) pending ∷ [] }
-        ensures tickets { tickets_of self.new ≡ tickets_of self.old + 1 }
+        ensures said { result ≡ Said.Begun (nth_ticket (tickets_drawn self.old + 1)) 0 }
+        ensures standing { standing_of self.new ≡ standing_of self.old ++ call_of (nth_ticket (tickets_drawn self.old + 1)) pending ∷ [] }
+        ensures tickets { tickets_drawn self.new ≡ tickets_drawn self.old + 1 }
         ensures rest { (plan_of self.new ≡ plan_of self.old) × (is_up self.new ≡ is_up self.old) × (drawn_of self.new ≡ drawn_of self.old) × (stamps_of self.new ≡ stamps_of self.old)
             × (disk_of self.new ≡ disk_of self.old) × (self.new.journal ≡ self.old.journal) × (self.new.index ≡ self.old.index) × (self.new.book ≡ self.old.book) }
     {
@@ -51,7 +51,7 @@ impl<D: Disk> World<D> {
         ensures down { IsFalse (is_up self.new) }
         ensures standing { standing_of self.new ≡ [] }
         ensures book { book_of self.new ≡ book_of self.old ++ WentDown 1 ∷ [] }
-        ensures rest { (plan_of self.new ≡ plan_of self.old) × (drawn_of self.new ≡ drawn_of self.old) × (stamps_of self.new ≡ stamps_of self.old) × (tickets_of self.new ≡ tickets_of self.old)
+        ensures rest { (plan_of self.new ≡ plan_of self.old) × (drawn_of self.new ≡ drawn_of self.old) × (stamps_of self.new ≡ stamps_of self.old) × (tickets_drawn self.new ≡ tickets_drawn self.old)
             × (disk_of self.new ≡ disk_of self.old) × (self.new.journal ≡ self.old.journal) × (self.new.index ≡ self.old.index) }
     {
         self.up = false;
@@ -67,7 +67,7 @@ impl<D: Disk> World<D> {
         proof: Proof,
     ) -> Result<Said, StepFault>
         requires up { IsTrue (is_up self.old) }
-        requires tickets { tickets_of self.old < last_number }
+        requires tickets { tickets_drawn self.old < last_number }
         ensures steps { steps_of self.new ≡ steps_of self.old }
         ensures did { (node : ℕ) → node ≤ (plan_of self.old).nodes → BeginDid D.seen D.faults result node (Call.Login user proof) self.old self.new }
         ensures disk { disk_of self.new ≡ disk_of self.old }
@@ -89,7 +89,7 @@ impl<D: Disk> World<D> {
         most: u64,
     ) -> Result<Said, StepFault>
         requires up { IsTrue (is_up self.old) }
-        requires tickets { tickets_of self.old < last_number }
+        requires tickets { tickets_drawn self.old < last_number }
         ensures steps { steps_of self.new ≡ steps_of self.old }
         ensures did { (node : ℕ) → node ≤ (plan_of self.old).nodes
             → BeginDid D.seen D.faults result node (Call.Fetch user id holders from most) self.old self.new }

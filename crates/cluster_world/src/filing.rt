@@ -2,14 +2,14 @@
 ghost use Rattle.std.specs.Prelude.{◌≡◌, ◌+◌, ◌≤◌, ◌<◌, ◌++◌, ◌∷◌, [], ◌&&◌, List, ℕ, length, nat_eq, vec_len, vec_capacity, slice_get, ◌-◌, ◌^◌, IfOk, OnOk, IsErrOf, is_ok, IfSome, None, IsTrue, IsFalse};
 ghost use Rattle.mail_model.specs.Site.{copies_of, nth_id, nth_stamp};
 ghost use Rattle.mail_model.specs.Book.BookEntry.{WentDown};
-ghost use Rattle.mail_base.specs.Delivers.{mail_in, IsWithinLimits};
+ghost use Rattle.mail_base.specs.Delivers.{mail_in, IsMessageWithinLimits};
 ghost use Rattle.cluster_world.specs.Appends.{Wrote};
 ghost use Rattle.cluster_world.specs.Opens.{Begun};
 ghost use Rattle.cluster_world.specs.Index.{kept_in, added_for};
 ghost use Rattle.io_edge.specs.Octets.{IsToldAlike};
-ghost use Rattle.cluster_world.specs.World.{plan_of, is_up, drawn_of, stamps_of, steps_of, tickets_of, kept_of, disk_of, gate_of, book_of, standing_of, ShowsGate, Delivers};
-ghost use Rattle.cluster_world.specs.Books.{told_by, spare_of};
-ghost use Rattle.cluster_world.specs.Steps.{BeginDid, AskDid, Stepped, StandsNot, HasNumbers, Settles, entries_for, entries_in, nth_ticket, last_number, call_of};
+ghost use Rattle.cluster_world.specs.World.{plan_of, is_up, drawn_of, stamps_of, steps_of, tickets_drawn, kept_of, disk_of, gate_of, book_of, standing_of, ShowsGate, Delivers};
+ghost use Rattle.cluster_world.specs.Books.{booked_by, spare_of};
+ghost use Rattle.cluster_world.specs.Steps.{BeginDid, AskDid, Stepped, StandsNot, HasNumbers, SettlesCall, entries_for, entries_in, nth_ticket, last_number, call_of};
 ghost use Rattle.cluster_world.specs.Completes.{Completes, FetchedAsFiled, SettledBy, SettledByDelivery};
 
 use crate::append::{DeliverFault, Measure, append_listed, append_octets, first_node, id_of};
@@ -42,7 +42,7 @@ impl<D: Disk> World<D> {
     fn file(&mut self, alloc: Global, deliver: &Deliver) -> Result<Measure, DeliverFault>
         requires up { IsTrue (is_up self.old) }
         requires gate { ShowsGate D.seen self.old }
-        requires small { IsWithinLimits deliver.now }
+        requires small { IsMessageWithinLimits deliver.now }
         requires drawn { drawn_of self.old < last_number }
         requires stamps { stamps_of self.old < last_number }
         ensures steps { steps_of self.new ≡ steps_of self.old }
@@ -51,7 +51,7 @@ impl<D: Disk> World<D> {
         ensures still { IsErrOf result DeliverFault.NoMemory → IsTrue (is_up self.new) → D.settled (disk_of self.old) → D.settled (disk_of self.new) }
         ensures told { IsToldAlike (D.seen (disk_of self.old)) (D.seen (disk_of self.new)) }
         ensures plan { plan_of self.new ≡ plan_of self.old }
-        ensures tickets { tickets_of self.new ≡ tickets_of self.old }
+        ensures tickets { tickets_drawn self.new ≡ tickets_drawn self.old }
         ensures standing { self.new.standing ≡ self.old.standing }
         ensures book { self.new.book ≡ self.old.book }
     {
@@ -95,7 +95,7 @@ impl<D: Disk> World<D> {
         ensures plan { plan_of self.new ≡ plan_of self.old }
         ensures drawn { drawn_of self.new ≡ drawn_of self.old }
         ensures stamps { stamps_of self.new ≡ stamps_of self.old }
-        ensures tickets { tickets_of self.new ≡ tickets_of self.old }
+        ensures tickets { tickets_drawn self.new ≡ tickets_drawn self.old }
         ensures standing { self.new.standing ≡ self.old.standing }
         ensures book { self.new.book ≡ self.old.book }
     {
@@ -119,7 +119,7 @@ impl<D: Disk> World<D> {
         requires gate { ShowsGate D.seen self.old }
         requires drawn { drawn_of self.old < last_number }
         requires stamps { stamps_of self.old < last_number }
-        requires tickets { tickets_of self.old < last_number }
+        requires tickets { tickets_drawn self.old < last_number }
         ensures steps { steps_of self.new ≡ steps_of self.old }
         ensures did { (node : ℕ) → node ≤ (plan_of self.old).nodes → BeginDid D.seen D.faults result node (Call.Deliver deliver) self.old self.new }
         ensures settled { IfOk result (λ said. SettledByDelivery D.settled said self.new) }

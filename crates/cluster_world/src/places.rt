@@ -3,7 +3,7 @@ ghost use Rattle.std.specs.Prelude.{◌≡◌, cond, filter, is_some, Some, None
 ghost use Rattle.std.specs.BTreeMap.{get, is_at};
 ghost use Rattle.mail_model.specs.Identity.{Id};
 ghost use Rattle.mail_base.specs.Orders.{id_cmp};
-ghost use Rattle.cluster_world.specs.Messages.{noted, first_place, is_among};
+ghost use Rattle.cluster_world.specs.Messages.{noted_place, first_place, is_id_among};
 
 use crate::index::Kept;
 use disk_journal::Place;
@@ -13,7 +13,7 @@ use std::collections::BTreeMap;
 
 /// Where the message of this id lies.
 pub(crate) fn find(places: &BTreeMap<MsgId, Option<Place>>, id: MsgId) -> Option<Place>
-    ensures { result ≡ noted (get id_cmp places.now id) }
+    ensures { result ≡ noted_place (get id_cmp places.now id) }
 {
     match places.get(&id) {
         Some(place) => *place,
@@ -26,7 +26,7 @@ pub(crate) fn make_room(
     places: &mut BTreeMap<MsgId, Option<Place>>,
     id: MsgId,
 ) -> Result<(), AllocError>
-    ensures { (other : Id) → noted (get id_cmp places.new other) ≡ noted (get id_cmp places.old other) }
+    ensures { (other : Id) → noted_place (get id_cmp places.new other) ≡ noted_place (get id_cmp places.old other) }
 {
     if places.contains_key(&id) {
         return Ok(());
@@ -42,7 +42,7 @@ pub(crate) fn note(
     place: Place,
 ) -> Result<(), AllocError>
     ensures put { OnOk result ((other : Id) → get id_cmp places.new other ≡ cond (is_at (id_cmp id) other)
-        (Some (first_place (noted (get id_cmp places.old id)) (Some place))) (get id_cmp places.old other)) }
+        (Some (first_place (noted_place (get id_cmp places.old id)) (Some place))) (get id_cmp places.old other)) }
     ensures kept { OnErr result ((other : Id) → get id_cmp places.new other ≡ get id_cmp places.old other) }
 {
     let first = find(places, id).or(Some(place));
@@ -52,7 +52,7 @@ pub(crate) fn note(
 
 /// Takes the places of these ids away.
 pub(crate) fn forget(places: &mut BTreeMap<MsgId, Option<Place>>, ids: &[MsgId])
-    ensures { (other : Id) → get id_cmp places.new other ≡ (if is_among other ids.now then None else get id_cmp places.old other) }
+    ensures { (other : Id) → get id_cmp places.new other ≡ (if is_id_among other ids.now then None else get id_cmp places.old other) }
 {
     for id in ids {
         places.remove(id);
@@ -61,7 +61,7 @@ pub(crate) fn forget(places: &mut BTreeMap<MsgId, Option<Place>>, ids: &[MsgId])
 
 /// Takes the messages out that have no place.
 pub(crate) fn keep_found(kept: &mut Vec<Kept>, places: &BTreeMap<MsgId, Option<Place>>)
-    ensures { kept.new.items ≡ filter (λ one. is_some (noted (get id_cmp places.now one.id))) kept.old.items }
+    ensures { kept.new.items ≡ filter (λ one. is_some (noted_place (get id_cmp places.now one.id))) kept.old.items }
 {
     kept.retain(|one| find(places, one.id).is_some());
 }

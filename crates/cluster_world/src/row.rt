@@ -4,7 +4,7 @@ ghost use Rattle.std.specs.BTreeMap.{get};
 ghost use Rattle.std.proofs.Props.{props};
 ghost use Rattle.mail_model.specs.Identity.{Id};
 ghost use Rattle.mail_base.specs.Orders.{id_cmp};
-ghost use Rattle.cluster_world.specs.Messages.{noted, place_in};
+ghost use Rattle.cluster_world.specs.Messages.{noted_place, place_in};
 
 use crate::index::Kept;
 use crate::places::{find, forget, keep_found, make_room, note};
@@ -19,7 +19,7 @@ use std::collections::BTreeMap;
 pub(crate) struct Row {
     kept: Vec<Kept>,
     places: BTreeMap<MsgId, Option<Place>>,
-    ghost found: { (id : Id) → noted (get id_cmp places id) ≡ place_in id kept.items } by { Prim.hlevel props },
+    ghost found: { (id : Id) → noted_place (get id_cmp places id) ≡ place_in id kept.items } by { Prim.hlevel props },
 }
 
 impl Row {

@@ -1,13 +1,13 @@
 //! How a world deletes a user's copies of messages: on its disk, in its index and in its book.
 ghost use Rattle.std.specs.Prelude.{◌≡◌, ◌+◌, ◌≤◌, ◌<◌, ℕ, List, length, nat_lt, if◌then◌else◌, IfOk, OnOk, IsErrOf, IsTrue};
-ghost use Rattle.mail_model.specs.Site.{number_in, drawn_through};
+ghost use Rattle.mail_model.specs.Site.{number_of_id, drawn_through};
 ghost use Rattle.mail_base.specs.declared.item.Item.{Item};
 ghost use Rattle.call_tickets.specs.Seen.{ids_in};
 ghost use Rattle.cluster_world.specs.Appends.{SettledBehind};
 ghost use Rattle.io_edge.specs.Octets.{IsToldAlike};
-ghost use Rattle.cluster_world.specs.World.{plan_of, is_up, stamps_of, steps_of, tickets_of, disk_of, ShowsGate, Deletes};
+ghost use Rattle.cluster_world.specs.World.{plan_of, is_up, stamps_of, steps_of, tickets_drawn, disk_of, ShowsGate, DeletesCopies};
 ghost use Rattle.cluster_world.specs.Steps.{BeginDid, last_number};
-ghost use Rattle.cluster_world.specs.Completes.{SettledByStrike};
+ghost use Rattle.cluster_world.specs.Completes.{SettledByDeletion};
 
 use crate::append::{DeliverFault, append_gone, first_node};
 use crate::book::struck;
@@ -20,7 +20,7 @@ use std::alloc::{AllocError, Global};
 
 /// The number of an id of node 1 in its first boot; 0 of any other.
 fn number_in(id: MsgId) -> u64
-    ensures { result ≡ number_in id }
+    ensures { result ≡ number_of_id id }
 {
     if id.node().number() == 1 && id.boot() == 1 {
         id.seq()
@@ -31,7 +31,7 @@ fn number_in(id: MsgId) -> u64
 
 /// The greater of the number and that of the id.
 fn raised(drawn: u64, id: MsgId) -> u64
-    ensures { result ≡ (if nat_lt drawn (number_in id) then number_in id else drawn) }
+    ensures { result ≡ (if nat_lt drawn (number_of_id id) then number_of_id id else drawn) }
 {
     let number = number_in(id);
     if drawn < number { number } else { drawn }
@@ -67,12 +67,12 @@ impl<D: Disk> World<D> {
         requires gate { ShowsGate D.seen self.old }
         requires stamps { stamps_of self.old + length ids.now ≤ last_number }
         ensures steps { steps_of self.new ≡ steps_of self.old }
-        ensures deletes { Deletes D.seen D.faults result user.now ids.now self.old self.new }
+        ensures deletes { DeletesCopies D.seen D.faults result user.now ids.now self.old self.new }
         ensures settled { OnOk result (SettledBehind D.settled ids.now (disk_of self.old) (disk_of self.new)) }
         ensures still { IsErrOf result DeliverFault.NoMemory → IsTrue (is_up self.new) → D.settled (disk_of self.old) → D.settled (disk_of self.new) }
         ensures told { IsToldAlike (D.seen (disk_of self.old)) (D.seen (disk_of self.new)) }
         ensures plan { plan_of self.new ≡ plan_of self.old }
-        ensures tickets { tickets_of self.new ≡ tickets_of self.old }
+        ensures tickets { tickets_drawn self.new ≡ tickets_drawn self.old }
         ensures standing { self.new.standing ≡ self.old.standing }
         ensures book { self.new.book ≡ self.old.book }
     {
@@ -115,11 +115,11 @@ impl<D: Disk> World<D> {
         requires up { IsTrue (is_up self.old) }
         requires gate { ShowsGate D.seen self.old }
         requires stamps { stamps_of self.old + length (ids_in items) ≤ last_number }
-        requires tickets { tickets_of self.old < last_number }
+        requires tickets { tickets_drawn self.old < last_number }
         ensures steps { steps_of self.new ≡ steps_of self.old }
         ensures did { (node : ℕ) → node ≤ (plan_of self.old).nodes
             → BeginDid D.seen D.faults result node (Call.Strike user items) self.old self.new }
-        ensures settled { IfOk result (λ said. SettledByStrike D.settled said (ids_in items) self.old self.new) }
+        ensures settled { IfOk result (λ said. SettledByDeletion D.settled said (ids_in items) self.old self.new) }
         ensures settled_while_up { IsTrue (is_up self.new) → D.settled (disk_of self.old) → D.settled (disk_of self.new) }
         ensures told { IsToldAlike (D.seen (disk_of self.old)) (D.seen (disk_of self.new)) }
     {
@@ -132,11 +132,11 @@ impl<D: Disk> World<D> {
         requires up { IsTrue (is_up self.old) }
         requires gate { ShowsGate D.seen self.old }
         requires stamps { stamps_of self.old + length ids ≤ last_number }
-        requires tickets { tickets_of self.old < last_number }
+        requires tickets { tickets_drawn self.old < last_number }
         ensures steps { steps_of self.new ≡ steps_of self.old }
         ensures did { (node : ℕ) (items : List Item) → node ≤ (plan_of self.old).nodes → ids ≡ ids_in items
             → BeginDid D.seen D.faults result node (Call.Strike user items) self.old self.new }
-        ensures settled { IfOk result (λ said. SettledByStrike D.settled said ids self.old self.new) }
+        ensures settled { IfOk result (λ said. SettledByDeletion D.settled said ids self.old self.new) }
         ensures settled_while_up { IsTrue (is_up self.new) → D.settled (disk_of self.old) → D.settled (disk_of self.new) }
         ensures told { IsToldAlike (D.seen (disk_of self.old)) (D.seen (disk_of self.new)) }
     {

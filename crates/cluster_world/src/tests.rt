@@ -1,6 +1,6 @@
 // Layouts from their description, and each call that stores once.
 ghost use Rattle.std.specs.Prelude.{◌≡◌, ◌≤◌, ◌<◌, [], length, IfOk, IfSome, OnOk, IsTrue};
-ghost use Rattle.mail_base.specs.Delivers.{IsWithinLimits};
+ghost use Rattle.mail_base.specs.Delivers.{IsMessageWithinLimits};
 ghost use Rattle.cluster_world.specs.World.{ShowsGate, is_up};
 
 mod full_disk;
@@ -74,7 +74,7 @@ fn open<D: Disk + Drop>(alloc: Global, disk: D) -> Result<World<D>, OpenFault>
 }
 
 fn hello(alloc: Global) -> Result<Deliver, AllocError>
-    ensures { IfOk result IsWithinLimits }
+    ensures { IfOk result IsMessageWithinLimits }
 {
     let mut users = Names::new(alloc);
     users.push(bob(alloc)?)?;

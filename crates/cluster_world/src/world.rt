@@ -2,14 +2,14 @@
 ghost use Rattle.std.specs.Prelude.{◌≡◌, ◌+◌, ◌≤◌, ◌<◌, ◌++◌, ◌∷◌, [], ◌&&◌, List, ℕ, length, nat_eq, vec_len, vec_capacity, slice_get, ◌-◌, ◌^◌, IfOk, IfErr, OnOk, is_ok, IfSome, None, IsTrue, IsFalse, ◌↔◌, All, map};
 ghost use Rattle.mail_model.specs.Site.{copies_of, nth_id, nth_stamp};
 ghost use Rattle.mail_model.specs.Book.BookEntry.{WentDown};
-ghost use Rattle.mail_base.specs.Delivers.{mail_in, IsWithinLimits};
+ghost use Rattle.mail_base.specs.Delivers.{mail_in, IsMessageWithinLimits};
 ghost use Rattle.cluster_world.specs.Appends.{Wrote};
 ghost use Rattle.cluster_world.specs.Opens.{Begun};
 ghost use Rattle.cluster_world.specs.Index.{kept_in, added_for};
 ghost use Rattle.io_edge.specs.Octets.{IsToldAlike};
-ghost use Rattle.cluster_world.specs.World.{plan_of, is_up, drawn_of, stamps_of, tickets_of, kept_of, disk_of, gate_of, book_of, standing_of, ShowsGate, Opened, Refused, counted, one_more, steps_of};
-ghost use Rattle.cluster_world.specs.Books.{entry_of, told_by, spare_of};
-ghost use Rattle.cluster_world.specs.Steps.{BeginDid, AskDid, Stepped, StandsNot, HasNumbers, Settles, entries_for, entries_in, prepared_for, struck_in};
+ghost use Rattle.cluster_world.specs.World.{plan_of, is_up, drawn_of, stamps_of, tickets_drawn, kept_of, disk_of, gate_of, book_of, standing_of, ShowsGate, Opened, Refused, with_step_counted, one_more, steps_of};
+ghost use Rattle.cluster_world.specs.Books.{entry_of, booked_by, spare_of};
+ghost use Rattle.cluster_world.specs.Steps.{BeginDid, AskDid, Stepped, StandsNot, HasNumbers, SettlesCall, entries_for, entries_in, prepared_for, struck_ids};
 ghost use Rattle.cluster_world.specs.Outcomes.{AreWithin, HasNames};
 ghost use Rattle.cluster_world.specs.Completes.{Completes, FetchedAsFiled, SettledBy, SettledByDelivery};
 
@@ -79,7 +79,7 @@ fn begin<D: Disk>(alloc: Global, disk: &mut D) -> Result<Journal, OpenFault>
 /// Puts an entry for each user of the filing into the book, and says what was stored.
 fn acknowledge(book: &mut Book, filing: Filing, confirmers: NodeSet) -> Answer
     requires { length filing.users ≤ spare_of book.old }
-    ensures book { told_by book.new ≡ told_by book.old ++ entries_for filing confirmers }
+    ensures book { booked_by book.new ≡ booked_by book.old ++ entries_for filing confirmers }
     ensures answer { result ≡ Answer.Stored filing.id confirmers }
 {
     let Filing {
@@ -137,7 +137,7 @@ fn confirmed(alloc: Global, ids: &[MsgId]) -> Result<Vec<NodeSet>, AllocError>
 
 /// Who confirmed a deletion; and nobody of another call.
 fn confirmers_of(alloc: Global, pending: &Pending) -> Result<Vec<NodeSet>, AllocError>
-    ensures { IfOk result (λ confirmers. confirmers.items ≡ map (λ _. 1) (struck_in pending.now)) }
+    ensures { IfOk result (λ confirmers. confirmers.items ≡ map (λ _. 1) (struck_ids pending.now)) }
 {
     match pending {
         Pending::Filed(_) => Ok(Vec::new(alloc)),
@@ -155,8 +155,8 @@ fn settle(
 ) -> Answer
     requires room { entries_in pending ≤ spare_of book.old }
     requires prepared { map entry_of entries.items ≡ prepared_for pending }
-    requires confirmed { confirmers.items ≡ map (λ _. 1) (struck_in pending) }
-    ensures { Settles pending result (told_by book.old) (told_by book.new) }
+    requires confirmed { confirmers.items ≡ map (λ _. 1) (struck_ids pending) }
+    ensures { SettlesCall pending result (booked_by book.old) (booked_by book.new) }
 {
     match pending {
         Pending::Filed(filing) => acknowledge(book, filing, NodeSet::from_mask(1)),
@@ -237,7 +237,7 @@ impl<D: Disk> World<D> {
 
     /// What was acknowledged so far, and whether the node went down.
     pub fn book(&self) -> &Book
-        ensures { told_by result.now ≡ book_of self.now }
+        ensures { booked_by result.now ≡ book_of self.now }
     {
         &self.book
     }
@@ -373,7 +373,7 @@ impl<D: Disk> World<D> {
 
     // Counts one step more.
     fn count(&mut self)
-        ensures { self.new ≡ counted self.old }
+        ensures { self.new ≡ with_step_counted self.old }
     {
         self.steps = self.steps.saturating_add(1);
     }
@@ -407,12 +407,12 @@ impl<D: Disk> World<D> {
     /// changed; or `NoMemory`: nothing is changed, or the node is down with a front of the call's records on its disk.
     pub fn step(&mut self, alloc: Global, step: Step) -> Result<Said, StepFault>
         requires gate { IsTrue (is_up self.old) → ShowsGate D.seen self.old }
-        ensures stepped { Stepped D.seen D.faults result step (counted self.old) self.new }
+        ensures stepped { Stepped D.seen D.faults result step (with_step_counted self.old) self.new }
         ensures counted { steps_of self.new ≡ one_more (steps_of self.old) }
         ensures gate { IsTrue (is_up self.new) → ShowsGate D.seen self.new }
-        ensures fetched_as_filed { FetchedAsFiled D.seen result step (counted self.old) self.new }
-        ensures completes { Completes D.seen D.faults result step (counted self.old) self.new }
-        ensures settled { IfOk result (λ said. SettledBy D.settled step said (counted self.old) self.new) }
+        ensures fetched_as_filed { FetchedAsFiled D.seen result step (with_step_counted self.old) self.new }
+        ensures completes { Completes D.seen D.faults result step (with_step_counted self.old) self.new }
+        ensures settled { IfOk result (λ said. SettledBy D.settled step said (with_step_counted self.old) self.new) }
         ensures settled_while_up { IsTrue (is_up self.new) → D.settled (disk_of self.old) → D.settled (disk_of self.new) }
         ensures names { HasNames step }
         ensures numbers { AreWithin self.new }

@@ -6,7 +6,7 @@ use Rattle.std.proofs.lemmas.List.Concat.{flat_map-append}
 use Rattle.std.proofs.lemmas.Grind.{common_steps}
 use Rattle.std.proofs.lemmas.Nat.{from_be_bytes-to_be_bytes_4}
 use Rattle.mail_model.specs.Record.{journal_of, header_of, framed, AreShort}
-use Rattle.disk_journal.specs.Reading.{AreAt, IsNone, IsOpened, IsClosedAt, IsRecordAt, IsCutAt, StandsAt, FoundAt, Opened}
+use Rattle.disk_journal.specs.Reading.{AreAt, IsNoJournal, IsOpened, IsClosedAt, IsRecordAt, IsCutAt, LiesAtPlace, FoundAt, JournalOpened}
 use Rattle.disk_journal.specs.declared.fault.JournalFault.{JournalFault}
 use Rattle.disk_journal.specs.declared.fault.JournalFault.TheVariants.{DiskFault, NotAJournal, TooLarge, NoMemory}
 use Rattle.disk_journal.specs.declared.place.Place.{Place}
@@ -71,7 +71,7 @@ pub record HasRead (node : ℕ) (held : List ℕ) (end : ℕ) (places : List Pla
   pub are : AreAt 16 places payloads
 
 -- where neither a closed gate nor a record follows, there is no journal
-pub no_journal : (node : ℕ) (held : List ℕ) (end : ℕ) (places : List Place) → HasRead node held end places → IsCutAt held end → IsNone node held
+pub no_journal : (node : ℕ) (held : List ℕ) (end : ℕ) (places : List Place) → HasRead node held end places → IsCutAt held end → IsNoJournal node held
 no_journal node held end places read cut = λ payloads journal.
     let rest = append_cancel_left (header_of node) _ _
     (sym (append_assoc (header_of node) (flat_map framed read.payloads) (drop end held)) ∙ sym read.whole ∙ journal.whole
@@ -242,18 +242,18 @@ told_closed None mid node end places same read found = tt
 told_closed (Some held) mid node end places same read found = all_read node held end places read (subst (λ (o : Option (List ℕ)). IfSome o (λ h. IsClosedAt h end)) same found)
 
 pub told_end : (found : Option Place) (seen mid : Option (List ℕ)) (node end : ℕ) (places : List Place) → ((place : Place) → found ≡ Some place → ⊥) → mid ≡ seen
-    → IfSome seen (λ held. HasRead node held end places) → IfSome mid (λ held. StandsAt held end found) → IfSome seen (λ held. IsOpened node held end places)
+    → IfSome seen (λ held. HasRead node held end places) → IfSome mid (λ held. LiesAtPlace held end found) → IfSome seen (λ held. IsOpened node held end places)
 told_end None seen mid node end places never same read here = told_closed seen mid node end places same read here
 told_end (Some place) seen mid node end places never same read here = absurd (never place refl)
 
 told_none : (seen mid : Option (List ℕ)) (node end : ℕ) (places : List Place) → mid ≡ seen → IfSome seen (λ held. HasRead node held end places)
-    → IfSome mid (λ held. IsCutAt held end) → IfSome seen (IsNone node)
+    → IfSome mid (λ held. IsCutAt held end) → IfSome seen (IsNoJournal node)
 told_none None mid node end places same read found = tt
 told_none (Some held) mid node end places same read found = no_journal node held end places read (subst (λ (o : Option (List ℕ)). IfSome o (λ h. IsCutAt h end)) same found)
 
 -- why an opening failed at a record
 pub open_fails : (fault : JournalFault) (seen mid : Option (List ℕ)) (node end before between now : ℕ) (places : List Place) → mid ≡ seen → between ≡ before
-    → IfSome seen (λ held. HasRead node held end places) → FoundAt (Err fault) mid end between now → Opened (Err fault) node seen before now
+    → IfSome seen (λ held. HasRead node held end places) → FoundAt (Err fault) mid end between now → JournalOpened (Err fault) node seen before now
 open_fails DiskFault seen mid node end before between now places same quiet read found = rw quiet at found
 open_fails NotAJournal seen mid node end before between now places same quiet read found = (told_none seen mid node end places same read found.0, found.1 ∙ quiet)
 open_fails TooLarge seen mid node end before between now places same quiet read found = absurd found

@@ -8,7 +8,7 @@ use Rattle.std.proofs.lemmas.Grind.{common_steps}
 use Rattle.io_edge.specs.Octets.{Holds, Torn, WritesAt}
 use Rattle.io_edge.proofs.Torn.{torn_by}
 use Rattle.mail_model.specs.Record.{IsJournal, journal_of, header_of, framed, AreShort}
-use Rattle.disk_journal.specs.Journal.{EndsAt, Stands, Gated, HoldsEither, HasGate, behind_gate}
+use Rattle.disk_journal.specs.Journal.{EndsAt, TellsJournal, Gated, HoldsEither, HasGate, behind_gate}
 
 -- a closed gate stands at `end`, and behind it these octets
 pub record Behind (node : ℕ) (held : List ℕ) (payloads : List (List ℕ)) (end : ℕ) (octets : List ℕ) : Type 0 where
@@ -158,7 +158,7 @@ gate_torn node end payloads payload octets held new b e small torn = ⊎_elim
     (cases_eq (get_or new end 0) 0xA5)
 
 -- the first write failed
-pub first_failed : (old new : Option (List ℕ)) (node end n : ℕ) (payloads : List (List ℕ)) (payload : List ℕ) → Stands old node payloads end
+pub first_failed : (old new : Option (List ℕ)) (node end n : ℕ) (payloads : List (List ℕ)) (payload : List ℕ) → TellsJournal old node payloads end
     → MatchOption old (new ≡ None) (λ held. (now : List ℕ) × (new ≡ Some now) × Torn (end + 1) n held now) → HoldsEither new node payloads payload
 first_failed None new node end n payloads payload stands written =
     subst (λ (o : Option (List ℕ)). HoldsEither o node payloads payload) (sym written) tt
@@ -170,7 +170,7 @@ gate_written : {E : Type 0} (result : Result (Unit {0}) E) (new : Option (List �
     → Behind node mid payloads end octets → octets ≡ behind_gate payload → length payload < 2 ^ 32
     → WritesAt (Some mid) new result end (0xA5 ∷ []) → Gated result new node payloads payload (end + length octets)
 gate_written (Ok _) new node end payloads payload octets mid b e small written =
-    subst (λ (o : Option (List ℕ)). Stands o node (payloads ++ payload ∷ []) (end + length octets)) (sym written.1)
+    subst (λ (o : Option (List ℕ)). TellsJournal o node (payloads ++ payload ∷ []) (end + length octets)) (sym written.1)
     (gate_opened node end payloads payload octets mid written.0 b e small written.2)
 gate_written (Err _) new node end payloads payload octets mid b e small written =
     subst (λ (o : Option (List ℕ)). HoldsEither o node payloads payload) (sym written.1)
@@ -184,12 +184,12 @@ untold_stays (Err _) new at written = written
 untold_gated : {E : Type 0} (result : Result (Unit {0}) E) (new : Option (List ℕ)) (node end : ℕ) (payloads : List (List ℕ)) (payload octets : List ℕ)
     → new ≡ None → Gated result new node payloads payload (end + length octets)
 untold_gated (Ok _) new node end payloads payload octets untold =
-    subst (λ (o : Option (List ℕ)). Stands o node (payloads ++ payload ∷ []) (end + length octets)) (sym untold) tt
+    subst (λ (o : Option (List ℕ)). TellsJournal o node (payloads ++ payload ∷ []) (end + length octets)) (sym untold) tt
 untold_gated (Err _) new node end payloads payload octets untold = subst (λ (o : Option (List ℕ)). HoldsEither o node payloads payload) (sym untold) tt
 
 -- both writes were made, and the second may have failed
 both_written : {E : Type 0} (result : Result (Unit {0}) E) (old mid new : Option (List ℕ)) (node end : ℕ) (payloads : List (List ℕ)) (payload octets : List ℕ)
-    → Stands old node payloads end → octets ≡ behind_gate payload → length payload < 2 ^ 32
+    → TellsJournal old node payloads end → octets ≡ behind_gate payload → length payload < 2 ^ 32
     → MatchOption old (mid ≡ None) (λ held. (now : List ℕ) × (mid ≡ Some now) × Holds held (end + 1) octets now)
     → WritesAt mid new result end (0xA5 ∷ []) → Gated result new node payloads payload (end + length octets)
 both_written result None mid new node end payloads payload octets stands e small first second =
@@ -200,11 +200,11 @@ both_written result (Some held) mid new node end payloads payload octets stands 
 
 -- an empty disk on which the header and a closed gate were written
 pub created : (old new : Option (List ℕ)) (node : ℕ) (octets : List ℕ) → IfSome old (λ held. held ≡ []) → octets ≡ header_of node ++ 0 ∷ []
-    → MatchOption old (new ≡ None) (λ held. (now : List ℕ) × (new ≡ Some now) × Holds held 0 octets now) → Stands new node [] 16 × HasGate new 16
-created None new node octets empty e written = subst (λ (o : Option (List ℕ)). Stands o node [] 16 × HasGate o 16) (sym written) (tt, tt)
+    → MatchOption old (new ≡ None) (λ held. (now : List ℕ) × (new ≡ Some now) × Holds held 0 octets now) → TellsJournal new node [] 16 × HasGate new 16
+created None new node octets empty e written = subst (λ (o : Option (List ℕ)). TellsJournal o node [] 16 × HasGate o 16) (sym written) (tt, tt)
 created (Some held) new node octets empty e written =
     let whole : written.0 ≡ journal_of node [] ++ 0 ∷ [] = grind (arith, common_steps) in
-    subst (λ (o : Option (List ℕ)). Stands o node [] 16 × HasGate o 16) (sym written.1) (
+    subst (λ (o : Option (List ℕ)). TellsJournal o node [] 16 × HasGate o 16) (sym written.1) (
       record { journal = record { gate = 0; others = []; whole = whole; closed = λ (h : 0 ≡ 0xA5). absurd (omega arith); short = tt }; at_gate = refl },
       omega (arith, ap length whole),
     )
@@ -228,15 +228,15 @@ gate_behind (Some held) mid new end octets gate first second =
     subst (λ (o : Option (List ℕ)). HasGate o (end + length octets)) (sym then.1) (gate_stands end octets held first.0 then.0 gate first.2 then.2)
 
 -- the second write failed
-pub second_failed : (old mid new : Option (List ℕ)) (node end : ℕ) (payloads : List (List ℕ)) (payload octets : List ℕ) → Stands old node payloads end → octets ≡ behind_gate payload
+pub second_failed : (old mid new : Option (List ℕ)) (node end : ℕ) (payloads : List (List ℕ)) (payload octets : List ℕ) → TellsJournal old node payloads end → octets ≡ behind_gate payload
     → length payload < 2 ^ 32 → MatchOption old (mid ≡ None) (λ held. (now : List ℕ) × (mid ≡ Some now) × Holds held (end + 1) octets now)
     → MatchOption mid (new ≡ None) (λ held. (now : List ℕ) × (new ≡ Some now) × Torn end 1 held now) → HoldsEither new node payloads payload
 second_failed old mid new node end payloads payload octets stands e small first second =
     both_written {E = Unit {0}} (Err tt) old mid new node end payloads payload octets stands e small first second
 
 -- both writes were made
-pub both_made : (old mid new : Option (List ℕ)) (node end : ℕ) (payloads : List (List ℕ)) (payload octets : List ℕ) → Stands old node payloads end → octets ≡ behind_gate payload
+pub both_made : (old mid new : Option (List ℕ)) (node end : ℕ) (payloads : List (List ℕ)) (payload octets : List ℕ) → TellsJournal old node payloads end → octets ≡ behind_gate payload
     → length payload < 2 ^ 32 → MatchOption old (mid ≡ None) (λ held. (now : List ℕ) × (mid ≡ Some now) × Holds held (end + 1) octets now)
-    → MatchOption mid (new ≡ None) (λ held. (now : List ℕ) × (new ≡ Some now) × Holds held end (0xA5 ∷ []) now) → Stands new node (payloads ++ payload ∷ []) (end + length octets)
+    → MatchOption mid (new ≡ None) (λ held. (now : List ℕ) × (new ≡ Some now) × Holds held end (0xA5 ∷ []) now) → TellsJournal new node (payloads ++ payload ∷ []) (end + length octets)
 both_made old mid new node end payloads payload octets stands e small first second =
     both_written {E = Unit {0}} (Ok tt) old mid new node end payloads payload octets stands e small first second

@@ -21,8 +21,8 @@ pub record EndsAt (node : ℕ) (held : List ℕ) (payloads : List (List ℕ)) (e
   pub at_gate : end ≡ length (journal_of node payloads)
 
 -- where the octets are told, they are this journal
-abbrev pub Stands : Option (List ℕ) → ℕ → List (List ℕ) → ℕ → Type 0
-Stands seen node payloads end = IfSome seen (λ held. EndsAt node held payloads end)
+abbrev pub TellsJournal : Option (List ℕ) → ℕ → List (List ℕ) → ℕ → Type 0
+TellsJournal seen node payloads end = IfSome seen (λ held. EndsAt node held payloads end)
 
 -- what a record has behind its gate, and the next gate, closed
 abbrev pub behind_gate : List ℕ → List ℕ
@@ -35,20 +35,20 @@ HoldsEither seen node payloads payload =
 
 -- what reads give after an append of the payload: all of it, nothing of it, or where the disk failed one of both
 abbrev pub Appended : {T : Type 0} → Result T JournalFault → Option (List ℕ) → ℕ → List (List ℕ) → List ℕ → ℕ → Type 0
-Appended (Ok _) seen node payloads payload end = Stands seen node (payloads ++ payload ∷ []) end
+Appended (Ok _) seen node payloads payload end = TellsJournal seen node (payloads ++ payload ∷ []) end
 Appended (Err DiskFault) seen node payloads payload end = HoldsEither seen node payloads payload
 Appended (Err NotAJournal) seen node payloads payload end = ⊥
-Appended (Err TooLarge) seen node payloads payload end = Stands seen node payloads end
-Appended (Err NoMemory) seen node payloads payload end = Stands seen node payloads end
+Appended (Err TooLarge) seen node payloads payload end = TellsJournal seen node payloads end
+Appended (Err NoMemory) seen node payloads payload end = TellsJournal seen node payloads end
 
 -- what reads give after the four disk calls of an append, of which any may have failed
 abbrev pub Gated : {T E : Type 0} → Result T E → Option (List ℕ) → ℕ → List (List ℕ) → List ℕ → ℕ → Type 0
-Gated (Ok _) seen node payloads payload end = Stands seen node (payloads ++ payload ∷ []) end
+Gated (Ok _) seen node payloads payload end = TellsJournal seen node (payloads ++ payload ∷ []) end
 Gated (Err _) seen node payloads payload end = HoldsEither seen node payloads payload
 
 -- what a creation leaves: a journal of 16 octets with no payload, or nothing where memory was wanting
 abbrev pub Created : Result Journal JournalFault → Option (List ℕ) → Option (List ℕ) → ℕ → ℕ → ℕ → Type 0
-Created (Ok journal) old new node before now = Stands new node [] (end_of journal) × HasGate new (end_of journal) × (now ≡ before) × (end_of journal ≡ 16)
+Created (Ok journal) old new node before now = TellsJournal new node [] (end_of journal) × HasGate new (end_of journal) × (now ≡ before) × (end_of journal ≡ 16)
 Created (Err DiskFault) old new node before now = Rose before now
 Created (Err NotAJournal) old new node before now = ⊥
 Created (Err TooLarge) old new node before now = ⊥

@@ -17,8 +17,8 @@ AreAt at (place ∷ places) [] = ⊥
 AreAt at (place ∷ places) (payload ∷ payloads) = (place.at ≡ at + 5) × (place.length ≡ length payload) × AreAt (at + 5 + length payload) places payloads
 
 -- the octets are no journal of the node: the header is another's, or the file ends before its first closed gate
-abbrev pub IsNone : ℕ → List ℕ → Type 0
-IsNone node held = (payloads : List (List ℕ)) → IsJournal node held payloads → ⊥
+abbrev pub IsNoJournal : ℕ → List ℕ → Type 0
+IsNoJournal node held = (payloads : List (List ℕ)) → IsJournal node held payloads → ⊥
 
 -- the disk may give fewer octets than reach to this place: it tells that it holds no more, or tells nothing
 abbrev pub MayEndBefore : Option (List ℕ) → ℕ → Type 0
@@ -33,12 +33,12 @@ pub record IsOpened (node : ℕ) (held : List ℕ) (end : ℕ) (places : List Pl
   pub are : AreAt 16 places payloads
 
 -- what an opening gives: the places of exactly the records, or NotAJournal where there is no journal
-abbrev pub Opened : Result (Journal × Vec Place Global) JournalFault → ℕ → Option (List ℕ) → ℕ → ℕ → Type 0
-Opened (Ok opened) node seen before now = IfSome seen (λ held. IsOpened node held (end_of opened.0) opened.1.items) × (now ≡ before)
-Opened (Err DiskFault) node seen before now = (before ≤ now) × Rose before now
-Opened (Err NotAJournal) node seen before now = IfSome seen (IsNone node) × (now ≡ before)
-Opened (Err TooLarge) node seen before now = ⊥
-Opened (Err NoMemory) node seen before now = now ≡ before
+abbrev pub JournalOpened : Result (Journal × Vec Place Global) JournalFault → ℕ → Option (List ℕ) → ℕ → ℕ → Type 0
+JournalOpened (Ok opened) node seen before now = IfSome seen (λ held. IsOpened node held (end_of opened.0) opened.1.items) × (now ≡ before)
+JournalOpened (Err DiskFault) node seen before now = (before ≤ now) × Rose before now
+JournalOpened (Err NotAJournal) node seen before now = IfSome seen (IsNoJournal node) × (now ≡ before)
+JournalOpened (Err TooLarge) node seen before now = ⊥
+JournalOpened (Err NoMemory) node seen before now = now ≡ before
 
 -- What a read of these octets of a record gives: as many as fit, from that offset on. NotAJournal comes only where the disk ends before they do.
 abbrev pub HasRead : Result ℕ JournalFault → Place → ℕ → List ℕ → Option (List ℕ) → ℕ → ℕ → Type 0
@@ -66,9 +66,9 @@ pub record IsRecordAt (held : List ℕ) (at : ℕ) (place : Place) : Type 0 wher
   pub short : length payload < 2 ^ 32
 
 -- what stands at this place of a journal: a closed gate, or a record
-abbrev pub StandsAt : List ℕ → ℕ → Option Place → Type 0
-StandsAt held at None = IsClosedAt held at
-StandsAt held at (Some place) = IsRecordAt held at place
+abbrev pub LiesAtPlace : List ℕ → ℕ → Option Place → Type 0
+LiesAtPlace held at None = IsClosedAt held at
+LiesAtPlace held at (Some place) = IsRecordAt held at place
 
 -- neither stands there
 pub record IsCutAt (held : List ℕ) (at : ℕ) : Type 0 where
@@ -87,13 +87,13 @@ Fills (Err NoMemory) seen end before now = ⊥
 abbrev pub HasHeader : {T : Type 0} → Result T JournalFault → ℕ → Option (List ℕ) → ℕ → ℕ → Type 0
 HasHeader (Ok _) node seen before now = IfSome seen (λ held. (16 ≤ length held) × (take 16 held ≡ header_of node)) × (now ≡ before)
 HasHeader (Err DiskFault) node seen before now = (before ≤ now) × Rose before now
-HasHeader (Err NotAJournal) node seen before now = IfSome seen (IsNone node) × (now ≡ before)
+HasHeader (Err NotAJournal) node seen before now = IfSome seen (IsNoJournal node) × (now ≡ before)
 HasHeader (Err TooLarge) node seen before now = ⊥
 HasHeader (Err NoMemory) node seen before now = ⊥
 
 -- what was found at the place of a gate
 abbrev pub FoundAt : Result (Option Place) JournalFault → Option (List ℕ) → ℕ → ℕ → ℕ → Type 0
-FoundAt (Ok found) seen at before now = IfSome seen (λ held. StandsAt held at found) × (now ≡ before)
+FoundAt (Ok found) seen at before now = IfSome seen (λ held. LiesAtPlace held at found) × (now ≡ before)
 FoundAt (Err DiskFault) seen at before now = (before ≤ now) × Rose before now
 FoundAt (Err NotAJournal) seen at before now = IfSome seen (λ held. IsCutAt held at) × (now ≡ before)
 FoundAt (Err TooLarge) seen at before now = ⊥

@@ -3,8 +3,8 @@ ghost use Rattle.std.specs.Prelude.{◌≡◌, ◌+◌, ◌≤◌, ◌<◌, ◌+
 ghost use Rattle.io_edge.specs.Moments.{Tears, Keeps};
 ghost use Rattle.io_edge.specs.Octets.{IsToldAlike};
 ghost use Rattle.disk_journal.specs.Images.{Adds, AddsAll};
-ghost use Rattle.disk_journal.specs.Journal.{end_of, HasGate, Stands, Appended, Created, Refuses};
-ghost use Rattle.disk_journal.specs.Reading.{HasRead, Opened};
+ghost use Rattle.disk_journal.specs.Journal.{end_of, HasGate, TellsJournal, Appended, Created, Refuses};
+ghost use Rattle.disk_journal.specs.Reading.{HasRead, JournalOpened};
 
 use crate::fault::JournalFault;
 use crate::place::Place;
@@ -61,7 +61,7 @@ impl Journal {
         disk: &mut D,
         node: NodeNo,
     ) -> Result<(Journal, Vec<Place>), JournalFault>
-        ensures opened { Opened result node (D.seen disk.old) (D.faults disk.old) (D.faults disk.new) }
+        ensures opened { JournalOpened result node (D.seen disk.old) (D.faults disk.old) (D.faults disk.new) }
         ensures seen { D.seen disk.new ≡ D.seen disk.old }
         ensures images { Keeps D.clock disk.old disk.new }
         ensures settled { D.settled disk.old → D.settled disk.new }
@@ -95,7 +95,7 @@ impl Journal {
         body: &[u8],
     ) -> Result<Place, JournalFault>
         requires gate { HasGate (D.seen disk.old) (end_of self.old) }
-        ensures appended { (node : ℕ) (payloads : List (List ℕ)) → Stands (D.seen disk.old) node payloads (end_of self.old)
+        ensures appended { (node : ℕ) (payloads : List (List ℕ)) → TellsJournal (D.seen disk.old) node payloads (end_of self.old)
             → Appended result (D.seen disk.new) node payloads (head.now ++ body.now) (end_of self.new) }
         ensures images { IfSome (D.seen disk.old) (λ _. Adds D.clock disk.old disk.new (end_of self.old) ((head.now ++ body.now) ∷ [])) }
         ensures all { OnOk result (IfSome (D.seen disk.old) (λ _. AddsAll D.clock disk.old disk.new (end_of self.old) (end_of self.new) ((head.now ++ body.now) ∷ []))) }

@@ -5,7 +5,7 @@ ghost use Rattle.io_edge.specs.Moments.{Tears};
 ghost use Rattle.io_edge.specs.Octets.{IsToldAlike, WritesAt};
 ghost use Rattle.mail_model.specs.Record.{header_of};
 ghost use Rattle.disk_journal.specs.Images.{Adds, AddsAll};
-ghost use Rattle.disk_journal.specs.Journal.{HasGate, Stands, behind_gate, Gated, largest};
+ghost use Rattle.disk_journal.specs.Journal.{HasGate, TellsJournal, behind_gate, Gated, largest};
 
 use crate::sizes::octets_of;
 use io_edge::{Disk, Failed};
@@ -107,7 +107,7 @@ pub(crate) fn write_behind_gate<D: Disk>(
     requires fits { end + 1 < 2 ^ 64 }
     ensures gate { OnOk result (HasGate (D.seen disk.new) (end + length octets.now)) }
     ensures gated { (node : ℕ) (payloads : List (List ℕ)) (payload : List ℕ) → octets.now ≡ behind_gate payload → length payload < 2 ^ 32
-        → Stands (D.seen disk.old) node payloads end → Gated result (D.seen disk.new) node payloads payload (end + length octets.now) }
+        → TellsJournal (D.seen disk.old) node payloads end → Gated result (D.seen disk.new) node payloads payload (end + length octets.now) }
     ensures images { (payload : List ℕ) → octets.now ≡ behind_gate payload → length payload < 2 ^ 32
         → IfSome (D.seen disk.old) (λ _. Adds D.clock disk.old disk.new end (payload ∷ [])) }
     ensures all { (payload : List ℕ) → octets.now ≡ behind_gate payload → length payload < 2 ^ 32

@@ -4,10 +4,10 @@ use Rattle.mail_model.specs.Lines.{HasNoCrlf, sent_line}
 use Rattle.mail_model.specs.Session.{is_period, undotted}
 use Rattle.mail_model.specs.Session.Unit.{Line, Text}
 use Rattle.mail_model.specs.Told.{AreTextLines, HasNoUnit, unit_octets}
-use Rattle.dot_text.specs.Cuts.{Taken, taken_octets, AreTaken, asked}
+use Rattle.dot_text.specs.Cuts.{Taken, taken_octets, AreTaken, asked_length}
 use Rattle.dot_text.specs.Cuts.Taken.{Given, Skipped}
 use Rattle.dot_text.specs.Laws.{LinesAreOne, LinesAreAll, TextsAreOne, BegunHasNoText}
-use Rattle.dot_text.specs.Texts.{IsBegun}
+use Rattle.dot_text.specs.Texts.{IsTextBegun}
 use Rattle.dot_text.specs.Places.{Behind, Feeds}
 use Rattle.dot_text.specs.declared.undotter.Undotter.{Undotter}
 use Rattle.dot_text.specs.declared.undotter.Cut.{Cut}
@@ -31,13 +31,13 @@ behind_first : (first : Taken) (taken : List Taken) (rest : List ℕ) → flat_m
 behind_first first taken rest = append_assoc (taken_octets first) (flat_map taken_octets taken) rest
 
 -- the same takes off the same octets
-one_taking : (taken others : List Taken) (rest other : List ℕ) → AreTaken taken → AreTaken others → map asked taken ≡ map asked others
+one_taking : (taken others : List Taken) (rest other : List ℕ) → AreTaken taken → AreTaken others → map asked_length taken ≡ map asked_length others
     → flat_map taken_octets taken ++ rest ≡ flat_map taken_octets others ++ other → (taken ≡ others) × (rest ≡ other)
 one_taking [] [] rest other are_a are_b same is = (refl, is)
 one_taking [] (b ∷ others) rest other are_a are_b same is = cc
 one_taking (a ∷ taken) [] rest other are_a are_b same is = cc
 one_taking (Given a ∷ taken) (Given b ∷ others) rest other are_a are_b same is =
-    let later : map asked taken ≡ map asked others = cc in
+    let later : map asked_length taken ≡ map asked_length others = cc in
     let first = one_sent_line a b (flat_map taken_octets taken ++ rest) (flat_map taken_octets others ++ other) are_a.0 are_b.0
     (sym (behind_first (Given a) taken rest) ∙ is ∙ behind_first (Given b) others other) in
     let more = one_taking taken others rest other are_a.1 are_b.1 later first.1 in
@@ -45,7 +45,7 @@ one_taking (Given a ∷ taken) (Given b ∷ others) rest other are_a are_b same 
 one_taking (Given a ∷ taken) (Skipped b ∷ others) rest other are_a are_b same is = cc
 one_taking (Skipped a ∷ taken) (Given b ∷ others) rest other are_a are_b same is = cc
 one_taking (Skipped a ∷ taken) (Skipped b ∷ others) rest other are_a are_b same is =
-    let later : map asked taken ≡ map asked others = cc in
+    let later : map asked_length taken ≡ map asked_length others = cc in
     let len : length a ≡ length b = cc in
     let first = same_front a b (flat_map taken_octets taken ++ rest) (flat_map taken_octets others ++ other) len
     (sym (behind_first (Skipped a) taken rest) ∙ is ∙ behind_first (Skipped b) others other) in
@@ -134,7 +134,7 @@ begun_none fed line given octets text after begun is same =
     (ap (λ (l : List ℕ). l ++ after) (sym is.whole) ∙ same ∙ begun.whole)
 
 -- nor has it a whole unit
-no_unit : (fed line given : List ℕ) → IsBegun fed line given → HasNoUnit true fed
+no_unit : (fed line given : List ℕ) → IsTextBegun fed line given → HasNoUnit true fed
 no_unit fed line given begun (Line other) more is same = is
 no_unit fed line given begun (Text lines) more is same = none_begun lines begun.lines line more is begun.are begun.no_end (sym same ∙ begun.whole)
 

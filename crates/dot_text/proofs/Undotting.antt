@@ -7,7 +7,7 @@ use Rattle.std.proofs.lemmas.Bool.{and_parts, eqb-true, eqb-false, cond-false, f
 use Rattle.mail_model.specs.Lines.{HasNoCrlf, sent_line}
 use Rattle.mail_model.specs.Session.{is_period, undotted, undotted_line}
 use Rattle.mail_model.specs.Told.{AreTextLines}
-use Rattle.dot_text.specs.Texts.{IsText, IsBegun, begun}
+use Rattle.dot_text.specs.Texts.{IsText, IsTextBegun, begun}
 use Rattle.dot_text.specs.Places.{UndotsAt, plain_place, next_place, told}
 use Rattle.dot_text.specs.declared.undotter.Place.{Place}
 use Rattle.dot_text.specs.declared.undotter.Place.TheVariants.{LineStart, Period, PeriodCr, Inside, Cr}
@@ -59,8 +59,8 @@ pub made_push : (f : List ℕ → List ℕ) (lines : List (List ℕ)) (line : Li
 made_push f lines line = flat_map-append f lines (line ∷ []) ∙ ap (λ (l : List ℕ). flat_map f lines ++ l) (append-nil (f line))
 
 -- an octet more of the line
-in_line : (fed line given : List ℕ) (x : ℕ) (tells : List ℕ) → IsBegun fed line given → HasNoCrlf (line ++ x ∷ []) → begun (line ++ x ∷ []) ≡ begun line ++ tells
-    → IsBegun (fed ++ x ∷ []) (line ++ x ∷ []) (given ++ tells)
+in_line : (fed line given : List ℕ) (x : ℕ) (tells : List ℕ) → IsTextBegun fed line given → HasNoCrlf (line ++ x ∷ []) → begun (line ++ x ∷ []) ≡ begun line ++ tells
+    → IsTextBegun (fed ++ x ∷ []) (line ++ x ∷ []) (given ++ tells)
 in_line fed line given x tells is none gives = record {
   lines = is.lines;
   are = is.are;
@@ -70,8 +70,8 @@ in_line fed line given x tells is none gives = record {
 }
 
 -- the LF that ends a line
-ends_line : (fed front given : List ℕ) → IsBegun fed (front ++ 13 ∷ []) given → is_period front ≡ false → begun (front ++ 13 ∷ []) ≡ undotted_line front ++ 13 ∷ []
-    → IsBegun (fed ++ 10 ∷ []) [] (given ++ 10 ∷ [])
+ends_line : (fed front given : List ℕ) → IsTextBegun fed (front ++ 13 ∷ []) given → is_period front ≡ false → begun (front ++ 13 ∷ []) ≡ undotted_line front ++ 13 ∷ []
+    → IsTextBegun (fed ++ 10 ∷ []) [] (given ++ 10 ∷ [])
 ends_line fed front given is other gives = record {
   lines = is.lines ++ front ∷ [];
   are = text_push is.lines front is.are (none_front front (13 ∷ []) is.no_end) other;
@@ -87,7 +87,7 @@ ends_line fed front given is other gives = record {
 }
 
 -- the LF that ends the text
-ends_text : (fed given : List ℕ) → IsBegun fed (46 ∷ 13 ∷ []) given → IsText (fed ++ 10 ∷ []) (given ++ [])
+ends_text : (fed given : List ℕ) → IsTextBegun fed (46 ∷ 13 ∷ []) given → IsText (fed ++ 10 ∷ []) (given ++ [])
 ends_text fed given is = record {
   lines = is.lines;
   are = is.are;
@@ -96,7 +96,7 @@ ends_text fed given is = record {
 }
 
 -- an octet of a line that is none of the special ones
-plain_step : (fed line given : List ℕ) (x : ℕ) (tells : List ℕ) → IsBegun fed line given → is_period line ≡ false → is_period (line ++ x ∷ []) ≡ false
+plain_step : (fed line given : List ℕ) (x : ℕ) (tells : List ℕ) → IsTextBegun fed line given → is_period line ≡ false → is_period (line ++ x ∷ []) ≡ false
     → HasNoCrlf (line ++ x ∷ []) → begun (line ++ x ∷ []) ≡ begun line ++ tells → UndotsAt (plain_place x) (fed ++ x ∷ []) (given ++ tells)
 plain_step fed line given x tells is other other_more none gives = by_test (nat_eq x 13) refl
   where
@@ -105,7 +105,7 @@ plain_step fed line given x tells is other other_more none gives = by_test (nat_
     by_test false e = (line ++ x ∷ [], (line, x, refl, eqb-false x 13 e, other_more), in_line fed line given x tells is none gives)
 
 -- at the front of a line
-at_start : (fed given : List ℕ) (x : ℕ) → IsBegun fed [] given
+at_start : (fed given : List ℕ) (x : ℕ) → IsTextBegun fed [] given
     → UndotsAt (if nat_eq x 46 then Period else plain_place x) (fed ++ x ∷ []) (given ++ (if nat_eq x 46 then [] else x ∷ []))
 at_start fed given x is = by_test (nat_eq x 46) refl
   where
@@ -120,7 +120,7 @@ at_start fed given x is = by_test (nat_eq x 46) refl
         (begun_all (x ∷ []) (λ same. let two : 1 ≡ 2 = ap (λ (l : List ℕ). length l) same in absurd (omega (arith, two))) ∙ rw e refl)
 
 -- behind a period that leads a line
-at_period : (fed given : List ℕ) (x : ℕ) → IsBegun fed (46 ∷ []) given
+at_period : (fed given : List ℕ) (x : ℕ) → IsTextBegun fed (46 ∷ []) given
     → UndotsAt (if nat_eq x 13 then PeriodCr else Inside) (fed ++ x ∷ []) (given ++ (if nat_eq x 13 then [] else x ∷ []))
 at_period fed given x is = by_test (nat_eq x 13) refl
   where
@@ -140,7 +140,7 @@ at_period fed given x is = by_test (nat_eq x 13) refl
     )
 
 -- behind other octets
-at_inside : (fed front given : List ℕ) (y x : ℕ) → y ≢ 13 → is_period (front ++ y ∷ []) ≡ false → IsBegun fed (front ++ y ∷ []) given
+at_inside : (fed front given : List ℕ) (y x : ℕ) → y ≢ 13 → is_period (front ++ y ∷ []) ≡ false → IsTextBegun fed (front ++ y ∷ []) given
     → UndotsAt (plain_place x) (fed ++ x ∷ []) (given ++ x ∷ [])
 at_inside fed front given y x no_cr other is =
     plain_step fed (front ++ y ∷ []) given x (x ∷ []) is other
@@ -153,7 +153,7 @@ at_inside fed front given y x no_cr other is =
     too_long (a ∷ l) z e = cc
 
 -- behind CR that may end a line
-at_cr : (fed front given : List ℕ) (x : ℕ) → is_period front ≡ false → IsBegun fed (front ++ 13 ∷ []) given
+at_cr : (fed front given : List ℕ) (x : ℕ) → is_period front ≡ false → IsTextBegun fed (front ++ 13 ∷ []) given
     → UndotsAt (if nat_eq x 10 then LineStart else plain_place x) (fed ++ x ∷ []) (given ++ x ∷ [])
 at_cr fed front given x other is = by_test (nat_eq x 10) refl
   where
@@ -183,7 +183,7 @@ at_cr fed front given x other is = by_test (nat_eq x 10) refl
         (begun_push front 13 x no_wait no_period)
 
 -- behind a period that leads a line, and CR
-at_period_cr : (next : Place) (fed given : List ℕ) (x : ℕ) → IsBegun fed (46 ∷ 13 ∷ []) given → next_place PeriodCr x ≡ Some next
+at_period_cr : (next : Place) (fed given : List ℕ) (x : ℕ) → IsTextBegun fed (46 ∷ 13 ∷ []) given → next_place PeriodCr x ≡ Some next
     → UndotsAt next (fed ++ x ∷ []) (given ++ told PeriodCr x)
 at_period_cr next fed given x is = by_test (nat_eq x 10) refl
   where
@@ -204,25 +204,25 @@ begins = ([], refl, record { lines = []; are = tt; no_end = none_nil; whole = re
 pub goes_on : (place next : Place) (fed given : List ℕ) (x : ℕ) → next_place place x ≡ Some next → UndotsAt place fed given
     → UndotsAt next (fed ++ x ∷ []) (given ++ told place x)
 goes_on LineStart next fed given x some (line, at, is) =
-    let OfLine : List ℕ → Type 0 = λ l. IsBegun fed l given in
+    let OfLine : List ℕ → Type 0 = λ l. IsTextBegun fed l given in
     let At : Place → Type 0 = λ p. UndotsAt p (fed ++ x ∷ []) (given ++ told LineStart x) in
     let same : (if nat_eq x 46 then Period else plain_place x) ≡ next = cc in
     subst At same (at_start fed given x (subst OfLine at is))
 goes_on Period next fed given x some (line, at, is) =
-    let OfLine : List ℕ → Type 0 = λ l. IsBegun fed l given in
+    let OfLine : List ℕ → Type 0 = λ l. IsTextBegun fed l given in
     let At : Place → Type 0 = λ p. UndotsAt p (fed ++ x ∷ []) (given ++ told Period x) in
     let same : (if nat_eq x 13 then PeriodCr else Inside) ≡ next = cc in
     subst At same (at_period fed given x (subst OfLine at is))
 goes_on PeriodCr next fed given x some (line, at, is) =
-    let OfLine : List ℕ → Type 0 = λ l. IsBegun fed l given in
+    let OfLine : List ℕ → Type 0 = λ l. IsTextBegun fed l given in
     at_period_cr next fed given x (subst OfLine at is) some
 goes_on Inside next fed given x some (line, (front, y, at, no_cr, other), is) =
-    let OfLine : List ℕ → Type 0 = λ l. IsBegun fed l given in
+    let OfLine : List ℕ → Type 0 = λ l. IsTextBegun fed l given in
     let At : Place → Type 0 = λ p. UndotsAt p (fed ++ x ∷ []) (given ++ x ∷ []) in
     let same : plain_place x ≡ next = cc in
     subst At same (at_inside fed front given y x no_cr (sym (ap is_period at) ∙ other) (subst OfLine at is))
 goes_on Cr next fed given x some (line, (front, at, other), is) =
-    let OfLine : List ℕ → Type 0 = λ l. IsBegun fed l given in
+    let OfLine : List ℕ → Type 0 = λ l. IsTextBegun fed l given in
     let At : Place → Type 0 = λ p. UndotsAt p (fed ++ x ∷ []) (given ++ x ∷ []) in
     let same : (if nat_eq x 10 then LineStart else plain_place x) ≡ next = cc in
     subst At same (at_cr fed front given x other (subst OfLine at is))
@@ -236,7 +236,7 @@ ends PeriodCr fed given x none (line, at, is) = by_test (nat_eq x 10) refl none
   where
     by_test : (b : Bool) → nat_eq x 10 ≡ b → (if b then None else Some (plain_place x)) ≡ None → IsText (fed ++ x ∷ []) (given ++ (if b then [] else 13 ∷ x ∷ []))
     by_test true e end =
-        let OfLine : List ℕ → Type 0 = λ l. IsBegun fed l given in
+        let OfLine : List ℕ → Type 0 = λ l. IsTextBegun fed l given in
         let Behind : ℕ → Type 0 = λ y. IsText (fed ++ y ∷ []) (given ++ []) in
         subst Behind (sym (eqb-true x 10 e)) (ends_text fed given (subst OfLine at is))
     by_test false e end = cc

@@ -24,9 +24,9 @@ pub record Cuts (fed : List ℕ) (taken : List Taken) (rest : List ℕ) : Type 0
   pub lines : AreTaken taken
 
 -- what was asked for: the next line, or so many octets
-abbrev pub asked : Taken → Option ℕ
-asked (Given line) = None
-asked (Skipped octets) = Some (length octets)
+abbrev pub asked_length : Taken → Option ℕ
+asked_length (Given line) = None
+asked_length (Skipped octets) = Some (length octets)
 
 -- a CRLF begins at this place, and none before it
 pub record IsFirstCrlf (octets : List ℕ) (place : ℕ) : Type 0 where

@@ -2,7 +2,7 @@
 use Rattle.std.specs.Prelude.{◌≡◌, ◌≢◌, ◌<◌, ◌≤◌, ⊤, ℕ, List, [], ◌∷◌, ◌++◌, length, take, nat_eq, true, false, Option, Some, None, if◌then◌else◌}
 use Rattle.mail_model.specs.Session.{is_period}
 use Rattle.mail_model.specs.Told.{HasNoUnit}
-use Rattle.dot_text.specs.Texts.{IsText, IsBegun}
+use Rattle.dot_text.specs.Texts.{IsText, IsTextBegun}
 use Rattle.dot_text.specs.declared.undotter.Place.{Place}
 use Rattle.dot_text.specs.declared.undotter.Place.TheVariants.{LineStart, Period, PeriodCr, Inside, Cr}
 use Rattle.dot_text.specs.declared.undotter.Undotter.{Undotter}
@@ -39,7 +39,7 @@ told Cr x = x ∷ []
 
 -- At this place the octets so far are no whole text, and they have given so much of it.
 abbrev pub UndotsAt : Place → List ℕ → List ℕ → Type 0
-UndotsAt place fed given = (line : List ℕ) × IsAt place line × IsBegun fed line given
+UndotsAt place fed given = (line : List ℕ) × IsAt place line × IsTextBegun fed line given
 
 -- The undotter was fed these octets of a text, which are not the whole text, and has given so much of it.
 abbrev pub Undots : Undotter → List ℕ → List ℕ → Type 0

@@ -18,7 +18,7 @@ abbrev pub begun : List ℕ → List ℕ
 begun line = if pointwise nat_eq line (46 ∷ 13 ∷ []) then [] else undotted_line line
 
 -- The octets are whole lines of a text and this line, which has not ended, and they have given so much of the text.
-pub record IsBegun (octets line given : List ℕ) : Type 0 where
+pub record IsTextBegun (octets line given : List ℕ) : Type 0 where
   pub lines : List (List ℕ)
   pub are : AreTextLines lines
   pub no_end : HasNoCrlf line

@@ -8,7 +8,7 @@ use Rattle.mail_model.specs.Transcript.{Entry, said_lines}
 use Rattle.mail_model.specs.Site.{closed_event}
 use Rattle.session_model.specs.Calls as calls
 use Rattle.session_model.specs.Calls.{IsReply}
-use Rattle.session_model.specs.Talk.{Exchange, State, Standing, IsOn}
+use Rattle.session_model.specs.Talk.{Exchange, TalkState, Standing, IsOn}
 use Rattle.session_model.specs.Talk.Standing.{Waiting, EndedDown}
 use Rattle.session_model.specs.Sessions.{Session, session_at}
 use Rattle.session_model.specs.Moves.{with_answer}
@@ -16,7 +16,7 @@ use Rattle.session_model.specs.Talk.{answered}
 use Rattle.session_model.specs.Acts.{Act, Acted, Did, closing}
 use Rattle.session_model.specs.Acts.Act.{Does}
 use Rattle.session_model.specs.Acts.Deed.{IsAnswered}
-use Rattle.session_model.specs.Turns.{Turn, IsReady, IsFirst, IsNone, IsDone, Waits, Next}
+use Rattle.session_model.specs.Turns.{Turn, IsReadyToAsk, IsFirst, IsNone, IsDone, Waits, Next}
 use Rattle.session_model.specs.Turns.Turn.{Hearing, Beginning, Falling, Asking}
 use Rattle.session_model.specs.Run.{Made, Stop, count_on}
 use Rattle.session_model.specs.Run.Stop.{OutOfMemory}
@@ -34,11 +34,11 @@ use Rattle.drive_tape.specs.declared.sessions.After.TheVariants.{Stays, Ends}
 use Rattle.drive_tape.specs.declared.drove.Stop.{Stop as Why}
 use Rattle.drive_tape.specs.declared.drove.Stop.TheVariants as why
 use Rattle.drive_tape.specs.Moving.{has_ended, RepliesTo, GoesOn, left_at, ticket_here, work_at}
-use Rattle.drive_tape.specs.Worlds.{IsAt, IsSince}
-use Rattle.drive_tape.specs.Points.{Point, Work, Cut, OneAct, AreLinked, Shows, Stopped, WentOn, IsUp}
+use Rattle.drive_tape.specs.Worlds.{WorldIsAt, IsSince}
+use Rattle.drive_tape.specs.Points.{Point, Work, Cut, OneAct, AreLinked, IsAtPoint, Stopped, WentOn, IsUpUnlessFailed}
 use Rattle.drive_tape.specs.Talks.{Converse, HaveTickets, NoTickets, OneWaits}
 use Rattle.drive_tape.specs.Clusters.{HearsAt, RestsAt, IsAfter, IsSaying, AsksFrom, IsAsking}
-use Rattle.drive_tape.specs.Lines.{IsSettled}
+use Rattle.drive_tape.specs.Lines.{NothingIsUnderWay}
 use Rattle.drive_tape.proofs.Talks.{at_place, count_same, count_less, no_tickets_set, quiet_at, still_up, set_here, set_twice, set_same, within_get, some_same, replies_on, replies_ended, converse_length}
 use Rattle.drive_tape.proofs.Falling.{get_other}
 use Rattle.drive_tape.proofs.Works.{work_more, cut_act}
@@ -78,13 +78,13 @@ quiet_none tickets sessions (suc i) none waits = by_session (slice_get sessions 
     by_session (Some s) is w = quiet_at tickets sessions i s none is w.0 w.1 w.2
 
 module _ {D : Type 0} (seen : D → Option (List ℕ)) (faults : D → ℕ) (start : World D) (p : Point) (place : ℕ) (old : Cluster D)
-    (shows : Shows seen faults start old p) (asks : AsksFrom place p) where
+    (shows : IsAtPoint seen faults start old p) (asks : AsksFrom place p) where
   -- it waits
   pub asking : (ticket : Ticket) (new : Cluster D) → slice_get old.sessions.tickets.items place ≡ Some (Some ticket) → new.world ≡ old.world → new.sessions.talkers ≡ old.sessions.talkers
       → new.sessions.standing ≡ old.sessions.standing → new.sessions.tickets.items ≡ slice_set old.sessions.tickets.items place None → IsAsking seen faults start p place ticket new
   asking ticket new has world talkers standing tickets = by_awaited p.awaited shows.tickets shows.at
     where
-      by_awaited : (a : List Awaited) → HaveTickets old.sessions.tickets.items p.sessions a → IsAt seen faults start p.outcomes a old.world → IsAsking seen faults start p place ticket new
+      by_awaited : (a : List Awaited) → HaveTickets old.sessions.tickets.items p.sessions a → WorldIsAt seen faults start p.outcomes a old.world → IsAsking seen faults start p place ticket new
       by_awaited [] none at = absurd (no_ticket_at _ _ place ticket none has)
       by_awaited (one ∷ []) w at =
           let same : w.place ≡ place = same_place _ _ w.place place ticket w.others has in
@@ -103,7 +103,7 @@ module _ {D : Type 0} (seen : D → Option (List ℕ)) (faults : D → ℕ) (sta
             state = w.state;
             waits = w.waits;
             heard = w.heard;
-            at = rw world (subst (λ (s : ℕ). IsAt seen faults start p.outcomes (record { number = one.number; session = s; call = one.call } ∷ []) old.world) (w.number_is ∙ ap (λ (i : ℕ). i + 1) same) at);
+            at = rw world (subst (λ (s : ℕ). WorldIsAt seen faults start p.outcomes (record { number = one.number; session = s; call = one.call } ∷ []) old.world) (w.number_is ∙ ap (λ (i : ℕ). i + 1) same) at);
             talks = rw talkers shows.talks;
             others = rw tickets (subst (λ (i : ℕ). NoTickets (slice_set old.sessions.tickets.items i None) (slice_set p.sessions i (record w.plain { standing = EndedDown }))) same w.others);
             count = standing ∙ shows.count;
@@ -127,13 +127,13 @@ module _ {D : Type 0} (seen : D → Option (List ℕ)) (faults : D → ℕ) (sta
   }
 
   -- nobody does
-  pub settled : length old.sessions.talkers.items ≤ place → IsSettled p
+  pub settled : length old.sessions.talkers.items ≤ place → NothingIsUnderWay p
   settled all = by_awaited p.awaited refl shows.tickets asks.awaits
     where
       length_is : length old.sessions.talkers.items ≡ length p.sessions
       length_is = converse_length old.sessions.talkers.items p.sessions shows.talks
 
-      by_awaited : (a : List Awaited) → p.awaited ≡ a → HaveTickets old.sessions.tickets.items p.sessions a → (a ≡ []) ⊎ ((one : Awaited) × (a ≡ one ∷ []) × (place + 1 ≤ one.session)) → IsSettled p
+      by_awaited : (a : List Awaited) → p.awaited ≡ a → HaveTickets old.sessions.tickets.items p.sessions a → (a ≡ []) ⊎ ((one : Awaited) × (a ≡ one ∷ []) × (place + 1 ≤ one.session)) → NothingIsUnderWay p
       by_awaited a is w (inl none) =
           let nobody : NoTickets old.sessions.tickets.items p.sessions = subst (λ (l : List Awaited). HaveTickets old.sessions.tickets.items p.sessions l) none w in
           record { done = (asks.from, asks.ready, λ j from waits. quiet_none _ _ j nobody waits); quiet = is ∙ none }
@@ -228,7 +228,7 @@ module _ {D : Type 0} (seen : D → Option (List ℕ)) (faults : D → ℕ) (sta
     next : Next p.turn p.sessions (Does (place + 1) (IsAnswered call answer reply)) (Hearing (place + 1) (place + 1))
     next = by_turn p.turn a.ready
       where
-        by_turn : (t : Turn) → IsReady t p.sessions a.from → Next t p.sessions (Does (place + 1) (IsAnswered call answer reply)) (Hearing (place + 1) (place + 1))
+        by_turn : (t : Turn) → IsReadyToAsk t p.sessions a.from → Next t p.sessions (Does (place + 1) (IsAnswered call answer reply)) (Hearing (place + 1) (place + 1))
         by_turn (Hearing k onward) ready = (a.from, ready, first, refl)
         by_turn (Beginning k onward) ready = (a.from, ready, first, refl)
         by_turn (Falling k node onward) ready = (a.from, ready, first, refl)
@@ -242,7 +242,7 @@ module _ {D : Type 0} (seen : D → Option (List ℕ)) (faults : D → ℕ) (sta
     }
 
     -- memory ran out before it said anything
-    pub stops_replying : (held : Option (List ℕ)) (last : World D) → p.held ≡ held → IsAt seen faults start (p.outcomes ++ Answers (place + 1) a.call a.number answer ∷ []) [] last → Stopped seen faults start plan p why.NoMemory held last
+    pub stops_replying : (held : Option (List ℕ)) (last : World D) → p.held ≡ held → WorldIsAt seen faults start (p.outcomes ++ Answers (place + 1) a.call a.number answer ∷ []) [] last → Stopped seen faults start plan p why.NoMemory held last
     unfolding cut_act
     stops_replying held last is at = record {
       stop = OutOfMemory;
@@ -255,7 +255,7 @@ module _ {D : Type 0} (seen : D → Option (List ℕ)) (faults : D → ℕ) (sta
     }
 
   -- memory ran out though the answer is there
-  pub stops_answered : (answer : calls.Answer) (held : Option (List ℕ)) (last : World D) → p.held ≡ held → IsAt seen faults start (p.outcomes ++ Answers (place + 1) a.call a.number answer ∷ []) [] last
+  pub stops_answered : (answer : calls.Answer) (held : Option (List ℕ)) (last : World D) → p.held ≡ held → WorldIsAt seen faults start (p.outcomes ++ Answers (place + 1) a.call a.number answer ∷ []) [] last
       → ((reply : List (List ℕ)) × IsReply a.call answer reply) → Stopped seen faults start plan p why.NoMemory held last
   stops_answered answer held last is at reply =
       stops_replying a.call answer reply.0 (record a.plain { whole = a.heard.0 ++ with_answer a.heard.1 answer reply.0 ∷ []; standing = answered a.state a.call answer })
@@ -270,7 +270,7 @@ module _ {D : Type 0} (seen : D → Option (List ℕ)) (faults : D → ℕ) (sta
     awaited = [];
   }
 
-  pub replying : (answer : calls.Answer) (after : After) (items out : List ℕ) (new : Cluster D) → out ≡ items → IsAt seen faults start (p.outcomes ++ Answers (place + 1) a.call a.number answer ∷ []) [] new.world
+  pub replying : (answer : calls.Answer) (after : After) (items out : List ℕ) (new : Cluster D) → out ≡ items → WorldIsAt seen faults start (p.outcomes ++ Answers (place + 1) a.call a.number answer ∷ []) [] new.world
       → is_up new.world ≡ is_up old.world → new.sessions.tickets ≡ old.sessions.tickets
       → (r : RepliesTo plan p.sessions place a.plain answer after items old.sessions.standing new.sessions) → IsSaying seen faults start plan p (replied_point answer r.after) place (place + 1) after out new
   replying answer after items out new shown at up tickets r =
@@ -306,7 +306,7 @@ module _ {D : Type 0} (seen : D → Option (List ℕ)) (faults : D → ℕ) (sta
         is_after = is;
       }
     where
-      same_call : (s t : State) (c d : calls.Call) → Waiting s c ≡ Waiting t d → c ≡ d
+      same_call : (s t : TalkState) (c d : calls.Call) → Waiting s c ≡ Waiting t d → c ≡ d
       same_call s t c d is = cc
 
 -- a ticket that was taken is less to do
@@ -320,9 +320,9 @@ taken_less old new place ticket has tickets left =
     omega (arith, was, is, left)
 
 -- nothing was taken
-pub shows_untaken : {D : Type 0} (seen : D → Option (List ℕ)) (faults : D → ℕ) (start : World D) (p : Point) (place : ℕ) (old new : Cluster D) → Shows seen faults start old p
+pub shows_untaken : {D : Type 0} (seen : D → Option (List ℕ)) (faults : D → ℕ) (start : World D) (p : Point) (place : ℕ) (old new : Cluster D) → IsAtPoint seen faults start old p
     → new.world ≡ old.world → new.sessions.talkers ≡ old.sessions.talkers → new.sessions.standing ≡ old.sessions.standing → new.sessions.tickets.items ≡ slice_set old.sessions.tickets.items place None
-    → slice_get old.sessions.tickets.items place ≡ Some None → Shows seen faults start new p
+    → slice_get old.sessions.tickets.items place ≡ Some None → IsAtPoint seen faults start new p
 shows_untaken seen faults start p place old new shows world talkers standing tickets none = record {
   at = rw world shows.at;
   talks = rw talkers shows.talks;
@@ -341,8 +341,8 @@ module _ {D : Type 0} (seen : D → Option (List ℕ)) (faults : D → ℕ) (sta
   goes = subst (λ (pl : Plan). WentOn seen faults start pl q (HearsAt place (place + 1)) between old) same went
 
   -- it was answered, and heard on
-  pub answered_on : (new : Cluster D) → ((r : Point) → Shows seen faults start old r → r.held ≡ between → HearsAt place (place + 1) r → WentOn seen faults start last r (RestsAt place (place + 1)) held new)
-      → (x : Point) × Work plan p x × (x.held ≡ held) × Shows seen faults start new x × AsksFrom place x
+  pub answered_on : (new : Cluster D) → ((r : Point) → IsAtPoint seen faults start old r → r.held ≡ between → HearsAt place (place + 1) r → WentOn seen faults start last r (RestsAt place (place + 1)) held new)
+      → (x : Point) × Work plan p x × (x.held ≡ held) × IsAtPoint seen faults start new x × AsksFrom place x
   answered_on new more =
       let one = goes in
       let two : WentOn seen faults start plan one.q (RestsAt place (place + 1)) held new =
@@ -350,7 +350,7 @@ module _ {D : Type 0} (seen : D → Option (List ℕ)) (faults : D → ℕ) (sta
       (two.q, work_more plan p one.q two.q (work_more plan p q one.q work one.work) two.work, two.held_is, two.shows, asks_on place two.q two.so_is)
 
   -- it was answered, and the work stopped as it heard on
-  pub answered_stops : (reason : Why) (world : World D) → ((r : Point) → Shows seen faults start old r → r.held ≡ between → HearsAt place (place + 1) r → Stopped seen faults start last r reason held world)
+  pub answered_stops : (reason : Why) (world : World D) → ((r : Point) → IsAtPoint seen faults start old r → r.held ≡ between → HearsAt place (place + 1) r → Stopped seen faults start last r reason held world)
       → Stopped seen faults start plan p reason held world
   answered_stops reason world more =
       let one = goes in

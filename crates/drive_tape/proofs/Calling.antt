@@ -8,10 +8,10 @@ use Rattle.call_tickets.specs.declared.call.Call.TheVariants as call
 use Rattle.call_tickets.specs.declared.answer.Answer.{Answer}
 use Rattle.call_tickets.specs.declared.answer.Ask.TheVariants.{Pending as InProgress, Done}
 use Rattle.mail_base.specs.declared.ticket.Ticket.{Ticket}
-use Rattle.cluster_world.specs.Outcomes.{Outcome, Awaited, IsStep, IsRefusal, IsFall, IsLeave, Makes, Stands, AtOnce}
+use Rattle.cluster_world.specs.Outcomes.{Outcome, Awaited, IsStep, IsRefusal, IsFall, IsLeave, Makes, IsAwaited, AtOnce}
 use Rattle.cluster_world.specs.Outcomes.Outcome.{Began, Refused, Fell, Answers, Unanswered, Left}
-use Rattle.cluster_world.specs.Steps.{BeginDid, IsNoted, IsSound, call_of, nth_ticket}
-use Rattle.cluster_world.specs.World.{plan_of, is_up, tickets_of, disk_of, standing_of, counted, ShowsGate}
+use Rattle.cluster_world.specs.Steps.{BeginDid, IsOnlyNoted, IsSound, call_of, nth_ticket}
+use Rattle.cluster_world.specs.World.{plan_of, is_up, tickets_drawn, disk_of, standing_of, with_step_counted, ShowsGate}
 use Rattle.cluster_world.specs.declared.world.World.{World}
 use Rattle.cluster_world.specs.declared.step.Step.TheVariants.{Begin, Ask}
 use Rattle.cluster_world.specs.declared.step.Said.{Said}
@@ -25,10 +25,10 @@ use Rattle.cluster_world.proofs.Falling.{not_none}
 use Rattle.cluster_world.proofs.Shown.{down_by_fall, down_by_break}
 use Rattle.session_model.proofs.Replies.{each_answer_has_reply}
 use Rattle.cluster_world.proofs.Owed.{refused_alike, asked_alike, left_alike}
-use Rattle.drive_tape.specs.Worlds.{HandsOn, IsAt, IsSince, BeganSo, AskedSo}
+use Rattle.drive_tape.specs.Worlds.{HandsOn, WorldIsAt, IsSince, BeganSo, AskedSo}
 
 -- no call of a session is only noted
-never_noted : {P : Type 0} (call : Call) {asked : calls.Call} → call_seen call ≡ Some asked → IsNoted call → P
+never_noted : {P : Type 0} (call : Call) {asked : calls.Call} → call_seen call ≡ Some asked → IsOnlyNoted call → P
 never_noted (call.Deliver deliver) e noted = absurd noted
 never_noted (call.Login user proof) e noted = absurd noted
 never_noted (call.Fetch user id holders start most) e noted = absurd noted
@@ -50,21 +50,21 @@ module _ {D : Type 0} (seen : D → Option (List ℕ)) (faults : D → ℕ) (sta
   Answered asked number (Err fault) = AskedSo seen faults start outcomes k asked number (Err fault) new
 
   -- the count of faults is what it was
-  quiet_on : (awaited : List Awaited) → IsAt seen faults start outcomes awaited old → (IsTrue (is_up new) → faults (disk_of new) ≡ faults (disk_of old)) → (is_up new ≡ true → is_up old ≡ true)
+  quiet_on : (awaited : List Awaited) → WorldIsAt seen faults start outcomes awaited old → (IsTrue (is_up new) → faults (disk_of new) ≡ faults (disk_of old)) → (is_up new ≡ true → is_up old ≡ true)
       → is_up new ≡ true → faults (disk_of new) ≡ faults (disk_of start)
   quiet_on awaited at quiet was up = quiet up ∙ at.quiet (was up)
 
   -- what each step keeps
-  keeps_at : {awaited : List Awaited} → IsAt seen faults start outcomes awaited old → (result : Result Said StepFault) (call : Call) → IsStep seen faults result (Begin 1 call) old new
+  keeps_at : {awaited : List Awaited} → WorldIsAt seen faults start outcomes awaited old → (result : Result Said StepFault) (call : Call) → IsStep seen faults result (Begin 1 call) old new
       → (is_up new ≡ true → IsSound seen new) × (faults (disk_of start) ≤ faults (disk_of new))
   keeps_at at result call step =
-      let keeps = begin_keeps seen faults (counted old) new result call step.did in
+      let keeps = begin_keeps seen faults (with_step_counted old) new result call step.did in
       (keeps.0 (λ up. recounted seen faults old (at.sound up)), omega (arith, at.later, keeps.1))
 
-  kept_asking : {awaited : List Awaited} → IsAt seen faults start outcomes awaited old → (result : Result Said StepFault) (number : ℕ) → IsStep seen faults result (Ask (nth_ticket number)) old new
+  kept_asking : {awaited : List Awaited} → WorldIsAt seen faults start outcomes awaited old → (result : Result Said StepFault) (number : ℕ) → IsStep seen faults result (Ask (nth_ticket number)) old new
       → (is_up new ≡ true → IsSound seen new) × (faults (disk_of start) ≤ faults (disk_of new))
   kept_asking at result number step =
-      let keeps = ask_keeps seen faults (counted old) new result number step.did in
+      let keeps = ask_keeps seen faults (with_step_counted old) new result number step.did in
       (keeps.0 (λ up. recounted seen faults old (at.sound up)), omega (arith, at.later, keeps.1))
 
   -- octets that are not told were not told at first
@@ -80,12 +80,12 @@ module _ {D : Type 0} (seen : D → Option (List ℕ)) (faults : D → ℕ) (sta
   rose_since later rose = omega (arith, later, rose)
 
   -- a call has begun
-  pub call_began : (call : Call) (asked : calls.Call) (ticket : Ticket) (stirs : ℕ) → call_seen call ≡ Some asked → is_up old ≡ true → IsAt seen faults start outcomes [] old
+  pub call_began : (call : Call) (asked : calls.Call) (ticket : Ticket) (stirs : ℕ) → call_seen call ≡ Some asked → is_up old ≡ true → WorldIsAt seen faults start outcomes [] old
       → IsStep seen faults (Ok (Begun ticket stirs)) (Begin 1 call) old new → (IsTrue (is_up new) → faults (disk_of new) ≡ faults (disk_of old))
       → BeganSo {E = StepFault} seen faults start outcomes k asked (Ok (Some ticket)) new
   call_began call asked ticket stirs e was at step quiet =
-      let own = alone seen faults call asked ticket (counted old) new e step.did.3 in
-      let number = tickets_of old + 1 in (
+      let own = alone seen faults call asked ticket (with_step_counted old) new e step.did.3 in
+      let number = tickets_drawn old + 1 in (
         number,
         own.ticket_is,
         own.up,
@@ -104,9 +104,9 @@ module _ {D : Type 0} (seen : D → Option (List ℕ)) (faults : D → ℕ) (sta
   risen_later : Rose (faults (disk_of start)) (faults (disk_of old)) → faults (disk_of old) ≤ faults (disk_of new) → Rose (faults (disk_of start)) (faults (disk_of new))
   risen_later rose later = omega (arith, later, rose)
 
-  fell_down : (result : Result Said StepFault) (call : Call) → IsFall result → BeginDid seen faults result 1 call (counted old) new → is_up new ≡ false
-  fell_down (Ok (Faulted failed)) call fall did = down_by_fall seen faults (counted old) new call did.3
-  fell_down (Err (NoMemory (Some failed))) call fall did = down_by_break seen faults (counted old) new call did.2
+  fell_down : (result : Result Said StepFault) (call : Call) → IsFall result → BeginDid seen faults result 1 call (with_step_counted old) new → is_up new ≡ false
+  fell_down (Ok (Faulted failed)) call fall did = down_by_fall seen faults (with_step_counted old) new call did.3
+  fell_down (Err (NoMemory (Some failed))) call fall did = down_by_break seen faults (with_step_counted old) new call did.2
   fell_down (Ok (Begun ticket stirs)) call fall did = absurd fall
   fell_down (Ok Noted) call fall did = absurd fall
   fell_down (Ok (AskedFor ask)) call fall did = absurd fall
@@ -117,14 +117,14 @@ module _ {D : Type 0} (seen : D → Option (List ℕ)) (faults : D → ℕ) (sta
   fell_down (Err Worn) call fall did = absurd fall
 
   -- its node went down, and the step says so
-  pub call_fell : (call : Call) (asked : calls.Call) (failed : ℕ) → call_seen call ≡ Some asked → is_up old ≡ true → IsAt seen faults start outcomes [] old
-      → IsStep seen faults (Ok (Faulted failed)) (Begin 1 call) old new → IsAt seen faults start (outcomes ++ Fell k asked ∷ []) [] new × (is_up new ≡ false)
+  pub call_fell : (call : Call) (asked : calls.Call) (failed : ℕ) → call_seen call ≡ Some asked → is_up old ≡ true → WorldIsAt seen faults start outcomes [] old
+      → IsStep seen faults (Ok (Faulted failed)) (Begin 1 call) old new → WorldIsAt seen faults start (outcomes ++ Fell k asked ∷ []) [] new × (is_up new ≡ false)
   call_fell call asked failed e up at step =
       let result : Result Said StepFault = Ok (Faulted failed) in
       let down = fell_down result call tt step.did in (
         record {
           made = makes_more seen faults outcomes (Fell k asked) [] [] [] start old new at.made (call, result, e, tt, step, refl);
-          stands = none_after_fall seen faults result call (counted old) new tt step.did;
+          stands = none_after_fall seen faults result call (with_step_counted old) new tt step.did;
           quiet = λ up. absurd (let never : false ≡ true = sym down ∙ up in cc);
           sound = (keeps_at at result call step).0;
           told = step.told ∙ at.told;
@@ -136,7 +136,7 @@ module _ {D : Type 0} (seen : D → Option (List ℕ)) (faults : D → ℕ) (sta
       )
 
   -- memory ran out in it
-  broke_off : (call : Call) (asked : calls.Call) (result : Result Said StepFault) → IsFall result → call_seen call ≡ Some asked → IsAt seen faults start outcomes [] old
+  broke_off : (call : Call) (asked : calls.Call) (result : Result Said StepFault) → IsFall result → call_seen call ≡ Some asked → WorldIsAt seen faults start outcomes [] old
       → IsStep seen faults result (Begin 1 call) old new → IsSince seen faults start (outcomes ++ Fell k asked ∷ []) new
   broke_off call asked result fall e at step = record {
     awaited = [];
@@ -147,10 +147,10 @@ module _ {D : Type 0} (seen : D → Option (List ℕ)) (faults : D → ℕ) (sta
   }
 
   -- nothing was done
-  refused : (call : Call) (asked : calls.Call) (result : Result Said StepFault) → IsRefusal result → call_seen call ≡ Some asked → IsAt seen faults start outcomes [] old
+  refused : (call : Call) (asked : calls.Call) (result : Result Said StepFault) → IsRefusal result → call_seen call ≡ Some asked → WorldIsAt seen faults start outcomes [] old
       → IsStep seen faults result (Begin 1 call) old new → (IsTrue (is_up new) → faults (disk_of new) ≡ faults (disk_of old)) → IsSince seen faults start (outcomes ++ Refused k asked ∷ []) new
   refused call asked result refusal e at step quiet =
-      let same = refused_alike seen (plan_of old) [] true [] [] (counted old) new faults result call refusal step.did in
+      let same = refused_alike seen (plan_of old) [] true [] [] (with_step_counted old) new faults result call refusal step.did in
       record {
         awaited = [];
         made = makes_more seen faults outcomes (Refused k asked) [] [] [] start old new at.made (call, result, e, refusal, step, refl);
@@ -160,7 +160,7 @@ module _ {D : Type 0} (seen : D → Option (List ℕ)) (faults : D → ℕ) (sta
       }
 
   -- whatever came of it
-  pub call_made : (call : Call) (asked : calls.Call) (result : Result Said StepFault) → call_seen call ≡ Some asked → is_up old ≡ true → IsAt seen faults start outcomes [] old
+  pub call_made : (call : Call) (asked : calls.Call) (result : Result Said StepFault) → call_seen call ≡ Some asked → is_up old ≡ true → WorldIsAt seen faults start outcomes [] old
       → IsStep seen faults result (Begin 1 call) old new → (IsTrue (is_up new) → faults (disk_of new) ≡ faults (disk_of old)) → Made asked result
   call_made call asked (Ok (Begun ticket stirs)) e up at step quiet = call_began call asked ticket stirs e up at step quiet
   call_made call asked (Ok Noted) e up at step quiet = never_noted call e step.did.2
@@ -190,10 +190,10 @@ module _ {D : Type 0} (seen : D → Option (List ℕ)) (faults : D → ℕ) (sta
 
   -- a call that was asked for
   pub call_asked : (asked : calls.Call) (number : ℕ) (result : Result Said StepFault) → (plan_of old).nodes ≡ 1
-      → IsAt seen faults start outcomes (record { number = number; session = k; call = asked } ∷ []) old → IsStep seen faults result (Ask (nth_ticket number)) old new
+      → WorldIsAt seen faults start outcomes (record { number = number; session = k; call = asked } ∷ []) old → IsStep seen faults result (Ask (nth_ticket number)) old new
       → (IsTrue (is_up new) → faults (disk_of new) ≡ faults (disk_of old)) → Answered asked number result
   call_asked asked number result one at step quiet =
-      by result step (asked_for seen faults asked number result (counted old) new at.stands.1.0 one at.stands.0 at.stands.1.1 at.stands.1.2 step.did)
+      by result step (asked_for seen faults asked number result (with_step_counted old) new at.stands.1.0 one at.stands.0 at.stands.1.1 at.stands.1.2 step.did)
     where
       by : (result : Result Said StepFault) → IsStep seen faults result (Ask (nth_ticket number)) old new → AtOnce result asked new → Answered asked number result
       by (Ok (Begun ticket stirs)) step once = absurd once
@@ -223,10 +223,10 @@ module _ {D : Type 0} (seen : D → Option (List ℕ)) (faults : D → ℕ) (sta
       }
 
   -- a leave
-  pub user_left : (call : Call) (user : List ℕ) (result : Result Said StepFault) → IsLeave user call → IsAt seen faults start outcomes [] old → IsStep seen faults result (Begin 1 call) old new
-      → (IsTrue (is_up new) → faults (disk_of new) ≡ faults (disk_of old)) → IsAt seen faults start (outcomes ++ Left k user ∷ []) [] new
+  pub user_left : (call : Call) (user : List ℕ) (result : Result Said StepFault) → IsLeave user call → WorldIsAt seen faults start outcomes [] old → IsStep seen faults result (Begin 1 call) old new
+      → (IsTrue (is_up new) → faults (disk_of new) ≡ faults (disk_of old)) → WorldIsAt seen faults start (outcomes ++ Left k user ∷ []) [] new
   user_left call user result leave at step quiet =
-      let same = left_alike seen (plan_of old) [] true [] [] (counted old) new faults result user call leave step.did in
+      let same = left_alike seen (plan_of old) [] true [] [] (with_step_counted old) new faults result user call leave step.did in
       record {
         made = makes_more seen faults outcomes (Left k user) [] [] [] start old new at.made (call, result, leave, step, refl);
         stands = same.standing ∙ at.stands;
@@ -234,5 +234,5 @@ module _ {D : Type 0} (seen : D → Option (List ℕ)) (faults : D → ℕ) (sta
         sound = (keeps_at at result call step).0;
         told = step.told ∙ at.told;
         later = (keeps_at at result call step).1;
-        cause = λ down. ⊎_elim (λ (rose : Rose (faults (disk_of start)) (faults (disk_of old))). inl (risen_later rose (begin_keeps seen faults (counted old) new result call step.did).1)) (λ untold. inr untold) (at.cause (sym same.up ∙ down));
+        cause = λ down. ⊎_elim (λ (rose : Rose (faults (disk_of start)) (faults (disk_of old))). inl (risen_later rose (begin_keeps seen faults (with_step_counted old) new result call step.did).1)) (λ untold. inr untold) (at.cause (sym same.up ∙ down));
       }

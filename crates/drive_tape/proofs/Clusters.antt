@@ -13,7 +13,7 @@ use Rattle.session_model.specs.Talk.Standing.{EndedByQuit}
 use Rattle.session_model.specs.Sessions.{Session, session_at, exchanges_of}
 use Rattle.session_model.specs.Acts.{Act}
 use Rattle.session_model.specs.Acts.Act.{Opens, Does, Faults, StillWaits, Leaves}
-use Rattle.session_model.specs.Turns.{Turn, IsReady, IsAtRest, Next, to_leave}
+use Rattle.session_model.specs.Turns.{Turn, IsReadyToAsk, IsAtRest, Next, to_leave}
 use Rattle.session_model.specs.Turns.Turn.{Hearing, Beginning, Falling, Asking}
 use Rattle.session_model.specs.Run.{Stop, failed_by, failed_in}
 use Rattle.session_model.specs.Run.Stop.{SinkFailed, OutOfMemory}
@@ -35,9 +35,9 @@ use Rattle.drive_tape.specs.Stops.{of_write}
 use Rattle.cluster_world.specs.Outcomes.{IsLeave}
 use Rattle.drive_tape.specs.Leaving.{IsLeaveOf}
 use Rattle.drive_tape.specs.Moving.{has_ended}
-use Rattle.drive_tape.specs.Worlds.{IsAt, IsSince}
-use Rattle.drive_tape.specs.Points.{IsUp, HasCauses, Point, Work, Cut, OneAct, AreLinked, Shows, Stopped, WentOn, Goes, IsStop, MayLack}
-use Rattle.drive_tape.specs.Clusters.{HearsAt, RestsAt, MovedTo, IsAfter, IsSaying, EndsAt}
+use Rattle.drive_tape.specs.Worlds.{WorldIsAt, IsSince}
+use Rattle.drive_tape.specs.Points.{IsUpUnlessFailed, HasCauses, Point, Work, Cut, OneAct, AreLinked, IsAtPoint, Stopped, WentOn, WorkGoes, IsStop, MayLack}
+use Rattle.drive_tape.specs.Clusters.{HearsAt, RestsAt, MovedTo, IsAfter, IsSaying, SessionEndsAt}
 use Rattle.drive_tape.proofs.Talks.{at_place}
 use Rattle.drive_tape.proofs.Works.{work_none, work_act, work_more, work_cut, cut_act, cut_none}
 
@@ -58,9 +58,9 @@ module _ (p : Point) (place onward : ℕ) (plain : Session) (turn : p.turn ≡ H
   leaves = ap to_leave at_k ∙ leaves_as
 
   -- one that has ended, and was not let in, has nothing to do
-  pub ready_ended : entered_as (exchanges_of plain) ≡ None → IsReady p.turn p.sessions onward
+  pub ready_ended : entered_as (exchanges_of plain) ≡ None → IsReadyToAsk p.turn p.sessions onward
   ready_ended none =
-      subst (λ (t : Turn). IsReady t p.sessions onward) (sym turn)
+      subst (λ (t : Turn). IsReadyToAsk t p.sessions onward) (sym turn)
       (refl, subst IsAtRest (sym at_k) idle, leaves ∙ none)
 
   -- one that was let in leaves
@@ -76,7 +76,7 @@ abbrev pub left_point : Point → ℕ → ℕ → List ℕ → Point
 left_point p place onward user = record p { turn = Asking onward; outcomes = p.outcomes ++ Left (place + 1) user ∷ [] }
 
 module _ {D : Type 0} (seen : D → Option (List ℕ)) (faults : D → ℕ) (start : World D) (plan : Plan) (p : Point) (place onward : ℕ) (cluster new : Cluster D) where
-  pub stays_ended : Shows seen faults start cluster p → EndsAt place onward None p → WentOn seen faults start plan p (RestsAt place onward) p.held cluster
+  pub stays_ended : IsAtPoint seen faults start cluster p → SessionEndsAt place onward None p → WentOn seen faults start plan p (RestsAt place onward) p.held cluster
   stays_ended shows ends = record {
     q = p;
     work = work_none plan p;
@@ -85,8 +85,8 @@ module _ {D : Type 0} (seen : D → Option (List ℕ)) (faults : D → ℕ) (sta
     so_is = record { ready = ready_ended p place onward ends.plain ends.turn ends.here ends.idle ends.leaves_as (no_leave _ ends.leaves); alone = inl ends.quiet };
   }
 
-  pub has_left : (call : Call) → Shows seen faults start cluster p → (ends : EndsAt place onward (Some call) p) → new.sessions ≡ cluster.sessions → is_up new.world ≡ is_up cluster.world
-      → ((user : List ℕ) → IsLeave user call → IsAt seen faults start p.outcomes [] cluster.world → IsAt seen faults start (p.outcomes ++ Left (place + 1) user ∷ []) [] new.world)
+  pub has_left : (call : Call) → IsAtPoint seen faults start cluster p → (ends : SessionEndsAt place onward (Some call) p) → new.sessions ≡ cluster.sessions → is_up new.world ≡ is_up cluster.world
+      → ((user : List ℕ) → IsLeave user call → WorldIsAt seen faults start p.outcomes [] cluster.world → WorldIsAt seen faults start (p.outcomes ++ Left (place + 1) user ∷ []) [] new.world)
       → WentOn seen faults start plan p (RestsAt place onward) p.held new
   has_left call shows ends same up left =
       let l = a_leave call _ ends.leaves in
@@ -97,8 +97,8 @@ module _ {D : Type 0} (seen : D → Option (List ℕ)) (faults : D → ℕ) (sta
             refl (sym (append-nil p.down)) (appends_none p.held);
         held_is = refl;
         shows = record {
-          at = subst (λ (a : List Awaited). IsAt seen faults start q.outcomes a new.world) (sym ends.quiet)
-              (left l.0 l.2 (subst (λ (a : List Awaited). IsAt seen faults start p.outcomes a cluster.world) ends.quiet shows.at));
+          at = subst (λ (a : List Awaited). WorldIsAt seen faults start q.outcomes a new.world) (sym ends.quiet)
+              (left l.0 l.2 (subst (λ (a : List Awaited). WorldIsAt seen faults start p.outcomes a cluster.world) ends.quiet shows.at));
           talks = rw same shows.talks;
           tickets = rw same shows.tickets;
           count = rw same shows.count;
@@ -108,12 +108,12 @@ module _ {D : Type 0} (seen : D → Option (List ℕ)) (faults : D → ℕ) (sta
       }
 
 -- what a point tells of the causes
-pub since_at : {D : Type 0} (seen : D → Option (List ℕ)) (faults : D → ℕ) (start : World D) (outcomes : List Outcome) (awaited : List Awaited) (world : World D) → IsAt seen faults start outcomes awaited world
+pub since_at : {D : Type 0} (seen : D → Option (List ℕ)) (faults : D → ℕ) (start : World D) (outcomes : List Outcome) (awaited : List Awaited) (world : World D) → WorldIsAt seen faults start outcomes awaited world
     → IsSince seen faults start outcomes world
 since_at seen faults start outcomes awaited world at = record { awaited = awaited; made = at.made; told = at.told; later = at.later; quiet = at.quiet }
 
 pub causes_at : {D : Type 0} (seen : D → Option (List ℕ)) (faults : D → ℕ) (start : World D) (outcomes : List Outcome) (awaited : List Awaited) (world : World D) (down : List ℕ) (sessions : List Session)
-    → IsAt seen faults start outcomes awaited world → IsUp (is_up world) down sessions → HasCauses seen faults start down world
+    → WorldIsAt seen faults start outcomes awaited world → IsUpUnlessFailed (is_up world) down sessions → HasCauses seen faults start down world
 causes_at seen faults start outcomes awaited world down sessions at (inl up) = inl up.1
 causes_at seen faults start outcomes awaited world down sessions at (inr fell) = inr (at.cause fell.0)
 
@@ -121,8 +121,8 @@ pub causes_more : {D : Type 0} (seen : D → Option (List ℕ)) (faults : D → 
 causes_more seen faults start down more world none cause = rw (none, append-nil down) cause
 
 module _ {D : Type 0} (seen : D → Option (List ℕ)) (faults : D → ℕ) (start : World D) (plan : Plan) (p : Point) (place onward : ℕ) (cluster : Cluster D) (last : World D) where
-  pub stops_leaving : (call : Call) → Shows seen faults start cluster p → (ends : EndsAt place onward (Some call) p)
-      → ((user : List ℕ) → IsLeave user call → IsAt seen faults start p.outcomes [] cluster.world → IsAt seen faults start (p.outcomes ++ Left (place + 1) user ∷ []) [] last)
+  pub stops_leaving : (call : Call) → IsAtPoint seen faults start cluster p → (ends : SessionEndsAt place onward (Some call) p)
+      → ((user : List ℕ) → IsLeave user call → WorldIsAt seen faults start p.outcomes [] cluster.world → WorldIsAt seen faults start (p.outcomes ++ Left (place + 1) user ∷ []) [] last)
       → Stopped seen faults start plan p why.NoMemory p.held last
   unfolding cut_act
   stops_leaving call shows ends left =
@@ -134,7 +134,7 @@ module _ {D : Type 0} (seen : D → Option (List ℕ)) (faults : D → ℕ) (sta
         cut = cut_act plan p (Leaves (place + 1) l.0) [] (Left (place + 1) l.0 ∷ []) (Asking onward) p.sessions OutOfMemory p.held [] [] []
             (leaves_one p place onward ends.plain ends.turn ends.here ends.idle ends.leaves_as plan l.0 l.1) refl (inl refl) (inl refl) (appends_none p.held);
         cause = inl (append-nil p.down ∙ ends.down);
-        since = since_at seen faults start _ _ last (left l.0 l.2 (subst (λ (a : List Awaited). IsAt seen faults start p.outcomes a cluster.world) ends.quiet shows.at));
+        since = since_at seen faults start _ _ last (left l.0 l.2 (subst (λ (a : List Awaited). WorldIsAt seen faults start p.outcomes a cluster.world) ends.quiet shows.at));
       }
 
 -- writing stopped in what an act writes
@@ -170,14 +170,14 @@ module _ {D : Type 0} (seen : D → Option (List ℕ)) (faults : D → ℕ) (sta
   pub said_work : Appends p.held held (written_of (said_lines (place + 1) saying.said ++ (if has_ended after then closed_event (place + 1) ∷ [] else []))) → Work plan p (held_point q held)
   said_work gave = work_act plan p (held_point q held) saying.act _ saying.outcomes saying.one saying.came saying.failed gave
 
-  pub said_shows : Shows seen faults start cluster (held_point q held)
+  pub said_shows : IsAtPoint seen faults start cluster (held_point q held)
   said_shows = record { at = saying.shows.at; talks = saying.shows.talks; tickets = saying.shows.tickets; count = saying.shows.count; up = saying.shows.up }
 
   pub stops_saying : (reason : WriteStop) → WritesEntries {E = WriteStop} p.held held (Err reason) (said_lines (place + 1) saying.said ++ (if has_ended after then closed_event (place + 1) ∷ [] else []))
       → Stopped seen faults start plan p (of_write reason) held cluster.world
   stops_saying reason wrote =
       stopped_writing seen faults start plan p saying.act _ saying.outcomes q.turn q.sessions held reason cluster.world saying.one wrote
-      (since_at seen faults start _ _ cluster.world (subst (λ (o : List Outcome). IsAt seen faults start o q.awaited cluster.world) saying.came saying.shows.at))
+      (since_at seen faults start _ _ cluster.world (subst (λ (o : List Outcome). WorldIsAt seen faults start o q.awaited cluster.world) saying.came saying.shows.at))
       (subst (λ (d : List ℕ). HasCauses seen faults start d cluster.world) saying.failed (causes_at seen faults start q.outcomes q.awaited cluster.world q.down q.sessions saying.shows.at saying.shows.up))
 
 module _ {D : Type 0} (seen : D → Option (List ℕ)) (faults : D → ℕ) (start : World D) (plan : Plan) (p q : Point) (place onward : ℕ) (out : List ℕ) (cluster : Cluster D) (held : Option (List ℕ)) where
@@ -193,7 +193,7 @@ module _ {D : Type 0} (seen : D → Option (List ℕ)) (faults : D → ℕ) (sta
   }
 
   -- it has ended
-  pub said_ends : (leave : Option Call) (saying : IsSaying seen faults start plan p q place onward (Ends leave) out cluster) → EndsAt place onward leave (held_point q held)
+  pub said_ends : (leave : Option Call) (saying : IsSaying seen faults start plan p q place onward (Ends leave) out cluster) → SessionEndsAt place onward leave (held_point q held)
   said_ends leave saying = record { turn = saying.turn; quiet = saying.quiet; plain = saying.plain; here = saying.here; idle = rw saying.is_after.0 tt; leaves_as = ap (leave_of (exchanges_of saying.plain)) saying.is_after.0; leaves = saying.is_after.1; down = saying.down }
 
 -- the work went on, and then on
@@ -243,5 +243,5 @@ pub went_plan : {D : Type 0} (seen : D → Option (List ℕ)) (faults : D → �
 went_plan seen faults start plan other p so held cluster is went = subst (λ (pl : Plan). WentOn seen faults start pl p so held cluster) is went
 
 pub goes_plan : {D T : Type 0} (seen : D → Option (List ℕ)) (faults : D → ℕ) (start : World D) (plan other : Plan) (p : Point) (so : Point → Type 0) (result : Result T Why) (held : Option (List ℕ)) (cluster : Cluster D)
-    → plan ≡ other → Goes seen faults start plan p so result held cluster → Goes seen faults start other p so result held cluster
-goes_plan seen faults start plan other p so result held cluster is went = subst (λ (pl : Plan). Goes seen faults start pl p so result held cluster) is went
+    → plan ≡ other → WorkGoes seen faults start plan p so result held cluster → WorkGoes seen faults start other p so result held cluster
+goes_plan seen faults start plan other p so result held cluster is went = subst (λ (pl : Plan). WorkGoes seen faults start pl p so result held cluster) is went

@@ -22,8 +22,8 @@ use Rattle.session_model.specs.Turns.Turn.{Asking}
 use Rattle.session_model.specs.Run.{Made, Stop, IsDriven, IsHandled, AreHandled, IsLeftOff, made_by, failed_by, failed_in, refusal}
 use Rattle.session_model.specs.Run.Stop.{BehindLine, SinkFailed, OutOfMemory}
 use Rattle.session_model.proofs.Written.{driven_writes_lines}
-use Rattle.cluster_world.specs.Outcomes.{Outcome, Makes, made_of, asked_in, answered_in}
-use Rattle.cluster_world.specs.World.{Begins, plan_of, disk_of, is_up}
+use Rattle.cluster_world.specs.Outcomes.{Outcome, Makes, made_of, asked_by_outcome, answered_by_outcome}
+use Rattle.cluster_world.specs.World.{IsAtBeginning, plan_of, disk_of, is_up}
 use Rattle.cluster_world.specs.declared.world.World.{World}
 use Rattle.drive_tape.specs.declared.cluster.Cluster.{Cluster}
 use Rattle.drive_tape.specs.declared.drove.Drove.{Drove}
@@ -34,15 +34,15 @@ use Rattle.drive_tape.specs.declared.drove.Stop.TheVariants as why
 use Rattle.drive_tape.specs.declared.reader.LineStop.{LineStop}
 use Rattle.drive_tape.specs.declared.reader.LineStop.TheVariants as line
 use Rattle.drive_tape.specs.Drive.{IsOrder, IsNoOrder, StopsAt, Stops, NamesLine, MayLackOne, Drives, stop_of}
-use Rattle.drive_tape.specs.Faults.{fault_of}
+use Rattle.drive_tape.specs.Faults.{tape_fault_seen}
 use Rattle.drive_tape.specs.Lines.{IsWhy, LineWent, LineStopped}
-use Rattle.drive_tape.specs.Parts.{IsCut, IsPart}
-use Rattle.drive_tape.specs.Points.{Point, AreLinked, Shows, IsUp, AllEnded, HasCauses}
-use Rattle.drive_tape.specs.Reads.{Reads}
+use Rattle.drive_tape.specs.Parts.{IsCutEntry, IsPart}
+use Rattle.drive_tape.specs.Points.{Point, AreLinked, IsAtPoint, IsUpUnlessFailed, AllEnded, HasCauses}
+use Rattle.drive_tape.specs.Reads.{ReadsLine}
 use Rattle.drive_tape.specs.Runs.{Progress, Turned, TurnStopped}
 use Rattle.drive_tape.specs.Stops.{of_line}
 use Rattle.drive_tape.specs.Talks.{Converse, NoTickets}
-use Rattle.drive_tape.specs.Worlds.{IsAt, IsSince}
+use Rattle.drive_tape.specs.Worlds.{WorldIsAt, IsSince}
 use Rattle.drive_tape.proofs.Kept.{kept_in}
 use Rattle.drive_tape.proofs.Works.{linked_more}
 
@@ -60,7 +60,7 @@ is_true b so = so
 
 -- ---- before the first line
 
-at_start : {D : Type 0} (seen : D → Option (List ℕ)) (faults : D → ℕ) (world : World D) → Begins seen (plan_of world) world → IsAt seen faults world [] [] world
+at_start : {D : Type 0} (seen : D → Option (List ℕ)) (faults : D → ℕ) (world : World D) → IsAtBeginning seen (plan_of world) world → WorldIsAt seen faults world [] [] world
 at_start seen faults world begins = record {
   made = (refl, refl);
   stands = begins.standing;
@@ -72,7 +72,7 @@ at_start seen faults world begins = record {
 }
 
 pub progress_start : {D : Type 0} (seen : D → Option (List ℕ)) (faults : D → ℕ) (world : World D) (left held : Option (List ℕ)) (cluster : Cluster D)
-    → Begins seen (plan_of world) world → cluster.world ≡ world → cluster.sessions.talkers.items ≡ [] → cluster.sessions.tickets.items ≡ [] → cluster.sessions.standing ≡ 0
+    → IsAtBeginning seen (plan_of world) world → cluster.world ≡ world → cluster.sessions.talkers.items ≡ [] → cluster.sessions.tickets.items ≡ [] → cluster.sessions.standing ≡ 0
     → Progress seen faults world left left held held cluster 0 (2 ^ 40)
 progress_start seen faults world left held cluster begins is talkers tickets standing = record {
   handled = [];
@@ -90,7 +90,7 @@ progress_start seen faults world left held cluster begins is talkers tickets sta
   held_is = refl;
   quiet = refl;
   shows = record {
-    at = subst (IsAt seen faults world [] []) (sym is) (at_start seen faults world begins);
+    at = subst (WorldIsAt seen faults world [] []) (sym is) (at_start seen faults world begins);
     talks = subst (λ ts. Converse ts []) (sym talkers) tt;
     tickets = subst (λ ts. NoTickets ts []) (sym tickets) tt;
     count = standing;
@@ -174,7 +174,7 @@ pub record Halt {D : Type 0} (seen : D → Option (List ℕ)) (faults : D → �
   pub missing : List Entry
   pub all : (missing ≡ []) ⊎ ((more : List Made) × IsLeftOff plan p.down OutOfMemory p.sessions midst behind (tail ++ missing) more sessions)
   pub cut : List ℕ
-  pub is_cut : IsCut missing cut
+  pub is_cut : IsCutEntry missing cut
   pub whole : stop ≡ BehindLine → cut ≡ []
   pub gave : Appends p.held held (written_of tail ++ cut)
 
@@ -184,7 +184,7 @@ may_lack_none SinkFailed = refl
 may_lack_none OutOfMemory = inl refl
 
 -- a cluster at a point has the causes of its faults
-point_causes : {D : Type 0} (seen : D → Option (List ℕ)) (faults : D → ℕ) (start : World D) (cluster : Cluster D) (p : Point) → Shows seen faults start cluster p → HasCauses seen faults start p.down cluster.world
+point_causes : {D : Type 0} (seen : D → Option (List ℕ)) (faults : D → ℕ) (start : World D) (cluster : Cluster D) (p : Point) → IsAtPoint seen faults start cluster p → HasCauses seen faults start p.down cluster.world
 point_causes seen faults start cluster p shows = ⊎_elim
     (λ (up : (is_up cluster.world ≡ true) × (p.down ≡ [])). inl up.1)
     (λ (down : (is_up cluster.world ≡ false) × (p.down ≡ 1 ∷ []) × AllEnded p.sessions). inr (shows.at.cause down.0))
@@ -192,7 +192,7 @@ point_causes seen faults start cluster p shows = ⊎_elim
 
 -- nothing was done
 pub halt_none : {D : Type 0} (seen : D → Option (List ℕ)) (faults : D → ℕ) (start : World D) (plan : Plan) (p : Point) (held : Option (List ℕ)) (cluster : Cluster D) (stop : Stop)
-    → Shows seen faults start cluster p → p.held ≡ held → stop ≢ SinkFailed → Halt seen faults start plan p held cluster.world stop [] p.sessions
+    → IsAtPoint seen faults start cluster p → p.held ≡ held → stop ≢ SinkFailed → Halt seen faults start plan p held cluster.world stop [] p.sessions
 halt_none seen faults start plan p held cluster stop shows same other = record {
   behind = [];
   tail = [];
@@ -251,7 +251,7 @@ missing_lines : (front missing : List Entry) → All HasNoLf (map entry_line (fr
 missing_lines [] missing all = all
 missing_lines (entry ∷ front) missing all = missing_lines front missing (All-tail HasNoLf (entry_line entry) (map entry_line (front ++ missing)) all)
 
-cut_line : (missing : List Entry) (cut : List ℕ) → IsCut missing cut → All HasNoLf (map entry_line missing) → HasNoLf cut
+cut_line : (missing : List Entry) (cut : List ℕ) → IsCutEntry missing cut → All HasNoLf (map entry_line missing) → HasNoLf cut
 cut_line missing cut part all = ⊎_elim (λ (none : cut ≡ []). subst HasNoLf (sym none) (All-nil _))
     (λ (some : IsPart missing cut). front_of_line (entry_line some.entry) cut some.rest
     (All-head HasNoLf (entry_line some.entry) (map entry_line some.more) (subst (λ (es : List Entry). All HasNoLf (map entry_line es)) some.are all)) some.some some.whole)
@@ -259,7 +259,7 @@ cut_line missing cut part all = ⊎_elim (λ (none : cut ≡ []). subst HasNoLf 
 
 module _ {D : Type 0} (seen : D → Option (List ℕ)) (faults : D → ℕ) (start : World D) (left0 left1 left2 held0 held1 held2 : Option (List ℕ)) (old : Cluster D) (count room1 room2 from : ℕ) (world : World D) (answer : Drove)
     (p : Progress seen faults start left0 left1 held0 held1 old count room1) (names : NamesLine answer (from + count + 1))
-    (one : (plan_of start).nodes ≡ 1) (begins : Begins seen (plan_of start) start) where
+    (one : (plan_of start).nodes ≡ 1) (begins : IsAtBeginning seen (plan_of start) start) where
   module _ (stop : Stop) (midst : List (List ℕ)) (sessions : List Session) (h : Halt seen faults start (plan_of start) p.point held2 world stop midst sessions)
       (taken others : List ℕ) (took : Consumes left1 left2 taken) (size : room2 + length taken ≡ room1) (parts : taken ≡ flat_map ended midst ++ others) (each : All HasNoLf midst)
       (stops : Stops (stop_of answer) stop (plan_of start) p.point.down sessions midst left2 others room2) where
@@ -339,7 +339,7 @@ module _ {D : Type 0} (seen : D → Option (List ℕ)) (faults : D → ℕ) (sta
 
 -- a line that is not handled: `end`, one that is no order, or one for whose order memory ran out
 pub not_handled : {D : Type 0} (seen : D → Option (List ℕ)) (faults : D → ℕ) (start : World D) (plan : Plan) (p : Point) (line : List ℕ) (reason : Why) (held : Option (List ℕ)) (cluster : Cluster D) (stop : Stop)
-    → Shows seen faults start cluster p → p.held ≡ held → stop ≢ SinkFailed → IsWhy reason plan p line stop [] → LineStopped seen faults start plan p line reason held cluster.world
+    → IsAtPoint seen faults start cluster p → p.held ≡ held → stop ≢ SinkFailed → IsWhy reason plan p line stop [] → LineStopped seen faults start plan p line reason held cluster.world
 not_handled seen faults start plan p line reason held cluster stop shows same other is =
     let h = halt_none seen faults start plan p held cluster stop shows same other in
     record {
@@ -383,7 +383,7 @@ pub memory_not_sink : OutOfMemory ≢ SinkFailed
 memory_not_sink is = absurd (let never : OutOfMemory ≡ SinkFailed = is in cc)
 
 -- why no line was read
-no_line_why : (why : LineStop) (plan : Plan) (down : List ℕ) (sessions : List Session) (left : Option (List ℕ)) (taken : List ℕ) (room : ℕ) → Reads (Err why) left taken room
+no_line_why : (why : LineStop) (plan : Plan) (down : List ℕ) (sessions : List Session) (left : Option (List ℕ)) (taken : List ℕ) (room : ℕ) → ReadsLine (Err why) left taken room
     → (stop : Stop) × (stop ≢ SinkFailed) × Stops (of_line why) stop plan down sessions [] left taken room
 no_line_why line.ReadFault plan down sessions left taken room reads = (BehindLine, behind_not_sink, (refl, refl, reads))
 no_line_why line.EndedEarly plan down sessions left taken room reads = (BehindLine, behind_not_sink, (refl, refl, inl (refl, reads.0, reads.1)))
@@ -410,11 +410,11 @@ line_why (why.Bad fault) plan p line stop midst sessions left room one same at i
     is.1,
     ⊎_elim
         (λ (none : (fault ≡ BadLine) × (tape_order line ≡ None)). inr (inr (inl (none.0, record { line = line; whole = refl; one = one; spelled = none.1 }))))
-        (λ (some : (order : Order) × (tape_order line ≡ Some order) × (refusal plan p.down p.sessions order ≡ Some (fault_of fault))).
+        (λ (some : (order : Order) × (tape_order line ≡ Some order) × (refusal plan p.down p.sessions order ≡ Some (tape_fault_seen fault))).
         inr (inr (inr (inr (
           some.0,
           record { line = line; whole = refl; one = one; spelled = some.1 },
-          subst (λ (ss : List Session). refusal plan p.down ss some.0 ≡ Some (fault_of fault)) (sym (same is.1)) some.2,
+          subst (λ (ss : List Session). refusal plan p.down ss some.0 ≡ Some (tape_fault_seen fault)) (sym (same is.1)) some.2,
         )))))
         is.2,
   ),
@@ -431,9 +431,9 @@ line_why why.ReadFault plan p line stop midst sessions left room one same at is 
 pub stops : {D T : Type 0} (seen : D → Option (List ℕ)) (faults : D → ℕ) (start : World D) (left0 left1 left2 held0 held1 held2 : Option (List ℕ)) (old new : Cluster D) (count room1 room2 from : ℕ) (reason : Why) (answer : Drove)
     (p : Progress seen faults start left0 left1 held0 held1 old count room1)
     → (plan : Plan) → plan ≡ plan_of start → Turned {T = T} seen faults start plan p.point (Err reason) left1 left2 room1 room2 held2 old new → stop_of answer ≡ reason → NamesLine answer (from + count + 1)
-    → (plan_of start).nodes ≡ 1 → Begins seen (plan_of start) start → Drives seen faults start left0 left2 held0 held2 answer from new.world
+    → (plan_of start).nodes ≡ 1 → IsAtBeginning seen (plan_of start) start → Drives seen faults start left0 left2 held0 held2 answer from new.world
 stops {D} {T} seen faults start left0 left1 left2 held0 held1 held2 old new count room1 room2 from reason answer p plan same turned is names one begins = ⊎_elim
-    (λ (none : (why : LineStop) × (reason ≡ of_line why) × Reads (Err why) left2 t.taken room2 × (p.point.held ≡ held2) × (new ≡ old)).
+    (λ (none : (why : LineStop) × (reason ≡ of_line why) × ReadsLine (Err why) left2 t.taken room2 × (p.point.held ≡ held2) × (new ≡ old)).
     let because = no_line_why none.0 (plan_of start) p.point.down p.point.sessions left2 t.taken room2 none.2 in
     subst (λ (cluster : Cluster _). Drives seen faults start left0 left2 held0 held2 answer from cluster.world) (sym none.4)
     (drives_of seen faults start left0 left1 left2 held0 held1 held2 old count room1 room2 from old.world answer p names one begins because.0 [] p.point.sessions

@@ -13,7 +13,7 @@ use Rattle.session_model.specs.Sessions.{Session, session_at}
 use Rattle.session_model.specs.Acts.{Act, Acted, Did, closing, fault_event}
 use Rattle.session_model.specs.Acts.Act.{Opens, Does, Faults, StillWaits, Leaves}
 use Rattle.session_model.specs.Acts.Deed.{Falls}
-use Rattle.session_model.specs.Turns.{Turn, IsReady, IsNone, IsFirst, IsAtNode, StandsAt, Next}
+use Rattle.session_model.specs.Turns.{Turn, IsReadyToAsk, IsNone, IsFirst, IsAtNode, StandsAt, Next}
 use Rattle.session_model.specs.Turns.Turn.{Hearing, Beginning, Falling, Asking}
 use Rattle.session_model.specs.Run.{count_on}
 use Rattle.session_model.specs.Run.Stop.{OutOfMemory}
@@ -29,8 +29,8 @@ use Rattle.drive_tape.specs.declared.drove.Stop.TheVariants as why
 use Rattle.drive_tape.specs.Entries.{WritesEntries}
 use Rattle.drive_tape.specs.Stops.{of_write}
 use Rattle.drive_tape.specs.Moving.{FellAt, StaysAt}
-use Rattle.drive_tape.specs.Worlds.{IsAt, IsSince}
-use Rattle.drive_tape.specs.Points.{HasCauses, Point, Work, Cut, OneAct, AreLinked, Shows, Stopped, WentOn, AllEnded}
+use Rattle.drive_tape.specs.Worlds.{WorldIsAt, IsSince}
+use Rattle.drive_tape.specs.Points.{HasCauses, Point, Work, Cut, OneAct, AreLinked, IsAtPoint, Stopped, WentOn, AllEnded}
 use Rattle.drive_tape.specs.Talks.{Converse, NoTickets, HaveTickets}
 use Rattle.drive_tape.specs.Clusters.{RestsAt, FallsAt, IsFalling}
 use Rattle.drive_tape.proofs.Talks.{at_place, count_less, on_not_ended, set_here, within_get, some_same, converse_length}
@@ -249,7 +249,7 @@ fallen_all seen faults start plan p q place at onward new held work is f all sam
       work = work;
       held_is = is;
       shows = record {
-        at = subst (λ (a : List Awaited). IsAt seen faults start q.outcomes a new.world) (sym f.quiet) f.at;
+        at = subst (λ (a : List Awaited). WorldIsAt seen faults start q.outcomes a new.world) (sym f.quiet) f.at;
         talks = f.talks;
         tickets = subst (λ (a : List Awaited). HaveTickets new.sessions.tickets.items q.sessions a) (sym f.quiet)
             (no_tickets new.sessions.tickets.items q.sessions (same ∙ length_is) fallen without);
@@ -257,7 +257,7 @@ fallen_all seen faults start plan p q place at onward new held work is f all sam
         up = inr (f.up, f.down, all_ended q.sessions fallen);
       };
       so_is = record {
-        ready = subst (λ (t : Turn). IsReady t q.sessions onward) (sym f.turn)
+        ready = subst (λ (t : Turn). IsReadyToAsk t q.sessions onward) (sym f.turn)
             (refl, λ j from stands. none_stands q.sessions j (λ i s within here. fallen i s here) j (omega arith) stands);
         alone = inl f.quiet;
       };

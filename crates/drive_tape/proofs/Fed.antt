@@ -14,7 +14,7 @@ use Rattle.mail_model.specs.Tape.{Order, tape_order}
 use Rattle.mail_model.specs.Tape.Order.{Open, Say, Feed, Close}
 use Rattle.mail_model.specs.Transcript.{Entry, written_of, said_lines}
 use Rattle.session_model.specs.Calls as calls
-use Rattle.session_model.specs.Talk.{State, Standing, IsOn, entered_as}
+use Rattle.session_model.specs.Talk.{TalkState, Standing, IsOn, entered_as}
 use Rattle.session_model.specs.Talk.Standing.{EndedClosed}
 use Rattle.session_model.specs.Sessions.{Session, session_at, exchanges_of}
 use Rattle.session_model.specs.Acts.{Acted, closing, greeting_of, opened_session}
@@ -33,14 +33,14 @@ use Rattle.drive_tape.specs.declared.cluster.Cluster.{Cluster}
 use Rattle.drive_tape.specs.declared.drove.Stop.TheVariants as why
 use Rattle.drive_tape.specs.declared.drove.TapeFault.{TapeFault}
 use Rattle.drive_tape.specs.declared.drove.TapeFault.TheVariants.{NoSuchSession}
-use Rattle.drive_tape.specs.Faults.{fault_of}
+use Rattle.drive_tape.specs.Faults.{tape_fault_seen}
 use Rattle.drive_tape.specs.Fed.{IsFeeding, IsFeedingAt}
 use Rattle.drive_tape.specs.Leaving.{IsLeaveOf}
 use Rattle.drive_tape.specs.Talks.{Converse, NoTickets, HaveTickets, IsFound}
-use Rattle.drive_tape.specs.Worlds.{IsAt, IsSince}
-use Rattle.drive_tape.specs.Points.{Point, Work, AreLinked, Shows, WentOn, Goes, Stopped, HasCauses, IsUp}
-use Rattle.drive_tape.specs.Clusters.{HearsAt, RestsAt, EndsAt, AsksFrom}
-use Rattle.drive_tape.specs.Lines.{IsSettled, IsStarted, LineDid, LineStopped, IsWhy}
+use Rattle.drive_tape.specs.Worlds.{WorldIsAt, IsSince}
+use Rattle.drive_tape.specs.Points.{Point, Work, AreLinked, IsAtPoint, WentOn, WorkGoes, Stopped, HasCauses, IsUpUnlessFailed}
+use Rattle.drive_tape.specs.Clusters.{HearsAt, RestsAt, SessionEndsAt, AsksFrom}
+use Rattle.drive_tape.specs.Lines.{NothingIsUnderWay, IsStarted, LineDid, LineStopped, IsWhy}
 use Rattle.drive_tape.proofs.Talks.{is_spoken_to, on_on, at_place, count_same, count_less, no_tickets_set, quiet_at, set_here, within_get, still_up}
 use Rattle.drive_tape.proofs.Moves.{acted_does}
 use Rattle.drive_tape.proofs.Clusters.{since_at, causes_at, causes_more, went_on, stopped_on, went_plan, stopped_plan}
@@ -84,23 +84,23 @@ module _ {D : Type 0} (seen : D → Option (List ℕ)) (faults : D → ℕ) (sta
   pub not_begun : LineStopped seen faults start plan p line why.NoMemory held world
   not_begun = stopped OutOfMemory why.NoMemory (λ is. cc) refl (inl refl)
 
-  pub refused : (order : Order) (fault : TapeFault) → tape_order line ≡ Some order → refusal plan p.down p.sessions order ≡ Some (fault_of fault) → LineStopped seen faults start plan p line (why.Bad fault) held world
+  pub refused : (order : Order) (fault : TapeFault) → tape_order line ≡ Some order → refusal plan p.down p.sessions order ≡ Some (tape_fault_seen fault) → LineStopped seen faults start plan p line (why.Bad fault) held world
   refused order fault spelled is = stopped BehindLine (why.Bad fault) (λ is. cc) (refl, refl, inr (order, spelled, is)) (inr refl)
 
 -- the world as it was
-pub since_shows : {D : Type 0} (seen : D → Option (List ℕ)) (faults : D → ℕ) (start : World D) (cluster : Cluster D) (p : Point) → Shows seen faults start cluster p → IsSince seen faults start p.outcomes cluster.world
+pub since_shows : {D : Type 0} (seen : D → Option (List ℕ)) (faults : D → ℕ) (start : World D) (cluster : Cluster D) (p : Point) → IsAtPoint seen faults start cluster p → IsSince seen faults start p.outcomes cluster.world
 since_shows seen faults start cluster p shows = since_at seen faults start p.outcomes p.awaited cluster.world shows.at
 
-pub causes_shows : {D : Type 0} (seen : D → Option (List ℕ)) (faults : D → ℕ) (start : World D) (cluster : Cluster D) (p : Point) → Shows seen faults start cluster p → HasCauses seen faults start p.down cluster.world
+pub causes_shows : {D : Type 0} (seen : D → Option (List ℕ)) (faults : D → ℕ) (start : World D) (cluster : Cluster D) (p : Point) → IsAtPoint seen faults start cluster p → HasCauses seen faults start p.down cluster.world
 causes_shows seen faults start cluster p shows = causes_at seen faults start p.outcomes p.awaited cluster.world p.down p.sessions shows.at shows.up
 
 -- no session of this number is spoken to
-pub no_session : (p : Point) (k : ℕ) → IsFound k None p.sessions → session_fault (session_at p.sessions k) ≡ Some (fault_of NoSuchSession)
+pub no_session : (p : Point) (k : ℕ) → IsFound k None p.sessions → session_fault (session_at p.sessions k) ≡ Some (tape_fault_seen NoSuchSession)
 no_session p k found = found
 
 -- the work went on from the first act
 pub goes_on : {D T : Type 0} (seen : D → Option (List ℕ)) (faults : D → ℕ) (start : World D) (plan other : Plan) (p q : Point) (so : Point → Type 0) (result : Result T why.the_data) (held : Option (List ℕ)) (cluster : Cluster D)
-    → other ≡ plan → Work plan p q → Goes seen faults start other q so result held cluster → Goes seen faults start plan p so result held cluster
+    → other ≡ plan → Work plan p q → WorkGoes seen faults start other q so result held cluster → WorkGoes seen faults start plan p so result held cluster
 goes_on seen faults start plan other p q so (Ok x) held cluster same work more = went_on seen faults start plan p q so held cluster work (went_plan seen faults start other plan q so held cluster same more)
 goes_on seen faults start plan other p q so (Err reason) held cluster same work more = stopped_on seen faults start plan p q reason held cluster.world work (stopped_plan seen faults start other plan q reason held cluster.world same more)
 
@@ -122,7 +122,7 @@ on_closing k octets Standing.EndedClosed on = absurd on
 
 -- a session is given octets
 module _ {D : Type 0} (seen : D → Option (List ℕ)) (faults : D → ℕ) (start : World D) (plan : Plan) (p : Point) (line : List ℕ) (place : ℕ) (octets : List ℕ) (old new : Cluster D)
-    (f : IsFeedingAt p line place octets) (shows : Shows seen faults start old p) (quiet : p.awaited ≡ []) (held : Option (List ℕ)) (same_held : p.held ≡ held) (world : new.world ≡ old.world)
+    (f : IsFeedingAt p line place octets) (shows : IsAtPoint seen faults start old p) (quiet : p.awaited ≡ []) (held : Option (List ℕ)) (same_held : p.held ≡ held) (world : new.world ≡ old.world)
     (tickets : new.sessions.tickets ≡ old.sessions.tickets) (count : new.sessions.standing ≡ old.sessions.standing) where
   abbrev pub fed : Session
   fed = record f.plain { octets = f.plain.octets ++ octets; rest = f.plain.rest ++ octets }
@@ -156,7 +156,7 @@ module _ {D : Type 0} (seen : D → Option (List ℕ)) (faults : D → ℕ) (sta
     gave = subst (λ (h : Option (List ℕ)). Appends p.held h []) same_held (appends_none p.held);
   }
 
-  pub fed_shows : Converse new.sessions.talkers.items (slice_set p.sessions place fed) → Shows seen faults start new fed_point
+  pub fed_shows : Converse new.sessions.talkers.items (slice_set p.sessions place fed) → IsAtPoint seen faults start new fed_point
   fed_shows talks = record {
     at = rw world shows.at;
     talks = talks;
@@ -171,7 +171,7 @@ module _ {D : Type 0} (seen : D → Option (List ℕ)) (faults : D → ℕ) (sta
 
 -- a session is closed
 module _ {D : Type 0} (seen : D → Option (List ℕ)) (faults : D → ℕ) (start : World D) (plan : Plan) (p : Point) (place : ℕ) (plain : Session) (call : Option Call) (old new : Cluster D)
-    (here : slice_get p.sessions place ≡ Some plain) (on : IsOn plain.standing) (shows : Shows seen faults start old p) (quiet : p.awaited ≡ []) (world : new.world ≡ old.world)
+    (here : slice_get p.sessions place ≡ Some plain) (on : IsOn plain.standing) (shows : IsAtPoint seen faults start old p) (quiet : p.awaited ≡ []) (world : new.world ≡ old.world)
     (tickets : new.sessions.tickets ≡ old.sessions.tickets) (count : new.sessions.standing ≡ old.sessions.standing - 1) where
   abbrev pub closed : Session
   closed = record plain { standing = EndedClosed }
@@ -199,7 +199,7 @@ module _ {D : Type 0} (seen : D → Option (List ℕ)) (faults : D → ℕ) (sta
     gave = appends_none p.held;
   }
 
-  pub closed_shows : Converse new.sessions.talkers.items (slice_set p.sessions place closed) → Shows seen faults start new closed_point
+  pub closed_shows : Converse new.sessions.talkers.items (slice_set p.sessions place closed) → IsAtPoint seen faults start new closed_point
   closed_shows talks = record {
     at = rw world shows.at;
     talks = talks;
@@ -209,7 +209,7 @@ module _ {D : Type 0} (seen : D → Option (List ℕ)) (faults : D → ℕ) (sta
     up = rw world (inl (still_up _ p.down p.sessions place plain shows.up here on));
   }
 
-  pub closed_ends : IsLeaveOf call (entered_as (exchanges_of plain)) → EndsAt place 1 call closed_point
+  pub closed_ends : IsLeaveOf call (entered_as (exchanges_of plain)) → SessionEndsAt place 1 call closed_point
   closed_ends leaves = record {
     turn = refl;
     quiet = quiet;
@@ -225,7 +225,7 @@ count_more : (sessions : List Session) (one : Session) → IsOn one.standing →
 count_more [] one on = let o : is_on one.standing ≡ true = on_on one.standing on in rw o refl
 count_more (s ∷ ss) one on = let more : count_on (ss ++ one ∷ []) ≡ count_on ss + 1 = count_more ss one on in omega (arith, more)
 
-tickets_more : (tickets : List (Option Ticket)) (sessions : List Session) (one : Session) → NoTickets tickets sessions → ((state : State) (call : calls.Call) → one.standing ≢ Standing.Waiting state call)
+tickets_more : (tickets : List (Option Ticket)) (sessions : List Session) (one : Session) → NoTickets tickets sessions → ((state : TalkState) (call : calls.Call) → one.standing ≢ Standing.Waiting state call)
     → NoTickets (tickets ++ None ∷ []) (sessions ++ one ∷ [])
 tickets_more [] [] one all quiet = (refl, quiet, tt)
 tickets_more [] (s ∷ ss) one all quiet = absurd all
@@ -234,7 +234,7 @@ tickets_more (t ∷ ts) (s ∷ ss) one all quiet = (all.0, all.1, tickets_more t
 
 -- a session is opened
 module _ {D : Type 0} (seen : D → Option (List ℕ)) (faults : D → ℕ) (start : World D) (plan : Plan) (p : Point) (protocol : tape.Protocol) (node : ℕ) (old new : Cluster D)
-    (accepted : refusal plan p.down p.sessions (Open protocol node) ≡ None) (only : node ≡ 1) (shows : Shows seen faults start old p) (quiet : p.awaited ≡ []) where
+    (accepted : refusal plan p.down p.sessions (Open protocol node) ≡ None) (only : node ≡ 1) (shows : IsAtPoint seen faults start old p) (quiet : p.awaited ≡ []) where
   abbrev greeting : List ℕ
   greeting = greeting_of protocol 1 1 (length p.sessions + 1) 0
 
@@ -264,7 +264,7 @@ module _ {D : Type 0} (seen : D → Option (List ℕ)) (faults : D → ℕ) (sta
   }
 
   pub opened_shows : (held : Option (List ℕ)) → is_up old.world ≡ true → new.world ≡ old.world → Converse new.sessions.talkers.items (p.sessions ++ opened_session protocol 1 ∷ [])
-      → new.sessions.tickets.items ≡ old.sessions.tickets.items ++ None ∷ [] → new.sessions.standing ≡ old.sessions.standing + 1 → Shows seen faults start new (opened_point held)
+      → new.sessions.tickets.items ≡ old.sessions.tickets.items ++ None ∷ [] → new.sessions.standing ≡ old.sessions.standing + 1 → IsAtPoint seen faults start new (opened_point held)
   opened_shows held up world talks tickets count = record {
     at = rw world shows.at;
     talks = talks;
@@ -274,7 +274,7 @@ module _ {D : Type 0} (seen : D → Option (List ℕ)) (faults : D → ℕ) (sta
     up = rw world (inl (is_still (is_up old.world) p.down p.sessions shows.up up));
   }
     where
-      is_still : (b : Bool) (down : List ℕ) (sessions : List Session) → IsUp b down sessions → b ≡ true → (b ≡ true) × (down ≡ [])
+      is_still : (b : Bool) (down : List ℕ) (sessions : List Session) → IsUpUnlessFailed b down sessions → b ≡ true → (b ≡ true) × (down ≡ [])
       is_still b down sessions (inl is) up = is
       is_still b down sessions (inr is) up = absurd (let no : true ≡ false = sym up ∙ is.0 in cc)
 

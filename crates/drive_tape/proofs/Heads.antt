@@ -15,7 +15,7 @@ use Rattle.drive_tape.specs.declared.reader.LineStop.TheVariants as line
 use Rattle.drive_tape.specs.declared.plan_head.PlanTurn.TheVariants.{Line, End}
 use Rattle.drive_tape.specs.declared.drove.Drove.{Drove}
 use Rattle.drive_tape.specs.declared.drove.Stop.{Stop}
-use Rattle.drive_tape.specs.Reads.{Reads}
+use Rattle.drive_tape.specs.Reads.{ReadsLine}
 use Rattle.drive_tape.specs.Stops.{of_line}
 use Rattle.drive_tape.specs.Drive.{stop_of, NamesLine}
 use Rattle.drive_tape.specs.Plans.{DraftsOn, DraftsTo, PlanStops, PlanTurned, PlanProgress, HeadDid, HeadEnds, ReadsHead}
@@ -28,7 +28,7 @@ pub lines_last : (lines : List (List ℕ)) (line : List ℕ) → flat_map ended 
 lines_last lines line = flat_map-append ended lines (line ∷ []) ∙ ap (λ (l : List ℕ). flat_map ended lines ++ l) (append-nil (ended line))
 
 -- why no line was read
-pub head_why : (why : LineStop) (left : Option (List ℕ)) (taken : List ℕ) (room : ℕ) (draft : Draft) → Reads (Err why) left taken room → PlanStops (of_line why) left taken room draft
+pub head_why : (why : LineStop) (left : Option (List ℕ)) (taken : List ℕ) (room : ℕ) (draft : Draft) → ReadsLine (Err why) left taken room → PlanStops (of_line why) left taken room draft
 head_why line.ReadFault left taken room draft reads = reads
 head_why line.EndedEarly left taken room draft reads = inr (inl (refl, reads.0, inl reads.1))
 head_why line.LongLine left taken room draft reads = inr (inl (refl, reads.0, inr reads.1))

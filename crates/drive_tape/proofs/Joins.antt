@@ -24,9 +24,9 @@ use Rattle.drive_tape.specs.declared.drove.Stop.{Stop as Why}
 use Rattle.drive_tape.specs.declared.drove.Stop.TheVariants as why
 use Rattle.drive_tape.specs.Drive.{MayLackOne}
 use Rattle.drive_tape.specs.Entries.{WritesEntries}
-use Rattle.drive_tape.specs.Lines.{IsSettled, IsStarted, IsWhy, LineDid, LineWent, LineStopped}
-use Rattle.drive_tape.specs.Parts.{IsCut, IsPart}
-use Rattle.drive_tape.specs.Points.{Point, Work, Cut, AreLinked, IsTail, MayLack, IsStop, HasCauses, Stopped, WentOn, Goes}
+use Rattle.drive_tape.specs.Lines.{NothingIsUnderWay, IsStarted, IsWhy, LineDid, LineWent, LineStopped}
+use Rattle.drive_tape.specs.Parts.{IsCutEntry, IsPart}
+use Rattle.drive_tape.specs.Points.{Point, Work, Cut, AreLinked, IsMissingTail, MayLack, IsStop, HasCauses, Stopped, WentOn, WorkGoes}
 use Rattle.drive_tape.specs.Stops.{of_write}
 use Rattle.drive_tape.specs.Worlds.{IsSince}
 use Rattle.drive_tape.proofs.Works.{linked_more}
@@ -81,7 +81,7 @@ last_part said outputs front missing before kept parts is = record {
     same : front ≡ all_of before ++ kept
     same = append_cancel_right front (all_of before ++ kept) missing (sym parts ∙ ap all_of is ∙ all_last before (kept ++ missing) ∙ sym (append_assoc (all_of before) kept missing))
 
-last_cut : (said : List Entry) (outputs : List (List Entry)) (front missing : List Entry) → all_of outputs ≡ front ++ missing → IsTail outputs missing → LastCut (said ∷ outputs) (said ++ front) missing
+last_cut : (said : List Entry) (outputs : List (List Entry)) (front missing : List Entry) → all_of outputs ≡ front ++ missing → IsMissingTail outputs missing → LastCut (said ∷ outputs) (said ++ front) missing
 last_cut said outputs front missing parts tail = ⊎_elim
     (λ (none : missing ≡ []). subst (LastCut (said ∷ outputs) (said ++ front)) (sym none) (last_whole said outputs front (parts ∙ ap (λ (l : List Entry). front ++ l) none)))
     (λ (some : (before : List (List Entry)) × (kept : List Entry) × (outputs ≡ before ++ (kept ++ missing) ∷ [])). last_part said outputs front missing some.0 some.1 parts some.2)
@@ -114,7 +114,7 @@ is_why why.NoMemory plan p line stop is = is
 module _ {D : Type 0} (seen : D → Option (List ℕ)) (faults : D → ℕ) (start : World D) (plan : Plan) (p : Point) (order : Order) (line : List ℕ) (spelled : tape_order line ≡ Some order)
     (accepted : refusal plan p.down p.sessions order ≡ None) (first : Act) (said : List Entry) (turn : Turn) (sessions : List Session)
     (starts : Starts order p.sessions first turn) (acted : Acted plan p.sessions first said sessions) (own : AreLinked (first ∷ []) [] [] []) (sound : failed_by first ≡ []) where
-  begins : (acts : List Act) (outputs : List (List Entry)) (next : Turn) (new : List Session) → turns.Goes plan turn sessions acts outputs next new
+  begins : (acts : List Act) (outputs : List (List Entry)) (next : Turn) (new : List Session) → turns.ActsGo plan turn sessions acts outputs next new
       → IsBegun plan p.down p.sessions line (first ∷ acts) (said ∷ outputs) next new
   begins acts outputs next new goes = record {
     order = order;
@@ -138,9 +138,9 @@ module _ {D : Type 0} (seen : D → Option (List ℕ)) (faults : D → ℕ) (sta
 
   -- it stops in its midst
   stops_in : (reason : Why) (held : Option (List ℕ)) (world : World D) (stop : Stop) → IsStop reason stop → (acts : List Act) (outputs : List (List Entry)) (next : Turn) (new : List Session)
-      → turns.Goes plan turn sessions acts outputs next new → (came : List Outcome) (lacking : List Asked) (extra : List Made) → AreLinked acts came lacking extra → MayHaveAsked stop next new extra
+      → turns.ActsGo plan turn sessions acts outputs next new → (came : List Outcome) (lacking : List Asked) (extra : List Made) → AreLinked acts came lacking extra → MayHaveAsked stop next new extra
       → (front missing : List Entry) → LastCut (said ∷ outputs) front missing → MayLack stop missing lacking
-      → (cut : List ℕ) → IsCut missing cut → Appends p.held held (written_of front ++ cut) → IsSince seen faults start (p.outcomes ++ came) world → HasCauses seen faults start (p.down ++ failed_in acts) world
+      → (cut : List ℕ) → IsCutEntry missing cut → Appends p.held held (written_of front ++ cut) → IsSince seen faults start (p.outcomes ++ came) world → HasCauses seen faults start (p.down ++ failed_in acts) world
       → LineStopped seen faults start plan p line reason held world
   stops_in reason held world stop is acts outputs next new goes came lacking extra linked asked front missing last may cut is_cut gave since cause = record {
     stop = stop;
@@ -227,7 +227,7 @@ stops_first seen faults start plan p order line first said turn sessions held re
 module _ {D : Type 0} (seen : D → Option (List ℕ)) (faults : D → ℕ) (start : World D) (plan : Plan) (p q : Point) (order : Order) (line : List ℕ) (held : Option (List ℕ)) (spelled : tape_order line ≡ Some order)
     (s : IsStarted plan p q order) where
   -- it is handled
-  went : (cluster : Cluster D) → WentOn seen faults start plan q IsSettled held cluster → LineWent seen faults start plan p line held cluster
+  went : (cluster : Cluster D) → WentOn seen faults start plan q NothingIsUnderWay held cluster → LineWent seen faults start plan p line held cluster
   went cluster on = record {
     q = on.q;
     acts = s.first ∷ on.work.acts;
@@ -259,6 +259,6 @@ module _ {D : Type 0} (seen : D → Option (List ℕ)) (faults : D → ℕ) (sta
 
 -- the line's own act, and then what it leads to
 pub joins : {D T : Type 0} (seen : D → Option (List ℕ)) (faults : D → ℕ) (start : World D) (plan : Plan) (p q : Point) (order : Order) (line : List ℕ) (result : Result T Why) (held : Option (List ℕ)) (cluster : Cluster D)
-    → tape_order line ≡ Some order → IsStarted plan p q order → Goes seen faults start plan q IsSettled result held cluster → LineDid seen faults start plan p line result held cluster
+    → tape_order line ≡ Some order → IsStarted plan p q order → WorkGoes seen faults start plan q NothingIsUnderWay result held cluster → LineDid seen faults start plan p line result held cluster
 joins seen faults start plan p q order line (Ok done) held cluster spelled s on = went seen faults start plan p q order line held spelled s cluster on
 joins seen faults start plan p q order line (Err reason) held cluster spelled s stopped = halted seen faults start plan p q order line held spelled s reason cluster.world stopped

@@ -18,8 +18,8 @@ use Rattle.session_model.specs.Kept.{IsEnding}
 use Rattle.session_model.proofs.Driven.{driven_is_shown}
 use Rattle.session_model.proofs.Alone.{driven_at_1, call_asked}
 use Rattle.session_model.proofs.Kept.{begun_asked, owed_is_kept}
-use Rattle.cluster_world.specs.World.{Begins, plan_of, disk_of, book_of}
-use Rattle.cluster_world.specs.Outcomes.{Outcome, Awaited, Came, Makes, AreOfSessions, asked_in, answered_in}
+use Rattle.cluster_world.specs.World.{IsAtBeginning, plan_of, disk_of, book_of}
+use Rattle.cluster_world.specs.Outcomes.{Outcome, Awaited, Came, Makes, AreOfSessions, asked_by_outcome, answered_by_outcome}
 use Rattle.cluster_world.specs.Outcomes.Outcome.{Began, Refused, Fell, Answers, Unanswered, Left}
 use Rattle.cluster_world.specs.declared.world.World.{World}
 use Rattle.cluster_world.proofs.Owed.{world_owes}
@@ -49,17 +49,17 @@ were_begun OutOfMemory asked begun lacking are may = ⊎_elim
     (λ none. inl (sym (are ∙ ap (λ (l : List Asked). begun ++ l) none ∙ append-nil begun)))
     (λ one. inr (one.0, are ∙ ap (λ (l : List Asked). begun ++ l) one.1)) may
 
-module _ {D : Type 0} (seen : D → Option (List ℕ)) (faults : D → ℕ) (start last : World D) (one : (plan_of start).nodes ≡ 1) (begins : Begins seen (plan_of start) start)
+module _ {D : Type 0} (seen : D → Option (List ℕ)) (faults : D → ℕ) (start last : World D) (one : (plan_of start).nodes ≡ 1) (begins : IsAtBeginning seen (plan_of start) start)
     (stop : Stop) (handled midst : List (List ℕ)) (acts behind : List (List Act)) (made : List Made) (entries : List Entry) (sessions : List Session)
     (driven : IsDriven (plan_of start) stop handled midst acts behind made entries sessions)
     (outcomes : List Outcome) (awaited : List Awaited) (steps : Makes seen faults outcomes [] start awaited last)
-    (lacking : List Asked) (asked_are : flat_map asked_by (flat_map (λ a. a) (acts ++ behind)) ≡ flat_map asked_in outcomes ++ lacking) (lack : MayLackOne stop lacking)
-    (answered_are : flat_map answered_by (flat_map (λ a. a) (acts ++ behind)) ≡ flat_map answered_in outcomes) where
+    (lacking : List Asked) (asked_are : flat_map asked_by (flat_map (λ a. a) (acts ++ behind)) ≡ flat_map asked_by_outcome outcomes ++ lacking) (lack : MayLackOne stop lacking)
+    (answered_are : flat_map answered_by (flat_map (λ a. a) (acts ++ behind)) ≡ flat_map answered_by_outcome outcomes) where
   abbrev done : List Act
   done = flat_map (λ a. a) (acts ++ behind)
 
   abbrev begun : List Asked
-  begun = flat_map asked_in outcomes
+  begun = flat_map asked_by_outcome outcomes
 
   were : AreBegun stop (flat_map asked_by done) begun
   were = were_begun stop (flat_map asked_by done) begun lacking asked_are lack
@@ -81,6 +81,6 @@ module _ {D : Type 0} (seen : D → Option (List ℕ)) (faults : D → ℕ) (sta
         promises = owed_is_kept (plan_of start) (is_some (seen (disk_of last))) stop handled midst acts behind made entries ending sessions
             (seen (disk_of last) ∷ []) (owed.0 ∷ []) (λ id. octets_in id owed.0) begun (book_of last) driven ends were
             (subst (λ (l : List Answered). Owes (plan_of start) (is_some (seen (disk_of last))) (handled ++ midst) (entries ++ ending) (seen (disk_of last) ∷ []) (owed.0 ∷ []) (λ id. octets_in id owed.0) begun l (book_of last)) (sym answered_are)
-            (subst (λ (t : Bool). Owes (plan_of start) t (handled ++ midst) (entries ++ ending) (seen (disk_of last) ∷ []) (owed.0 ∷ []) (λ id. octets_in id owed.0) begun (flat_map answered_in outcomes) (book_of last))
+            (subst (λ (t : Bool). Owes (plan_of start) t (handled ++ midst) (entries ++ ending) (seen (disk_of last) ∷ []) (owed.0 ∷ []) (λ id. octets_in id owed.0) begun (flat_map answered_by_outcome outcomes) (book_of last))
             (sym (made_told seen faults outcomes [] awaited start last steps)) owed.1));
       }

@@ -9,13 +9,13 @@ use Rattle.mail_model.specs.Plan.{Plan}
 use Rattle.mail_model.specs.Transcript.{Entry, written_of, said_lines}
 use Rattle.mail_model.specs.Site.{closed_event}
 use Rattle.session_model.specs.Calls as calls
-use Rattle.session_model.specs.Talk.{Exchange, State, Standing, IsIdle, IsOn, entered_as, leave_of}
+use Rattle.session_model.specs.Talk.{Exchange, TalkState, Standing, IsIdle, IsOn, entered_as, leave_of}
 use Rattle.session_model.specs.Sessions.{Session, session_at, exchanges_of}
 use Rattle.session_model.specs.Acts.{Act, Acted, Did, Deed, closing}
 use Rattle.session_model.specs.Acts.Act.{Opens, Does, Faults, StillWaits, Leaves}
 use Rattle.session_model.specs.Acts.Deed.{Hears, IsAnswered}
 use Rattle.session_model.specs.Logs.{Asked, asked_by, answered_by}
-use Rattle.session_model.specs.Turns.{Turn, IsReady, IsAtRest, Next, to_leave, after_unit}
+use Rattle.session_model.specs.Turns.{Turn, IsReadyToAsk, IsAtRest, Next, to_leave, turn_after_unit}
 use Rattle.session_model.specs.Turns.Turn.{Hearing, Beginning, Falling, Asking}
 use Rattle.session_model.specs.Run.{Made, Stop, failed_by, made_by, count_on}
 use Rattle.session_model.specs.Run.Stop.{SinkFailed, OutOfMemory}
@@ -23,7 +23,7 @@ use Rattle.call_tickets.specs.declared.call.Call.{Call}
 use Rattle.call_tickets.specs.Seen.{call_seen}
 use Rattle.call_tickets.specs.Moves.{HasEnded, IsWaiting, HearsNothing}
 use Rattle.cluster_world.specs.Steps.{nth_ticket}
-use Rattle.cluster_world.specs.Outcomes.{Outcome, Awaited, made_of, asked_in, answered_in}
+use Rattle.cluster_world.specs.Outcomes.{Outcome, Awaited, made_of, asked_by_outcome, answered_by_outcome}
 use Rattle.cluster_world.specs.Outcomes.Outcome.{Began, Refused, Fell}
 use Rattle.cluster_world.specs.World.{plan_of, is_up}
 use Rattle.cluster_world.specs.declared.world.World.{World}
@@ -35,8 +35,8 @@ use Rattle.drive_tape.specs.declared.sessions.After.TheVariants.{Stays, Ends}
 use Rattle.drive_tape.specs.declared.drove.Stop.{Stop as Why}
 use Rattle.drive_tape.specs.declared.drove.Stop.TheVariants as why
 use Rattle.drive_tape.specs.Moving.{has_ended, HeardAt, StaysAt, GoesOn}
-use Rattle.drive_tape.specs.Worlds.{IsAt, IsSince}
-use Rattle.drive_tape.specs.Points.{Point, Work, Cut, OneAct, AreLinked, Shows, Stopped, WentOn, IsUp}
+use Rattle.drive_tape.specs.Worlds.{WorldIsAt, IsSince}
+use Rattle.drive_tape.specs.Points.{Point, Work, Cut, OneAct, AreLinked, IsAtPoint, Stopped, WentOn, IsUpUnlessFailed}
 use Rattle.drive_tape.specs.Talks.{Converse, HaveTickets, NoTickets, OneWaits}
 use Rattle.drive_tape.specs.Clusters.{HearsAt, RestsAt, IsAfter, IsSaying, IsBeginning, FallsAt}
 use Rattle.drive_tape.proofs.Talks.{at_place, asks_waits, asks_silent, says_on, says_ended, count_same, count_less, no_tickets_set, quiet_at, one_waits, still_up, on_not_ended, set_here, within_get, some_same}
@@ -57,23 +57,23 @@ hears_none k one none = record { made = rw none refl; asked = rw none refl; answ
 
 -- and else to the beginning of the call
 hears_call : (k : ℕ) (one : Exchange) (asked : calls.Call) (outcome : Outcome) (lacking : List Asked) → one.call ≡ Some asked → made_of outcome ≡ Made.Begins k asked
-    → asked_in outcome ++ lacking ≡ record { session = k; call = asked } ∷ [] → answered_in outcome ≡ [] → AreLinked (Does k (Hears one) ∷ []) (outcome ∷ []) lacking []
+    → asked_by_outcome outcome ++ lacking ≡ record { session = k; call = asked } ∷ [] → answered_by_outcome outcome ≡ [] → AreLinked (Does k (Hears one) ∷ []) (outcome ∷ []) lacking []
 hears_call k one asked outcome lacking is made asks answers = record {
   made = rw is (ap (λ (m : Made). m ∷ []) made);
-  asked = rw is (sym asks ∙ ap (λ (l : List Asked). l ++ lacking) (sym (append-nil (asked_in outcome))));
-  answered = sym (append-nil (answered_in outcome) ∙ answers);
+  asked = rw is (sym asks ∙ ap (λ (l : List Asked). l ++ lacking) (sym (append-nil (asked_by_outcome outcome))));
+  answered = sym (append-nil (answered_by_outcome outcome) ∙ answers);
 }
 
 module _ (plan : Plan) (p : Point) (place onward : ℕ) (plain after : Session) (one : Exchange) (turn : p.turn ≡ Hearing (place + 1) onward)
     (here : slice_get p.sessions place ≡ Some plain) (did : Did plan plain (Hears one) one.reply after) where
-  hears_next : (next : Turn) → next ≡ after_unit (place + 1) onward one.call → Next p.turn p.sessions (Does (place + 1) (Hears one)) next
+  hears_next : (next : Turn) → next ≡ turn_after_unit (place + 1) onward one.call → Next p.turn p.sessions (Does (place + 1) (Hears one)) next
   hears_next next is = subst (λ (t : Turn). Next t p.sessions (Does (place + 1) (Hears one)) next) (sym turn) (refl, is)
 
   -- a unit is heard, and replied to
   pub hears_one : one.call ≡ None → OneAct plan p (Does (place + 1) (Hears one)) (said_lines (place + 1) one.reply ++ closing (place + 1) (Hears one) after.standing) []
       (Hearing (place + 1) onward) (slice_set p.sessions place after)
   hears_one none = record {
-    next = hears_next (Hearing (place + 1) onward) (ap (after_unit (place + 1) onward) (sym none));
+    next = hears_next (Hearing (place + 1) onward) (ap (turn_after_unit (place + 1) onward) (sym none));
     acted = acted_does plan p.sessions place plain after (Hears one) one.reply here did;
     linked = hears_none (place + 1) one none;
   }
@@ -89,15 +89,15 @@ module _ (plan : Plan) (p : Point) (place onward : ℕ) (plain after : Session) 
       (acted_does plan p.sessions place plain after (Hears one) one.reply here did)
 
   pub asks_next : (asked : calls.Call) → one.call ≡ Some asked → Next p.turn p.sessions (Does (place + 1) (Hears one)) (Beginning (place + 1) onward)
-  asks_next asked is = hears_next (Beginning (place + 1) onward) (ap (after_unit (place + 1) onward) (sym is))
+  asks_next asked is = hears_next (Beginning (place + 1) onward) (ap (turn_after_unit (place + 1) onward) (sym is))
 
   pub asks_one : (asked : calls.Call) (outcome : Outcome) → one.call ≡ Some asked → made_of outcome ≡ Made.Begins (place + 1) asked
-      → asked_in outcome ≡ record { session = place + 1; call = asked } ∷ [] → answered_in outcome ≡ []
+      → asked_by_outcome outcome ≡ record { session = place + 1; call = asked } ∷ [] → answered_by_outcome outcome ≡ []
       → OneAct plan p (Does (place + 1) (Hears one)) [] (outcome ∷ []) (Beginning (place + 1) onward) (slice_set p.sessions place after)
   asks_one asked outcome is made asks answers = record {
     next = asks_next asked is;
     acted = asks_acted asked is;
-    linked = hears_call (place + 1) one asked outcome [] is made (append-nil (asked_in outcome) ∙ asks) answers;
+    linked = hears_call (place + 1) one asked outcome [] is made (append-nil (asked_by_outcome outcome) ∙ asks) answers;
   }
 
 -- the entries of a reply
@@ -122,7 +122,7 @@ counts_after sessions place plain new Stays standing now here on count goes = go
 counts_after sessions place plain new (Ends leave) standing now here on count goes = goes.2 ∙ ap (λ (n : ℕ). n - 1) count ∙ sym (count_less sessions place plain new here on goes.0)
 
 module _ {D : Type 0} (seen : D → Option (List ℕ)) (faults : D → ℕ) (start : World D) (plan : Plan) (p : Point) (place onward : ℕ) (old new : Cluster D)
-    (shows : Shows seen faults start old p) (hears : HearsAt place onward p) (world : new.world ≡ old.world) (tickets : new.sessions.tickets ≡ old.sessions.tickets) where
+    (shows : IsAtPoint seen faults start old p) (hears : HearsAt place onward p) (world : new.world ≡ old.world) (tickets : new.sessions.tickets ≡ old.sessions.tickets) where
   none : NoTickets old.sessions.tickets.items p.sessions
   none = subst (λ (a : List Awaited). HaveTickets old.sessions.tickets.items p.sessions a) hears.quiet shows.tickets
 
@@ -176,7 +176,7 @@ module _ {D : Type 0} (seen : D → Option (List ℕ)) (faults : D → ℕ) (sta
         asks = h.asks;
         turn = hears.turn;
         quiet = hears.quiet;
-        at = rw world (subst (λ (a : List Awaited). IsAt seen faults start p.outcomes a old.world) hears.quiet shows.at);
+        at = rw world (subst (λ (a : List Awaited). WorldIsAt seen faults start p.outcomes a old.world) hears.quiet shows.at);
         talks = h.talks;
         tickets = rw tickets none;
         count = h.goes_on.1 ∙ shows.count;
@@ -191,7 +191,7 @@ module _ {D : Type 0} (seen : D → Option (List ℕ)) (faults : D → ℕ) (sta
     work = work_none plan p;
     held_is = refl;
     shows = record { at = rw world shows.at; talks = same.talks; tickets = rw tickets shows.tickets; count = same.count ∙ shows.count; up = rw world shows.up };
-    so_is = record { ready = subst (λ (t : Turn). IsReady t p.sessions onward) (sym hears.turn) (refl, idle, leaves); alone = inl hears.quiet };
+    so_is = record { ready = subst (λ (t : Turn). IsReadyToAsk t p.sessions onward) (sym hears.turn) (refl, idle, leaves); alone = inl hears.quiet };
   }
     where
       at_k : session_at p.sessions (place + 1) ≡ Some hears.plain
@@ -237,7 +237,7 @@ module _ {D : Type 0} (seen : D → Option (List ℕ)) (faults : D → ℕ) (sta
   abbrev pub begun_point : Outcome → List Awaited → Point
   begun_point outcome awaited = record p { turn = Beginning (place + 1) onward; sessions = slice_set p.sessions place b.after; outcomes = p.outcomes ++ outcome ∷ []; awaited = awaited }
 
-  pub begun_work : (outcome : Outcome) (awaited : List Awaited) → made_of outcome ≡ Made.Begins (place + 1) b.asked → asked_in outcome ≡ record { session = place + 1; call = b.asked } ∷ [] → answered_in outcome ≡ []
+  pub begun_work : (outcome : Outcome) (awaited : List Awaited) → made_of outcome ≡ Made.Begins (place + 1) b.asked → asked_by_outcome outcome ≡ record { session = place + 1; call = b.asked } ∷ [] → answered_by_outcome outcome ≡ []
       → Work plan p (begun_point outcome awaited)
   begun_work outcome awaited made asks answers =
       work_act plan p (begun_point outcome awaited) (Does (place + 1) (Hears b.one)) [] (outcome ∷ [])
@@ -245,7 +245,7 @@ module _ {D : Type 0} (seen : D → Option (List ℕ)) (faults : D → ℕ) (sta
 
   -- it waits
   pub begins : (number : ℕ) (ticket : Ticket) (new : Cluster D) (held : Option (List ℕ)) → p.held ≡ held → place < length old.sessions.tickets.items → ticket ≡ nth_ticket number → is_up new.world ≡ true
-      → IsAt seen faults start (p.outcomes ++ Began (place + 1) b.asked number ∷ []) (record { number = number; session = place + 1; call = b.asked } ∷ []) new.world
+      → WorldIsAt seen faults start (p.outcomes ++ Began (place + 1) b.asked number ∷ []) (record { number = number; session = place + 1; call = b.asked } ∷ []) new.world
       → new.sessions.talkers ≡ old.sessions.talkers → new.sessions.tickets.items ≡ slice_set old.sessions.tickets.items place (Some ticket) → new.sessions.standing ≡ old.sessions.standing
       → WentOn seen faults start plan p (RestsAt place onward) held new
   begins number ticket new held same_held within is up at talkers tickets count =
@@ -269,7 +269,7 @@ module _ {D : Type 0} (seen : D → Option (List ℕ)) (faults : D → ℕ) (sta
       was_on plain = rw b.did.2 tt
 
   -- the node failed
-  pub falls : (new : Cluster D) → is_up new.world ≡ false → IsAt seen faults start (p.outcomes ++ Fell (place + 1) b.asked ∷ []) [] new.world → new.sessions ≡ old.sessions
+  pub falls : (new : Cluster D) → is_up new.world ≡ false → WorldIsAt seen faults start (p.outcomes ++ Fell (place + 1) b.asked ∷ []) [] new.world → new.sessions ≡ old.sessions
       → FallsAt seen faults start (begun_point (Fell (place + 1) b.asked) []) place onward new
   falls new down at same =
       let waits = asks_waits plan b.plain b.one b.one.reply b.after b.asked b.did b.asks in
@@ -286,7 +286,7 @@ module _ {D : Type 0} (seen : D → Option (List ℕ)) (faults : D → ℕ) (sta
       }
 
   -- memory ran out
-  stops_with : (outcome : Outcome) (lacking : List Asked) (last : World D) → made_of outcome ≡ Made.Begins (place + 1) b.asked → asked_in outcome ++ lacking ≡ record { session = place + 1; call = b.asked } ∷ [] → answered_in outcome ≡ []
+  stops_with : (outcome : Outcome) (lacking : List Asked) (last : World D) → made_of outcome ≡ Made.Begins (place + 1) b.asked → asked_by_outcome outcome ++ lacking ≡ record { session = place + 1; call = b.asked } ∷ [] → answered_by_outcome outcome ≡ []
       → (lacking ≡ []) ⊎ ((one : Asked) × (lacking ≡ one ∷ [])) → IsSince seen faults start (p.outcomes ++ outcome ∷ []) last → Stopped seen faults start plan p why.NoMemory p.held last
   stops_with outcome lacking last made asks answers few since = record {
     stop = OutOfMemory;

@@ -9,7 +9,7 @@ use Rattle.session_model.specs.Talk.Standing.{Waiting, EndedDown}
 use Rattle.session_model.specs.Sessions.{Session}
 use Rattle.session_model.specs.Acts.{Did}
 use Rattle.session_model.specs.Acts.Deed.{Hears, IsAnswered, Falls}
-use Rattle.call_tickets.specs.Moves.{Heard, Replied, Due, HasEnded}
+use Rattle.call_tickets.specs.Moves.{HeardUnit, Replied, Due, HasEnded}
 use Rattle.call_tickets.specs.Moves.Due.{Nothing}
 use Rattle.drive_tape.specs.declared.talker.Talker.{Talker}
 use Rattle.drive_tape.specs.declared.sessions.Sessions.{Sessions}

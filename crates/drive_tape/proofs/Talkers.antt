@@ -41,8 +41,8 @@ mail_greets plan node session new did octets follows moved =
 
 -- and of one that reads mail
 pub reader_greets : (plan : Plan) (node : ℕ) (greeting : List ℕ) (session new : PopSession) (did : Move) (octets : List ℕ)
-    → reader.Follows session (opened_session Pop node) Greeting → reader.greeting_of session ≡ greeting
+    → reader.Follows session (opened_session Pop node) Greeting → reader.opening_line session ≡ greeting
     → reader.Moved plan session did octets new → Greeted (reader.Follows new) greeting (opened_session Pop node) octets
 reader_greets plan node greeting session new did octets follows is moved =
     subst (λ (g : List ℕ). Greeted (reader.Follows new) g (opened_session Pop node) octets) is
-    (greets_only (reader.Follows new) plan (opened_session Pop node) (reader.greeting_of session) did octets (moved.goes (opened_session Pop node) Greeting follows))
+    (greets_only (reader.Follows new) plan (opened_session Pop node) (reader.opening_line session) did octets (moved.goes (opened_session Pop node) Greeting follows))

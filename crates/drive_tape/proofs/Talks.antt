@@ -2,7 +2,7 @@
 use Rattle.std.proofs.Common.{◌≡◌, ◌<◌, ◌≤◌, ◌+◌, ◌-◌, ◌++◌, ◌⊎◌, inl, inr, nat_eq, true, false, ℕ, zero, suc, List, [], ◌∷◌, length, Option, Some, None, refl, sym, ap, ◌∙◌, subst, arith}
 use Rattle.std.specs.Prelude.{slice_get, slice_set, MatchBool, not, ◌≢◌, Bool, if◌then◌else◌}
 use Rattle.mail_model.specs.Plan.{Plan}
-use Rattle.session_model.specs.Talk.{Exchange, State, Standing, Lead, IsOn, IsLed, Awaits, lead_of, stands, heard, asked, answered}
+use Rattle.session_model.specs.Talk.{Exchange, TalkState, Standing, Lead, IsOn, IsLed, Awaits, lead_of, stands, heard, standing_asked, answered}
 use Rattle.session_model.specs.Talk.Lead.{Says, Ends, Asks}
 use Rattle.session_model.specs.Talk.Standing.{Hearing, Waiting, EndedByQuit, EndedDown, EndedClosed}
 use Rattle.session_model.specs.Run.{is_on, count_on, session_fault}
@@ -17,7 +17,7 @@ use Rattle.session_model.specs.Acts.Deed.{IsFed, Hears, IsAnswered, Falls, Close
 use Rattle.call_tickets.specs.Moves.Due.{Nothing}
 use Rattle.drive_tape.specs.declared.talker.Talker.{Talker}
 use Rattle.drive_tape.specs.Talks.{Converse, Sits, NoTickets, OneWaits}
-use Rattle.drive_tape.specs.Points.{AllEnded, IsUp}
+use Rattle.drive_tape.specs.Points.{AllEnded, IsUpUnlessFailed}
 use Rattle.cluster_world.specs.Steps.{nth_ticket}
 use Rattle.mail_base.specs.declared.ticket.Ticket.{Ticket}
 use Rattle.drive_tape.specs.Speakers.{Matches}
@@ -171,23 +171,23 @@ sit_none talkers old at one all there here = matches_at talkers old at None one 
 
 -- what a session that heard a unit waits for
 pub asks_waits : (plan : Plan) (old : Session) (one : Exchange) (said : List (List ℕ)) (new : Session) (call : Call) → Did plan old (Hears one) said new → one.call ≡ Some call
-    → (state : State) × (new.standing ≡ Waiting state call)
+    → (state : TalkState) × (new.standing ≡ Waiting state call)
 asks_waits plan old one said new call did is = by_lead (lead_of plan old.node did.0 one.unit) did.3.led (ap (λ (s : Session). s.standing) did.5)
   where
-    by_lead : (lead : Lead) → IsLed lead one → new.standing ≡ stands plan did.0 one lead → (state : State) × (new.standing ≡ Waiting state call)
+    by_lead : (lead : Lead) → IsLed lead one → new.standing ≡ stands plan did.0 one lead → (state : TalkState) × (new.standing ≡ Waiting state call)
     by_lead (Says reply) led so = let no : None ≡ Some call = sym led.0 ∙ is in absurd cc
     by_lead (Ends reply) led so = let no : None ≡ Some call = sym led.0 ∙ is in absurd cc
     by_lead (Asks asks) led so = (
       heard plan did.0 one.unit [],
-      so ∙ ap (λ (a : Option Answer). asked (heard plan did.0 one.unit []) asks a) did.6
+      so ∙ ap (λ (a : Option Answer). standing_asked (heard plan did.0 one.unit []) asks a) did.6
           ∙ ap (λ (c : Call). Waiting (heard plan did.0 one.unit []) c) (some_same asks call (sym led.0 ∙ is)),
     )
 
 abbrev NotWaiting : Standing → Type 0
-NotWaiting standing = (state : State) (call : Call) → standing ≢ Waiting state call
+NotWaiting standing = (state : TalkState) (call : Call) → standing ≢ Waiting state call
 
 pub says_on : (plan : Plan) (old : Session) (one : Exchange) (said : List (List ℕ)) (new : Session) → Did plan old (Hears one) said new → one.call ≡ None
-    → (state : State) (call : Call) → new.standing ≢ Waiting state call
+    → (state : TalkState) (call : Call) → new.standing ≢ Waiting state call
 says_on plan old one said new did is = by_lead (lead_of plan old.node did.0 one.unit) did.3.led (ap (λ (s : Session). s.standing) did.5)
   where
     by_lead : (lead : Lead) → IsLed lead one → new.standing ≡ stands plan did.0 one lead → NotWaiting new.standing
@@ -195,7 +195,7 @@ says_on plan old one said new did is = by_lead (lead_of plan old.node did.0 one.
     by_lead (Ends reply) led so state call waits = let no : EndedByQuit ≡ Waiting state call = sym so ∙ waits in absurd cc
     by_lead (Asks asks) led so state call waits = let no : Some asks ≡ None = sym led.0 ∙ is in absurd cc
 
-answered_on : (state : State) (call : Call) (answer : Answer) → NotWaiting (answered state call answer)
+answered_on : (state : TalkState) (call : Call) (answer : Answer) → NotWaiting (answered state call answer)
 answered_on state (Deliver mail) answer s c waits = absurd cc
 answered_on state (Login user secret) (Stored id) s c waits = absurd cc
 answered_on state (Login user secret) (Listed items) s c waits = absurd cc
@@ -208,7 +208,7 @@ answered_on state (Fetch user id) answer s c waits = absurd cc
 answered_on state (Strike user ids) answer s c waits = absurd cc
 
 pub replies_on : (plan : Plan) (old : Session) (call : Call) (answer : Answer) (reply said : List (List ℕ)) (new : Session) → Did plan old (IsAnswered call answer reply) said new
-    → (state : State) (other : Call) → new.standing ≢ Waiting state other
+    → (state : TalkState) (other : Call) → new.standing ≢ Waiting state other
 replies_on plan old call answer reply said new did state other waits =
     answered_on did.2 call answer state other (sym (ap (λ (s : Session). s.standing) did.7) ∙ waits)
 
@@ -248,7 +248,7 @@ says_ended plan old one said new did is = by_lead (lead_of plan old.node did.0 o
     by_lead (Ends reply) led so ended = so
     by_lead (Asks asks) led so ended = let no : Some asks ≡ None = sym led.0 ∙ is in absurd cc
 
-answered_ended : (state : State) (call : Call) (answer : Answer) → HasEnded (answered state call answer) → answered state call answer ≡ EndedByQuit
+answered_ended : (state : TalkState) (call : Call) (answer : Answer) → HasEnded (answered state call answer) → answered state call answer ≡ EndedByQuit
 answered_ended state (Deliver mail) answer ended = absurd ended
 answered_ended state (Login user secret) (Stored id) ended = absurd ended
 answered_ended state (Login user secret) (Listed items) ended = absurd ended
@@ -290,7 +290,7 @@ count_less sessions place plain new here on ended =
 
 -- nobody waits, still
 pub no_tickets_set : (tickets : List (Option Ticket)) (sessions : List Session) (place : ℕ) (new : Session) → NoTickets tickets sessions
-    → ((state : State) (call : Call) → new.standing ≢ Waiting state call) → NoTickets tickets (slice_set sessions place new)
+    → ((state : TalkState) (call : Call) → new.standing ≢ Waiting state call) → NoTickets tickets (slice_set sessions place new)
 no_tickets_set [] [] place new all quiet = tt
 no_tickets_set [] (s ∷ ss) place new all quiet = absurd all
 no_tickets_set (t ∷ ts) [] place new all quiet = absurd all
@@ -298,7 +298,7 @@ no_tickets_set (t ∷ ts) (s ∷ ss) zero new all quiet = (all.0, quiet, all.2)
 no_tickets_set (t ∷ ts) (s ∷ ss) (suc place) new all quiet = (all.0, all.1, no_tickets_set ts ss place new all.2 quiet)
 
 pub no_ticket_set : (tickets : List (Option Ticket)) (sessions : List Session) (place : ℕ) (new : Session) → NoTickets tickets sessions
-    → ((state : State) (call : Call) → new.standing ≢ Waiting state call) → NoTickets (slice_set tickets place None) (slice_set sessions place new)
+    → ((state : TalkState) (call : Call) → new.standing ≢ Waiting state call) → NoTickets (slice_set tickets place None) (slice_set sessions place new)
 no_ticket_set [] [] place new all quiet = tt
 no_ticket_set [] (s ∷ ss) place new all quiet = absurd all
 no_ticket_set (t ∷ ts) [] place new all quiet = absurd all
@@ -306,7 +306,7 @@ no_ticket_set (t ∷ ts) (s ∷ ss) zero new all quiet = (refl, quiet, all.2)
 no_ticket_set (t ∷ ts) (s ∷ ss) (suc place) new all quiet = (all.0, all.1, no_ticket_set ts ss place new all.2 quiet)
 
 pub quiet_at : (tickets : List (Option Ticket)) (sessions : List Session) (place : ℕ) (plain : Session) → NoTickets tickets sessions → slice_get sessions place ≡ Some plain
-    → (state : State) (call : Call) → plain.standing ≢ Waiting state call
+    → (state : TalkState) (call : Call) → plain.standing ≢ Waiting state call
 quiet_at [] [] place plain all here state call waits = absurd cc
 quiet_at [] (s ∷ ss) place plain all here state call waits = absurd all
 quiet_at (t ∷ ts) [] place plain all here state call waits = absurd all
@@ -314,7 +314,7 @@ quiet_at (t ∷ ts) (s ∷ ss) zero plain all here state call waits = all.1 stat
 quiet_at (t ∷ ts) (s ∷ ss) (suc place) plain all here state call waits = quiet_at ts ss place plain all.2 here state call waits
 
 -- it waits, and nobody else does
-pub one_waits : (tickets : List (Option Ticket)) (sessions : List Session) (place number : ℕ) (plain after : Session) (state : State) (call : Call) (ticket : Ticket) → NoTickets tickets sessions
+pub one_waits : (tickets : List (Option Ticket)) (sessions : List Session) (place number : ℕ) (plain after : Session) (state : TalkState) (call : Call) (ticket : Ticket) → NoTickets tickets sessions
     → place < length tickets → slice_get sessions place ≡ Some plain → after.standing ≡ Waiting state call → ((before : List Exchange) × (last : Exchange) × (after.whole ≡ before ++ last ∷ []))
     → ticket ≡ nth_ticket number
     → OneWaits (record { number = number; session = place + 1; call = call }) (slice_set tickets place (Some ticket)) (slice_set sessions place after)
@@ -340,7 +340,7 @@ each_ended [] place plain all here = absurd cc
 each_ended (s ∷ ss) zero plain all here = subst (λ (x : Session). HasEnded x.standing) (some_same s plain here) all.0
 each_ended (s ∷ ss) (suc place) plain all here = each_ended ss place plain all.1 here
 
-pub still_up : (up : Bool) (down : List ℕ) (sessions : List Session) (place : ℕ) (plain : Session) → IsUp up down sessions → slice_get sessions place ≡ Some plain → IsOn plain.standing → (up ≡ true) × (down ≡ [])
+pub still_up : (up : Bool) (down : List ℕ) (sessions : List Session) (place : ℕ) (plain : Session) → IsUpUnlessFailed up down sessions → slice_get sessions place ≡ Some plain → IsOn plain.standing → (up ≡ true) × (down ≡ [])
 still_up up down sessions place plain (inl is) here on = is
 still_up up down sessions place plain (inr is) here on = absurd (on_not_ended plain.standing on (each_ended sessions place plain is.2 here))
 

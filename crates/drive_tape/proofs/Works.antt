@@ -15,11 +15,11 @@ use Rattle.session_model.specs.Turns as turns
 use Rattle.session_model.specs.Turns.{Turn, Next}
 use Rattle.session_model.specs.Run.{Made, Stop, made_by, failed_by, failed_in, MayHaveAsked}
 use Rattle.session_model.specs.Run.Stop.{SinkFailed, OutOfMemory, BehindLine}
-use Rattle.cluster_world.specs.Outcomes.{Outcome, made_of, asked_in, answered_in}
+use Rattle.cluster_world.specs.Outcomes.{Outcome, made_of, asked_by_outcome, answered_by_outcome}
 use Rattle.drive_tape.specs.declared.entry.WriteStop.{WriteStop}
 use Rattle.drive_tape.specs.Entries.{WritesEntries}
-use Rattle.drive_tape.specs.Parts.{IsCut}
-use Rattle.drive_tape.specs.Points.{Point, Work, Cut, OneAct, AreLinked, IsTail, MayLack}
+use Rattle.drive_tape.specs.Parts.{IsCutEntry}
+use Rattle.drive_tape.specs.Points.{Point, Work, Cut, OneAct, AreLinked, IsMissingTail, MayLack}
 use Rattle.drive_tape.proofs.Replies.{written_more}
 
 pub all_more : (xs ys : List (List Entry)) → all_of (xs ++ ys) ≡ all_of xs ++ all_of ys
@@ -27,9 +27,9 @@ all_more xs ys = flat_map-append (λ es. es) xs ys
 
 -- the acts of both, one after the other
 pub goes_more : (plan : Plan) (t1 : Turn) (s1 : List Session) (acts : List Act) (outputs : List (List Entry)) (t2 : Turn) (s2 : List Session) (others : List Act) (more : List (List Entry)) (t3 : Turn) (s3 : List Session)
-    → turns.Goes plan t1 s1 acts outputs t2 s2 → turns.Goes plan t2 s2 others more t3 s3 → turns.Goes plan t1 s1 (acts ++ others) (outputs ++ more) t3 s3
+    → turns.ActsGo plan t1 s1 acts outputs t2 s2 → turns.ActsGo plan t2 s2 others more t3 s3 → turns.ActsGo plan t1 s1 (acts ++ others) (outputs ++ more) t3 s3
 goes_more plan t1 s1 [] [] t2 s2 others more t3 s3 one two =
-    subst (λ (t : Turn). turns.Goes plan t s1 others more t3 s3) one.0 (subst (λ (s : List Session). turns.Goes plan t2 s others more t3 s3) one.1 two)
+    subst (λ (t : Turn). turns.ActsGo plan t s1 others more t3 s3) one.0 (subst (λ (s : List Session). turns.ActsGo plan t2 s others more t3 s3) one.1 two)
 goes_more plan t1 s1 [] (o ∷ os) t2 s2 others more t3 s3 one two = absurd one
 goes_more plan t1 s1 (a ∷ rest) [] t2 s2 others more t3 s3 one two = absurd one
 goes_more plan t1 s1 (a ∷ rest) (o ∷ os) t2 s2 others more t3 s3 one two = (one.0, one.1, one.2, one.3, goes_more plan one.0 one.1 rest os t2 s2 others more t3 s3 one.4 two)
@@ -39,10 +39,10 @@ pub linked_more : (acts others : List Act) (outcomes news : List Outcome) (lacki
 linked_more acts others outcomes news lacking extra one two = record {
   made = map-append made_of outcomes news ∙ ap (λ l. l ++ map made_of news) (one.made ∙ append-nil _) ∙ ap (λ l. flat_map made_by acts ++ l) two.made
       ∙ sym (append_assoc (flat_map made_by acts) (flat_map made_by others) extra) ∙ ap (λ l. l ++ extra) (sym (flat_map-append made_by acts others));
-  asked = flat_map-append asked_by acts others ∙ ap (λ l. l ++ flat_map asked_by others) (one.asked ∙ append-nil _) ∙ ap (λ l. flat_map asked_in outcomes ++ l) two.asked
-      ∙ sym (append_assoc (flat_map asked_in outcomes) (flat_map asked_in news) lacking) ∙ ap (λ l. l ++ lacking) (sym (flat_map-append asked_in outcomes news));
-  answered = flat_map-append answered_by acts others ∙ ap (λ l. l ++ flat_map answered_by others) one.answered ∙ ap (λ l. flat_map answered_in outcomes ++ l) two.answered
-      ∙ sym (flat_map-append answered_in outcomes news);
+  asked = flat_map-append asked_by acts others ∙ ap (λ l. l ++ flat_map asked_by others) (one.asked ∙ append-nil _) ∙ ap (λ l. flat_map asked_by_outcome outcomes ++ l) two.asked
+      ∙ sym (append_assoc (flat_map asked_by_outcome outcomes) (flat_map asked_by_outcome news) lacking) ∙ ap (λ l. l ++ lacking) (sym (flat_map-append asked_by_outcome outcomes news));
+  answered = flat_map-append answered_by acts others ∙ ap (λ l. l ++ flat_map answered_by others) one.answered ∙ ap (λ l. flat_map answered_by_outcome outcomes ++ l) two.answered
+      ∙ sym (flat_map-append answered_by_outcome outcomes news);
 }
 
 -- nothing was done
@@ -72,7 +72,7 @@ work_more plan p q r one two = record {
   gave = subst (Appends p.held r.held) (sym (ap written_of (all_more one.outputs two.outputs) ∙ written_more (all_of one.outputs) (all_of two.outputs))) (appends_more _ _ _ _ _ one.gave two.gave);
 }
 
-pub tail_behind : (outputs more : List (List Entry)) (missing : List Entry) → IsTail more missing → IsTail (outputs ++ more) missing
+pub tail_behind : (outputs more : List (List Entry)) (missing : List Entry) → IsMissingTail more missing → IsMissingTail (outputs ++ more) missing
 tail_behind outputs more missing tail = ⊎_elim inl
     (λ (some : (before : List (List Entry)) × (front : List Entry) × (more ≡ before ++ (front ++ missing) ∷ [])).
     inr (outputs ++ some.0, some.1, ap (λ l. outputs ++ l) some.2 ∙ sym (append_assoc outputs some.0 ((some.1 ++ missing) ∷ []))))
@@ -143,7 +143,7 @@ work_act plan p q act entries outcomes one came failed gave = record {
 
 -- a front of it is written
 unfoldable pub cut_act : (plan : Plan) (p : Point) (act : Act) (entries : List Entry) (outcomes : List Outcome) (turn : Turn) (sessions : List Session) (stop : Stop) (held : Option (List ℕ))
-    (front missing : List Entry) (cut : List ℕ) → OneAct plan p act entries outcomes turn sessions → entries ≡ front ++ missing → MayLack stop missing [] → IsCut missing cut
+    (front missing : List Entry) (cut : List ℕ) → OneAct plan p act entries outcomes turn sessions → entries ≡ front ++ missing → MayLack stop missing [] → IsCutEntry missing cut
     → Appends p.held held (written_of front ++ cut) → Cut plan stop p held (p.outcomes ++ outcomes)
 cut_act plan p act entries outcomes turn sessions stop held front missing cut one parts may is_cut gave = record {
   acts = act ∷ [];

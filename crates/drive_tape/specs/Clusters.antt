@@ -5,12 +5,12 @@ use Rattle.mail_model.specs.Plan.{Plan}
 use Rattle.mail_model.specs.Site.{closed_event}
 use Rattle.mail_model.specs.Transcript.{said_lines}
 use Rattle.session_model.specs.Calls as calls
-use Rattle.session_model.specs.Talk.{Exchange, State, IsOn, IsIdle, entered_as, leave_of}
+use Rattle.session_model.specs.Talk.{Exchange, TalkState, IsOn, IsIdle, entered_as, leave_of}
 use Rattle.session_model.specs.Talk.Standing.{Waiting, EndedByQuit, EndedDown}
 use Rattle.session_model.specs.Sessions.{Session, exchanges_of}
 use Rattle.session_model.specs.Acts.{Act, Did}
 use Rattle.session_model.specs.Acts.Deed.{Hears}
-use Rattle.session_model.specs.Turns.{Turn, IsReady}
+use Rattle.session_model.specs.Turns.{Turn, IsReadyToAsk}
 use Rattle.session_model.specs.Turns.Turn.{Hearing, Beginning, Falling, Asking}
 use Rattle.session_model.specs.Run.{failed_by, count_on}
 use Rattle.call_tickets.specs.Seen.{call_seen}
@@ -24,9 +24,9 @@ use Rattle.drive_tape.specs.declared.sessions.After.{After}
 use Rattle.drive_tape.specs.declared.sessions.After.TheVariants.{Stays, Ends}
 use Rattle.drive_tape.specs.Leaving.{IsLeaveOf}
 use Rattle.drive_tape.specs.Moving.{has_ended}
-use Rattle.drive_tape.specs.Points.{Point, OneAct, Work, Stopped, Shows, IsUp}
+use Rattle.drive_tape.specs.Points.{Point, OneAct, Work, Stopped, IsAtPoint, IsUpUnlessFailed}
 use Rattle.drive_tape.specs.Talks.{Converse, NoTickets}
-use Rattle.drive_tape.specs.Worlds.{IsAt}
+use Rattle.drive_tape.specs.Worlds.{WorldIsAt}
 use Rattle.call_tickets.specs.Moves.{HasEnded}
 use Rattle.mail_base.specs.declared.ticket.Ticket.{Ticket}
 use Rattle.drive_tape.specs.declared.drove.Stop.{Stop as Why}
@@ -41,7 +41,7 @@ pub record HearsAt (place onward : ℕ) (p : Point) : Type 0 where
 
 -- nothing is under way but that sessions are to be asked from this number on, and the session at this place alone may wait
 pub record RestsAt (place onward : ℕ) (p : Point) : Type 0 where
-  pub ready : IsReady p.turn p.sessions onward
+  pub ready : IsReadyToAsk p.turn p.sessions onward
   pub alone : (p.awaited ≡ []) ⊎ ((one : Awaited) × (p.awaited ≡ one ∷ []) × (one.session ≡ place + 1))
 
 -- it hears on, or rests
@@ -66,7 +66,7 @@ pub record IsSaying {D : Type 0} (seen : D → Option (List ℕ)) (faults : D �
   pub held : q.held ≡ p.held
   pub says : out ≡ flat_map sent_line said
   pub lines : All HasNoCrlf said
-  pub shows : Shows seen faults start cluster q
+  pub shows : IsAtPoint seen faults start cluster q
   pub turn : q.turn ≡ Hearing (place + 1) onward
   pub quiet : q.awaited ≡ []
   pub plain : Session
@@ -75,7 +75,7 @@ pub record IsSaying {D : Type 0} (seen : D → Option (List ℕ)) (faults : D �
   pub down : q.down ≡ []
 
 -- the session at this place has ended, and may have to leave
-pub record EndsAt (place onward : ℕ) (leave : Option Call) (p : Point) : Type 0 where
+pub record SessionEndsAt (place onward : ℕ) (leave : Option Call) (p : Point) : Type 0 where
   pub turn : p.turn ≡ Hearing (place + 1) onward
   pub quiet : p.awaited ≡ []
   pub plain : Session
@@ -97,7 +97,7 @@ pub record IsBeginning {D : Type 0} (seen : D → Option (List ℕ)) (faults : D
   pub asks : one.call ≡ Some asked
   pub turn : p.turn ≡ Hearing (place + 1) onward
   pub quiet : p.awaited ≡ []
-  pub at : IsAt seen faults start p.outcomes [] cluster.world
+  pub at : WorldIsAt seen faults start p.outcomes [] cluster.world
   pub talks : Converse cluster.sessions.talkers.items (slice_set p.sessions place after)
   pub tickets : NoTickets cluster.sessions.tickets.items p.sessions
   pub count : cluster.sessions.standing ≡ count_on p.sessions
@@ -110,7 +110,7 @@ pub record FallsAt {D : Type 0} (seen : D → Option (List ℕ)) (faults : D →
   pub quiet : p.awaited ≡ []
   pub plain : Session
   pub here : slice_get p.sessions place ≡ Some plain
-  pub at : IsAt seen faults start p.outcomes [] cluster.world
+  pub at : WorldIsAt seen faults start p.outcomes [] cluster.world
   pub talks : Converse cluster.sessions.talkers.items p.sessions
   pub count : cluster.sessions.standing ≡ count_on p.sessions
   pub up : is_up cluster.world ≡ false
@@ -119,24 +119,24 @@ pub record FallsAt {D : Type 0} (seen : D → Option (List ℕ)) (faults : D →
 -- sessions from this place on are to be asked
 pub record AsksFrom (place : ℕ) (p : Point) : Type 0 where
   pub from : ℕ
-  pub ready : IsReady p.turn p.sessions from
+  pub ready : IsReadyToAsk p.turn p.sessions from
   pub before : from ≤ place + 1
   pub awaits : (p.awaited ≡ []) ⊎ ((one : Awaited) × (p.awaited ≡ one ∷ []) × (place + 1 ≤ one.session))
 
 -- The session at this place waits for its call, and no other waits; its ticket was taken, to ask for it.
 pub record IsAsking {D : Type 0} (seen : D → Option (List ℕ)) (faults : D → ℕ) (start : World D) (p : Point) (place : ℕ) (ticket : Ticket) (cluster : Cluster D) : Type 0 where
   pub from : ℕ
-  pub ready : IsReady p.turn p.sessions from
+  pub ready : IsReadyToAsk p.turn p.sessions from
   pub before : from ≤ place + 1
   pub number : ℕ
   pub ticket_is : ticket ≡ nth_ticket number
   pub call : calls.Call
   pub plain : Session
   pub here : slice_get p.sessions place ≡ Some plain
-  pub state : State
+  pub state : TalkState
   pub waits : plain.standing ≡ Waiting state call
   pub heard : (first : List Exchange) × (last : Exchange) × (plain.whole ≡ first ++ last ∷ [])
-  pub at : IsAt seen faults start p.outcomes (record { number = number; session = place + 1; call = call } ∷ []) cluster.world
+  pub at : WorldIsAt seen faults start p.outcomes (record { number = number; session = place + 1; call = call } ∷ []) cluster.world
   pub talks : Converse cluster.sessions.talkers.items p.sessions
   pub others : NoTickets cluster.sessions.tickets.items (slice_set p.sessions place (record plain { standing = EndedDown }))
   pub count : cluster.sessions.standing ≡ count_on p.sessions
@@ -151,7 +151,7 @@ pub record IsFalling {D : Type 0} (seen : D → Option (List ℕ)) (faults : D �
   pub quiet : p.awaited ≡ []
   pub fallen : (i : ℕ) (session : Session) → i < place → slice_get p.sessions i ≡ Some session → HasEnded session.standing
   pub without : (i : ℕ) (ticket : Option Ticket) → i < place → slice_get cluster.sessions.tickets.items i ≡ Some ticket → ticket ≡ None
-  pub at : IsAt seen faults start p.outcomes [] cluster.world
+  pub at : WorldIsAt seen faults start p.outcomes [] cluster.world
   pub talks : Converse cluster.sessions.talkers.items p.sessions
   pub count : cluster.sessions.standing ≡ count_on p.sessions
   pub up : is_up cluster.world ≡ false

@@ -13,7 +13,7 @@ use Rattle.session_model.specs.Logs.{Asked, asked_by, answered_by}
 use Rattle.session_model.specs.Run.{Made, Stop, IsDriven, refusal, failed_in}
 use Rattle.session_model.specs.Kept.{IsEnding}
 use Rattle.session_model.specs.Run.Stop.{BehindLine, SinkFailed, OutOfMemory}
-use Rattle.cluster_world.specs.Outcomes.{Outcome, Awaited, Makes, made_of, asked_in, answered_in}
+use Rattle.cluster_world.specs.Outcomes.{Outcome, Awaited, Makes, made_of, asked_by_outcome, answered_by_outcome}
 use Rattle.cluster_world.specs.World.{plan_of, disk_of, is_up}
 use Rattle.io_edge.specs.Causes.{Rose}
 use Rattle.cluster_world.specs.declared.world.World.{World}
@@ -23,7 +23,7 @@ use Rattle.drive_tape.specs.declared.drove.TapeFault.{TapeFault}
 use Rattle.drive_tape.specs.declared.drove.TapeFault.TheVariants.{BadLine, TapeTooLong}
 use Rattle.drive_tape.specs.declared.drove.Stop.{Stop as Why}
 use Rattle.drive_tape.specs.declared.drove.Stop.TheVariants as why
-use Rattle.drive_tape.specs.Faults.{fault_of}
+use Rattle.drive_tape.specs.Faults.{tape_fault_seen}
 use Rattle.drive_tape.specs.Kept.{KeptIn}
 
 -- the octets are a line that is this order
@@ -47,7 +47,7 @@ StopsAt fault plan down sessions left octets room =
     ⊎ ((fault ≡ BadLine) × HasNoLf octets × (65535 < length octets))
     ⊎ ((fault ≡ BadLine) × IsNoOrder octets)
     ⊎ ((fault ≡ TapeTooLong) × HasNoLf octets × (room ≡ 0))
-    ⊎ ((order : Order) × IsOrder octets order × (refusal plan down sessions order ≡ Some (fault_of fault)))
+    ⊎ ((order : Order) × IsOrder octets order × (refusal plan down sessions order ≡ Some (tape_fault_seen fault)))
 
 -- the stop of an answer, and the number of the line that it names
 abbrev pub stop_of : Drove → Why
@@ -106,9 +106,9 @@ pub record Drives {D : Type 0} (seen : D → Option (List ℕ)) (faults : D → 
   pub lacking : List Asked
   pub steps : Makes seen faults outcomes [] start awaited last
   pub made_are : map made_of outcomes ≡ made
-  pub asked_are : flat_map asked_by (flat_map (λ a. a) (acts ++ behind)) ≡ flat_map asked_in outcomes ++ lacking
+  pub asked_are : flat_map asked_by (flat_map (λ a. a) (acts ++ behind)) ≡ flat_map asked_by_outcome outcomes ++ lacking
   pub lack : MayLackOne stop lacking
-  pub answered_are : flat_map answered_by (flat_map (λ a. a) (acts ++ behind)) ≡ flat_map answered_in outcomes
+  pub answered_are : flat_map answered_by (flat_map (λ a. a) (acts ++ behind)) ≡ flat_map answered_by_outcome outcomes
   pub why : Stops (stop_of answer) stop (plan_of start) (failed_in (flat_map (λ a. a) acts)) sessions midst left1 others room
   pub number : NamesLine answer (from + length handled + 1)
   pub whole : stop ≡ BehindLine → cut ≡ []
@@ -117,4 +117,4 @@ pub record Drives {D : Type 0} (seen : D → Option (List ℕ)) (faults : D → 
   pub quiet : is_up last ≡ true → faults (disk_of last) ≡ faults (disk_of start)
   -- all promises are kept by the disk and the book of the world that came back, whatever line then says why the program ended
   pub kept : (plan_of start).confirm ≡ 1 → (ending : List Entry) → IsEnding ending
-      → KeptIn seen last (plan_of start) stop (handled ++ midst) (entries ++ ending) (flat_map (λ a. a) (acts ++ behind)) (flat_map asked_in outcomes)
+      → KeptIn seen last (plan_of start) stop (handled ++ midst) (entries ++ ending) (flat_map (λ a. a) (acts ++ behind)) (flat_map asked_by_outcome outcomes)

@@ -7,13 +7,13 @@ use Rattle.drive_tape.specs.Parts.{IsPart}
 use Rattle.drive_tape.specs.declared.entry.Entry.{Entry}
 use Rattle.drive_tape.specs.declared.entry.Entry.TheVariants.{Said, Event, Refused}
 
-abbrev pub entry_of : Entry → transcript.Entry
-entry_of (Said session text) = transcript.Entry.Said session text
-entry_of (Event text) = transcript.Entry.Event text
-entry_of (Refused text) = transcript.Entry.Refused text
+abbrev pub transcript_entry : Entry → transcript.Entry
+transcript_entry (Said session text) = transcript.Entry.Said session text
+transcript_entry (Event text) = transcript.Entry.Event text
+transcript_entry (Refused text) = transcript.Entry.Refused text
 
-abbrev pub entries_of : List Entry → List transcript.Entry
-entries_of entries = map entry_of entries
+abbrev pub transcript_entries : List Entry → List transcript.Entry
+transcript_entries entries = map transcript_entry entries
 
 -- all the lines were appended; or a front of them that is not all, and perhaps a part of the next
 abbrev pub WritesEntries : {E : Type 0} → Option (List ℕ) → Option (List ℕ) → Result (Unit {0}) E → List transcript.Entry → Type 0

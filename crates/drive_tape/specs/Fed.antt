@@ -8,7 +8,7 @@ use Rattle.mail_model.specs.Tape.Order.{Open, Say, Feed}
 use Rattle.session_model.specs.Talk.{IsOn}
 use Rattle.session_model.specs.Sessions.{Session}
 use Rattle.session_model.specs.Run.{refusal}
-use Rattle.drive_tape.specs.Faults.{fault_of}
+use Rattle.drive_tape.specs.Faults.{tape_fault_seen}
 use Rattle.drive_tape.specs.Points.{Point}
 use Rattle.drive_tape.specs.declared.drove.TapeFault.{TapeFault}
 
@@ -28,4 +28,4 @@ pub record IsFeedingAt (p : Point) (line : List ℕ) (place : ℕ) (octets : Lis
 -- whether a session may be opened at this node
 abbrev pub Admits : Plan → Point → tape.Protocol → ℕ → Result ℕ TapeFault → ℕ → Type 0
 Admits plan p protocol node (Ok only) standing = (only ≡ 1) × (node ≡ 1) × (standing < 256) × (refusal plan p.down p.sessions (Open protocol node) ≡ None)
-Admits plan p protocol node (Err fault) standing = refusal plan p.down p.sessions (Open protocol node) ≡ Some (fault_of fault)
+Admits plan p protocol node (Err fault) standing = refusal plan p.down p.sessions (Open protocol node) ≡ Some (tape_fault_seen fault)

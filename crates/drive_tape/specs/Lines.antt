@@ -20,13 +20,13 @@ use Rattle.drive_tape.specs.declared.drove.TapeFault.TheVariants.{BadLine}
 use Rattle.drive_tape.specs.declared.drove.Stop.{Stop as Why}
 use Rattle.drive_tape.specs.declared.drove.Stop.TheVariants as why
 use Rattle.drive_tape.specs.Drive.{MayLackOne}
-use Rattle.drive_tape.specs.Faults.{fault_of}
-use Rattle.drive_tape.specs.Parts.{IsCut}
-use Rattle.drive_tape.specs.Points.{Point, AreLinked, Shows, HasCauses}
+use Rattle.drive_tape.specs.Faults.{tape_fault_seen}
+use Rattle.drive_tape.specs.Parts.{IsCutEntry}
+use Rattle.drive_tape.specs.Points.{Point, AreLinked, IsAtPoint, HasCauses}
 use Rattle.drive_tape.specs.Worlds.{IsSince}
 
 -- nothing is under way, and nobody is left to be asked
-pub record IsSettled (p : Point) : Type 0 where
+pub record NothingIsUnderWay (p : Point) : Type 0 where
   pub done : IsDone p.turn p.sessions
   pub quiet : p.awaited ≡ []
 
@@ -56,14 +56,14 @@ pub record LineWent {D : Type 0} (seen : D → Option (List ℕ)) (faults : D �
   pub gave : Appends p.held q.held (written_of (all_of outputs))
   pub held_is : q.held ≡ held
   pub quiet : q.awaited ≡ []
-  pub shows : Shows seen faults start cluster q
+  pub shows : IsAtPoint seen faults start cluster q
 
 -- why a line is not handled: it is `end`, or the fault is this
 abbrev pub IsWhy : Why → Plan → Point → List ℕ → Stop → List (List ℕ) → Type 0
 IsWhy why.Ended plan p line stop midst = (stop ≡ BehindLine) × (midst ≡ []) × (tape_order line ≡ Some End)
 IsWhy (why.Bad fault) plan p line stop midst =
     (stop ≡ BehindLine) × (midst ≡ [])
-    × (((fault ≡ BadLine) × (tape_order line ≡ None)) ⊎ ((order : Order) × (tape_order line ≡ Some order) × (refusal plan p.down p.sessions order ≡ Some (fault_of fault))))
+    × (((fault ≡ BadLine) × (tape_order line ≡ None)) ⊎ ((order : Order) × (tape_order line ≡ Some order) × (refusal plan p.down p.sessions order ≡ Some (tape_fault_seen fault))))
 IsWhy why.WriteFault plan p line stop midst = (stop ≡ SinkFailed) × (midst ≡ line ∷ [])
 IsWhy why.NoMemory plan p line stop midst = stop ≡ OutOfMemory
 IsWhy why.ReadFault plan p line stop midst = ⊥
@@ -88,7 +88,7 @@ pub record LineStopped {D : Type 0} (seen : D → Option (List ℕ)) (faults : D
   pub missing : List Entry
   pub all : (missing ≡ []) ⊎ ((more : List Made) × IsLeftOff plan p.down OutOfMemory p.sessions midst behind (tail ++ missing) more sessions)
   pub cut : List ℕ
-  pub is_cut : IsCut missing cut
+  pub is_cut : IsCutEntry missing cut
   pub whole : stop ≡ BehindLine → cut ≡ []
   pub gave : Appends p.held held (written_of tail ++ cut)
 

@@ -13,5 +13,5 @@ pub record IsPart (entries : List Entry) (cut : List ℕ) : Type 0 where
   pub whole : ended (entry_line entry) ≡ cut ++ rest
 
 -- nothing, or such a front
-abbrev pub IsCut : List Entry → List ℕ → Type 0
-IsCut entries cut = (cut ≡ []) ⊎ IsPart entries cut
+abbrev pub IsCutEntry : List Entry → List ℕ → Type 0
+IsCutEntry entries cut = (cut ≡ []) ⊎ IsPart entries cut

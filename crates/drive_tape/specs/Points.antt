@@ -12,14 +12,14 @@ use Rattle.session_model.specs.Turns as turns
 use Rattle.session_model.specs.Turns.{Turn, Next}
 use Rattle.session_model.specs.Run.{Made, Stop, made_by, failed_in, MayHaveAsked, count_on}
 use Rattle.session_model.specs.Run.Stop.{SinkFailed, OutOfMemory, BehindLine}
-use Rattle.cluster_world.specs.Outcomes.{Outcome, Awaited, Makes, made_of, asked_in, answered_in}
+use Rattle.cluster_world.specs.Outcomes.{Outcome, Awaited, Makes, made_of, asked_by_outcome, answered_by_outcome}
 use Rattle.io_edge.specs.Causes.{Rose}
 use Rattle.cluster_world.specs.World.{plan_of, is_up, disk_of}
 use Rattle.cluster_world.specs.declared.world.World.{World}
 use Rattle.drive_tape.specs.declared.cluster.Cluster.{Cluster}
-use Rattle.drive_tape.specs.Parts.{IsCut}
+use Rattle.drive_tape.specs.Parts.{IsCutEntry}
 use Rattle.drive_tape.specs.Talks.{Converse, HaveTickets}
-use Rattle.drive_tape.specs.Worlds.{IsAt, IsSince}
+use Rattle.drive_tape.specs.Worlds.{WorldIsAt, IsSince}
 use Rattle.drive_tape.specs.declared.drove.Stop.{Stop as Why}
 use Rattle.drive_tape.specs.declared.drove.Stop.TheVariants as why
 
@@ -35,15 +35,15 @@ pub record Point : Type 0 where
 -- What came of the steps of these acts. A call that came to nothing is asked, and none of the cluster: it is lacking.
 pub record AreLinked (acts : List Act) (outcomes : List Outcome) (lacking : List Asked) (extra : List Made) : Type 0 where
   pub made : map made_of outcomes ≡ flat_map made_by acts ++ extra
-  pub asked : flat_map asked_by acts ≡ flat_map asked_in outcomes ++ lacking
-  pub answered : flat_map answered_by acts ≡ flat_map answered_in outcomes
+  pub asked : flat_map asked_by acts ≡ flat_map asked_by_outcome outcomes ++ lacking
+  pub answered : flat_map answered_by acts ≡ flat_map answered_by_outcome outcomes
 
 -- the work went from one point to the other
 pub record Work (plan : Plan) (p q : Point) : Type 0 where
   pub acts : List Act
   pub outputs : List (List Entry)
   pub outcomes : List Outcome
-  pub goes : turns.Goes plan p.turn p.sessions acts outputs q.turn q.sessions
+  pub goes : turns.ActsGo plan p.turn p.sessions acts outputs q.turn q.sessions
   pub linked : AreLinked acts outcomes [] []
   pub came : q.outcomes ≡ p.outcomes ++ outcomes
   pub failed : q.down ≡ p.down ++ failed_in acts
@@ -56,8 +56,8 @@ pub record OneAct (plan : Plan) (p : Point) (act : Act) (entries : List Entry) (
   pub linked : AreLinked (act ∷ []) outcomes [] []
 
 -- nothing of it is missing, or lines of the last act
-abbrev pub IsTail : List (List Entry) → List Entry → Type 0
-IsTail outputs missing = (missing ≡ []) ⊎ ((before : List (List Entry)) × (front : List Entry) × (outputs ≡ before ++ (front ++ missing) ∷ []))
+abbrev pub IsMissingTail : List (List Entry) → List Entry → Type 0
+IsMissingTail outputs missing = (missing ≡ []) ⊎ ((before : List (List Entry)) × (front : List Entry) × (outputs ≡ before ++ (front ++ missing) ∷ []))
 
 -- what of the last act's lines may be missing
 abbrev pub MayLack : Stop → List Entry → List Asked → Type 0
@@ -71,7 +71,7 @@ pub record Cut (plan : Plan) (stop : Stop) (p : Point) (held : Option (List ℕ)
   pub outputs : List (List Entry)
   pub turn : Turn
   pub sessions : List Session
-  pub goes : turns.Goes plan p.turn p.sessions acts outputs turn sessions
+  pub goes : turns.ActsGo plan p.turn p.sessions acts outputs turn sessions
   pub new : List Outcome
   pub lacking : List Asked
   pub extra : List Made
@@ -81,10 +81,10 @@ pub record Cut (plan : Plan) (stop : Stop) (p : Point) (held : Option (List ℕ)
   pub front : List Entry
   pub missing : List Entry
   pub parts : all_of outputs ≡ front ++ missing
-  pub tail : IsTail outputs missing
+  pub tail : IsMissingTail outputs missing
   pub may : MayLack stop missing lacking
   pub cut : List ℕ
-  pub is_cut : IsCut missing cut
+  pub is_cut : IsCutEntry missing cut
   pub gave : Appends p.held held (written_of front ++ cut)
 
 -- nobody stands
@@ -93,16 +93,16 @@ AllEnded [] = ⊤
 AllEnded (session ∷ sessions) = HasEnded session.standing × AllEnded sessions
 
 -- the node is up exactly where it did not fail, and its sessions have ended where it did
-abbrev pub IsUp : Bool → List ℕ → List Session → Type 0
-IsUp up down sessions = ((up ≡ true) × (down ≡ [])) ⊎ ((up ≡ false) × (down ≡ 1 ∷ []) × AllEnded sessions)
+abbrev pub IsUpUnlessFailed : Bool → List ℕ → List Session → Type 0
+IsUpUnlessFailed up down sessions = ((up ≡ true) × (down ≡ [])) ⊎ ((up ≡ false) × (down ≡ 1 ∷ []) × AllEnded sessions)
 
 -- the cluster is at this point
-pub record Shows {D : Type 0} (seen : D → Option (List ℕ)) (faults : D → ℕ) (start : World D) (cluster : Cluster D) (p : Point) : Type 0 where
-  pub at : IsAt seen faults start p.outcomes p.awaited cluster.world
+pub record IsAtPoint {D : Type 0} (seen : D → Option (List ℕ)) (faults : D → ℕ) (start : World D) (cluster : Cluster D) (p : Point) : Type 0 where
+  pub at : WorldIsAt seen faults start p.outcomes p.awaited cluster.world
   pub talks : Converse cluster.sessions.talkers.items p.sessions
   pub tickets : HaveTickets cluster.sessions.tickets.items p.sessions p.awaited
   pub count : cluster.sessions.standing ≡ count_on p.sessions
-  pub up : IsUp (is_up cluster.world) p.down p.sessions
+  pub up : IsUpUnlessFailed (is_up cluster.world) p.down p.sessions
 
 -- the stop is this one of the definitions
 abbrev pub IsStop : Why → Stop → Type 0
@@ -128,10 +128,10 @@ pub record WentOn {D : Type 0} (seen : D → Option (List ℕ)) (faults : D → 
   pub q : Point
   pub work : Work plan p q
   pub held_is : q.held ≡ held
-  pub shows : Shows seen faults start cluster q
+  pub shows : IsAtPoint seen faults start cluster q
   pub so_is : so q
 
 -- what was done from a point on
-abbrev pub Goes : {D T : Type 0} → (D → Option (List ℕ)) → (D → ℕ) → World D → Plan → Point → (Point → Type 0) → Result T Why → Option (List ℕ) → Cluster D → Type 0
-Goes seen faults start plan p so (Ok _) held cluster = WentOn seen faults start plan p so held cluster
-Goes seen faults start plan p so (Err reason) held cluster = Stopped seen faults start plan p reason held cluster.world
+abbrev pub WorkGoes : {D T : Type 0} → (D → Option (List ℕ)) → (D → ℕ) → World D → Plan → Point → (Point → Type 0) → Result T Why → Option (List ℕ) → Cluster D → Type 0
+WorkGoes seen faults start plan p so (Ok _) held cluster = WentOn seen faults start plan p so held cluster
+WorkGoes seen faults start plan p so (Err reason) held cluster = Stopped seen faults start plan p reason held cluster.world

@@ -12,10 +12,10 @@ TakesOctet left0 left1 (Ok None) = Consumes left0 left1 [] × IsAtEnd left1
 TakesOctet left0 left1 (Err _) = Consumes left0 left1 []
 
 -- these octets were taken: a line with its LF; or no line, and why
-abbrev pub Reads : Result (List ℕ) LineStop → Option (List ℕ) → List ℕ → ℕ → Type 0
-Reads (Ok line) left taken room = (taken ≡ ended line) × HasNoLf line × (length line ≤ 65535)
-Reads (Err EndedEarly) left taken room = HasNoLf taken × IsAtEnd left
-Reads (Err LongLine) left taken room = HasNoLf taken × (65535 < length taken)
-Reads (Err TooLong) left taken room = HasNoLf taken × (room ≡ 0)
-Reads (Err ReadFault) left taken room = HasNoLf taken
-Reads (Err NoMemory) left taken room = HasNoLf taken
+abbrev pub ReadsLine : Result (List ℕ) LineStop → Option (List ℕ) → List ℕ → ℕ → Type 0
+ReadsLine (Ok line) left taken room = (taken ≡ ended line) × HasNoLf line × (length line ≤ 65535)
+ReadsLine (Err EndedEarly) left taken room = HasNoLf taken × IsAtEnd left
+ReadsLine (Err LongLine) left taken room = HasNoLf taken × (65535 < length taken)
+ReadsLine (Err TooLong) left taken room = HasNoLf taken × (room ≡ 0)
+ReadsLine (Err ReadFault) left taken room = HasNoLf taken
+ReadsLine (Err NoMemory) left taken room = HasNoLf taken

@@ -12,8 +12,8 @@ use Rattle.drive_tape.specs.declared.cluster.Cluster.{Cluster}
 use Rattle.drive_tape.specs.declared.reader.LineStop.{LineStop}
 use Rattle.drive_tape.specs.declared.drove.Stop.{Stop as Why}
 use Rattle.drive_tape.specs.Lines.{LineWent, LineStopped}
-use Rattle.drive_tape.specs.Points.{Point, AreLinked, Shows}
-use Rattle.drive_tape.specs.Reads.{Reads}
+use Rattle.drive_tape.specs.Points.{Point, AreLinked, IsAtPoint}
+use Rattle.drive_tape.specs.Reads.{ReadsLine}
 use Rattle.drive_tape.specs.Stops.{of_line}
 
 -- so far these lines were handled
@@ -32,12 +32,12 @@ pub record Progress {D : Type 0} (seen : D → Option (List ℕ)) (faults : D �
   pub gave : Appends held0 held1 (written_of (flat_map all_of outputs))
   pub held_is : point.held ≡ held1
   pub quiet : point.awaited ≡ []
-  pub shows : Shows seen faults start cluster point
+  pub shows : IsAtPoint seen faults start cluster point
 
 -- no line was read, or the work on it stopped
 abbrev pub TurnStopped : {D : Type 0} → (D → Option (List ℕ)) → (D → ℕ) → World D → Plan → Point → Why → List ℕ → Option (List ℕ) → ℕ → Option (List ℕ) → Cluster D → Cluster D → Type 0
 TurnStopped seen faults start plan p stop taken left room held old new =
-    ((why : LineStop) × (stop ≡ of_line why) × Reads (Err why) left taken room × (p.held ≡ held) × (new ≡ old))
+    ((why : LineStop) × (stop ≡ of_line why) × ReadsLine (Err why) left taken room × (p.held ≡ held) × (new ≡ old))
     ⊎ ((line : List ℕ) × (taken ≡ ended line) × HasNoLf line × LineStopped seen faults start plan p line stop held new.world)
 
 abbrev pub TurnDid : {D T : Type 0} → (D → Option (List ℕ)) → (D → ℕ) → World D → Plan → Point → Result T Why → List ℕ → Option (List ℕ) → ℕ → Option (List ℕ) → Cluster D → Cluster D → Type 0

@@ -2,7 +2,7 @@
 use Rattle.std.specs.Prelude.{◌≡◌, ◌≢◌, ◌⊎◌, ◌+◌, ◌-◌, ◌<◌, ℕ, nat_eq, Bool, true, false, List, [], ◌∷◌, ◌++◌, slice_get, slice_set, ⊤, Option, Some, None, if◌then◌else◌}
 use Rattle.mail_model.specs.Tape.{Protocol}
 use Rattle.session_model.specs.Calls as calls
-use Rattle.session_model.specs.Talk.{Exchange, State, Standing, IsOn}
+use Rattle.session_model.specs.Talk.{Exchange, TalkState, Standing, IsOn}
 use Rattle.session_model.specs.Talk.Standing.{Waiting, EndedDown}
 use Rattle.session_model.specs.Sessions.{Session, session_at}
 use Rattle.session_model.specs.Run.{session_fault}
@@ -27,7 +27,7 @@ Converse talkers sessions = ⊥
 
 -- the session does not wait
 abbrev pub IsQuiet : Standing → Type 0
-IsQuiet standing = (state : State) (call : calls.Call) → standing ≢ Waiting state call
+IsQuiet standing = (state : TalkState) (call : calls.Call) → standing ≢ Waiting state call
 
 -- nobody waits, and nobody has a ticket
 abbrev pub NoTickets : List (Option Ticket) → List Session → Type 0
@@ -41,7 +41,7 @@ pub record OneWaits (one : Awaited) (tickets : List (Option Ticket)) (sessions :
   pub number_is : one.session ≡ place + 1
   pub plain : Session
   pub here : slice_get sessions place ≡ Some plain
-  pub state : State
+  pub state : TalkState
   pub waits : plain.standing ≡ Waiting state one.call
   pub heard : (before : List Exchange) × (last : Exchange) × (plain.whole ≡ before ++ last ∷ [])
   pub ticket : Ticket

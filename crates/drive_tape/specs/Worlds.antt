@@ -3,7 +3,7 @@ use Rattle.std.specs.Prelude.{◌≡◌, ◌⊎◌, ℕ, ◌≤◌, true, false,
 use Rattle.session_model.specs.Calls as calls
 use Rattle.call_tickets.specs.declared.answer.Answer.{Answer}
 use Rattle.call_tickets.specs.Seen.{answer_seen}
-use Rattle.cluster_world.specs.Outcomes.{Outcome, Awaited, Makes, Stands}
+use Rattle.cluster_world.specs.Outcomes.{Outcome, Awaited, Makes, IsAwaited}
 use Rattle.cluster_world.specs.Outcomes.Outcome.{Began, Refused, Fell, Answers, Unanswered, Left}
 use Rattle.io_edge.specs.Causes.{Rose}
 use Rattle.io_edge.specs.Octets.{IsToldAlike}
@@ -16,9 +16,9 @@ use Rattle.cluster_world.specs.declared.step.StepFault.{StepFault}
 use Rattle.mail_base.specs.declared.ticket.Ticket.{Ticket}
 
 -- It made these steps since and no others, and these calls are awaited: none, or one that is in progress.
-pub record IsAt {D : Type 0} (seen : D → Option (List ℕ)) (faults : D → ℕ) (start : World D) (outcomes : List Outcome) (awaited : List Awaited) (world : World D) : Type 0 where
+pub record WorldIsAt {D : Type 0} (seen : D → Option (List ℕ)) (faults : D → ℕ) (start : World D) (outcomes : List Outcome) (awaited : List Awaited) (world : World D) : Type 0 where
   pub made : Makes seen faults outcomes [] start awaited world
-  pub stands : Stands awaited world
+  pub stands : IsAwaited awaited world
   pub sound : is_up world ≡ true → IsSound seen world
   pub told : IsToldAlike (seen (disk_of start)) (seen (disk_of world))
   pub later : faults (disk_of start) ≤ faults (disk_of world)
@@ -35,7 +35,7 @@ pub record IsSince {D : Type 0} (seen : D → Option (List ℕ)) (faults : D →
   pub quiet : is_up world ≡ true → faults (disk_of world) ≡ faults (disk_of start)
 
 -- what a world needs for its steps, and that its disk is settled while the node is up
-pub record IsReady {D : Type 0} (seen : D → Option (List ℕ)) (is_settled : D → Type 0) (world : World D) : Type 0 where
+pub record WorldIsReady {D : Type 0} (seen : D → Option (List ℕ)) (is_settled : D → Type 0) (world : World D) : Type 0 where
   pub one : (plan_of world).nodes ≡ 1
   pub gate : is_up world ≡ true → ShowsGate seen world
   pub settled : is_up world ≡ true → is_settled (disk_of world)
@@ -53,15 +53,15 @@ HandsOn said handed = ⊥
 abbrev pub BeganSo : {D E : Type 0} → (D → Option (List ℕ)) → (D → ℕ) → World D → List Outcome → ℕ → calls.Call → Result (Option Ticket) E → World D → Type 0
 BeganSo seen faults start outcomes k call (Ok (Some ticket)) world =
     (number : ℕ) × (ticket ≡ nth_ticket number) × (is_up world ≡ true)
-    × IsAt seen faults start (outcomes ++ Began k call number ∷ []) (record { number = number; session = k; call = call } ∷ []) world
-BeganSo seen faults start outcomes k call (Ok None) world = IsAt seen faults start (outcomes ++ Fell k call ∷ []) [] world × (is_up world ≡ false)
+    × WorldIsAt seen faults start (outcomes ++ Began k call number ∷ []) (record { number = number; session = k; call = call } ∷ []) world
+BeganSo seen faults start outcomes k call (Ok None) world = WorldIsAt seen faults start (outcomes ++ Fell k call ∷ []) [] world × (is_up world ≡ false)
 BeganSo seen faults start outcomes k call (Err _) world =
     IsSince seen faults start (outcomes ++ Refused k call ∷ []) world ⊎ IsSince seen faults start (outcomes ++ Fell k call ∷ []) world
 
 -- what came of asking for it: its answer, or want of memory
 abbrev pub AskedSo : {D E : Type 0} → (D → Option (List ℕ)) → (D → ℕ) → World D → List Outcome → ℕ → calls.Call → ℕ → Result (Option Answer) E → World D → Type 0
 AskedSo seen faults start outcomes k call number (Ok (Some answer)) world =
-    IsAt seen faults start (outcomes ++ Answers k call number (answer_seen answer) ∷ []) [] world
+    WorldIsAt seen faults start (outcomes ++ Answers k call number (answer_seen answer) ∷ []) [] world
     × ((reply : List (List ℕ)) × calls.IsReply call (answer_seen answer) reply)
 AskedSo seen faults start outcomes k call number (Ok None) world = ⊥
 AskedSo seen faults start outcomes k call number (Err _) world = IsSince seen faults start (outcomes ++ Unanswered k number ∷ []) world

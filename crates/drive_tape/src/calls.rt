@@ -6,7 +6,7 @@ ghost use Rattle.cluster_world.specs.Outcomes.{Outcome, Awaited, IsLeave};
 ghost use Rattle.cluster_world.specs.Steps.{nth_ticket};
 ghost use Rattle.cluster_world.specs.World.{plan_of, is_up};
 ghost use Rattle.cluster_world.specs.declared.world.World.{World as AWorld};
-ghost use Rattle.drive_tape.specs.Worlds.{HandsOn, IsAt, IsReady, BeganSo, AskedSo};
+ghost use Rattle.drive_tape.specs.Worlds.{HandsOn, WorldIsAt, WorldIsReady, BeganSo, AskedSo};
 
 use call_tickets::{Answer, Ask, Call};
 use cluster_world::{Said, Step, StepFault, World};
@@ -45,12 +45,12 @@ pub(crate) fn begin<D: Disk>(
     alloc: Global,
     call: Call,
 ) -> Result<Option<Ticket>, AllocError>
-    requires ready { IsReady D.seen D.settled world.old }
+    requires ready { WorldIsReady D.seen D.settled world.old }
     requires up { is_up world.old ≡ true }
-    ensures ready { IsReady D.seen D.settled world.new }
+    ensures ready { WorldIsReady D.seen D.settled world.new }
     ensures plan { plan_of world.new ≡ plan_of world.old }
     ensures began { (start : AWorld D) (outcomes : List Outcome) (k : ℕ) (asked : calls.Call) → call_seen call ≡ Some asked
-        → IsAt D.seen D.faults start outcomes [] world.old → BeganSo D.seen D.faults start outcomes k asked result world.new }
+        → WorldIsAt D.seen D.faults start outcomes [] world.old → BeganSo D.seen D.faults start outcomes k asked result world.new }
 {
     let node = only_node();
     let said = world.step(alloc, Step::Begin { node, call });
@@ -67,12 +67,12 @@ pub(crate) fn ask<D: Disk>(
     alloc: Global,
     ticket: Ticket,
 ) -> Result<Option<Answer>, AllocError>
-    requires ready { IsReady D.seen D.settled world.old }
-    ensures ready { IsReady D.seen D.settled world.new }
+    requires ready { WorldIsReady D.seen D.settled world.old }
+    ensures ready { WorldIsReady D.seen D.settled world.new }
     ensures plan { plan_of world.new ≡ plan_of world.old }
     ensures up { is_up world.new ≡ is_up world.old }
     ensures asked { (start : AWorld D) (outcomes : List Outcome) (k number : ℕ) (asked : calls.Call) → ticket ≡ nth_ticket number
-        → IsAt D.seen D.faults start outcomes (record { number = number; session = k; call = asked } ∷ []) world.old
+        → WorldIsAt D.seen D.faults start outcomes (record { number = number; session = k; call = asked } ∷ []) world.old
         → AskedSo D.seen D.faults start outcomes k asked number result world.new }
 {
     match world.step(alloc, Step::Ask { ticket }) {
@@ -96,12 +96,12 @@ pub(crate) fn leave<D: Disk>(
     alloc: Global,
     call: Call,
 ) -> Result<(), AllocError>
-    requires ready { IsReady D.seen D.settled world.old }
-    ensures ready { IsReady D.seen D.settled world.new }
+    requires ready { WorldIsReady D.seen D.settled world.old }
+    ensures ready { WorldIsReady D.seen D.settled world.new }
     ensures plan { plan_of world.new ≡ plan_of world.old }
     ensures up { OnOk result (is_up world.new ≡ is_up world.old) }
     ensures left { (start : AWorld D) (outcomes : List Outcome) (k : ℕ) (user : List ℕ) → IsLeave user call
-        → IsAt D.seen D.faults start outcomes [] world.old → IsAt D.seen D.faults start (outcomes ++ Outcome.Left k user ∷ []) [] world.new }
+        → WorldIsAt D.seen D.faults start outcomes [] world.old → WorldIsAt D.seen D.faults start (outcomes ++ Outcome.Left k user ∷ []) [] world.new }
 {
     let node = only_node();
     match world.step(alloc, Step::Begin { node, call }) {

@@ -3,11 +3,11 @@ ghost use Rattle.std.specs.Prelude.{◌^◌, ◌≡◌, ◌⊎◌, ◌+◌, ◌<
 ghost use Rattle.io_edge.specs.Causes.{Rose};
 ghost use Rattle.cluster_world.specs.World.{plan_of, is_up};
 ghost use Rattle.cluster_world.specs.declared.world.World.{World as AWorld};
-ghost use Rattle.drive_tape.specs.Points.{Point, Shows, Goes};
-ghost use Rattle.drive_tape.specs.Lines.{IsSettled};
-ghost use Rattle.drive_tape.specs.Worlds.{IsReady};
+ghost use Rattle.drive_tape.specs.Points.{Point, IsAtPoint, WorkGoes};
+ghost use Rattle.drive_tape.specs.Lines.{NothingIsUnderWay};
+ghost use Rattle.drive_tape.specs.Worlds.{WorldIsReady};
 ghost use Rattle.drive_tape.specs.Moving.{left_at, work_at};
-ghost use Rattle.drive_tape.specs.Clusters.{HearsAt, RestsAt, MovedTo, IsSaying, EndsAt, IsBeginning, FallsAt, IsFalling, FellOn, AsksFrom, IsAsking};
+ghost use Rattle.drive_tape.specs.Clusters.{HearsAt, RestsAt, MovedTo, IsSaying, SessionEndsAt, IsBeginning, FallsAt, IsFalling, FellOn, AsksFrom, IsAsking};
 ghost use Rattle.mail_model.specs.Plan.{Plan};
 ghost use Rattle.drive_tape.specs.declared.sessions.After.TheVariants.{Ends};
 
@@ -46,13 +46,13 @@ impl<D: Disk> Cluster<D> {
         sink: &mut K,
         place: usize,
     ) -> Result<bool, Stop>
-        requires ready { IsReady D.seen D.settled self.old.world }
+        requires ready { WorldIsReady D.seen D.settled self.old.world }
         requires within { place < length self.old.sessions.talkers.items }
         requires tickets { length self.old.sessions.tickets.items ≡ length self.old.sessions.talkers.items }
-        ensures ready { IsReady D.seen D.settled self.new.world }
+        ensures ready { WorldIsReady D.seen D.settled self.new.world }
         ensures plan { plan_of self.new.world ≡ plan_of self.old.world }
-        ensures moved { (start : AWorld D) (p : Point) (onward : ℕ) → Shows D.seen D.faults start self.old p → p.held ≡ K.contents sink.old → HearsAt place onward p
-            → Goes D.seen D.faults start (plan_of self.old.world) p (MovedTo place onward result) result (K.contents sink.new) self.new }
+        ensures moved { (start : AWorld D) (p : Point) (onward : ℕ) → IsAtPoint D.seen D.faults start self.old p → p.held ≡ K.contents sink.old → HearsAt place onward p
+            → WorkGoes D.seen D.faults start (plan_of self.old.world) p (MovedTo place onward result) result (K.contents sink.new) self.new }
         ensures length { length self.new.sessions.talkers.items ≡ length self.old.sessions.talkers.items }
         ensures tickets { length self.new.sessions.tickets.items ≡ length self.old.sessions.tickets.items }
         ensures later { K.faults sink.old ≤ K.faults sink.new }
@@ -75,13 +75,13 @@ impl<D: Disk> Cluster<D> {
 
     // The session at this place makes its moves until it does not hear on.
     pub fn hear<K: Sink>(&mut self, alloc: Global, sink: &mut K, place: usize) -> Result<(), Stop>
-        requires ready { IsReady D.seen D.settled self.old.world }
+        requires ready { WorldIsReady D.seen D.settled self.old.world }
         requires within { place < length self.old.sessions.talkers.items }
         requires tickets { length self.old.sessions.tickets.items ≡ length self.old.sessions.talkers.items }
-        ensures ready { IsReady D.seen D.settled self.new.world }
+        ensures ready { WorldIsReady D.seen D.settled self.new.world }
         ensures plan { plan_of self.new.world ≡ plan_of self.old.world }
-        ensures heard { (start : AWorld D) (p : Point) (onward : ℕ) → Shows D.seen D.faults start self.old p → p.held ≡ K.contents sink.old → HearsAt place onward p
-            → Goes D.seen D.faults start (plan_of self.old.world) p (RestsAt place onward) result (K.contents sink.new) self.new }
+        ensures heard { (start : AWorld D) (p : Point) (onward : ℕ) → IsAtPoint D.seen D.faults start self.old p → p.held ≡ K.contents sink.old → HearsAt place onward p
+            → WorkGoes D.seen D.faults start (plan_of self.old.world) p (RestsAt place onward) result (K.contents sink.new) self.new }
         ensures length { length self.new.sessions.talkers.items ≡ length self.old.sessions.talkers.items }
         ensures tickets { length self.new.sessions.tickets.items ≡ length self.old.sessions.tickets.items }
         ensures later { K.faults sink.old ≤ K.faults sink.new }
@@ -100,12 +100,12 @@ impl<D: Disk> Cluster<D> {
         place: usize,
         ticket: Ticket,
     ) -> Result<bool, Stop>
-        requires ready { IsReady D.seen D.settled self.old.world }
+        requires ready { WorldIsReady D.seen D.settled self.old.world }
         requires within { place < length self.old.sessions.talkers.items }
-        ensures ready { IsReady D.seen D.settled self.new.world }
+        ensures ready { WorldIsReady D.seen D.settled self.new.world }
         ensures plan { plan_of self.new.world ≡ plan_of self.old.world }
         ensures asked { (start : AWorld D) (p : Point) → IsAsking D.seen D.faults start p place ticket self.old → p.held ≡ K.contents sink.old
-            → Goes D.seen D.faults start (plan_of self.old.world) p (MovedTo place (place + 1) result) result (K.contents sink.new) self.new }
+            → WorkGoes D.seen D.faults start (plan_of self.old.world) p (MovedTo place (place + 1) result) result (K.contents sink.new) self.new }
         ensures length { length self.new.sessions.talkers.items ≡ length self.old.sessions.talkers.items }
         ensures tickets { self.new.sessions.tickets ≡ self.old.sessions.tickets }
         ensures left { OnOk result (left_at place self.new.sessions ≤ left_at place self.old.sessions) }
@@ -125,13 +125,13 @@ impl<D: Disk> Cluster<D> {
 
     // The session at this place is asked for, as long as it waits.
     fn ask_at<K: Sink>(&mut self, alloc: Global, sink: &mut K, place: usize) -> Result<(), Stop>
-        requires ready { IsReady D.seen D.settled self.old.world }
+        requires ready { WorldIsReady D.seen D.settled self.old.world }
         requires within { place < length self.old.sessions.talkers.items }
         requires tickets { length self.old.sessions.tickets.items ≡ length self.old.sessions.talkers.items }
-        ensures ready { IsReady D.seen D.settled self.new.world }
+        ensures ready { WorldIsReady D.seen D.settled self.new.world }
         ensures plan { plan_of self.new.world ≡ plan_of self.old.world }
-        ensures asked { (start : AWorld D) (p : Point) → Shows D.seen D.faults start self.old p → p.held ≡ K.contents sink.old → AsksFrom place p
-            → Goes D.seen D.faults start (plan_of self.old.world) p (AsksFrom (place + 1)) result (K.contents sink.new) self.new }
+        ensures asked { (start : AWorld D) (p : Point) → IsAtPoint D.seen D.faults start self.old p → p.held ≡ K.contents sink.old → AsksFrom place p
+            → WorkGoes D.seen D.faults start (plan_of self.old.world) p (AsksFrom (place + 1)) result (K.contents sink.new) self.new }
         ensures length { length self.new.sessions.talkers.items ≡ length self.old.sessions.talkers.items }
         ensures tickets { length self.new.sessions.tickets.items ≡ length self.old.sessions.tickets.items }
         ensures later { K.faults sink.old ≤ K.faults sink.new }
@@ -147,12 +147,12 @@ impl<D: Disk> Cluster<D> {
 
     // All sessions that wait are asked for, in rising order.
     pub fn ask_all<K: Sink>(&mut self, alloc: Global, sink: &mut K) -> Result<(), Stop>
-        requires ready { IsReady D.seen D.settled self.old.world }
+        requires ready { WorldIsReady D.seen D.settled self.old.world }
         requires tickets { length self.old.sessions.tickets.items ≡ length self.old.sessions.talkers.items }
-        ensures ready { IsReady D.seen D.settled self.new.world }
+        ensures ready { WorldIsReady D.seen D.settled self.new.world }
         ensures plan { plan_of self.new.world ≡ plan_of self.old.world }
-        ensures asked { (start : AWorld D) (p : Point) → Shows D.seen D.faults start self.old p → p.held ≡ K.contents sink.old → AsksFrom 0 p
-            → Goes D.seen D.faults start (plan_of self.old.world) p IsSettled result (K.contents sink.new) self.new }
+        ensures asked { (start : AWorld D) (p : Point) → IsAtPoint D.seen D.faults start self.old p → p.held ≡ K.contents sink.old → AsksFrom 0 p
+            → WorkGoes D.seen D.faults start (plan_of self.old.world) p NothingIsUnderWay result (K.contents sink.new) self.new }
         ensures length { length self.new.sessions.talkers.items ≡ length self.old.sessions.talkers.items }
         ensures tickets { length self.new.sessions.tickets.items ≡ length self.old.sessions.tickets.items }
         ensures later { K.faults sink.old ≤ K.faults sink.new }
@@ -173,12 +173,12 @@ impl<D: Disk> Cluster<D> {
         out: &[u8],
         after: After,
     ) -> Result<bool, Stop>
-        requires ready { IsReady D.seen D.settled self.old.world }
+        requires ready { WorldIsReady D.seen D.settled self.old.world }
         requires within { place < length self.old.sessions.talkers.items }
-        ensures ready { IsReady D.seen D.settled self.new.world }
+        ensures ready { WorldIsReady D.seen D.settled self.new.world }
         ensures plan { plan_of self.new.world ≡ plan_of self.old.world }
         ensures said { (start : AWorld D) (p q : Point) (onward : ℕ) → IsSaying D.seen D.faults start (plan_of self.old.world) p q place onward after out.now self.old → p.held ≡ K.contents sink.old
-            → Goes D.seen D.faults start (plan_of self.old.world) p (MovedTo place onward result) result (K.contents sink.new) self.new }
+            → WorkGoes D.seen D.faults start (plan_of self.old.world) p (MovedTo place onward result) result (K.contents sink.new) self.new }
         ensures sessions { self.new.sessions ≡ self.old.sessions }
         ensures later { K.faults sink.old ≤ K.faults sink.new }
         ensures failed { IsErrOf result Stop.WriteFault → Rose (K.faults sink.old) (K.faults sink.new) }
@@ -198,11 +198,11 @@ impl<D: Disk> Cluster<D> {
 
     // A session that has ended leaves, where it was let in.
     pub fn leave(&mut self, alloc: Global, call: Option<Call>) -> Result<(), Stop>
-        requires ready { IsReady D.seen D.settled self.old.world }
-        ensures ready { IsReady D.seen D.settled self.new.world }
+        requires ready { WorldIsReady D.seen D.settled self.old.world }
+        ensures ready { WorldIsReady D.seen D.settled self.new.world }
         ensures plan { plan_of self.new.world ≡ plan_of self.old.world }
-        ensures left { (start : AWorld D) (p : Point) (place onward : ℕ) → Shows D.seen D.faults start self.old p → EndsAt place onward call p
-            → Goes D.seen D.faults start (plan_of self.old.world) p (RestsAt place onward) result p.held self.new }
+        ensures left { (start : AWorld D) (p : Point) (place onward : ℕ) → IsAtPoint D.seen D.faults start self.old p → SessionEndsAt place onward call p
+            → WorkGoes D.seen D.faults start (plan_of self.old.world) p (RestsAt place onward) result p.held self.new }
         ensures sessions { self.new.sessions ≡ self.old.sessions }
         ensures why { IsErrOf result Stop.WriteFault → ⊥ }
     {
@@ -220,13 +220,13 @@ impl<D: Disk> Cluster<D> {
         place: usize,
         call: Call,
     ) -> Result<bool, Stop>
-        requires ready { IsReady D.seen D.settled self.old.world }
+        requires ready { WorldIsReady D.seen D.settled self.old.world }
         requires within { place < length self.old.sessions.tickets.items }
         requires tickets { length self.old.sessions.tickets.items ≡ length self.old.sessions.talkers.items }
-        ensures ready { IsReady D.seen D.settled self.new.world }
+        ensures ready { WorldIsReady D.seen D.settled self.new.world }
         ensures plan { plan_of self.new.world ≡ plan_of self.old.world }
         ensures began { (start : AWorld D) (p : Point) (onward : ℕ) → IsBeginning D.seen D.faults start (plan_of self.old.world) p place onward call self.old → p.held ≡ K.contents sink.old
-            → Goes D.seen D.faults start (plan_of self.old.world) p (MovedTo place onward result) result (K.contents sink.new) self.new }
+            → WorkGoes D.seen D.faults start (plan_of self.old.world) p (MovedTo place onward result) result (K.contents sink.new) self.new }
         ensures length { length self.new.sessions.talkers.items ≡ length self.old.sessions.talkers.items }
         ensures tickets { length self.new.sessions.tickets.items ≡ length self.old.sessions.tickets.items }
         ensures left { left_at place self.new.sessions ≤ left_at place self.old.sessions }
@@ -252,7 +252,7 @@ impl<D: Disk> Cluster<D> {
         requires tickets { length self.old.sessions.tickets.items ≡ length self.old.sessions.talkers.items }
         ensures world { self.new.world ≡ self.old.world }
         ensures fell { (start : AWorld D) (p : Point) (place onward : ℕ) → FallsAt D.seen D.faults start p place onward self.old → p.held ≡ K.contents sink.old
-            → Goes D.seen D.faults start (plan_of self.old.world) p (RestsAt place onward) result (K.contents sink.new) self.new }
+            → WorkGoes D.seen D.faults start (plan_of self.old.world) p (RestsAt place onward) result (K.contents sink.new) self.new }
         ensures length { length self.new.sessions.talkers.items ≡ length self.old.sessions.talkers.items }
         ensures tickets { length self.new.sessions.tickets.items ≡ length self.old.sessions.tickets.items }
         ensures left { (place : ℕ) → left_at place self.new.sessions ≤ left_at place self.old.sessions }

@@ -1,13 +1,13 @@
 // Drives a cluster by the run lines of a tape.
 ghost use Rattle.std.specs.Prelude.{◌≡◌, ◌≤◌, ◌<◌, ◌^◌, ℕ, List, [], true, length, OnOk, IsErrOf};
 ghost use Rattle.io_edge.specs.Causes.{Rose};
-ghost use Rattle.cluster_world.specs.World.{plan_of, is_up, disk_of, Begins, ShowsGate};
+ghost use Rattle.cluster_world.specs.World.{plan_of, is_up, disk_of, IsAtBeginning, ShowsGate};
 ghost use Rattle.cluster_world.specs.declared.world.World.{World as AWorld};
 ghost use Rattle.drive_tape.specs.Drive.{Drives, stop_of, NamesLine};
 ghost use Rattle.drive_tape.specs.Lines.{LineDid};
-ghost use Rattle.drive_tape.specs.Points.{Point, Shows};
+ghost use Rattle.drive_tape.specs.Points.{Point, IsAtPoint};
 ghost use Rattle.drive_tape.specs.Runs.{Turned};
-ghost use Rattle.drive_tape.specs.Worlds.{IsReady};
+ghost use Rattle.drive_tape.specs.Worlds.{WorldIsReady};
 
 use crate::cluster::Cluster;
 use crate::lines::{close_line, feed_line, open_line, say_line};
@@ -85,12 +85,12 @@ fn handle<D: Disk, K: Sink>(
     sink: &mut K,
     line: &[u8],
 ) -> Result<(), Stop>
-    requires ready { IsReady D.seen D.settled cluster.old.world }
+    requires ready { WorldIsReady D.seen D.settled cluster.old.world }
     requires tickets { length cluster.old.sessions.tickets.items ≡ length cluster.old.sessions.talkers.items }
-    ensures ready { IsReady D.seen D.settled cluster.new.world }
+    ensures ready { WorldIsReady D.seen D.settled cluster.new.world }
     ensures plan { plan_of cluster.new.world ≡ plan_of cluster.old.world }
     ensures tickets { OnOk result (length cluster.new.sessions.tickets.items ≡ length cluster.new.sessions.talkers.items) }
-    ensures did { (start : AWorld D) (p : Point) → Shows D.seen D.faults start cluster.old p
+    ensures did { (start : AWorld D) (p : Point) → IsAtPoint D.seen D.faults start cluster.old p
         → p.held ≡ K.contents sink.old → p.awaited ≡ [] → LineDid D.seen D.faults start (plan_of cluster.old.world) p line.now result (K.contents sink.new) cluster.new }
     ensures later { K.faults sink.old ≤ K.faults sink.new }
     ensures failed { IsErrOf result Stop.WriteFault → Rose (K.faults sink.old) (K.faults sink.new) }
@@ -115,17 +115,17 @@ fn turn<S: Source, K: Sink, D: Disk>(
     room: &mut u64,
     cluster: &mut Cluster<D>,
 ) -> Result<(), Stop>
-    requires ready { IsReady D.seen D.settled cluster.old.world }
+    requires ready { WorldIsReady D.seen D.settled cluster.old.world }
     requires tickets { length cluster.old.sessions.tickets.items ≡ length cluster.old.sessions.talkers.items }
-    ensures ready { IsReady D.seen D.settled cluster.new.world }
+    ensures ready { WorldIsReady D.seen D.settled cluster.new.world }
     ensures plan { plan_of cluster.new.world ≡ plan_of cluster.old.world }
     ensures tickets { OnOk result (length cluster.new.sessions.tickets.items ≡ length cluster.new.sessions.talkers.items) }
-    ensures turned { (start : AWorld D) (p : Point) → Shows D.seen D.faults start cluster.old p → p.held ≡ K.contents sink.old → p.awaited ≡ []
+    ensures turned { (start : AWorld D) (p : Point) → IsAtPoint D.seen D.faults start cluster.old p → p.held ≡ K.contents sink.old → p.awaited ≡ []
         → Turned D.seen D.faults start (plan_of cluster.old.world) p result (S.left source.old) (S.left source.new) room.old room.new (K.contents sink.new) cluster.old cluster.new }
     ensures less { OnOk result (room.new < room.old) }
     ensures read_later { S.faults source.old ≤ S.faults source.new }
     ensures write_later { K.faults sink.old ≤ K.faults sink.new }
-    ensures read_fault { (start : AWorld D) (p : Point) → Shows D.seen D.faults start cluster.old p → p.held ≡ K.contents sink.old → p.awaited ≡ []
+    ensures read_fault { (start : AWorld D) (p : Point) → IsAtPoint D.seen D.faults start cluster.old p → p.held ≡ K.contents sink.old → p.awaited ≡ []
         → IsErrOf result Stop.ReadFault → Rose (S.faults source.old) (S.faults source.new) }
     ensures write_fault { IsErrOf result Stop.WriteFault → Rose (K.faults sink.old) (K.faults sink.new) }
 {
@@ -150,12 +150,12 @@ pub fn drive<S: Source, K: Sink, D: Disk>(
     requires gate { is_up world ≡ true → ShowsGate D.seen world }
     requires settled { is_up world ≡ true → D.settled (disk_of world) }
     requires few { from < 2 ^ 63 }
-    ensures drives { Begins D.seen (plan_of world) world → Drives D.seen D.faults world (S.left source.old) (S.left source.new) (K.contents sink.old) (K.contents sink.new) result.0 from result.1 }
+    ensures drives { IsAtBeginning D.seen (plan_of world) world → Drives D.seen D.faults world (S.left source.old) (S.left source.new) (K.contents sink.old) (K.contents sink.new) result.0 from result.1 }
     ensures settled { is_up result.1 ≡ true → D.settled (disk_of result.1) }
     ensures plan { plan_of result.1 ≡ plan_of world }
     ensures read_later { S.faults source.old ≤ S.faults source.new }
     ensures write_later { K.faults sink.old ≤ K.faults sink.new }
-    ensures read_fault { Begins D.seen (plan_of world) world → stop_of result.0 ≡ Stop.ReadFault → Rose (S.faults source.old) (S.faults source.new) }
+    ensures read_fault { IsAtBeginning D.seen (plan_of world) world → stop_of result.0 ≡ Stop.ReadFault → Rose (S.faults source.old) (S.faults source.new) }
     ensures write_fault { stop_of result.0 ≡ Stop.WriteFault → Rose (K.faults sink.old) (K.faults sink.new) }
 {
     let mut cluster = Cluster {

@@ -1,7 +1,7 @@
 // How the work on a tape ended, and why.
 ghost use Rattle.std.specs.Prelude.{◌≡◌};
 ghost use Rattle.mail_model.specs.Site.{fault_name};
-ghost use Rattle.drive_tape.specs.Faults.{fault_of};
+ghost use Rattle.drive_tape.specs.Faults.{tape_fault_seen};
 
 /// Why a line of a tape is refused.
 #[derive(Clone, Copy, Debug, PartialEq, Eq)]
@@ -25,7 +25,7 @@ pub enum TapeFault {
 impl TapeFault {
     /// The name by which the transcript tells the fault.
     pub fn name(self) -> &'static [u8]
-        ensures { result.now ≡ fault_name (fault_of self) }
+        ensures { result.now ≡ fault_name (tape_fault_seen self) }
     {
         match self {
             TapeFault::BadPlan => b"BadPlan",

@@ -5,7 +5,7 @@ ghost use Rattle.io_edge.specs.Causes.{Rose};
 ghost use Rattle.mail_model.specs.Lines.{ended};
 ghost use Rattle.mail_model.specs.Transcript as transcript;
 ghost use Rattle.mail_model.specs.Transcript.{entry_line, escaped, escaped_octet, hex_digit};
-ghost use Rattle.drive_tape.specs.Entries.{entry_of, entries_of, WritesEntries};
+ghost use Rattle.drive_tape.specs.Entries.{transcript_entry, transcript_entries, WritesEntries};
 
 use io_edge::{Failed, Sink, write_all};
 use mail_base::Octets;
@@ -112,7 +112,7 @@ impl Entry {
     ///
     /// Only want of memory.
     pub fn line(&self, alloc: Global) -> Result<Vec<u8>, AllocError>
-        ensures { IfOk result (λ line. line.items ≡ ended (entry_line (entry_of self.now))) }
+        ensures { IfOk result (λ line. line.items ≡ ended (entry_line (transcript_entry self.now))) }
     {
         match self {
             Entry::Said { session, text } => Ok(said_line(alloc, *session, text.as_slice())?),
@@ -133,7 +133,7 @@ pub fn write_entries<K: Sink>(
     sink: &mut K,
     entries: &[Entry],
 ) -> Result<(), WriteStop>
-    ensures written { WritesEntries (K.contents sink.old) (K.contents sink.new) result (entries_of entries.now) }
+    ensures written { WritesEntries (K.contents sink.old) (K.contents sink.new) result (transcript_entries entries.now) }
     ensures later { K.faults sink.old ≤ K.faults sink.new }
     ensures failed { IsErrOf result WriteStop.WriteFault → Rose (K.faults sink.old) (K.faults sink.new) }
 {

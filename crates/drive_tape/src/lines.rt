@@ -6,10 +6,10 @@ ghost use Rattle.cluster_world.specs.declared.world.World.{World as AWorld};
 ghost use Rattle.mail_model.specs.Tape.{tape_order, Order as AnOrder};
 ghost use Rattle.mail_model.specs.Tape as tape;
 ghost use Rattle.tape_lines.specs.Orders.{protocol_seen};
-ghost use Rattle.drive_tape.specs.Points.{Point, Shows};
+ghost use Rattle.drive_tape.specs.Points.{Point, IsAtPoint};
 ghost use Rattle.drive_tape.specs.Lines.{LineDid};
 ghost use Rattle.drive_tape.specs.Fed.{IsFeedingAt, Admits};
-ghost use Rattle.drive_tape.specs.Worlds.{IsReady};
+ghost use Rattle.drive_tape.specs.Worlds.{WorldIsReady};
 
 use crate::cluster::Cluster;
 use crate::reply::write_reply;
@@ -24,8 +24,8 @@ const MOST_SESSIONS: u64 = 256;
 
 // The node at which a session may be opened; or why not, the first that fits.
 fn admit<D: Disk>(cluster: &Cluster<D>, node: u64) -> Result<NodeNo, TapeFault>
-    requires ready { IsReady D.seen D.settled cluster.now.world }
-    ensures admits { (start : AWorld D) (p : Point) (protocol : tape.Protocol) → Shows D.seen D.faults start cluster.now p → Admits (plan_of cluster.now.world) p protocol node result cluster.now.sessions.standing }
+    requires ready { WorldIsReady D.seen D.settled cluster.now.world }
+    ensures admits { (start : AWorld D) (p : Point) (protocol : tape.Protocol) → IsAtPoint D.seen D.faults start cluster.now p → Admits (plan_of cluster.now.world) p protocol node result cluster.now.sessions.standing }
     ensures few { OnOk result (cluster.now.sessions.standing < 256) }
     ensures up { OnOk result (is_up cluster.now.world ≡ true) }
     ensures only { IfOk result (λ only. only ≡ 1) }
@@ -57,12 +57,12 @@ pub(crate) fn open_line<D: Disk, K: Sink>(
     protocol: Protocol,
     node: u64,
 ) -> Result<(), Stop>
-    requires ready { IsReady D.seen D.settled cluster.old.world }
+    requires ready { WorldIsReady D.seen D.settled cluster.old.world }
     requires tickets { length cluster.old.sessions.tickets.items ≡ length cluster.old.sessions.talkers.items }
-    ensures ready { IsReady D.seen D.settled cluster.new.world }
+    ensures ready { WorldIsReady D.seen D.settled cluster.new.world }
     ensures plan { plan_of cluster.new.world ≡ plan_of cluster.old.world }
     ensures tickets { OnOk result (length cluster.new.sessions.tickets.items ≡ length cluster.new.sessions.talkers.items) }
-    ensures did { (start : AWorld D) (p : Point) (line : List ℕ) → tape_order line ≡ Some (AnOrder.Open (protocol_seen protocol) node) → Shows D.seen D.faults start cluster.old p
+    ensures did { (start : AWorld D) (p : Point) (line : List ℕ) → tape_order line ≡ Some (AnOrder.Open (protocol_seen protocol) node) → IsAtPoint D.seen D.faults start cluster.old p
         → p.held ≡ K.contents sink.old → p.awaited ≡ [] → LineDid D.seen D.faults start (plan_of cluster.old.world) p line result (K.contents sink.new) cluster.new }
     ensures later { K.faults sink.old ≤ K.faults sink.new }
     ensures failed { IsErrOf result Stop.WriteFault → Rose (K.faults sink.old) (K.faults sink.new) }
@@ -88,13 +88,13 @@ fn feed_at<D: Disk, K: Sink>(
     place: usize,
     octets: &[u8],
 ) -> Result<(), Stop>
-    requires ready { IsReady D.seen D.settled cluster.old.world }
+    requires ready { WorldIsReady D.seen D.settled cluster.old.world }
     requires within { place < length cluster.old.sessions.talkers.items }
     requires tickets { length cluster.old.sessions.tickets.items ≡ length cluster.old.sessions.talkers.items }
-    ensures ready { IsReady D.seen D.settled cluster.new.world }
+    ensures ready { WorldIsReady D.seen D.settled cluster.new.world }
     ensures plan { plan_of cluster.new.world ≡ plan_of cluster.old.world }
     ensures tickets { OnOk result (length cluster.new.sessions.tickets.items ≡ length cluster.new.sessions.talkers.items) }
-    ensures did { (start : AWorld D) (p : Point) (line : List ℕ) → IsFeedingAt p line place octets.now → Shows D.seen D.faults start cluster.old p
+    ensures did { (start : AWorld D) (p : Point) (line : List ℕ) → IsFeedingAt p line place octets.now → IsAtPoint D.seen D.faults start cluster.old p
         → p.held ≡ K.contents sink.old → p.awaited ≡ [] → LineDid D.seen D.faults start (plan_of cluster.old.world) p line result (K.contents sink.new) cluster.new }
     ensures later { K.faults sink.old ≤ K.faults sink.new }
     ensures failed { IsErrOf result Stop.WriteFault → Rose (K.faults sink.old) (K.faults sink.new) }
@@ -116,12 +116,12 @@ pub(crate) fn say_line<D: Disk, K: Sink>(
     session: u64,
     text: &[u8],
 ) -> Result<(), Stop>
-    requires ready { IsReady D.seen D.settled cluster.old.world }
+    requires ready { WorldIsReady D.seen D.settled cluster.old.world }
     requires tickets { length cluster.old.sessions.tickets.items ≡ length cluster.old.sessions.talkers.items }
-    ensures ready { IsReady D.seen D.settled cluster.new.world }
+    ensures ready { WorldIsReady D.seen D.settled cluster.new.world }
     ensures plan { plan_of cluster.new.world ≡ plan_of cluster.old.world }
     ensures tickets { OnOk result (length cluster.new.sessions.tickets.items ≡ length cluster.new.sessions.talkers.items) }
-    ensures did { (start : AWorld D) (p : Point) (line : List ℕ) → tape_order line ≡ Some (AnOrder.Say session text.now) → Shows D.seen D.faults start cluster.old p
+    ensures did { (start : AWorld D) (p : Point) (line : List ℕ) → tape_order line ≡ Some (AnOrder.Say session text.now) → IsAtPoint D.seen D.faults start cluster.old p
         → p.held ≡ K.contents sink.old → p.awaited ≡ [] → LineDid D.seen D.faults start (plan_of cluster.old.world) p line result (K.contents sink.new) cluster.new }
     ensures later { K.faults sink.old ≤ K.faults sink.new }
     ensures failed { IsErrOf result Stop.WriteFault → Rose (K.faults sink.old) (K.faults sink.new) }
@@ -147,12 +147,12 @@ pub(crate) fn feed_line<D: Disk, K: Sink>(
     session: u64,
     octets: &[u8],
 ) -> Result<(), Stop>
-    requires ready { IsReady D.seen D.settled cluster.old.world }
+    requires ready { WorldIsReady D.seen D.settled cluster.old.world }
     requires tickets { length cluster.old.sessions.tickets.items ≡ length cluster.old.sessions.talkers.items }
-    ensures ready { IsReady D.seen D.settled cluster.new.world }
+    ensures ready { WorldIsReady D.seen D.settled cluster.new.world }
     ensures plan { plan_of cluster.new.world ≡ plan_of cluster.old.world }
     ensures tickets { OnOk result (length cluster.new.sessions.tickets.items ≡ length cluster.new.sessions.talkers.items) }
-    ensures did { (start : AWorld D) (p : Point) (line : List ℕ) → tape_order line ≡ Some (AnOrder.Feed session octets.now) → Shows D.seen D.faults start cluster.old p
+    ensures did { (start : AWorld D) (p : Point) (line : List ℕ) → tape_order line ≡ Some (AnOrder.Feed session octets.now) → IsAtPoint D.seen D.faults start cluster.old p
         → p.held ≡ K.contents sink.old → p.awaited ≡ [] → LineDid D.seen D.faults start (plan_of cluster.old.world) p line result (K.contents sink.new) cluster.new }
     ensures later { K.faults sink.old ≤ K.faults sink.new }
     ensures failed { IsErrOf result Stop.WriteFault → Rose (K.faults sink.old) (K.faults sink.new) }
@@ -174,12 +174,12 @@ pub(crate) fn close_line<D: Disk, K: Sink>(
     sink: &mut K,
     session: u64,
 ) -> Result<(), Stop>
-    requires ready { IsReady D.seen D.settled cluster.old.world }
+    requires ready { WorldIsReady D.seen D.settled cluster.old.world }
     requires tickets { length cluster.old.sessions.tickets.items ≡ length cluster.old.sessions.talkers.items }
-    ensures ready { IsReady D.seen D.settled cluster.new.world }
+    ensures ready { WorldIsReady D.seen D.settled cluster.new.world }
     ensures plan { plan_of cluster.new.world ≡ plan_of cluster.old.world }
     ensures tickets { OnOk result (length cluster.new.sessions.tickets.items ≡ length cluster.new.sessions.talkers.items) }
-    ensures did { (start : AWorld D) (p : Point) (line : List ℕ) → tape_order line ≡ Some (AnOrder.Close session) → Shows D.seen D.faults start cluster.old p
+    ensures did { (start : AWorld D) (p : Point) (line : List ℕ) → tape_order line ≡ Some (AnOrder.Close session) → IsAtPoint D.seen D.faults start cluster.old p
         → p.held ≡ K.contents sink.old → p.awaited ≡ [] → LineDid D.seen D.faults start (plan_of cluster.old.world) p line result (K.contents sink.new) cluster.new }
     ensures later { K.faults sink.old ≤ K.faults sink.new }
     ensures failed { IsErrOf result Stop.WriteFault → Rose (K.faults sink.old) (K.faults sink.new) }

@@ -2,7 +2,7 @@
 ghost use Rattle.std.specs.Prelude.{◌≡◌, ◌+◌, ◌≤◌, ◌∷◌, [], List, ℕ, length, Option, IsErrOf};
 ghost use Rattle.std.specs.Io.KnownBytes.{Consumes};
 ghost use Rattle.io_edge.specs.Causes.{Rose, HasCause};
-ghost use Rattle.drive_tape.specs.Reads.{TakesOctet, Reads};
+ghost use Rattle.drive_tape.specs.Reads.{TakesOctet, ReadsLine};
 
 use io_edge::{Failed, Source};
 use std::alloc::{AllocError, Global};
@@ -97,7 +97,7 @@ pub(crate) fn next_line<S: Source>(
     room: &mut u64,
 ) -> Result<Line, LineStop>
     ensures read { (taken : List ℕ) × Consumes (S.left source.old) (S.left source.new) taken
-        × (room.new + length taken ≡ room.old) × Reads result (S.left source.new) taken room.new }
+        × (room.new + length taken ≡ room.old) × ReadsLine result (S.left source.new) taken room.new }
     ensures later { S.faults source.old ≤ S.faults source.new }
     ensures failed { IsErrOf result LineStop.ReadFault → Rose (S.faults source.old) (S.faults source.new) }
 {

@@ -4,7 +4,7 @@ ghost use Rattle.io_edge.specs.Causes.{Rose};
 ghost use Rattle.mail_model.specs.Lines.{HasNoCrlf, sent_line};
 ghost use Rattle.mail_model.specs.Site.{closed_event};
 ghost use Rattle.mail_model.specs.Transcript.{said_lines};
-ghost use Rattle.drive_tape.specs.Entries.{entry_of, WritesEntries};
+ghost use Rattle.drive_tape.specs.Entries.{transcript_entry, WritesEntries};
 ghost use Rattle.drive_tape.specs.Replies.{IsFirstCrlf, fault_event};
 
 use crate::entry::{Entry, said_line};
@@ -49,7 +49,7 @@ fn write_lines<K: Sink>(
 
 // The session has ended.
 fn closed(alloc: Global, session: u64) -> Result<Entry, AllocError>
-    ensures { IfOk result (λ entry. entry_of entry ≡ closed_event session) }
+    ensures { IfOk result (λ entry. transcript_entry entry ≡ closed_event session) }
 {
     let number = session.to_string(alloc)?;
     let mut text = Vec::from_slice(alloc, number.as_bytes())?;
@@ -83,7 +83,7 @@ pub(crate) fn write_reply<K: Sink>(
 
 // The disk of the node failed.
 fn fault(alloc: Global, node: u8) -> Result<Entry, AllocError>
-    ensures { IfOk result (λ entry. entry_of entry ≡ fault_event node) }
+    ensures { IfOk result (λ entry. transcript_entry entry ≡ fault_event node) }
 {
     let number = node.to_string(alloc)?;
     let mut text = Vec::from_slice(alloc, b"fault ")?;

@@ -3,7 +3,7 @@ ghost use Rattle.std.specs.Prelude.{◌≡◌, ◌⊎◌, ◌+◌, ◌-◌, ◌<
 ghost use Rattle.mail_model.specs.Lines.{HasNoCrlf, sent_line};
 ghost use Rattle.session_model.specs.Calls as calls;
 ghost use Rattle.session_model.specs.Calls.{IsReply};
-ghost use Rattle.session_model.specs.Talk.{State, Standing, IsOn, entered_as};
+ghost use Rattle.session_model.specs.Talk.{TalkState, Standing, IsOn, entered_as};
 ghost use Rattle.session_model.specs.Talk.Standing.{Waiting, EndedClosed};
 ghost use Rattle.session_model.specs.Sessions.{Session, session_at, exchanges_of};
 ghost use Rattle.session_model.specs.Acts.{opened_session, greeting_of};
@@ -209,7 +209,7 @@ impl Sessions {
     ) -> Result<After, AllocError>
         requires within { place < length self.old.talkers.items }
         requires empty { out.old.items ≡ [] }
-        ensures replied { IfOk result (λ after. (sessions : List Session) (plain : Session) (state : State) (call : calls.Call) (reply : List (List ℕ)) → Converse self.old.talkers.items sessions
+        ensures replied { IfOk result (λ after. (sessions : List Session) (plain : Session) (state : TalkState) (call : calls.Call) (reply : List (List ℕ)) → Converse self.old.talkers.items sessions
             → slice_get sessions place ≡ Some plain → plain.standing ≡ Waiting state call → IsReply call (answer_seen answer) reply
             → RepliesTo plan.now sessions place plain (answer_seen answer) after out.new.items self.old.standing self.new) }
         ensures tickets { self.new.tickets ≡ self.old.tickets }

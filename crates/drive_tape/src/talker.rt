@@ -3,7 +3,7 @@ ghost use Rattle.std.specs.Prelude.{◌≡◌, ◌≤◌, ◌<◌, ◌++◌, [],
 ghost use Rattle.mail_model.specs.Lines.{HasNoCrlf, sent_line};
 ghost use Rattle.session_model.specs.Calls as calls;
 ghost use Rattle.session_model.specs.Calls.{IsReply};
-ghost use Rattle.session_model.specs.Talk.{State, IsOn, entered_as};
+ghost use Rattle.session_model.specs.Talk.{TalkState, IsOn, entered_as};
 ghost use Rattle.session_model.specs.Talk.Standing.{Waiting};
 ghost use Rattle.session_model.specs.Sessions.{Session, exchanges_of};
 ghost use Rattle.session_model.specs.Acts.{opened_session, greeting_of};
@@ -111,7 +111,7 @@ impl Talker {
         out: &mut Vec<u8>,
     ) -> Result<(), AllocError>
         ensures replied { OnOk result ((octets : List ℕ) × (out.new.items ≡ out.old.items ++ octets)
-            × ((plain : Session) (state : State) (call : calls.Call) (reply : List (List ℕ)) → Matches self.old plain Due.Nothing → plain.standing ≡ Waiting state call
+            × ((plain : Session) (state : TalkState) (call : calls.Call) (reply : List (List ℕ)) → Matches self.old plain Due.Nothing → plain.standing ≡ Waiting state call
             → IsReply call (answer_seen answer) reply → Replied (Matches self.new) plan.now plain (answer_seen answer) octets)) }
         ensures less { OnOk result (talker_left self.new ≤ talker_left self.old) }
     {
@@ -166,7 +166,7 @@ fn reply_to_mail(
     out: &mut Vec<u8>,
 ) -> Result<(), AllocError>
     ensures replied { OnOk result ((octets : List ℕ) × (out.new.items ≡ out.old.items ++ octets)
-        × ((plain : Session) (state : State) (call : calls.Call) (reply : List (List ℕ)) → mail.Follows session.old plain Due.Nothing → plain.standing ≡ Waiting state call
+        × ((plain : Session) (state : TalkState) (call : calls.Call) (reply : List (List ℕ)) → mail.Follows session.old plain Due.Nothing → plain.standing ≡ Waiting state call
         → IsReply call (answer_seen answer) reply → Replied (mail.Follows session.new) plan.now plain (answer_seen answer) octets)) }
     ensures less { OnOk result (mail.left session.new ≤ mail.left session.old) }
 {
@@ -184,7 +184,7 @@ fn reply_to_reader(
     out: &mut Vec<u8>,
 ) -> Result<(), AllocError>
     ensures replied { OnOk result ((octets : List ℕ) × (out.new.items ≡ out.old.items ++ octets)
-        × ((plain : Session) (state : State) (call : calls.Call) (reply : List (List ℕ)) → reader.Follows session.old plain Due.Nothing → plain.standing ≡ Waiting state call
+        × ((plain : Session) (state : TalkState) (call : calls.Call) (reply : List (List ℕ)) → reader.Follows session.old plain Due.Nothing → plain.standing ≡ Waiting state call
         → IsReply call (answer_seen answer) reply → Replied (reader.Follows session.new) plan.now plain (answer_seen answer) octets)) }
     ensures less { OnOk result (reader.left session.new ≤ reader.left session.old) }
 {

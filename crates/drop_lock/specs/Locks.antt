@@ -11,10 +11,10 @@ abbrev pub no_locks : Held
 no_locks = map.empty
 
 -- The ticket holds the lock already, or takes it as it is free. Or another ticket holds it; or memory ran out as it was free.
-abbrev pub Takes : Result (Unit {0}) LockFault → List ℕ → Number → Held → Held → Type 0
-Takes (Ok _) user ticket old new = ((map.get old user ≡ Some ticket) × (new ≡ old)) ⊎ ((map.get old user ≡ None) × (new ≡ map.insert old user ticket))
-Takes (Err (InUse by)) user ticket old new = (map.get old user ≡ Some by) × (by ≢ ticket) × (new ≡ old)
-Takes (Err NoMemory) user ticket old new = (map.get old user ≡ None) × (new ≡ old)
+abbrev pub TakesLock : Result (Unit {0}) LockFault → List ℕ → Number → Held → Held → Type 0
+TakesLock (Ok _) user ticket old new = ((map.get old user ≡ Some ticket) × (new ≡ old)) ⊎ ((map.get old user ≡ None) × (new ≡ map.insert old user ticket))
+TakesLock (Err (InUse by)) user ticket old new = (map.get old user ≡ Some by) × (by ≢ ticket) × (new ≡ old)
+TakesLock (Err NoMemory) user ticket old new = (map.get old user ≡ None) × (new ≡ old)
 
 abbrev pub is_same_number : Number → Number → Bool
 is_same_number a b = nat_eq a.node b.node && (nat_eq a.boot b.boot && nat_eq a.seq b.seq)

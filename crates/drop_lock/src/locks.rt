@@ -2,7 +2,7 @@
 ghost use Rattle.std.specs.Prelude.{◌≡◌, OnOk, OnErr};
 ghost use Rattle.std.specs.Option.{option_copied};
 ghost use Rattle.std.specs.FinMap as map;
-ghost use Rattle.drop_lock.specs.Locks.{Takes, released, no_locks};
+ghost use Rattle.drop_lock.specs.Locks.{TakesLock, released, no_locks};
 
 use mail_base::{Name, Ticket};
 use std::alloc::{AllocError, Global};
@@ -79,7 +79,7 @@ impl Locks {
     /// `InUse` exactly where another ticket holds the lock, with that ticket; or `NoMemory`, where the lock is free.
     /// The locks are then as before.
     pub fn take(&mut self, user: &Name, ticket: Ticket) -> Result<(), LockFault>
-        ensures { Takes result user.now ticket self.old self.new }
+        ensures { TakesLock result user.now ticket self.old self.new }
     {
         match self.holder(user) {
             Some(by) => {

@@ -13,10 +13,10 @@ HandsOut old new (Ok store) shard node = new ≡ with_last old (shard, node, sto
 HandsOut old new (Err _) shard node = new ≡ old
 
 -- the told list grew by x, or is told no more; what is untold stays untold
-abbrev pub Adds : {X : Type 0} → Option (List X) → Option (List X) → X → Type 0
-Adds old None x = Unit {0}
-Adds None (Some new) x = ⊥
-Adds (Some old) (Some new) x = new ≡ old ++ x ∷ []
+abbrev pub TellsOneMore : {X : Type 0} → Option (List X) → Option (List X) → X → Type 0
+TellsOneMore old None x = Unit {0}
+TellsOneMore None (Some new) x = ⊥
+TellsOneMore (Some old) (Some new) x = new ≡ old ++ x ∷ []
 
 -- a shard, a node and a store, of which only a memory is kept
 abbrev pub remembered : {D : Type 0} → ℕ × ℕ × Snapshot D → ℕ × ℕ × D

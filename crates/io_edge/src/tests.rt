@@ -1,6 +1,6 @@
 // Each implementation, used once through its bound.
 ghost use Rattle.std.specs.Prelude.{◌≡◌, OnOk};
-ghost use Rattle.io_edge.specs.Yards.{Adds, with_last};
+ghost use Rattle.io_edge.specs.Yards.{TellsOneMore, with_last};
 
 use crate::faulty::{FaultySink, FaultySource, FaultyYard, ShortSink};
 use crate::*;
@@ -30,7 +30,7 @@ fn append<D: Disk>(disk: &mut D, octets: &[u8]) -> Result<[u8; 4], Failed> {
 /// Takes the store of one node and gives it back.
 fn borrow<Y: Yard>(yard: &mut Y) -> Result<(), YardRefusal>
     ensures { OnOk result ((store : _) × (Y.handed yard.new ≡ with_last (Y.handed yard.old) (3, 1, store))
-        × Adds (Y.returned yard.old) (Y.returned yard.new) (3, 1, store)) }
+        × TellsOneMore (Y.returned yard.old) (Y.returned yard.new) (3, 1, store)) }
 {
     let store = yard.store(3, 1, "folder")?;
     yard.give_back(3, 1, store);

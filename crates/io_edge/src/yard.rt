@@ -1,7 +1,7 @@
 // A yard hands out the stores of the nodes, and takes them back.
 ghost use Rattle.std.specs.Prelude.{◌≡◌, ◌≤◌, List, ℕ, Option, IsErrOf};
 ghost use Rattle.io_edge.specs.Causes.{Rose};
-ghost use Rattle.io_edge.specs.Yards.{Adds, HandsOut};
+ghost use Rattle.io_edge.specs.Yards.{TellsOneMore, HandsOut};
 
 use crate::Disk;
 
@@ -38,7 +38,7 @@ pub trait Yard {
 
     /// Takes a store back, in whatever state it is. It has no refusal.
     fn give_back(&mut self, shard: u16, node: u8, store: Self::Store)
-        ensures returned { Adds (returned self.old) (returned self.new) (shard, node, store) }
+        ensures returned { TellsOneMore (returned self.old) (returned self.new) (shard, node, store) }
         ensures handed { handed self.new ≡ handed self.old }
         ensures faults { faults self.new ≡ faults self.old };
 }

@@ -6,7 +6,7 @@ ghost use Rattle.std.specs.Char.{to_ascii_lowercase};
 ghost use Rattle.std.specs.Cmp.Lexicographic.{pointwise, slice_cmp, nat_list_eq_equiv, nat_list_cmp_total, texts_ties, texts_po};
 ghost use Rattle.std.specs.Cmp.{partial_equiv_from_equiv};
 ghost use Rattle.mail_model.specs.Names.{is_no_name_octet, begins_with, is_name, lower, IsLowerName};
-ghost use Rattle.mail_base.specs.Answers.{Answers};
+ghost use Rattle.mail_base.specs.Answers.{AnswersByRules};
 ghost use Rattle.mail_base.specs.NameFaults.{name_fault};
 
 use std::alloc::{AllocError, Global};
@@ -113,7 +113,7 @@ impl Name {
     ///
     /// The first rule that is broken, in the order of `NameFault`; want of memory may come in place of the name.
     pub fn read(alloc: Global, octets: &[u8]) -> Result<Name, NameFault>
-        ensures { Answers NameFault.NoMemory result (name_fault octets.now) (λ name. name ≡ lower octets.now) }
+        ensures { AnswersByRules NameFault.NoMemory result (name_fault octets.now) (λ name. name ≡ lower octets.now) }
     {
         if octets.is_empty() {
             return Err(NameFault::Empty);

@@ -15,9 +15,9 @@ pub struct StrikeMark {
 }
 
 impl Model for StrikeMark {
-    ghost use Rattle.object_model.specs.Letters.{Mark};
+    ghost use Rattle.object_model.specs.Letters.{DeletionMark};
 
-    ghost Value = { Mark };
+    ghost Value = { DeletionMark };
 
     ghost view = { λ m. record { id = m.id; stamp = m.stamp } };
 

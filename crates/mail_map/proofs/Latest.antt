@@ -8,7 +8,7 @@ use Rattle.object_model.specs.Lists.{Among}
 use Rattle.object_model.specs.Letters.{Row, Member}
 use Rattle.maps_model.specs.Cluster.{Node, is_full}
 use Rattle.maps_model.specs.Laws.{named}
-use Rattle.mail_map.specs.Rows.{Rows, is_older, told, is_named}
+use Rattle.mail_map.specs.Rows.{Rows, is_older, told_row, is_named}
 use Rattle.mail_map.specs.Laws.{told_all, no_rows, is_of, IsLatest, IsLatestRow}
 use Rattle.mail_map.proofs.OneUser.{same_user}
 
@@ -65,7 +65,7 @@ one_more seen row (Some latest) is false e = record {
 
 module _ (n boot : ℕ) (user : List ℕ) where
   -- rows of another node, boot or user change nothing
-  other_row : (row : Row) (rows : Rows) → is_of n boot user row ≡ false → told row rows n boot user ≡ rows n boot user
+  other_row : (row : Row) (rows : Rows) → is_of n boot user row ≡ false → told_row row rows n boot user ≡ rows n boot user
   other_row row rows e = by (is_older (rows row.node row.boot row.user) row.version)
     where
       by : (t : Bool) → cond t (rows n boot user) (cond (is_of n boot user row) (Some row) (rows n boot user)) ≡ rows n boot user
@@ -73,7 +73,7 @@ module _ (n boot : ℕ) (user : List ℕ) where
       by false = ap (λ b. cond b (Some row) (rows n boot user)) e
 
   -- a row of this node, boot and user
-  own_row : (row : Row) (rows : Rows) → is_of n boot user row ≡ true → told row rows n boot user ≡ cond (is_older (rows n boot user) row.version) (rows n boot user) (Some row)
+  own_row : (row : Row) (rows : Rows) → is_of n boot user row ≡ true → told_row row rows n boot user ≡ cond (is_older (rows n boot user) row.version) (rows n boot user) (Some row)
   own_row row rows e =
       ap (λ (o : Option Row). cond (is_older o row.version) (rows n boot user) (cond (is_of n boot user row) (Some row) (rows n boot user))) held
       ∙ ap (λ b. cond (is_older (rows n boot user) row.version) (rows n boot user) (cond b (Some row) (rows n boot user))) e
@@ -94,19 +94,19 @@ module _ (n boot : ℕ) (user : List ℕ) where
   stands_after : (list seen : List Row) (rows : Rows) → IsLatest seen (rows n boot user) → IsLatest (seen ++ filter (is_of n boot user) list) (told_all list rows n boot user)
   stands_after [] seen rows is = subst (λ (l : List Row). IsLatest l (rows n boot user)) (sym (append-nil seen)) is
   stands_after (row ∷ more) seen rows is =
-      by (is_of n boot user row) refl (stands_after more seen (told row rows)) (stands_after more (seen ++ row ∷ []) (told row rows))
+      by (is_of n boot user row) refl (stands_after more seen (told_row row rows)) (stands_after more (seen ++ row ∷ []) (told_row row rows))
     where
       of : List Row → Type 0
-      of l = IsLatest l (told_all more (told row rows) n boot user)
+      of l = IsLatest l (told_all more (told_row row rows) n boot user)
 
       by : (t : Bool) → is_of n boot user row ≡ t
-          → (IsLatest seen (told row rows n boot user) → IsLatest (seen ++ filter (is_of n boot user) more) (told_all more (told row rows) n boot user))
-          → (IsLatest (seen ++ row ∷ []) (told row rows n boot user) → IsLatest ((seen ++ row ∷ []) ++ filter (is_of n boot user) more) (told_all more (told row rows) n boot user))
-          → IsLatest (seen ++ cond (is_of n boot user row) (row ∷ filter (is_of n boot user) more) (filter (is_of n boot user) more)) (told_all more (told row rows) n boot user)
-      by false e apart own = subst (λ b. IsLatest (seen ++ cond b (row ∷ filter (is_of n boot user) more) (filter (is_of n boot user) more)) (told_all more (told row rows) n boot user)) (sym e)
+          → (IsLatest seen (told_row row rows n boot user) → IsLatest (seen ++ filter (is_of n boot user) more) (told_all more (told_row row rows) n boot user))
+          → (IsLatest (seen ++ row ∷ []) (told_row row rows n boot user) → IsLatest ((seen ++ row ∷ []) ++ filter (is_of n boot user) more) (told_all more (told_row row rows) n boot user))
+          → IsLatest (seen ++ cond (is_of n boot user row) (row ∷ filter (is_of n boot user) more) (filter (is_of n boot user) more)) (told_all more (told_row row rows) n boot user)
+      by false e apart own = subst (λ b. IsLatest (seen ++ cond b (row ∷ filter (is_of n boot user) more) (filter (is_of n boot user) more)) (told_all more (told_row row rows) n boot user)) (sym e)
           (apart (subst (IsLatest seen) (sym (other_row row rows e)) is))
-      by true e apart own = subst (λ b. IsLatest (seen ++ cond b (row ∷ filter (is_of n boot user) more) (filter (is_of n boot user) more)) (told_all more (told row rows) n boot user)) (sym e)
-          (subst (λ (l : List Row). IsLatest l (told_all more (told row rows) n boot user)) (append_assoc seen (row ∷ []) (filter (is_of n boot user) more))
+      by true e apart own = subst (λ b. IsLatest (seen ++ cond b (row ∷ filter (is_of n boot user) more) (filter (is_of n boot user) more)) (told_all more (told_row row rows) n boot user)) (sym e)
+          (subst (λ (l : List Row). IsLatest l (told_all more (told_row row rows) n boot user)) (append_assoc seen (row ∷ []) (filter (is_of n boot user) more))
           (own (subst (IsLatest (seen ++ row ∷ [])) (sym (own_row row rows e)) (one_more seen row (rows n boot user) is (is_older (rows n boot user) row.version) refl))))
 
 pub latest_stands : (rows : List Row) (n boot : ℕ) (user : List ℕ) → IsLatest (filter (is_of n boot user) rows) (told_all rows no_rows n boot user)

@@ -6,12 +6,12 @@ use Rattle.object_model.specs.Lists.{Among}
 use Rattle.object_model.specs.Letters.{Row, Member}
 use Rattle.maps_model.specs.Cluster.{Node}
 use Rattle.maps_model.specs.Laws.{named}
-use Rattle.mail_map.specs.Rows.{Rows, told, is_named}
+use Rattle.mail_map.specs.Rows.{Rows, told_row, is_named}
 
 -- the rows once these were told, one after another
 abbrev pub told_all : List Row → Rows → Rows
 told_all [] rows = rows
-told_all (row ∷ more) rows = told_all more (told row rows)
+told_all (row ∷ more) rows = told_all more (told_row row rows)
 
 abbrev pub no_rows : Rows
 no_rows n boot user = None

@@ -29,8 +29,8 @@ is_older None version = false
 is_older (Some stood) version = nat_lt version stood.version
 
 -- the rows once this one was told: it stands, unless it is older than the one of its node, boot and user
-abbrev pub told : Row → Rows → Rows
-told row rows n boot user =
+abbrev pub told_row : Row → Rows → Rows
+told_row row rows n boot user =
     if is_older (rows row.node row.boot row.user) row.version then rows n boot user else set_row rows row.node row.boot row.user row n boot user
 
 -- both have the same rows

@@ -5,7 +5,7 @@ ghost use Rattle.std.specs.Ordering.{nat_cmp};
 ghost use Rattle.std.specs.Cmp.Lexicographic.{slice_cmp};
 ghost use Rattle.std.specs.BTreeMap as tree;
 ghost use Rattle.object_model.specs.Sets.{has};
-ghost use Rattle.mail_map.specs.Rows.{rows_of, is_older, told, HasSameRows, is_named};
+ghost use Rattle.mail_map.specs.Rows.{rows_of, is_older, told_row, HasSameRows, is_named};
 ghost use Rattle.maps_model.specs.Rules.{set_row};
 ghost use Rattle.mail_map.specs.Installs.{kept};
 ghost use Rattle.mail_map.specs.Profiles.{IsGreatest};
@@ -89,7 +89,7 @@ impl MailMap {
     /// Only out of memory; the rows are then as before.
     pub fn tell(&mut self, row: &Row) -> Result<bool, AllocError>
         ensures taken { IfOk result (λ taken. taken ≡ not (is_older (rows_of self.old row.now.node row.now.boot row.now.user) row.now.version)) }
-        ensures rows { OnOk result ((n boot : ℕ) (user : List ℕ) → rows_of self.new n boot user ≡ told row.now (rows_of self.old) n boot user) }
+        ensures rows { OnOk result ((n boot : ℕ) (user : List ℕ) → rows_of self.new n boot user ≡ told_row row.now (rows_of self.old) n boot user) }
         ensures err { OnErr result (HasSameRows self.old self.new) }
     {
         if self.is_older(row) {

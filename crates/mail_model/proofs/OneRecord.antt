@@ -9,7 +9,7 @@ use Rattle.mail_model.specs.Identity.Value.{Here, Gone, Secret}
 use Rattle.mail_model.specs.Record.{Record, id_octets, text_octets, key_octets, state_octets, secret_octets, rank_of, payload_of, payloads_of}
 use Rattle.mail_model.specs.Record.Record.{Boot, Promise, Octets, Stated, Retired}
 use Rattle.mail_model.specs.Grammar.{IsId, IsEpoch, IsStamp, IsState, IsObject, IsRecord, IsKey}
-use Rattle.mail_model.specs.OneReading.{OneSpelling, OneReading}
+use Rattle.mail_model.specs.OneReading.{OneSpelling, OneReadingOfJournal}
 use Rattle.mail_model.proofs.Readings.{same_fronts, one_journal}
 
 -- numbers are read back from their octets
@@ -137,6 +137,6 @@ same_records (x ∷ records) (y ∷ others) all all_too e =
     ap₂ ◌∷◌ (one_spelling x y (All-head IsRecord x records all) (All-head IsRecord y others all_too) first)
     (same_records records others (All-tail IsRecord x records all) (All-tail IsRecord y others all_too) later)
 
-pub one_reading : OneReading
+pub one_reading : OneReadingOfJournal
 one_reading node octets records others all all_too journal journal_too =
     same_records records others all all_too (one_journal node octets (payloads_of records) (payloads_of others) journal journal_too)

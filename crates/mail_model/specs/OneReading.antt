@@ -10,8 +10,8 @@ abbrev pub OneSpelling : Type 0
 OneSpelling = (one other : Record) → IsRecord one → IsRecord other → payload_of one ≡ payload_of other → one ≡ other
 
 -- the same octets are the journal of one list of records
-abbrev pub OneReading : Type 0
-OneReading = (node : ℕ) (octets : List ℕ) (records others : List Record) → All IsRecord records → All IsRecord others
+abbrev pub OneReadingOfJournal : Type 0
+OneReadingOfJournal = (node : ℕ) (octets : List ℕ) (records others : List Record) → All IsRecord records → All IsRecord others
     → IsJournal node octets (payloads_of records) → IsJournal node octets (payloads_of others) → records ≡ others
 
 -- the number of the session, if it has one, is one of 64 bits

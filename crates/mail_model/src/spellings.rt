@@ -1,5 +1,5 @@
 // What is spelt in octets has one reading.
-ghost use Rattle.mail_model.specs.OneReading.{OneSpelling, OneReading, OneEntry};
+ghost use Rattle.mail_model.specs.OneReading.{OneSpelling, OneReadingOfJournal, OneEntry};
 
 /// A payload spells one record.
 pub fn one_spelling()
@@ -8,7 +8,7 @@ pub fn one_spelling()
 
 /// A journal has one reading: its octets tell its records.
 pub fn one_reading()
-    ensures { OneReading }
+    ensures { OneReadingOfJournal }
 {}
 
 /// A line of a transcript is one entry.

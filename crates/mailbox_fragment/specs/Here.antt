@@ -22,8 +22,8 @@ abbrev pub has_id : List Id → Id → Bool
 has_id ids id = list_any (eq_by_cmp id_cmp id) ids
 
 -- whether this message of the user is here
-abbrev pub is_here : Fragments → List ℕ → Id → Bool
-is_here fragments user id = has_id (ids_of fragments user) id
+abbrev pub is_here_in : Fragments → List ℕ → Id → Bool
+is_here_in fragments user id = has_id (ids_of fragments user) id
 
 abbrev pub is_none : List Id → Bool
 is_none [] = true
@@ -34,13 +34,13 @@ abbrev pub is_empty : Fragments → List ℕ → Bool
 is_empty fragments user = is_none (ids_of fragments user)
 
 -- The message of the user is here, or is not, and all else is as it was.
-abbrev pub Sets : Fragments → Fragments → List ℕ → Id → Bool → Type 0
-Sets old new user id here = (other : List ℕ) (message : Id) →
-    is_here new other message ≡ (if eq_by_cmp (slice_cmp nat_cmp) user other && eq_by_cmp id_cmp id message then here else is_here old other message)
+abbrev pub SetsMessage : Fragments → Fragments → List ℕ → Id → Bool → Type 0
+SetsMessage old new user id here = (other : List ℕ) (message : Id) →
+    is_here_in new other message ≡ (if eq_by_cmp (slice_cmp nat_cmp) user other && eq_by_cmp id_cmp id message then here else is_here_in old other message)
 
 -- all is as it was
-abbrev pub IsAsBefore : Fragments → Fragments → Type 0
-IsAsBefore old new = (user : List ℕ) → ids_of new user ≡ ids_of old user
+abbrev pub HasSameMessages : Fragments → Fragments → Type 0
+HasSameMessages old new = (user : List ℕ) → ids_of new user ≡ ids_of old user
 
 -- whether the one is so and the other is not
 abbrev pub differ : Bool → Bool → Bool
@@ -54,4 +54,4 @@ flips old new user = differ (is_empty old user) (is_empty new user)
 -- the ids of the user's messages that are here, each once, by node, boot and number
 pub record AreIdsOf (ids : List Id) (fragments : Fragments) (user : List ℕ) : Type 0 where
   pub in_order : IsStrictlySortedBy id_cmp ids
-  pub those : (id : Id) → has_id ids id ≡ is_here fragments user id
+  pub those : (id : Id) → has_id ids id ≡ is_here_in fragments user id

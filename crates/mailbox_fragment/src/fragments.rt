@@ -7,7 +7,7 @@ ghost use Rattle.std.specs.BTreeSet as set;
 ghost use Rattle.std.specs.BTreeMap as tree;
 ghost use Rattle.mail_model.specs.Identity.{Id};
 ghost use Rattle.mail_base.specs.Orders.{id_cmp};
-ghost use Rattle.mailbox_fragment.specs.Here.{ids_at, ids_of, is_here, is_none, is_empty, Sets, IsAsBefore, flips, AreIdsOf};
+ghost use Rattle.mailbox_fragment.specs.Here.{ids_at, ids_of, is_here_in, is_none, is_empty, SetsMessage, HasSameMessages, flips, AreIdsOf};
 
 use mail_base::{Ids, MsgId, Name};
 use std::alloc::{AllocError, Global};
@@ -78,8 +78,8 @@ impl Fragments {
     // Begins the user's messages with this one. The user has none so far.
     fn begin(&mut self, user: &Name, id: MsgId) -> Result<(), AllocError>
         requires { tree.get (slice_cmp nat_cmp) self.old.users user.now ≡ None }
-        ensures ok { OnOk result (Sets self.old self.new user.now id true) }
-        ensures err { OnErr result (IsAsBefore self.old self.new) }
+        ensures ok { OnOk result (SetsMessage self.old self.new user.now id true) }
+        ensures err { OnErr result (HasSameMessages self.old self.new) }
     {
         let mut first = BTreeSet::new(self.alloc);
         first.insert(id)?;
@@ -89,8 +89,8 @@ impl Fragments {
 
     // Notes that the message is here.
     fn add(&mut self, user: &Name, id: MsgId) -> Result<(), AllocError>
-        ensures ok { OnOk result (Sets self.old self.new user.now id true) }
-        ensures err { OnErr result (IsAsBefore self.old self.new) }
+        ensures ok { OnOk result (SetsMessage self.old self.new user.now id true) }
+        ensures err { OnErr result (HasSameMessages self.old self.new) }
     {
         match self.users.get_mut(user) {
             Some(ids) => add_id(ids, id),
@@ -100,7 +100,7 @@ impl Fragments {
 
     // Notes that the message is not here.
     fn take_out(&mut self, user: &Name, id: MsgId)
-        ensures { Sets self.old self.new user.now id false }
+        ensures { SetsMessage self.old self.new user.now id false }
     {
         if let Some(ids) = self.users.get_mut(user) {
             take_id(ids, id);
@@ -109,7 +109,7 @@ impl Fragments {
 
     // Forgets a user without messages, so that a mailbox that was emptied costs no room.
     fn forget_empty(&mut self, user: &Name)
-        ensures { IsAsBefore self.old self.new }
+        ensures { HasSameMessages self.old self.new }
     {
         if self.is_empty(user) {
             self.users.remove(user);
@@ -122,9 +122,9 @@ impl Fragments {
     ///
     /// Only out of memory, where a message comes to be here; all is then as before.
     pub fn set(&mut self, user: &Name, id: MsgId, here: bool) -> Result<bool, AllocError>
-        ensures here { OnOk result (Sets self.old self.new user.now id here) }
+        ensures here { OnOk result (SetsMessage self.old self.new user.now id here) }
         ensures flipped { IfOk result (λ flipped. flipped ≡ flips self.old self.new user.now) }
-        ensures err { OnErr result (IsAsBefore self.old self.new) }
+        ensures err { OnErr result (HasSameMessages self.old self.new) }
     {
         let was_empty = self.is_empty(user);
         if here {

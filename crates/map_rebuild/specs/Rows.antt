@@ -33,7 +33,7 @@ abbrev pub marks_of_install : Reports → ℕ
 marks_of_install reports = reports.at_install
 
 -- versions, marks and the count are as they were
-pub record IsAsBefore (old new : Reports) : Type 0 where
+pub record HasSameReports (old new : Reports) : Type 0 where
   pub versions : (user : List ℕ) → version_of new user ≡ version_of old user
   pub marks : (user : List ℕ) → is_marked new user ≡ is_marked old user
   pub epoch : install_epoch new ≡ install_epoch old
@@ -56,5 +56,5 @@ abbrev pub counted_after : EpochId → Reports → Reports → ℕ
 counted_after epoch old new = min (counted_before epoch old + (length (marked_users new) - length (marked_users old))) (2 ^ 64 - 1)
 
 -- the first marked users, in order of names and as many as are wanted, whom the node manages by the map
-abbrev pub due : List MapRow → ℕ → ℕ → Reports → List (List ℕ)
-due map node most reports = take most (filter (is_managed_by map node) (marked_users reports))
+abbrev pub due_users : List MapRow → ℕ → ℕ → Reports → List (List ℕ)
+due_users map node most reports = take most (filter (is_managed_by map node) (marked_users reports))

@@ -7,7 +7,7 @@ use Rattle.std.specs.BTreeSet.{BTreeSet}
 use Rattle.std.specs.Prelude.{slice_get, length}
 use Rattle.object_model.specs.Letters.{MapRow}
 use Rattle.mail_base.specs.Buckets.{bucket_at}
-use Rattle.maps_model.specs.Cluster.{manager_in, is_node}
+use Rattle.maps_model.specs.Cluster.{manager_in, is_that_node}
 
 -- whether the user is one of these
 abbrev pub has_user : List (List ℕ) → List ℕ → Bool
@@ -19,4 +19,4 @@ AreSame old new = (user : List ℕ) → has_user new.keys user ≡ has_user old.
 
 -- whether the node manages the user by this map
 abbrev pub is_managed_by : List MapRow → ℕ → List ℕ → Bool
-is_managed_by map node user = is_node (manager_in (slice_get map (bucket_at user (length map)))) node
+is_managed_by map node user = is_that_node (manager_in (slice_get map (bucket_at user (length map)))) node

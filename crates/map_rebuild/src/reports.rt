@@ -6,7 +6,7 @@ ghost use Rattle.std.specs.List.Sorted.{IsStrictlySortedBy};
 ghost use Rattle.mail_model.specs.Identity.{no_epoch};
 ghost use Rattle.maps_model.specs.Rules.{set_at};
 ghost use Rattle.map_rebuild.specs.Users.{has_user};
-ghost use Rattle.map_rebuild.specs.Rows.{version_of, is_marked, marked_users, install_epoch, marks_of_install, IsAsBefore, KeepsVersions, KeepsCount, counted_after, due};
+ghost use Rattle.map_rebuild.specs.Rows.{version_of, is_marked, marked_users, install_epoch, marks_of_install, HasSameReports, KeepsVersions, KeepsCount, counted_after, due_users};
 
 use crate::marks::{due_in, has, put, put_all, take_out};
 use crate::versions::{set_version, version_in};
@@ -53,7 +53,7 @@ impl Reports {
         ensures versions { OnOk result ((other : List ℕ) → version_of self.new other ≡ set_at (version_of self.old) user.now (version_of self.old user.now + 1) other) }
         ensures marks { OnOk result ((other : List ℕ) → is_marked self.new other ≡ set_at (is_marked self.old) user.now true other) }
         ensures count { KeepsCount self.old self.new }
-        ensures err { OnErr result (IsAsBefore self.old self.new) }
+        ensures err { OnErr result (HasSameReports self.old self.new) }
     {
         let version = version_in(&self.versions, user) + 1;
         let fresh = put(&mut self.marked, user)?;
@@ -90,7 +90,7 @@ impl Reports {
         ensures versions { KeepsVersions self.old self.new }
         ensures epoch { OnOk result (install_epoch self.new ≡ epoch) }
         ensures count { OnOk result (marks_of_install self.new ≡ counted_after epoch self.old self.new) }
-        ensures err { OnErr result (IsAsBefore self.old self.new) }
+        ensures err { OnErr result (HasSameReports self.old self.new) }
     {
         let before = self.marked.len();
         put_all(self.alloc, &mut self.marked, users)?;
@@ -119,7 +119,7 @@ impl Reports {
     ///
     /// Only out of memory.
     pub fn due(&self, map: &UserMap, to: NodeNo, most: usize) -> Result<Names, AllocError>
-        ensures users { IfOk result (λ users. users ≡ due map.now to most self.now) }
+        ensures users { IfOk result (λ users. users ≡ due_users map.now to most self.now) }
         ensures in_order { IsStrictlySortedBy (slice_cmp nat_cmp) (marked_users self.now) }
     {
         due_in(&self.marked, self.alloc, map, to, most)

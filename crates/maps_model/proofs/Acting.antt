@@ -7,7 +7,7 @@ use Rattle.maps_model.specs.Epochs.{IsBefore, IsAtMost}
 use Rattle.maps_model.specs.Cluster.{OpenGroup, Node, Life, Slot, slot_at, with_slot, slot_up, epoch_in, epoch_of}
 use Rattle.maps_model.specs.Cluster.Life.{Up, Down, Lost}
 use Rattle.maps_model.specs.Words.{Known, OpensLater, IsOver, IsPast, HasEntered, AllName, IsStillIn, HasJoined, WasIn, JoinStands}
-use Rattle.maps_model.specs.Moves.{NodeInOrder, IsInOrder, Act, WasUp, Begins, WasOpen, Forms, HadInstalled, IsAct}
+use Rattle.maps_model.specs.Moves.{NodeInOrder, IsInOrder, NodeAct, WasUp, BeginsBoot, WasOpen, Forms, HadInstalled, IsAct}
 use Rattle.maps_model.specs.Parts.{AllInOrder}
 use Rattle.maps_model.proofs.Lists.{among_either, same_some, at_same, read_after, read_before}
 use Rattle.maps_model.proofs.Order.{before_not_same, most_same, before_itself, before_same, most_before, most_most}
@@ -24,7 +24,7 @@ pub epochs_rise : (old new : Node) → (old.installed ≡ new.installed) ⊎ (Is
 epochs_rise old new (inl e) = inr (ap epoch_in e)
 epochs_rise old new (inr h) = inl h.0
 
-module _ (slots : List Slot) (flying : List Letter) (act : Act) (here : slot_at slots act.node ≡ Some act.before) (is : IsAct act)
+module _ (slots : List Slot) (flying : List Letter) (act : NodeAct) (here : slot_at slots act.node ≡ Some act.before) (is : IsAct act)
     (flew : (letter : Letter) → act.heard ≡ Some letter → Among letter flying × (letter.to ≡ act.node)) (order : AllInOrder slots) where
   abbrev pub After : List Slot
   After = with_slot slots act.node act.after
@@ -124,7 +124,7 @@ module _ (slots : List Slot) (flying : List Letter) (act : Act) (here : slot_at 
       (subst (λ x. IsBefore x epoch) (sym (ap epoch_in inst)) before))
       (λ enters. absurd (before_not_same (epoch_of new) epoch before (enters.1 ∙ same)))
       w.epochs)
-      (λ (b : Begins act new). absurd (omega (arith, begun, booted, b.later)))
+      (λ (b : BeginsBoot act new). absurd (omega (arith, begun, booted, b.later)))
       (is.lives new e)
   still_in boot epoch was begun promised still (Down might) e = tt
   still_in boot epoch was begun promised still Lost e = tt
@@ -152,7 +152,7 @@ module _ (slots : List Slot) (flying : List Letter) (act : Act) (here : slot_at 
         same ∙ sym (was_in_order w.old w.is).booted ∙ w.boot ∙ (is_in_order new e).booted,
         most_most epoch (epoch_of w.old) (epoch_of new) (subst (λ l. IsPast l epoch) w.is past) (epochs_rise w.old new w.epochs),
       ))
-      (λ (b : Begins act new). inl (omega (arith, same, b.later, (is_in_order new e).booted)))
+      (λ (b : BeginsBoot act new). inl (omega (arith, same, b.later, (is_in_order new e).booted)))
       (is.lives new e)
   past_after boot epoch same past (Down might) e = ⊎_elim (λ lt. inl (omega (arith, same, lt))) (λ eq. inr (same ∙ eq, tt)) (least_or act.before.disk.boot act.after.disk.boot is.boots)
   past_after boot epoch same past Lost e = ⊎_elim (λ lt. inl (omega (arith, same, lt))) (λ eq. inr (same ∙ eq, tt)) (least_or act.before.disk.boot act.after.disk.boot is.boots)

@@ -3,14 +3,14 @@ use Rattle.std.proofs.Common.{◌≡◌, ◌⊎◌, inl, inr, ⊎_elim, ℕ, ◌
 use Rattle.mail_model.specs.Identity.{EpochId}
 use Rattle.object_model.specs.Lists.{Among}
 use Rattle.object_model.specs.Letters.{Row, Letter}
-use Rattle.maps_model.specs.Words.{IsOneOf, IsReport, IsAck, Fits, HasAtLeast, IsUntold, IsLatest, Agrees}
+use Rattle.maps_model.specs.Words.{IsOneOf, IsReport, IsAck, RowFits, HasAtLeast, IsUntold, IsLatest, Agrees}
 use Rattle.maps_model.proofs.Lists.{among_either, same_some}
 
 -- what a node says of a user: as before, or with a greater version
 abbrev pub SaysOn : ℕ → ℕ → Bool → Bool → Type 0
 SaysOn old new full fuller = ((new ≡ old) × (fuller ≡ full)) ⊎ (old < new)
 
-pub fits_on : (row : Row) (old new : ℕ) (full fuller : Bool) → SaysOn old new full fuller → Fits row old full → Fits row new fuller
+pub fits_on : (row : Row) (old new : ℕ) (full fuller : Bool) → SaysOn old new full fuller → RowFits row old full → RowFits row new fuller
 fits_on row old new full fuller (inl e) f = record {
   bounded = omega (arith, f.bounded, e.0);
   same = λ h. f.same (h ∙ e.0) ∙ sym e.1;
@@ -49,16 +49,16 @@ module _ (flying out : List Letter) (n own : ℕ) (user : List ℕ) (x y a b : E
     (had : Agrees flying n user x y row0 v0 h0 m0)
     (reports_in : (letter : Letter) → Among letter flying → letter.from ≡ n → IsOneOf a b letter.epoch → (boot : ℕ) (row : Row) → IsReport letter user boot row → IsOneOf x y letter.epoch)
     (acks_in : (letter : Letter) → Among letter flying → letter.to ≡ n → IsOneOf a b letter.epoch → (told : ℕ) → IsAck letter user told → IsOneOf x y letter.epoch)
-    (reports : (row : Row) → OnItsWay flying n own user x y row → Fits row v0 h0)
+    (reports : (row : Row) → OnItsWay flying n own user x y row → RowFits row v0 h0)
     (says : SaysOn v0 v1 h0 h1)
     (manager : RowOn flying n own user x y row0 row1 v1 h1)
     (quiet : m1 ≡ false → QuietOn flying n own user x y row1 v0 v1 h0 h1 m0)
     (new_reports : (letter : Letter) → Among letter out → letter.from ≡ n → IsOneOf a b letter.epoch → (boot : ℕ) (row : Row) → IsReport letter user boot row → m1 ≡ true)
     (new_acks : (letter : Letter) → Among letter out → letter.to ≡ n → IsOneOf a b letter.epoch → (told : ℕ) → IsAck letter user told → HasAtLeast row1 told) where
-  fits : RowOn flying n own user x y row0 row1 v1 h1 → (row : Row) → row1 ≡ Some row → Fits row v1 h1
+  fits : RowOn flying n own user x y row0 row1 v1 h1 → (row : Row) → row1 ≡ Some row → RowFits row v1 h1
   fits (Stays e) row h = fits_on row v0 v1 h0 h1 says (had.fits row (sym e ∙ h))
-  fits (Takes taken way e newer) row h = subst (λ r. Fits r v1 h1) (same_some row1 taken row e h) (fits_on taken v0 v1 h0 h1 says (reports taken way))
-  fits (Tells own e v f) row h = subst (λ r. Fits r v1 h1) (same_some row1 own row e h) (record { bounded = omega (arith, v); same = λ s. f })
+  fits (Takes taken way e newer) row h = subst (λ r. RowFits r v1 h1) (same_some row1 taken row e h) (fits_on taken v0 v1 h0 h1 says (reports taken way))
+  fits (Tells own e v f) row h = subst (λ r. RowFits r v1 h1) (same_some row1 own row e h) (record { bounded = omega (arith, v); same = λ s. f })
 
   risen : SaysOn v0 v1 h0 h1 → v0 ≤ v1
   risen (inl e) = omega (arith, e.0)

@@ -2,8 +2,8 @@
 use Rattle.std.proofs.Common.{◌≡◌, ◌⊎◌, inl, inr, ⊎_elim, ℕ, Bool, true, false, List, Option, Some, None, refl, sym, ap, ◌∙◌, subst, true≢false}
 use Rattle.mail_model.specs.Identity.{EpochId}
 use Rattle.object_model.specs.Letters.{Member, Membership, Row}
-use Rattle.maps_model.specs.Cluster.{Node, Disk, member_of, Names, Comes, manager_of}
-use Rattle.maps_model.specs.Rules.{KeepsAny, own_row, IsKept, IsSpared, IsDue, MarkAt, RowAt, Entering}
+use Rattle.maps_model.specs.Cluster.{Node, Disk, member_of, NamesNode, Comes, manager_of}
+use Rattle.maps_model.specs.Rules.{KeepsAny, own_row, IsRowKept, IsSpared, IsRowDue, MarkAt, RowAt, Entering}
 use Rattle.maps_model.specs.Rules.MarkAt.{TellsItself, Marks, Spares}
 use Rattle.maps_model.specs.Rules.RowAt.{Tells, Keeps, Drops}
 use Rattle.maps_model.proofs.Lists.{same_some, some_none, same_or_apart}
@@ -56,13 +56,13 @@ module _ (own : ℕ) (node : Node) (disk : Disk) (g : Membership) where
           (λ apart. inr (λ c. apart (ap (λ (x : Member). x.boot) (same_some (member_of g.members m) member c.member e c.is) ∙ c.same)))
           (by_number member.boot boot)
 
-  kept : (m boot : ℕ) (user : List ℕ) → Decided (IsKept own node g m boot user)
+  kept : (m boot : ℕ) (user : List ℕ) → Decided (IsRowKept own node g m boot user)
   kept m boot user = by node.installed refl
     where
-      by : (x : Option Membership) → node.installed ≡ x → Decided (IsKept own node g m boot user)
+      by : (x : Option Membership) → node.installed ≡ x → Decided (IsRowKept own node g m boot user)
       by None e = inr (λ k. some_none node.installed k.old k.installed e)
       by (Some old) e =
-          let is_old : (k : IsKept own node g m boot user) → k.old ≡ old = λ k. same_some node.installed k.old old k.installed e in
+          let is_old : (k : IsRowKept own node g m boot user) → k.old ≡ old = λ k. same_some node.installed k.old old k.installed e in
           ⊎_elim
           (λ managed. ⊎_elim
           (λ manages. ⊎_elim
@@ -99,7 +99,7 @@ module _ (own : ℕ) (node : Node) (disk : Disk) (g : Membership) where
               (by_epoch member.was old.epoch)
 
   -- a user is due, or has no mark and either no message or a manager that spares it
-  due : (user : List ℕ) → IsDue node disk g user ⊎ ((node.marked user ≡ false) × ((disk.holds user ≡ false) ⊎ IsSpared node g user))
+  due : (user : List ℕ) → IsRowDue node disk g user ⊎ ((node.marked user ≡ false) × ((disk.holds user ≡ false) ⊎ IsSpared node g user))
   due user = ⊎_elim
       (λ marked. inl (inl marked))
       (λ none. ⊎_elim
@@ -108,7 +108,7 @@ module _ (own : ℕ) (node : Node) (disk : Disk) (g : Membership) where
       (by_bool (disk.holds user)))
       (by_bool (node.marked user))
 
-  undue : (user : List ℕ) → node.marked user ≡ false → (disk.holds user ≡ false) ⊎ IsSpared node g user → IsDue node disk g user → ⊥
+  undue : (user : List ℕ) → node.marked user ≡ false → (disk.holds user ≡ false) ⊎ IsSpared node g user → IsRowDue node disk g user → ⊥
   undue user none why (inl marked) = true≢false (sym marked ∙ none)
   undue user none why (inr d) = ⊎_elim (λ empty. true≢false (sym d.0 ∙ empty)) (λ s. d.1 s) why
 
@@ -118,14 +118,14 @@ module _ (own : ℕ) (node : Node) (disk : Disk) (g : Membership) where
       (λ other. ⊎_elim (λ is_due. (true, Marks other is_due refl)) (λ no_due. (false, Spares other no_due.0 no_due.1 refl)) (due user))
       (by_manager (manager_of g user) own)
 
-  keep_or_drop : (m boot : ℕ) (user : List ℕ) → (m ≡ own → boot ≡ node.boot → manager_of g user ≡ Some own → IsDue node disk g user → ⊥) → (IsKept own node g m boot user → m ≡ own → IsDue node disk g user → ⊥)
+  keep_or_drop : (m boot : ℕ) (user : List ℕ) → (m ≡ own → boot ≡ node.boot → manager_of g user ≡ Some own → IsRowDue node disk g user → ⊥) → (IsRowKept own node g m boot user → m ≡ own → IsRowDue node disk g user → ⊥)
       → (row : Option Row) × RowAt own node disk g m boot user row
   keep_or_drop m boot user dropped keeps = ⊎_elim
       (λ k. (node.rows m boot user, Keeps k (keeps k) refl))
       (λ never. (None, Drops never dropped refl))
       (kept m boot user)
 
-  module _ (names : Names g own node.boot) where
+  module _ (names : NamesNode g own node.boot) where
     row_at : (m boot : ℕ) (user : List ℕ) → (row : Option Row) × RowAt own node disk g m boot user row
     row_at m boot user = ⊎_elim
         (λ mine. ⊎_elim
@@ -137,7 +137,7 @@ module _ (own : ℕ) (node : Node) (disk : Disk) (g : Membership) where
         (λ other. keep_or_drop m boot user (λ a b c d. other c) (λ k a d. other k.manages))
         (by_manager (manager_of g user) own))
         (λ apart. keep_or_drop m boot user (λ a b c d. apart b) (λ k a d. apart (one_boot g own boot node.boot
-        (subst (λ x. Names g x boot) mine (record { member = k.comes.member; is = k.comes.is; same = k.comes.same })) names)))
+        (subst (λ x. NamesNode g x boot) mine (record { member = k.comes.member; is = k.comes.is; same = k.comes.same })) names)))
         (by_number boot node.boot))
         (λ apart. keep_or_drop m boot user (λ a b c d. apart a) (λ k a d. apart a))
         (by_number m own)

@@ -4,11 +4,11 @@ use Rattle.mail_model.specs.Identity.{EpochId}
 use Rattle.object_model.specs.Letters.{Membership, Row, Letter}
 use Rattle.object_model.specs.Lists.{Among}
 use Rattle.maps_model.specs.Epochs.{IsBefore}
-use Rattle.maps_model.specs.Cluster.{Node, Disk, Slot, slot_at, slot_up, epoch_in, epoch_of, Names, manager_of}
+use Rattle.maps_model.specs.Cluster.{Node, Disk, Slot, slot_at, slot_up, epoch_in, epoch_of, NamesNode, manager_of}
 use Rattle.maps_model.specs.Cluster.Life.{Up}
 use Rattle.maps_model.specs.Words.{Known, IsOver, IsOneOf, IsReport, IsAck, HasAtLeast, IsLatest, Agrees, RowFor}
 use Rattle.maps_model.specs.Words.RowFor.{Stands, WillDrop, WillKeep, Ahead}
-use Rattle.maps_model.specs.Moves.{Act, IsAct, WasUp, TellsItself, Unmarked, SendsAck}
+use Rattle.maps_model.specs.Moves.{NodeAct, IsAct, WasUp, TellsItself, Unmarked, SendsAck}
 use Rattle.maps_model.specs.Moves.Unmarked.{Still, Cleared, Own, Spared}
 use Rattle.maps_model.specs.Rules.{own_row}
 use Rattle.maps_model.specs.Parts.{AllInOrder, OneEach, Joins, Spoken, Reported}
@@ -29,7 +29,7 @@ row_now own other g n boot user row epoch (WillDrop lt comes never r same) h = a
 row_now own other g n boot user row epoch (WillKeep lt comes k r same) h = r
 row_now own other g n boot user row epoch (Ahead may next e later c d m r same) h = r
 
-module _ (slots : List Slot) (flying : List Letter) (act : Act) (here : slot_at slots act.node ≡ Some act.before) (is : IsAct act)
+module _ (slots : List Slot) (flying : List Letter) (act : NodeAct) (here : slot_at slots act.node ≡ Some act.before) (is : IsAct act)
     (flew : (letter : Letter) → act.heard ≡ Some letter → Among letter flying × (letter.to ≡ act.node)) (order : AllInOrder slots) (one : OneEach slots flying)
     (joins : Joins slots flying) (spoken : Spoken slots flying) (reported : Reported slots flying) (told : parts.RowsAgree slots flying) where
   abbrev Slots : List Slot
@@ -61,8 +61,8 @@ module _ (slots : List Slot) (flying : List Letter) (act : Act) (here : slot_at 
       known0 : Known slots flying g
       known0 = inl (record { n = n; node = old; disk = disk0; here = at0; is = inst })
 
-      names0 : Names g n node.boot
-      names0 = subst (λ b. Names g n b) booted ((order.each n (slot_up old disk0) at0).installed g inst).1
+      names0 : NamesNode g n node.boot
+      names0 = subst (λ b. NamesNode g n b) booted ((order.each n (slot_up old disk0) at0).installed g inst).1
 
       other_known : (x : Membership) → other.installed ≡ Some x → Known Slots Letters x
       other_known x e = inl (record { n = manager; node = other; disk = its; here = atm; is = e })
@@ -94,12 +94,12 @@ module _ (slots : List Slot) (flying : List Letter) (act : Act) (here : slot_at 
             (reported.to report heard_in user s.boot s.row s.heard.holds.2 x known (same ∙ sym s.heard.holds.1)) ∙ (flew report s.heard.is).1
 
         -- in the boot in which the node is
-        its_boot : (x : Membership) → Known slots flying x → x.epoch ≡ letter.epoch → Names x n node.boot → s.boot ≡ node.boot
+        its_boot : (x : Membership) → Known slots flying x → x.epoch ≡ letter.epoch → NamesNode x n node.boot → s.boot ≡ node.boot
         its_boot x known same names =
             let all = (spoken.reported report heard_in user s.boot s.row s.heard.holds.2).1 in
-            one_boot x n s.boot node.boot (subst (λ k. Names x k s.boot) from_n (all x known (same ∙ sym s.heard.holds.1))) names
+            one_boot x n s.boot node.boot (subst (λ k. NamesNode x k s.boot) from_n (all x known (same ∙ sym s.heard.holds.1))) names
 
-        answers : (x : Membership) → Known slots flying x → x.epoch ≡ letter.epoch → manager_of x user ≡ Some manager → Names x n node.boot → row ≡ other.rows n node.boot user → HasAtLeast row version
+        answers : (x : Membership) → Known slots flying x → x.epoch ≡ letter.epoch → manager_of x user ≡ Some manager → NamesNode x n node.boot → row ≡ other.rows n node.boot user → HasAtLeast row version
         answers x known same m_of names r =
             let mine = sender x known same m_of in
             let new_is : s.new ≡ other = the_other mine s.new s.is in
@@ -121,13 +121,13 @@ module _ (slots : List Slot) (flying : List Letter) (act : Act) (here : slot_at 
         by (WillKeep lt comes k r same) h =
             let in_k : k.old.epoch ≡ letter.epoch = sym (ap epoch_in k.installed) ∙ sym same ∙ sym h in
             let known = known_before k.old (other_known k.old k.installed) in_k in
-            let names : Names k.old n node.boot = ⊎_elim
+            let names : NamesNode k.old n node.boot = ⊎_elim
             (λ none. absurd (omega (arith, one.counted k.old known, ap (λ (e : EpochId). e.count) none)))
             (λ w. w.2 k.old known refl)
             (joins.named g known0 n node.boot k.old.epoch k.comes).1 in
             answers k.old known in_k k.managed names r
         by (Ahead may next e after c d m_of r same) h = absurd (none_reported slots flying act here is flew order one joins spoken n old disk0 at0 next (other_known next e)
-            (subst (λ b. Names next n b) (sym booted) (names_of next n node.boot g.epoch d))
+            (subst (λ b. NamesNode next n b) (sym booted) (names_of next n node.boot g.epoch d))
             (subst (λ x. IsBefore x next.epoch) (sym (ap epoch_in inst)) after)
             report heard_in from_n (s.heard.holds.1 ∙ h ∙ same) user s.boot s.row s.heard.holds.2)
 

@@ -5,9 +5,9 @@ use Rattle.mail_model.specs.Identity.{EpochId, no_epoch}
 use Rattle.object_model.specs.Letters.{Claim, Member, Membership, Row, Letter}
 use Rattle.object_model.specs.Lists.{Among}
 use Rattle.maps_model.specs.Epochs.{IsBefore, IsAtMost}
-use Rattle.maps_model.specs.Cluster.{Joined, OpenGroup, Node, Disk, epoch_of, Names}
+use Rattle.maps_model.specs.Cluster.{Joined, OpenGroup, Node, Disk, epoch_of, NamesNode}
 use Rattle.object_model.specs.Letters.Body.{Group, Join, Install, Report, ReportAck}
-use Rattle.maps_model.specs.Moves.{NodeInOrder, Act, SendsJoin, IsAct}
+use Rattle.maps_model.specs.Moves.{NodeInOrder, NodeAct, SendsJoin, IsAct}
 use Rattle.maps_model.specs.Rules.{Reaction, letter_to, others, own_join, promised, next_epoch, start_group, join_letter, join_group, HearsGroup}
 use Rattle.maps_model.specs.Rules.HearsGroup.{Rises, Again, Old}
 use Rattle.maps_model.specs.NodeLaws.{act_of}
@@ -16,7 +16,7 @@ use Rattle.maps_model.proofs.Lists.{among_one}
 use Rattle.maps_model.proofs.Making.{epoch_promised, IsPlain, same_maps, membership_from, had, acts, rests}
 
 -- letters of membership
-pub plain_group : (act : Act) (to : ℕ) (epoch : EpochId) → to ≢ act.node → IsPlain act (letter_to act.node (Group epoch) to)
+pub plain_group : (act : NodeAct) (to : ℕ) (epoch : EpochId) → to ≢ act.node → IsPlain act (letter_to act.node (Group epoch) to)
 plain_group act to epoch apart = record {
   from = refl;
   to = apart;
@@ -38,7 +38,7 @@ plain_group act to epoch apart = record {
     by_ack : (user : List ℕ) (version : ℕ) → Group epoch ≡ ReportAck user version → ⊥
     by_ack user version h = cc
 
-pub plain_join : (act : Act) (to : ℕ) (epoch promise : EpochId) (b : ℕ) (was : EpochId) (claims : List Claim) → to ≢ act.node → SendsJoin act epoch b was → IsPlain act (letter_to act.node (Join epoch promise b was claims) to)
+pub plain_join : (act : NodeAct) (to : ℕ) (epoch promise : EpochId) (b : ℕ) (was : EpochId) (claims : List Claim) → to ≢ act.node → SendsJoin act epoch b was → IsPlain act (letter_to act.node (Join epoch promise b was claims) to)
 plain_join act to epoch promise b was claims apart within = record {
   from = refl;
   to = apart;
@@ -61,11 +61,11 @@ plain_join act to epoch promise b was claims apart within = record {
     by_ack user version h = cc
 
 -- one letter goes out
-pub one_plain : (act : Act) (one : Letter) → IsPlain act one → (letter : Letter) → Among letter (one ∷ []) → IsPlain act letter
+pub one_plain : (act : NodeAct) (one : Letter) → IsPlain act one → (letter : Letter) → Among letter (one ∷ []) → IsPlain act letter
 one_plain act one p letter m = subst (IsPlain act) (among_one letter one m) p
 
 -- the others are asked
-pub all_plain : (act : Act) (epoch : EpochId) (n : ℕ) (letter : Letter) → Among letter (map (letter_to act.node (Group epoch)) (others act.node n)) → IsPlain act letter
+pub all_plain : (act : NodeAct) (epoch : EpochId) (n : ℕ) (letter : Letter) → Among letter (map (letter_to act.node (Group epoch)) (others act.node n)) → IsPlain act letter
 all_plain act epoch zero letter m = absurd m
 all_plain act epoch (suc k) letter m = by (nat_eq (suc k) act.node) refl (λ rest. all_plain act epoch k letter rest) m
   where
@@ -78,7 +78,7 @@ all_plain act epoch (suc k) letter m = by (nat_eq (suc k) act.node) refl (λ res
         m
 
 -- a node finds itself among those who joined
-pub names_own : (own : ℕ) (member : Member) (epoch : EpochId) → member.node ≡ own → Names (record { epoch = epoch; members = member ∷ []; map = [] }) own member.boot
+pub names_own : (own : ℕ) (member : Member) (epoch : EpochId) → member.node ≡ own → NamesNode (record { epoch = epoch; members = member ∷ []; map = [] }) own member.boot
 names_own own member epoch same = record { member = member; is = ap (λ t. if t then Some member else None) (eq-eqb member.node own same); same = refl }
 
 pub none_some : {X : Type 0} (x : X) → None ≡ Some x → ⊥
@@ -89,7 +89,7 @@ some_same x y h = cc
 
 -- what was installed stays below a later promise
 module _ (own : ℕ) (node : Node) (disk : Disk) (o : NodeInOrder own node disk) (epoch : EpochId) (later : IsBefore node.promise epoch) where
-  pub installed_below : (g : Membership) → node.installed ≡ Some g → IsAtMost g.epoch epoch × Names g own node.boot
+  pub installed_below : (g : Membership) → node.installed ≡ Some g → IsAtMost g.epoch epoch × NamesNode g own node.boot
   installed_below g h = (inl (most_before g.epoch node.promise epoch (o.installed g h).0 later), (o.installed g h).1)
 
   pub epoch_below : IsBefore (epoch_of node) epoch
@@ -118,7 +118,7 @@ groups own nodes node disk o =
       installed = installed_below own node disk o epoch later;
       group = λ group h. subst (λ (x : OpenGroup). (x.epoch ≡ epoch) × (x.epoch.node ≡ own) × IsBefore (epoch_of node) x.epoch) (some_same opened group h) (refl, refl, epoch_below own node disk o epoch later);
       counted = λ group h. subst (λ (x : OpenGroup). 0 < x.epoch.count) (some_same opened group h) (omega arith);
-      joined = λ group h. subst (λ (x : OpenGroup). Names (record { epoch = x.epoch; members = map (λ join. join.member) x.joins; map = [] }) own node.boot) (some_same opened group h)
+      joined = λ group h. subst (λ (x : OpenGroup). NamesNode (record { epoch = x.epoch; members = map (λ join. join.member) x.joins; map = [] }) own node.boot) (some_same opened group h)
           (names_own own (own_join own node).member epoch refl);
     })
     (omega arith) (inl (disk_below own node disk o epoch later)) refl (inl refl)

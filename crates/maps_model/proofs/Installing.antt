@@ -7,14 +7,14 @@ use Rattle.object_model.specs.Letters.{Claim, MapRow, Member, Membership, Row, L
 use Rattle.object_model.specs.Lists.{Among}
 use Rattle.mail_base.specs.Buckets.{bucket_at}
 use Rattle.maps_model.specs.Epochs.{IsBefore, IsAtMost}
-use Rattle.maps_model.specs.Assign.{IsIn, IsAssigned, ClaimedRow, FreeRow}
-use Rattle.maps_model.specs.Cluster.{Joined, OpenGroup, Node, Disk, epoch_of, member_of, Names, manager_in, manager_of}
+use Rattle.maps_model.specs.Assign.{IsOfMembers, IsAssigned, ClaimedRow, FreeRow}
+use Rattle.maps_model.specs.Cluster.{Joined, OpenGroup, Node, Disk, epoch_of, member_of, NamesNode, manager_in, manager_of}
 use Rattle.object_model.specs.Letters.Body.{Join, Install, Report, ReportAck}
 use Rattle.maps_model.specs.Words.{IsReport, IsAck}
-use Rattle.maps_model.specs.Moves.{NodeInOrder, Act, Forms, RowFrom, SaysSame, Unmarked, KeepsMaps, IsAct}
+use Rattle.maps_model.specs.Moves.{NodeInOrder, NodeAct, Forms, RowFrom, SaysSame, Unmarked, KeepsMaps, IsAct}
 use Rattle.maps_model.specs.Moves.RowFrom.{Kept, Fell, Told}
 use Rattle.maps_model.specs.Moves.Unmarked.{Own, Spared}
-use Rattle.maps_model.specs.Rules.{Reaction, letter_to, IsKept, IsSpared, IsDue, MarkAt, RowAt, Entering, entered, membership_of, conclude, Concludes, HearsInstall}
+use Rattle.maps_model.specs.Rules.{Reaction, letter_to, IsRowKept, IsSpared, IsRowDue, MarkAt, RowAt, Entering, entered, membership_of, conclude, Concludes, HearsInstall}
 use Rattle.maps_model.specs.Rules.MarkAt.{TellsItself, Marks, Spares}
 use Rattle.maps_model.specs.Rules.RowAt.{Tells, Keeps, Drops}
 use Rattle.maps_model.specs.Rules.HearsInstall.{Old, NotPromised, NotMember, Enters}
@@ -30,11 +30,11 @@ not_true false h = refl
 
 -- entering an epoch, whatever becomes of the open group and whatever is sent
 module _ (own : ℕ) (node : Node) (disk : Disk) (heard : Option Letter) (g : Membership) (later : IsBefore (epoch_of node) g.epoch) (group : Option OpenGroup) (out : List Letter)
-    (marked : List ℕ → Bool) (rows : ℕ → ℕ → List ℕ → Option Row) (entering : Entering own node disk g marked rows) (names : Names g own node.boot) where
+    (marked : List ℕ → Bool) (rows : ℕ → ℕ → List ℕ → Option Row) (entering : Entering own node disk g marked rows) (names : NamesNode g own node.boot) where
   abbrev pub reaction : Reaction
   reaction = record { node = record (entered node g marked rows) { group = group }; disk = disk; out = out }
 
-  abbrev act : Act
+  abbrev act : NodeAct
   act = act_of own node disk reaction heard
 
   row_from : (m boot : ℕ) (user : List ℕ) → RowAt own node disk g m boot user (rows m boot user) → RowFrom act node reaction.node m boot user
@@ -43,7 +43,7 @@ module _ (own : ℕ) (node : Node) (disk : Disk) (heard : Option Letter) (g : Me
   row_from m boot user (Drops never undue e) = Fell g refl later never e
 
   -- a node that comes itself from the old epoch, and manages the user in both maps, keeps its own row
-  own_kept : (user : List ℕ) → manager_of g user ≡ Some own → IsSpared node g user → IsKept own node g own node.boot user
+  own_kept : (user : List ℕ) → manager_of g user ≡ Some own → IsSpared node g user → IsRowKept own node g own node.boot user
   own_kept user managed s =
       let it : s.manager ≡ own = same_some (manager_of g user) s.manager own s.after managed in
       let member : member_of g.members own ≡ Some s.member = subst (λ k. member_of g.members k ≡ Some s.member) it s.is in
@@ -56,7 +56,7 @@ module _ (own : ℕ) (node : Node) (disk : Disk) (heard : Option Letter) (g : Me
         allowed = s.allowed;
       }
 
-  spares_own : (user : List ℕ) → manager_of g user ≡ Some own → (k : IsKept own node g own node.boot user) → IsSpared node g user
+  spares_own : (user : List ℕ) → manager_of g user ≡ Some own → (k : IsRowKept own node g own node.boot user) → IsSpared node g user
   spares_own user managed k = record {
     old = k.old;
     installed = k.installed;
@@ -69,7 +69,7 @@ module _ (own : ℕ) (node : Node) (disk : Disk) (heard : Option Letter) (g : Me
     allowed = k.allowed;
   }
 
-  undue_is : (user : List ℕ) → (IsDue node disk g user → ⊥) → node.marked user ≡ false
+  undue_is : (user : List ℕ) → (IsRowDue node disk g user → ⊥) → node.marked user ≡ false
   undue_is user undue = not_true (node.marked user) (λ e. undue (inl e))
 
   said : (user : List ℕ) → SaysSame act node reaction.node user
@@ -82,7 +82,7 @@ module _ (own : ℕ) (node : Node) (disk : Disk) (heard : Option Letter) (g : Me
   })
   own_row_at user managed (Keeps k undue e) = Spared g refl later (undue_is user (undue refl)) (said user) (inr (spares_own user managed k))
   own_row_at user managed (Drops never undue e) =
-      let is_undue : IsDue node disk g user → ⊥ = undue refl refl managed in
+      let is_undue : IsRowDue node disk g user → ⊥ = undue refl refl managed in
       Spared g refl later (undue_is user is_undue) (said user)
       (inl (not_true (disk.holds user) (λ h. is_undue (inr (h, λ s. never (own_kept user managed s))))))
 
@@ -101,7 +101,7 @@ module _ (own : ℕ) (node : Node) (disk : Disk) (heard : Option Letter) (g : Me
 -- an Install is heard
 module _ (own : ℕ) (node : Node) (disk : Disk) (letter : Letter) (o : NodeInOrder own node disk) (g : Membership) (body : letter.body ≡ Install g)
     (over : g.epoch.node ≡ own → (group : OpenGroup) → node.group ≡ Some group → IsBefore g.epoch group.epoch) where
-  enters : g.epoch ≡ node.promise → IsBefore (epoch_of node) g.epoch → Names g own node.boot → (marked : List ℕ → Bool) (rows : ℕ → ℕ → List ℕ → Option Row) → Entering own node disk g marked rows
+  enters : g.epoch ≡ node.promise → IsBefore (epoch_of node) g.epoch → NamesNode g own node.boot → (marked : List ℕ → Bool) (rows : ℕ → ℕ → List ℕ → Option Row) → Entering own node disk g marked rows
       → IsAct (act_of own node disk (record { node = entered node g marked rows; disk = disk; out = [] }) (Some letter))
   enters promised later names marked rows entering =
       let it : Reaction = record { node = entered node g marked rows; disk = disk; out = [] } in
@@ -114,7 +114,7 @@ module _ (own : ℕ) (node : Node) (disk : Disk) (letter : Letter) (o : NodeInOr
         booted = o.booted;
         promised = o.promised;
         heard = o.heard;
-        installed = λ one h. subst (λ (x : Membership). IsAtMost x.epoch node.promise × Names x own node.boot) (some_same g one h) (inr promised, names);
+        installed = λ one h. subst (λ (x : Membership). IsAtMost x.epoch node.promise × NamesNode x own node.boot) (some_same g one h) (inr promised, names);
         group = λ group h. ((o.group group h).0, (o.group group h).1, closed group h);
         counted = o.counted;
         joined = o.joined;
@@ -149,13 +149,13 @@ found_joined (join ∷ joins) n member e = by (nat_eq join.member.node n) refl (
 
 -- whoever manages is a member
 managing : (claims : List Claim) (members : List Member) (buckets : ℕ) (epoch : EpochId) (rows : List MapRow) → IsAssigned claims members buckets epoch rows
-    → (bucket manager : ℕ) → manager_in (slice_get rows bucket) ≡ Some manager → IsIn members manager
+    → (bucket manager : ℕ) → manager_in (slice_get rows bucket) ≡ Some manager → IsOfMembers members manager
 managing claims members buckets epoch rows a bucket manager e = by (slice_get rows bucket) refl e
   where
-    by : (x : Option MapRow) → slice_get rows bucket ≡ x → manager_in x ≡ Some manager → IsIn members manager
+    by : (x : Option MapRow) → slice_get rows bucket ≡ x → manager_in x ≡ Some manager → IsOfMembers members manager
     by None f e = absurd (none_some manager e)
-    by (Some row) f e = subst (IsIn members) (some_same row.manager manager e) (⊎_elim
-        (λ (k : ClaimedRow claims members bucket row). subst (IsIn members) (sym k.same_node) k.best.counts.of_member)
+    by (Some row) f e = subst (IsOfMembers members) (some_same row.manager manager e) (⊎_elim
+        (λ (k : ClaimedRow claims members bucket row). subst (IsOfMembers members) (sym k.same_node) k.best.counts.of_member)
         (λ (v : FreeRow claims members epoch rows bucket row). v.least.of_member)
         (a.each bucket row f))
 
@@ -199,7 +199,7 @@ module _ (own buckets : ℕ) (node : Node) (disk : Disk) (o : NodeInOrder own no
         booted = o.booted;
         promised = o.promised;
         heard = o.heard;
-        installed = λ one h. subst (λ (x : Membership). IsAtMost x.epoch node.promise × Names x own node.boot) (some_same g one h) (inr p.0, record { member = j.member; is = j.is; same = j.same });
+        installed = λ one h. subst (λ (x : Membership). IsAtMost x.epoch node.promise × NamesNode x own node.boot) (some_same g one h) (inr p.0, record { member = j.member; is = j.is; same = j.same });
         group = λ one h. absurd (none_some one h);
         counted = λ one h. absurd (none_some one h);
         joined = λ one h. absurd (none_some one h);

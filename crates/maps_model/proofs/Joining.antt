@@ -5,7 +5,7 @@ use Rattle.mail_model.specs.Identity.{EpochId}
 use Rattle.object_model.specs.Letters.{Claim, Member, Letter}
 use Rattle.object_model.specs.Lists.{Among}
 use Rattle.maps_model.specs.Epochs.{IsBefore}
-use Rattle.maps_model.specs.Cluster.{Joined, OpenGroup, Node, Disk, epoch_of, member_of, Names}
+use Rattle.maps_model.specs.Cluster.{Joined, OpenGroup, Node, Disk, epoch_of, member_of, NamesNode}
 use Rattle.object_model.specs.Letters.Body.{Join}
 use Rattle.maps_model.specs.Moves.{NodeInOrder, IsAct}
 use Rattle.maps_model.specs.Rules.{Reaction, idle, with_join, HearsJoin}
@@ -72,7 +72,7 @@ module _ (own : ℕ) (node : Node) (disk : Disk) (letter : Letter) (came : lette
         installed = o.installed;
         group = λ one h. subst (λ (x : OpenGroup). (x.epoch ≡ node.promise) × (x.epoch.node ≡ own) × IsBefore (epoch_of node) x.epoch) (some_same grown one h) (o.group group opened);
         counted = λ one h. subst (λ (x : OpenGroup). 0 < x.epoch.count) (some_same grown one h) (o.counted group opened);
-        joined = λ one h. subst (λ (x : OpenGroup). Names (record { epoch = x.epoch; members = map (λ join. join.member) x.joins; map = [] }) own node.boot) (some_same grown one h)
+        joined = λ one h. subst (λ (x : OpenGroup). NamesNode (record { epoch = x.epoch; members = map (λ join. join.member) x.joins; map = [] }) own node.boot) (some_same grown one h)
             (record { member = names.member; is = found_still own new group.joins came ∙ names.is; same = names.same });
       })
       (omega arith) (inr refl) refl (inl refl)

@@ -5,7 +5,7 @@ use Rattle.object_model.specs.Letters.{Letter}
 use Rattle.maps_model.specs.Cluster.{Slot, Cluster, slot_at}
 use Rattle.maps_model.specs.Cluster.Life.{Up}
 use Rattle.maps_model.specs.Words.{OpensLater}
-use Rattle.maps_model.specs.Moves.{Act, Move, MayMove, MayMoves, IsReady, after_move, after_moves}
+use Rattle.maps_model.specs.Moves.{NodeAct, Move, MayMove, MayMoves, IsReady, after_move, after_moves}
 use Rattle.maps_model.specs.Moves.Move.{Acted, Taken}
 use Rattle.maps_model.specs.Parts.{Sound}
 use Rattle.maps_model.proofs.Lists.{same_some}
@@ -16,7 +16,7 @@ use Rattle.maps_model.proofs.Told.{told_acted}
 use Rattle.maps_model.proofs.Taken.{apart_taken, one_taken, joins_taken, spoken_taken, reported_taken, told_taken}
 
 -- what a node may count on holds in a sound cluster
-pub is_ready : (w : Cluster) (act : Act) → slot_at w.slots act.node ≡ Some act.before → ((letter : Letter) → act.heard ≡ Some letter → Among letter w.flying × (letter.to ≡ act.node)) → Sound w
+pub is_ready : (w : Cluster) (act : NodeAct) → slot_at w.slots act.node ≡ Some act.before → ((letter : Letter) → act.heard ≡ Some letter → Among letter w.flying × (letter.to ≡ act.node)) → Sound w
     → IsReady act.node act.before act.heard
 is_ready w act here flew s = record {
   order = s.order.each act.node act.before here;

@@ -4,7 +4,7 @@ use Rattle.std.specs.Prelude.{slice_get, slice_set}
 use Rattle.std.specs.Cmp.Lexicographic.{pointwise, bytes_decides}
 use Rattle.std.proofs.lemmas.Bool.{eqb-true, eq-eqb}
 use Rattle.object_model.specs.Lists.{Among}
-use Rattle.maps_model.specs.Cluster.{Slot, slot_at, with_slot, is_node}
+use Rattle.maps_model.specs.Cluster.{Slot, slot_at, with_slot, is_that_node}
 
 module _ {X : Type 0} where
   pub among_front : (x : X) (xs ys : List X) → Among x xs → Among x (xs ++ ys)
@@ -87,6 +87,6 @@ if_either P true x y p q = p refl
 if_either P false x y p q = q refl
 
 -- who manages, by its test
-pub node_is : (x : Option ℕ) (n : ℕ) → is_node x n ≡ true → x ≡ Some n
+pub node_is : (x : Option ℕ) (n : ℕ) → is_that_node x n ≡ true → x ≡ Some n
 node_is None n e = absurd (true≢false (sym e))
 node_is (Some m) n e = ap Some (eqb-true m n e)

@@ -6,7 +6,7 @@ use Rattle.maps_model.specs.Epochs.{IsAtMost}
 use Rattle.maps_model.specs.Cluster.{Node, Disk, Life, Slot, slot_at, slot_up}
 use Rattle.maps_model.specs.Cluster.Life.{Up, Down, Lost}
 use Rattle.maps_model.specs.Words.{Known}
-use Rattle.maps_model.specs.Moves.{Begins, IsInOrder, IsReady, IsAct}
+use Rattle.maps_model.specs.Moves.{BeginsBoot, IsInOrder, IsReady, IsAct}
 use Rattle.maps_model.specs.Rules.{Reaction, started, booted}
 use Rattle.maps_model.specs.NodeLaws.{act_of, fall_act, cut_act, start_act, first_image, fresh_slots}
 use Rattle.maps_model.specs.Parts.{Sound}
@@ -66,7 +66,7 @@ starts n disk might image found ready = record {
     counted = λ group h. absurd (none_some group h);
     joined = λ group h. absurd (none_some group h);
   };
-  lives = λ new e. inr (subst (λ (x : Node). Begins (start_act n disk might image) x) (same_life (started image) new e) (record { later = omega (arith, more); without = refl; unopened = refl; rowless = λ m boot user. refl }));
+  lives = λ new e. inr (subst (λ (x : Node). BeginsBoot (start_act n disk might image) x) (same_life (started image) new e) (record { later = omega (arith, more); without = refl; unopened = refl; rowless = λ m boot user. refl }));
   membership = record {
     installed = λ new e g h. absurd (none_some g (ap (λ (x : Node). x.installed) (same_life (started image) new e) ∙ h));
     group = λ new e group h. absurd (none_some group (ap (λ (x : Node). x.group) (same_life (started image) new e) ∙ h));

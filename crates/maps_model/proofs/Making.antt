@@ -8,7 +8,7 @@ use Rattle.maps_model.specs.Cluster.{Joined, OpenGroup, Node, Disk, epoch_in, ep
 use Rattle.maps_model.specs.Cluster.Life.{Up, Down, Lost}
 use Rattle.object_model.specs.Letters.Body.{Join, Install}
 use Rattle.maps_model.specs.Words.{IsReport, IsAck}
-use Rattle.maps_model.specs.Moves.{NodeInOrder, Act, WasUp, Begins, WasOpen, HadInstalled, HadJoin, Forms, Heard, SendsJoin, IsJoin, KeepsMembership, RowFrom, SaysSame, Unmarked, SendsReport, SendsAck, KeepsMaps, IsAct}
+use Rattle.maps_model.specs.Moves.{NodeInOrder, NodeAct, WasUp, BeginsBoot, WasOpen, HadInstalled, HadJoin, Forms, Heard, SendsJoin, IsJoin, KeepsMembership, RowFrom, SaysSame, Unmarked, SendsReport, SendsAck, KeepsMaps, IsAct}
 use Rattle.maps_model.specs.Moves.RowFrom.{Stood}
 use Rattle.maps_model.specs.Moves.Unmarked.{Still}
 use Rattle.maps_model.specs.Rules.{Reaction}
@@ -36,7 +36,7 @@ epoch_promised n node disk o = by node.installed refl
     by (Some g) e = (o.installed g e).0
 
 -- a letter of membership that forms nothing
-pub record IsPlain (act : Act) (letter : Letter) : Type 0 where
+pub record IsPlain (act : NodeAct) (letter : Letter) : Type 0 where
   pub from : letter.from ≡ act.node
   pub to : letter.to ≢ act.node
   pub install : (g : Membership) → letter.body ≡ Install g → ⊥
@@ -45,7 +45,7 @@ pub record IsPlain (act : Act) (letter : Letter) : Type 0 where
   pub ack : (user : List ℕ) (version : ℕ) → IsAck letter user version → ⊥
 
 module _ (own : ℕ) (node : Node) (disk : Disk) (did : Reaction) (heard : Option Letter) where
-  abbrev pub the_act : Act
+  abbrev pub the_act : NodeAct
   the_act = act_of own node disk did heard
 
   pub both : (P : Node → Node → Type 0) → P node did.node → (old new : Node) → Up node ≡ Up old → Up did.node ≡ Up new → P old new
@@ -122,7 +122,7 @@ module _ (own : ℕ) (node : Node) (disk : Disk) (did : Reaction) (heard : Optio
     boots = boots;
     promises = promises;
     order = order;
-    lives = now (λ new. WasUp the_act new ⊎ Begins the_act new) (inl (record { old = node; is = refl; boot = boot; epochs = epochs }));
+    lives = now (λ new. WasUp the_act new ⊎ BeginsBoot the_act new) (inl (record { old = node; is = refl; boot = boot; epochs = epochs }));
     membership = membership;
     maps = maps;
   }

@@ -4,16 +4,16 @@ use Rattle.mail_model.specs.Identity.{EpochId}
 use Rattle.object_model.specs.Letters.{Membership, Letter}
 use Rattle.object_model.specs.Lists.{Among}
 use Rattle.maps_model.specs.Epochs.{IsAtMost}
-use Rattle.maps_model.specs.Cluster.{Joined, OpenGroup, Node, Slot, slot_at, slot_up, epoch_in, epoch_of, Names, Comes}
+use Rattle.maps_model.specs.Cluster.{Joined, OpenGroup, Node, Slot, slot_at, slot_up, epoch_in, epoch_of, NamesNode, Comes}
 use Rattle.maps_model.specs.Cluster.Life.{Up}
 use Rattle.maps_model.specs.Words.{Known, IsOver, WasIn, JoinStands}
-use Rattle.maps_model.specs.Moves.{Act, IsAct, NodeInOrder, IsInOrder, Forms, HadJoin, Heard, IsJoin, SendsJoin}
+use Rattle.maps_model.specs.Moves.{NodeAct, IsAct, NodeInOrder, IsInOrder, Forms, HadJoin, Heard, IsJoin, SendsJoin}
 use Rattle.maps_model.specs.Parts.{AllInOrder, Apart, OneEach, Joins}
 use Rattle.maps_model.proofs.Order.{before_not_same}
 use Rattle.maps_model.proofs.Lists.{among_either, same_some, read_after}
 use Rattle.maps_model.proofs.Acting.{After, Flying, known_after, over_more, formed_over, formed_not_over, stands_more, was_here, is_here, was_in_order, is_in_order}
 
-module _ (slots : List Slot) (flying : List Letter) (act : Act) (here : slot_at slots act.node ≡ Some act.before) (is : IsAct act)
+module _ (slots : List Slot) (flying : List Letter) (act : NodeAct) (here : slot_at slots act.node ≡ Some act.before) (is : IsAct act)
     (flew : (letter : Letter) → act.heard ≡ Some letter → Among letter flying × (letter.to ≡ act.node)) (order : AllInOrder slots) where
   abbrev Slots : List Slot
   Slots = After slots flying act here is flew order
@@ -121,11 +121,11 @@ module _ (slots : List Slot) (flying : List Letter) (act : Act) (here : slot_at 
         was_own (Some g) e mine o at =
             let known : Known Slots Letters g = inl (record { n = act.node; node = s.new; disk = act.after.disk; here = at; is = e }) in
             let same : was ≡ g.epoch = mine ∙ ap epoch_in e in
-            let names : Names g act.node boot = subst (λ b. Names g act.node b) (sym s.booted) (o.installed g e).1 in
+            let names : NamesNode g act.node boot = subst (λ b. NamesNode g act.node b) (sym s.booted) (o.installed g e).1 in
             inr (
               subst (IsOver Slots) (sym same) (later.over g known),
               record { slot = slot_up s.new act.after.disk; here = at; past = inr (s.booted ∙ o.booted, inr mine) },
-              λ one known_one e_one. subst (λ (x : Membership). Names x act.node boot) (sym (later.one one g known_one known (e_one ∙ same))) names,
+              λ one known_one e_one. subst (λ (x : Membership). NamesNode x act.node boot) (sym (later.one one g known_one known (e_one ∙ same))) names,
             )
 
     joined_now : (new : Node) → act.after.life ≡ Up new → (group : OpenGroup) → new.group ≡ Some group → (join : Joined) → Among join group.joins

@@ -1,6 +1,6 @@
 -- What a sound cluster says of rows, read off its parts.
 use Rattle.std.proofs.Common.{◌≡◌, inl, None, refl, sym, ap, subst, arith}
-use Rattle.maps_model.specs.Cluster.{slot_up, epoch_in, epoch_of, Names, Comes}
+use Rattle.maps_model.specs.Cluster.{slot_up, epoch_in, epoch_of, NamesNode, Comes}
 use Rattle.maps_model.specs.Words.{Known, RowFor}
 use Rattle.maps_model.specs.Words.RowFor.{Stands, WillDrop, WillKeep, Ahead}
 use Rattle.maps_model.specs.RowLaws.{InOneEpoch, ManagerBehind, ManagerAhead, ManagerDrops}
@@ -17,7 +17,7 @@ in_one_epoch w s n node disk up g installed user manager managed other its other
       row = a.fits;
       report = λ letter m from same boot row h.
           let all = (s.spoken.reported letter m user boot row h).1 in
-          let b = one_boot g n boot node.boot (subst (λ k. Names g k boot) from (all g known (sym same))) ((s.order.each n (slot_up node disk) up.here).installed g installed).1 in
+          let b = one_boot g n boot node.boot (subst (λ k. NamesNode g k boot) from (all g known (sym same))) ((s.order.each n (slot_up node disk) up.here).installed g installed).1 in
           s.reported.fits n node disk up.here letter m from user boot row h b;
       ack = λ letter m to same version h.
           let has = a.acked letter m to (inl same) version h in

@@ -4,13 +4,13 @@ use Rattle.mail_model.specs.Identity.{EpochId, no_epoch}
 use Rattle.object_model.specs.Letters.{Membership, Row, Letter}
 use Rattle.object_model.specs.Lists.{Among}
 use Rattle.maps_model.specs.Epochs.{IsBefore}
-use Rattle.maps_model.specs.Cluster.{Node, Disk, Slot, slot_at, slot_up, epoch_in, epoch_of, Names, Comes, manager_of}
+use Rattle.maps_model.specs.Cluster.{Node, Disk, Slot, slot_at, slot_up, epoch_in, epoch_of, NamesNode, Comes, manager_of}
 use Rattle.maps_model.specs.Cluster.Life.{Up}
 use Rattle.maps_model.specs.Words.{Known, IsOneOf, IsReport, IsAck, RowFor}
 use Rattle.maps_model.specs.Words.RowFor.{Stands, WillDrop, WillKeep, Ahead}
-use Rattle.maps_model.specs.Moves.{Act, IsAct, WasUp, Begins, RowFrom}
+use Rattle.maps_model.specs.Moves.{NodeAct, IsAct, WasUp, BeginsBoot, RowFrom}
 use Rattle.maps_model.specs.Moves.RowFrom.{Stood, Kept, Fell, Took, Told}
-use Rattle.maps_model.specs.Rules.{own_row, KeepsAny, IsKept}
+use Rattle.maps_model.specs.Rules.{own_row, KeepsAny, IsRowKept}
 use Rattle.maps_model.specs.Parts.{AllInOrder, OneEach, Joins, Spoken}
 use Rattle.maps_model.proofs.Order.{before_same, same_before, before_not_same, none_before}
 use Rattle.maps_model.proofs.Lists.{same_some, some_none, at_same, read_after}
@@ -31,7 +31,7 @@ installed_of node epoch same lt =
     let s = some_installed node node.installed refl (subst (λ (e : EpochId). 0 < e.count) (sym same) lt) in
     (s.0, s.1, sym (ap epoch_in s.1) ∙ same)
 
-module _ (slots : List Slot) (flying : List Letter) (act : Act) (here : slot_at slots act.node ≡ Some act.before) (is : IsAct act)
+module _ (slots : List Slot) (flying : List Letter) (act : NodeAct) (here : slot_at slots act.node ≡ Some act.before) (is : IsAct act)
     (flew : (letter : Letter) → act.heard ≡ Some letter → Among letter flying × (letter.to ≡ act.node)) (order : AllInOrder slots) (one : OneEach slots flying)
     (joins : Joins slots flying) (spoken : Spoken slots flying) where
   abbrev Slots : List Slot
@@ -57,7 +57,7 @@ module _ (slots : List Slot) (flying : List Letter) (act : Act) (here : slot_at 
   disk_of = same_disk slots flying act here is flew order one joins spoken
 
   -- whoever joined has begun that boot
-  begins_not : (g : Membership) → Known Slots Letters g → (n : ℕ) (new : Node) → n ≡ act.node → (w : EpochId) → Comes g n new.boot w → Begins act new → ⊥
+  begins_not : (g : Membership) → Known Slots Letters g → (n : ℕ) (new : Node) → n ≡ act.node → (w : EpochId) → Comes g n new.boot w → BeginsBoot act new → ⊥
   begins_not g known n new mine w comes b =
       let h = (stood_before slots flying act here is flew order one joins g known n new.boot w comes).0 in
       let at : h.slot ≡ act.before = same_some (slot_at slots act.node) h.slot act.before (subst (λ k. slot_at slots k ≡ Some h.slot) mine h.here) here in
@@ -134,7 +134,7 @@ module _ (slots : List Slot) (flying : List Letter) (act : Act) (here : slot_at 
           came_too : Comes g manager other.boot (epoch_of other) → Comes g manager w.old.boot (epoch_of w.old)
           came_too c = comes_too g (epoch_of w.old) (subst (λ e. Comes g manager other.boot e) (sym same_epoch) c)
 
-          kept_too : (x y : Node) → x.installed ≡ y.installed → IsKept manager x g n node.boot user → IsKept manager y g n node.boot user
+          kept_too : (x y : Node) → x.installed ≡ y.installed → IsRowKept manager x g n node.boot user → IsRowKept manager y g n node.boot user
           kept_too x y e k = record { old = k.old; installed = sym e ∙ k.installed; managed = k.managed; manages = k.manages; comes = k.comes; allowed = k.allowed }
 
           goes : RowFor manager other g n node.boot user row epoch → RowFrom act w.old other n node.boot user → ManagerWas epoch row
@@ -203,14 +203,14 @@ module _ (slots : List Slot) (flying : List Letter) (act : Act) (here : slot_at 
               by early comes (Told m b tells) = absurd (another m)
               by early comes (Kept x j lt k stood) =
                   let its : x ≡ g = same_some other.installed x g j i in
-                  let kept : IsKept manager w.old g n node.boot user = subst (λ k. IsKept k w.old g n node.boot user) (sym mine) (subst (λ (y : Membership). IsKept act.node w.old y n node.boot user) its k) in
+                  let kept : IsRowKept manager w.old g n node.boot user = subst (λ k. IsRowKept k w.old g n node.boot user) (sym mine) (subst (λ (y : Membership). IsRowKept act.node w.old y n node.boot user) its k) in
                   entering (epoch_of w.old) (w.old.rows n node.boot user) (WillKeep early comes kept refl refl) (r ∙ stood)
                   (λ letter m from z boot told h. only letter.epoch (epoch_of w.old) same z)
                   (λ letter m to z told h. only letter.epoch (epoch_of w.old) same z)
               by early comes (Fell x j lt never none) =
                   let its : x ≡ g = same_some other.installed x g j i in
                   entering g.epoch None
-                  (WillDrop early comes (λ k. never (subst (λ k. IsKept k w.old x n node.boot user) mine (subst (λ (y : Membership). IsKept manager w.old y n node.boot user) (sym its) k))) refl refl) (r ∙ none)
+                  (WillDrop early comes (λ k. never (subst (λ k. IsRowKept k w.old x n node.boot user) mine (subst (λ (y : Membership). IsRowKept manager w.old y n node.boot user) (sym its) k))) refl refl) (r ∙ none)
                   (λ letter m from z boot told h. only letter.epoch g.epoch same z)
                   (λ letter m to z told h. only letter.epoch g.epoch same z)
 
@@ -230,7 +230,7 @@ module _ (slots : List Slot) (flying : List Letter) (act : Act) (here : slot_at 
               let its : o.0 ≡ g = one.one o.0 g (inl (record { n = manager; node = w.old; disk = act.before.disk; here = at_before; is = o.1 })) known0 o.2 in
               let inst0 : w.old.installed ≡ Some g = o.1 ∙ ap Some its in
               let next_known : Known Slots Letters next = known_now slots flying act here is flew order one joins other f next i in
-              let names : Names next n old.boot = subst (λ b. Names next n b) (sym booted) (names_of next n node.boot g.epoch d) in
+              let names : NamesNode next n old.boot = subst (λ b. NamesNode next n b) (sym booted) (names_of next n node.boot g.epoch d) in
               let early : IsBefore (epoch_of old) next.epoch = same_before (epoch_of old) g.epoch next.epoch (ap epoch_in inst) later in
               by inst0
               (λ letter f_ from_ z boot told h. ⊎_elim
@@ -273,7 +273,7 @@ module _ (slots : List Slot) (flying : List Letter) (act : Act) (here : slot_at 
           (λ stays. goes other f mine.0 row epoch w stays counts from)
           (λ enters. goes_in other f mine.0 row epoch w enters.0 enters.1 counts from)
           w.epochs)
-          (λ (b : Begins act other). absurd (begun other mine.0 b counts))
+          (λ (b : BeginsBoot act other). absurd (begun other mine.0 b counts))
           (is.lives other f))
           (λ apart. record {
             old = other;
@@ -288,7 +288,7 @@ module _ (slots : List Slot) (flying : List Letter) (act : Act) (here : slot_at 
           })
           (read_after slots act.node manager act.before act.after (slot_up other its) here atm)
         where
-          begun : (other : Node) → manager ≡ act.node → Begins act other → RowFor manager other g n node.boot user row epoch → ⊥
+          begun : (other : Node) → manager ≡ act.node → BeginsBoot act other → RowFor manager other g n node.boot user row epoch → ⊥
           begun other mine b (Stands e r same) = some_none other.installed g e b.without
           begun other mine b (WillDrop lt comes never r same) = begins_not g known manager other mine (epoch_of other) comes b
           begun other mine b (WillKeep lt comes k r same) = begins_not g known manager other mine (epoch_of other) comes b

@@ -6,7 +6,7 @@ use Rattle.maps_model.specs.Cluster.{Node, Disk, Cluster, slot_at, slot_up, mana
 use Rattle.maps_model.specs.Words.{Known, Agrees}
 use Rattle.maps_model.specs.Words.RowFor.{Stands}
 use Rattle.maps_model.specs.Parts.{Sound}
-use Rattle.maps_model.specs.Laws.{IsSettled, named, holds_at, fragments, NamesFragments}
+use Rattle.maps_model.specs.Laws.{IsEpochSettled, named, holds_at, fragments, NamesFragments}
 
 -- Where a node has no mark, the manager's row says full exactly where the node holds a message.
 pub full_is : (flying : List Letter) (n : ℕ) (user : List ℕ) (a b : _) (row : Option Row) (version : ℕ) (full marked : Bool) → marked ≡ false → Agrees flying n user a b row version full marked → is_full row ≡ full
@@ -15,7 +15,7 @@ full_is flying n user a b row version full marked none agrees = ⊎_elim
     (λ l. ap is_full l.is ∙ (agrees.fits l.found l.is).same l.latest)
     (agrees.unmarked none)
 
-module _ (w : Cluster) (s : Sound w) (g : Membership) (settled : IsSettled w.slots g) (user : List ℕ) (manager : ℕ) (managed : manager_of g user ≡ Some manager)
+module _ (w : Cluster) (s : Sound w) (g : Membership) (settled : IsEpochSettled w.slots g) (user : List ℕ) (manager : ℕ) (managed : manager_of g user ≡ Some manager)
     (node : Node) (disk : Disk) (here : slot_at w.slots manager ≡ Some (slot_up node disk)) (installed : node.installed ≡ Some g) where
   one_member : (member : Member) → Among member g.members → is_full (node.rows member.node member.boot user) ≡ holds_at (slot_at w.slots member.node) user
   one_member member m =
@@ -34,7 +34,7 @@ module _ (w : Cluster) (s : Sound w) (g : Membership) (settled : IsSettled w.slo
   pub names_fragments : NamesFragments w.slots g user manager
   names_fragments = record { node = node; disk = disk; here = here; same = same_from g.members (λ x m. m) }
 
-pub named_are : (w : Cluster) → Sound w → (g : Membership) → IsSettled w.slots g → (member : Member) → Among member g.members → (user : List ℕ) (manager : ℕ) → manager_of g user ≡ Some manager
+pub named_are : (w : Cluster) → Sound w → (g : Membership) → IsEpochSettled w.slots g → (member : Member) → Among member g.members → (user : List ℕ) (manager : ℕ) → manager_of g user ≡ Some manager
     → NamesFragments w.slots g user manager
 named_are w s g settled member m user manager managed =
     let first = settled member m in

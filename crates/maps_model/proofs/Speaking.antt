@@ -4,19 +4,19 @@ use Rattle.mail_model.specs.Identity.{EpochId}
 use Rattle.object_model.specs.Letters.{Membership, Row, Letter}
 use Rattle.object_model.specs.Lists.{Among}
 use Rattle.maps_model.specs.Epochs.{IsBefore, IsAtMost}
-use Rattle.maps_model.specs.Cluster.{Node, Slot, slot_at, slot_up, epoch_in, epoch_of, Names, Comes, manager_of}
+use Rattle.maps_model.specs.Cluster.{Node, Slot, slot_at, slot_up, epoch_in, epoch_of, NamesNode, Comes, manager_of}
 use Rattle.maps_model.specs.Cluster.Life.{Up}
 use Rattle.maps_model.specs.Words.{Known, IsOver, HasEntered, IsPast, AllName, IsStillIn, IsKeptRow, IsReport}
-use Rattle.maps_model.specs.Moves.{Act, IsAct, WasUp, Begins, RowFrom, SendsReport, SendsAck}
+use Rattle.maps_model.specs.Moves.{NodeAct, IsAct, WasUp, BeginsBoot, RowFrom, SendsReport, SendsAck}
 use Rattle.maps_model.specs.Moves.RowFrom.{Stood, Kept, Fell, Took, Told}
-use Rattle.maps_model.specs.Rules.{IsKept}
+use Rattle.maps_model.specs.Rules.{IsRowKept}
 use Rattle.maps_model.specs.Parts.{AllInOrder, OneEach, Joins, Spoken}
 use Rattle.maps_model.proofs.Order.{before_same, before_not_same, most_same}
 use Rattle.maps_model.proofs.Lists.{among_either, same_some, some_none, at_same, read_after}
 use Rattle.maps_model.proofs.Acting.{After, Flying, known_after, over_more, entered_more, all_name_more, formed_not_over, was_here, is_here, was_in_order, is_in_order}
 use Rattle.maps_model.proofs.Memberships.{one_acted, stood_before}
 
-module _ (slots : List Slot) (flying : List Letter) (act : Act) (here : slot_at slots act.node ≡ Some act.before) (is : IsAct act)
+module _ (slots : List Slot) (flying : List Letter) (act : NodeAct) (here : slot_at slots act.node ≡ Some act.before) (is : IsAct act)
     (flew : (letter : Letter) → act.heard ≡ Some letter → Among letter flying × (letter.to ≡ act.node)) (order : AllInOrder slots) (one : OneEach slots flying) (joins : Joins slots flying) where
   abbrev Slots : List Slot
   Slots = After slots flying act here is flew order
@@ -59,9 +59,9 @@ module _ (slots : List Slot) (flying : List Letter) (act : Act) (here : slot_at 
             (subst (HasEntered Slots act.node s.new.boot) (epoch_now s.new s.membership s.installed ∙ s.epoch) (entered_now s.new s.is))),
         λ g known same.
             let mine : g ≡ s.membership = later.one g s.membership known (known_now s.new s.is s.membership s.installed) (same ∙ sym s.epoch) in
-            let names : Names s.membership act.node s.new.boot = ((is_in_order slots flying act here is flew order s.new s.is).installed s.membership s.installed).1 in
-            subst (λ (k : Membership). Names k letter.from boot) (sym mine)
-            (subst (λ n. Names s.membership n boot) (sym from) (subst (λ b. Names s.membership act.node b) (sym s.booted) names)),
+            let names : NamesNode s.membership act.node s.new.boot = ((is_in_order slots flying act here is flew order s.new s.is).installed s.membership s.installed).1 in
+            subst (λ (k : Membership). NamesNode k letter.from boot) (sym mine)
+            (subst (λ n. NamesNode s.membership n boot) (sym from) (subst (λ b. NamesNode s.membership act.node b) (sym s.booted) names)),
       )
 
   module _ (p : Spoken slots flying) where
@@ -125,7 +125,7 @@ module _ (slots : List Slot) (flying : List Letter) (act : Act) (here : slot_at 
 
     -- a row that is kept now
     kept_now : (old new : Node) → act.before.life ≡ Up old → act.after.life ≡ Up new → (w : WasUp act new) → w.old ≡ old → (m boot : ℕ) (user : List ℕ) (g : Membership) → new.installed ≡ Some g
-        → IsBefore (epoch_of old) (epoch_of new) → IsKept act.node old g m boot user → IsKeptRow Slots Letters act.node new m boot user
+        → IsBefore (epoch_of old) (epoch_of new) → IsRowKept act.node old g m boot user → IsKeptRow Slots Letters act.node new m boot user
     kept_now old new e f w is_old m boot user g installed before k =
         let names = ((is_in_order slots flying act here is flew order new f).installed g installed).1 in
         let booted : old.boot ≡ new.boot = ap (λ (x : Node). x.boot) (sym is_old) ∙ w.boot in
@@ -166,7 +166,7 @@ module _ (slots : List Slot) (flying : List Letter) (act : Act) (here : slot_at 
     rows_now : (new : Node) → act.after.life ≡ Up new → (m boot : ℕ) (user : List ℕ) (row : Row) → new.rows m boot user ≡ Some row → HasEntered Slots m boot (epoch_of new) ⊎ IsKeptRow Slots Letters act.node new m boot user
     rows_now new f m boot user row h = ⊎_elim
         (λ (w : WasUp act new). row_from w.old new w.is f w refl m boot user row h (is.maps.rows w.old new w.is f m boot user))
-        (λ (b : Begins act new). absurd (some_none (new.rows m boot user) row h (b.rowless m boot user)))
+        (λ (b : BeginsBoot act new). absurd (some_none (new.rows m boot user) row h (b.rowless m boot user)))
         (is.lives new f)
 
     pub spoken_acted : Spoken Slots Letters

@@ -4,10 +4,10 @@ use Rattle.mail_model.specs.Identity.{EpochId}
 use Rattle.object_model.specs.Letters.{Membership, Row, Letter}
 use Rattle.object_model.specs.Lists.{Among}
 use Rattle.maps_model.specs.Epochs.{IsBefore}
-use Rattle.maps_model.specs.Cluster.{Node, Disk, Slot, slot_at, slot_up, epoch_of, Names, Comes, manager_of}
+use Rattle.maps_model.specs.Cluster.{Node, Disk, Slot, slot_at, slot_up, epoch_of, NamesNode, Comes, manager_of}
 use Rattle.maps_model.specs.Cluster.Life.{Up}
-use Rattle.maps_model.specs.Words.{Known, IsOver, HasEntered, IsPast, IsReport, IsAck, Fits}
-use Rattle.maps_model.specs.Moves.{Act, IsAct, WasUp, Begins, SaysSame, SendsReport}
+use Rattle.maps_model.specs.Words.{Known, IsOver, HasEntered, IsPast, IsReport, IsAck, RowFits}
+use Rattle.maps_model.specs.Moves.{NodeAct, IsAct, WasUp, BeginsBoot, SaysSame, SendsReport}
 use Rattle.maps_model.specs.Rules.{own_row}
 use Rattle.maps_model.specs.Parts.{AllInOrder, OneEach, Joins, Spoken, Reported}
 use Rattle.maps_model.proofs.Order.{before_not_most}
@@ -18,13 +18,13 @@ use Rattle.maps_model.proofs.Speaking.{known_now}
 use Rattle.maps_model.proofs.Agreeing.{SaysOn, fits_on}
 
 -- a membership names a node in one boot
-pub one_boot : (g : Membership) (n a b : ℕ) → Names g n a → Names g n b → a ≡ b
+pub one_boot : (g : Membership) (n a b : ℕ) → NamesNode g n a → NamesNode g n b → a ≡ b
 one_boot g n a b x y = sym x.same ∙ ap (λ (m : _). m.boot) (same_some _ x.member y.member x.is y.is) ∙ y.same
 
-pub names_of : (g : Membership) (n boot : ℕ) (was : EpochId) → Comes g n boot was → Names g n boot
+pub names_of : (g : Membership) (n boot : ℕ) (was : EpochId) → Comes g n boot was → NamesNode g n boot
 names_of g n boot was c = record { member = c.member; is = c.is; same = c.same }
 
-module _ (slots : List Slot) (flying : List Letter) (act : Act) (here : slot_at slots act.node ≡ Some act.before) (is : IsAct act)
+module _ (slots : List Slot) (flying : List Letter) (act : NodeAct) (here : slot_at slots act.node ≡ Some act.before) (is : IsAct act)
     (flew : (letter : Letter) → act.heard ≡ Some letter → Among letter flying × (letter.to ≡ act.node)) (order : AllInOrder slots) (one : OneEach slots flying)
     (joins : Joins slots flying) (spoken : Spoken slots flying) where
   abbrev Slots : List Slot
@@ -58,28 +58,28 @@ module _ (slots : List Slot) (flying : List Letter) (act : Act) (here : slot_at 
       h.past
 
   -- No Report of an epoch to which its node has not come is on its way,
-  pub none_reported : (n : ℕ) (node : Node) (disk : Disk) → slot_at slots n ≡ Some (slot_up node disk) → (g : Membership) → Known Slots Letters g → Names g n node.boot → IsBefore (epoch_of node) g.epoch
+  pub none_reported : (n : ℕ) (node : Node) (disk : Disk) → slot_at slots n ≡ Some (slot_up node disk) → (g : Membership) → Known Slots Letters g → NamesNode g n node.boot → IsBefore (epoch_of node) g.epoch
       → (letter : Letter) → Among letter flying → letter.from ≡ n → letter.epoch ≡ g.epoch → (user : List ℕ) (boot : ℕ) (row : Row) → IsReport letter user boot row → ⊥
   none_reported n node disk at g known names before letter m from epoch user boot row r =
       let p = spoken.reported letter m user boot row r in
       let all = all_name_more slots flying act here is flew order letter.epoch letter.from boot (spoken.report_over letter m user boot row r) p.1 in
-      let b = one_boot g n boot node.boot (subst (λ k. Names g k boot) from (all g known (sym epoch))) names in
+      let b = one_boot g n boot node.boot (subst (λ k. NamesNode g k boot) from (all g known (sym epoch))) names in
       not_past n node disk at boot g.epoch b before (subst (HasEntered slots n boot) epoch (subst (λ k. HasEntered slots k boot letter.epoch) from p.0))
 
   -- and no acknowledgement of one.
-  pub none_acked : (n : ℕ) (node : Node) (disk : Disk) → slot_at slots n ≡ Some (slot_up node disk) → (g : Membership) → Known Slots Letters g → Names g n node.boot → IsBefore (epoch_of node) g.epoch
+  pub none_acked : (n : ℕ) (node : Node) (disk : Disk) → slot_at slots n ≡ Some (slot_up node disk) → (g : Membership) → Known Slots Letters g → NamesNode g n node.boot → IsBefore (epoch_of node) g.epoch
       → (letter : Letter) → Among letter flying → letter.to ≡ n → letter.epoch ≡ g.epoch → (user : List ℕ) (told : ℕ) → IsAck letter user told → ⊥
   none_acked n node disk at g known names before letter m to epoch user told r =
       let p = spoken.acked letter m user told r in
       let all = all_name_more slots flying act here is flew order letter.epoch letter.to p.0 (spoken.ack_over letter m user told r) p.2 in
-      let b = one_boot g n p.0 node.boot (subst (λ k. Names g k p.0) to (all g known (sym epoch))) names in
+      let b = one_boot g n p.0 node.boot (subst (λ k. NamesNode g k p.0) to (all g known (sym epoch))) names in
       not_past n node disk at p.0 g.epoch b before (subst (HasEntered slots n p.0) epoch (subst (λ k. HasEntered slots k p.0 letter.epoch) to p.1))
 
   pub says_on : (old new : Node) → act.before.life ≡ Up old → act.after.life ≡ Up new → (user : List ℕ) → SaysOn (old.version user) (new.version user) (act.before.disk.holds user) (act.after.disk.holds user)
   says_on old new e f user = ⊎_elim (λ (s : SaysSame act old new user). inl (s.version, s.full)) (λ lt. inr lt) (is.maps.versions old new e f user)
 
   -- a Report that the node sends fits
-  new_fits : (new : Node) → act.after.life ≡ Up new → (letter : Letter) (user : List ℕ) (boot : ℕ) (row : Row) → SendsReport act letter user boot row → Fits row (new.version user) (act.after.disk.holds user)
+  new_fits : (new : Node) → act.after.life ≡ Up new → (letter : Letter) (user : List ℕ) (boot : ℕ) (row : Row) → SendsReport act letter user boot row → RowFits row (new.version user) (act.after.disk.holds user)
   new_fits new e letter user boot row s =
       let mine : s.new ≡ new = same_up s.new new s.is e in
       let same : row ≡ own_row act.node new act.after.disk user = subst (λ (x : Node). row ≡ own_row act.node x act.after.disk user) mine s.says in
@@ -87,7 +87,7 @@ module _ (slots : List Slot) (flying : List Letter) (act : Act) (here : slot_at 
 
   module _ (p : Reported slots flying) where
     now_fits : (new : Node) → act.after.life ≡ Up new → (letter : Letter) → Among letter flying → letter.from ≡ act.node → (user : List ℕ) (boot : ℕ) (row : Row) → IsReport letter user boot row → boot ≡ new.boot
-        → WasUp act new ⊎ Begins act new → Fits row (new.version user) (act.after.disk.holds user)
+        → WasUp act new ⊎ BeginsBoot act new → RowFits row (new.version user) (act.after.disk.holds user)
     now_fits new f letter m from user boot row r booted (inl w) =
         fits_on row (w.old.version user) (new.version user) (act.before.disk.holds user) (act.after.disk.holds user) (says_on w.old new w.is f user)
         (p.fits act.node w.old act.before.disk (was w.old w.is) letter m from user boot row r (booted ∙ sym w.boot))
@@ -114,7 +114,7 @@ module _ (slots : List Slot) (flying : List Letter) (act : Act) (here : slot_at 
       fits = λ n node disk at letter m from user boot row h booted. ⊎_elim
           (λ mine.
           let f = up_life node disk mine.1 in
-          subst (λ (d : Disk). Fits row (node.version user) (d.holds user)) (same_disk node disk mine.1)
+          subst (λ (d : Disk). RowFits row (node.version user) (d.holds user)) (same_disk node disk mine.1)
           (⊎_elim
           (λ old. now_fits node f letter old (from ∙ mine.0) user boot row h booted (is.lives node f))
           (λ new. new_fits node f letter user boot row (is.maps.reports letter new user boot row h))

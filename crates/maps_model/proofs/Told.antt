@@ -4,14 +4,14 @@ use Rattle.mail_model.specs.Identity.{EpochId}
 use Rattle.object_model.specs.Letters.{Member, Membership, Row, Letter}
 use Rattle.object_model.specs.Lists.{Among}
 use Rattle.maps_model.specs.Epochs.{IsBefore}
-use Rattle.maps_model.specs.Cluster.{Node, Disk, Slot, slot_at, slot_up, epoch_in, epoch_of, member_of, Names, Comes, manager_of}
+use Rattle.maps_model.specs.Cluster.{Node, Disk, Slot, slot_at, slot_up, epoch_in, epoch_of, member_of, NamesNode, Comes, manager_of}
 use Rattle.maps_model.specs.Cluster.Life.{Up}
-use Rattle.maps_model.specs.Words.{Known, HasEntered, IsKeptRow, IsOneOf, IsReport, IsAck, Fits, IsUntold, IsLatest, Agrees, RowFor}
+use Rattle.maps_model.specs.Words.{Known, HasEntered, IsKeptRow, IsOneOf, IsReport, IsAck, RowFits, IsUntold, IsLatest, Agrees, RowFor}
 use Rattle.maps_model.specs.Words.RowFor.{Stands, WillDrop, WillKeep, Ahead}
-use Rattle.maps_model.specs.Moves.{Act, IsAct, WasUp, Begins, RowFrom, TellsItself, Unmarked}
+use Rattle.maps_model.specs.Moves.{NodeAct, IsAct, WasUp, BeginsBoot, RowFrom, TellsItself, Unmarked}
 use Rattle.maps_model.specs.Moves.RowFrom.{Stood, Kept, Fell, Took, Told}
 use Rattle.maps_model.specs.Moves.Unmarked.{Still, Cleared, Own, Spared}
-use Rattle.maps_model.specs.Rules.{own_row, KeepsAny, IsKept, IsSpared}
+use Rattle.maps_model.specs.Rules.{own_row, KeepsAny, IsRowKept, IsSpared}
 use Rattle.maps_model.specs.Parts.{AllInOrder, OneEach, Joins, Spoken, Reported}
 use Rattle.maps_model.specs.Parts as parts
 use Rattle.maps_model.proofs.Order.{before_same, same_before, before_not_same}
@@ -26,7 +26,7 @@ use Rattle.maps_model.proofs.Agreeing.{QuietOn, agrees_on}
 use Rattle.maps_model.proofs.Agreeing.RowOn.{Stays}
 use Rattle.maps_model.proofs.Agreeing.QuietOn.{Was, Latest}
 
-module _ (slots : List Slot) (flying : List Letter) (act : Act) (here : slot_at slots act.node ≡ Some act.before) (is : IsAct act)
+module _ (slots : List Slot) (flying : List Letter) (act : NodeAct) (here : slot_at slots act.node ≡ Some act.before) (is : IsAct act)
     (flew : (letter : Letter) → act.heard ≡ Some letter → Among letter flying × (letter.to ≡ act.node)) (order : AllInOrder slots) (one : OneEach slots flying)
     (joins : Joins slots flying) (spoken : Spoken slots flying) (reported : Reported slots flying) (told : parts.RowsAgree slots flying) where
   abbrev Slots : List Slot
@@ -57,8 +57,8 @@ module _ (slots : List Slot) (flying : List Letter) (act : Act) (here : slot_at 
       at0 : slot_at slots n ≡ Some (slot_up w.old act.before.disk)
       at0 = at_old slots flying act here is flew order one joins spoken reported told n node disk at g installed user manager managed other its atm row epoch counts mine f d w
 
-      names : Names g n node.boot
-      names = subst (λ k. Names g k node.boot) (sym mine) ((is_in_order slots flying act here is flew order node f).installed g installed).1
+      names : NamesNode g n node.boot
+      names = subst (λ k. NamesNode g k node.boot) (sym mine) ((is_in_order slots flying act here is flew order node f).installed g installed).1
 
       -- the node comes from the epoch in which it was
       came : (e : EpochId) → Comes g n node.boot e → epoch_of w.old ≡ e
@@ -67,8 +67,8 @@ module _ (slots : List Slot) (flying : List Letter) (act : Act) (here : slot_at 
       comes : Comes g n node.boot (epoch_of w.old)
       comes = record { member = names.member; is = names.is; same = names.same; from = sym (came names.member.was (record { member = names.member; is = names.is; same = names.same; from = refl })) }
 
-      names_old : Names g n w.old.boot
-      names_old = subst (λ b. Names g n b) (sym w.boot) names
+      names_old : NamesNode g n w.old.boot
+      names_old = subst (λ b. NamesNode g n b) (sym w.boot) names
 
       no_report : (letter : Letter) → Among letter flying → letter.from ≡ n → letter.epoch ≡ g.epoch → (boot : ℕ) (r : Row) → IsReport letter user boot r → ⊥
       no_report letter m from same boot r h = none_reported slots flying act here is flew order one joins spoken n w.old act.before.disk at0 g known names_old early letter m from same user boot r h
@@ -154,7 +154,7 @@ module _ (slots : List Slot) (flying : List Letter) (act : Act) (here : slot_at 
 
         own_now : (own : Row) → own.version ≡ node.version user → own.full ≡ disk.holds user → row ≡ Some own → Agreement
         own_now own v f is_own = record {
-          fits = λ r e. subst (λ x. Fits x (node.version user) (disk.holds user)) (same_some row own r is_own e) (record { bounded = omega (arith, v); same = λ _. f });
+          fits = λ r e. subst (λ x. RowFits x (node.version user) (disk.holds user)) (same_some row own r is_own e) (record { bounded = omega (arith, v); same = λ _. f });
           acked = λ letter m to in_ version h. absurd (new_ack_none letter m to in_ version h);
           unmarked = λ unmarked. inr (record { found = own; is = is_own; latest = v });
         }
@@ -208,7 +208,7 @@ module _ (slots : List Slot) (flying : List Letter) (act : Act) (here : slot_at 
                 (λ k. kept_row e r same k)
                 (spoken.rows manager other its at_m n node.boot user found some)
 
-        will_drop : Comes g manager other.boot (epoch_of other) → (IsKept manager other g n node.boot user → ⊥) → row ≡ None → epoch ≡ g.epoch → Agreement
+        will_drop : Comes g manager other.boot (epoch_of other) → (IsRowKept manager other g n node.boot user → ⊥) → row ≡ None → epoch ≡ g.epoch → Agreement
         will_drop c never r same = without_row same r (λ s.
             let was_in : epoch_of other ≡ s.old.epoch = sym c.from ∙ ap (λ (m : Member). m.was) (same_some (member_of g.members manager) c.member s.member c.is (same_member s)) ∙ s.from in
             let s_known = old_known s.old s.installed in
@@ -223,7 +223,7 @@ module _ (slots : List Slot) (flying : List Letter) (act : Act) (here : slot_at 
               allowed = s.allowed;
             })))
 
-        will_keep : IsKept manager other g n node.boot user → row ≡ other.rows n node.boot user → epoch ≡ epoch_of other → Agreement
+        will_keep : IsRowKept manager other g n node.boot user → row ≡ other.rows n node.boot user → epoch ≡ epoch_of other → Agreement
         will_keep k r same =
             let k_known = m_known k.old k.installed in
             let o = installed_of w.old k.old.epoch (came k.old.epoch k.comes) (one.counted k.old k_known) in
@@ -259,7 +259,7 @@ module _ (slots : List Slot) (flying : List Letter) (act : Act) (here : slot_at 
         itself_manages r same (Fell x e lt never none) = without_row same (r ∙ none) (λ s.
             let x_is : g ≡ x = same_some node.installed g x installed e in
             let the_manager : s.manager ≡ act.node = same_some (manager_of g user) s.manager manager s.after managed ∙ managing in
-            absurd (never (subst (λ (y : Membership). IsKept act.node w.old y n node.boot user) x_is (record {
+            absurd (never (subst (λ (y : Membership). IsRowKept act.node w.old y n node.boot user) x_is (record {
               old = s.old;
               installed = s.installed;
               managed = s.before ∙ ap Some the_manager;
@@ -290,7 +290,7 @@ module _ (slots : List Slot) (flying : List Letter) (act : Act) (here : slot_at 
         (λ inst. on slots flying act here is flew order one joins spoken reported told n node disk at g installed user manager managed other its atm row epoch counts mine.0 f d w inst)
         (λ e. enters mine.0 f d w e.0 e.1)
         w.epochs)
-        (λ (b : Begins act node). absurd (some_none node.installed g installed b.without))
+        (λ (b : BeginsBoot act node). absurd (some_none node.installed g installed b.without))
         (is.lives node f))
         (λ apart. stood slots flying act here is flew order one joins spoken reported told n node disk at g installed user manager managed other its atm row epoch counts apart.0 apart.1)
         (read_after slots act.node n act.before act.after (slot_up node disk) here at)

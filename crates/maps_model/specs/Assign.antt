@@ -7,7 +7,7 @@ use Rattle.object_model.specs.Letters.{Member, Claim, MapRow}
 use Rattle.maps_model.specs.Epochs.{IsAtMost}
 
 -- a node is one of the members
-pub record IsIn (members : List Member) (node : ℕ) : Type 0 where
+pub record IsOfMembers (members : List Member) (node : ℕ) : Type 0 where
   pub member : Member
   pub inside : Among member members
   pub is : member.node ≡ node
@@ -16,7 +16,7 @@ pub record IsIn (members : List Member) (node : ℕ) : Type 0 where
 pub record Counts (claims : List Claim) (members : List Member) (bucket : ℕ) (claim : Claim) : Type 0 where
   pub inside : Among claim claims
   pub of_bucket : claim.bucket ≡ bucket
-  pub of_member : IsIn members claim.node
+  pub of_member : IsOfMembers members claim.node
 
 -- the claim of greatest `since`, of the lowest node among equals
 pub record IsBest (claims : List Claim) (members : List Member) (bucket : ℕ) (claim : Claim) : Type 0 where
@@ -41,9 +41,9 @@ load claims members map bucket node = count_rows claims members node bucket 0 ma
 
 -- the member with the fewest buckets so far, the lowest node among equals
 pub record IsLeast (claims : List Claim) (members : List Member) (map : List MapRow) (bucket node : ℕ) : Type 0 where
-  pub of_member : IsIn members node
-  pub fewest : (other : ℕ) → IsIn members other → load claims members map bucket node ≤ load claims members map bucket other
-  pub lowest : (other : ℕ) → IsIn members other → load claims members map bucket other ≡ load claims members map bucket node → node ≤ other
+  pub of_member : IsOfMembers members node
+  pub fewest : (other : ℕ) → IsOfMembers members other → load claims members map bucket node ≤ load claims members map bucket other
+  pub lowest : (other : ℕ) → IsOfMembers members other → load claims members map bucket other ≡ load claims members map bucket node → node ≤ other
 
 -- a claimed bucket goes to its best claimant, who keeps its `since`
 pub record ClaimedRow (claims : List Claim) (members : List Member) (bucket : ℕ) (row : MapRow) : Type 0 where

@@ -72,7 +72,7 @@ member_of [] n = None
 member_of (member ∷ members) n = if nat_eq member.node n then Some member else member_of members n
 
 -- a membership names node n in a boot
-pub record Names (membership : Membership) (n boot : ℕ) : Type 0 where
+pub record NamesNode (membership : Membership) (n boot : ℕ) : Type 0 where
   pub member : Member
   pub is : member_of membership.members n ≡ Some member
   pub same : member.boot ≡ boot
@@ -92,13 +92,13 @@ manager_in (Some row) = Some row.manager
 abbrev pub manager_of : Membership → List ℕ → Option ℕ
 manager_of membership user = manager_in (slice_get membership.map (bucket_at user (length membership.map)))
 
-abbrev pub is_node : Option ℕ → ℕ → Bool
-is_node None n = false
-is_node (Some m) n = nat_eq m n
+abbrev pub is_that_node : Option ℕ → ℕ → Bool
+is_that_node None n = false
+is_that_node (Some m) n = nat_eq m n
 
 -- whether node n manages the user
 abbrev pub manages : Membership → ℕ → List ℕ → Bool
-manages membership n user = is_node (manager_of membership user) n
+manages membership n user = is_that_node (manager_of membership user) n
 
 abbrev pub manages_in : Option Membership → ℕ → List ℕ → Bool
 manages_in None n user = false

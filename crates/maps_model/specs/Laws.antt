@@ -24,8 +24,8 @@ pub record IsQuietMember (slots : List Slot) (membership : Membership) (member :
   pub installed : node.installed ≡ Some membership
   pub unmarked : (user : List ℕ) → node.marked user ≡ false
 
-abbrev pub IsSettled : List Slot → Membership → Type 0
-IsSettled slots membership = (member : Member) → Among member membership.members → IsQuietMember slots membership member
+abbrev pub IsEpochSettled : List Slot → Membership → Type 0
+IsEpochSettled slots membership = (member : Member) → Among member membership.members → IsQuietMember slots membership member
 
 -- the members of whom a manager has a row that says full
 abbrev pub named : Node → List ℕ → List Member → List ℕ
@@ -49,5 +49,5 @@ pub record NamesFragments (slots : List Slot) (membership : Membership) (user : 
   pub same : named node user membership.members ≡ fragments slots user membership.members
 
 abbrev pub NamedAreFragments : Type 0
-NamedAreFragments = (w : Cluster) → Sound w → (membership : Membership) → IsSettled w.slots membership → (member : Member) → Among member membership.members
+NamedAreFragments = (w : Cluster) → Sound w → (membership : Membership) → IsEpochSettled w.slots membership → (member : Member) → Among member membership.members
     → (user : List ℕ) (manager : ℕ) → manager_of membership user ≡ Some manager → NamesFragments w.slots membership user manager

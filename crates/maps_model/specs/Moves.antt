@@ -4,14 +4,14 @@ use Rattle.mail_model.specs.Identity.{EpochId, no_epoch}
 use Rattle.object_model.specs.Letters.{Claim, Membership, Row, Letter}
 use Rattle.object_model.specs.Lists.{Among}
 use Rattle.maps_model.specs.Epochs.{IsBefore, IsAtMost}
-use Rattle.maps_model.specs.Cluster.{Joined, OpenGroup, Node, Disk, Life, Slot, Cluster, with_slot, slot_at, epoch_of, Names, Comes, manager_of}
+use Rattle.maps_model.specs.Cluster.{Joined, OpenGroup, Node, Disk, Life, Slot, Cluster, with_slot, slot_at, epoch_of, NamesNode, Comes, manager_of}
 use Rattle.maps_model.specs.Cluster.Life.{Up, Down, Lost}
 use Rattle.object_model.specs.Letters.Body.{Join, Install}
 use Rattle.maps_model.specs.Words.{ManagersAreMembers, IsReport, IsAck, HasAtLeast}
-use Rattle.maps_model.specs.Rules.{own_row, IsKept, IsSpared}
+use Rattle.maps_model.specs.Rules.{own_row, IsRowKept, IsSpared}
 
 -- what a node did, or what befell it: the letter that it heard, and those that it sends
-pub record Act : Type 0 where
+pub record NodeAct : Type 0 where
   pub node : ℕ
   pub before : Slot
   pub after : Slot
@@ -20,7 +20,7 @@ pub record Act : Type 0 where
 
 -- A letter that is posted and kept flies on. One that is not, or that is dropped or thrown, is taken out.
 pub data Move : Type 0 where
-  Acted : (act : Act) → Move
+  Acted : (act : NodeAct) → Move
   Taken : (left : List Letter) → Move
 
 abbrev pub after_move : Move → Cluster → Cluster
@@ -32,10 +32,10 @@ pub record NodeInOrder (n : ℕ) (node : Node) (disk : Disk) : Type 0 where
   pub booted : node.boot ≡ disk.boot
   pub promised : node.promise ≡ disk.promise
   pub heard : node.promise.count ≤ node.heard
-  pub installed : (membership : Membership) → node.installed ≡ Some membership → IsAtMost membership.epoch node.promise × Names membership n node.boot
+  pub installed : (membership : Membership) → node.installed ≡ Some membership → IsAtMost membership.epoch node.promise × NamesNode membership n node.boot
   pub group : (group : OpenGroup) → node.group ≡ Some group → (group.epoch ≡ node.promise) × (group.epoch.node ≡ n) × IsBefore (epoch_of node) group.epoch
   pub counted : (group : OpenGroup) → node.group ≡ Some group → 0 < group.epoch.count
-  pub joined : (group : OpenGroup) → node.group ≡ Some group → Names (record { epoch = group.epoch; members = map (λ join. join.member) group.joins; map = [] }) n node.boot
+  pub joined : (group : OpenGroup) → node.group ≡ Some group → NamesNode (record { epoch = group.epoch; members = map (λ join. join.member) group.joins; map = [] }) n node.boot
 
 abbrev pub IsInOrder : ℕ → Disk → Life → Type 0
 IsInOrder n disk (Up node) = NodeInOrder n node disk
@@ -43,27 +43,27 @@ IsInOrder n disk (Down might) = (disk.boot ≤ might.boot) × IsAtMost disk.prom
 IsInOrder n disk Lost = Unit {0}
 
 -- the letter that was heard is such a letter
-pub record Heard (act : Act) (P : Letter → Type 0) : Type 0 where
+pub record Heard (act : NodeAct) (P : Letter → Type 0) : Type 0 where
   pub letter : Letter
   pub is : act.heard ≡ Some letter
   pub holds : P letter
 
 -- Whoever is up was up in that boot. It keeps its membership, or goes to a later epoch.
-pub record WasUp (act : Act) (new : Node) : Type 0 where
+pub record WasUp (act : NodeAct) (new : Node) : Type 0 where
   pub old : Node
   pub is : act.before.life ≡ Up old
   pub boot : old.boot ≡ new.boot
   pub epochs : (old.installed ≡ new.installed) ⊎ (IsBefore (epoch_of old) (epoch_of new) × (epoch_of new ≡ new.promise))
 
 -- or begins a later boot, without an epoch
-pub record Begins (act : Act) (new : Node) : Type 0 where
+pub record BeginsBoot (act : NodeAct) (new : Node) : Type 0 where
   pub later : act.before.disk.boot < new.boot
   pub without : new.installed ≡ None
   pub unopened : new.group ≡ None
   pub rowless : (m boot : ℕ) (user : List ℕ) → new.rows m boot user ≡ None
 
 -- a group is open as it was
-pub record WasOpen (act : Act) (epoch : EpochId) : Type 0 where
+pub record WasOpen (act : NodeAct) (epoch : EpochId) : Type 0 where
   pub old : Node
   pub is : act.before.life ≡ Up old
   pub group : OpenGroup
@@ -71,7 +71,7 @@ pub record WasOpen (act : Act) (epoch : EpochId) : Type 0 where
   pub same : group.epoch ≡ epoch
 
 -- the node concludes its open group
-pub record Forms (act : Act) (membership : Membership) : Type 0 where
+pub record Forms (act : NodeAct) (membership : Membership) : Type 0 where
   pub opened : WasOpen act membership.epoch
   pub new : Node
   pub is : act.after.life ≡ Up new
@@ -80,13 +80,13 @@ pub record Forms (act : Act) (membership : Membership) : Type 0 where
   pub managers : ManagersAreMembers membership
   pub names : (n boot : ℕ) (was : EpochId) → Comes membership n boot was → (join : Joined) × Among join opened.group.joins × (join.member.node ≡ n) × (join.member.boot ≡ boot) × (join.member.was ≡ was)
 
-pub record HadInstalled (act : Act) (membership : Membership) : Type 0 where
+pub record HadInstalled (act : NodeAct) (membership : Membership) : Type 0 where
   pub old : Node
   pub is : act.before.life ≡ Up old
   pub installed : old.installed ≡ Some membership
 
 -- a join was there in the group of that epoch, or is the node's own, or was heard
-pub record HadJoin (act : Act) (epoch : EpochId) (join : Joined) : Type 0 where
+pub record HadJoin (act : NodeAct) (epoch : EpochId) (join : Joined) : Type 0 where
   pub old : Node
   pub is : act.before.life ≡ Up old
   pub group : OpenGroup
@@ -95,7 +95,7 @@ pub record HadJoin (act : Act) (epoch : EpochId) (join : Joined) : Type 0 where
   pub inside : Among join group.joins
 
 -- A node joins an epoch that it has promised, from its own; where it has promised a later one, from none.
-pub record SendsJoin (act : Act) (epoch : EpochId) (boot : ℕ) (was : EpochId) : Type 0 where
+pub record SendsJoin (act : NodeAct) (epoch : EpochId) (boot : ℕ) (was : EpochId) : Type 0 where
   pub new : Node
   pub is : act.after.life ≡ Up new
   pub booted : boot ≡ new.boot
@@ -108,7 +108,7 @@ pub record IsJoin (letter : Letter) (epoch : EpochId) (join : Joined) : Type 0 w
   pub from : letter.from ≡ join.member.node
   pub is : letter.body ≡ Join epoch promise join.member.boot join.member.was claims
 
-pub record KeepsMembership (act : Act) : Type 0 where
+pub record KeepsMembership (act : NodeAct) : Type 0 where
   pub installed : (new : Node) → act.after.life ≡ Up new → (membership : Membership) → new.installed ≡ Some membership
       → HadInstalled act membership ⊎ Heard act (λ letter. letter.body ≡ Install membership) ⊎ Forms act membership
   pub group : (new : Node) → act.after.life ≡ Up new → (group : OpenGroup) → new.group ≡ Some group → WasOpen act group.epoch ⊎ IsBefore act.before.disk.promise group.epoch
@@ -119,34 +119,34 @@ pub record KeepsMembership (act : Act) : Type 0 where
   pub sent : (letter : Letter) → Among letter act.out → (letter.from ≡ act.node) × (letter.to ≢ act.node)
 
 -- Where a row of a manager comes from: it stood in the same epoch, or was dropped, or was told by a Report or by the node itself.
-pub record TookRow (act : Act) (old new : Node) (m boot : ℕ) (user : List ℕ) : Type 0 where
+pub record TookRow (act : NodeAct) (old new : Node) (m boot : ℕ) (user : List ℕ) : Type 0 where
   pub row : Row
   pub heard : Heard act (λ letter. (letter.from ≡ m) × (letter.epoch ≡ epoch_of new) × IsReport letter user boot row)
   pub within : old.installed ≡ new.installed
   pub is : new.rows m boot user ≡ Some row
   pub newer : (stood : Row) → old.rows m boot user ≡ Some stood → stood.version ≤ row.version
 
-pub data RowFrom (act : Act) (old new : Node) (m boot : ℕ) (user : List ℕ) : Type 0 where
+pub data RowFrom (act : NodeAct) (old new : Node) (m boot : ℕ) (user : List ℕ) : Type 0 where
   Stood : old.installed ≡ new.installed → new.rows m boot user ≡ old.rows m boot user → RowFrom act old new m boot user
-  Kept : (membership : Membership) → new.installed ≡ Some membership → IsBefore (epoch_of old) (epoch_of new) → IsKept act.node old membership m boot user
+  Kept : (membership : Membership) → new.installed ≡ Some membership → IsBefore (epoch_of old) (epoch_of new) → IsRowKept act.node old membership m boot user
       → new.rows m boot user ≡ old.rows m boot user → RowFrom act old new m boot user
-  Fell : (membership : Membership) → new.installed ≡ Some membership → IsBefore (epoch_of old) (epoch_of new) → (IsKept act.node old membership m boot user → ⊥) → new.rows m boot user ≡ None
+  Fell : (membership : Membership) → new.installed ≡ Some membership → IsBefore (epoch_of old) (epoch_of new) → (IsRowKept act.node old membership m boot user → ⊥) → new.rows m boot user ≡ None
       → RowFrom act old new m boot user
   Took : TookRow act old new m boot user → RowFrom act old new m boot user
   Told : m ≡ act.node → boot ≡ new.boot → new.rows m boot user ≡ Some (own_row act.node new act.after.disk user) → RowFrom act old new m boot user
 
 -- a node says of a user what it said
-pub record SaysSame (act : Act) (old new : Node) (user : List ℕ) : Type 0 where
+pub record SaysSame (act : NodeAct) (old new : Node) (user : List ℕ) : Type 0 where
   pub version : new.version user ≡ old.version user
   pub full : act.after.disk.holds user ≡ act.before.disk.holds user
 
 -- the node manages the user, and has told its own row
-pub record TellsItself (act : Act) (new : Node) (user : List ℕ) : Type 0 where
+pub record TellsItself (act : NodeAct) (new : Node) (user : List ℕ) : Type 0 where
   pub manager : (membership : Membership) → new.installed ≡ Some membership → manager_of membership user ≡ Some act.node
   pub told : new.rows act.node new.boot user ≡ Some (own_row act.node new act.after.disk user)
 
 -- why a user is not marked
-pub data Unmarked (act : Act) (old new : Node) (user : List ℕ) : Type 0 where
+pub data Unmarked (act : NodeAct) (old new : Node) (user : List ℕ) : Type 0 where
   Still : old.installed ≡ new.installed → old.marked user ≡ false → SaysSame act old new user → Unmarked act old new user
   Cleared : old.installed ≡ new.installed → Heard act (λ letter. (letter.epoch ≡ epoch_of new) × IsAck letter user (new.version user)) → SaysSame act old new user → Unmarked act old new user
   Own : TellsItself act new user → Unmarked act old new user
@@ -154,7 +154,7 @@ pub data Unmarked (act : Act) (old new : Node) (user : List ℕ) : Type 0 where
       → (act.after.disk.holds user ≡ false) ⊎ IsSpared old membership user → Unmarked act old new user
 
 -- a Report that goes out
-pub record SendsReport (act : Act) (letter : Letter) (user : List ℕ) (boot : ℕ) (row : Row) : Type 0 where
+pub record SendsReport (act : NodeAct) (letter : Letter) (user : List ℕ) (boot : ℕ) (row : Row) : Type 0 where
   pub new : Node
   pub is : act.after.life ≡ Up new
   pub membership : Membership
@@ -166,7 +166,7 @@ pub record SendsReport (act : Act) (letter : Letter) (user : List ℕ) (boot : �
   pub says : row ≡ own_row act.node new act.after.disk user
 
 -- a ReportAck that goes out
-pub record SendsAck (act : Act) (letter : Letter) (user : List ℕ) (version : ℕ) : Type 0 where
+pub record SendsAck (act : NodeAct) (letter : Letter) (user : List ℕ) (version : ℕ) : Type 0 where
   pub new : Node
   pub is : act.after.life ≡ Up new
   pub membership : Membership
@@ -177,7 +177,7 @@ pub record SendsAck (act : Act) (letter : Letter) (user : List ℕ) (version : �
   pub heard : Heard act (λ one. (one.from ≡ letter.to) × (one.epoch ≡ letter.epoch) × IsReport one user boot row)
   pub has : HasAtLeast (new.rows letter.to boot user) version
 
-pub record KeepsMaps (act : Act) : Type 0 where
+pub record KeepsMaps (act : NodeAct) : Type 0 where
   pub rows : (old new : Node) → act.before.life ≡ Up old → act.after.life ≡ Up new → (m boot : ℕ) (user : List ℕ) → RowFrom act old new m boot user
   pub versions : (old new : Node) → act.before.life ≡ Up old → act.after.life ≡ Up new → (user : List ℕ) → SaysSame act old new user ⊎ (old.version user < new.version user)
   pub unmarked : (old new : Node) → act.before.life ≡ Up old → act.after.life ≡ Up new → (user : List ℕ) → new.marked user ≡ false → Unmarked act old new user
@@ -193,12 +193,12 @@ pub record IsReady (n : ℕ) (before : Slot) (heard : Option Letter) : Type 0 wh
       → (node : Node) → before.life ≡ Up node → (group : OpenGroup) → node.group ≡ Some group → IsBefore membership.epoch group.epoch
 
 -- What a node may do. Whoever is lost does nothing.
-pub record IsAct (act : Act) : Type 0 where
+pub record IsAct (act : NodeAct) : Type 0 where
   pub was : act.before.life ≢ Lost
   pub boots : act.before.disk.boot ≤ act.after.disk.boot
   pub promises : IsAtMost act.before.disk.promise act.after.disk.promise
   pub order : IsInOrder act.node act.after.disk act.after.life
-  pub lives : (new : Node) → act.after.life ≡ Up new → WasUp act new ⊎ Begins act new
+  pub lives : (new : Node) → act.after.life ≡ Up new → WasUp act new ⊎ BeginsBoot act new
   pub membership : KeepsMembership act
   pub maps : KeepsMaps act
 

@@ -2,15 +2,15 @@
 use Rattle.std.specs.Prelude.{◌≡◌, ◌≢◌, ◌⊎◌, ℕ, zero, suc, Bool, false, List, [], ◌∷◌, Option, Some, None}
 use Rattle.mail_model.specs.Identity.{EpochId, no_epoch}
 use Rattle.object_model.specs.Letters.{Claim, MapRow, Member, Membership, Row, Letter}
-use Rattle.maps_model.specs.Cluster.{Names, Node, Disk, Life, Slot, slot_up}
+use Rattle.maps_model.specs.Cluster.{NamesNode, Node, Disk, Life, Slot, slot_up}
 use Rattle.maps_model.specs.Cluster.Life.{Down, Lost}
 use Rattle.maps_model.specs.Rules.{Entering, Reaction, start_group, Concludes, change, Reports, Hears, started, booted}
-use Rattle.maps_model.specs.Moves.{Act, IsReady, IsAct}
+use Rattle.maps_model.specs.Moves.{NodeAct, IsReady, IsAct}
 use Rattle.maps_model.specs.Parts.{Sound}
 use Rattle.maps_model.specs.Assign.{IsAssigned}
 
 -- what a node does, with a letter that it hears
-abbrev pub act_of : ℕ → Node → Disk → Reaction → Option Letter → Act
+abbrev pub act_of : ℕ → Node → Disk → Reaction → Option Letter → NodeAct
 act_of own node disk did heard = record { node = own; before = slot_up node disk; after = slot_up did.node did.disk; heard = heard; out = did.out }
 
 abbrev pub NodesHear : Type 0
@@ -30,21 +30,21 @@ abbrev pub NodesReport : Type 0
 NodesReport = (own to : ℕ) (users : List (List ℕ)) (node : Node) (disk : Disk) (did : Reaction) → Reports own to users node disk did → IsReady own (slot_up node disk) None → IsAct (act_of own node disk did None)
 
 -- A node that goes down may have failed in its work: then its disk may turn out to hold one more record.
-abbrev pub fall_act : ℕ → Slot → Life → Act
+abbrev pub fall_act : ℕ → Slot → Life → NodeAct
 fall_act n before life = record { node = n; before = before; after = record { life = life; disk = before.disk }; heard = None; out = [] }
 
 abbrev pub NodesFall : Type 0
 NodesFall = (n : ℕ) (before : Slot) (life : Life) → before.life ≢ Lost → (life ≡ Down before.disk) ⊎ (life ≡ Lost) → IsReady n before None → IsAct (fall_act n before life)
 
 -- whatever a node does, a fault of its disk may cut it
-abbrev pub cut_act : ℕ → Node → Disk → Reaction → Option Letter → Act
+abbrev pub cut_act : ℕ → Node → Disk → Reaction → Option Letter → NodeAct
 cut_act own node disk did heard = record { node = own; before = slot_up node disk; after = record { life = Down did.disk; disk = disk }; heard = heard; out = [] }
 
 abbrev pub NodesFault : Type 0
 NodesFault = (own : ℕ) (node : Node) (disk : Disk) (did : Reaction) (heard : Option Letter) → IsAct (act_of own node disk did heard) → IsAct (cut_act own node disk did heard)
 
 -- A node starts. It finds what its failed append left or not.
-abbrev pub start_act : ℕ → Disk → Disk → Disk → Act
+abbrev pub start_act : ℕ → Disk → Disk → Disk → NodeAct
 start_act n disk might image = record { node = n; before = record { life = Down might; disk = disk }; after = slot_up (started image) (booted image); heard = None; out = [] }
 
 abbrev pub NodesStart : Type 0
@@ -64,7 +64,7 @@ OpeningIsSound = (nodes : ℕ) → Sound (record { slots = fresh_slots nodes; fl
 
 -- Whoever is named in its boot can enter: each test of marks and rows is decided.
 abbrev pub NodesCanEnter : Type 0
-NodesCanEnter = (own : ℕ) (node : Node) (disk : Disk) (membership : Membership) → Names membership own node.boot
+NodesCanEnter = (own : ℕ) (node : Node) (disk : Disk) (membership : Membership) → NamesNode membership own node.boot
     → (marked : List ℕ → Bool) × ((rows : ℕ → ℕ → List ℕ → Option Row) × Entering own node disk membership marked rows)
 
 -- One map is assigned to the same claims, members and buckets.

@@ -5,7 +5,7 @@ use Rattle.object_model.specs.Letters.{Claim, Membership, Row, Letter}
 use Rattle.object_model.specs.Lists.{Among}
 use Rattle.maps_model.specs.Cluster.{Joined, OpenGroup, Node, Disk, Slot, Cluster, slot_at, slot_up, epoch_of, Comes, manager_of}
 use Rattle.object_model.specs.Letters.Body.{Join}
-use Rattle.maps_model.specs.Words.{Known, IsOver, HasEntered, JoinStands, IsKeptRow, AllName, ManagersAreMembers, IsReport, IsAck, Fits, Agrees, RowFor}
+use Rattle.maps_model.specs.Words.{Known, IsOver, HasEntered, JoinStands, IsKeptRow, AllName, ManagersAreMembers, IsReport, IsAck, RowFits, Agrees, RowFor}
 use Rattle.maps_model.specs.Moves.{IsInOrder}
 
 -- each node is in order: its promise is on its disk, and what it installed is at most its promise
@@ -47,7 +47,7 @@ pub record Reported (slots : List Slot) (flying : List Letter) : Type 0 where
   pub to : (letter : Letter) → Among letter flying → (user : List ℕ) (boot : ℕ) (row : Row) → IsReport letter user boot row → (membership : Membership) → Known slots flying membership
       → membership.epoch ≡ letter.epoch → manager_of membership user ≡ Some letter.to
   pub fits : (n : ℕ) (node : Node) (disk : Disk) → slot_at slots n ≡ Some (slot_up node disk) → (letter : Letter) → Among letter flying → letter.from ≡ n
-      → (user : List ℕ) (boot : ℕ) (row : Row) → IsReport letter user boot row → boot ≡ node.boot → Fits row (node.version user) (disk.holds user)
+      → (user : List ℕ) (boot : ℕ) (row : Row) → IsReport letter user boot row → boot ≡ node.boot → RowFits row (node.version user) (disk.holds user)
 
 -- What a manager has, will have or has kept of a node agrees with what the node says.
 pub record RowsAgree (slots : List Slot) (flying : List Letter) : Type 0 where

@@ -4,7 +4,7 @@ use Rattle.mail_model.specs.Identity.{EpochId}
 use Rattle.object_model.specs.Letters.{Claim, Membership, Letter}
 use Rattle.object_model.specs.Lists.{Among}
 use Rattle.maps_model.specs.Epochs.{IsBefore, IsAtMost}
-use Rattle.maps_model.specs.Cluster.{Joined, OpenGroup, Node, Disk, epoch_of, Names}
+use Rattle.maps_model.specs.Cluster.{Joined, OpenGroup, Node, Disk, epoch_of, NamesNode}
 use Rattle.object_model.specs.Letters.Body.{Report}
 use Rattle.maps_model.specs.Rules.{Reaction, own_row, ack_letter, promised, join_letter, HearsGroup, HearsJoin, HearsInstall, HearsReport, HearsAck}
 
@@ -39,4 +39,4 @@ JoinsAdd = (node : Node) (disk : Disk) (from : ℕ) (epoch promise : EpochId) (b
 -- Whoever has promised just that epoch, has not installed it and is named in its boot enters it.
 abbrev pub MembersEnter : Type 0
 MembersEnter = (own : ℕ) (node : Node) (disk : Disk) (membership : Membership) (did : Reaction) → membership.epoch ≡ node.promise → IsBefore (epoch_of node) membership.epoch
-    → Names membership own node.boot → HearsInstall own node disk membership did → did.node.installed ≡ Some membership
+    → NamesNode membership own node.boot → HearsInstall own node disk membership did → did.node.installed ≡ Some membership

@@ -5,7 +5,7 @@ use Rattle.object_model.specs.Lists.{Among}
 use Rattle.maps_model.specs.Epochs.{IsBefore}
 use Rattle.maps_model.specs.Cluster.{Node, Disk, Slot, Cluster, slot_at, slot_up, epoch_of, Comes, manager_of, is_full}
 use Rattle.maps_model.specs.Rules.{KeepsAny}
-use Rattle.maps_model.specs.Words.{IsReport, IsAck, Fits, HasAtLeast}
+use Rattle.maps_model.specs.Words.{IsReport, IsAck, RowFits, HasAtLeast}
 use Rattle.maps_model.specs.Parts.{Sound}
 
 -- a node that is up
@@ -15,8 +15,8 @@ pub record IsUp (slots : List Slot) (n : ℕ) (node : Node) (disk : Disk) : Type
 -- The row of a user that its manager has of a node agrees with what the node says, and so do the letters that tell it.
 pub record RowAgrees (flying : List Letter) (n : ℕ) (node : Node) (disk : Disk) (membership : Membership) (user : List ℕ) (other : Node) : Type 0 where
   pub unmarked : node.marked user ≡ false → is_full (other.rows n node.boot user) ≡ disk.holds user
-  pub row : (row : Row) → other.rows n node.boot user ≡ Some row → Fits row (node.version user) (disk.holds user)
-  pub report : (letter : Letter) → Among letter flying → letter.from ≡ n → letter.epoch ≡ membership.epoch → (boot : ℕ) (row : Row) → IsReport letter user boot row → Fits row (node.version user) (disk.holds user)
+  pub row : (row : Row) → other.rows n node.boot user ≡ Some row → RowFits row (node.version user) (disk.holds user)
+  pub report : (letter : Letter) → Among letter flying → letter.from ≡ n → letter.epoch ≡ membership.epoch → (boot : ℕ) (row : Row) → IsReport letter user boot row → RowFits row (node.version user) (disk.holds user)
   pub ack : (letter : Letter) → Among letter flying → letter.to ≡ n → letter.epoch ≡ membership.epoch → (version : ℕ) → IsAck letter user version
       → HasAtLeast (other.rows n node.boot user) version × (version ≤ node.version user)
 

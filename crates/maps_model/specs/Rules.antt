@@ -6,7 +6,7 @@ use Rattle.object_model.specs.Letters.{Claim, MapRow, Member, Membership, Row, B
 use Rattle.object_model.specs.Lists.{Among}
 use Rattle.maps_model.specs.Epochs.{IsBefore, IsAtMost}
 use Rattle.maps_model.specs.Assign.{IsAssigned}
-use Rattle.maps_model.specs.Cluster.{Joined, OpenGroup, Node, Disk, epoch_of, member_of, Names, Comes, manager_of, manages_in}
+use Rattle.maps_model.specs.Cluster.{Joined, OpenGroup, Node, Disk, epoch_of, member_of, NamesNode, Comes, manager_of, manages_in}
 use Rattle.object_model.specs.Letters.Body.{Group, Join, Install, Report, ReportAck}
 
 -- what is left of the node and of its disk, and the letters that it sends
@@ -103,7 +103,7 @@ abbrev pub KeepsAny : Type 0
 KeepsAny = Unit {0}
 
 -- A manager keeps a row where it manages the user in its old and its new map, and the row's node comes in that boot from the manager's own old epoch.
-pub record IsKept (own : ℕ) (node : Node) (membership : Membership) (m boot : ℕ) (user : List ℕ) : Type 0 where
+pub record IsRowKept (own : ℕ) (node : Node) (membership : Membership) (m boot : ℕ) (user : List ℕ) : Type 0 where
   pub old : Membership
   pub installed : node.installed ≡ Some old
   pub managed : manager_of old user ≡ Some own
@@ -124,20 +124,20 @@ pub record IsSpared (node : Node) (membership : Membership) (user : List ℕ) : 
   pub allowed : KeepsAny
 
 -- whose row is to be told anew at an install: marks made earlier stay
-abbrev pub IsDue : Node → Disk → Membership → List ℕ → Type 0
-IsDue node disk membership user = (node.marked user ≡ true) ⊎ ((disk.holds user ≡ true) × (IsSpared node membership user → ⊥))
+abbrev pub IsRowDue : Node → Disk → Membership → List ℕ → Type 0
+IsRowDue node disk membership user = (node.marked user ≡ true) ⊎ ((disk.holds user ≡ true) × (IsSpared node membership user → ⊥))
 
 -- the mark of a user once the node has installed a membership
 pub data MarkAt (own : ℕ) (node : Node) (disk : Disk) (membership : Membership) (user : List ℕ) (marked : Bool) : Type 0 where
   TellsItself : manager_of membership user ≡ Some own → marked ≡ false → MarkAt own node disk membership user marked
-  Marks : (manager_of membership user ≡ Some own → ⊥) → IsDue node disk membership user → marked ≡ true → MarkAt own node disk membership user marked
+  Marks : (manager_of membership user ≡ Some own → ⊥) → IsRowDue node disk membership user → marked ≡ true → MarkAt own node disk membership user marked
   Spares : (manager_of membership user ≡ Some own → ⊥) → node.marked user ≡ false → (disk.holds user ≡ false) ⊎ IsSpared node membership user → marked ≡ false → MarkAt own node disk membership user marked
 
 -- a row that a node has once it has installed a membership
 pub data RowAt (own : ℕ) (node : Node) (disk : Disk) (membership : Membership) (m boot : ℕ) (user : List ℕ) (row : Option Row) : Type 0 where
-  Tells : m ≡ own → boot ≡ node.boot → manager_of membership user ≡ Some own → IsDue node disk membership user → row ≡ Some (own_row own node disk user) → RowAt own node disk membership m boot user row
-  Keeps : IsKept own node membership m boot user → (m ≡ own → IsDue node disk membership user → ⊥) → row ≡ node.rows m boot user → RowAt own node disk membership m boot user row
-  Drops : (IsKept own node membership m boot user → ⊥) → (m ≡ own → boot ≡ node.boot → manager_of membership user ≡ Some own → IsDue node disk membership user → ⊥) → row ≡ None
+  Tells : m ≡ own → boot ≡ node.boot → manager_of membership user ≡ Some own → IsRowDue node disk membership user → row ≡ Some (own_row own node disk user) → RowAt own node disk membership m boot user row
+  Keeps : IsRowKept own node membership m boot user → (m ≡ own → IsRowDue node disk membership user → ⊥) → row ≡ node.rows m boot user → RowAt own node disk membership m boot user row
+  Drops : (IsRowKept own node membership m boot user → ⊥) → (m ≡ own → boot ≡ node.boot → manager_of membership user ≡ Some own → IsRowDue node disk membership user → ⊥) → row ≡ None
       → RowAt own node disk membership m boot user row
 
 abbrev pub entered : Node → Membership → (List ℕ → Bool) → (ℕ → ℕ → List ℕ → Option Row) → Node
@@ -174,8 +174,8 @@ pub record Concludes (own buckets : ℕ) (node : Node) (disk : Disk) (did : Reac
 pub data HearsInstall (own : ℕ) (node : Node) (disk : Disk) (membership : Membership) (did : Reaction) : Type 0 where
   Old : IsBefore membership.epoch node.promise ⊎ IsAtMost membership.epoch (epoch_of node) → did ≡ idle node disk → HearsInstall own node disk membership did
   NotPromised : IsBefore node.promise membership.epoch → did ≡ idle node disk → HearsInstall own node disk membership did
-  NotMember : (Names membership own node.boot → ⊥) → did ≡ idle node disk → HearsInstall own node disk membership did
-  Enters : membership.epoch ≡ node.promise → IsBefore (epoch_of node) membership.epoch → Names membership own node.boot
+  NotMember : (NamesNode membership own node.boot → ⊥) → did ≡ idle node disk → HearsInstall own node disk membership did
+  Enters : membership.epoch ≡ node.promise → IsBefore (epoch_of node) membership.epoch → NamesNode membership own node.boot
       → (marked : List ℕ → Bool) (rows : ℕ → ℕ → List ℕ → Option Row) → Entering own node disk membership marked rows
       → did ≡ record { node = entered node membership marked rows; disk = disk; out = [] } → HearsInstall own node disk membership did
 

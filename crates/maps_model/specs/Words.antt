@@ -4,10 +4,10 @@ use Rattle.mail_model.specs.Identity.{EpochId, no_epoch}
 use Rattle.object_model.specs.Letters.{Membership, Row, Letter}
 use Rattle.object_model.specs.Lists.{Among}
 use Rattle.maps_model.specs.Epochs.{IsBefore, IsAtMost}
-use Rattle.maps_model.specs.Assign.{IsIn}
-use Rattle.maps_model.specs.Cluster.{OpenGroup, Node, Disk, Life, Slot, slot_at, slot_up, epoch_of, Names, Comes, manager_of}
+use Rattle.maps_model.specs.Assign.{IsOfMembers}
+use Rattle.maps_model.specs.Cluster.{OpenGroup, Node, Disk, Life, Slot, slot_at, slot_up, epoch_of, NamesNode, Comes, manager_of}
 use Rattle.maps_model.specs.Cluster.Life.{Up, Down, Lost}
-use Rattle.maps_model.specs.Rules.{KeepsAny, IsKept}
+use Rattle.maps_model.specs.Rules.{KeepsAny, IsRowKept}
 use Rattle.object_model.specs.Letters.Body.{Install, Report, ReportAck}
 
 -- a node that is up has installed this membership
@@ -19,13 +19,13 @@ pub record Installed (slots : List Slot) (membership : Membership) : Type 0 wher
   pub is : node.installed ≡ Some membership
 
 -- an Install of it is in flight
-pub record Flies (flying : List Letter) (membership : Membership) : Type 0 where
+pub record InstallFlies (flying : List Letter) (membership : Membership) : Type 0 where
   pub letter : Letter
   pub inside : Among letter flying
   pub is : letter.body ≡ Install membership
 
 abbrev pub Known : List Slot → List Letter → Membership → Type 0
-Known slots flying membership = Installed slots membership ⊎ Flies flying membership
+Known slots flying membership = Installed slots membership ⊎ InstallFlies flying membership
 
 -- an open group, if there is one, is of a later epoch
 abbrev pub OpensLater : Life → EpochId → Type 0
@@ -54,7 +54,7 @@ pub record HasEntered (slots : List Slot) (n boot : ℕ) (epoch : EpochId) : Typ
 
 -- every membership of that epoch names node n in that boot
 abbrev pub AllName : List Slot → List Letter → EpochId → ℕ → ℕ → Type 0
-AllName slots flying epoch n boot = (membership : Membership) → Known slots flying membership → membership.epoch ≡ epoch → Names membership n boot
+AllName slots flying epoch n boot = (membership : Membership) → Known slots flying membership → membership.epoch ≡ epoch → NamesNode membership n boot
 
 -- A node that is up in that boot, has promised the epoch and not yet installed it, is still in the epoch from which it comes.
 abbrev pub IsStillIn : Life → ℕ → EpochId → EpochId → Type 0
@@ -91,7 +91,7 @@ pub record IsKeptRow (slots : List Slot) (flying : List Letter) (own : ℕ) (nod
 
 -- whoever manages a user is a member
 abbrev pub ManagersAreMembers : Membership → Type 0
-ManagersAreMembers membership = (user : List ℕ) (manager : ℕ) → manager_of membership user ≡ Some manager → IsIn membership.members manager
+ManagersAreMembers membership = (user : List ℕ) (manager : ℕ) → manager_of membership user ≡ Some manager → IsOfMembers membership.members manager
 
 -- letters that carry the epoch of their sender
 pub record IsReport (letter : Letter) (user : List ℕ) (boot : ℕ) (row : Row) : Type 0 where
@@ -103,7 +103,7 @@ pub record IsAck (letter : Letter) (user : List ℕ) (version : ℕ) : Type 0 wh
   pub is : letter.body ≡ ReportAck user version
 
 -- A row says at most what its node says, and with the node's own version it says what the node says.
-pub record Fits (row : Row) (version : ℕ) (full : Bool) : Type 0 where
+pub record RowFits (row : Row) (version : ℕ) (full : Bool) : Type 0 where
   pub bounded : row.version ≤ version
   pub same : row.version ≡ version → row.full ≡ full
 
@@ -128,7 +128,7 @@ pub record IsLatest (row : Option Row) (version : ℕ) : Type 0 where
 
 -- The manager's row of node n for a user agrees with what the node says of it, in the node's epoch and in the manager's.
 pub record Agrees (flying : List Letter) (n : ℕ) (user : List ℕ) (a b : EpochId) (row : Option Row) (version : ℕ) (full marked : Bool) : Type 0 where
-  pub fits : (told : Row) → row ≡ Some told → Fits told version full
+  pub fits : (told : Row) → row ≡ Some told → RowFits told version full
   pub acked : (letter : Letter) → Among letter flying → letter.to ≡ n → IsOneOf a b letter.epoch → (told : ℕ) → IsAck letter user told → HasAtLeast row told
   pub unmarked : marked ≡ false → IsUntold flying n user a b row full ⊎ IsLatest row version
 
@@ -137,10 +137,10 @@ pub data RowFor (own : ℕ) (node : Node) (membership : Membership) (n boot : �
   -- both are in the epoch
   Stands : node.installed ≡ Some membership → row ≡ node.rows n boot user → epoch ≡ membership.epoch → RowFor own node membership n boot user row epoch
   -- the manager has still to enter it, and will drop the row
-  WillDrop : IsBefore (epoch_of node) membership.epoch → Comes membership own node.boot (epoch_of node) → (IsKept own node membership n boot user → ⊥) → row ≡ None → epoch ≡ membership.epoch
+  WillDrop : IsBefore (epoch_of node) membership.epoch → Comes membership own node.boot (epoch_of node) → (IsRowKept own node membership n boot user → ⊥) → row ≡ None → epoch ≡ membership.epoch
       → RowFor own node membership n boot user row epoch
   -- or will keep it
-  WillKeep : IsBefore (epoch_of node) membership.epoch → Comes membership own node.boot (epoch_of node) → IsKept own node membership n boot user → row ≡ node.rows n boot user → epoch ≡ epoch_of node
+  WillKeep : IsBefore (epoch_of node) membership.epoch → Comes membership own node.boot (epoch_of node) → IsRowKept own node membership n boot user → row ≡ node.rows n boot user → epoch ≡ epoch_of node
       → RowFor own node membership n boot user row epoch
   -- the manager has gone ahead, and has kept it
   Ahead : KeepsAny → (next : Membership) → node.installed ≡ Some next → IsBefore membership.epoch next.epoch → Comes next own node.boot membership.epoch → Comes next n boot membership.epoch

@@ -8,10 +8,10 @@ use Rattle.maps_model.specs.Epochs.{IsAtMost}
 use Rattle.maps_model.specs.Cluster.{OpenGroup}
 use Rattle.object_model.specs.Keys.{is_same_epoch}
 use Rattle.user_map.specs.Plain.{is_before}
-use Rattle.membership.specs.Groups.{Group, joined}
+use Rattle.membership.specs.Groups.{Group, with_one_joined}
 use Rattle.membership.specs.Checks.{is_open}
-use Rattle.membership.specs.Rounds.{IsOpen, Adds}
-use Rattle.membership.specs.Rounds.Adds.{Joins}
+use Rattle.membership.specs.Rounds.{IsOpen, AddsJoin}
+use Rattle.membership.specs.Rounds.AddsJoin.{Joins}
 
 pub not_before : (a b : EpochId) → is_before a b ≡ false → IsAtMost b a
 not_before a b e = by (nat_lt a.count b.count) (nat_eq a.count b.count) (nat_lt a.node b.node) (nat_eq a.node b.node) refl refl refl refl e
@@ -36,12 +36,12 @@ open_is None epoch e = absurd (true≢false (sym e))
 open_is (Some group) epoch e = record { group = group; is = refl; same = same_epoch group.epoch epoch e }
 
 pub joins_added : (old new : Group) (epoch promise : EpochId) (member : Member) (claims given : List Claim) → is_open old.opened epoch ≡ true → is_before epoch promise ≡ false → claims ≡ given
-    → new ≡ record old { opened = option_map (joined (record { member = member; claims = claims })) old.opened }
-    → IsOpen old.opened epoch × Adds old epoch promise (record { member = member; claims = given }) new
+    → new ≡ record old { opened = option_map (with_one_joined (record { member = member; claims = claims })) old.opened }
+    → IsOpen old.opened epoch × AddsJoin old epoch promise (record { member = member; claims = given }) new
 joins_added old new epoch promise member claims given e f g is =
     let found = open_is old.opened epoch e in (
       found,
       Joins found.group found.is (not_before epoch promise f)
-          (is ∙ ap (λ (o : Option OpenGroup). record old { opened = option_map (joined (record { member = member; claims = claims })) o }) found.is
-          ∙ ap (λ (c : List Claim). record old { opened = Some (joined (record { member = member; claims = c }) found.group) }) g),
+          (is ∙ ap (λ (o : Option OpenGroup). record old { opened = option_map (with_one_joined (record { member = member; claims = claims })) o }) found.is
+          ∙ ap (λ (c : List Claim). record old { opened = Some (with_one_joined (record { member = member; claims = c }) found.group) }) g),
     )

@@ -7,8 +7,8 @@ use Rattle.maps_model.specs.Rules.HearsGroup.{Rises, Again, Old}
 use Rattle.maps_model.specs.Rules.HearsJoin.{Late, Above, Joins}
 use Rattle.maps_model.specs.Rules.HearsInstall.{Enters}
 use Rattle.membership.specs.Groups.{Group}
-use Rattle.membership.specs.Rounds.{Adds}
-use Rattle.membership.specs.Rounds.Adds.{Above as IsAbove, Joins as IsAdded}
+use Rattle.membership.specs.Rounds.{AddsJoin}
+use Rattle.membership.specs.Rounds.AddsJoin.{Above as IsAbove, Joins as IsAdded}
 use Rattle.membership.specs.Laws.{Maps, with_maps, Leaves, GroupAsRuled, JoinAsRuled, LateAsRuled, ConcludeAsRuled, InstallAsRuled}
 use Rattle.membership.specs.declared.fault.GroupFault.TheVariants.{OldEpoch, NotMember, NotPromised, NotAGroup, NoMemory}
 
@@ -27,7 +27,7 @@ hears_group (Err NoMemory) epoch old new maps disk from h = absurd h
 pub hears_join : JoinAsRuled
 hears_join epoch promise member claims old new maps disk h = by h.1
   where
-    by : Adds old epoch promise (record { member = member; claims = claims }) new
+    by : AddsJoin old epoch promise (record { member = member; claims = claims }) new
         → (did : rules.Reaction) × rules.HearsJoin (with_maps old maps) disk member.node epoch promise member.boot member.was claims did × Leaves did new maps
     by (IsAbove above is) =
         (_, Above h.0.group h.0.is h.0.same above refl, record { is = sym (ap (λ g. with_maps g maps) is) })

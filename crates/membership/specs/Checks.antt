@@ -25,11 +25,11 @@ pub record IsFormed (buckets : ℕ) (opened : Option OpenGroup) (membership : Me
   pub assigned : IsAssigned (all_claims group) (all_members group) buckets group.epoch membership.map
   pub is : membership ≡ membership_of group membership.map
 
-abbrev pub Forms : Result Membership GroupFault → ℕ → Option OpenGroup → Type 0
-Forms (Ok membership) buckets opened = IsFormed buckets opened membership
-Forms (Err NotAGroup) buckets opened = opened ≡ None
-Forms (Err NoMemory) buckets opened = opened ≢ None
-Forms (Err other) buckets opened = ⊥
+abbrev pub FormsMembership : Result Membership GroupFault → ℕ → Option OpenGroup → Type 0
+FormsMembership (Ok membership) buckets opened = IsFormed buckets opened membership
+FormsMembership (Err NotAGroup) buckets opened = opened ≡ None
+FormsMembership (Err NoMemory) buckets opened = opened ≢ None
+FormsMembership (Err other) buckets opened = ⊥
 
 -- where a new join stands beside an old one
 abbrev pub is_lower : Joined → Joined → Bool

@@ -41,15 +41,15 @@ abbrev pub all_members : OpenGroup → List Member
 all_members group = map (λ join. join.member) group.joins
 
 -- an open group with one join more
-abbrev pub joined : Joined → OpenGroup → OpenGroup
-joined join group = record { epoch = group.epoch; joins = with_join join group.joins }
+abbrev pub with_one_joined : Joined → OpenGroup → OpenGroup
+with_one_joined join group = record { epoch = group.epoch; joins = with_join join group.joins }
 
 abbrev pub has_joined : ℕ → OpenGroup → Bool
 has_joined node group = list_any (λ join. nat_eq join.member.node node) group.joins
 
 -- A node of the cluster keeps this. It also has versions, marks and rows, which a group knows nothing of.
-abbrev pub node_of : Group → (List ℕ → ℕ) → (List ℕ → Bool) → (ℕ → ℕ → List ℕ → Option Row) → Node
-node_of group version marked rows = record {
+abbrev pub node_of_group : Group → (List ℕ → ℕ) → (List ℕ → Bool) → (ℕ → ℕ → List ℕ → Option Row) → Node
+node_of_group group version marked rows = record {
   boot = group.boot;
   promise = group.promise;
   heard = group.heard;

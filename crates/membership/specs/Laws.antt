@@ -4,7 +4,7 @@ use Rattle.mail_model.specs.Identity.{EpochId}
 use Rattle.object_model.specs.Letters.{Claim, Member, Membership, Row}
 use Rattle.maps_model.specs.Cluster.{Node, Disk}
 use Rattle.maps_model.specs.Rules as rules
-use Rattle.membership.specs.Groups.{Group, node_of}
+use Rattle.membership.specs.Groups.{Group, node_of_group}
 use Rattle.membership.specs.Rounds.{StartsGroup, HearsGroup, HearsJoin, Concludes, HearsInstall}
 use Rattle.membership.specs.declared.fault.GroupFault.{GroupFault}
 use Rattle.membership.specs.declared.fault.GroupFault.TheVariants.{OldEpoch, NotMember, NotPromised, NotAGroup}
@@ -16,7 +16,7 @@ pub record Maps : Type 0 where
   pub rows : ℕ → ℕ → List ℕ → Option Row
 
 abbrev pub with_maps : Group → Maps → Node
-with_maps group maps = node_of group maps.version maps.marked maps.rows
+with_maps group maps = node_of_group group maps.version maps.marked maps.rows
 
 -- the node that starts a group is left with what the call leaves
 abbrev pub StartsAsRuled : Type 0
@@ -54,12 +54,12 @@ InstallAsRuled = (membership : Membership) (old new : Group) (before after : Map
     → (did : rules.Reaction) × rules.HearsInstall old.own (with_maps old before) disk membership did × Leaves did new after
 
 -- a membership that is refused changes nothing
-abbrev pub IsRefusal : GroupFault → Type 0
-IsRefusal OldEpoch = Unit {0}
-IsRefusal NotPromised = Unit {0}
-IsRefusal NotMember = Unit {0}
-IsRefusal other = ⊥
+abbrev pub IsGroupRefusal : GroupFault → Type 0
+IsGroupRefusal OldEpoch = Unit {0}
+IsGroupRefusal NotPromised = Unit {0}
+IsGroupRefusal NotMember = Unit {0}
+IsGroupRefusal other = ⊥
 
 abbrev pub RefusalAsRuled : Type 0
-RefusalAsRuled = (fault : GroupFault) (membership : Membership) (old new : Group) (maps : Maps) (disk : Disk) → IsRefusal fault → HearsInstall (Err fault) membership old new
+RefusalAsRuled = (fault : GroupFault) (membership : Membership) (old new : Group) (maps : Maps) (disk : Disk) → IsGroupRefusal fault → HearsInstall (Err fault) membership old new
     → rules.HearsInstall old.own (with_maps old maps) disk membership (rules.idle (with_maps old maps) disk) × (new ≡ old)

@@ -4,9 +4,9 @@ use Rattle.mail_model.specs.Identity.{EpochId}
 use Rattle.object_model.specs.Letters.{Membership}
 use Rattle.maps_model.specs.Epochs.{IsBefore, IsAtMost}
 use Rattle.maps_model.specs.Assign.{IsAssigned}
-use Rattle.maps_model.specs.Cluster.{Joined, OpenGroup, Names, epoch_in}
+use Rattle.maps_model.specs.Cluster.{Joined, OpenGroup, NamesNode, epoch_in}
 use Rattle.maps_model.specs.Rules.{membership_of}
-use Rattle.membership.specs.Groups.{Group, next_epoch, promised, started, all_claims, all_members, joined, has_joined}
+use Rattle.membership.specs.Groups.{Group, next_epoch, promised, started, all_claims, all_members, with_one_joined, has_joined}
 use Rattle.object_model.specs.Sets.{has}
 use Rattle.membership.specs.declared.fault.GroupFault.{GroupFault}
 use Rattle.membership.specs.declared.fault.GroupFault.TheVariants.{OldEpoch, NotMember, NotPromised, NotAGroup, NoMemory}
@@ -31,12 +31,12 @@ pub record IsOpen (opened : Option OpenGroup) (epoch : EpochId) : Type 0 where
   pub same : group.epoch ≡ epoch
 
 -- A Join with a greater promise only raises the count that was heard. Any other is added.
-pub data Adds (old : Group) (epoch promise : EpochId) (join : Joined) (new : Group) : Type 0 where
-  Above : IsBefore epoch promise → new ≡ record old { heard = max old.heard promise.count } → Adds old epoch promise join new
-  Joins : (group : OpenGroup) → old.opened ≡ Some group → IsAtMost promise epoch → new ≡ record old { opened = Some (joined join group) } → Adds old epoch promise join new
+pub data AddsJoin (old : Group) (epoch promise : EpochId) (join : Joined) (new : Group) : Type 0 where
+  Above : IsBefore epoch promise → new ≡ record old { heard = max old.heard promise.count } → AddsJoin old epoch promise join new
+  Joins : (group : OpenGroup) → old.opened ≡ Some group → IsAtMost promise epoch → new ≡ record old { opened = Some (with_one_joined join group) } → AddsJoin old epoch promise join new
 
 abbrev pub HearsJoin : Result (Unit {0}) GroupFault → EpochId → EpochId → Joined → Group → Group → Type 0
-HearsJoin (Ok _) epoch promise join old new = IsOpen old.opened epoch × Adds old epoch promise join new
+HearsJoin (Ok _) epoch promise join old new = IsOpen old.opened epoch × AddsJoin old epoch promise join new
 HearsJoin (Err NotAGroup) epoch promise join old new = (IsOpen old.opened epoch → ⊥) × (new ≡ old)
 HearsJoin (Err NoMemory) epoch promise join old new = IsOpen old.opened epoch × (new ≡ old)
 HearsJoin (Err other) epoch promise join old new = ⊥
@@ -60,16 +60,16 @@ abbrev pub IsOld : Membership → Group → Type 0
 IsOld membership group = IsBefore membership.epoch group.promise ⊎ IsAtMost membership.epoch (epoch_in group.installed)
 
 -- it is of the promised epoch, which is not installed yet
-abbrev pub IsDue : Membership → Group → Type 0
-IsDue membership group = (membership.epoch ≡ group.promise) × IsBefore (epoch_in group.installed) membership.epoch
+abbrev pub IsInstallDue : Membership → Group → Type 0
+IsInstallDue membership group = (membership.epoch ≡ group.promise) × IsBefore (epoch_in group.installed) membership.epoch
 
 -- An Install is heard where it is of the promised epoch, which is not installed yet, and names the node in its boot. The first refusal that applies is answered.
 abbrev pub HearsInstall : Result (Unit {0}) GroupFault → Membership → Group → Group → Type 0
-HearsInstall (Ok _) membership old new = IsDue membership old × Names membership old.own old.boot × (new ≡ record old { installed = Some membership })
+HearsInstall (Ok _) membership old new = IsInstallDue membership old × NamesNode membership old.own old.boot × (new ≡ record old { installed = Some membership })
 HearsInstall (Err OldEpoch) membership old new = IsOld membership old × (new ≡ old)
 HearsInstall (Err NotPromised) membership old new = (IsOld membership old → ⊥) × IsBefore old.promise membership.epoch × (new ≡ old)
-HearsInstall (Err NotMember) membership old new = IsDue membership old × (Names membership old.own old.boot → ⊥) × (new ≡ old)
-HearsInstall (Err NoMemory) membership old new = IsDue membership old × Names membership old.own old.boot × (new ≡ old)
+HearsInstall (Err NotMember) membership old new = IsInstallDue membership old × (NamesNode membership old.own old.boot → ⊥) × (new ≡ old)
+HearsInstall (Err NoMemory) membership old new = IsInstallDue membership old × NamesNode membership old.own old.boot × (new ≡ old)
 HearsInstall (Err other) membership old new = ⊥
 
 -- the nodes that have joined the open group

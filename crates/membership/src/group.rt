@@ -5,8 +5,8 @@ ghost use Rattle.mail_model.specs.Identity.{EpochId as Epoch};
 ghost use Rattle.maps_model.specs.Cluster.{epoch_in, member_of};
 ghost use Rattle.maps_model.specs.Rules.{claims_from, claims_in};
 ghost use Rattle.object_model.specs.Sets.{has};
-ghost use Rattle.membership.specs.Groups.{new_group, next_epoch, own_join, promised, joined, has_joined};
-ghost use Rattle.membership.specs.Checks.{is_open, is_of_boot, Forms};
+ghost use Rattle.membership.specs.Groups.{new_group, next_epoch, own_join, promised, with_one_joined, has_joined};
+ghost use Rattle.membership.specs.Checks.{is_open, is_of_boot, FormsMembership};
 ghost use Rattle.membership.specs.Rounds.{StartsGroup, HearsGroup, HearsJoin, Concludes, HearsInstall, IsJoined};
 
 use crate::epochs::{is_before, is_same};
@@ -79,7 +79,7 @@ fn is_open(opened: &Option<OpenGroup>, epoch: EpochId) -> bool
 }
 
 fn add_to(opened: &mut Option<OpenGroup>, join: Joined) -> Result<(), AllocError>
-    ensures ok { OnOk result (opened.new ≡ option_map (joined join) opened.old) }
+    ensures ok { OnOk result (opened.new ≡ option_map (with_one_joined join) opened.old) }
     ensures err { OnErr result (opened.new ≡ opened.old) }
 {
     match opened {
@@ -89,7 +89,7 @@ fn add_to(opened: &mut Option<OpenGroup>, join: Joined) -> Result<(), AllocError
 }
 
 fn concluded(alloc: Global, opened: &Option<OpenGroup>, buckets: u32) -> Result<Install, GroupFault>
-    ensures { Forms result buckets opened.now }
+    ensures { FormsMembership result buckets opened.now }
 {
     match opened {
         Some(group) => Ok(group.conclude(alloc, buckets)?),
@@ -311,7 +311,7 @@ impl Group {
     }
 
     fn add(&mut self, join: Joined) -> Result<(), AllocError>
-        ensures ok { OnOk result (self.new ≡ record self.old { opened = option_map (joined join) self.old.opened }) }
+        ensures ok { OnOk result (self.new ≡ record self.old { opened = option_map (with_one_joined join) self.old.opened }) }
         ensures err { OnErr result (self.new ≡ self.old) }
     {
         add_to(&mut self.opened, join)

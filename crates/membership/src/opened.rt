@@ -5,7 +5,7 @@ ghost use Rattle.maps_model.specs.Assign.{IsAssigned};
 ghost use Rattle.maps_model.specs.Rules.{with_join, membership_of};
 ghost use Rattle.object_model.specs.Sets.{has};
 ghost use Rattle.membership.specs.Checks.{is_lower, is_same_node, is_earlier};
-ghost use Rattle.membership.specs.Groups.{all_claims, all_members, joined, has_joined};
+ghost use Rattle.membership.specs.Groups.{all_claims, all_members, with_one_joined, has_joined};
 
 use crate::install::Install;
 use mail_base::{Claim, EpochId, Member, NodeSet, Sequence};
@@ -151,7 +151,7 @@ impl OpenGroup {
     /// Adds a join, unless one of the node stands from the same boot or a later one.
     #[tactic(auto, using(crate::proofs::Adding::some_joined))]
     pub(crate) fn add(&mut self, new: Joined) -> Result<(), AllocError>
-        ensures ok { OnOk result (self.new ≡ joined new self.old) }
+        ensures ok { OnOk result (self.new ≡ with_one_joined new self.old) }
         ensures err { OnErr result (self.new ≡ self.old) }
     {
         add(&mut self.joins, new)?;

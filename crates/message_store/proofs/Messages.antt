@@ -9,7 +9,7 @@ use Rattle.mail_model.specs.Record.{payload_of}
 use Rattle.mail_model.specs.Record.Record.{Octets}
 use Rattle.disk_journal.specs.declared.place.Place.{Place}
 use Rattle.message_store.specs.Places.{first_of, IsMessageAt}
-use Rattle.message_store.specs.Fetches.{Gives, IsNoMessageAt}
+use Rattle.message_store.specs.Fetches.{GivesOctets, IsNoMessageAt}
 
 -- the record has the head and the octets
 pub size_is : (held : List ℕ) (place : Place) (id : Id) (octets : List ℕ) → IsMessageAt held place id octets → place.length ≡ 14 + length octets
@@ -56,7 +56,7 @@ those_are held place id octets start count room m is =
 
 -- what a read of the octets after the head gave
 pub gives : (held : List ℕ) (place : Place) (id : Id) (start count : ℕ) (into : List ℕ) → take 14 (drop place.at held) ≡ payload_of (Octets id [])
-    → count ≡ min (length into) (place.length - 14 - start) → take count into ≡ take count (drop (place.at + 14 + start) held) → Gives held place id start count into
+    → count ≡ min (length into) (place.length - 14 - start) → take count into ≡ take count (drop (place.at + 14 + start) held) → GivesOctets held place id start count into
 gives held place id start count into head is read = record {
   head = head;
   those = λ octets m.
@@ -91,7 +91,7 @@ other_head (Some held) place id count into head long size is read spelt differ =
 
 pub gives_where_told : (seen mid : Option (List ℕ)) (place after : Place) (id : Id) (start count : ℕ) (into : List ℕ) → mid ≡ seen → after.at ≡ place.at + 14 → after.length ≡ place.length - 14
     → IfSome seen (λ held. take 14 (drop place.at held) ≡ payload_of (Octets id [])) → count ≡ min (length into) (after.length - start) → IsTakenAt mid count into (after.at + start)
-    → IfSome seen (λ held. Gives held place id start count into)
+    → IfSome seen (λ held. GivesOctets held place id start count into)
 gives_where_told None mid place after id start count into same at size head is read = tt
 gives_where_told (Some held) mid place after id start count into same at size head is read =
     let told : IsTakenAt (Some held) count into (after.at + start) = subst (λ (s : Option (List ℕ)). IsTakenAt s count into (after.at + start)) same read in

@@ -10,7 +10,7 @@ use Rattle.message_store.specs.declared.fault.StoreFault.TheVariants.{DiskFault,
 use Rattle.message_store.specs.Places.{IsMessageAt}
 
 -- The first octets of `into` are those of the message from that offset on, as many as fit, where the message lies at the place.
-pub record Gives (held : List ℕ) (place : Place) (id : Id) (start count : ℕ) (into : List ℕ) : Type 0 where
+pub record GivesOctets (held : List ℕ) (place : Place) (id : Id) (start count : ℕ) (into : List ℕ) : Type 0 where
   pub head : take 14 (drop place.at held) ≡ payload_of (Octets id [])
   pub those : (octets : List ℕ) → IsMessageAt held place id octets → (count ≡ min (length into) (length octets - start)) × (take count into ≡ take count (drop start octets))
 
@@ -21,7 +21,7 @@ IsNoMessageAt held place id = (octets : List ℕ) → IsMessageAt held place id 
 -- What a fetch answers of a message that lies at the place, and why it answers no octets.
 abbrev pub HasFetched : Result ℕ StoreFault → Option Place → Id → ℕ → List ℕ → Option (List ℕ) → ℕ → ℕ → Type 0
 HasFetched (Ok count) None id start into seen before now = ⊥
-HasFetched (Ok count) (Some place) id start into seen before now = IfSome seen (λ held. Gives held place id start count into) × (now ≡ before)
+HasFetched (Ok count) (Some place) id start into seen before now = IfSome seen (λ held. GivesOctets held place id start count into) × (now ≡ before)
 HasFetched (Err DiskFault) place id start into seen before now = (before ≤ now) × Rose before now
 HasFetched (Err NotHere) place id start into seen before now = (place ≡ None) × (now ≡ before)
 HasFetched (Err NotAJournal) None id start into seen before now = ⊥

@@ -4,7 +4,7 @@ use Rattle.std.specs.Ordering.{eq_by_cmp}
 use Rattle.io_edge.specs.Causes.{Rose}
 use Rattle.mail_model.specs.Identity.{Id}
 use Rattle.mail_base.specs.Orders.{id_cmp}
-use Rattle.disk_journal.specs.Journal.{Stands, HoldsEither, HasGate, largest}
+use Rattle.disk_journal.specs.Journal.{TellsJournal, HoldsEither, HasGate, largest}
 use Rattle.disk_journal.specs.declared.place.Place.{Place}
 use Rattle.message_store.specs.declared.store.MessageStore.{MessageStore}
 use Rattle.message_store.specs.declared.fault.StoreFault.{StoreFault}
@@ -21,18 +21,18 @@ IsKnown result old new seen seen' end end' before now = IsOk result × HasSamePl
 
 -- The journal stands with the record after it, or without it where memory was out or the record too large; where the disk failed one of both.
 abbrev pub Appends : Result (Unit {0}) StoreFault → Option (List ℕ) → ℕ → List (List ℕ) → List ℕ → ℕ → Type 0
-Appends (Ok _) seen node payloads payload end = Stands seen node (payloads ++ payload ∷ []) end
+Appends (Ok _) seen node payloads payload end = TellsJournal seen node (payloads ++ payload ∷ []) end
 Appends (Err DiskFault) seen node payloads payload end = HoldsEither seen node payloads payload
 Appends (Err NotHere) seen node payloads payload end = ⊥
 Appends (Err NotAJournal) seen node payloads payload end = ⊥
-Appends (Err TooLarge) seen node payloads payload end = Stands seen node payloads end
-Appends (Err NoMemory) seen node payloads payload end = Stands seen node payloads end
+Appends (Err TooLarge) seen node payloads payload end = TellsJournal seen node payloads end
+Appends (Err NoMemory) seen node payloads payload end = TellsJournal seen node payloads end
 
 -- why nothing was filed
-abbrev pub Refuses : Result (Unit {0}) StoreFault → ℕ → Option (List ℕ) → Option (List ℕ) → ℕ → ℕ → ℕ → ℕ → Type 0
-Refuses (Ok _) size old new end end' before now = (size ≤ largest) × HasGate new end' × (now ≡ before) × (end' ≡ end + 5 + size)
-Refuses (Err DiskFault) size old new end end' before now = (before ≤ now) × Rose before now
-Refuses (Err NotHere) size old new end end' before now = ⊥
-Refuses (Err NotAJournal) size old new end end' before now = ⊥
-Refuses (Err TooLarge) size old new end end' before now = (largest < size) × (new ≡ old) × (end' ≡ end) × (now ≡ before)
-Refuses (Err NoMemory) size old new end end' before now = (new ≡ old) × (end' ≡ end) × (now ≡ before)
+abbrev pub RefusesToFile : Result (Unit {0}) StoreFault → ℕ → Option (List ℕ) → Option (List ℕ) → ℕ → ℕ → ℕ → ℕ → Type 0
+RefusesToFile (Ok _) size old new end end' before now = (size ≤ largest) × HasGate new end' × (now ≡ before) × (end' ≡ end + 5 + size)
+RefusesToFile (Err DiskFault) size old new end end' before now = (before ≤ now) × Rose before now
+RefusesToFile (Err NotHere) size old new end end' before now = ⊥
+RefusesToFile (Err NotAJournal) size old new end end' before now = ⊥
+RefusesToFile (Err TooLarge) size old new end end' before now = (largest < size) × (new ≡ old) × (end' ≡ end) × (now ≡ before)
+RefusesToFile (Err NoMemory) size old new end end' before now = (new ≡ old) × (end' ≡ end) × (now ≡ before)

@@ -6,9 +6,9 @@ ghost use Rattle.mail_model.specs.Identity.{Id};
 ghost use Rattle.mail_model.specs.Record.{payload_of};
 ghost use Rattle.mail_model.specs.Record.Record.{Octets};
 ghost use Rattle.mail_base.specs.Orders.{id_cmp};
-ghost use Rattle.disk_journal.specs.Journal.{end_of, HasGate, Stands};
+ghost use Rattle.disk_journal.specs.Journal.{end_of, HasGate, TellsJournal};
 ghost use Rattle.message_store.specs.Places.{place_of, count_at, HasSamePlaces};
-ghost use Rattle.message_store.specs.Files.{Notes, IsKnown, Appends, Refuses};
+ghost use Rattle.message_store.specs.Files.{Notes, IsKnown, Appends, RefusesToFile};
 ghost use Rattle.message_store.specs.Fetches.{HasFetched, HasHead};
 
 use crate::fault::StoreFault;
@@ -164,9 +164,9 @@ impl MessageStore {
         ensures put { OnOk result ((place : Place) × (place.at ≡ end_of journal.old + 5) × (place.length ≡ 14 + length octets.now)
             × ((other : Id) → place_of self.new other ≡ (if eq_by_cmp id_cmp id other then Some place else place_of self.old other))) }
         ensures kept { OnErr result (HasSamePlaces self.old self.new) }
-        ensures appended { (node : ℕ) (payloads : List (List ℕ)) → Stands (D.seen disk.old) node payloads (end_of journal.old)
+        ensures appended { (node : ℕ) (payloads : List (List ℕ)) → TellsJournal (D.seen disk.old) node payloads (end_of journal.old)
             → Appends result (D.seen disk.new) node payloads (payload_of (Octets id octets.now)) (end_of journal.new) }
-        ensures refuses { Refuses result (14 + length octets.now) (D.seen disk.old) (D.seen disk.new) (end_of journal.old) (end_of journal.new) (D.faults disk.old) (D.faults disk.new) }
+        ensures refuses { RefusesToFile result (14 + length octets.now) (D.seen disk.old) (D.seen disk.new) (end_of journal.old) (end_of journal.new) (D.faults disk.old) (D.faults disk.new) }
         ensures settled { OnOk result (D.settled disk.new) }
     {
         let place = journal.append(alloc, disk, &octets_head(id), octets)?;
@@ -196,9 +196,9 @@ impl MessageStore {
         requires new { place_of self.old id ≡ None }
         ensures noted { OnOk result ((place : Place) × (place.at ≡ end_of journal.old + 5) × (place.length ≡ 14 + length octets.now) × Notes self.old self.new id place) }
         ensures kept { OnErr result (HasSamePlaces self.old self.new) }
-        ensures appended { (node : ℕ) (payloads : List (List ℕ)) → Stands (D.seen disk.old) node payloads (end_of journal.old)
+        ensures appended { (node : ℕ) (payloads : List (List ℕ)) → TellsJournal (D.seen disk.old) node payloads (end_of journal.old)
             → Appends result (D.seen disk.new) node payloads (payload_of (Octets id octets.now)) (end_of journal.new) }
-        ensures refuses { Refuses result (14 + length octets.now) (D.seen disk.old) (D.seen disk.new) (end_of journal.old) (end_of journal.new) (D.faults disk.old) (D.faults disk.new) }
+        ensures refuses { RefusesToFile result (14 + length octets.now) (D.seen disk.old) (D.seen disk.new) (end_of journal.old) (end_of journal.new) (D.faults disk.old) (D.faults disk.new) }
         ensures settled { OnOk result (D.settled disk.new) }
     {
         self.put(id, Place { at: 0, length: 14 })?;
@@ -232,9 +232,9 @@ impl MessageStore {
         ensures known { IsSome (place_of self.old id) → IsKnown result self.old self.new (D.seen disk.old) (D.seen disk.new) (end_of journal.old) (end_of journal.new) (D.faults disk.old) (D.faults disk.new) }
         ensures noted { place_of self.old id ≡ None → OnOk result ((place : Place) × (place.at ≡ end_of journal.old + 5) × (place.length ≡ 14 + length octets.now) × Notes self.old self.new id place) }
         ensures kept { OnErr result (HasSamePlaces self.old self.new) }
-        ensures appended { place_of self.old id ≡ None → (node : ℕ) (payloads : List (List ℕ)) → Stands (D.seen disk.old) node payloads (end_of journal.old)
+        ensures appended { place_of self.old id ≡ None → (node : ℕ) (payloads : List (List ℕ)) → TellsJournal (D.seen disk.old) node payloads (end_of journal.old)
             → Appends result (D.seen disk.new) node payloads (payload_of (Octets id octets.now)) (end_of journal.new) }
-        ensures refuses { place_of self.old id ≡ None → Refuses result (14 + length octets.now) (D.seen disk.old) (D.seen disk.new) (end_of journal.old) (end_of journal.new) (D.faults disk.old) (D.faults disk.new) }
+        ensures refuses { place_of self.old id ≡ None → RefusesToFile result (14 + length octets.now) (D.seen disk.old) (D.seen disk.new) (end_of journal.old) (end_of journal.new) (D.faults disk.old) (D.faults disk.new) }
         ensures settled { place_of self.old id ≡ None → OnOk result (D.settled disk.new) }
     {
         if self.place(id).is_some() {

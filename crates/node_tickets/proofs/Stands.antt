@@ -10,7 +10,7 @@ use Rattle.object_model.specs.Letters.{Body}
 use Rattle.object_model.specs.Mishaps.{MishapKind}
 use Rattle.cluster_model.specs.Cluster.{Ticket, Tickets}
 use Rattle.cluster_model.specs.Rules.{told_ticket}
-use Rattle.node_tickets.specs.Standing.{seen, told_in, befell_in, taken_out, failed_ticket}
+use Rattle.node_tickets.specs.Standing.{seen, tickets_told, befell_in, ticket_taken_out, failed_ticket}
 use Rattle.node_tickets.proofs.Maps as maps
 
 abbrev at_key : List (ℕ × Ticket) → ℕ → Option Ticket
@@ -23,12 +23,12 @@ pub was_put : (es fs : List (ℕ × Ticket)) (seq : ℕ) (new : Ticket) → ((q 
 was_put es fs seq new up = maps.map_put nat_cmp_total exact_unsigned es fs (seen es) seq new refl up
 
 pub told_written : (es fs : List (ℕ × Ticket)) (seq : ℕ) (body : Body) (from : ℕ) (old new : Ticket) → Some old ≡ at_key es seq → new ≡ told_ticket body from old
-    → ((q : ℕ) → at_key fs q ≡ cond (is_at (nat_cmp seq) q) (Some new) (at_key es q)) → seen fs ≡ told_in body from seq (fin.get (seen es) seq) (seen es)
+    → ((q : ℕ) → at_key fs q ≡ cond (is_at (nat_cmp seq) q) (Some new) (at_key es q)) → seen fs ≡ tickets_told body from seq (fin.get (seen es) seq) (seen es)
 told_written es fs seq body from old new found is up =
-    was_put es fs seq new up ∙ ap (fin.insert (seen es) seq) is ∙ ap (λ t. told_in body from seq t (seen es)) (got es seq (Some old) found)
+    was_put es fs seq new up ∙ ap (fin.insert (seen es) seq) is ∙ ap (λ t. tickets_told body from seq t (seen es)) (got es seq (Some old) found)
 
-pub told_none : (es : List (ℕ × Ticket)) (seq : ℕ) (body : Body) (from : ℕ) → None ≡ at_key es seq → seen es ≡ told_in body from seq (fin.get (seen es) seq) (seen es)
-told_none es seq body from none = ap (λ t. told_in body from seq t (seen es)) (got es seq None none)
+pub told_none : (es : List (ℕ × Ticket)) (seq : ℕ) (body : Body) (from : ℕ) → None ≡ at_key es seq → seen es ≡ tickets_told body from seq (fin.get (seen es) seq) (seen es)
+told_none es seq body from none = ap (λ t. tickets_told body from seq t (seen es)) (got es seq None none)
 
 pub befell_written : (es fs : List (ℕ × Ticket)) (seq : ℕ) (kind : MishapKind) (at : ℕ) (old new : Ticket) → Some old ≡ at_key es seq → new ≡ failed_ticket kind at old
     → ((q : ℕ) → at_key fs q ≡ cond (is_at (nat_cmp seq) q) (Some new) (at_key es q)) → seen fs ≡ befell_in kind at seq (fin.get (seen es) seq) (seen es)
@@ -39,10 +39,10 @@ pub befell_none : (es : List (ℕ × Ticket)) (seq : ℕ) (kind : MishapKind) (a
 befell_none es seq kind at none = ap (λ t. befell_in kind at seq t (seen es)) (got es seq None none)
 
 -- to take out what is not there changes nothing
-pub taken : (m : Tickets) (seq : ℕ) → fin.remove m seq ≡ taken_out seq (fin.get m seq) m
+pub taken : (m : Tickets) (seq : ℕ) → fin.remove m seq ≡ ticket_taken_out seq (fin.get m seq) m
 taken m seq = by (fin.get m seq) refl
   where
-    by : (t : Option Ticket) → fin.get m seq ≡ t → fin.remove m seq ≡ taken_out seq t m
+    by : (t : Option Ticket) → fin.get m seq ≡ t → fin.remove m seq ≡ ticket_taken_out seq t m
     by None none = same_map nat_cmp_total exact_unsigned _ _ (λ q. get-remove nat_cmp_total m seq q ∙ at (eq_by_cmp nat_cmp q seq) q refl)
       where
         at : (b : Bool) (q : ℕ) → eq_by_cmp nat_cmp q seq ≡ b → cond b None (fin.get m q) ≡ fin.get m q
@@ -50,5 +50,5 @@ taken m seq = by (fin.get m seq) refl
         at true q e = sym none ∙ get_tied nat_cmp_total m q seq ((Equal-is (nat_cmp q seq)).0 e)
     by (Some t) some = refl
 
-pub was_taken : (es fs : List (ℕ × Ticket)) (seq : ℕ) → ((q : ℕ) → at_key fs q ≡ cond (is_at (nat_cmp seq) q) None (at_key es q)) → seen fs ≡ taken_out seq (fin.get (seen es) seq) (seen es)
+pub was_taken : (es fs : List (ℕ × Ticket)) (seq : ℕ) → ((q : ℕ) → at_key fs q ≡ cond (is_at (nat_cmp seq) q) None (at_key es q)) → seen fs ≡ ticket_taken_out seq (fin.get (seen es) seq) (seen es)
 was_taken es fs seq up = maps.map_removed nat_cmp_total exact_unsigned es fs (seen es) seq refl up ∙ taken (seen es) seq

@@ -16,12 +16,12 @@ use Rattle.node_tickets.specs.declared.want.Asked.TheVariants.{Copies, Deletion}
 use Rattle.node_tickets.specs.declared.mishap.MishapKind.{MishapKind}
 use Rattle.node_tickets.specs.declared.mishap.MishapKind.TheVariants as befell
 
-abbrev pub filing_seen : Filing → plain.Filing
+abbrev pub filing_seen : Filing → plain.NodeFiling
 filing_seen filing = record { id = filing.id; users = filing.users; seconds = filing.seconds; size = filing.length; digest = filing.digest }
 
-abbrev pub asked_seen : Asked → plain.Asked
-asked_seen (Copies filing) = plain.Asked.Copies (filing_seen filing)
-asked_seen (Deletion user id) = plain.Asked.Deletion user id
+abbrev pub asked_seen : Asked → plain.AskedOfNodes
+asked_seen (Copies filing) = plain.AskedOfNodes.Copies (filing_seen filing)
+asked_seen (Deletion user id) = plain.AskedOfNodes.Deletion user id
 
 abbrev pub kind_seen : CallKind → plain.CallKind
 kind_seen kind.Deliver = plain.CallKind.Delivering
@@ -42,16 +42,16 @@ abbrev pub mishaps_seen : Mishaps → object.Mishaps
 mishaps_seen m = record { few_members = m.few_members; year = m.year; dropped = m.dropped; stale = m.stale; down = m.down; disk = m.disk; crowded = m.crowded }
 
 -- an answer to a delivery or a deletion; the other answers have no rule in the machine yet
-abbrev pub answer_seen : Answer → Option progress.Answer
-answer_seen (Stored id confirmers) = Some (progress.Answer.Stored id confirmers)
-answer_seen (Dropped confirmers) = Some (progress.Answer.Dropped confirmers.items)
-answer_seen (Failed mishaps) = Some (progress.Answer.Failed (mishaps_seen mishaps))
-answer_seen answer = None
+abbrev pub progress_seen : Answer → Option progress.NodeAnswer
+progress_seen (Stored id confirmers) = Some (progress.NodeAnswer.Stored id confirmers)
+progress_seen (Dropped confirmers) = Some (progress.NodeAnswer.Dropped confirmers.items)
+progress_seen (Failed mishaps) = Some (progress.NodeAnswer.Failed (mishaps_seen mishaps))
+progress_seen answer = None
 
-abbrev pub done_seen : Option progress.Answer → Option progress.Ask
+abbrev pub done_seen : Option progress.NodeAnswer → Option progress.Ask
 done_seen None = None
 done_seen (Some answer) = Some (progress.Ask.Done answer)
 
 abbrev pub ask_seen : Ask → Option progress.Ask
 ask_seen (Pending got wanted) = Some (progress.Ask.Pending got wanted)
-ask_seen (Done answer) = done_seen (answer_seen answer)
+ask_seen (Done answer) = done_seen (progress_seen answer)

@@ -43,13 +43,13 @@ abbrev pub is_own : Tickets → Number → Bool
 is_own desk number = nat_eq number.node desk.own && nat_eq number.boot desk.boot
 
 -- the ticket of this number, if it stands
-abbrev pub here : Tickets → Number → Option plain.Ticket
-here desk number = if is_own desk number then fin.get (tickets_in desk) number.seq else None
+abbrev pub ticket_standing_here : Tickets → Number → Option plain.Ticket
+ticket_standing_here desk number = if is_own desk number then fin.get (tickets_in desk) number.seq else None
 
 -- a ticket that stands is told
-abbrev pub told_in : Body → ℕ → ℕ → Option plain.Ticket → plain.Tickets → plain.Tickets
-told_in body from seq None tickets = tickets
-told_in body from seq (Some ticket) tickets = fin.insert tickets seq (told_ticket body from ticket)
+abbrev pub tickets_told : Body → ℕ → ℕ → Option plain.Ticket → plain.Tickets → plain.Tickets
+tickets_told body from seq None tickets = tickets
+tickets_told body from seq (Some ticket) tickets = fin.insert tickets seq (told_ticket body from ticket)
 
 -- a mishap of it is counted
 abbrev pub befell_in : MishapKind → ℕ → ℕ → Option plain.Ticket → plain.Tickets → plain.Tickets
@@ -57,9 +57,9 @@ befell_in kind at seq None tickets = tickets
 befell_in kind at seq (Some ticket) tickets = fin.insert tickets seq (failed_ticket kind at ticket)
 
 -- it is taken out
-abbrev pub taken_out : ℕ → Option plain.Ticket → plain.Tickets → plain.Tickets
-taken_out seq None tickets = tickets
-taken_out seq (Some ticket) tickets = fin.remove tickets seq
+abbrev pub ticket_taken_out : ℕ → Option plain.Ticket → plain.Tickets → plain.Tickets
+ticket_taken_out seq None tickets = tickets
+ticket_taken_out seq (Some ticket) tickets = fin.remove tickets seq
 
 -- what an ask gives
 abbrev pub asks_at : ℕ → Option plain.Ticket → Option (Option Ask)
@@ -85,35 +85,35 @@ waits_at None m = false
 waits_at (Some ticket) m = list_any (λ want. has want.waiting m) ticket.wants
 
 -- the kind of its call, and what it wants
-abbrev pub kind_at : Option plain.Ticket → Option plain.CallKind
-kind_at None = None
-kind_at (Some ticket) = Some ticket.kind
+abbrev pub kind_of_ticket : Option plain.Ticket → Option plain.CallKind
+kind_of_ticket None = None
+kind_of_ticket (Some ticket) = Some ticket.kind
 
-abbrev pub kind_of : Option CallKind → Option plain.CallKind
-kind_of None = None
-kind_of (Some kind) = Some (kind_seen kind)
+abbrev pub call_kind_seen : Option CallKind → Option plain.CallKind
+call_kind_seen None = None
+call_kind_seen (Some kind) = Some (kind_seen kind)
 
 abbrev pub wants_at : Option plain.Ticket → List plain.Want
 wants_at None = []
 wants_at (Some ticket) = ticket.wants
 
 -- the ticket of a deletion of a user's messages, each with the nodes that are asked for it
-abbrev pub deletion_of : ℕ → List ℕ → List (Id × ℕ) → plain.Ticket
-deletion_of own user asks = record { kind = plain.CallKind.Striking; wants = map (λ item. new_want own (plain.Asked.Deletion user item.0) item.1) asks; mishaps = no_mishaps }
+abbrev pub ticket_of_deletion : ℕ → List ℕ → List (Id × ℕ) → plain.Ticket
+ticket_of_deletion own user asks = record { kind = plain.CallKind.Striking; wants = map (λ item. new_want own (plain.AskedOfNodes.Deletion user item.0) item.1) asks; mishaps = no_mishaps }
 
 -- what a delivery filed
-abbrev pub filing_of : Option Filing → Option plain.Filing
-filing_of None = None
-filing_of (Some filing) = Some (filing_seen filing)
+abbrev pub filed_seen : Option Filing → Option plain.NodeFiling
+filed_seen None = None
+filed_seen (Some filing) = Some (filing_seen filing)
 
-abbrev pub filing_asked : plain.Asked → Option plain.Filing
-filing_asked (plain.Asked.Copies filing) = Some filing
-filing_asked (plain.Asked.Deletion user id) = None
+abbrev pub filing_asked : plain.AskedOfNodes → Option plain.NodeFiling
+filing_asked (plain.AskedOfNodes.Copies filing) = Some filing
+filing_asked (plain.AskedOfNodes.Deletion user id) = None
 
-abbrev pub filing_wanted : List plain.Want → Option plain.Filing
+abbrev pub filing_wanted : List plain.Want → Option plain.NodeFiling
 filing_wanted [] = None
 filing_wanted (want ∷ wants) = filing_asked want.asked
 
-abbrev pub filing_at : Option plain.Ticket → Option plain.Filing
+abbrev pub filing_at : Option plain.Ticket → Option plain.NodeFiling
 filing_at None = None
 filing_at (Some ticket) = filing_wanted ticket.wants

@@ -6,9 +6,9 @@ ghost use Rattle.object_model.specs.Sets.{has};
 ghost use Rattle.object_model.specs.Mishaps.{counted};
 ghost use Rattle.mail_base.specs.Bodies.{body_seen};
 ghost use Rattle.cluster_model.specs.Rules.{told_want, failed_want, told_ticket};
-ghost use Rattle.cluster_model.specs.Progress.{is_confirmed, can_be_confirmed, has_failed, answer_to, ask_of};
-ghost use Rattle.node_tickets.specs.Seen.{kind_of_mishap, kind_seen, mishaps_seen, ask_seen, done_seen, answer_seen};
-ghost use Rattle.node_tickets.specs.Standing.{is_done, failed_ticket, filing_of, filing_wanted};
+ghost use Rattle.cluster_model.specs.Progress.{is_confirmed, can_be_confirmed, has_failed, answer_once_confirmed, ask_of};
+ghost use Rattle.node_tickets.specs.Seen.{kind_of_mishap, kind_seen, mishaps_seen, ask_seen, done_seen, progress_seen};
+ghost use Rattle.node_tickets.specs.Standing.{is_done, failed_ticket, filed_seen, filing_wanted};
 
 use crate::mishap::{MishapKind, count};
 use crate::want::{Asked, Want};
@@ -101,7 +101,7 @@ fn confirmers_of(wants: &[Want], room: Vec<NodeSet>) -> Vec<NodeSet>
 fn confirmed_answer(wants: &[Want], want: &Want, room: Vec<NodeSet>) -> Answer
     requires empty { room.items ≡ [] }
     requires spare { length wants.now ≤ vec_capacity room - vec_len room }
-    ensures { answer_seen result ≡ Some (answer_to wants.now want.now want.now.asked) }
+    ensures { progress_seen result ≡ Some (answer_once_confirmed wants.now want.now want.now.asked) }
 {
     match want.asked() {
         Asked::Copies(filing) => Answer::Stored {
@@ -150,7 +150,7 @@ impl Progress {
 
     /// What a delivery filed.
     pub(crate) fn filing(&self) -> Option<&Filing>
-        ensures { filing_of (option_copied result) ≡ filing_wanted self.now.wants }
+        ensures { filed_seen (option_copied result) ≡ filing_wanted self.now.wants }
     {
         match self.wants.first() {
             Some(want) => match want.asked() {
@@ -218,7 +218,7 @@ impl Progress {
     /// The answer to a call that is done. It takes no memory.
     pub(crate) fn into_answer(self, confirm: u8) -> Answer
         requires { is_done (ask_of confirm self) ≡ true }
-        ensures { done_seen (answer_seen result) ≡ Some (ask_of confirm self) }
+        ensures { done_seen (progress_seen result) ≡ Some (ask_of confirm self) }
     {
         if !all_confirmed(&self.wants, confirm) {
             return Answer::Failed(self.mishaps);

@@ -9,10 +9,10 @@ ghost use Rattle.object_model.specs.Sets.{has};
 ghost use Rattle.object_model.specs.Mishaps.{no_mishaps};
 ghost use Rattle.mail_base.specs.Bodies.{body_seen};
 ghost use Rattle.node_tickets.specs.Seen.{kind_of_mishap, kind_seen, mishaps_seen, filing_seen};
-ghost use Rattle.cluster_model.specs.Cluster.Asked.{Copies, Deletion};
+ghost use Rattle.cluster_model.specs.Cluster.AskedOfNodes.{Copies, Deletion};
 ghost use Rattle.cluster_model.specs.Rules.{new_want};
 ghost use Rattle.cluster_model.specs.TicketLaws.{delivery_ticket};
-ghost use Rattle.node_tickets.specs.Standing.{seen, asks_seen, asks_at, kind_of, kind_at, filing_of, filing_at, wants_at, deletion_of, tickets_in, is_own, here, IsOf, told_in, befell_in, taken_out, asked_out, waits_at, done_at};
+ghost use Rattle.node_tickets.specs.Standing.{seen, asks_seen, asks_at, call_kind_seen, kind_of_ticket, filed_seen, filing_at, wants_at, ticket_of_deletion, tickets_in, is_own, ticket_standing_here, IsOf, tickets_told, befell_in, ticket_taken_out, asked_out, waits_at, done_at};
 
 use crate::mishap::{MishapKind, none};
 use crate::progress::Progress;
@@ -64,13 +64,13 @@ fn get_in(entries: &BTreeMap<u64, Progress>, seq: u64) -> Option<&Progress>
 // Takes out what stands under the number.
 fn take_out(entries: &mut BTreeMap<u64, Progress>, seq: u64) -> Option<Progress>
     ensures was { result ≡ fin.get (seen entries.old.entries) seq }
-    ensures out { seen entries.new.entries ≡ taken_out seq (fin.get (seen entries.old.entries) seq) (seen entries.old.entries) }
+    ensures out { seen entries.new.entries ≡ ticket_taken_out seq (fin.get (seen entries.old.entries) seq) (seen entries.old.entries) }
 {
     entries.remove(&seq)
 }
 
 fn told_at(entries: &mut BTreeMap<u64, Progress>, seq: u64, from: NodeNo, body: &Body) -> bool
-    ensures tickets { seen entries.new.entries ≡ told_in (body_seen body.now) from seq (fin.get (seen entries.old.entries) seq) (seen entries.old.entries) }
+    ensures tickets { seen entries.new.entries ≡ tickets_told (body_seen body.now) from seq (fin.get (seen entries.old.entries) seq) (seen entries.old.entries) }
     ensures stood { result ≡ is_some (fin.get (seen entries.old.entries) seq) }
 {
     match entries.get_mut(&seq) {
@@ -172,7 +172,7 @@ impl Tickets {
 
     // The ticket of this number, if it stands.
     fn find(&self, ticket: Ticket) -> Option<&Progress>
-        ensures { option_copied result ≡ here self.now ticket }
+        ensures { option_copied result ≡ ticket_standing_here self.now ticket }
     {
         if !self.is_own(ticket) {
             return None;
@@ -214,7 +214,7 @@ impl Tickets {
         user: &Name,
         asks: &[(MsgId, NodeSet)],
     ) -> Result<(), AllocError>
-        ensures ok { OnOk result (tickets_in self.new ≡ fin.insert (tickets_in self.old) seq (deletion_of self.old.own user.now asks.now)) }
+        ensures ok { OnOk result (tickets_in self.new ≡ fin.insert (tickets_in self.old) seq (ticket_of_deletion self.old.own user.now asks.now)) }
         ensures err { OnErr result (tickets_in self.new ≡ tickets_in self.old) }
         ensures whose { IsOf self.old.own self.old.boot self.old.confirm self.new }
     {
@@ -246,9 +246,9 @@ impl Tickets {
     /// One answer is heard. Whoever waits or failed is confirmed where the letter tells that it was done; false exactly where the
     /// ticket is not there. It takes no memory.
     pub fn told(&mut self, ticket: Ticket, from: NodeNo, body: &Body) -> bool
-        ensures tickets { tickets_in self.new ≡ told_in (body_seen body.now) from ticket.seq (here self.old ticket) (tickets_in self.old) }
+        ensures tickets { tickets_in self.new ≡ tickets_told (body_seen body.now) from ticket.seq (ticket_standing_here self.old ticket) (tickets_in self.old) }
         ensures whose { IsOf self.old.own self.old.boot self.old.confirm self.new }
-        ensures stood { result ≡ is_some (here self.old ticket) }
+        ensures stood { result ≡ is_some (ticket_standing_here self.old ticket) }
     {
         if !self.is_own(ticket) {
             return false;
@@ -259,9 +259,9 @@ impl Tickets {
     /// A mishap of a letter to or from the node is counted, and the node fails where it is waited for; false exactly where the
     /// ticket is not there. It takes no memory.
     pub fn mishap(&mut self, ticket: Ticket, kind: MishapKind, at: NodeNo) -> bool
-        ensures tickets { tickets_in self.new ≡ befell_in (kind_of_mishap kind) at ticket.seq (here self.old ticket) (tickets_in self.old) }
+        ensures tickets { tickets_in self.new ≡ befell_in (kind_of_mishap kind) at ticket.seq (ticket_standing_here self.old ticket) (tickets_in self.old) }
         ensures whose { IsOf self.old.own self.old.boot self.old.confirm self.new }
-        ensures stood { result ≡ is_some (here self.old ticket) }
+        ensures stood { result ≡ is_some (ticket_standing_here self.old ticket) }
     {
         if !self.is_own(ticket) {
             return false;
@@ -271,7 +271,7 @@ impl Tickets {
 
     /// The nodes that the ticket waits for, none where it is not there. It takes no memory.
     pub fn waiting(&self, ticket: Ticket) -> NodeSet
-        ensures { (m : ℕ) → has result m ≡ waits_at (here self.now ticket) m }
+        ensures { (m : ℕ) → has result m ≡ waits_at (ticket_standing_here self.now ticket) m }
     {
         match self.find(ticket) {
             Some(progress) => progress.waiting(),
@@ -281,7 +281,7 @@ impl Tickets {
 
     /// The kind of the call, if the ticket stands. It takes no memory.
     pub fn kind(&self, ticket: Ticket) -> Option<CallKind>
-        ensures { kind_of result ≡ kind_at (here self.now ticket) }
+        ensures { call_kind_seen result ≡ kind_of_ticket (ticket_standing_here self.now ticket) }
     {
         match self.find(ticket) {
             Some(progress) => Some(progress.kind()),
@@ -292,7 +292,7 @@ impl Tickets {
     /// What the call wants of nodes: one want of a delivery, one for each item of a deletion, and none of a call that failed at once
     /// or of a ticket that is not there. It takes no memory.
     pub fn wants(&self, ticket: Ticket) -> &[Want]
-        ensures { result.now ≡ wants_at (here self.now ticket) }
+        ensures { result.now ≡ wants_at (ticket_standing_here self.now ticket) }
     {
         match self.find(ticket) {
             Some(progress) => progress.wants(),
@@ -302,7 +302,7 @@ impl Tickets {
 
     /// What the delivery filed; nothing exactly where no delivery stands under the ticket, or it failed at once. It takes no memory.
     pub fn filing(&self, ticket: Ticket) -> Option<&Filing>
-        ensures { filing_of (option_copied result) ≡ filing_at (here self.now ticket) }
+        ensures { filed_seen (option_copied result) ≡ filing_at (ticket_standing_here self.now ticket) }
     {
         match self.find(ticket) {
             Some(progress) => progress.filing(),
@@ -312,7 +312,7 @@ impl Tickets {
 
     /// Whether an ask would be answered. It takes no memory.
     pub fn is_done(&self, ticket: Ticket) -> bool
-        ensures { result ≡ done_at self.now.confirm (here self.now ticket) }
+        ensures { result ≡ done_at self.now.confirm (ticket_standing_here self.now ticket) }
     {
         match self.find(ticket) {
             Some(progress) => progress.is_done(self.confirm),
@@ -323,8 +323,8 @@ impl Tickets {
     /// How far the call has come, or its answer; nothing exactly where the ticket is not there. A ticket that is done is taken out.
     /// It takes no memory.
     pub fn ask(&mut self, ticket: Ticket) -> Option<Ask>
-        ensures answer { asks_seen result ≡ asks_at self.old.confirm (here self.old ticket) }
-        ensures tickets { tickets_in self.new ≡ asked_out self.old.confirm ticket.seq (here self.old ticket) (tickets_in self.old) }
+        ensures answer { asks_seen result ≡ asks_at self.old.confirm (ticket_standing_here self.old ticket) }
+        ensures tickets { tickets_in self.new ≡ asked_out self.old.confirm ticket.seq (ticket_standing_here self.old ticket) (tickets_in self.old) }
         ensures whose { IsOf self.old.own self.old.boot self.old.confirm self.new }
     {
         let confirm = self.confirm;
@@ -338,9 +338,9 @@ impl Tickets {
 
     /// Takes the ticket out; false exactly where it is not there. It takes no memory.
     pub fn give_up(&mut self, ticket: Ticket) -> bool
-        ensures tickets { tickets_in self.new ≡ taken_out ticket.seq (here self.old ticket) (tickets_in self.old) }
+        ensures tickets { tickets_in self.new ≡ ticket_taken_out ticket.seq (ticket_standing_here self.old ticket) (tickets_in self.old) }
         ensures whose { IsOf self.old.own self.old.boot self.old.confirm self.new }
-        ensures stood { result ≡ is_some (here self.old ticket) }
+        ensures stood { result ≡ is_some (ticket_standing_here self.old ticket) }
     {
         if !self.is_own(ticket) {
             return false;

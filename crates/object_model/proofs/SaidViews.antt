@@ -4,7 +4,7 @@ use Rattle.std.proofs.lemmas.List.Elements.{All-head, All-tail}
 use Rattle.mail_model.specs.Identity.{Id, Stamp, Key, Value, State}
 use Rattle.mail_model.specs.Identity.Key.{Message}
 use Rattle.mail_model.specs.Identity.Value.{Here, Gone, Secret}
-use Rattle.mail_model.specs.Record.{Record, Member}
+use Rattle.mail_model.specs.Record.{Record, IsAmongRecords}
 use Rattle.mail_model.specs.Record.Record.{Boot, Promise, Octets, Stated, Retired}
 use Rattle.mail_model.specs.Grammar.{IsOfKind, IsRecord}
 use Rattle.object_model.specs.Lists.{Among}
@@ -31,7 +31,7 @@ from_onto true one state more (inl e) = inl (refl, e)
 from_onto true one state more (inr a) = inr a
 from_onto false one state more a = inr a
 
-member_in : (key : Key) (state : State) (records : List Record) → Member (Stated key state) records → Among state (states_in key records)
+member_in : (key : Key) (state : State) (records : List Record) → IsAmongRecords (Stated key state) records → Among state (states_in key records)
 member_in key state [] m = absurd m
 member_in key state (Stated other one ∷ records) (inl e) =
     let keys : other ≡ key = cc in
@@ -48,7 +48,7 @@ member_in key state (Octets id octets ∷ records) (inr m) = member_in key state
 member_in key state (Retired other one ∷ records) (inl e) = cc
 member_in key state (Retired other one ∷ records) (inr m) = member_in key state records m
 
-in_member : (key : Key) (state : State) (records : List Record) → Among state (states_in key records) → Member (Stated key state) records
+in_member : (key : Key) (state : State) (records : List Record) → Among state (states_in key records) → IsAmongRecords (Stated key state) records
 in_member key state [] a = absurd a
 in_member key state (Stated other one ∷ records) a = ⊎_elim
     (λ first. let keys : other ≡ key = key_is other key first.0 in inl (λ i. Stated (keys i) (first.1 i)))
@@ -60,7 +60,7 @@ in_member key state (Octets id octets ∷ records) a = inr (in_member key state 
 in_member key state (Retired other one ∷ records) a = inr (in_member key state records a)
 
 -- a state of a copy is here or gone
-kind_in : (key : Key) (state : State) (records : List Record) → All IsRecord records → Member (Stated key state) records → IsOfKind key state.value
+kind_in : (key : Key) (state : State) (records : List Record) → All IsRecord records → IsAmongRecords (Stated key state) records → IsOfKind key state.value
 kind_in key state [] all m = absurd m
 kind_in key state (first ∷ records) all (inl e) = let is : IsRecord (Stated key state) = subst IsRecord e (All-head IsRecord first records all) in is.kind
 kind_in key state (first ∷ records) all (inr m) = kind_in key state records (All-tail IsRecord first records all) m
@@ -82,14 +82,14 @@ gone_above here gone is is_gone = rw (is, is_gone) refl
 said_is : (user : List ℕ) (id : Id) (records : List Record) (state : State) → said (Message user id) records ≡ Some state → IsMerge (states_in (Message user id) records) state
 said_is user id records state e = join_is_merge (states_in (Message user id) records) state (sym (says_join (Message user id) records) ∙ e)
 
-said_some : (user : List ℕ) (id : Id) (records : List Record) (one : State) → Member (Stated (Message user id) one) records → (state : State) × (said (Message user id) records ≡ Some state)
+said_some : (user : List ℕ) (id : Id) (records : List Record) (one : State) → IsAmongRecords (Stated (Message user id) one) records → (state : State) × (said (Message user id) records ≡ Some state)
 said_some user id records one m =
     let join = some_join one (states_in (Message user id) records) (member_in (Message user id) one records m) in
     (join.0, says_join (Message user id) records ∙ join.1)
 
 -- a merge with a state that is gone is gone
 gone_there : (user : List ℕ) (id : Id) (records : List Record) (state one : State) → All IsRecord records → said (Message user id) records ≡ Some state
-    → Member (Stated (Message user id) one) records → one.value ≡ Gone → state.value ≡ Gone
+    → IsAmongRecords (Stated (Message user id) one) records → one.value ≡ Gone → state.value ≡ Gone
 gone_there user id records state one all e m gone =
     let merge = said_is user id records state e in
     let kind = kind_in (Message user id) merge.top records all (in_member (Message user id) merge.top records merge.inside) in
@@ -103,7 +103,7 @@ gone_there user id records state one all e m gone =
 
 -- the state whose value the merge has
 top_in : (user : List ℕ) (id : Id) (records : List Record) (state : State) → said (Message user id) records ≡ Some state
-    → (top : State) × Member (Stated (Message user id) top) records × (state.value ≡ top.value)
+    → (top : State) × IsAmongRecords (Stated (Message user id) top) records × (state.value ≡ top.value)
 top_in user id records state e =
     let merge = said_is user id records state e in
     (merge.top, in_member (Message user id) merge.top records merge.inside, merge.same_value)
@@ -120,23 +120,23 @@ gone_is_said user id records all = (
       record {
         stamp = top.0.stamp;
         targets = top.0.targets;
-        gone = subst (λ (v : Value). Member (Stated (Message user id) (record { value = v; stamp = top.0.stamp; targets = top.0.targets })) records) gone top.1;
+        gone = subst (λ (v : Value). IsAmongRecords (Stated (Message user id) (record { value = v; stamp = top.0.stamp; targets = top.0.targets })) records) gone top.1;
       },
 )
 
 -- a copy of which no state is gone
-not_gone : (user : List ℕ) (id : Id) (records : List Record) (top : State) → IsOfKind (Message user id) top.value → Member (Stated (Message user id) top) records
-    → ((stamp : Stamp) (targets : ℕ) → Member (Stated (Message user id) (record { value = Gone; stamp = stamp; targets = targets })) records → ⊥) → top.value ≡ Here
+not_gone : (user : List ℕ) (id : Id) (records : List Record) (top : State) → IsOfKind (Message user id) top.value → IsAmongRecords (Stated (Message user id) top) records
+    → ((stamp : Stamp) (targets : ℕ) → IsAmongRecords (Stated (Message user id) (record { value = Gone; stamp = stamp; targets = targets })) records → ⊥) → top.value ≡ Here
 not_gone user id records top kind m none = by_value top.value refl kind
   where
     by_value : (value : Value) → top.value ≡ value → IsOfKind (Message user id) value → value ≡ Here
     by_value Here is k = refl
     by_value Gone is k = absurd (none top.stamp top.targets
-        (subst (λ (v : Value). Member (Stated (Message user id) (record { value = v; stamp = top.stamp; targets = top.targets })) records) is m))
+        (subst (λ (v : Value). IsAmongRecords (Stated (Message user id) (record { value = v; stamp = top.stamp; targets = top.targets })) records) is m))
     by_value (Secret octets) is k = absurd k
 
 here_there : (user : List ℕ) (id : Id) (records : List Record) (state : State) → All IsRecord records → said (Message user id) records ≡ Some state
-    → ((stamp : Stamp) (targets : ℕ) → Member (Stated (Message user id) (record { value = Gone; stamp = stamp; targets = targets })) records → ⊥) → state.value ≡ Here
+    → ((stamp : Stamp) (targets : ℕ) → IsAmongRecords (Stated (Message user id) (record { value = Gone; stamp = stamp; targets = targets })) records → ⊥) → state.value ≡ Here
 here_there user id records state all e none =
     let top = top_in user id records state e in
     top.2 ∙ not_gone user id records top.0 (kind_in (Message user id) top.0 records all top.1) top.1 none
@@ -156,7 +156,7 @@ here_is_said user id records all = (
       record {
         stamp = top.0.stamp;
         targets = top.0.targets;
-        here = subst (λ (v : Value). Member (Stated (Message user id) (record { value = v; stamp = top.0.stamp; targets = top.0.targets })) records) here top.1;
+        here = subst (λ (v : Value). IsAmongRecords (Stated (Message user id) (record { value = v; stamp = top.0.stamp; targets = top.0.targets })) records) here top.1;
         not_gone = λ stamp targets gone. here_is_no_gone told.0 told.2
             (gone_there user id records told.0 (record { value = Gone; stamp = stamp; targets = targets }) all told.1 gone refl);
       },

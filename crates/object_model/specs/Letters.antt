@@ -34,7 +34,7 @@ pub data ToldPart : Type 0 where
   Gone : (stamp : Stamp) → ToldPart
 
 -- one deletion of a Strike
-pub record Mark : Type 0 where
+pub record DeletionMark : Type 0 where
   pub id : Id
   pub stamp : Stamp
 
@@ -84,7 +84,7 @@ pub data Body : Type 0 where
   FetchAsk : (user : List ℕ) (id : Id) (at most : ℕ) → Body
   FetchTold : (part : ToldPart) → Body
   -- copies are to be deleted, and that they were
-  Strike : (user : List ℕ) (marks : List Mark) → Body
+  Strike : (user : List ℕ) (marks : List DeletionMark) → Body
   StrikeTold : (user : List ℕ) (ids : List Id) → Body
   -- a maildrop is free again
   Unlock : (user : List ℕ) (login : Number) → Body

@@ -22,22 +22,22 @@ use Rattle.mail_base.proofs.KeyWrites.{same_or}
 use Rattle.mail_base.specs.declared.key.Key.{Key}
 use Rattle.mail_base.specs.declared.key.Key.TheVariants.{Profile}
 use Rattle.object_table.specs.declared.user_keys.UserKeys.{UserKeys}
-use Rattle.object_table.specs.Tables.{Table, taken, Stands, AreUsers}
-use Rattle.object_table.specs.Users.{key_in, Sets, IsAsBefore, Added, TookOut, AreNamesOf, IsIndexed}
+use Rattle.object_table.specs.Tables.{Table, taken, HasUser, AreUsers}
+use Rattle.object_table.specs.Users.{key_in, Sets, HasSameKeys, Added, TookOut, AreNamesOf, IsIndexed}
 
 -- who stood still stands after a write
-stands_more : (states : Table) (key : plain.Key) (state : State) (user : List ℕ) → Stands user states → Stands user (fin.insert states key state)
+stands_more : (states : Table) (key : plain.Key) (state : State) (user : List ℕ) → HasUser user states → HasUser user (fin.insert states key state)
 stands_more states key state user p = ⊎_elim
     (λ same. record { key = key; state = state; is = written key_total key_exact states key state; of_user = ap user_of (sym same) ∙ p.of_user })
     (λ apart. record { key = p.key; state = p.state; is = kept_other key_total key_exact states key state p.key apart ∙ p.is; of_user = p.of_user })
     (same_or p.key key)
 
 -- and the user of what is written
-stands_new : (states : Table) (key : plain.Key) (state : State) → Stands (user_of key) (fin.insert states key state)
+stands_new : (states : Table) (key : plain.Key) (state : State) → HasUser (user_of key) (fin.insert states key state)
 stands_new states key state = record { key = key; state = state; is = written key_total key_exact states key state; of_user = refl }
 
 -- and nobody else
-stands_from : (states : Table) (key : plain.Key) (state : State) (user : List ℕ) → Stands user (fin.insert states key state) → (user_of key ≡ user) ⊎ Stands user states
+stands_from : (states : Table) (key : plain.Key) (state : State) (user : List ℕ) → HasUser user (fin.insert states key state) → (user_of key ≡ user) ⊎ HasUser user states
 stands_from states key state user p = ⊎_elim
     (λ here. inl (ap user_of (sym here.0) ∙ p.of_user))
     (λ there. inr (record { key = p.key; state = p.state; is = there.1; of_user = p.of_user }))
@@ -61,11 +61,11 @@ replaced states users key state p some kind = record {
   all = λ user h. ⊎_elim (λ same. subst (λ (u : List ℕ). IsSome (key_in u users)) same (p.all (user_of key) stood)) (λ before. p.all user before) (stands_from states key state user h);
 }
   where
-    there : (held : Option State) → fin.get states key ≡ held → is_some held ≡ true → Stands (user_of key) states
+    there : (held : Option State) → fin.get states key ≡ held → is_some held ≡ true → HasUser (user_of key) states
     there None e h = absurd (true≢false (sym h))
     there (Some held) e h = record { key = key; state = held; is = e; of_user = refl }
 
-    stood : Stands (user_of key) states
+    stood : HasUser (user_of key) states
     stood = there (fin.get states key) refl some
 
 -- one user is another or is not
@@ -113,7 +113,7 @@ added E user true old new p = record {
     own = sets_here user (Some (Profile user)) old new p.1
 
 -- an index that is as before serves as before
-pub as_before : (states : Table) (old new : UserKeys) → IsAsBefore old new → IsIndexed states old → IsIndexed states new
+pub as_before : (states : Table) (old new : UserKeys) → HasSameKeys old new → IsIndexed states old → IsIndexed states new
 as_before states old new same p = record {
   kinds = p.kinds;
   keys = λ user. subst (λ (o : Option Key). IfSome o (λ key. key ≡ Profile user)) (sym (same user)) (p.keys user);
@@ -122,7 +122,7 @@ as_before states old new same p = record {
 }
 
 -- a new user that is taken out again leaves the index as before
-pub taken_back : (E : Type 0) (user : List ℕ) (old mid new : UserKeys) → Added {E = E} user (Ok true) old mid → TookOut user mid new → IsAsBefore old new
+pub taken_back : (E : Type 0) (user : List ℕ) (old mid new : UserKeys) → Added {E = E} user (Ok true) old mid → TookOut user mid new → HasSameKeys old new
 taken_back E user old mid new add out other = ⊎_elim
     (λ same. subst (λ (u : List ℕ). key_in u new ≡ key_in u old) same (sets_here user None mid new out ∙ sym add.0))
     (λ apart. sets_there user None mid new other out apart ∙ sets_there user (Some (Profile user)) old mid other add.1 apart)
@@ -139,7 +139,7 @@ took_state states old new key state p kind more = record {
   kinds = kinds_more states key (join_with (fin.get states key) state) p.kinds (joined_kind key (fin.get states key) state (λ s is. p.kinds key s is) kind);
   keys = more.keys p.keys;
   standing = λ user h. ⊎_elim
-      (λ same. subst (λ (u : List ℕ). Stands u (taken key state states)) same (stands_new states key (join_with (fin.get states key) state)))
+      (λ same. subst (λ (u : List ℕ). HasUser u (taken key state states)) same (stands_new states key (join_with (fin.get states key) state)))
       (λ was. stands_more states key (join_with (fin.get states key) state) user (p.standing user was))
       (more.only user h);
   all = λ user h. ⊎_elim

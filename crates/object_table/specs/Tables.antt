@@ -32,7 +32,7 @@ states_of key [] = []
 states_of key (update ∷ updates) = (if is_same_key update.key key then update.state ∷ [] else []) ++ states_of key updates
 
 -- something stands of the user
-pub record Stands (user : List ℕ) (table : Table) : Type 0 where
+pub record HasUser (user : List ℕ) (table : Table) : Type 0 where
   pub key : Key
   pub state : State
   pub is : fin.get table key ≡ Some state
@@ -41,5 +41,5 @@ pub record Stands (user : List ℕ) (table : Table) : Type 0 where
 -- the names of the users of whom something stands, each once, in order
 pub record AreUsers (names : List (List ℕ)) (table : Table) : Type 0 where
   pub in_order : IsStrictlySortedBy (slice_cmp nat_cmp) names
-  pub standing : (user : List ℕ) → Among user names → Stands user table
-  pub all : (user : List ℕ) → Stands user table → Among user names
+  pub standing : (user : List ℕ) → Among user names → HasUser user table
+  pub all : (user : List ℕ) → HasUser user table → Among user names

@@ -5,36 +5,36 @@ use Rattle.mail_model.specs.Session.{is_long_line}
 use Rattle.mail_model.specs.Pop.{Command, Fault, pop_command_of}
 use Rattle.mail_model.specs.Pop.Command.{User, Pass, Stat, Listing, Uidl, Retr, Dele, Quit}
 use Rattle.mail_model.specs.Pop.Fault.{UnknownVerb, BadArgument, BadNumber}
-use Rattle.mail_model.specs.PopReplies.{Item, Slot, marked_ids}
+use Rattle.mail_model.specs.PopReplies.{Item, ListingSlot, marked_ids}
 use Rattle.mail_model.specs.Identity.{Id}
-use Rattle.mail_model.specs.Maildrop.{Stage, Outcome, said, pass_outcome, before_login, behind_login, of_message, message_at, deletion_of, command_outcome, named_by, named_in, after_line}
+use Rattle.mail_model.specs.Maildrop.{Stage, LineOutcome, says_line, pass_outcome, before_login, behind_login, of_message, message_at, deletion_of, command_outcome, named_by, named_in, after_line}
 use Rattle.mail_model.specs.Maildrop.Stage.{Authorization, Transaction}
-use Rattle.mail_model.specs.Maildrop.Outcome.{Answered, Closed, AsksLogin, AsksMessage, AsksDeletion}
-use Rattle.pop_session.specs.Laws.{Names, AsksBehindUser}
+use Rattle.mail_model.specs.Maildrop.LineOutcome.{Answered, Closed, AsksLogin, AsksMessage, AsksDeletion}
+use Rattle.pop_session.specs.Laws.{NamesUser, AsksBehindUser}
 
 -- whether it is a question for a login
-is_login : Outcome → Bool
+is_login : LineOutcome → Bool
 is_login (Answered lines) = false
 is_login (Closed lines) = false
 is_login (AsksLogin user secret) = true
 is_login (AsksMessage number id) = false
 is_login (AsksDeletion ids) = false
 
-user_in : Outcome → List ℕ
+user_in : LineOutcome → List ℕ
 user_in (Answered lines) = []
 user_in (Closed lines) = []
 user_in (AsksLogin user secret) = user
 user_in (AsksMessage number id) = []
 user_in (AsksDeletion ids) = []
 
-secret_in : Outcome → List ℕ
+secret_in : LineOutcome → List ℕ
 secret_in (Answered lines) = []
 secret_in (Closed lines) = []
 secret_in (AsksLogin user secret) = secret
 secret_in (AsksMessage number id) = []
 secret_in (AsksDeletion ids) = []
 
-message_is_no_login : (f : Item → Outcome) (item : Option Item) → ((item : Item) → is_login (f item) ≡ false) → is_login (of_message f item) ≡ false
+message_is_no_login : (f : Item → LineOutcome) (item : Option Item) → ((item : Item) → is_login (f item) ≡ false) → is_login (of_message f item) ≡ false
 unfolding is_login
 message_is_no_login f None h = refl
 message_is_no_login f (Some item) h = h item
@@ -44,7 +44,7 @@ unfolding is_login
 deletion_is_no_login [] = refl
 deletion_is_no_login (id ∷ ids) = refl
 
-no_login_behind : (slots : List Slot) (command : Command) → is_login (behind_login slots command) ≡ false
+no_login_behind : (slots : List ListingSlot) (command : Command) → is_login (behind_login slots command) ≡ false
 unfolding is_login
 no_login_behind slots (User name) = refl
 no_login_behind slots (Pass secret) = refl
@@ -103,12 +103,12 @@ pub record AsksAtLength (plan : Plan) (stage : Stage) (long : Bool) (result : Re
   pub asks : Asks plan stage result user secret
 
 pub asks_at : (plan : Plan) (stage : Stage) (long : Bool) (result : Result Command Fault) (user secret text : List ℕ) →
-    cond long (said text) (command_outcome plan stage result) ≡ AsksLogin user secret → AsksAtLength plan stage long result user secret
+    cond long (says_line text) (command_outcome plan stage result) ≡ AsksLogin user secret → AsksAtLength plan stage long result user secret
 asks_at plan stage true result user secret text h = absurd (cc)
 asks_at plan stage false result user secret text h = record { short = refl; asks = asks_by plan stage result user secret h }
 
 names_by : (line user : List ℕ) (long : Bool) (result : Result Command Fault) → is_long_line line ≡ long → pop_command_of line ≡ result →
-    cond long None (named_by result) ≡ Some user → Names line user
+    cond long None (named_by result) ≡ Some user → NamesUser line user
 names_by line user true result long is h = absurd (cc)
 names_by line user false (Ok (User name)) short is h = record { name = name; short = short; says = is; same = ap (λ o. unwrap_or o []) h }
 names_by line user false (Ok (Pass secret)) short is h = absurd (cc)

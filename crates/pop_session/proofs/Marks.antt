@@ -16,7 +16,7 @@ use Rattle.mail_model.specs.Maildrop as drop
 use Rattle.mail_model.specs.Maildrop.{unmarked_in}
 use Rattle.call_tickets.specs.Seen.{ids_in}
 use Rattle.pop_session.specs.declared.listing.Slot.{Slot}
-use Rattle.pop_session.specs.Slots.{slot_seen, slots_seen, items_in, marked_items, marked_at, listed_slot, unmarked_item, message_in}
+use Rattle.pop_session.specs.Slots.{slot_seen, slots_seen, items_of_slots, marked_items, marked_at, listed_slot, unmarked_item, message_in}
 
 -- the slot with its mark
 abbrev pub with_its_mark : Slot → Slot
@@ -39,10 +39,10 @@ none_is_marked (slot ∷ slots) (suc at) past = ap (λ (behind : List Slot). slo
 pub marked_alike : (slots : List Slot) (at : ℕ) → slots_seen (marked_at slots at) ≡ drop.marked_at (slots_seen slots) at
 marked_alike [] at = refl
 marked_alike (slot ∷ slots) zero = refl
-marked_alike (slot ∷ slots) (suc at) = ap (λ (behind : List model.Slot). slot_seen slot ∷ behind) (marked_alike slots at)
+marked_alike (slot ∷ slots) (suc at) = ap (λ (behind : List model.ListingSlot). slot_seen slot ∷ behind) (marked_alike slots at)
 
 -- and the messages stay
-pub items_stay : (slots : List Slot) (at : ℕ) → items_in (marked_at slots at) ≡ items_in slots
+pub items_stay : (slots : List Slot) (at : ℕ) → items_of_slots (marked_at slots at) ≡ items_of_slots slots
 items_stay [] at = refl
 items_stay (slot ∷ slots) zero = refl
 items_stay (slot ∷ slots) (suc at) = ap (λ (behind : List Item). slot.item ∷ behind) (items_stay slots at)
@@ -56,9 +56,9 @@ seen_at (slot ∷ slots) (suc at) = seen_at slots at
 -- a listing that was just told
 pub listed_alike : (items : List Item) → slots_seen (map listed_slot items) ≡ listed_slots (map item_seen items)
 listed_alike [] = refl
-listed_alike (item ∷ items) = ap (λ (behind : List model.Slot). record { item = item_seen item; marked = false } ∷ behind) (listed_alike items)
+listed_alike (item ∷ items) = ap (λ (behind : List model.ListingSlot). record { item = item_seen item; marked = false } ∷ behind) (listed_alike items)
 
-pub listed_items : (items : List Item) → items_in (map listed_slot items) ≡ items
+pub listed_items : (items : List Item) → items_of_slots (map listed_slot items) ≡ items
 listed_items [] = refl
 listed_items (item ∷ items) = ap (λ (behind : List Item). item ∷ behind) (listed_items items)
 
@@ -109,12 +109,12 @@ message_alike slots zero = refl
 message_alike slots (suc n) = seen_in (slice_get slots n) ∙ ap (option_and_then unmarked_in) (sym (seen_at slots n))
 
 -- is one of the listing
-item_at : (slots : List Slot) (at : ℕ) → slice_get (items_in slots) at ≡ option_map (λ (slot : Slot). slot.item) (slice_get slots at)
+item_at : (slots : List Slot) (at : ℕ) → slice_get (items_of_slots slots) at ≡ option_map (λ (slot : Slot). slot.item) (slice_get slots at)
 item_at [] at = refl
 item_at (slot ∷ slots) zero = refl
 item_at (slot ∷ slots) (suc at) = item_at slots at
 
-pub message_own : (slots : List Slot) (number : ℕ) (item : Item) → message_in slots number ≡ Some item → (at : ℕ) × (slice_get (items_in slots) at ≡ Some item)
+pub message_own : (slots : List Slot) (number : ℕ) (item : Item) → message_in slots number ≡ Some item → (at : ℕ) × (slice_get (items_of_slots slots) at ≡ Some item)
 message_own slots zero item is = cc
 message_own slots (suc n) item is = (n, item_at slots n ∙ of_slot (slice_get slots n) is)
   where
@@ -127,7 +127,7 @@ message_own slots (suc n) item is = (n, item_at slots n ∙ of_slot (slice_get s
         by_mark false same = same
 
 pub message_own_of : (slots : List Slot) (number : ℕ) (found : Option (Bor Item)) → option_copied found ≡ message_in slots number
-    → IfSome found (λ item. (at : ℕ) × (slice_get (items_in slots) at ≡ Some item.now))
+    → IfSome found (λ item. (at : ℕ) × (slice_get (items_of_slots slots) at ≡ Some item.now))
 message_own_of slots number None is = tt
 message_own_of slots number (Some item) is = message_own slots number item.now (sym is)
 
@@ -143,9 +143,9 @@ held_back new held count same all =
     take_at new (skip (length new) held) count (sym (all ∙ sym same))
 
 -- QUIT with nothing marked, and with something
-pub deletes_none : (slots : List Slot) (items : List Item) → items ≡ marked_items slots → items ≡ [] → drop.farewell ≡ drop.quit_outcome (slots_seen slots)
+pub deletes_none : (slots : List Slot) (items : List Item) → items ≡ marked_items slots → items ≡ [] → drop.outcome_of_quit ≡ drop.quit_outcome (slots_seen slots)
 deletes_none slots items are none = ap drop.deletion_of (ap ids_in (sym none ∙ are) ∙ marked_are slots)
 
-pub deletes_some : (slots : List Slot) (items : List Item) → items ≡ marked_items slots → (items ≡ [] → ⊥) → drop.Outcome.AsksDeletion (ids_in items) ≡ drop.quit_outcome (slots_seen slots)
+pub deletes_some : (slots : List Slot) (items : List Item) → items ≡ marked_items slots → (items ≡ [] → ⊥) → drop.LineOutcome.AsksDeletion (ids_in items) ≡ drop.quit_outcome (slots_seen slots)
 deletes_some slots [] are some = absurd (some refl)
 deletes_some slots (item ∷ items) are some = ap drop.deletion_of (ap ids_in are ∙ marked_are slots)

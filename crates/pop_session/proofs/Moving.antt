@@ -8,7 +8,7 @@ use Rattle.mail_model.specs.PopReplies.{one_line, ready_text}
 use Rattle.mail_model.specs.Maildrop.{entered_text}
 use Rattle.session_model.specs.Calls as calls
 use Rattle.session_model.specs.Calls.{IsReply, ShowsPart}
-use Rattle.session_model.specs.Talk.{State, Standing}
+use Rattle.session_model.specs.Talk.{TalkState, Standing}
 use Rattle.session_model.specs.Talk.Standing.{Hearing, Waiting, EndedByQuit, EndedDown, EndedClosed}
 use Rattle.session_model.specs.Sessions.{Session}
 use Rattle.call_tickets.specs.Moves as moves
@@ -32,10 +32,10 @@ use Rattle.pop_session.specs.declared.due.Asked.{Asked}
 use Rattle.pop_session.specs.declared.due.Due.{Due}
 use Rattle.pop_session.specs.declared.due.Due.TheVariants as dues
 use Rattle.pop_session.specs.declared.due.Text.{Text}
-use Rattle.pop_session.specs.Slots.{items_in, listed_slot}
+use Rattle.pop_session.specs.Slots.{items_of_slots, listed_slot}
 use Rattle.pop_session.specs.Shown.{login_in, listed_in, name_in, slots_in, state_of, reply_in, IsOwn, HearsLine}
 use Rattle.pop_session.specs.Dues.{text_of, IsAsked, Says, items_told}
-use Rattle.pop_session.specs.Follows.{Follows, Goes, Moved, Begins, IsOwnMove, due_count, left, held, told_login, told_items, login_of, items_of}
+use Rattle.pop_session.specs.Follows.{Follows, Goes, Moved, LeadsTurn, IsOwnMove, due_count, left, held, told_login, told_items, login_of, items_of}
 use Rattle.pop_session.proofs.Units.{session, hears_none, hears_line}
 use Rattle.pop_session.proofs.Replying.{greets, says_on, says_last, shows, enters}
 use Rattle.pop_session.proofs.Marks.{listed_items}
@@ -96,12 +96,12 @@ module _ (plan : Plan) (node boot number seconds : ℕ) (now : Turn) (stage late
         items = refl;
       })
 
-  listed_is : (s : Stage) → listed_in s ≡ items_in (slots_in s)
+  listed_is : (s : Stage) → listed_in s ≡ items_of_slots (slots_in s)
   listed_is (Authorization user) = refl
   listed_is (Transaction login listing) = refl
 
   -- what is asked is its own
-  own_move : (heard : Heard) (next : Turn) (did : Move) → Begins heard (next, did) → IsOwn (name_in stage) (slots_in stage) heard → IsOwnMove (session node boot number seconds turn.Hears stage cutter) did
+  own_move : (heard : Heard) (next : Turn) (did : Move) → LeadsTurn heard (next, did) → IsOwn (name_in stage) (slots_in stage) heard → IsOwnMove (session node boot number seconds turn.Hears stage cutter) did
   own_move (hears.Said reply) next did begins own = let At : Move → Type 0 = IsOwnMove (session node boot number seconds turn.Hears stage cutter) in subst At (sym begins.1) tt
   own_move (hears.Ended reply) next did begins own = let At : Move → Type 0 = IsOwnMove (session node boot number seconds turn.Hears stage cutter) in subst At (sym begins.1) tt
   own_move (hears.LogsIn user kept secret) next did begins own = let At : Move → Type 0 = IsOwnMove (session node boot number seconds turn.Hears stage cutter) in subst At (sym begins.1) tt
@@ -110,7 +110,7 @@ module _ (plan : Plan) (node boot number seconds : ℕ) (now : Turn) (stage late
       subst At (sym begins.1) (own.1.0, item, ap (λ (l : List Item). slice_get l own.1.0) (listed_is stage) ∙ own.1.1, refl, refl)
   own_move (hears.Deletes user items) next did begins own = let At : Move → Type 0 = IsOwnMove (session node boot number seconds turn.Hears stage cutter) in subst At (sym begins.1) own.1
 
-  quiet : (heard : Heard) (next : Turn) (did : Move) → Begins heard (next, did) → (due_count next ≡ 0) × (did ≡ Idle → ⊥)
+  quiet : (heard : Heard) (next : Turn) (did : Move) → LeadsTurn heard (next, did) → (due_count next ≡ 0) × (did ≡ Idle → ⊥)
       × ((s : Stage) → told_login next s ≡ login_in s) × ((s : Stage) → told_items next s ≡ listed_in s)
   quiet (hears.Said reply) next did begins = (ap due_count begins.0, λ idle. let both = sym begins.1 ∙ idle in cc (both), λ s. ap (λ t. told_login t s) begins.0, λ s. ap (λ t. told_items t s) begins.0)
   quiet (hears.Ended reply) next did begins = (ap due_count begins.0, λ idle. let both = sym begins.1 ∙ idle in cc (both), λ s. ap (λ t. told_login t s) begins.0, λ s. ap (λ t. told_items t s) begins.0)
@@ -118,7 +118,7 @@ module _ (plan : Plan) (node boot number seconds : ℕ) (now : Turn) (stage late
   quiet (hears.Fetches user number_of item) next did begins = (ap due_count begins.0, λ idle. let both = sym begins.1 ∙ idle in cc (both), λ s. ap (λ t. told_login t s) begins.0, λ s. ap (λ t. told_items t s) begins.0)
   quiet (hears.Deletes user items) next did begins = (ap due_count begins.0, λ idle. let both = sym begins.1 ∙ idle in cc (both), λ s. ap (λ t. told_login t s) begins.0, λ s. ap (λ t. told_items t s) begins.0)
 
-  pub moved_line : (found : Found) → Finds cutter found cutter → new ≡ behind_line cutter found → (heard : Heard) (next : Turn) (did : Move) (octets : List ℕ) → Begins heard (next, did)
+  pub moved_line : (found : Found) → Finds cutter found cutter → new ≡ behind_line cutter found → (heard : Heard) (next : Turn) (did : Move) (octets : List ℕ) → LeadsTurn heard (next, did)
       → octets ≡ flat_map sent_line (reply_in heard) → IsOwn (name_in stage) (slots_in stage) heard → login_in later ≡ login_in stage → listed_in later ≡ listed_in stage
       → ((line : List ℕ) → HasNoCrlf line → IsLine cutter found line → cutter.limit ≡ 1024 → HearsLine plan stage line heard later)
       → Moved plan (session node boot number seconds now stage cutter) did octets (session node boot number seconds next later new)
@@ -163,8 +163,8 @@ call_in EndedDown = calls.Call.Strike [] []
 call_in EndedClosed = calls.Call.Strike [] []
 
 -- the answer came
-pub takes_answer : (node boot number seconds : ℕ) (now : Turn) (stage : Stage) (cutter : Shown) (asked : Asked) (due_it : Due) (answer : calls.Answer) (plain : Session) (state : State) (call : calls.Call)
-    (reply : List (List ℕ)) → now ≡ turn.Waits asked → ((state : State) (call : calls.Call) (reply : List (List ℕ)) → IsAsked asked state call → IsReply call answer reply → Says due_it state call answer)
+pub takes_answer : (node boot number seconds : ℕ) (now : Turn) (stage : Stage) (cutter : Shown) (asked : Asked) (due_it : Due) (answer : calls.Answer) (plain : Session) (state : TalkState) (call : calls.Call)
+    (reply : List (List ℕ)) → now ≡ turn.Waits asked → ((state : TalkState) (call : calls.Call) (reply : List (List ℕ)) → IsAsked asked state call → IsReply call answer reply → Says due_it state call answer)
     → Follows (session node boot number seconds now stage cutter) plain Nothing → plain.standing ≡ Waiting state call → IsReply call answer reply
     → Follows (session node boot number seconds (turn.Replies due_it) stage cutter) plain (Reply answer)
 unfolding call_in

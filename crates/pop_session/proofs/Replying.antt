@@ -6,13 +6,13 @@ use Rattle.std.proofs.lemmas.List.Elements.{All-cons, All-nil}
 use Rattle.mail_model.specs.Lines.{HasNoCrlf, sent_line}
 use Rattle.mail_model.specs.Plan.{Plan}
 use Rattle.mail_model.specs.Tape.{Protocol, or_else}
-use Rattle.mail_model.specs.PopReplies.{Slot, one_line, ready_text, down_text, listed_slots}
+use Rattle.mail_model.specs.PopReplies.{ListingSlot, one_line, ready_text, down_text, listed_slots}
 use Rattle.mail_model.specs.Identity.{Id}
 use Rattle.mail_model.specs.Maildrop.{entered_text}
 use Rattle.session_model.specs.Calls as calls
 use Rattle.session_model.specs.Calls.{IsReply, ShowsPart}
-use Rattle.session_model.specs.Talk.{State, Exchange, Standing, IsOn, answered, let_in, entered_as, down_line}
-use Rattle.session_model.specs.Talk.State.{Entering, Reading}
+use Rattle.session_model.specs.Talk.{TalkState, Exchange, Standing, IsOn, answered, let_in, entered_as, down_line}
+use Rattle.session_model.specs.Talk.TalkState.{Entering, Reading}
 use Rattle.session_model.specs.Talk.Standing.{Hearing, Waiting, EndedByQuit, EndedDown}
 use Rattle.session_model.specs.Moves.{with_answer}
 use Rattle.session_model.specs.Sessions.{Session, exchanges_of}
@@ -38,7 +38,7 @@ use Rattle.pop_session.specs.Slots.{slots_seen, listed_slot}
 use Rattle.pop_session.specs.Shown.{state_of, login_in}
 use Rattle.pop_session.specs.Dues.{text_of, Says, SaysLine, items_told}
 use Rattle.pop_session.specs.Messages.{ShowsPartIn}
-use Rattle.pop_session.specs.Follows.{Follows, WaitsFor, Stands, Goes, user_of, greeting_of}
+use Rattle.pop_session.specs.Follows.{Follows, WaitsFor, Stands, Goes, user_of_login, opening_line}
 use Rattle.pop_session.proofs.Messages.{text}
 use Rattle.pop_session.proofs.Tables.{ready_none, down_none}
 use Rattle.pop_session.proofs.Marks.{listed_alike}
@@ -53,21 +53,21 @@ text_none Bye = text (codes "+OK bye") refl
 text_none Remaining = text (codes "-ERR [SYS/TEMP] some messages may remain") refl
 
 -- a reply to an answer, which lets nobody in, and leaves the session so
-pub record SaysSo (reply : List (List ℕ)) (call : calls.Call) (answer : calls.Answer) (standing : State → Standing) : Type 0 where
+pub record SaysSo (reply : List (List ℕ)) (call : calls.Call) (answer : calls.Answer) (standing : TalkState → Standing) : Type 0 where
   pub reply_is : IsReply call answer reply
   pub nobody : let_in (Some call) (Some answer) ≡ None
-  pub leaves : (state : State) → answered state call answer ≡ standing state
+  pub leaves : (state : TalkState) → answered state call answer ≡ standing state
 
 -- who was let in once the answer came
-module _ (stage : Stage) (plain : Session) (entered : entered_as plain.whole ≡ user_of (login_in stage)) (waits : WaitsFor (state_of stage) plain) where
-  before_it : entered_as waits.before ≡ user_of (login_in stage)
+module _ (stage : Stage) (plain : Session) (entered : entered_as plain.whole ≡ user_of_login (login_in stage)) (waits : WaitsFor (state_of stage) plain) where
+  before_it : entered_as waits.before ≡ user_of_login (login_in stage)
   before_it =
       let all : entered_as plain.whole ≡ or_else (entered_as waits.before) (let_in waits.one.call waits.one.answer) = ap entered_as waits.whole ∙ entered_more waits.before waits.one in
       let none : let_in waits.one.call waits.one.answer ≡ None = ap (let_in waits.one.call) waits.unanswered ∙ let_none waits.one.call in
       sym (all ∙ ap (or_else (entered_as waits.before)) none ∙ else_none (entered_as waits.before)) ∙ entered
 
   pub then_entered : (answer : calls.Answer) (reply : List (List ℕ))
-      → entered_as (waits.before ++ with_answer waits.one answer reply ∷ []) ≡ or_else (user_of (login_in stage)) (let_in (Some waits.call) (Some answer))
+      → entered_as (waits.before ++ with_answer waits.one answer reply ∷ []) ≡ or_else (user_of_login (login_in stage)) (let_in (Some waits.call) (Some answer))
   then_entered answer reply =
       entered_more waits.before (with_answer waits.one answer reply)
       ∙ ap (or_else (entered_as waits.before)) (ap (λ (c : Option calls.Call). let_in c (Some answer)) waits.asks)
@@ -90,7 +90,7 @@ module _ (plan : Plan) (node boot number seconds : ℕ) (stage : Stage) (cutter 
   now_at now = session node boot number seconds now stage cutter
 
   -- a reply after which the session stands so
-  pub says_reply : (reply : List (List ℕ)) (due_it : Due) (now : Turn) (standing : State → Standing) → All HasNoCrlf reply
+  pub says_reply : (reply : List (List ℕ)) (due_it : Due) (now : Turn) (standing : TalkState → Standing) → All HasNoCrlf reply
       → ((call : calls.Call) (answer : calls.Answer) → Says due_it (state_of stage) call answer → SaysSo reply call answer standing)
       → ((plain : Session) → Stands now (state_of stage) (record plain { standing = standing (state_of stage) }) Nothing)
       → Goes plan (now_at (turn.Replies due_it)) Said (flat_map sent_line reply) (now_at now)
@@ -114,7 +114,7 @@ module _ (plan : Plan) (node boot number seconds : ℕ) (stage : Stage) (cutter 
           limit = follows.limit;
           pends = follows.pends;
           others = follows.others;
-          entered = then_entered stage plain follows.entered waits answer reply ∙ ap (or_else (user_of (login_in stage))) says.nobody ∙ else_none (user_of (login_in stage));
+          entered = then_entered stage plain follows.entered waits answer reply ∙ ap (or_else (user_of_login (login_in stage))) says.nobody ∙ else_none (user_of_login (login_in stage));
           stands = subst Of (sym (says.leaves (state_of stage))) (stands (record plain { whole = whole }));
         };
       })
@@ -143,7 +143,7 @@ module _ (plan : Plan) (node boot number seconds : ℕ) (stage : Stage) (cutter 
           subst Of (sym is) (subst With (sym of_part) (record { reply_is = part; nobody = refl; leaves = λ state. refl }))
 
 -- nobody was let in before
-no_login : (stage : Stage) (named : Option (List ℕ)) → state_of stage ≡ Entering named → user_of (login_in stage) ≡ None
+no_login : (stage : Stage) (named : Option (List ℕ)) → state_of stage ≡ Entering named → user_of_login (login_in stage) ≡ None
 no_login (Authorization user) named is = refl
 no_login (Transaction login listing) named is = cc
 
@@ -211,10 +211,10 @@ is_fed node boot number seconds now stage old new piece plain due limit pends fo
   stands = stands_fed now (state_of stage) plain due piece follows.stands;
 }
   where
-    waits : (state : State) (plain : Session) (piece : List ℕ) → WaitsFor state plain → WaitsFor state (record plain { octets = plain.octets ++ piece; rest = plain.rest ++ piece })
+    waits : (state : TalkState) (plain : Session) (piece : List ℕ) → WaitsFor state plain → WaitsFor state (record plain { octets = plain.octets ++ piece; rest = plain.rest ++ piece })
     waits state plain piece it = record { call = it.call; standing = it.standing; before = it.before; one = it.one; whole = it.whole; asks = it.asks; unanswered = it.unanswered }
 
-    stands_fed : (now : Turn) (state : State) (plain : Session) (due : moves.Due) (piece : List ℕ) → Stands now state plain due
+    stands_fed : (now : Turn) (state : TalkState) (plain : Session) (due : moves.Due) (piece : List ℕ) → Stands now state plain due
         → Stands now state (record plain { octets = plain.octets ++ piece; rest = plain.rest ++ piece }) due
     stands_fed turn.Greets state plain due piece stands = stands
     stands_fed turn.Hears state plain due piece stands = stands
@@ -223,6 +223,6 @@ is_fed node boot number seconds now stage old new piece plain due limit pends fo
     stands_fed turn.Ended state plain due piece stands = stands
 
 -- as whom a session leaves
-pub leaves_as : (session : PopSession) (plain : Session) (due : moves.Due) → Follows session plain due → user_of (login_in session.stage) ≡ entered_as (exchanges_of plain)
+pub leaves_as : (session : PopSession) (plain : Session) (due : moves.Due) → Follows session plain due → user_of_login (login_in session.stage) ≡ entered_as (exchanges_of plain)
 leaves_as session plain due follows =
     sym follows.entered ∙ ap entered_as (sym (append-nil plain.whole) ∙ ap (λ (l : List Exchange). plain.whole ++ l) (sym follows.others))

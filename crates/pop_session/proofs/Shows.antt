@@ -1,15 +1,15 @@
 -- What the lines of a listing show, and what a mark leaves as it is.
 use Rattle.std.proofs.Common.{◌≡◌, ℕ, ◌+◌, zero, suc, Bool, true, false, List, [], ◌∷◌, ◌++◌, length, take, Some, None, option_and_then, unwrap_or, refl, ◌∙◌, ap, arith, slice_get, length-append}
-use Rattle.mail_model.specs.PopReplies.{Item, Slot, unmarked, lines_from, last_line}
+use Rattle.mail_model.specs.PopReplies.{Item, ListingSlot, unmarked, lines_from, last_line}
 use Rattle.mail_model.specs.Maildrop.{message_at, unmarked_in, marked_at, with_mark, of_message}
 use Rattle.pop_session.specs.Laws.{NumberedAlike, ListedOnce, NumbersStay, MarkedIsNone}
 
 -- a slot of its parts
-abbrev slot_of : Item → Bool → Slot
+abbrev slot_of : Item → Bool → ListingSlot
 slot_of item marked = record { item = item; marked = marked }
 
 -- the line of the k-th slot behind the one of number n, in a listing that follows one line
-shown : (first : List ℕ) (line : ℕ → Item → List ℕ) (slots : List Slot) (n k : ℕ) (item : Item) (more : List (List ℕ)) →
+shown : (first : List ℕ) (line : ℕ → Item → List ℕ) (slots : List ListingSlot) (n k : ℕ) (item : Item) (more : List (List ℕ)) →
     option_and_then unmarked_in (slice_get slots k) ≡ Some item →
     slice_get (first ∷ lines_from line n slots ++ more) (length (unmarked (take (suc k) slots))) ≡ Some (line (n + k) item)
 shown first line [] n k item more h = absurd (cc)
@@ -40,7 +40,7 @@ numbered_alike first line slots (suc k) item h =
     shown first line slots 1 k item last_line h ∙ ap (λ n. Some (line n item)) at
 
 -- as many lines as there are messages that are not marked
-counted : (line : ℕ → Item → List ℕ) (slots : List Slot) (n : ℕ) → length (lines_from line n slots) ≡ length (unmarked slots)
+counted : (line : ℕ → Item → List ℕ) (slots : List ListingSlot) (n : ℕ) → length (lines_from line n slots) ≡ length (unmarked slots)
 counted line [] n = refl
 counted line (slot ∷ slots) n = by_mark slot.item slot.marked (counted line slots (n + 1))
   where
@@ -53,7 +53,7 @@ pub listed_once : ListedOnce
 listed_once first line slots = grind (arith, length-append, counted line slots 1)
 
 -- another slot stays
-kept : (slots : List Slot) (marked n : ℕ) → (n ≡ marked → ⊥) → slice_get (marked_at slots marked) n ≡ slice_get slots n
+kept : (slots : List ListingSlot) (marked n : ℕ) → (n ≡ marked → ⊥) → slice_get (marked_at slots marked) n ≡ slice_get slots n
 kept [] marked n other = refl
 kept (slot ∷ slots) zero zero other = absurd (other refl)
 kept (slot ∷ slots) zero (suc n) other = refl
@@ -61,7 +61,7 @@ kept (slot ∷ slots) (suc marked) zero other = refl
 kept (slot ∷ slots) (suc marked) (suc n) other = kept slots marked n (λ same. other (ap suc same))
 
 -- another number keeps its message
-stays : (slots : List Slot) (marked n : ℕ) → (n ≡ marked → ⊥) → message_at (with_mark slots marked) n ≡ message_at slots n
+stays : (slots : List ListingSlot) (marked n : ℕ) → (n ≡ marked → ⊥) → message_at (with_mark slots marked) n ≡ message_at slots n
 stays slots zero n other = refl
 stays slots (suc marked) zero other = refl
 stays slots (suc marked) (suc n) other = ap (option_and_then unmarked_in) (kept slots marked n (λ same. other (ap suc same)))
@@ -72,7 +72,7 @@ numbers_stay slots marked n other =
     record { message = same; list = ap (of_message _) same; uidl = ap (of_message _) same; retr = ap (of_message _) same; dele = ap (of_message _) same }
 
 -- the slot that was marked shows none
-none_at : (slots : List Slot) (n : ℕ) → option_and_then unmarked_in (slice_get (marked_at slots n) n) ≡ None
+none_at : (slots : List ListingSlot) (n : ℕ) → option_and_then unmarked_in (slice_get (marked_at slots n) n) ≡ None
 none_at [] n = refl
 none_at (slot ∷ slots) zero = refl
 none_at (slot ∷ slots) (suc n) = none_at slots n

@@ -11,16 +11,16 @@ use Rattle.mail_model.specs.Session.{is_long_line}
 use Rattle.mail_model.specs.Pop.{Command, Fault, pop_command_of}
 use Rattle.mail_model.specs.Pop.Command.{User, Pass, Stat, Listing, Uidl, Retr, Dele, Quit}
 use Rattle.mail_model.specs.Pop.Fault.{UnknownVerb, BadArgument, BadNumber}
-use Rattle.mail_model.specs.PopReplies.{Item, Slot, unmarked, marked_ids, size_line, id_line, stat_text, deleted_text, lines_from, listing_reply, last_line, ready_text, down_text}
-use Rattle.mail_model.specs.Maildrop.{Stage, Outcome, line_outcome, command_outcome, pass_outcome, before_login, behind_login, of_message, message_at, deletion_of, bad_order}
+use Rattle.mail_model.specs.PopReplies.{Item, ListingSlot, unmarked, marked_ids, size_line, id_line, stat_text, deleted_text, lines_from, listing_reply, last_line, ready_text, down_text}
+use Rattle.mail_model.specs.Maildrop.{Stage, LineOutcome, line_outcome, command_outcome, pass_outcome, before_login, behind_login, of_message, message_at, deletion_of, bad_order}
 use Rattle.mail_model.specs.Maildrop as drop
 use Rattle.mail_model.specs.Maildrop.Stage.{Authorization, Transaction}
-use Rattle.mail_model.specs.Maildrop.Outcome.{Answered, Closed, AsksLogin, AsksMessage, AsksDeletion}
+use Rattle.mail_model.specs.Maildrop.LineOutcome.{Answered, Closed, AsksLogin, AsksMessage, AsksDeletion}
 use Rattle.mail_model.proofs.OneLine.{IsNoLf, by_test, decimal_no_lf}
 use Rattle.pop_session.proofs.Messages.{none_of, text}
 
 -- the lines of a reply
-abbrev pub AreLines : Outcome → Type 0
+abbrev pub AreLines : LineOutcome → Type 0
 AreLines (Answered lines) = All HasNoCrlf lines
 AreLines (Closed lines) = All HasNoCrlf lines
 AreLines (AsksLogin user secret) = ⊤
@@ -51,7 +51,7 @@ size_none n item = joined (decimal n ++ codes " ") (decimal item.size) (joined (
 uid_none : (n : ℕ) (item : Item) → HasNoLf (id_line n item)
 uid_none n item = joined (decimal n ++ codes " ") (id_text item.id) (joined (decimal n) (codes " ") (decimal_no_lf n) (by_test (codes " ") refl)) (id_none item.id)
 
-stat_none : (slots : List Slot) → HasNoLf (stat_text slots)
+stat_none : (slots : List ListingSlot) → HasNoLf (stat_text slots)
 stat_none slots =
     joined (codes "+OK " ++ decimal (length (unmarked slots)) ++ codes " ") (decimal (sum_by (λ item. item.size) (unmarked slots)))
     (joined (codes "+OK " ++ decimal (length (unmarked slots))) (codes " ")
@@ -83,7 +83,7 @@ down_none node =
     (joined (codes "-ERR [SYS/TEMP] node") (decimal node) (by_test (codes "-ERR [SYS/TEMP] node") refl) (decimal_no_lf node)) (by_test (codes " down") refl))
 
 -- a line for each message that is not marked, and the line that ends them
-listed : (line : ℕ → Item → List ℕ) → ((n : ℕ) (item : Item) → HasNoLf (line n item)) → (n : ℕ) (slots : List Slot) → All HasNoCrlf (lines_from line n slots ++ last_line)
+listed : (line : ℕ → Item → List ℕ) → ((n : ℕ) (item : Item) → HasNoLf (line n item)) → (n : ℕ) (slots : List ListingSlot) → All HasNoCrlf (lines_from line n slots ++ last_line)
 listed line none n [] = one (codes ".") refl
 listed line none n (slot ∷ slots) = by_mark (listed line none (n + 1) slots) slot.marked
   where
@@ -91,7 +91,7 @@ listed line none n (slot ∷ slots) = by_mark (listed line none (n + 1) slots) s
     by_mark behind true = behind
     by_mark behind false = All-cons HasNoCrlf (line n slot.item) (lines_from line (n + 1) slots ++ last_line) (none_of (line n slot.item) (none n slot.item)) behind
 
-of_one : (f : Item → Outcome) → ((item : Item) → AreLines (f item)) → (item : Option Item) → AreLines (of_message f item)
+of_one : (f : Item → LineOutcome) → ((item : Item) → AreLines (f item)) → (item : Option Item) → AreLines (of_message f item)
 of_one f lines None = one (codes "-ERR no such message") refl
 of_one f lines (Some item) = lines item
 
@@ -103,7 +103,7 @@ passes : (plan : Plan) (user : Option (List ℕ)) (secret : List ℕ) → AreLin
 passes plan None secret = one (codes "-ERR bad order") refl
 passes plan (Some user) secret = by_user (is_user plan user)
   where
-    by_user : (known : Bool) → AreLines (if known then AsksLogin user secret else drop.said drop.wrong_text)
+    by_user : (known : Bool) → AreLines (if known then AsksLogin user secret else drop.says_line drop.wrong_text)
     by_user true = tt
     by_user false = one (codes "-ERR name or secret is wrong") refl
 
@@ -117,7 +117,7 @@ before plan user (Retr number) = one (codes "-ERR bad order") refl
 before plan user (Dele number) = one (codes "-ERR bad order") refl
 before plan user Quit = one (codes "+OK bye") refl
 
-after : (slots : List Slot) (command : Command) → AreLines (behind_login slots command)
+after : (slots : List ListingSlot) (command : Command) → AreLines (behind_login slots command)
 after slots (User name) = one (codes "-ERR bad order") refl
 after slots (Pass secret) = one (codes "-ERR bad order") refl
 after slots Stat = single (stat_text slots) (stat_none slots)
@@ -139,6 +139,6 @@ command_lines plan (Transaction slots) (Ok command) = after slots command
 pub outcome_lines : (plan : Plan) (stage : Stage) (line : List ℕ) → AreLines (line_outcome plan stage line)
 outcome_lines plan stage line = by_length (is_long_line line)
   where
-    by_length : (long : Bool) → AreLines (if long then drop.said (codes "-ERR line too long") else command_outcome plan stage (pop_command_of line))
+    by_length : (long : Bool) → AreLines (if long then drop.says_line (codes "-ERR line too long") else command_outcome plan stage (pop_command_of line))
     by_length true = one (codes "-ERR line too long") refl
     by_length false = command_lines plan stage (pop_command_of line)

@@ -14,13 +14,13 @@ use Rattle.mail_model.specs.Session.{is_long_line}
 use Rattle.mail_model.specs.Session.Unit.{Line, Text}
 use Rattle.mail_model.specs.Told.{IsUnit, HasNoUnit, unit_octets}
 use Rattle.mail_model.specs.Maildrop as drops
-use Rattle.mail_model.specs.Maildrop.{Outcome, line_outcome, after_line, named_in, deleted_in, entered_text}
+use Rattle.mail_model.specs.Maildrop.{LineOutcome, line_outcome, after_line, named_in, deleted_in, entered_text}
 use Rattle.mail_model.specs.Pop.{pop_command_of}
 use Rattle.session_model.specs.Calls as calls
 use Rattle.session_model.specs.Calls.{IsReply, ShowsPart}
 use Rattle.session_model.specs.Talk as talks
-use Rattle.session_model.specs.Talk.{State, Lead, Exchange, Standing, IsNext, IsLed, in_text, lead_of, line_lead, heard, answered, stands, stands_by, let_in, entered_as}
-use Rattle.session_model.specs.Talk.State.{Entering, Reading}
+use Rattle.session_model.specs.Talk.{TalkState, Lead, Exchange, Standing, IsNext, IsLed, in_text, lead_of, line_lead, heard, answered, stands, stands_by, let_in, entered_as}
+use Rattle.session_model.specs.Talk.TalkState.{Entering, Reading}
 use Rattle.session_model.specs.Talk.Standing.{Hearing, Waiting, EndedByQuit, EndedDown}
 use Rattle.session_model.specs.Moves.{with_answer}
 use Rattle.session_model.specs.Sessions.{Session}
@@ -48,10 +48,10 @@ use Rattle.pop_session.specs.declared.due.Due.{Due}
 use Rattle.pop_session.specs.declared.due.Due.TheVariants as dues
 use Rattle.pop_session.specs.declared.due.Asked.TheVariants as asked
 use Rattle.pop_session.specs.Slots.{slots_seen, listed_slot}
-use Rattle.pop_session.specs.Shown.{stage_of, state_of, login_in, listed_in, outcome_of, reply_in, name_in, slots_in, told_long, IsOwn, HearsLine}
+use Rattle.pop_session.specs.Shown.{stage_of, state_of, login_in, listed_in, outcome_of_heard, reply_in, name_in, slots_in, told_long, IsOwn, HearsLine}
 use Rattle.pop_session.specs.Dues.{text_of, IsAsked, Says}
 use Rattle.pop_session.specs.Messages.{ShowsPartIn}
-use Rattle.pop_session.specs.Follows.{Follows, WaitsFor, Stands, Goes, Begins, user_of, greeting_of, stage_behind}
+use Rattle.pop_session.specs.Follows.{Follows, WaitsFor, Stands, Goes, LeadsTurn, user_of_login, opening_line, stage_behind}
 use Rattle.pop_session.proofs.Messages.{text}
 use Rattle.pop_session.proofs.Tables.{AreLines, outcome_lines, ready_none, down_none}
 use Rattle.pop_session.proofs.Marks.{listed_alike}
@@ -110,7 +110,7 @@ user_in : drops.Stage → Option (List ℕ)
 user_in (drops.Stage.Authorization user) = user
 user_in (drops.Stage.Transaction slots) = None
 
-slots_of : drops.Stage → List replies.Slot
+slots_of : drops.Stage → List replies.ListingSlot
 slots_of (drops.Stage.Authorization user) = []
 slots_of (drops.Stage.Transaction slots) = slots
 
@@ -140,11 +140,11 @@ hears_long plan old new line limit is over told login items =
     after_long (drops.Stage.Transaction slots) = let long : is_long_line line ≡ true = is_long line limit is over in rw long refl
 
 -- One line was heard.
-module _ (plan : Plan) (plain : Session) (state : State) (line more octets : List ℕ) (follows : Session → moves.Due → Type 0)
+module _ (plan : Plan) (plain : Session) (state : TalkState) (line more octets : List ℕ) (follows : Session → moves.Due → Type 0)
     (hearing : plain.standing ≡ Hearing state) (is : IsUnit (in_text state) (Line line)) (whole : plain.rest ≡ sent_line line ++ more) where
   pub heard_says : (reply : List (List ℕ)) → lead_of plan plain.node state (Line line) ≡ talks.Lead.Says reply → All HasNoCrlf reply → octets ≡ flat_map sent_line reply
       → ((one : Exchange) → one.answer ≡ None → follows (record plain { whole = plain.whole ++ one ∷ []; standing = Hearing (heard plan state (Line line) reply); rest = more }) Nothing)
-      → moves.Heard follows plan plain None octets
+      → moves.HeardUnit follows plan plain None octets
   heard_says reply leads lines says goes_on =
       let one : Exchange = record { unit = Line line; call = None; answer = None; reply = reply } in
       let Led : Lead → Type 0 = λ l. IsLed l one in
@@ -163,7 +163,7 @@ module _ (plan : Plan) (plain : Session) (state : State) (line more octets : Lis
 
   pub heard_ends : (reply : List (List ℕ)) → lead_of plan plain.node state (Line line) ≡ talks.Lead.Ends reply → All HasNoCrlf reply → octets ≡ flat_map sent_line reply
       → ((one : Exchange) → one.answer ≡ None → follows (record plain { whole = plain.whole ++ one ∷ []; standing = EndedByQuit; rest = more }) Nothing)
-      → moves.Heard follows plan plain None octets
+      → moves.HeardUnit follows plan plain None octets
   heard_ends reply leads lines says goes_on =
       let one : Exchange = record { unit = Line line; call = None; answer = None; reply = reply } in
       let Led : Lead → Type 0 = λ l. IsLed l one in
@@ -183,7 +183,7 @@ module _ (plan : Plan) (plain : Session) (state : State) (line more octets : Lis
   pub heard_asks : (call : calls.Call) → lead_of plan plain.node state (Line line) ≡ talks.Lead.Asks call → octets ≡ []
       → ((one : Exchange) → one.answer ≡ None → one.call ≡ Some call
       → follows (record plain { whole = plain.whole ++ one ∷ []; standing = Waiting (heard plan state (Line line) []) call; rest = more }) Nothing)
-      → moves.Heard follows plan plain (Some call) octets
+      → moves.HeardUnit follows plan plain (Some call) octets
   heard_asks call leads says goes_on =
       let one : Exchange = record { unit = Line line; call = Some call; answer = None; reply = [] } in
       let Led : Lead → Type 0 = λ l. IsLed l one in
@@ -207,7 +207,7 @@ at_nothing follows greeting plan plain due move octets is did =
     let At : moves.Due → Type 0 = λ d. Moves follows greeting plan plain d move octets in subst At (sym is) did
 
 -- only a session that was not let in asks to be
-entering : (plan : Plan) (stage later : Stage) (line user secret : List ℕ) → line_outcome plan (stage_of stage) line ≡ drops.Outcome.AsksLogin user secret
+entering : (plan : Plan) (stage later : Stage) (line user secret : List ℕ) → line_outcome plan (stage_of stage) line ≡ drops.LineOutcome.AsksLogin user secret
     → stage_of later ≡ after_line (stage_of stage) line → (named : Option (List ℕ)) × (state_of later ≡ Entering named)
 entering plan stage (Authorization user) line name secret asks told = (user, refl)
 entering plan stage (Transaction login listing) line name secret asks told =
@@ -269,11 +269,11 @@ module _ (plan : Plan) (node boot number seconds : ℕ) (stage later : Stage) (o
           limit = limit_behind follows.limit;
           pends = pends_behind;
           others = follows.others;
-          entered = still_entered plain.whole one none ∙ follows.entered ∙ ap user_of (sym login);
+          entered = still_entered plain.whole one none ∙ follows.entered ∙ ap user_of_login (sym login);
           stands = subst Of is stands;
         })
 
-    pub hears_line : (heard_it : Heard) (now : Turn) (did : Move) (octets : List ℕ) → Begins heard_it (now, did) → octets ≡ flat_map sent_line (reply_in heard_it)
+    pub hears_line : (heard_it : Heard) (now : Turn) (did : Move) (octets : List ℕ) → LeadsTurn heard_it (now, did) → octets ≡ flat_map sent_line (reply_in heard_it)
         → ((line : List ℕ) → HasNoCrlf line → IsLine old found line → old.limit ≡ 1024 → HearsLine plan stage line heard_it later)
         → Goes plan before did octets (session node boot number seconds now later new)
     hears_line (hears.Said reply) now did octets begins says means plain due follows =
@@ -281,7 +281,7 @@ module _ (plan : Plan) (node boot number seconds : ℕ) (stage later : Stage) (o
         let meaning = means gives.line gives.first gives.is follows.limit in
         let leads : lead_of plan plain.node (state_of stage) (Line gives.line) ≡ talks.Lead.Says reply =
         lead_is plan plain.node stage gives.line ∙ ap (line_lead (name_in stage)) (sym meaning.outcome) in
-        let At : Move → Type 0 = λ m. Moves (Follows (session node boot number seconds now later new)) (greeting_of before) plan plain Nothing m octets in
+        let At : Move → Type 0 = λ m. Moves (Follows (session node boot number seconds now later new)) (opening_line before) plan plain Nothing m octets in
         at_nothing _ _ plan plain due did octets follows.stands.0 (subst At (sym begins.1)
         (heard_says plan plain (state_of stage) gives.line rest octets (Follows (session node boot number seconds now later new)) follows.stands.1 (is_line gives.line gives.first) gives.octets
         reply leads (subst AreLines (sym meaning.outcome) (outcome_lines plan (stage_of stage) gives.line)) says (λ one none.
@@ -294,7 +294,7 @@ module _ (plan : Plan) (node boot number seconds : ℕ) (stage later : Stage) (o
         let meaning = means gives.line gives.first gives.is follows.limit in
         let leads : lead_of plan plain.node (state_of stage) (Line gives.line) ≡ talks.Lead.Ends reply =
         lead_is plan plain.node stage gives.line ∙ ap (line_lead (name_in stage)) (sym meaning.outcome) in
-        let At : Move → Type 0 = λ m. Moves (Follows (session node boot number seconds now later new)) (greeting_of before) plan plain Nothing m octets in
+        let At : Move → Type 0 = λ m. Moves (Follows (session node boot number seconds now later new)) (opening_line before) plan plain Nothing m octets in
         at_nothing _ _ plan plain due did octets follows.stands.0 (subst At (sym begins.1)
         (heard_ends plan plain (state_of stage) gives.line rest octets (Follows (session node boot number seconds now later new)) follows.stands.1 (is_line gives.line gives.first) gives.octets
         reply leads (subst AreLines (sym meaning.outcome) (outcome_lines plan (stage_of stage) gives.line)) says (λ one none.
@@ -306,7 +306,7 @@ module _ (plan : Plan) (node boot number seconds : ℕ) (stage later : Stage) (o
         let meaning = means gives.line gives.first gives.is follows.limit in
         let leads : lead_of plan plain.node (state_of stage) (Line gives.line) ≡ talks.Lead.Asks (calls.Call.Login user secret) =
         lead_is plan plain.node stage gives.line ∙ ap (line_lead (name_in stage)) (sym meaning.outcome) in
-        let At : Move → Type 0 = λ m. Moves (Follows (session node boot number seconds now later new)) (greeting_of before) plan plain Nothing m octets in
+        let At : Move → Type 0 = λ m. Moves (Follows (session node boot number seconds now later new)) (opening_line before) plan plain Nothing m octets in
         at_nothing _ _ plan plain due did octets follows.stands.0 (subst At (sym begins.1) (
           calls.Call.Login user secret,
           refl,
@@ -334,7 +334,7 @@ module _ (plan : Plan) (node boot number seconds : ℕ) (stage later : Stage) (o
         let call : calls.Call = calls.Call.Fetch (name_in stage) item.id in
         let leads : lead_of plan plain.node (state_of stage) (Line gives.line) ≡ talks.Lead.Asks (calls.Call.Fetch (name_in stage) item.id) =
         lead_is plan plain.node stage gives.line ∙ ap (line_lead (name_in stage)) (sym meaning.outcome) in
-        let At : Move → Type 0 = λ m. Moves (Follows (session node boot number seconds now later new)) (greeting_of before) plan plain Nothing m octets in
+        let At : Move → Type 0 = λ m. Moves (Follows (session node boot number seconds now later new)) (opening_line before) plan plain Nothing m octets in
         at_nothing _ _ plan plain due did octets follows.stands.0 (subst At (sym begins.1) (
           call,
           ap (λ n. Some (calls.Call.Fetch n item.id)) meaning.own.0,
@@ -362,7 +362,7 @@ module _ (plan : Plan) (node boot number seconds : ℕ) (stage later : Stage) (o
         let call : calls.Call = calls.Call.Strike (name_in stage) (ids_in items) in
         let leads : lead_of plan plain.node (state_of stage) (Line gives.line) ≡ talks.Lead.Asks (calls.Call.Strike (name_in stage) (ids_in items)) =
         lead_is plan plain.node stage gives.line ∙ ap (line_lead (name_in stage)) (sym meaning.outcome) in
-        let At : Move → Type 0 = λ m. Moves (Follows (session node boot number seconds now later new)) (greeting_of before) plan plain Nothing m octets in
+        let At : Move → Type 0 = λ m. Moves (Follows (session node boot number seconds now later new)) (opening_line before) plan plain Nothing m octets in
         at_nothing _ _ plan plain due did octets follows.stands.0 (subst At (sym begins.1) (
           call,
           ap (λ n. Some (calls.Call.Strike n (ids_in items))) meaning.own.0,

@@ -6,8 +6,8 @@ use Rattle.mail_model.specs.Maildrop.{wrong_text, later_text, gone_text, bye_tex
 use Rattle.mail_base.specs.Items.{item_seen}
 use Rattle.session_model.specs.Calls as calls
 use Rattle.session_model.specs.Calls.{IsReply}
-use Rattle.session_model.specs.Talk.{State, Standing, answered, let_in}
-use Rattle.session_model.specs.Talk.State.{Entering}
+use Rattle.session_model.specs.Talk.{TalkState, Standing, answered, let_in}
+use Rattle.session_model.specs.Talk.TalkState.{Entering}
 use Rattle.session_model.specs.Talk.Standing.{Hearing, EndedByQuit}
 use Rattle.mail_base.specs.declared.item.Item.{Item}
 use Rattle.call_tickets.specs.declared.answer.Answer.{Answer}
@@ -29,16 +29,16 @@ text_of Bye = bye_text
 text_of Remaining = remaining_text
 
 -- the session asked this call in this state
-abbrev pub IsAsked : Asked → State → calls.Call → Type 0
+abbrev pub IsAsked : Asked → TalkState → calls.Call → Type 0
 IsAsked (Login user) state call = ((named : Option (List ℕ)) × (state ≡ Entering named)) × ((secret : List ℕ) × (call ≡ calls.Call.Login user secret))
 IsAsked Message state call = (user : List ℕ) × (id : Id) × (call ≡ calls.Call.Fetch user id)
 IsAsked Deletion state call = (user : List ℕ) × (ids : List Id) × (call ≡ calls.Call.Strike user ids)
 
 -- A line is the reply, lets nobody in, and leaves the session so.
-pub record SaysLine (text : Text) (call : calls.Call) (answer : calls.Answer) (standing : State → Standing) : Type 0 where
+pub record SaysLine (text : Text) (call : calls.Call) (answer : calls.Answer) (standing : TalkState → Standing) : Type 0 where
   pub reply : IsReply call answer (one_line (text_of text))
   pub nobody : let_in (Some call) (Some answer) ≡ None
-  pub leaves : (state : State) → answered state call answer ≡ standing state
+  pub leaves : (state : TalkState) → answered state call answer ≡ standing state
 
 -- the messages that an answer lists
 abbrev pub items_told : Answer → List Item
@@ -46,7 +46,7 @@ items_told (answers.Listed ticket manager nodes items) = items
 items_told answer = []
 
 -- this is to be said to the answer
-abbrev pub Says : Due → State → calls.Call → calls.Answer → Type 0
+abbrev pub Says : Due → TalkState → calls.Call → calls.Answer → Type 0
 Says (Entered login listed) state call answer =
     ((named : Option (List ℕ)) × (state ≡ Entering named)) × ((secret : List ℕ) × (call ≡ calls.Call.Login login.user secret)) × (answer ≡ calls.Answer.Listed (map item_seen (items_told listed)))
 Says (Shown octets) state call answer = ((user : List ℕ) × (id : Id) × (call ≡ calls.Call.Fetch user id)) × (answer ≡ calls.Answer.Part octets)

@@ -5,7 +5,7 @@ use Rattle.mail_model.specs.Plan.{Plan}
 use Rattle.mail_model.specs.PopReplies.{ready_text}
 use Rattle.mail_model.specs.Tape.Protocol.{Pop}
 use Rattle.session_model.specs.Calls as calls
-use Rattle.session_model.specs.Talk.{State, Exchange, entered_as}
+use Rattle.session_model.specs.Talk.{TalkState, Exchange, entered_as}
 use Rattle.session_model.specs.Talk.Standing.{Hearing, Waiting}
 use Rattle.session_model.specs.Sessions.{Session}
 use Rattle.call_tickets.specs.Moves as moves
@@ -33,12 +33,12 @@ use Rattle.pop_session.specs.declared.listing.Slot.{Slot}
 use Rattle.pop_session.specs.declared.due.Asked.TheVariants as asked
 use Rattle.mail_base.specs.declared.proof.Proof.TheVariants.{Pass}
 use Rattle.call_tickets.specs.declared.step.Move.TheVariants as move
-use Rattle.pop_session.specs.Slots.{items_in, marked_items}
+use Rattle.pop_session.specs.Slots.{items_of_slots, marked_items}
 use Rattle.pop_session.specs.Shown.{state_of, login_in, listed_in, slots_in}
 use Rattle.pop_session.specs.Dues.{IsAsked, Says, due_login, due_items, taken_login, taken_items}
 
 -- it waits for the answer to a call
-pub record WaitsFor (state : State) (plain : Session) : Type 0 where
+pub record WaitsFor (state : TalkState) (plain : Session) : Type 0 where
   pub call : calls.Call
   pub standing : plain.standing ≡ Waiting state call
   pub before : List Exchange
@@ -48,7 +48,7 @@ pub record WaitsFor (state : State) (plain : Session) : Type 0 where
   pub unanswered : one.answer ≡ None
 
 -- how the session stands, and what it has to say, by whose turn it is
-abbrev pub Stands : Turn → State → Session → moves.Due → Type 0
+abbrev pub Stands : Turn → TalkState → Session → moves.Due → Type 0
 Stands Greets state plain due = (due ≡ moves.Due.Greeting) × (plain.standing ≡ Hearing state)
 Stands Hears state plain due = (due ≡ moves.Due.Nothing) × (plain.standing ≡ Hearing state)
 Stands (Waits asked) state plain due = (waits : WaitsFor state plain) × (due ≡ moves.Due.Nothing) × IsAsked asked state waits.call
@@ -56,8 +56,8 @@ Stands (Replies says) state plain due = (answer : calls.Answer) × (waits : Wait
 Stands Ended state plain due = (due ≡ moves.Due.Nothing) × HasEnded plain.standing
 
 -- the user of a login
-abbrev pub user_of : Option Login → Option (List ℕ)
-user_of login = option_map (λ known. known.user) login
+abbrev pub user_of_login : Option Login → Option (List ℕ)
+user_of_login login = option_map (λ known. known.user) login
 
 -- The value is this session, and has this to say before it hears on.
 pub record Follows (session : PopSession) (plain : Session) (due : moves.Due) : Type 0 where
@@ -66,16 +66,16 @@ pub record Follows (session : PopSession) (plain : Session) (due : moves.Due) : 
   pub limit : session.cutter.limit ≡ 1024
   pub pends : Pending session.cutter plain.rest
   pub others : plain.others ≡ []
-  pub entered : entered_as plain.whole ≡ user_of (login_in session.stage)
+  pub entered : entered_as plain.whole ≡ user_of_login (login_in session.stage)
   pub stands : Stands session.turn (state_of session.stage) plain due
 
 -- the line that it opens with
-abbrev pub greeting_of : PopSession → List ℕ
-greeting_of session = ready_text session.node session.boot session.number session.seconds
+abbrev pub opening_line : PopSession → List ℕ
+opening_line session = ready_text session.node session.boot session.number session.seconds
 
 -- what a move does, whichever session of the definitions the value is
 abbrev pub Goes : Plan → PopSession → Move → List ℕ → PopSession → Type 0
-Goes plan old move octets new = (plain : Session) (due : moves.Due) → Follows old plain due → Moves (Follows new) (greeting_of old) plan plain due move octets
+Goes plan old move octets new = (plain : Session) (due : moves.Due) → Follows old plain due → Moves (Follows new) (opening_line old) plan plain due move octets
 
 -- the login that it was told, from the answer on
 abbrev pub told_login : Turn → Stage → Option Login
@@ -140,21 +140,21 @@ pub record Moved (plan : Plan) (old : PopSession) (move : Move) (octets : List �
   pub items : items_of new ≡ items_of old
 
 -- the Leave of a login
-abbrev pub leave_of : Option Login → Option Call
-leave_of None = None
-leave_of (Some login) = Some (tickets.Leave login.user login.ticket login.manager)
+abbrev pub leave_of_login : Option Login → Option Call
+leave_of_login None = None
+leave_of_login (Some login) = Some (tickets.Leave login.user login.ticket login.manager)
 
 -- the call that fetches this message of the user
 abbrev pub fetch_of : List ℕ → Item → Call
 fetch_of user item = tickets.Fetch user item.id item.holders 0 18446744073709551615
 
 -- whose turn it is once a line was heard, and the move that this was
-abbrev pub Begins : Heard → Turn × Move → Type 0
-Begins (heard.Said reply) next = (next.0 ≡ Hears) × (next.1 ≡ move.Said)
-Begins (heard.Ended reply) next = (next.0 ≡ Ended) × (next.1 ≡ move.Said)
-Begins (heard.LogsIn user kept secret) next = (next.0 ≡ Waits (asked.Login kept)) × (next.1 ≡ Begin (tickets.Login user (Pass secret)))
-Begins (heard.Fetches user number item) next = (next.0 ≡ Waits asked.Message) × (next.1 ≡ Begin (fetch_of user item))
-Begins (heard.Deletes user items) next = (next.0 ≡ Waits asked.Deletion) × (next.1 ≡ Begin (tickets.Strike user items))
+abbrev pub LeadsTurn : Heard → Turn × Move → Type 0
+LeadsTurn (heard.Said reply) next = (next.0 ≡ Hears) × (next.1 ≡ move.Said)
+LeadsTurn (heard.Ended reply) next = (next.0 ≡ Ended) × (next.1 ≡ move.Said)
+LeadsTurn (heard.LogsIn user kept secret) next = (next.0 ≡ Waits (asked.Login kept)) × (next.1 ≡ Begin (tickets.Login user (Pass secret)))
+LeadsTurn (heard.Fetches user number item) next = (next.0 ≡ Waits asked.Message) × (next.1 ≡ Begin (fetch_of user item))
+LeadsTurn (heard.Deletes user items) next = (next.0 ≡ Waits asked.Deletion) × (next.1 ≡ Begin (tickets.Strike user items))
 
 -- it has something to say to the answer of its call
 abbrev pub HasReply : Turn → Type 0
@@ -176,14 +176,14 @@ stage_behind (Waits asked) stage listing = stage
 stage_behind Ended stage listing = stage
 
 -- TRANSACTION begins
-abbrev pub Enters : PopSession → List Slot → PopSession → Type 0
-Enters old listing new = new ≡ record old { turn = Hears; stage = stage_behind old.turn old.stage listing }
+abbrev pub EntersTransaction : PopSession → List Slot → PopSession → Type 0
+EntersTransaction old listing new = new ≡ record old { turn = Hears; stage = stage_behind old.turn old.stage listing }
 
 -- what it was let in as and listed stays
-pub record Keeps (old new : PopSession) : Type 0 where
+pub record KeepsLogin (old new : PopSession) : Type 0 where
   pub login : login_of new ≡ login_of old
   pub items : items_of new ≡ items_of old
-  pub greeting : greeting_of new ≡ greeting_of old
+  pub greeting : opening_line new ≡ opening_line old
 
 -- a session that waits takes what the answer names
 abbrev pub taken_by : Turn → Option Answer → Option Login → Option Login
@@ -201,6 +201,6 @@ listed_by (Replies due) answer items = items
 listed_by Ended answer items = items
 
 -- what the answer leaves of login and messages
-pub record Takes (answer : Option Answer) (old new : PopSession) : Type 0 where
+pub record TakesAnswer (answer : Option Answer) (old new : PopSession) : Type 0 where
   pub login : login_of new ≡ taken_by old.turn answer (login_of old)
   pub items : items_of new ≡ listed_by old.turn answer (items_of old)

@@ -3,10 +3,10 @@ use Rattle.std.specs.Prelude.{◌≡◌, ℕ, List, [], Option, Some, None, Resu
 use Rattle.mail_model.specs.Plan.{Plan}
 use Rattle.mail_model.specs.Pop.{Command, Fault}
 use Rattle.mail_model.specs.Maildrop as model
-use Rattle.mail_model.specs.Maildrop.{Outcome, line_outcome, after_line, marked_by}
-use Rattle.mail_model.specs.Maildrop.Outcome.{Answered, Closed, AsksLogin, AsksMessage, AsksDeletion}
-use Rattle.session_model.specs.Talk.{State}
-use Rattle.session_model.specs.Talk.State.{Entering, Reading}
+use Rattle.mail_model.specs.Maildrop.{LineOutcome, line_outcome, after_line, marked_by}
+use Rattle.mail_model.specs.Maildrop.LineOutcome.{Answered, Closed, AsksLogin, AsksMessage, AsksDeletion}
+use Rattle.session_model.specs.Talk.{TalkState}
+use Rattle.session_model.specs.Talk.TalkState.{Entering, Reading}
 use Rattle.mail_base.specs.declared.item.Item.{Item}
 use Rattle.call_tickets.specs.Seen.{ids_in}
 use Rattle.pop_session.specs.declared.listing.Slot.{Slot}
@@ -15,7 +15,7 @@ use Rattle.pop_session.specs.declared.stage.Stage.{Stage}
 use Rattle.pop_session.specs.declared.stage.Stage.TheVariants.{Authorization, Transaction}
 use Rattle.pop_session.specs.declared.stage.Heard.{Heard}
 use Rattle.pop_session.specs.declared.stage.Heard.TheVariants.{Said, Ended, LogsIn, Fetches, Deletes}
-use Rattle.pop_session.specs.Slots.{slots_seen, items_in, marked_items}
+use Rattle.pop_session.specs.Slots.{slots_seen, items_of_slots, marked_items}
 
 -- what a session has been told, as a table of commands sees it
 abbrev pub stage_of : Stage → model.Stage
@@ -23,7 +23,7 @@ stage_of (Authorization user) = model.Stage.Authorization user
 stage_of (Transaction login listing) = model.Stage.Transaction (slots_seen listing)
 
 -- and as a session does
-abbrev pub state_of : Stage → State
+abbrev pub state_of : Stage → TalkState
 state_of (Authorization user) = Entering user
 state_of (Transaction login listing) = Reading login.user (slots_seen listing)
 
@@ -35,15 +35,15 @@ login_in (Transaction login listing) = Some login
 -- the messages of its listing
 abbrev pub listed_in : Stage → List Item
 listed_in (Authorization user) = []
-listed_in (Transaction login listing) = items_in listing
+listed_in (Transaction login listing) = items_of_slots listing
 
 -- what the line leads to
-abbrev pub outcome_of : Heard → Outcome
-outcome_of (Said reply) = Answered reply
-outcome_of (Ended reply) = Closed reply
-outcome_of (LogsIn user kept secret) = AsksLogin user secret
-outcome_of (Fetches user number item) = AsksMessage number item.id
-outcome_of (Deletes user items) = AsksDeletion (ids_in items)
+abbrev pub outcome_of_heard : Heard → LineOutcome
+outcome_of_heard (Said reply) = Answered reply
+outcome_of_heard (Ended reply) = Closed reply
+outcome_of_heard (LogsIn user kept secret) = AsksLogin user secret
+outcome_of_heard (Fetches user number item) = AsksMessage number item.id
+outcome_of_heard (Deletes user items) = AsksDeletion (ids_in items)
 
 -- the lines that are said at once
 abbrev pub reply_in : Heard → List (List ℕ)
@@ -58,7 +58,7 @@ abbrev pub IsOwn : List ℕ → List Slot → Heard → Type 0
 IsOwn name listing (Said reply) = ⊤
 IsOwn name listing (Ended reply) = ⊤
 IsOwn name listing (LogsIn user kept secret) = kept ≡ user
-IsOwn name listing (Fetches user number item) = (user ≡ name) × ((at : ℕ) × (slice_get (items_in listing) at ≡ Some item))
+IsOwn name listing (Fetches user number item) = (user ≡ name) × ((at : ℕ) × (slice_get (items_of_slots listing) at ≡ Some item))
 IsOwn name listing (Deletes user items) = (user ≡ name) × (items ≡ marked_items listing)
 
 -- the user whom it was let in as, and its listing
@@ -71,9 +71,9 @@ slots_in (Authorization user) = []
 slots_in (Transaction login listing) = listing
 
 -- What a session has been told once a line was heard that is not too long, by the user whom the line names and by what it says.
-abbrev pub told_by : model.Stage → Option (List ℕ) → Result Command Fault → model.Stage
-told_by (model.Stage.Authorization old) named said = model.Stage.Authorization named
-told_by (model.Stage.Transaction slots) named said = model.Stage.Transaction (marked_by slots said)
+abbrev pub told_by_line : model.Stage → Option (List ℕ) → Result Command Fault → model.Stage
+told_by_line (model.Stage.Authorization old) named said = model.Stage.Authorization named
+told_by_line (model.Stage.Transaction slots) named said = model.Stage.Transaction (marked_by slots said)
 
 -- the same of a line that is too long: it names nobody, and marks nothing
 abbrev pub told_long : model.Stage → model.Stage
@@ -82,7 +82,7 @@ told_long (model.Stage.Transaction slots) = model.Stage.Transaction slots
 
 -- the line leads to what it should, and the session has then been told what it should
 pub record HearsLine (plan : Plan) (old : Stage) (line : List ℕ) (heard : Heard) (new : Stage) : Type 0 where
-  pub outcome : outcome_of heard ≡ line_outcome plan (stage_of old) line
+  pub outcome : outcome_of_heard heard ≡ line_outcome plan (stage_of old) line
   pub told : stage_of new ≡ after_line (stage_of old) line
   pub own : IsOwn (name_in old) (slots_in old) heard
   pub login : login_in new ≡ login_in old

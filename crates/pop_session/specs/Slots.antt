@@ -5,15 +5,15 @@ use Rattle.mail_base.specs.Items.{item_seen}
 use Rattle.mail_model.specs.PopReplies as model
 use Rattle.pop_session.specs.declared.listing.Slot.{Slot}
 
-abbrev pub slot_seen : Slot → model.Slot
+abbrev pub slot_seen : Slot → model.ListingSlot
 slot_seen slot = record { item = item_seen slot.item; marked = slot.marked }
 
-abbrev pub slots_seen : List Slot → List model.Slot
+abbrev pub slots_seen : List Slot → List model.ListingSlot
 slots_seen slots = map slot_seen slots
 
 -- the messages, as they were listed
-abbrev pub items_in : List Slot → List Item
-items_in slots = map (λ slot. slot.item) slots
+abbrev pub items_of_slots : List Slot → List Item
+items_of_slots slots = map (λ slot. slot.item) slots
 
 -- those that are marked
 abbrev pub marked_items : List Slot → List Item

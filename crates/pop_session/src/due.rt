@@ -5,8 +5,8 @@ ghost use Rattle.session_model.specs.Calls as calls;
 ghost use Rattle.session_model.specs.Calls.{IsReply};
 ghost use Rattle.mail_model.specs.Identity.{Id};
 ghost use Rattle.call_tickets.specs.Seen.{given_answer};
-ghost use Rattle.session_model.specs.Talk.{State};
-ghost use Rattle.session_model.specs.Talk.State.{Entering};
+ghost use Rattle.session_model.specs.Talk.{TalkState};
+ghost use Rattle.session_model.specs.Talk.TalkState.{Entering};
 ghost use Rattle.pop_session.specs.Dues.{text_of, IsAsked, Says, due_login, due_items, taken_login, taken_items};
 ghost use Rattle.pop_session.specs.declared.due.Asked.TheVariants as asks;
 ghost use Rattle.pop_session.specs.declared.stage.Login.{Login as Logins};
@@ -115,7 +115,7 @@ fn login_due(user: Name, answer: Option<Answer>) -> Due
 
 // To RETR.
 fn message_due(answer: Option<Answer>) -> Due
-    ensures says { (state : State) (user : List ℕ) (id : Id) (reply : List (List ℕ)) → IsReply (calls.Call.Fetch user id) (given_answer answer) reply → Says result state (calls.Call.Fetch user id) (given_answer answer) }
+    ensures says { (state : TalkState) (user : List ℕ) (id : Id) (reply : List (List ℕ)) → IsReply (calls.Call.Fetch user id) (given_answer answer) reply → Says result state (calls.Call.Fetch user id) (given_answer answer) }
     ensures login { (other : Option Logins) → due_login result other ≡ taken_login asks.Message answer other }
     ensures items { (other : List Listings) → due_items result other ≡ taken_items asks.Message answer other }
 {
@@ -133,7 +133,7 @@ fn message_due(answer: Option<Answer>) -> Due
 
 // To a QUIT with marks.
 fn deletion_due(answer: &Option<Answer>) -> Due
-    ensures says { (state : State) (user : List ℕ) (ids : List Id) (reply : List (List ℕ)) → IsReply (calls.Call.Strike user ids) (given_answer answer.now) reply → Says result state (calls.Call.Strike user ids) (given_answer answer.now) }
+    ensures says { (state : TalkState) (user : List ℕ) (ids : List Id) (reply : List (List ℕ)) → IsReply (calls.Call.Strike user ids) (given_answer answer.now) reply → Says result state (calls.Call.Strike user ids) (given_answer answer.now) }
     ensures login { (other : Option Logins) → due_login result other ≡ taken_login asks.Deletion answer.now other }
     ensures items { (other : List Listings) → due_items result other ≡ taken_items asks.Deletion answer.now other }
 {
@@ -152,7 +152,7 @@ fn deletion_due(answer: &Option<Answer>) -> Due
 impl Asked {
     /// What is to be said to this answer. It takes no memory.
     pub(crate) fn due(self, answer: Option<Answer>) -> Due
-        ensures says { (state : State) (call : calls.Call) (reply : List (List ℕ)) → IsAsked self state call → IsReply call (given_answer answer) reply → Says result state call (given_answer answer) }
+        ensures says { (state : TalkState) (call : calls.Call) (reply : List (List ℕ)) → IsAsked self state call → IsReply call (given_answer answer) reply → Says result state call (given_answer answer) }
         ensures login { (other : Option Logins) → due_login result other ≡ taken_login self answer other }
         ensures items { (other : List Listings) → due_items result other ≡ taken_items self answer other }
     {

@@ -3,7 +3,7 @@ ghost use Rattle.std.specs.Prelude.{◌≡◌, ◌<◌, ◌≤◌, ◌^◌, ◌�
 ghost use Rattle.std.specs.Option.{option_copied, option_map};
 ghost use Rattle.mail_model.specs.Maildrop.{message_at, with_mark};
 ghost use Rattle.mail_base.specs.Items.{item_seen};
-ghost use Rattle.pop_session.specs.Slots.{slots_seen, items_in, marked_items, listed_slot, marked_at, message_in};
+ghost use Rattle.pop_session.specs.Slots.{slots_seen, items_of_slots, marked_items, listed_slot, marked_at, message_in};
 
 use mail_base::{Item, Items};
 use std::alloc::{AllocError, Global};
@@ -90,7 +90,7 @@ impl Listing {
     /// The message of this number; nothing at 0, after the last, and where it is marked.
     pub(crate) fn message(&self, number: u32) -> Option<&Item>
         ensures message { option_map item_seen (option_copied result) ≡ message_at (slots_seen self.now) number }
-        ensures own { IfSome result (λ item. (at : ℕ) × (slice_get (items_in self.now) at ≡ Some item.now)) }
+        ensures own { IfSome result (λ item. (at : ℕ) × (slice_get (items_of_slots self.now) at ≡ Some item.now)) }
     {
         self.held_message(number)
     }
@@ -99,7 +99,7 @@ impl Listing {
     #[tactic(auto, using(crate::proofs::Marks::marked_alike, crate::proofs::Marks::items_stay))]
     pub(crate) fn mark(&mut self, number: u32)
         ensures marks { slots_seen self.new ≡ with_mark (slots_seen self.old) number }
-        ensures items { items_in self.new ≡ items_in self.old }
+        ensures items { items_of_slots self.new ≡ items_of_slots self.old }
     {
         if let Some(at) = (number as usize).checked_sub(1) {
             mark_at(&mut self.held, at);

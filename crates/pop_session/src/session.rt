@@ -5,7 +5,7 @@ ghost use Rattle.mail_model.specs.PopReplies.{ready_text};
 ghost use Rattle.mail_model.specs.Tape.Protocol.{Pop};
 ghost use Rattle.session_model.specs.Calls as calls;
 ghost use Rattle.session_model.specs.Calls.{IsReply};
-ghost use Rattle.session_model.specs.Talk.{State, IsOn, entered_as};
+ghost use Rattle.session_model.specs.Talk.{TalkState, IsOn, entered_as};
 ghost use Rattle.session_model.specs.Talk.Standing.{Waiting};
 ghost use Rattle.session_model.specs.Sessions.{Session, exchanges_of};
 ghost use Rattle.session_model.specs.Acts.{opened_session};
@@ -15,7 +15,7 @@ ghost use Rattle.call_tickets.specs.Moves.{Fed, Fell, HasEnded};
 ghost use Rattle.pop_session.specs.Shown.{login_in};
 ghost use Rattle.pop_session.specs.Slots.{listed_slot};
 ghost use Rattle.pop_session.specs.Dues.{items_told};
-ghost use Rattle.pop_session.specs.Follows.{Follows, Moved, Begins, Enters, HasReply, Keeps, Takes, fetch_of, greeting_of, login_of, leave_of, user_of, due_count, left, held};
+ghost use Rattle.pop_session.specs.Follows.{Follows, Moved, LeadsTurn, EntersTransaction, HasReply, KeepsLogin, TakesAnswer, fetch_of, opening_line, login_of, leave_of_login, user_of_login, due_count, left, held};
 
 use crate::due::{Asked, Due};
 use crate::listing::Listing;
@@ -76,7 +76,7 @@ impl PopSession {
     /// number of the session, and the seconds at its opening (RFC 1939, section 4). It takes no memory.
     pub fn new(alloc: Global, node: NodeNo, boot: u32, number: u64, seconds: u64) -> PopSession
         ensures follows { Follows result (opened_session Pop node) moves.Due.Greeting }
-        ensures greets { greeting_of result ≡ ready_text node boot number seconds }
+        ensures greets { opening_line result ≡ ready_text node boot number seconds }
         ensures login { login_of result ≡ None }
     {
         PopSession {
@@ -98,7 +98,7 @@ impl PopSession {
     /// Only want of memory; the session is then as before.
     pub fn feed(&mut self, piece: &[u8]) -> Result<(), AllocError>
         ensures ok { OnOk result ((plain : Session) (due : moves.Due) → Follows self.old plain due → Fed (Follows self.new) plain due piece.now) }
-        ensures stays { Keeps self.old self.new }
+        ensures stays { KeepsLogin self.old self.new }
         ensures held { OnOk result (held self.new ≤ held self.old + length piece.now) }
         ensures left { OnOk result (left self.new ≤ left self.old + length piece.now) }
         ensures err { OnErr result (self.new ≡ self.old) }
@@ -208,7 +208,7 @@ impl PopSession {
 
     // TRANSACTION begins with this listing, where its user is let in (RFC 1939, section 5).
     fn enter(&mut self, listing: Listing)
-        ensures { Enters self.old listing self.new }
+        ensures { EntersTransaction self.old listing self.new }
     {
         if let Turn::Replies(Due::Entered { login, .. }) = std::mem::replace(
             &mut self.turn,
@@ -222,9 +222,9 @@ impl PopSession {
     /// A session that waits for no answer takes none. It takes no memory: the octets of a message and the
     /// messages of a listing are moved.
     pub fn answer(&mut self, answer: Option<Answer>)
-        ensures replies { (plain : Session) (state : State) (call : calls.Call) (reply : List (List ℕ)) → Follows self.old plain moves.Due.Nothing → plain.standing ≡ Waiting state call
+        ensures replies { (plain : Session) (state : TalkState) (call : calls.Call) (reply : List (List ℕ)) → Follows self.old plain moves.Due.Nothing → plain.standing ≡ Waiting state call
             → IsReply call (given_answer answer) reply → Follows self.new plain (moves.Due.Reply (given_answer answer)) }
-        ensures takes { Takes answer self.old self.new }
+        ensures takes { TakesAnswer answer self.old self.new }
         ensures left { left self.new + due_count self.old.turn ≡ left self.old + due_count self.new.turn }
     {
         match std::mem::replace(&mut self.turn, Turn::Ended) {
@@ -254,8 +254,8 @@ impl PopSession {
     /// no memory.
     #[tactic(auto, using(crate::proofs::Replying::leaves_as))]
     pub fn leave(mut self) -> Option<Call>
-        ensures leaves { result ≡ leave_of (login_in self.stage) }
-        ensures user { (plain : Session) (due : moves.Due) → Follows self plain due → user_of (login_in self.stage) ≡ entered_as (exchanges_of plain) }
+        ensures leaves { result ≡ leave_of_login (login_in self.stage) }
+        ensures user { (plain : Session) (due : moves.Due) → Follows self plain due → user_of_login (login_in self.stage) ≡ entered_as (exchanges_of plain) }
     {
         match std::mem::replace(&mut self.stage, Stage::Authorization { user: None }) {
             Stage::Authorization { .. } => None,
@@ -299,7 +299,7 @@ fn listing_of(alloc: Global, listed: &Answer) -> Result<Listing, AllocError>
 
 // Whose turn it is once a line was heard, and the move that this was.
 fn begun(heard: Heard) -> (Turn, Move)
-    ensures { Begins heard result }
+    ensures { LeadsTurn heard result }
 {
     match heard {
         Heard::Said(_) => (Turn::Hears, Move::Said),

@@ -2,11 +2,11 @@
 ghost use Rattle.std.specs.Prelude.{◌≡◌, ◌++◌, List, ℕ, flat_map, codes, false, IfOk, OnOk, OnErr};
 ghost use Rattle.mail_model.specs.Lines.{sent_line};
 ghost use Rattle.mail_model.specs.Session.{is_long_line};
-ghost use Rattle.mail_model.specs.Maildrop.{said, bad_order, farewell, no_such_message, retr_outcome, dele_outcome, quit_outcome, pass_outcome, before_login, behind_login, list_outcome, uidl_outcome, command_outcome, named_by, marked_by};
+ghost use Rattle.mail_model.specs.Maildrop.{says_line, bad_order, outcome_of_quit, no_such_message, retr_outcome, dele_outcome, quit_outcome, pass_outcome, before_login, behind_login, list_outcome, uidl_outcome, command_outcome, named_by, marked_by};
 ghost use Rattle.pop_wire.specs.Seen.{seen, command_seen, IsWithinLimits};
 ghost use Rattle.pop_session.specs.declared.listing.Slot.{Slot as Slots};
-ghost use Rattle.pop_session.specs.Slots.{slots_seen, items_in};
-ghost use Rattle.pop_session.specs.Shown.{stage_of, outcome_of, reply_in, told_by, told_long, login_in, listed_in, name_in, slots_in, IsOwn, HearsLine};
+ghost use Rattle.pop_session.specs.Slots.{slots_seen, items_of_slots};
+ghost use Rattle.pop_session.specs.Shown.{stage_of, outcome_of_heard, reply_in, told_by_line, told_long, login_in, listed_in, name_in, slots_in, IsOwn, HearsLine};
 
 use crate::listing::Listing;
 use crate::reply::Reply;
@@ -68,7 +68,7 @@ pub(crate) enum Heard {
 
 // A reply of one line.
 fn said(alloc: Global, text: &[u8]) -> Result<Heard, AllocError>
-    ensures outcome { IfOk result (λ heard. outcome_of heard ≡ said text.now) }
+    ensures outcome { IfOk result (λ heard. outcome_of_heard heard ≡ says_line text.now) }
     ensures own { (name : List ℕ) (slots : List Slots) → IfOk result (λ heard. IsOwn name slots heard) }
 {
     Ok(Heard::Said(Reply::said(alloc, text)?))
@@ -76,7 +76,7 @@ fn said(alloc: Global, text: &[u8]) -> Result<Heard, AllocError>
 
 // The command is none that may come now.
 fn bad_order(alloc: Global) -> Result<Heard, AllocError>
-    ensures outcome { IfOk result (λ heard. outcome_of heard ≡ bad_order) }
+    ensures outcome { IfOk result (λ heard. outcome_of_heard heard ≡ bad_order) }
     ensures own { (name : List ℕ) (slots : List Slots) → IfOk result (λ heard. IsOwn name slots heard) }
 {
     said(alloc, b"-ERR bad order")
@@ -84,7 +84,7 @@ fn bad_order(alloc: Global) -> Result<Heard, AllocError>
 
 // To QUIT with nothing to delete (RFC 1939, sections 4 and 6).
 fn farewell(alloc: Global) -> Result<Heard, AllocError>
-    ensures outcome { IfOk result (λ heard. outcome_of heard ≡ farewell) }
+    ensures outcome { IfOk result (λ heard. outcome_of_heard heard ≡ outcome_of_quit) }
     ensures own { (name : List ℕ) (slots : List Slots) → IfOk result (λ heard. IsOwn name slots heard) }
 {
     Ok(Heard::Ended(Reply::said(alloc, b"+OK bye")?))
@@ -97,7 +97,7 @@ fn log_in(
     plan: &Plan,
     secret: &[u8],
 ) -> Result<Heard, AllocError>
-    ensures outcome { IfOk result (λ heard. outcome_of heard ≡ pass_outcome plan.now user.now secret.now) }
+    ensures outcome { IfOk result (λ heard. outcome_of_heard heard ≡ pass_outcome plan.now user.now secret.now) }
     ensures own { (name : List ℕ) (slots : List Slots) → IfOk result (λ heard. IsOwn name slots heard) }
 {
     let Some(user) = user else {
@@ -120,7 +120,7 @@ fn authorize(
     plan: &Plan,
     command: &PopCommand<'_>,
 ) -> Result<Heard, AllocError>
-    ensures outcome { IfOk result (λ heard. outcome_of heard ≡ before_login plan.now user.now (command_seen command.now)) }
+    ensures outcome { IfOk result (λ heard. outcome_of_heard heard ≡ before_login plan.now user.now (command_seen command.now)) }
     ensures own { (name : List ℕ) (slots : List Slots) → IfOk result (λ heard. IsOwn name slots heard) }
 {
     match command {
@@ -137,7 +137,7 @@ fn authorize(
 
 // There is no message of the number that was asked for.
 fn no_such_message(alloc: Global) -> Result<Heard, AllocError>
-    ensures outcome { IfOk result (λ heard. outcome_of heard ≡ no_such_message) }
+    ensures outcome { IfOk result (λ heard. outcome_of_heard heard ≡ no_such_message) }
     ensures own { (name : List ℕ) (slots : List Slots) → IfOk result (λ heard. IsOwn name slots heard) }
 {
     said(alloc, b"-ERR no such message")
@@ -145,7 +145,7 @@ fn no_such_message(alloc: Global) -> Result<Heard, AllocError>
 
 // LIST (RFC 1939, section 5).
 fn list(listing: &Listing, alloc: Global, number: Option<u32>) -> Result<Heard, AllocError>
-    ensures outcome { IfOk result (λ heard. outcome_of heard ≡ list_outcome (slots_seen listing.now) number) }
+    ensures outcome { IfOk result (λ heard. outcome_of_heard heard ≡ list_outcome (slots_seen listing.now) number) }
     ensures own { (name : List ℕ) (slots : List Slots) → IfOk result (λ heard. IsOwn name slots heard) }
 {
     let Some(number) = number else {
@@ -159,7 +159,7 @@ fn list(listing: &Listing, alloc: Global, number: Option<u32>) -> Result<Heard, 
 
 // UIDL (RFC 1939, section 7).
 fn uidl(listing: &Listing, alloc: Global, number: Option<u32>) -> Result<Heard, AllocError>
-    ensures outcome { IfOk result (λ heard. outcome_of heard ≡ uidl_outcome (slots_seen listing.now) number) }
+    ensures outcome { IfOk result (λ heard. outcome_of_heard heard ≡ uidl_outcome (slots_seen listing.now) number) }
     ensures own { (name : List ℕ) (slots : List Slots) → IfOk result (λ heard. IsOwn name slots heard) }
 {
     let Some(number) = number else {
@@ -173,7 +173,7 @@ fn uidl(listing: &Listing, alloc: Global, number: Option<u32>) -> Result<Heard, 
 
 // RETR (RFC 1939, section 5).
 fn retr(user: &Name, listing: &Listing, alloc: Global, number: u32) -> Result<Heard, AllocError>
-    ensures outcome { IfOk result (λ heard. outcome_of heard ≡ retr_outcome (slots_seen listing.now) number) }
+    ensures outcome { IfOk result (λ heard. outcome_of_heard heard ≡ retr_outcome (slots_seen listing.now) number) }
     ensures own { IfOk result (λ heard. IsOwn user.now listing.now heard) }
 {
     match listing.message(number) {
@@ -188,7 +188,7 @@ fn retr(user: &Name, listing: &Listing, alloc: Global, number: u32) -> Result<He
 
 // DELE (RFC 1939, section 5). The mark itself comes once this reply stands.
 fn dele(listing: &Listing, alloc: Global, number: u32) -> Result<Heard, AllocError>
-    ensures outcome { IfOk result (λ heard. outcome_of heard ≡ dele_outcome (slots_seen listing.now) number) }
+    ensures outcome { IfOk result (λ heard. outcome_of_heard heard ≡ dele_outcome (slots_seen listing.now) number) }
     ensures own { (name : List ℕ) (slots : List Slots) → IfOk result (λ heard. IsOwn name slots heard) }
 {
     match listing.message(number) {
@@ -199,7 +199,7 @@ fn dele(listing: &Listing, alloc: Global, number: u32) -> Result<Heard, AllocErr
 
 // QUIT behind the login (RFC 1939, section 6).
 fn quit(user: &Name, listing: &Listing, alloc: Global) -> Result<Heard, AllocError>
-    ensures outcome { IfOk result (λ heard. outcome_of heard ≡ quit_outcome (slots_seen listing.now)) }
+    ensures outcome { IfOk result (λ heard. outcome_of_heard heard ≡ quit_outcome (slots_seen listing.now)) }
     ensures own { IfOk result (λ heard. IsOwn user.now listing.now heard) }
 {
     let items = listing.marked_items(alloc)?;
@@ -219,7 +219,7 @@ fn transact(
     alloc: Global,
     command: &PopCommand<'_>,
 ) -> Result<Heard, AllocError>
-    ensures outcome { IfOk result (λ heard. outcome_of heard ≡ behind_login (slots_seen listing.now) (command_seen command.now)) }
+    ensures outcome { IfOk result (λ heard. outcome_of_heard heard ≡ behind_login (slots_seen listing.now) (command_seen command.now)) }
     ensures own { IfOk result (λ heard. IsOwn user.now listing.now heard) }
 {
     match command {
@@ -241,7 +241,7 @@ fn obey(
     plan: &Plan,
     command: &Result<PopCommand<'_>, PopFault>,
 ) -> Result<Heard, AllocError>
-    ensures outcome { IfOk result (λ heard. outcome_of heard ≡ command_outcome plan.now (stage_of stage.now) (seen command.now)) }
+    ensures outcome { IfOk result (λ heard. outcome_of_heard heard ≡ command_outcome plan.now (stage_of stage.now) (seen command.now)) }
     ensures own { IfOk result (λ heard. IsOwn (name_in stage.now) (slots_in stage.now) heard) }
 {
     match command {
@@ -272,7 +272,7 @@ fn named_by(
 // DELE marks its message.
 fn mark_by(listing: &mut Listing, command: &Result<PopCommand<'_>, PopFault>)
     ensures marks { slots_seen listing.new ≡ marked_by (slots_seen listing.old) (seen command.now) }
-    ensures items { items_in listing.new ≡ items_in listing.old }
+    ensures items { items_of_slots listing.new ≡ items_of_slots listing.old }
 {
     if let Ok(PopCommand::Dele { number }) = command {
         listing.mark(*number);
@@ -283,7 +283,7 @@ impl Stage {
     // The command was obeyed: before the login this user comes in place of the one before, and behind it
     // DELE marks.
     fn tell(&mut self, named: Option<Name>, command: &Result<PopCommand<'_>, PopFault>)
-        ensures told { stage_of self.new ≡ told_by (stage_of self.old) named (seen command.now) }
+        ensures told { stage_of self.new ≡ told_by_line (stage_of self.old) named (seen command.now) }
         ensures login { login_in self.new ≡ login_in self.old }
         ensures items { listed_in self.new ≡ listed_in self.old }
     {

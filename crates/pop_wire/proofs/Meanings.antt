@@ -11,7 +11,7 @@ use Rattle.mail_model.specs.Names.{begins_with, is_name, is_no_name_octet}
 use Rattle.mail_model.specs.Numbers.{is_digit, value_after}
 use Rattle.mail_model.specs.Tape.{behind_word, has_space}
 use Rattle.mail_model.specs.Smtp.{is_blank, is_word, trimmed, verb_of, rest_of, unspaced}
-use Rattle.mail_model.specs.Pop.{Command, Fault, mapped, short_number_of, user_of, alone, number_in, maybe_number_in, command_in, pop_command_of}
+use Rattle.mail_model.specs.Pop.{Command, Fault, mapped, short_number_of, user_command, alone, number_in, maybe_number_in, command_in, pop_command_of}
 use Rattle.mail_model.specs.Pop.Command.{User, Pass, Stat, Listing, Uidl, Retr, Dele, Quit}
 use Rattle.mail_model.specs.Pop.Fault.{UnknownVerb, BadArgument, BadNumber}
 use Rattle.pop_wire.specs.Laws.{is_pass, NamesAreRead, SecretsAreRead, NumbersAreRead, TwoArgumentsAreTooMany, BlanksAtEndMeanNothing, MoreSpacesMeanNothing, CaseOfVerbMeansNothing, LargerNumbersAreBad, OtherVerbsAreUnknown}
@@ -29,7 +29,7 @@ some_more n = grind (arith, nat_tests)
 -- the command of the octets behind the first space, a verb in upper case and what follows it
 abbrev said : List ℕ → List ℕ → List ℕ → Result Command Fault
 said secret verb rest =
-    cond (pointwise nat_eq verb (codes "USER")) (user_of rest)
+    cond (pointwise nat_eq verb (codes "USER")) (user_command rest)
     (cond (pointwise nat_eq verb (codes "PASS")) (cond (nat_eq (length secret) 0) (Err BadArgument) (Ok (Pass secret)))
     (cond (pointwise nat_eq verb (codes "STAT")) (alone Stat rest)
     (cond (pointwise nat_eq verb (codes "LIST")) (mapped Listing (maybe_number_in rest))
@@ -268,7 +268,7 @@ unspaced_more rest = let e : 1 + prefix_len (λ x. nat_eq x 32) rest ≡ suc (pr
 number_spaces : (rest : List ℕ) → number_in (32 ∷ rest) ≡ number_in rest
 number_spaces rest = ap (λ (o : List ℕ). cond (nat_eq (length o) 0 || has_space o) (Err BadArgument) (ok_or (short_number_of o) BadNumber)) (unspaced_more rest)
 
-user_spaces : (rest : List ℕ) → user_of (32 ∷ rest) ≡ user_of rest
+user_spaces : (rest : List ℕ) → user_command (32 ∷ rest) ≡ user_command rest
 user_spaces rest = ap (λ (n : List ℕ). cond (is_name n) (Ok (User n)) (Err BadArgument)) (unspaced_more rest)
 
 maybe_spaces : (rest : List ℕ) → maybe_number_in (32 ∷ 32 ∷ rest) ≡ maybe_number_in (32 ∷ rest)

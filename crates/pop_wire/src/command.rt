@@ -1,7 +1,7 @@
 // Commands and the lines that they are read from.
 ghost use Rattle.std.specs.Prelude.{◌≡◌, IfOk};
 ghost use Rattle.mail_model.specs.Pop as pop;
-ghost use Rattle.mail_model.specs.Pop.{alone, mapped, number_in, maybe_number_in, pass_of, pop_command_of, user_of};
+ghost use Rattle.mail_model.specs.Pop.{alone, mapped, number_in, maybe_number_in, pass_of, pop_command_of, user_command};
 ghost use Rattle.pop_wire.specs.Seen.{seen, IsWithinLimits, command_seen, faults_seen};
 
 use crate::number::short_number;
@@ -41,7 +41,7 @@ pub enum PopFault {
 }
 
 fn read_user(rest: &[u8]) -> Result<PopCommand<'_>, PopFault>
-    ensures exact { seen result ≡ user_of rest.now }
+    ensures exact { seen result ≡ user_command rest.now }
     ensures limits { IfOk result IsWithinLimits }
 {
     let name = unspaced(rest);

@@ -16,7 +16,7 @@ use Rattle.cluster_world.specs.declared.world.World.{World}
 use Rattle.drive_tape.specs.declared.drove.Drove.{Drove}
 use Rattle.drive_tape.specs.declared.drove.Drove.TheVariants as drove
 use Rattle.drive_tape.specs.declared.drove.TapeFault.{TapeFault}
-use Rattle.drive_tape.specs.Parts.{IsCut}
+use Rattle.drive_tape.specs.Parts.{IsCutEntry}
 use Rattle.drive_tape.specs.Drive.{Drives, StopsAt}
 use Rattle.drive_tape.specs.Plans.{ReadsHead}
 use Rattle.porcupine_server.specs.declared.ending.Ending.{Ending}
@@ -24,7 +24,7 @@ use Rattle.porcupine_server.specs.declared.ending.Ending.TheVariants.{Done, Line
 use Rattle.porcupine_server.specs.Complete.{IsGoodTape}
 use Rattle.porcupine_server.specs.Endings.{ending_of, status_of, last_entries, Finishes}
 use Rattle.porcupine_server.specs.Stores.{StoreFailed}
-use Rattle.porcupine_server.specs.Works.{Ends, Stores, Works, NoPlan, NoStore, Served, NotOpened, Ran, IsBeforeRun}
+use Rattle.porcupine_server.specs.Works.{SourceAndSink, Stores, Works, NoPlan, NoStore, ServedStore, NotOpened, Ran, IsBeforeRun}
 use Rattle.porcupine_server.proofs.GoodPlan.{run_part, no_plan_fault, reads_good_plan}
 use Rattle.porcupine_server.proofs.GoodRun.{no_run_fault}
 
@@ -87,9 +87,9 @@ module _ (tape : List ℕ) (good : IsGoodTape tape) where
   handled seen faults start last between left1 held0 held1 (drove.NoMemory n) from same told d up = tt
 
   -- whatever the work did, with a store that does not fail
-  module _ {D : Type 0} (seen : D → Option (List ℕ)) (faults : D → ℕ) (is_settled : D → Type 0) (stores : Stores D) (ends : Ends) (ending : Ending) (before now : ℕ) (told : ends.left0 ≡ Some tape)
+  module _ {D : Type 0} (seen : D → Option (List ℕ)) (faults : D → ℕ) (is_settled : D → Type 0) (stores : Stores D) (ends : SourceAndSink) (ending : Ending) (before now : ℕ) (told : ends.left0 ≡ Some tape)
       (stands : StoreFailed seen faults stores.handed0 stores.handed1 stores.returned0 stores.returned1 before now → ⊥) where
-    by_run : (served : Served seen faults is_settled stores ends ending) → Ran seen faults is_settled (record ends { left0 = served.between }) served.plan served.count ending served.taken served.given → NamesNone ending
+    by_run : (served : ServedStore seen faults is_settled stores ends ending) → Ran seen faults is_settled (record ends { left0 = served.between }) served.plan served.count ending served.taken served.given → NamesNone ending
     by_run served ran =
         let plan = reads_good_plan tape good ends.left0 served.between served.plan served.count told served.reads in
         subst NamesNone (sym ran.is) (handled seen faults ran.start ran.last served.between ends.left1 ends.held0 ends.held1 ran.answer served.count (ran.begins.plan_is ∙ plan.1) plan.0 ran.drives
@@ -110,9 +110,9 @@ module _ (tape : List ℕ) (good : IsGoodTape tape) where
     no_line_named : Works seen faults is_settled stores ends ending → NamesNone ending
     no_line_named works = ⊎_elim
         (λ (none : NoPlan stores ends ending). subst NamesNone (sym none.is) (unread ends.left0 ends.left1 none.answer told none.reads))
-        (λ (some : NoStore stores ends ending ⊎ Served seen faults is_settled stores ends ending). ⊎_elim
+        (λ (some : NoStore stores ends ending ⊎ ServedStore seen faults is_settled stores ends ending). ⊎_elim
         (λ (none : NoStore stores ends ending). before_run ending none.is)
-        (λ (served : Served seen faults is_settled stores ends ending). ⊎_elim
+        (λ (served : ServedStore seen faults is_settled stores ends ending). ⊎_elim
         (λ (none : NotOpened seen faults (record ends { left0 = served.between }) ending served.taken served.given). before_run ending none.before)
         (λ (ran : Ran seen faults is_settled (record ends { left0 = served.between }) served.plan served.count ending served.taken served.given). by_run served ran)
         served.serves)
@@ -134,12 +134,12 @@ finish_fine : (held0 held1 : Option (List ℕ)) (ending : Ending) (status : ℕ)
 finish_fine held0 held1 ending status finishes none read write store failed = ⊎_elim
     (λ (whole : (status ≡ status_of ending) × Appends held0 held1 (written_of (last_entries ending))). fine_status ending status none whole.0 read write store)
     (λ (part : ((status ≡ 5) ⊎ (status ≡ 7)) × ((front : List Entry) × (missing : List Entry) × (cut : List ℕ)
-    × (last_entries ending ≡ front ++ missing) × IsCut missing cut × Appends held0 held1 (written_of front ++ cut))).
+    × (last_entries ending ≡ front ++ missing) × IsCutEntry missing cut × Appends held0 held1 (written_of front ++ cut))).
     ⊎_elim (λ (five : status ≡ 5). absurd (failed five)) (λ (seven : status ≡ 7). inr seven) part.0)
     finishes
 
 -- a good tape, over a source, a sink and a store that do not fail
-pub complete : {D : Type 0} (seen : D → Option (List ℕ)) (faults : D → ℕ) (is_settled : D → Type 0) (stores : Stores D) (ends : Ends) (middle : Option (List ℕ))
+pub complete : {D : Type 0} (seen : D → Option (List ℕ)) (faults : D → ℕ) (is_settled : D → Type 0) (stores : Stores D) (ends : SourceAndSink) (middle : Option (List ℕ))
     (ending : Ending) (status before now reads0 reads1 writes0 writes1 writes2 : ℕ) (tape : List ℕ)
     → Works seen faults is_settled stores (record ends { held1 = middle }) ending → Finishes middle ends.held1 ending status
     → (ending ≡ Read → Rose reads0 reads1) → (ending ≡ Write → Rose writes0 writes1)

@@ -17,7 +17,7 @@ use Rattle.session_model.specs.Turns.{Turn, Starts}
 use Rattle.session_model.specs.Run.{IsHandled, AreHandled, failed_in, refusal}
 use Rattle.drive_tape.specs.declared.drove.TapeFault.{TapeFault}
 use Rattle.drive_tape.specs.declared.drove.TapeFault.TheVariants.{BadLine, TapeTooLong}
-use Rattle.drive_tape.specs.Faults.{fault_of}
+use Rattle.drive_tape.specs.Faults.{tape_fault_seen}
 use Rattle.drive_tape.specs.Drive.{IsOrder, IsNoOrder, StopsAt}
 use Rattle.porcupine_server.specs.Complete.{IsGoodTape}
 use Rattle.porcupine_server.proofs.NextLine.{flat_map_last, Ahead, same_line, begins_more, within_line, no_line, next_line, last_or_before}
@@ -118,15 +118,15 @@ module _ (tape : List ℕ) (good : IsGoodTape tape) where
   no_run_fault between left1 fault read others room lines acts outputs sessions told took cut each runs up limit why = ⊎_elim
       (λ (end : (fault ≡ BadLine) × HasNoLf others × IsAtEnd left1). no_line others n.next n.rest end.1 (ap (λ (l : List ℕ). others ++ l) (sym (at_end left1 later.0 later.1 end.2)) ∙ n.begins.whole))
       (λ (a : ((fault ≡ BadLine) × HasNoLf others × (65535 < length others)) ⊎ ((fault ≡ BadLine) × IsNoOrder others) ⊎ ((fault ≡ TapeTooLong) × HasNoLf others × (room ≡ 0))
-      ⊎ ((order : Order) × IsOrder others order × (refusal good.plan [] sessions order ≡ Some (fault_of fault)))). ⊎_elim
+      ⊎ ((order : Order) × IsOrder others order × (refusal good.plan [] sessions order ≡ Some (tape_fault_seen fault)))). ⊎_elim
       (λ (long : (fault ≡ BadLine) × HasNoLf others × (65535 < length others)).
       omega (arith, long.2, order_short n.next n.order n.spelled, within_line others later.0 n.next n.rest long.1 n.begins.whole))
       (λ (b : ((fault ≡ BadLine) × IsNoOrder others) ⊎ ((fault ≡ TapeTooLong) × HasNoLf others × (room ≡ 0))
-      ⊎ ((order : Order) × IsOrder others order × (refusal good.plan [] sessions order ≡ Some (fault_of fault)))). ⊎_elim
+      ⊎ ((order : Order) × IsOrder others order × (refusal good.plan [] sessions order ≡ Some (tape_fault_seen fault)))). ⊎_elim
       (λ (none : (fault ≡ BadLine) × IsNoOrder others). none-some n.order (sym none.1.spelled ∙ ap tape_order (next_is none.1.line none.1.whole none.1.one) ∙ n.spelled))
-      (λ (c : ((fault ≡ TapeTooLong) × HasNoLf others × (room ≡ 0)) ⊎ ((order : Order) × IsOrder others order × (refusal good.plan [] sessions order ≡ Some (fault_of fault)))). ⊎_elim
+      (λ (c : ((fault ≡ TapeTooLong) × HasNoLf others × (room ≡ 0)) ⊎ ((order : Order) × IsOrder others order × (refusal good.plan [] sessions order ≡ Some (tape_fault_seen fault)))). ⊎_elim
       (λ (far : (fault ≡ TapeTooLong) × HasNoLf others × (room ≡ 0)). no_limit far.1 far.2)
-      (λ (refused : (order : Order) × IsOrder others order × (refusal good.plan [] sessions order ≡ Some (fault_of fault))). no_refusal refused.0 refused.1 refused.2)
+      (λ (refused : (order : Order) × IsOrder others order × (refusal good.plan [] sessions order ≡ Some (tape_fault_seen fault))). no_refusal refused.0 refused.1 refused.2)
       c) b) a) why
     where
       later : (later : List ℕ) × (left1 ≡ Some later) × (run_part tape good ≡ read ++ later)
@@ -142,7 +142,7 @@ module _ (tape : List ℕ) (good : IsGoodTape tape) where
       no_limit none full =
           omega (arith, full, limit, n.short, ap length cut, length-append (flat_map ended lines) others, within_line others later.0 n.next n.rest none n.begins.whole)
 
-      no_refusal : (order : Order) → IsOrder others order → refusal good.plan [] sessions order ≡ Some (fault_of fault) → ⊥
+      no_refusal : (order : Order) → IsOrder others order → refusal good.plan [] sessions order ≡ Some (tape_fault_seen fault) → ⊥
       no_refusal order is refused =
           let same = same_Some order n.order (sym is.spelled ∙ ap tape_order (next_is is.line is.whole is.one) ∙ n.spelled) in
-          none-some (fault_of fault) (sym n.accepted ∙ ap (refusal good.plan [] sessions) (sym same) ∙ refused)
+          none-some (tape_fault_seen fault) (sym n.accepted ∙ ap (refusal good.plan [] sessions) (sym same) ∙ refused)

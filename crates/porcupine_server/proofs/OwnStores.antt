@@ -3,7 +3,7 @@ use Rattle.std.proofs.Common.{◌≡◌, ℕ, List, [], ◌∷◌, Option, Some,
 use Rattle.std.proofs.lemmas.List.Elements.{All-head}
 use Rattle.std.specs.declared.snapshot.Snapshot.{Snapshot}
 use Rattle.io_edge.specs.Causes.{Rose}
-use Rattle.io_edge.specs.Yards.{Adds, remembered, with_last}
+use Rattle.io_edge.specs.Yards.{TellsOneMore, remembered, with_last}
 use Rattle.io_edge.specs.declared.plain_disk.PlainDisk.{PlainDisk}
 use Rattle.porcupine_server.specs.Fresh.{IsFresh}
 use Rattle.porcupine_server.specs.Stores.{DiskFailed, StoreFailed}

@@ -7,7 +7,7 @@ use Rattle.std.specs.Io.KnownBytes.{Consumes, Appends}
 use Rattle.std.proofs.lemmas.List.{append-nil, map-append}
 use Rattle.std.proofs.lemmas.List.Concat.{flat_map-append}
 use Rattle.std.proofs.lemmas.List.Elements.{All-nil, All-cons, All-head, All-tail, All-append}
-use Rattle.io_edge.specs.Yards.{Adds}
+use Rattle.io_edge.specs.Yards.{TellsOneMore}
 use Rattle.io_edge.proofs.Known.{consumes_more, appends_more}
 use Rattle.mail_model.specs.Lines.{HasNoLf, ended}
 use Rattle.mail_model.specs.Plan.{Plan}
@@ -32,21 +32,21 @@ use Rattle.session_model.specs.Owes.{Owes}
 use Rattle.session_model.specs.Kept.{KeepsPromises, IsEnding}
 use Rattle.session_model.proofs.Driven.{driven_is_shown}
 use Rattle.session_model.proofs.Kept.{begun_asked, owed_is_kept}
-use Rattle.cluster_world.specs.World.{Begins, disk_of, plan_of, book_of}
-use Rattle.cluster_world.specs.Outcomes.{Outcome, Awaited, Came, Makes, AreOfSessions, IsStep, asked_in, answered_in}
+use Rattle.cluster_world.specs.World.{IsAtBeginning, disk_of, plan_of, book_of}
+use Rattle.cluster_world.specs.Outcomes.{Outcome, Awaited, Came, Makes, AreOfSessions, IsStep, asked_by_outcome, answered_by_outcome}
 use Rattle.cluster_world.specs.Outcomes.Outcome.{Began, Refused as WasRefused, Fell, Answers, Unanswered, Left}
 use Rattle.cluster_world.specs.declared.world.World.{World}
 use Rattle.cluster_world.proofs.Owed.{world_owes}
 use Rattle.drive_tape.specs.declared.drove.Drove.{Drove}
 use Rattle.drive_tape.specs.declared.drove.Drove.TheVariants as drove
-use Rattle.drive_tape.specs.Faults.{fault_of}
-use Rattle.drive_tape.specs.Parts.{IsCut, IsPart}
+use Rattle.drive_tape.specs.Faults.{tape_fault_seen}
+use Rattle.drive_tape.specs.Parts.{IsCutEntry, IsPart}
 use Rattle.drive_tape.specs.Drive.{Drives, MayLackOne, Stops, stop_of}
 use Rattle.drive_tape.specs.Plans.{ReadsHead}
 use Rattle.porcupine_server.specs.declared.ending.Ending.{Ending}
 use Rattle.porcupine_server.specs.declared.ending.Ending.TheVariants.{Done, Line, Read, Write, Store, NoMemory}
 use Rattle.porcupine_server.specs.Endings.{ending_of, status_of, last_entries, Finishes}
-use Rattle.porcupine_server.specs.Works.{Ends, Stores, Works, NoPlan, NoStore, Served, NotOpened, Ran}
+use Rattle.porcupine_server.specs.Works.{SourceAndSink, Stores, Works, NoPlan, NoStore, ServedStore, NotOpened, Ran}
 use Rattle.session_model.proofs.Alone.{driven_at_1, call_asked}
 use Rattle.porcupine_server.specs.Promises.{IsTape, IsTranscript, KeepsAll, HasKept}
 
@@ -75,7 +75,7 @@ line_none n why = All-append IsNoLf (codes "line ") (decimal n ++ 32 ∷ fault_n
 -- the last line is a line
 last_lines : (ending : Ending) → AreLines (last_entries ending)
 last_lines Done = All-nil HasNoLf
-last_lines (Line number why) = refused_line _ (line_none number (fault_of why))
+last_lines (Line number why) = refused_line _ (line_none number (tape_fault_seen why))
 last_lines Read = refused_line (codes "read") (by_test (codes "read") refl)
 last_lines Write = All-nil HasNoLf
 last_lines Store = refused_line (codes "disk 0 1") (by_test (codes "disk 0 1") refl)
@@ -124,7 +124,7 @@ front_of_line (x ∷ line) (y ∷ cut) rest none some parts =
     All-cons (λ (z : ℕ). z ≢ 10) y cut (subst (λ (z : ℕ). z ≢ 10) (ap (λ (l : List ℕ). slice_index l 0) parts) (All-head (λ (z : ℕ). z ≢ 10) x line none))
     (front_of_line line cut rest (All-tail (λ (z : ℕ). z ≢ 10) x line none) some (ap (drop 1) parts))
 
-cut_line : (missing : List Entry) (cut : List ℕ) → IsCut missing cut → All HasNoLf (map entry_line missing) → HasNoLf cut
+cut_line : (missing : List Entry) (cut : List ℕ) → IsCutEntry missing cut → All HasNoLf (map entry_line missing) → HasNoLf cut
 cut_line missing cut part all = ⊎_elim (λ (none : cut ≡ []). subst HasNoLf (sym none) (All-nil _))
     (λ (some : IsPart missing cut). front_of_line (entry_line some.entry) cut some.rest
     (All-head HasNoLf (entry_line some.entry) (map entry_line some.more) (subst (λ (es : List Entry). All HasNoLf (map entry_line es)) some.are all)) some.some some.whole)
@@ -152,7 +152,7 @@ lasts held0 held1 ending status finishes = ⊎_elim
       none = λ none. (none, refl);
     })
     (λ (part : ((status ≡ 5) ⊎ (status ≡ 7)) × ((front : List Entry) × (missing : List Entry) × (cut : List ℕ)
-    × (last_entries ending ≡ front ++ missing) × IsCut missing cut × Appends held0 held1 (written_of front ++ cut))).
+    × (last_entries ending ≡ front ++ missing) × IsCutEntry missing cut × Appends held0 held1 (written_of front ++ cut))).
     let p = part.1 in record {
       front = p.0;
       cut = p.2;
@@ -164,7 +164,7 @@ lasts held0 held1 ending status finishes = ⊎_elim
     })
     finishes
   where
-    nothing : (front missing : List Entry) (cut : List ℕ) → front ++ missing ≡ [] → IsCut missing cut → (front ≡ []) × (cut ≡ [])
+    nothing : (front missing : List Entry) (cut : List ℕ) → front ++ missing ≡ [] → IsCutEntry missing cut → (front ≡ []) × (cut ≡ [])
     nothing [] [] cut is part = (refl, ⊎_elim (λ (none : cut ≡ []). none) (λ (some : IsPart [] cut). absurd (omega (arith, ap length some.are))) part)
     nothing [] (entry ∷ missing) cut is part = absurd (omega (arith, ap length is))
     nothing (entry ∷ front) missing cut is part = absurd (omega (arith, ap length is))
@@ -176,7 +176,7 @@ lines_more : (xs ys : List Entry) → AreLines xs → AreLines ys → AreLines (
 lines_more xs ys all more = subst (All HasNoLf) (sym (map-append entry_line xs ys)) (All-append HasNoLf (map entry_line xs) (map entry_line ys) all more)
 
 -- no run line was handled
-kept_nothing : {D : Type 0} (seen : D → Option (List ℕ)) (stores : Stores D) (ends : Ends) (middle : Option (List ℕ)) (ending : Ending) (read : List ℕ)
+kept_nothing : {D : Type 0} (seen : D → Option (List ℕ)) (stores : Stores D) (ends : SourceAndSink) (middle : Option (List ℕ)) (ending : Ending) (read : List ℕ)
     → Consumes ends.left0 ends.left1 read → middle ≡ ends.held0 → Last middle ends.held1 ending → HasKept seen stores ends
 kept_nothing seen stores ends middle ending read took none last = record {
   read = read;
@@ -212,8 +212,8 @@ were_begun OutOfMemory asked begun lacking are may = ⊎_elim
     (λ one. inr (one.0, are ∙ ap (λ (l : List Asked). begun ++ l) one.1)) may
 
 -- run lines were handled
-module _ {D : Type 0} (seen : D → Option (List ℕ)) (faults : D → ℕ) (is_settled : D → Type 0) (stores : Stores D) (ends : Ends) (between middle : Option (List ℕ)) (plan : Plan) (count : ℕ) (ending : Ending)
-    (taken given : D) (reads : ReadsHead ends.left0 between (Ok (plan, count))) (back : Adds stores.returned0 stores.returned1 (0, 1, given))
+module _ {D : Type 0} (seen : D → Option (List ℕ)) (faults : D → ℕ) (is_settled : D → Type 0) (stores : Stores D) (ends : SourceAndSink) (between middle : Option (List ℕ)) (plan : Plan) (count : ℕ) (ending : Ending)
+    (taken given : D) (reads : ReadsHead ends.left0 between (Ok (plan, count))) (back : TellsOneMore stores.returned0 stores.returned1 (0, 1, given))
     (ran : Ran seen faults is_settled (record ends { left0 = between; held1 = middle }) plan count ending taken given) (last : Last middle ends.held1 ending) where
   abbrev lines : List (List ℕ)
   lines = ran.drives.handled ++ ran.drives.midst
@@ -228,34 +228,34 @@ module _ {D : Type 0} (seen : D → Option (List ℕ)) (faults : D → ℕ) (is_
   sure = ap (λ (p : Plan). p.confirm) ran.begins.plan_is ∙ reads.did.5.2
 
   begun : List Asked
-  begun = flat_map asked_in ran.drives.outcomes
+  begun = flat_map asked_by_outcome ran.drives.outcomes
 
-  were : AreBegun ran.drives.stop (flat_map asked_by done) (flat_map asked_in ran.drives.outcomes)
-  were = were_begun ran.drives.stop (flat_map asked_by done) (flat_map asked_in ran.drives.outcomes) ran.drives.lacking ran.drives.asked_are ran.drives.lack
+  were : AreBegun ran.drives.stop (flat_map asked_by done) (flat_map asked_by_outcome ran.drives.outcomes)
+  were = were_begun ran.drives.stop (flat_map asked_by done) (flat_map asked_by_outcome ran.drives.outcomes) ran.drives.lacking ran.drives.asked_are ran.drives.lack
 
   shown : (sessions : List Session) × Shows (plan_of ran.start) lines ran.drives.entries done sessions
   shown = driven_is_shown (plan_of ran.start) ran.drives.stop ran.drives.handled ran.drives.midst ran.drives.acts ran.drives.behind ran.drives.made ran.drives.entries ran.drives.sessions ran.drives.driven
 
-  of_sessions : AreOfSessions lines (flat_map asked_in ran.drives.outcomes)
+  of_sessions : AreOfSessions lines (flat_map asked_by_outcome ran.drives.outcomes)
   of_sessions k call among = call_asked (plan_of ran.start) lines ran.drives.entries done shown.0 shown.1
       (driven_at_1 (plan_of ran.start) ran.drives.stop ran.drives.handled ran.drives.midst ran.drives.acts ran.drives.behind ran.drives.made ran.drives.entries ran.drives.sessions one ran.drives.driven) k call
-      (begun_asked ran.drives.stop (flat_map asked_by done) (flat_map asked_in ran.drives.outcomes) were (record { session = k; call = call }) among)
+      (begun_asked ran.drives.stop (flat_map asked_by done) (flat_map asked_by_outcome ran.drives.outcomes) were (record { session = k; call = call }) among)
 
   -- the promises, with this last line
   kept_with : (front : List Entry) → IsEnding front
       → (records : List Record) × KeepsPromises (plan_of ran.start) (is_some (seen given)) ran.drives.stop lines (ran.drives.entries ++ front) (seen given ∷ []) (records ∷ []) (λ id. octets_in id records)
-      (book_of ran.last) done (flat_map asked_in ran.drives.outcomes)
+      (book_of ran.last) done (flat_map asked_by_outcome ran.drives.outcomes)
   kept_with front ended_so =
       let owed = world_owes seen faults (plan_of ran.start) lines (ran.drives.entries ++ front) ran.drives.outcomes ran.drives.awaited ran.start ran.last one sure
-      (subst (λ (p : Plan). Begins seen p ran.start) (sym ran.begins.plan_is) ran.begins) ran.drives.steps of_sessions in
+      (subst (λ (p : Plan). IsAtBeginning seen p ran.start) (sym ran.begins.plan_is) ran.begins) ran.drives.steps of_sessions in
       let told : is_some (seen (disk_of ran.start)) ≡ is_some (seen given) =
       sym (made_told seen faults ran.drives.outcomes [] ran.drives.awaited ran.start ran.last ran.drives.steps) ∙ ap (λ (d : D). is_some (seen d)) (sym ran.store) in (
         owed.0,
         owed_is_kept (plan_of ran.start) (is_some (seen given)) ran.drives.stop ran.drives.handled ran.drives.midst ran.drives.acts ran.drives.behind ran.drives.made ran.drives.entries front ran.drives.sessions
-            (seen given ∷ []) (owed.0 ∷ []) (λ id. octets_in id owed.0) (flat_map asked_in ran.drives.outcomes) (book_of ran.last) ran.drives.driven ended_so were
-            (subst (λ (l : List Answered). Owes (plan_of ran.start) (is_some (seen given)) lines (ran.drives.entries ++ front) (seen given ∷ []) (owed.0 ∷ []) (λ id. octets_in id owed.0) (flat_map asked_in ran.drives.outcomes) l (book_of ran.last)) (sym ran.drives.answered_are)
-            (subst (λ (t : Bool). Owes (plan_of ran.start) t lines (ran.drives.entries ++ front) (seen given ∷ []) (owed.0 ∷ []) (λ id. octets_in id owed.0) (flat_map asked_in ran.drives.outcomes) (flat_map answered_in ran.drives.outcomes) (book_of ran.last)) told
-            (subst (λ (d : D). Owes (plan_of ran.start) (is_some (seen (disk_of ran.start))) lines (ran.drives.entries ++ front) (seen d ∷ []) (owed.0 ∷ []) (λ id. octets_in id owed.0) (flat_map asked_in ran.drives.outcomes) (flat_map answered_in ran.drives.outcomes) (book_of ran.last)) (sym ran.store) owed.1))),
+            (seen given ∷ []) (owed.0 ∷ []) (λ id. octets_in id owed.0) (flat_map asked_by_outcome ran.drives.outcomes) (book_of ran.last) ran.drives.driven ended_so were
+            (subst (λ (l : List Answered). Owes (plan_of ran.start) (is_some (seen given)) lines (ran.drives.entries ++ front) (seen given ∷ []) (owed.0 ∷ []) (λ id. octets_in id owed.0) (flat_map asked_by_outcome ran.drives.outcomes) l (book_of ran.last)) (sym ran.drives.answered_are)
+            (subst (λ (t : Bool). Owes (plan_of ran.start) t lines (ran.drives.entries ++ front) (seen given ∷ []) (owed.0 ∷ []) (λ id. octets_in id owed.0) (flat_map asked_by_outcome ran.drives.outcomes) (flat_map answered_by_outcome ran.drives.outcomes) (book_of ran.last)) told
+            (subst (λ (d : D). Owes (plan_of ran.start) (is_some (seen (disk_of ran.start))) lines (ran.drives.entries ++ front) (seen d ∷ []) (owed.0 ∷ []) (λ id. octets_in id owed.0) (flat_map asked_by_outcome ran.drives.outcomes) (flat_map answered_by_outcome ran.drives.outcomes) (book_of ran.last)) (sym ran.store) owed.1))),
       )
 
   -- where a line was cut, nothing follows it
@@ -323,26 +323,26 @@ module _ {D : Type 0} (seen : D → Option (List ℕ)) (faults : D → ℕ) (is_
             records = kept.0;
             book = book_of ran.last;
             acts = done;
-            begun = flat_map asked_in ran.drives.outcomes;
+            begun = flat_map asked_by_outcome ran.drives.outcomes;
             promises = kept.1;
           },
         );
       }
 
 -- whatever the work did
-pub has_kept : {D : Type 0} (seen : D → Option (List ℕ)) (faults : D → ℕ) (is_settled : D → Type 0) (stores : Stores D) (ends : Ends) (middle : Option (List ℕ)) (ending : Ending) (status : ℕ)
+pub has_kept : {D : Type 0} (seen : D → Option (List ℕ)) (faults : D → ℕ) (is_settled : D → Type 0) (stores : Stores D) (ends : SourceAndSink) (middle : Option (List ℕ)) (ending : Ending) (status : ℕ)
     → Works seen faults is_settled stores (record ends { held1 = middle }) ending → Finishes middle ends.held1 ending status → HasKept seen stores ends
 has_kept seen faults is_settled stores ends middle ending status works finishes = ⊎_elim
     (λ (none : NoPlan stores (record ends { held1 = middle }) ending). kept_nothing seen stores ends middle ending (flat_map ended none.reads.lines ++ none.reads.others) none.reads.took none.none last)
-    (λ (some : NoStore stores (record ends { held1 = middle }) ending ⊎ Served seen faults is_settled stores (record ends { held1 = middle }) ending). ⊎_elim
+    (λ (some : NoStore stores (record ends { held1 = middle }) ending ⊎ ServedStore seen faults is_settled stores (record ends { held1 = middle }) ending). ⊎_elim
     (λ (none : NoStore stores (record ends { held1 = middle }) ending). kept_nothing seen stores ends middle ending (flat_map ended none.reads.lines ++ none.reads.others) none.reads.took none.none last)
-    (λ (served : Served seen faults is_settled stores (record ends { held1 = middle }) ending). by_serving served) some)
+    (λ (served : ServedStore seen faults is_settled stores (record ends { held1 = middle }) ending). by_serving served) some)
     works
   where
     last : Last middle ends.held1 ending
     last = lasts middle ends.held1 ending status finishes
 
-    by_serving : Served seen faults is_settled stores (record ends { held1 = middle }) ending → HasKept seen stores ends
+    by_serving : ServedStore seen faults is_settled stores (record ends { held1 = middle }) ending → HasKept seen stores ends
     by_serving served = ⊎_elim
         (λ (none : NotOpened seen faults (record ends { left0 = served.between; held1 = middle }) ending served.taken served.given).
         kept_nothing seen stores ends middle ending (flat_map ended served.reads.lines ++ served.reads.others)

@@ -2,7 +2,7 @@
 use Rattle.std.proofs.Common.{◌≡◌, ℕ, true, List, [], ◌∷◌, Option, Some, None, length, arith, refl, sym, ap, ◌∙◌, subst, inr}
 use Rattle.std.specs.Prelude.{is_some, IfSome}
 use Rattle.mail_model.specs.Plan.{Plan}
-use Rattle.cluster_world.specs.World.{Begins, Opened, disk_of, is_up, plan_of}
+use Rattle.cluster_world.specs.World.{IsAtBeginning, Opened, disk_of, is_up, plan_of}
 use Rattle.cluster_world.specs.declared.world.World.{World}
 use Rattle.drive_tape.specs.declared.drove.Drove.{Drove}
 use Rattle.drive_tape.specs.declared.drove.Drove.TheVariants as drove
@@ -11,7 +11,7 @@ use Rattle.drive_tape.specs.Drive.{Drives, stop_of}
 use Rattle.porcupine_server.specs.declared.ending.Ending.{Ending}
 use Rattle.porcupine_server.specs.declared.ending.Ending.TheVariants.{Done, Line, Read, Write, NoMemory}
 use Rattle.porcupine_server.specs.Endings.{ending_of}
-use Rattle.porcupine_server.specs.Works.{Ends, Ran, Serves}
+use Rattle.porcupine_server.specs.Works.{SourceAndSink, Ran, ServesStore}
 
 -- lists of one element that are equal
 one_only : {X : Type 0} (x y : X) → x ∷ [] ≡ y ∷ [] → x ≡ y
@@ -24,8 +24,8 @@ is_empty (Some []) n is zero = refl
 is_empty (Some (x ∷ xs)) n is zero = absurd (omega (arith, is, zero))
 
 -- a world that was opened begins
-pub began : {D : Type 0} (seen : D → Option (List ℕ)) (faults : D → ℕ) (is_settled : D → Type 0) (plan : Plan) (looked : D) (start : World D) → Opened seen faults is_settled plan looked start → Begins seen (plan_of start) start
-began seen faults is_settled plan looked start opened = subst (λ (p : Plan). Begins seen p start) (sym opened.begins.plan_is) opened.begins
+pub began : {D : Type 0} (seen : D → Option (List ℕ)) (faults : D → ℕ) (is_settled : D → Type 0) (plan : Plan) (looked : D) (start : World D) → Opened seen faults is_settled plan looked start → IsAtBeginning seen (plan_of start) start
+began seen faults is_settled plan looked start opened = subst (λ (p : Plan). IsAtBeginning seen p start) (sym opened.begins.plan_is) opened.begins
 
 -- only a fault of the source ends so
 pub read_stop : (answer : Drove) → ending_of answer ≡ Read → stop_of answer ≡ why.ReadFault
@@ -35,15 +35,15 @@ read_stop (drove.WriteFault n) is = absurd (let never : Write ≡ Read = is in c
 read_stop (drove.BadTape n fault) is = absurd (let never : Line n fault ≡ Read = is in cc)
 read_stop (drove.NoMemory n) is = absurd (let never : NoMemory ≡ Read = is in cc)
 
-pub ran : {D : Type 0} (seen : D → Option (List ℕ)) (faults : D → ℕ) (is_settled : D → Type 0) (ends : Ends) (plan : Plan) (count : ℕ) (ending : Ending) (answer : Drove)
+pub ran : {D : Type 0} (seen : D → Option (List ℕ)) (faults : D → ℕ) (is_settled : D → Type 0) (ends : SourceAndSink) (plan : Plan) (count : ℕ) (ending : Ending) (answer : Drove)
     (taken looked given : D) (start last : World D) → ending ≡ ending_of answer → seen looked ≡ seen taken → faults looked ≡ faults taken
     → Opened seen faults is_settled plan looked start
-    → (Begins seen (plan_of start) start → Drives seen faults start ends.left0 ends.left1 ends.held0 ends.held1 answer count last)
+    → (IsAtBeginning seen (plan_of start) start → Drives seen faults start ends.left0 ends.left1 ends.held0 ends.held1 answer count last)
     → (is_up last ≡ true → is_settled (disk_of last)) → IfSome (seen taken) (λ held. held ≡ [])
-    → (list : List D) → list ≡ disk_of last ∷ [] → list ≡ given ∷ [] → Serves seen faults is_settled ends plan count ending taken given
+    → (list : List D) → list ≡ disk_of last ∷ [] → list ≡ given ∷ [] → ServesStore seen faults is_settled ends plan count ending taken given
 ran seen faults is_settled ends plan count ending answer taken looked given start last is same quiet_len opened drives settled empty list closed given_one =
     let store : given ≡ disk_of last = one_only given (disk_of last) (sym given_one ∙ closed) in
-    let drove = drives (subst (λ (p : Plan). Begins seen p start) (sym opened.begins.plan_is) opened.begins) in
+    let drove = drives (subst (λ (p : Plan). IsAtBeginning seen p start) (sym opened.begins.plan_is) opened.begins) in
     inr (record {
       answer = answer;
       is = is;

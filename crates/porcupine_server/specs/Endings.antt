@@ -7,8 +7,8 @@ use Rattle.mail_model.specs.Transcript.Entry.{Refused}
 use Rattle.mail_model.specs.Site.{fault_name}
 use Rattle.drive_tape.specs.declared.drove.Drove.{Drove}
 use Rattle.drive_tape.specs.declared.drove.Drove.TheVariants as drove
-use Rattle.drive_tape.specs.Faults.{fault_of}
-use Rattle.drive_tape.specs.Parts.{IsCut}
+use Rattle.drive_tape.specs.Faults.{tape_fault_seen}
+use Rattle.drive_tape.specs.Parts.{IsCutEntry}
 use Rattle.porcupine_server.specs.declared.ending.Ending.{Ending}
 use Rattle.porcupine_server.specs.declared.ending.Ending.TheVariants.{Done, Line, Read, Write, Store, NoMemory}
 
@@ -31,7 +31,7 @@ status_of NoMemory = 7
 -- the last line, where there is one
 abbrev pub last_entries : Ending → List Entry
 last_entries Done = []
-last_entries (Line number fault) = Refused (codes "line " ++ decimal number ++ 32 ∷ fault_name (fault_of fault)) ∷ []
+last_entries (Line number fault) = Refused (codes "line " ++ decimal number ++ 32 ∷ fault_name (tape_fault_seen fault)) ∷ []
 last_entries Read = Refused (codes "read") ∷ []
 last_entries Write = []
 last_entries Store = Refused (codes "disk 0 1") ∷ []
@@ -42,4 +42,4 @@ abbrev pub Finishes : Option (List ℕ) → Option (List ℕ) → Ending → ℕ
 Finishes held0 held1 ending status =
     ((status ≡ status_of ending) × Appends held0 held1 (written_of (last_entries ending)))
     ⊎ (((status ≡ 5) ⊎ (status ≡ 7)) × ((front : List Entry) × (missing : List Entry) × (cut : List ℕ)
-    × (last_entries ending ≡ front ++ missing) × IsCut missing cut × Appends held0 held1 (written_of front ++ cut)))
+    × (last_entries ending ≡ front ++ missing) × IsCutEntry missing cut × Appends held0 held1 (written_of front ++ cut)))

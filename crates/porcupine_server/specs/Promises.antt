@@ -1,7 +1,7 @@
 -- The promises to clients, over the octets that the program read and wrote and the store that it gave back.
 use Rattle.std.specs.Prelude.{◌≡◌, ◌⊎◌, ℕ, List, [], ◌∷◌, ◌++◌, flat_map, map, All, Option, Some, is_some}
 use Rattle.std.specs.Io.KnownBytes.{Consumes, Appends}
-use Rattle.io_edge.specs.Yards.{Adds}
+use Rattle.io_edge.specs.Yards.{TellsOneMore}
 use Rattle.mail_model.specs.Lines.{HasNoLf, ended}
 use Rattle.mail_model.specs.Plan.{Plan}
 use Rattle.mail_model.specs.Tape.{Draft, empty_draft, planned, tape_plan_line}
@@ -16,7 +16,7 @@ use Rattle.session_model.specs.Logs.{Asked}
 use Rattle.session_model.specs.Run.{Stop}
 use Rattle.session_model.specs.Kept.{KeepsPromises}
 use Rattle.drive_tape.specs.Plans.{DraftsTo}
-use Rattle.porcupine_server.specs.Works.{Stores, Ends}
+use Rattle.porcupine_server.specs.Works.{Stores, SourceAndSink}
 
 -- The octets begin with plan lines, `go`, and these run lines.
 pub record IsTape (octets : List ℕ) (plan : Plan) (lines : List (List ℕ)) : Type 0 where
@@ -52,11 +52,11 @@ pub record KeepsAll {D : Type 0} (seen : D → Option (List ℕ)) (given : D) (r
   pub promises : KeepsPromises plan (is_some (seen given)) stop lines entries (seen given ∷ []) (records ∷ []) (λ id. octets_in id records) book acts begun
 
 -- No session said anything; or the store was given back, and all promises are kept.
-pub record HasKept {D : Type 0} (seen : D → Option (List ℕ)) (stores : Stores D) (ends : Ends) : Type 0 where
+pub record HasKept {D : Type 0} (seen : D → Option (List ℕ)) (stores : Stores D) (ends : SourceAndSink) : Type 0 where
   pub read : List ℕ
   pub written : List ℕ
   pub entries : List Entry
   pub took : Consumes ends.left0 ends.left1 read
   pub gave : Appends ends.held0 ends.held1 written
   pub transcript : IsTranscript written entries
-  pub promise : ((k : ℕ) → lines_to k entries ≡ []) ⊎ ((given : D) × Adds stores.returned0 stores.returned1 (0, 1, given) × KeepsAll seen given read entries)
+  pub promise : ((k : ℕ) → lines_to k entries ≡ []) ⊎ ((given : D) × TellsOneMore stores.returned0 stores.returned1 (0, 1, given) × KeepsAll seen given read entries)

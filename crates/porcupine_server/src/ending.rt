@@ -4,8 +4,8 @@ ghost use Rattle.std.specs.Fmt.{decimal};
 ghost use Rattle.io_edge.specs.Causes.{Rose};
 ghost use Rattle.mail_model.specs.Transcript as transcript;
 ghost use Rattle.mail_model.specs.Site.{fault_name};
-ghost use Rattle.drive_tape.specs.Faults.{fault_of};
-ghost use Rattle.drive_tape.specs.Entries.{entries_of};
+ghost use Rattle.drive_tape.specs.Faults.{tape_fault_seen};
+ghost use Rattle.drive_tape.specs.Entries.{transcript_entries};
 ghost use Rattle.porcupine_server.specs.Endings.{ending_of, status_of, last_entries, Finishes};
 ghost use Rattle.porcupine_server.specs.declared.ending.Ending.TheVariants as endings;
 
@@ -61,7 +61,7 @@ impl Ending {
 
     // The last line that is written, where there is one.
     fn last_line(self, alloc: Global) -> Result<Row<Entry>, AllocError>
-        ensures { IfOk result (λ entries. entries_of entries ≡ last_entries self) }
+        ensures { IfOk result (λ entries. transcript_entries entries ≡ last_entries self) }
     {
         match self {
             Ending::Done => Ok(Row::new(alloc)),
@@ -76,7 +76,7 @@ impl Ending {
 
 // One line that says why the program ended.
 fn refused(alloc: Global, why: &[u8]) -> Result<Row<Entry>, AllocError>
-    ensures { IfOk result (λ entries. entries_of entries ≡ transcript.Entry.Refused why.now ∷ []) }
+    ensures { IfOk result (λ entries. transcript_entries entries ≡ transcript.Entry.Refused why.now ∷ []) }
 {
     let text = Octets::from_vec(Vec::from_slice(alloc, why)?);
     let mut entries = Row::new(alloc);
@@ -86,7 +86,7 @@ fn refused(alloc: Global, why: &[u8]) -> Result<Row<Entry>, AllocError>
 
 // The line that names a line of the tape and its fault.
 fn line_refused(alloc: Global, number: u64, fault: TapeFault) -> Result<Row<Entry>, AllocError>
-    ensures { IfOk result (λ entries. entries_of entries ≡ transcript.Entry.Refused (codes "line " ++ decimal number ++ 32 ∷ fault_name (fault_of fault)) ∷ []) }
+    ensures { IfOk result (λ entries. transcript_entries entries ≡ transcript.Entry.Refused (codes "line " ++ decimal number ++ 32 ∷ fault_name (tape_fault_seen fault)) ∷ []) }
 {
     let mut text = Vec::from_slice(alloc, b"line ")?;
     text.extend_from_slice(number.to_string(alloc)?.as_bytes())?;

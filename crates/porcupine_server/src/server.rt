@@ -4,7 +4,7 @@ ghost use Rattle.io_edge.specs.Causes.{Rose};
 ghost use Rattle.drive_tape.specs.Plans.{IsServed};
 ghost use Rattle.porcupine_server.specs.Words.{IsDrive, RefusesWords};
 ghost use Rattle.porcupine_server.specs.Stores.{DiskFailed, StoreFailed};
-ghost use Rattle.porcupine_server.specs.Works.{Ends, Stores, Serves, Works, Follows};
+ghost use Rattle.porcupine_server.specs.Works.{SourceAndSink, Stores, ServesStore, Works, TranscriptFollows};
 ghost use Rattle.porcupine_server.specs.Complete.{IsGoodTape};
 ghost use Rattle.porcupine_server.specs.Promises.{HasKept};
 ghost use Rattle.porcupine_server.specs.declared.ending.Ending.TheVariants as endings;
@@ -39,7 +39,7 @@ fn serve<S: Source, K: Sink, D: Disk + Drop>(
 ) -> (Ending, D)
     requires plan { IsServed plan }
     requires few { lines ≤ 2 ^ 40 }
-    ensures serves { Serves D.seen D.faults D.settled (record { left0 = S.left source.old; left1 = S.left source.new; held0 = K.contents sink.old; held1 = K.contents sink.new })
+    ensures serves { ServesStore D.seen D.faults D.settled (record { left0 = S.left source.old; left1 = S.left source.new; held0 = K.contents sink.old; held1 = K.contents sink.new })
         plan lines result.0 disk result.1 }
     ensures read_later { S.faults source.old ≤ S.faults source.new }
     ensures write_later { K.faults sink.old ≤ K.faults sink.new }
@@ -122,7 +122,7 @@ pub fn porcupine<S: Source, K: Sink, Y: Yard>(
     ensures promises { IsDrive words.now → HasKept Y.Store.seen
         (record { handed0 = Y.handed yard.old; handed1 = Y.handed yard.new; returned0 = Y.returned yard.old; returned1 = Y.returned yard.new })
         (record { left0 = S.left source.old; left1 = S.left source.new; held0 = K.contents sink.old; held1 = K.contents sink.new }) }
-    ensures transcript_follows { IsDrive words.now → Follows Y.Store.seen Y.Store.faults Y.Store.settled
+    ensures transcript_follows { IsDrive words.now → TranscriptFollows Y.Store.seen Y.Store.faults Y.Store.settled
         (record { handed0 = Y.handed yard.old; handed1 = Y.handed yard.new; returned0 = Y.returned yard.old; returned1 = Y.returned yard.new })
         (record { left0 = S.left source.old; left1 = S.left source.new; held0 = K.contents sink.old; held1 = K.contents sink.new }) result }
     ensures words_refused { (IsDrive words.now → ⊥) → (result ≡ 1) × (S.left source.new ≡ S.left source.old) × (Y.handed yard.new ≡ Y.handed yard.old) }

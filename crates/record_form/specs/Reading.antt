@@ -15,14 +15,14 @@ None >>= f = None
 (Some x) >>= f = f x
 
 -- what a function found, seen by `view`, is what is read
-abbrev pub FindsPart : {X Y : Type 0} → (X → Y) → Option X → Option Y → Type 0
-FindsPart view None read = read ≡ None
-FindsPart view (Some x) read = read ≡ Some (view x)
+abbrev pub FindsAsRead : {X Y : Type 0} → (X → Y) → Option X → Option Y → Type 0
+FindsAsRead view None read = read ≡ None
+FindsAsRead view (Some x) read = read ≡ Some (view x)
 
 -- a function that needs memory found what is read, or memory ran out
 abbrev pub ReadsPart : {X Y E : Type 0} → (X → Y) → Result (Option X) E → Option Y → Type 0
 ReadsPart view (Err e) read = Unit {0}
-ReadsPart view (Ok found) read = FindsPart view found read
+ReadsPart view (Ok found) read = FindsAsRead view found read
 
 -- the value itself where the test holds
 abbrev pub provided : {X : Type 0} → Bool → X → Option X

@@ -1,12 +1,12 @@
 // Parts of a payload, read from its front: each is given with the octets after it.
 ghost use Rattle.std.specs.Prelude.{◌≡◌, length};
 ghost use Rattle.std.specs.Int.{w16, w32, w64};
-ghost use Rattle.record_form.specs.Reading.{FindsPart, octet_at, number_at, text_at, id_at, epoch_at, stamp_at, targets_at};
+ghost use Rattle.record_form.specs.Reading.{FindsAsRead, octet_at, number_at, text_at, id_at, epoch_at, stamp_at, targets_at};
 
 use mail_base::{EpochId, MsgId, NodeNo, NodeSet, Stamp};
 
 pub fn octet_at(octets: &[u8]) -> Option<(u8, &[u8])>
-    ensures { FindsPart (λ x. (x.0, x.1.now)) result (octet_at octets.now) }
+    ensures { FindsAsRead (λ x. (x.0, x.1.now)) result (octet_at octets.now) }
 {
     match octets {
         [first, rest @ ..] => Some((*first, rest)),
@@ -15,7 +15,7 @@ pub fn octet_at(octets: &[u8]) -> Option<(u8, &[u8])>
 }
 
 fn u16_at(octets: &[u8]) -> Option<(u16, &[u8])>
-    ensures { FindsPart (λ x. (x.0, x.1.now)) result (number_at w16 octets.now) }
+    ensures { FindsAsRead (λ x. (x.0, x.1.now)) result (number_at w16 octets.now) }
 {
     if octets.len() < 2 {
         return None;
@@ -25,7 +25,7 @@ fn u16_at(octets: &[u8]) -> Option<(u16, &[u8])>
 }
 
 pub fn u32_at(octets: &[u8]) -> Option<(u32, &[u8])>
-    ensures { FindsPart (λ x. (x.0, x.1.now)) result (number_at w32 octets.now) }
+    ensures { FindsAsRead (λ x. (x.0, x.1.now)) result (number_at w32 octets.now) }
 {
     if octets.len() < 4 {
         return None;
@@ -36,7 +36,7 @@ pub fn u32_at(octets: &[u8]) -> Option<(u32, &[u8])>
 }
 
 fn u64_at(octets: &[u8]) -> Option<(u64, &[u8])>
-    ensures { FindsPart (λ x. (x.0, x.1.now)) result (number_at w64 octets.now) }
+    ensures { FindsAsRead (λ x. (x.0, x.1.now)) result (number_at w64 octets.now) }
 {
     if octets.len() < 8 {
         return None;
@@ -51,7 +51,7 @@ fn u64_at(octets: &[u8]) -> Option<(u64, &[u8])>
 /// A text after the octet that counts it.
 #[tactic(auto, unfolding(crate::specs::Reading::text_at))]
 pub fn text_at(octets: &[u8]) -> Option<(&[u8], &[u8])>
-    ensures { FindsPart (λ x. (x.0.now, x.1.now)) result (text_at octets.now) }
+    ensures { FindsAsRead (λ x. (x.0.now, x.1.now)) result (text_at octets.now) }
 {
     let (size, rest) = octet_at(octets)?;
     let size = size as usize;
@@ -63,7 +63,7 @@ pub fn text_at(octets: &[u8]) -> Option<(&[u8], &[u8])>
 
 #[tactic(auto, unfolding(crate::specs::Reading::id_at))]
 pub fn id_at(octets: &[u8]) -> Option<(MsgId, &[u8])>
-    ensures { FindsPart (λ x. (x.0, x.1.now)) result (id_at octets.now) }
+    ensures { FindsAsRead (λ x. (x.0, x.1.now)) result (id_at octets.now) }
 {
     let (node, rest) = octet_at(octets)?;
     let node = NodeNo::new(node)?;
@@ -75,7 +75,7 @@ pub fn id_at(octets: &[u8]) -> Option<(MsgId, &[u8])>
 
 #[tactic(auto, unfolding(crate::specs::Reading::epoch_at))]
 pub fn epoch_at(octets: &[u8]) -> Option<(EpochId, &[u8])>
-    ensures { FindsPart (λ x. (x.0, x.1.now)) result (epoch_at octets.now) }
+    ensures { FindsAsRead (λ x. (x.0, x.1.now)) result (epoch_at octets.now) }
 {
     let (count, rest) = u64_at(octets)?;
     let (node, rest) = octet_at(rest)?;
@@ -85,7 +85,7 @@ pub fn epoch_at(octets: &[u8]) -> Option<(EpochId, &[u8])>
 
 #[tactic(auto, unfolding(crate::specs::Reading::stamp_at))]
 pub fn stamp_at(octets: &[u8]) -> Option<(Stamp, &[u8])>
-    ensures { FindsPart (λ x. (x.0, x.1.now)) result (stamp_at octets.now) }
+    ensures { FindsAsRead (λ x. (x.0, x.1.now)) result (stamp_at octets.now) }
 {
     let (count, rest) = u64_at(octets)?;
     let (boot, rest) = u32_at(rest)?;
@@ -98,7 +98,7 @@ pub fn stamp_at(octets: &[u8]) -> Option<(Stamp, &[u8])>
 
 #[tactic(auto, unfolding(crate::specs::Reading::targets_at))]
 pub fn targets_at(octets: &[u8]) -> Option<(NodeSet, &[u8])>
-    ensures { FindsPart (λ x. (x.0, x.1.now)) result (targets_at octets.now) }
+    ensures { FindsAsRead (λ x. (x.0, x.1.now)) result (targets_at octets.now) }
 {
     let (mask, rest) = u16_at(octets)?;
     if mask == 0 {

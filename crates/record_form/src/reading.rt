@@ -3,7 +3,7 @@ ghost use Rattle.std.specs.Prelude.{◌≡◌, length, IfOk, option_map};
 ghost use Rattle.mail_model.specs.Record.Record.{Boot, Promise, Octets, Stated, Retired};
 ghost use Rattle.record_form.specs.Entries.{IsEntryOf, FindsEntry, AnswersEntry, ReadsAs};
 ghost use Rattle.mail_base.specs.Seen.{key_seen, value_seen};
-ghost use Rattle.record_form.specs.Reading.{ReadsPart, FindsPart, name_at, secret_at, key_for, key_at, value_at, state_at, object_in, boot_in, promise_in, is_of_kind, id_at, record_in};
+ghost use Rattle.record_form.specs.Reading.{ReadsPart, FindsAsRead, name_at, secret_at, key_for, key_at, value_at, state_at, object_in, boot_in, promise_in, is_of_kind, id_at, record_in};
 
 use crate::entry::DiskEntry;
 use crate::fields::{epoch_at, id_at, octet_at, stamp_at, targets_at, text_at, u32_at};
@@ -42,7 +42,7 @@ fn secret_at(alloc: Global, octets: &[u8]) -> Result<Option<(Secret, &[u8])>, Al
 
 #[tactic(auto, unfolding(crate::specs::Reading::key_for))]
 fn key_for(kind: u8, user: Name, octets: &[u8]) -> Option<(Key, &[u8])>
-    ensures { FindsPart (λ x. (key_seen x.0, x.1.now)) result (key_for kind user octets.now) }
+    ensures { FindsAsRead (λ x. (key_seen x.0, x.1.now)) result (key_for kind user octets.now) }
 {
     if kind == PROFILE {
         return Some((Key::Profile(user), octets));
@@ -137,7 +137,7 @@ fn object_in(alloc: Global, octets: &[u8]) -> Result<Option<(Key, ObjState)>, Al
 
 #[tactic(auto, unfolding(crate::specs::Reading::boot_in))]
 fn boot_in(octets: &[u8]) -> Option<u32>
-    ensures { FindsPart (λ x. x) result (boot_in octets.now) }
+    ensures { FindsAsRead (λ x. x) result (boot_in octets.now) }
 {
     let (boot, rest) = u32_at(octets)?;
     if !rest.is_empty() || boot == 0 {
@@ -148,7 +148,7 @@ fn boot_in(octets: &[u8]) -> Option<u32>
 
 #[tactic(auto, unfolding(crate::specs::Reading::promise_in))]
 fn promise_in(octets: &[u8]) -> Option<EpochId>
-    ensures { FindsPart (λ x. x) result (promise_in octets.now) }
+    ensures { FindsAsRead (λ x. x) result (promise_in octets.now) }
 {
     let Some((epoch, rest)) = epoch_at(octets) else {
         return None;

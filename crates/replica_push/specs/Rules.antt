@@ -19,8 +19,8 @@ use Rattle.replica_push.specs.Acks.{after_ack}
 use Rattle.replica_push.specs.Pushes.{news_of, note_news, wider_of}
 
 -- the disk says of each object what the table holds
-abbrev pub Tells : Table → List Record → Type 0
-Tells table disk = (key : Key) → fin.get table key ≡ said key disk
+abbrev pub TableTells : Table → List Record → Type 0
+TableTells table disk = (key : Key) → fin.get table key ≡ said key disk
 
 -- what is recorded of news: the state, and that it is retired where no other node is a target
 abbrev pub records_of : ℕ → Key → Option State → List Record
@@ -33,14 +33,14 @@ settled own key None log = log
 settled own key (Some state) log = if nat_eq (without_node state.targets own) 0 then retired key state log else log
 
 -- A store that takes the state by the rules: its log is that of `hear_push`, once news for no other node is retired; its disk has the records of what `hear_push` answers, and says what the table then holds.
-pub record IsTaken (own : ℕ) (key : Key) (state : State) (table : Table) (old new : Store) : Type 0 where
+pub record IsTakenByRules (own : ℕ) (key : Key) (state : State) (table : Table) (old new : Store) : Type 0 where
   pub log : new.log ≡ settled own key (news_of (fin.get table key) state) (note_news own key (news_of (fin.get table key) state) old.log)
   pub disk : new.disk ≡ old.disk ++ records_of own key (news_of (fin.get table key) state)
-  pub tells : Tells (taken key state table) new.disk
+  pub tells : TableTells (taken key state table) new.disk
 
 abbrev pub PushesFollow : Type 0
-PushesFollow = (own : ℕ) (key : Key) (state : State) (table : Table) (store : Store) → Tells table store.disk
-    → IsTaken own key state table store (take_one own (record { key = key; state = state }) store)
+PushesFollow = (own : ℕ) (key : Key) (state : State) (table : Table) (store : Store) → TableTells table store.disk
+    → IsTakenByRules own key state table store (take_one own (record { key = key; state = state }) store)
 
 -- A target more is heard as a push of the wider state would be: that state is the news, and its own join.
 abbrev pub WideningFollows : Type 0

@@ -15,7 +15,7 @@ use Rattle.mail_model.proofs.ShownLists.{lines_both, own_lines, other_lines}
 use Rattle.session_model.specs.Talk.{Standing}
 use Rattle.session_model.specs.Talk.Standing.{Hearing, Waiting, EndedByQuit, EndedDown, EndedClosed}
 use Rattle.session_model.specs.Sessions.{Session, session_at}
-use Rattle.session_model.specs.Acts.{Act, Deed, Acted, ActedAll, opened_session, replace, closing, opened_by, fed_by}
+use Rattle.session_model.specs.Acts.{Act, Deed, Acted, ActedAll, opened_session, replace, closing, opened_by, fed_by_act}
 use Rattle.session_model.specs.Acts.Act.{Opens, Does, Faults, StillWaits, Leaves}
 use Rattle.session_model.specs.Acts.Deed.{IsFed, Hears, IsAnswered, Falls, Closes}
 use Rattle.session_model.proofs.Moves.{begins}
@@ -106,7 +106,7 @@ does_other k j said deed standing other =
     lines_both j (said_lines k said) (closing k deed standing) ∙ ap₂ ◌++◌ (other_lines k j said other) (closing_silent j k deed standing)
 
 -- nor is it fed
-pub feed_other : (k j : ℕ) (deed : Deed) → j ≢ k → fed_by j (Does k deed) ≡ []
+pub feed_other : (k j : ℕ) (deed : Deed) → j ≢ k → fed_by_act j (Does k deed) ≡ []
 feed_other k j (IsFed octets) other = fed_other k j octets other
 feed_other k j (Hears one) other = refl
 feed_other k j (IsAnswered call answer reply) other = refl
@@ -136,7 +136,7 @@ kind_of session = (session.protocol, session.node)
 -- all sessions after these acts
 pub record Kept (plan : Plan) (acts : List Act) (entries : List Entry) (sessions : List Session) : Type 0 where
   pub kinds : flat_map opened_by acts ≡ map kind_of sessions
-  pub each : (k : ℕ) → Spoken plan (flat_map (fed_by k) acts) (lines_to k entries) (session_at sessions k)
+  pub each : (k : ℕ) → Spoken plan (flat_map (fed_by_act k) acts) (lines_to k entries) (session_at sessions k)
 
 -- what one act more does to a list that acts make
 pub act_push : {X : Type 0} (f : Act → List X) (acts : List Act) (act : Act) → flat_map f (acts ++ act ∷ []) ≡ flat_map f acts ++ f act
@@ -156,14 +156,14 @@ opened_now plan protocol node = record { talk = begins plan node protocol; none 
 
 module _ (plan : Plan) (acts : List Act) (entries : List Entry) (old : List Session) (kept : Kept plan acts entries old) where
   -- what a session that an act leaves alone is
-  alone : (act : Act) (more : List Entry) (new : List Session) (j : ℕ) → fed_by j act ≡ [] → lines_to j more ≡ [] → session_at new j ≡ session_at old j
-      → Spoken plan (flat_map (fed_by j) (acts ++ act ∷ [])) (lines_to j (entries ++ more)) (session_at new j)
-  alone act more new j no_feed no_lines same = spoken_so plan (flat_map (fed_by j) acts) _ (lines_to j entries) _ (session_at old j) (session_at new j)
-      (act_push (fed_by j) acts act ∙ ap (λ (l : List ℕ). flat_map (fed_by j) acts ++ l) no_feed ∙ append-nil (flat_map (fed_by j) acts))
+  alone : (act : Act) (more : List Entry) (new : List Session) (j : ℕ) → fed_by_act j act ≡ [] → lines_to j more ≡ [] → session_at new j ≡ session_at old j
+      → Spoken plan (flat_map (fed_by_act j) (acts ++ act ∷ [])) (lines_to j (entries ++ more)) (session_at new j)
+  alone act more new j no_feed no_lines same = spoken_so plan (flat_map (fed_by_act j) acts) _ (lines_to j entries) _ (session_at old j) (session_at new j)
+      (act_push (fed_by_act j) acts act ∙ ap (λ (l : List ℕ). flat_map (fed_by_act j) acts ++ l) no_feed ∙ append-nil (flat_map (fed_by_act j) acts))
       (lines_both j entries more ∙ ap (λ (l : List (List ℕ)). lines_to j entries ++ l) no_lines ∙ append-nil (lines_to j entries)) same (kept.each j)
 
   -- an act that leaves all sessions alone
-  keeps_all : (act : Act) (more : List Entry) (new : List Session) → opened_by act ≡ [] → ((j : ℕ) → fed_by j act ≡ []) → ((j : ℕ) → lines_to j more ≡ []) → new ≡ old
+  keeps_all : (act : Act) (more : List Entry) (new : List Session) → opened_by act ≡ [] → ((j : ℕ) → fed_by_act j act ≡ []) → ((j : ℕ) → lines_to j more ≡ []) → new ≡ old
       → Kept plan (acts ++ act ∷ []) (entries ++ more) new
   keeps_all act more new no_open no_feed no_lines is = record {
     kinds = act_push opened_by acts act ∙ ap (λ (l : List (Protocol × ℕ)). flat_map opened_by acts ++ l) no_open ∙ append-nil (flat_map opened_by acts) ∙ kept.kinds ∙ ap (map kind_of) (sym is);
@@ -181,12 +181,12 @@ module _ (plan : Plan) (acts : List Act) (entries : List Entry) (old : List Sess
         (ap (λ (l : List Session). session_at l j) is ∙ pushed_other old (opened_session protocol node) j other)) (cases_eq j (length old + 1));
   }
     where
-      here : (j : ℕ) → j ≡ length old + 1 → Spoken plan (flat_map (fed_by j) (acts ++ Opens protocol node greeting ∷ [])) (lines_to j (entries ++ more)) (session_at new j)
+      here : (j : ℕ) → j ≡ length old + 1 → Spoken plan (flat_map (fed_by_act j) (acts ++ Opens protocol node greeting ∷ [])) (lines_to j (entries ++ more)) (session_at new j)
       here j same =
-          let before : Spoken plan (flat_map (fed_by j) acts) (lines_to j entries) None =
-          subst (Spoken plan (flat_map (fed_by j) acts) (lines_to j entries)) (ap (session_at old) same ∙ none_behind old) (kept.each j) in
+          let before : Spoken plan (flat_map (fed_by_act j) acts) (lines_to j entries) None =
+          subst (Spoken plan (flat_map (fed_by_act j) acts) (lines_to j entries)) (ap (session_at old) same ∙ none_behind old) (kept.each j) in
           spoken_so plan [] _ (greeting ∷ []) _ (Some (opened_session protocol node)) (session_at new j)
-          (act_push (fed_by j) acts (Opens protocol node greeting) ∙ ap (λ (l : List ℕ). l ++ []) before.0)
+          (act_push (fed_by_act j) acts (Opens protocol node greeting) ∙ ap (λ (l : List ℕ). l ++ []) before.0)
           (lines_both j entries more ∙ ap₂ ◌++◌ before.1 (ap (lines_to j) says ∙ ap (λ (n : ℕ). lines_to j (said_lines n (greeting ∷ []))) (sym same) ∙ own_lines j (greeting ∷ [])))
           (ap (λ (l : List Session). session_at l j) is ∙ ap (session_at (old ++ opened_session protocol node ∷ [])) same ∙ pushed old (opened_session protocol node))
           (greeting, [], refl, opened_now plan protocol node, refl)
@@ -204,21 +204,21 @@ module _ (plan : Plan) (acts : List Act) (entries : List Entry) (old : List Sess
       kind : (behind.protocol ≡ before.protocol) × (behind.node ≡ before.node)
       kind = did_kind plan said before behind deed did
 
-      here : (j : ℕ) → j ≡ k → Spoken plan (flat_map (fed_by j) (acts ++ Does k deed ∷ [])) (lines_to j (entries ++ more)) (session_at new j)
-      here j same = subst (λ (n : ℕ). Spoken plan (flat_map (fed_by n) (acts ++ Does k deed ∷ [])) (lines_to n (entries ++ more)) (session_at new n)) (sym same) own
+      here : (j : ℕ) → j ≡ k → Spoken plan (flat_map (fed_by_act j) (acts ++ Does k deed ∷ [])) (lines_to j (entries ++ more)) (session_at new j)
+      here j same = subst (λ (n : ℕ). Spoken plan (flat_map (fed_by_act n) (acts ++ Does k deed ∷ [])) (lines_to n (entries ++ more)) (session_at new n)) (sym same) own
         where
-          own : Spoken plan (flat_map (fed_by k) (acts ++ Does k deed ∷ [])) (lines_to k (entries ++ more)) (session_at new k)
+          own : Spoken plan (flat_map (fed_by_act k) (acts ++ Does k deed ∷ [])) (lines_to k (entries ++ more)) (session_at new k)
           own =
-              let was = subst (Spoken plan (flat_map (fed_by k) acts) (lines_to k entries)) at (kept.each k) in
-              spoken_so plan (flat_map (fed_by k) acts ++ fed_by k (Does k deed)) _ (was.0 ∷ (was.1 ++ said)) _ (Some behind) (session_at new k)
-              (act_push (fed_by k) acts (Does k deed))
+              let was = subst (Spoken plan (flat_map (fed_by_act k) acts) (lines_to k entries)) at (kept.each k) in
+              spoken_so plan (flat_map (fed_by_act k) acts ++ fed_by_act k (Does k deed)) _ (was.0 ∷ (was.1 ++ said)) _ (Some behind) (session_at new k)
+              (act_push (fed_by_act k) acts (Does k deed))
               (lines_both k entries more ∙ ap₂ ◌++◌ was.2 (ap (lines_to k) says ∙ does_own k said deed behind.standing))
               (ap (λ (l : List Session). session_at l k) is ∙ replaced old k before behind at) (
                 was.0,
                 was.1 ++ said,
                 refl,
                 did_speaks plan was.1 said before behind deed was.3 did,
-                did_feed plan said before behind deed did k ∙ ap (λ (l : List ℕ). l ++ fed_by k (Does k deed)) was.4,
+                did_feed plan said before behind deed did k ∙ ap (λ (l : List ℕ). l ++ fed_by_act k (Does k deed)) was.4,
               )
 
 -- all acts

@@ -33,7 +33,7 @@ use Rattle.session_model.specs.Run.{Stop, Made, IsBegun, AreHandled, IsLeftOff, 
 use Rattle.session_model.specs.Runs.{Shows}
 use Rattle.session_model.specs.Books.{Among, AmongAnswers, AreConfirmed, dropped_by}
 use Rattle.session_model.specs.Owes.{Owes, OwesDeletions, OwesParts}
-use Rattle.session_model.specs.OneNode.{Served, IsSoundMail, AreSoundMails, IsTaken, AreTaken, asked_of, answered_of}
+use Rattle.session_model.specs.OneNode.{Served, IsSoundMail, AreSoundMails, IsTaken, AreCallsTaken, asked_of, answered_of}
 use Rattle.session_model.specs.Alone.{AreByOne, OneNodePromises}
 use Rattle.session_model.proofs.InOrder.{kind_there}
 use Rattle.session_model.proofs.Books.{IsCallIn, among_in, call_at}
@@ -132,7 +132,7 @@ module _ (plan : Plan) (lines : List (List ℕ)) (entries : List Entry) (acts : 
 
 -- what each call that was served has
 served_sound : (lines : List (List ℕ)) (served : List Served) → ((k : ℕ) (call : Call) → Among (record { session = k; call = call }) (asked_of served) → IsSoundMail call × IsTaken lines k call)
-    → AreSoundMails served × AreTaken lines served
+    → AreSoundMails served × AreCallsTaken lines served
 served_sound lines [] has = (tt, tt)
 served_sound lines (one ∷ served) has =
     let first = has one.session one.call (inl refl) in
@@ -216,7 +216,7 @@ one_node_promises plan tells stop handled left acts others made entries ending s
     shown : (shown : List Session) × Shows plan lines entries done shown
     shown = driven_is_shown plan stop handled left acts others made entries sessions driven
 
-    sound : AreSoundMails served × AreTaken lines served
+    sound : AreSoundMails served × AreCallsTaken lines served
     sound = served_sound lines served (λ k call among. call_asked plan lines entries done shown.0 shown.1 (driven_at_1 plan stop handled left acts others made entries sessions one driven) k call
         (begun_asked stop (flat_map asked_by done) (asked_of served) were (record { session = k; call = call }) among))
 

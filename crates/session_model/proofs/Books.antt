@@ -8,7 +8,7 @@ use Rattle.mail_model.specs.Stored.{Ack, mails_in}
 use Rattle.session_model.specs.Calls.{Call, Answer}
 use Rattle.session_model.specs.Calls.Call.{Deliver, Login, Fetch, Strike}
 use Rattle.session_model.specs.Talk.{Exchange}
-use Rattle.session_model.specs.Mailing.{Filing, filing_of, filings}
+use Rattle.session_model.specs.Mailing.{StoredMail, filing_of, filings}
 use Rattle.session_model.specs.Facts.{ack_of}
 use Rattle.session_model.specs.Logs.{Asked, Answered, call_in, answer_in, calls_of, answers_of, asked_in, answered_in}
 use Rattle.session_model.specs.Books.{Among, acks_by}
@@ -16,11 +16,11 @@ use Rattle.session_model.specs.Books.{Among, acks_by}
 -- messages
 
 -- the messages of filings
-abbrev pub mails : List Filing → List Mail
+abbrev pub mails : List StoredMail → List Mail
 mails filed = map (λ filing. filing.mail) filed
 
 -- the filings of calls with answers
-abbrev pub filed_by : List (Call × Answer) → List Filing
+abbrev pub filed_by : List (Call × Answer) → List StoredMail
 filed_by answers = flat_map (λ one. filing_of (Some one.0) (Some one.1)) answers
 
 -- a call that has no answer files nothing
@@ -44,7 +44,7 @@ filed_all (one ∷ exchanges) =
     ∙ ap₂ ◌++◌ (filed_one one.call one.answer) (filed_all exchanges)
 
 -- the messages of session k among those of one answer and of others
-mails_one : (k session : ℕ) (filed : List Filing) (more : List Ack)
+mails_one : (k session : ℕ) (filed : List StoredMail) (more : List Ack)
     → mails_in k (map (ack_of session) filed ++ more) ≡ (if nat_eq session k then mails filed ++ mails_in k more else mails_in k more)
 mails_one k session [] more = by_test (nat_eq session k)
   where
@@ -70,7 +70,7 @@ mails_answered k (one ∷ answered) =
         ≡ mails (filed_by (if b then (one.call, one.answer) ∷ answered_in k answered else answered_in k answered))
     by_test true same =
         ap (λ (l : List Mail). mails (filing_of (Some one.call) (Some one.answer)) ++ l) same
-        ∙ sym (map-append (λ (filing : Filing). filing.mail) (filing_of (Some one.call) (Some one.answer)) (filed_by (answered_in k answered)))
+        ∙ sym (map-append (λ (filing : StoredMail). filing.mail) (filing_of (Some one.call) (Some one.answer)) (filed_by (answered_in k answered)))
     by_test false same = same
 
 -- deletions

@@ -14,16 +14,16 @@ use Rattle.mail_model.proofs.Mailboxes.{HasOnce, unit_once as mailboxes_once}
 use Rattle.session_model.specs.Calls.{Call, Answer}
 use Rattle.session_model.specs.Calls.Call.{Deliver, Strike}
 use Rattle.session_model.specs.Calls.Answer.{Stored, Failed}
-use Rattle.session_model.specs.Talk.{State, Exchange, Standing, Lead, IsNext, IsLed, Awaits, Goes, opening, lead_of, stands, stands_by, first_line}
-use Rattle.session_model.specs.Talk.State.{Mailing, Entering, Reading}
+use Rattle.session_model.specs.Talk.{TalkState, Exchange, Standing, Lead, IsNext, IsLed, Awaits, TalkGoes, opening_state, lead_of, stands, stands_by, first_line}
+use Rattle.session_model.specs.Talk.TalkState.{Mailing, Entering, Reading}
 use Rattle.session_model.specs.Talk.Lead.{Says, Ends, Asks}
 use Rattle.session_model.specs.Talk.Standing.{Hearing, Waiting, EndedByQuit, EndedDown, EndedClosed}
 use Rattle.session_model.proofs.Chains.{goes_at, through}
 
 -- a prefix of a chain is one
 pub goes_front : (plan : Plan) (node : ℕ) (first : Standing) (octets : List ℕ) (xs ys : List Exchange) (last : Standing) (rest : List ℕ)
-    → Goes plan node first octets (xs ++ ys) last rest
-    → (mid : Standing) × (left : List ℕ) × Goes plan node first octets xs mid left × Goes plan node mid left ys last rest
+    → TalkGoes plan node first octets (xs ++ ys) last rest
+    → (mid : Standing) × (left : List ℕ) × TalkGoes plan node first octets xs mid left × TalkGoes plan node mid left ys last rest
 goes_front plan node first octets [] ys last rest g = (first, octets, (refl, refl), g)
 goes_front plan node (Hearing state) octets (one ∷ xs) ys last rest g =
     let later = goes_front plan node (stands_by plan node state one) g.0 xs ys last rest g.2 in
@@ -134,19 +134,19 @@ mail_step plan node talk one led = by_unit one.unit led
 
 -- so is each
 pub of_mail : (plan : Plan) (node : ℕ) (octets : List ℕ) (before behind : List Exchange) (one : Exchange) (last : Standing) (rest : List ℕ)
-    → Goes plan node (Hearing (opening Smtp)) octets (before ++ one ∷ behind) last rest → IsShort one.reply × IsNoStrike one.call
+    → TalkGoes plan node (Hearing (opening_state Smtp)) octets (before ++ one ∷ behind) last rest → IsShort one.reply × IsNoStrike one.call
 of_mail plan node octets before behind one last rest g =
-    let at = goes_at plan node (Hearing (opening Smtp)) octets before one behind last rest g in
+    let at = goes_at plan node (Hearing (opening_state Smtp)) octets before one behind last rest g in
     let takes : TakesMail (Hearing at.state) = through plan node (λ s l. TakesMail s) (λ been s there left x takes n. step been s there left x takes n)
-    (Hearing (opening Smtp)) octets [] before (Hearing at.state) at.there tt at.goes_before in
+    (Hearing (opening_state Smtp)) octets [] before (Hearing at.state) at.there tt at.goes_before in
     by_state at.state takes at.next.led
   where
-    step : (been : List Exchange) (s : State) (there left : List ℕ) (x : Exchange) → TakesMail (Hearing s) → IsNext plan node s there x left → TakesMail (stands_by plan node s x)
+    step : (been : List Exchange) (s : TalkState) (there left : List ℕ) (x : Exchange) → TakesMail (Hearing s) → IsNext plan node s there x left → TakesMail (stands_by plan node s x)
     step been (Mailing talk) there left x takes n = (mail_step plan node talk x n.led).still
     step been (Entering named) there left x takes n = absurd takes
     step been (Reading user slots) there left x takes n = absurd takes
 
-    by_state : (s : State) → TakesMail (Hearing s) → IsLed (lead_of plan node s one.unit) one → IsShort one.reply × IsNoStrike one.call
+    by_state : (s : TalkState) → TakesMail (Hearing s) → IsLed (lead_of plan node s one.unit) one → IsShort one.reply × IsNoStrike one.call
     by_state (Mailing talk) takes led = let is = mail_step plan node talk one led in (is.short, is.no_strike)
     by_state (Entering named) takes led = absurd takes
     by_state (Reading user slots) takes led = absurd takes

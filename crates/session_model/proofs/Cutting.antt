@@ -10,7 +10,7 @@ use Rattle.mail_model.specs.Shown.{lines_to}
 use Rattle.mail_model.proofs.ShownLists.{lines_both, own_lines, other_lines}
 use Rattle.mail_model.proofs.ShownCuts.{no_part, front_of_one}
 use Rattle.session_model.specs.Sessions.{Session, session_at}
-use Rattle.session_model.specs.Acts.{Act, Acted, IsParted, opened_session, replace, opened_by, fed_by}
+use Rattle.session_model.specs.Acts.{Act, Acted, IsParted, opened_session, replace, opened_by, fed_by_act}
 use Rattle.session_model.specs.Calls.{Call, Answer}
 use Rattle.session_model.specs.Logs.{IsLogged, calls_of, answers_of, asked_by, answered_by, asked_in, answered_in}
 use Rattle.session_model.specs.Runs.{ActsAreShown}
@@ -42,7 +42,7 @@ spoken_shown plan octets lines (Some session) (greeting, said, are, speaks, fed)
 record IsCutOff (plan : Plan) (acts : List Act) (entries : List Entry) (last : List Session) : Type 0 where
   pub sessions : List Session
   pub kinds : flat_map opened_by acts ≡ map kind_of sessions
-  pub each : (k : ℕ) → Shown plan (flat_map (fed_by k) acts) (lines_to k entries) (session_at sessions k)
+  pub each : (k : ℕ) → Shown plan (flat_map (fed_by_act k) acts) (lines_to k entries) (session_at sessions k)
   pub same_number : (k : ℕ) → session_at sessions k ≡ None → session_at last k ≡ None
   pub parted : (k : ℕ) (session : Session) → session_at sessions k ≡ Some session → (whole : Session) × (session_at last k ≡ Some whole) × IsParted whole session
 
@@ -52,14 +52,14 @@ none_parted last k session at = (session, at, unparted session)
 
 module _ (plan : Plan) (acts : List Act) (entries : List Entry) (old : List Session) (kept : Kept plan acts entries old) (front missing : List Entry) where
   -- what a session that an act leaves alone is
-  left_alone : (act : Act) (more : List Entry) (new : List Session) (j : ℕ) → more ≡ front ++ missing → fed_by j act ≡ [] → lines_to j more ≡ [] → session_at new j ≡ session_at old j
-      → Shown plan (flat_map (fed_by j) (acts ++ act ∷ [])) (lines_to j (entries ++ front)) (session_at new j)
+  left_alone : (act : Act) (more : List Entry) (new : List Session) (j : ℕ) → more ≡ front ++ missing → fed_by_act j act ≡ [] → lines_to j more ≡ [] → session_at new j ≡ session_at old j
+      → Shown plan (flat_map (fed_by_act j) (acts ++ act ∷ [])) (lines_to j (entries ++ front)) (session_at new j)
   left_alone act more new j cut no_feed no_lines same =
       let none : lines_to j front ≡ [] = no_part (lines_to j front) (lines_to j missing) (sym (lines_both j front missing) ∙ ap (lines_to j) (sym cut) ∙ no_lines) in
-      shown_so plan (flat_map (fed_by j) acts) _ (lines_to j entries) _ (session_at old j) (session_at new j)
-      (act_push (fed_by j) acts act ∙ ap (λ (l : List ℕ). flat_map (fed_by j) acts ++ l) no_feed ∙ append-nil (flat_map (fed_by j) acts))
+      shown_so plan (flat_map (fed_by_act j) acts) _ (lines_to j entries) _ (session_at old j) (session_at new j)
+      (act_push (fed_by_act j) acts act ∙ ap (λ (l : List ℕ). flat_map (fed_by_act j) acts ++ l) no_feed ∙ append-nil (flat_map (fed_by_act j) acts))
       (lines_both j entries front ∙ ap (λ (l : List (List ℕ)). lines_to j entries ++ l) none ∙ append-nil (lines_to j entries)) same
-      (spoken_shown plan (flat_map (fed_by j) acts) (lines_to j entries) (session_at old j) (kept.each j))
+      (spoken_shown plan (flat_map (fed_by_act j) acts) (lines_to j entries) (session_at old j) (kept.each j))
 
   -- a greeting, or none
   greeted : (protocol : Protocol) (node : ℕ) (greeting : List ℕ) (lines : List (List ℕ)) → (lines ≡ []) ⊎ (lines ≡ greeting ∷ []) → Shown plan [] lines (Some (opened_session protocol node))
@@ -68,7 +68,7 @@ module _ (plan : Plan) (acts : List Act) (entries : List Entry) (old : List Sess
       (subst (λ (l : List (List ℕ)). IsShown plan l (opened_session protocol node)) (sym none) (whole_shown plan [] (opened_session protocol node) (opened_now plan protocol node)), refl)
 
   -- an act that leaves all sessions alone
-  all_alone : (act : Act) (more : List Entry) (new : List Session) → Acted plan old act more new → more ≡ front ++ missing → ((j : ℕ) → fed_by j act ≡ []) → ((j : ℕ) → lines_to j more ≡ [])
+  all_alone : (act : Act) (more : List Entry) (new : List Session) → Acted plan old act more new → more ≡ front ++ missing → ((j : ℕ) → fed_by_act j act ≡ []) → ((j : ℕ) → lines_to j more ≡ [])
       → new ≡ old → IsCutOff plan (acts ++ act ∷ []) (entries ++ front) new
   all_alone act more new acted cut no_feed no_lines is = record {
     sessions = new;
@@ -91,14 +91,14 @@ module _ (plan : Plan) (acts : List Act) (entries : List Entry) (old : List Sess
     parted = none_parted new;
   }
     where
-      here : (j : ℕ) → j ≡ length old + 1 → Shown plan (flat_map (fed_by j) (acts ++ Opens protocol node greeting ∷ [])) (lines_to j (entries ++ front)) (session_at new j)
+      here : (j : ℕ) → j ≡ length old + 1 → Shown plan (flat_map (fed_by_act j) (acts ++ Opens protocol node greeting ∷ [])) (lines_to j (entries ++ front)) (session_at new j)
       here j same =
-          let before : Spoken plan (flat_map (fed_by j) acts) (lines_to j entries) None =
-          subst (Spoken plan (flat_map (fed_by j) acts) (lines_to j entries)) (ap (session_at old) same ∙ none_behind old) (kept.each j) in
+          let before : Spoken plan (flat_map (fed_by_act j) acts) (lines_to j entries) None =
+          subst (Spoken plan (flat_map (fed_by_act j) acts) (lines_to j entries)) (ap (session_at old) same ∙ none_behind old) (kept.each j) in
           let all : lines_to j front ++ lines_to j missing ≡ greeting ∷ [] =
           sym (lines_both j front missing) ∙ ap (lines_to j) (sym cut ∙ says) ∙ ap (λ (n : ℕ). lines_to j (said_lines n (greeting ∷ []))) (sym same) ∙ own_lines j (greeting ∷ []) in
           shown_so plan [] _ (lines_to j front) _ (Some (opened_session protocol node)) (session_at new j)
-          (act_push (fed_by j) acts (Opens protocol node greeting) ∙ ap (λ (l : List ℕ). l ++ []) before.0)
+          (act_push (fed_by_act j) acts (Opens protocol node greeting) ∙ ap (λ (l : List ℕ). l ++ []) before.0)
           (lines_both j entries front ∙ ap (λ (l : List (List ℕ)). l ++ lines_to j front) before.1)
           (ap (λ (l : List Session). session_at l j) is ∙ ap (session_at (old ++ opened_session protocol node ∷ [])) same ∙ pushed old (opened_session protocol node))
           (greeted protocol node greeting (lines_to j front) (front_of_one greeting (lines_to j front) (lines_to j missing) (sym all)))
@@ -109,7 +109,7 @@ module _ (plan : Plan) (acts : List Act) (entries : List Entry) (old : List Sess
     sessions = replace old k session;
     kinds = act_push opened_by acts (Does k deed) ∙ append-nil (flat_map opened_by acts) ∙ kept.kinds
         ∙ sym (map_replaced old kind_of k before session at (ap kind_of done.1.same ∙ ap₂ (λ (p : Protocol) (n : ℕ). (p, n)) kind.0 kind.1));
-    each = λ j. ⊎_elim (λ same. subst (λ (n : ℕ). Shown plan (flat_map (fed_by n) (acts ++ Does k deed ∷ [])) (lines_to n (entries ++ front)) (session_at (replace old k session) n)) (sym same) own)
+    each = λ j. ⊎_elim (λ same. subst (λ (n : ℕ). Shown plan (flat_map (fed_by_act n) (acts ++ Does k deed ∷ [])) (lines_to n (entries ++ front)) (session_at (replace old k session) n)) (sym same) own)
         (λ other. left_alone (Does k deed) more (replace old k session) j cut (feed_other k j deed other) (ap (lines_to j) says ∙ does_other k j said deed behind.standing other)
         (replaced_other old k j before session at other)) (cases_eq j k);
     same_number = λ j none. ⊎_elim
@@ -131,8 +131,8 @@ module _ (plan : Plan) (acts : List Act) (entries : List Entry) (old : List Sess
         )) (cases_eq j k);
   }
     where
-      was : Spoken plan (flat_map (fed_by k) acts) (lines_to k entries) (Some before)
-      was = subst (Spoken plan (flat_map (fed_by k) acts) (lines_to k entries)) at (kept.each k)
+      was : Spoken plan (flat_map (fed_by_act k) acts) (lines_to k entries) (Some before)
+      was = subst (Spoken plan (flat_map (fed_by_act k) acts) (lines_to k entries)) at (kept.each k)
 
       lines_cut : said ≡ lines_to k front ++ lines_to k missing
       lines_cut = sym (does_own k said deed behind.standing) ∙ ap (lines_to k) (sym says ∙ cut) ∙ lines_both k front missing
@@ -146,10 +146,10 @@ module _ (plan : Plan) (acts : List Act) (entries : List Entry) (old : List Sess
       kind : (behind.protocol ≡ before.protocol) × (behind.node ≡ before.node)
       kind = did_kind plan said before behind deed did
 
-      own : Shown plan (flat_map (fed_by k) (acts ++ Does k deed ∷ [])) (lines_to k (entries ++ front)) (session_at (replace old k session) k)
-      own = shown_so plan (flat_map (fed_by k) acts ++ fed_by k (Does k deed)) _ (was.0 ∷ (was.1 ++ lines_to k front)) _ (Some session) (session_at (replace old k session) k)
-          (act_push (fed_by k) acts (Does k deed)) (lines_both k entries front ∙ ap (λ (l : List (List ℕ)). l ++ lines_to k front) was.2) (replaced old k before session at)
-          (done.2, ap (λ (s : Session). s.octets) done.1.same ∙ did_feed plan said before behind deed did k ∙ ap (λ (l : List ℕ). l ++ fed_by k (Does k deed)) was.4)
+      own : Shown plan (flat_map (fed_by_act k) (acts ++ Does k deed ∷ [])) (lines_to k (entries ++ front)) (session_at (replace old k session) k)
+      own = shown_so plan (flat_map (fed_by_act k) acts ++ fed_by_act k (Does k deed)) _ (was.0 ∷ (was.1 ++ lines_to k front)) _ (Some session) (session_at (replace old k session) k)
+          (act_push (fed_by_act k) acts (Does k deed)) (lines_both k entries front ∙ ap (λ (l : List (List ℕ)). l ++ lines_to k front) was.2) (replaced old k before session at)
+          (done.2, ap (λ (s : Session). s.octets) done.1.same ∙ did_feed plan said before behind deed did k ∙ ap (λ (l : List ℕ). l ++ fed_by_act k (Does k deed)) was.4)
 
 -- what was asked and answered in a session, whichever lines of it were written
 module _ (plan : Plan) (calls : List Call) (answers : List (Call × Answer)) (last : Option Session) (logged : Logged calls answers last) where
@@ -168,8 +168,8 @@ acts_are_shown plan lines acts act outputs entries front missing mid last done a
     are = record {
       kinds = acts_of.opens ∙ off.kinds;
       each = λ k session at.
-          let shown : Shown plan (flat_map (fed_by k) (acts ++ act ∷ [])) (lines_to k (all_of outputs ++ front)) (Some session) =
-          subst (Shown plan (flat_map (fed_by k) (acts ++ act ∷ [])) (lines_to k (all_of outputs ++ front))) at (off.each k) in
+          let shown : Shown plan (flat_map (fed_by_act k) (acts ++ act ∷ [])) (lines_to k (all_of outputs ++ front)) (Some session) =
+          subst (Shown plan (flat_map (fed_by_act k) (acts ++ act ∷ [])) (lines_to k (all_of outputs ++ front))) at (off.each k) in
           record { talk = shown.0.talk; fed = shown.1 ∙ sym (acts_of.feeds k); gets = shown.0.gets };
     };
     logged = λ k. by_session k (session_at off.sessions k) refl;
@@ -196,7 +196,7 @@ acts_are_shown plan lines acts act outputs entries front missing mid last done a
         (none_so plan _ _ (session_at last k) (logged k) (off.same_number k none))
     by_session k (Some session) at =
         let whole = off.parted k session at in
-        let spoken : Spoken plan (flat_map (fed_by k) (acts ++ act ∷ [])) (lines_to k (all_of outputs ++ entries)) (Some whole.0) =
-        subst (Spoken plan (flat_map (fed_by k) (acts ++ act ∷ [])) (lines_to k (all_of outputs ++ entries))) whole.1 (kept.each k) in
+        let spoken : Spoken plan (flat_map (fed_by_act k) (acts ++ act ∷ [])) (lines_to k (all_of outputs ++ entries)) (Some whole.0) =
+        subst (Spoken plan (flat_map (fed_by_act k) (acts ++ act ∷ [])) (lines_to k (all_of outputs ++ entries))) whole.1 (kept.each k) in
         subst (IsLogged (asked_in k (flat_map asked_by (acts ++ act ∷ []))) (answered_in k (flat_map answered_by (acts ++ act ∷ [])))) (sym at)
         (parted_so plan _ _ (session_at last k) (logged k) session whole.0 whole.1 spoken.3.none whole.2)

@@ -12,11 +12,11 @@ use Rattle.mail_model.specs.Shown.{lines_to}
 use Rattle.session_model.specs.Calls.{Answer}
 use Rattle.session_model.specs.Calls.Call.{Strike}
 use Rattle.session_model.specs.Calls.Answer.{Dropped, Failed}
-use Rattle.session_model.specs.Talk.{Exchange, Awaits, Goes, opening, farewell, replies, lead_of}
+use Rattle.session_model.specs.Talk.{Exchange, Awaits, TalkGoes, opening_state, farewell, replies, lead_of}
 use Rattle.session_model.specs.Talk.Standing.{Hearing}
 use Rattle.session_model.specs.Reading.{Each, ListsOnce}
 use Rattle.session_model.specs.Sessions.{Session, IsCut, IsSession, exchanges_of}
-use Rattle.session_model.specs.Facts.{Strikes}
+use Rattle.session_model.specs.Facts.{AsksDeletion}
 use Rattle.session_model.specs.Promises.{Deletes, TrueAnswersDelete}
 use Rattle.session_model.proofs.Chains.{goes_at}
 use Rattle.session_model.proofs.Cuts.{of_mail, one_end, awaits}
@@ -46,18 +46,18 @@ by_protocol Pop = inr refl
 module _ (plan : Plan) (lines : List (List ℕ)) (entries : List Entry) (k : ℕ) (session : Session) (is : IsSession plan lines entries k session)
     (once : Each ListsOnce (exchanges_of session)) where
   -- its chain
-  pub goes_as : (protocol : Protocol) → session.protocol ≡ protocol → Goes plan session.node (Hearing (opening protocol)) session.octets (exchanges_of session) is.talk.before session.rest
-  goes_as protocol speaks = subst (λ (p : Protocol). Goes plan session.node (Hearing (opening p)) session.octets (exchanges_of session) is.talk.before session.rest) speaks is.talk.goes
+  pub goes_as : (protocol : Protocol) → session.protocol ≡ protocol → TalkGoes plan session.node (Hearing (opening_state protocol)) session.octets (exchanges_of session) is.talk.before session.rest
+  goes_as protocol speaks = subst (λ (p : Protocol). TalkGoes plan session.node (Hearing (opening_state p)) session.octets (exchanges_of session) is.talk.before session.rest) speaks is.talk.goes
 
   -- a session that asks for a deletion reads mail
-  pub reads_mail : (user : List ℕ) (ids : List Id) (one : Exchange) → Strikes session user ids one → session.protocol ≡ Pop
+  pub reads_mail : (user : List ℕ) (ids : List Id) (one : Exchange) → AsksDeletion session user ids one → session.protocol ≡ Pop
   reads_mail user ids one (before, behind, are, call) = ⊎_elim
       (λ smtp. absurd ((of_mail plan session.node session.octets before behind one is.talk.before session.rest
-      (subst (λ (l : List Exchange). Goes plan session.node (Hearing (opening Smtp)) session.octets l is.talk.before session.rest) are (goes_as Smtp smtp))).1 user ids call))
+      (subst (λ (l : List Exchange). TalkGoes plan session.node (Hearing (opening_state Smtp)) session.octets l is.talk.before session.rest) are (goes_as Smtp smtp))).1 user ids call))
       (λ pop. pop) (by_protocol session.protocol)
 
   -- and does so at QUIT
-  pub deletes : (user : List ℕ) (ids : List Id) (one : Exchange) → Strikes session user ids one → session.protocol ≡ Pop → Deletes entries k session user ids one
+  pub deletes : (user : List ℕ) (ids : List Id) (one : Exchange) → AsksDeletion session user ids one → session.protocol ≡ Pop → Deletes entries k session user ids one
   deletes user ids one (before, behind, are, call) pop =
       let law = strikes_at_quit plan session.node session.octets (exchanges_of session) is.talk.before session.rest (goes_as Pop pop) once before behind one user ids are call in
       let last : exchanges_of session ≡ before ++ one ∷ [] = are ∙ ap (λ (l : List Exchange). before ++ one ∷ l) law.0 in
@@ -77,8 +77,8 @@ module _ (plan : Plan) (lines : List (List ℕ)) (entries : List Entry) (k : ℕ
   pub dropped : (user : List ℕ) (ids : List Id) (before behind : List Exchange) (one : Exchange) → exchanges_of session ≡ before ++ one ∷ behind → one.call ≡ Some (Strike user ids)
       → one.reply ≡ one_line bye_text → one.answer ≡ Some Dropped
   dropped user ids before behind one are call bye =
-      let at = goes_at plan session.node (Hearing (opening session.protocol)) session.octets before one behind is.talk.before session.rest
-      (subst (λ (l : List Exchange). Goes plan session.node (Hearing (opening session.protocol)) session.octets l is.talk.before session.rest) are is.talk.goes) in
+      let at = goes_at plan session.node (Hearing (opening_state session.protocol)) session.octets before one behind is.talk.before session.rest
+      (subst (λ (l : List Exchange). TalkGoes plan session.node (Hearing (opening_state session.protocol)) session.octets l is.talk.before session.rest) are is.talk.goes) in
       bye_is user ids one.answer one.reply (awaits (lead_of plan session.node at.state one.unit) one (Strike user ids) at.next.led call) bye
 
 pub true_answers_delete : TrueAnswersDelete
@@ -95,7 +95,7 @@ true_answers_delete plan lines entries disks sessions are facts = record {
       ap (λ (l : List Exchange). l ++ session.others) whole ∙ append_assoc before (quit ∷ []) session.others in
       let asked = quit_strikes plan session.node session.octets (exchanges_of session) is.talk.before session.rest (goes_as plan lines entries k session is once Pop pop) once before session.others quit n
       cut quits marked in
-      let strikes : Strikes session asked.0 asked.1 quit = (before, session.others, cut, asked.2) in (
+      let strikes : AsksDeletion session asked.0 asked.1 quit = (before, session.others, cut, asked.2) in (
         asked.0,
         asked.1,
         deletes plan lines entries k session is once asked.0 asked.1 quit strikes pop,

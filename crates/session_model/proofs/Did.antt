@@ -6,12 +6,12 @@ use Rattle.mail_model.specs.Tape.{Protocol}
 use Rattle.session_model.specs.Calls.{Call, Answer}
 use Rattle.session_model.specs.Calls.Call.{Deliver, Login, Fetch, Strike}
 use Rattle.session_model.specs.Calls.Answer.{Listed}
-use Rattle.session_model.specs.Talk.{State, Exchange, Standing, Lead, IsLed, Awaits, IsOn, IsTalk, Breaks, Goes, opening, stands, lead_of, heard, asked, answered, farewell, replies}
+use Rattle.session_model.specs.Talk.{TalkState, Exchange, Standing, Lead, IsLed, Awaits, IsOn, IsTalk, Breaks, TalkGoes, opening_state, stands, lead_of, heard, standing_asked, answered, farewell, replies}
 use Rattle.session_model.specs.Talk.Lead.{Says, Ends, Asks}
 use Rattle.session_model.specs.Talk.Standing.{Hearing, Waiting, EndedByQuit, EndedDown, EndedClosed}
 use Rattle.session_model.specs.Moves.{with_answer}
 use Rattle.session_model.specs.Sessions.{Session, Gets, IsCut}
-use Rattle.session_model.specs.Acts.{Deed, Did, IsParted, fed_by}
+use Rattle.session_model.specs.Acts.{Deed, Did, IsParted, fed_by_act}
 use Rattle.session_model.specs.Acts.Act.{Does}
 use Rattle.mail_model.proofs.Sessions.{fed_there}
 use Rattle.session_model.specs.Acts.Deed.{IsFed, Hears, IsAnswered, Falls, Closes}
@@ -25,18 +25,18 @@ pub record Speaks (plan : Plan) (said : List (List ℕ)) (session : Session) : T
   pub lines : said ≡ replies session.whole ++ farewell session.protocol session.node session.standing
 
 -- no unit and no answer ends a session with a farewell
-answered_quiet : (protocol : Protocol) (node : ℕ) (told : State) (call : Call) (answer : Answer) → farewell protocol node (answered told call answer) ≡ []
+answered_quiet : (protocol : Protocol) (node : ℕ) (told : TalkState) (call : Call) (answer : Answer) → farewell protocol node (answered told call answer) ≡ []
 answered_quiet protocol node told (Login user secret) (Listed items) = refl
 answered_quiet protocol node told (Login user secret) answer = refl
 answered_quiet protocol node told (Deliver mail) answer = refl
 answered_quiet protocol node told (Fetch user id) answer = refl
 answered_quiet protocol node told (Strike user ids) answer = refl
 
-asked_quiet : (protocol : Protocol) (node : ℕ) (told : State) (call : Call) (answer : Option Answer) → farewell protocol node (asked told call answer) ≡ []
+asked_quiet : (protocol : Protocol) (node : ℕ) (told : TalkState) (call : Call) (answer : Option Answer) → farewell protocol node (standing_asked told call answer) ≡ []
 asked_quiet protocol node told call None = refl
 asked_quiet protocol node told call (Some answer) = answered_quiet protocol node told call answer
 
-stands_quiet : (protocol : Protocol) (node : ℕ) (plan : Plan) (state : State) (one : Exchange) (lead : Lead) → farewell protocol node (stands plan state one lead) ≡ []
+stands_quiet : (protocol : Protocol) (node : ℕ) (plan : Plan) (state : TalkState) (one : Exchange) (lead : Lead) → farewell protocol node (stands plan state one lead) ≡ []
 stands_quiet protocol node plan state one (Says reply) = refl
 stands_quiet protocol node plan state one (Ends reply) = refl
 stands_quiet protocol node plan state one (Asks call) = asked_quiet protocol node (heard plan state one.unit []) call one.answer
@@ -50,7 +50,7 @@ on_quiet protocol node EndedDown is = absurd is
 on_quiet protocol node EndedClosed is = absurd is
 
 -- what an answer leads to is no waiting
-pub never_waits : (told state : State) (asks call : Call) (answer : Answer) → Waiting state call ≡ answered told asks answer → ⊥
+pub never_waits : (told state : TalkState) (asks call : Call) (answer : Answer) → Waiting state call ≡ answered told asks answer → ⊥
 never_waits told state (Login user secret) call (Listed items) e = cc
 never_waits told state (Login user secret) call answer e = cc
 never_waits told state (Deliver mail) call answer e = cc
@@ -58,14 +58,14 @@ never_waits told state (Fetch user id) call answer e = cc
 never_waits told state (Strike user ids) call answer e = cc
 
 -- an exchange that waits has no reply yet
-waiting_silent : (plan : Plan) (state told : State) (call : Call) (one : Exchange) (lead : Lead) → IsLed lead one → Waiting told call ≡ stands plan state one lead → one.reply ≡ []
+waiting_silent : (plan : Plan) (state told : TalkState) (call : Call) (one : Exchange) (lead : Lead) → IsLed lead one → Waiting told call ≡ stands plan state one lead → one.reply ≡ []
 waiting_silent plan state told call one (Says reply) led e = cc
 waiting_silent plan state told call one (Ends reply) led e = cc
 waiting_silent plan state told call one (Asks asks) led e = by_answer one.answer refl led.1
   where
     by_answer : (answer : Option Answer) → one.answer ≡ answer → Awaits asks answer one.reply → one.reply ≡ []
     by_answer None there says = says
-    by_answer (Some answer) there says = absurd (never_waits (heard plan state one.unit []) told asks call answer (e ∙ ap (asked (heard plan state one.unit []) asks) there))
+    by_answer (Some answer) there says = absurd (never_waits (heard plan state one.unit []) told asks call answer (e ∙ ap (standing_asked (heard plan state one.unit []) asks) there))
 
 -- the replies of two lists of exchanges
 pub replies_both : (a b : List Exchange) → replies (a ++ b) ≡ replies a ++ replies b
@@ -79,15 +79,15 @@ no_farewell : (plan : Plan) (said : List (List ℕ)) (session : Session) → Spe
 no_farewell plan said session speaks none = speaks.lines ∙ ap (λ (l : List (List ℕ)). replies session.whole ++ l) none ∙ append-nil (replies session.whole)
 
 -- the lines of one that waits are those before its last exchange
-waits_before : (plan : Plan) (said : List (List ℕ)) (session : Session) (before : List Exchange) (one : Exchange) (told : State) (call : Call) → Speaks plan said session
+waits_before : (plan : Plan) (said : List (List ℕ)) (session : Session) (before : List Exchange) (one : Exchange) (told : TalkState) (call : Call) → Speaks plan said session
     → session.whole ≡ before ++ one ∷ [] → session.standing ≡ Waiting told call → said ≡ replies before
 waits_before plan said session before one told call speaks cut waits =
     no_farewell plan said session speaks (ap (farewell session.protocol session.node) waits) ∙ ap replies cut ∙ replies_push before one
     ∙ ap (λ (l : List (List ℕ)). replies before ++ l) silent ∙ append-nil (replies before)
   where
-    goes : Goes plan session.node (Hearing (opening session.protocol)) session.octets (before ++ one ∷ []) (Waiting told call) session.rest
-    goes = subst (λ (l : List Exchange). Goes plan session.node (Hearing (opening session.protocol)) session.octets l (Waiting told call) session.rest) cut
-        (subst (λ (s : Standing). Goes plan session.node (Hearing (opening session.protocol)) session.octets session.whole s session.rest)
+    goes : TalkGoes plan session.node (Hearing (opening_state session.protocol)) session.octets (before ++ one ∷ []) (Waiting told call) session.rest
+    goes = subst (λ (l : List Exchange). TalkGoes plan session.node (Hearing (opening_state session.protocol)) session.octets l (Waiting told call) session.rest) cut
+        (subst (λ (s : Standing). TalkGoes plan session.node (Hearing (opening_state session.protocol)) session.octets session.whole s session.rest)
         (broken (speaks.talk.before) session.standing waits speaks.talk.ends) speaks.talk.goes)
       where
         broken : (first standing : Standing) → standing ≡ Waiting told call → Breaks first standing → first ≡ Waiting told call
@@ -95,7 +95,7 @@ waits_before plan said session before one told call speaks cut waits =
 
     silent : one.reply ≡ []
     silent =
-        let at = goes_at plan session.node (Hearing (opening session.protocol)) session.octets before one [] (Waiting told call) session.rest goes in
+        let at = goes_at plan session.node (Hearing (opening_state session.protocol)) session.octets before one [] (Waiting told call) session.rest goes in
         waiting_silent plan at.state told call one (lead_of plan session.node at.state one.unit) at.next.led at.goes_behind.0
 
 -- the same of another session
@@ -229,7 +229,7 @@ did_kind plan lines old new Closes did = (ap (λ (s : Session). s.protocol) did.
 
 -- and its octets are those that it is fed
 pub did_feed : (plan : Plan) (lines : List (List ℕ)) (old new : Session) (deed : Deed) → Did plan old deed lines new → (k : ℕ)
-    → new.octets ≡ old.octets ++ fed_by k (Does k deed)
+    → new.octets ≡ old.octets ++ fed_by_act k (Does k deed)
 did_feed plan lines old new (IsFed more) did k = ap (λ (s : Session). s.octets) did.2 ∙ ap (λ (l : List ℕ). old.octets ++ l) (sym (fed_there k more))
 did_feed plan lines old new (Hears one) did k = ap (λ (s : Session). s.octets) did.5 ∙ sym (append-nil old.octets)
 did_feed plan lines old new (IsAnswered call answer reply) did k = ap (λ (s : Session). s.octets) did.7 ∙ sym (append-nil old.octets)

@@ -14,11 +14,11 @@ use Rattle.mail_model.specs.Shown.{lines_to}
 use Rattle.mail_model.specs.Told as told
 use Rattle.mail_model.specs.Stored.{Ack, opened_at}
 use Rattle.session_model.specs.Sessions.{Session, session_at}
-use Rattle.session_model.specs.Acts.{Act, Acted, ActedAll, AreActsOf, greeting_of, opened_by, fed_by}
+use Rattle.session_model.specs.Acts.{Act, Acted, ActedAll, AreActsOf, greeting_of, opened_by, fed_by_act}
 use Rattle.session_model.specs.Acts.Act.{Does, Faults, StillWaits, Leaves}
 use Rattle.session_model.specs.Acts.Deed.{Hears, IsAnswered, Falls, Closes}
 use Rattle.session_model.specs.Logs.{IsLogged, asked_by, answered_by, asked_in, answered_in}
-use Rattle.session_model.specs.Turns.{Turn, Next, Goes, Starts}
+use Rattle.session_model.specs.Turns.{Turn, Next, ActsGo, Starts}
 use Rattle.session_model.specs.Turns.Turn.{Hearing, Beginning, Falling, Asking}
 use Rattle.session_model.specs.Run.{Stop, Made, MayMiss, IsBegun, AreHandled, IsLeftOff, IsDriven}
 use Rattle.session_model.specs.Run.Stop.{BehindLine, SinkFailed, OutOfMemory}
@@ -32,7 +32,7 @@ use Rattle.session_model.proofs.InOrder.{IsGreeted, AreAcked, none_in_order, all
 -- an act that opens and feeds nothing
 record IsQuiet (act : Act) : Type 0 where
   pub opens : opened_by act ≡ []
-  pub feeds : (k : ℕ) → fed_by k act ≡ []
+  pub feeds : (k : ℕ) → fed_by_act k act ≡ []
   pub greeted : IsGreeted act
 
 -- each act after the first of a line is quiet
@@ -53,10 +53,10 @@ next_quiet (Asking k) next sessions act is = absurd is
 record IsMade (plan : Plan) (old : List Session) (acts : List Act) (outputs : List (List Entry)) (new : List Session) : Type 0 where
   pub done : ActedAll plan old acts outputs new
   pub opens : flat_map opened_by acts ≡ []
-  pub feeds : (k : ℕ) → flat_map (fed_by k) acts ≡ []
+  pub feeds : (k : ℕ) → flat_map (fed_by_act k) acts ≡ []
   pub greeted : All IsGreeted acts
 
-goes_made : (plan : Plan) (turn last : Turn) (old new : List Session) (acts : List Act) (outputs : List (List Entry)) → Goes plan turn old acts outputs last new → IsMade plan old acts outputs new
+goes_made : (plan : Plan) (turn last : Turn) (old new : List Session) (acts : List Act) (outputs : List (List Entry)) → ActsGo plan turn old acts outputs last new → IsMade plan old acts outputs new
 goes_made plan turn last old new [] [] (same, is) = record { done = is; opens = refl; feeds = λ k. refl; greeted = All-nil IsGreeted }
 goes_made plan turn last old new (act ∷ acts) (entries ∷ outputs) (next, mid, is, acted, goes) =
     let quiet = next_quiet turn next old act is in
@@ -79,11 +79,11 @@ starts_opens (Close k) sessions act turn (is, idle, next) = sym (ap opened_by is
 starts_opens End sessions act turn starts = absurd starts
 
 -- and feeds it
-starts_feeds : (j : ℕ) (order : Order) (sessions : List Session) (act : Act) (turn : Turn) → Starts order sessions act turn → told.fed_by j (Some order) ≡ fed_by j act
-starts_feeds j (Open protocol node) sessions act turn (is, next) = sym (ap (fed_by j) is)
-starts_feeds j (Say k text) sessions act turn (is, next) = sym (ap (fed_by j) is)
-starts_feeds j (Feed k octets) sessions act turn (is, next) = sym (ap (fed_by j) is)
-starts_feeds j (Close k) sessions act turn (is, idle, next) = sym (ap (fed_by j) is)
+starts_feeds : (j : ℕ) (order : Order) (sessions : List Session) (act : Act) (turn : Turn) → Starts order sessions act turn → told.fed_by j (Some order) ≡ fed_by_act j act
+starts_feeds j (Open protocol node) sessions act turn (is, next) = sym (ap (fed_by_act j) is)
+starts_feeds j (Say k text) sessions act turn (is, next) = sym (ap (fed_by_act j) is)
+starts_feeds j (Feed k octets) sessions act turn (is, next) = sym (ap (fed_by_act j) is)
+starts_feeds j (Close k) sessions act turn (is, idle, next) = sym (ap (fed_by_act j) is)
 starts_feeds j End sessions act turn starts = absurd starts
 
 -- and its greeting is no `250 stored`
@@ -117,7 +117,7 @@ begun_made plan down old new line acts outputs turn begun =
         opens = append-nil (opened_at (tape_order line)) ∙ ap opened_at begun.spelled ∙ starts_opens begun.order old begun.first begun.next begun.starts
             ∙ sym (append-nil (opened_by begun.first)) ∙ ap (λ l. opened_by begun.first ++ l) (sym later.opens);
         feeds = λ k. append-nil (told.fed_by k (tape_order line)) ∙ ap (told.fed_by k) begun.spelled ∙ starts_feeds k begun.order old begun.first begun.next begun.starts
-            ∙ sym (append-nil (fed_by k begun.first)) ∙ ap (λ l. fed_by k begun.first ++ l) (sym (later.feeds k));
+            ∙ sym (append-nil (fed_by_act k begun.first)) ∙ ap (λ l. fed_by_act k begun.first ++ l) (sym (later.feeds k));
       };
     }))
 
@@ -133,7 +133,7 @@ acted_both plan old mid new (act ∷ acts) more [] others done later = absurd do
 acts_both : (lines more : List (List ℕ)) (acts others : List Act) → AreActsOf lines acts → AreActsOf more others → AreActsOf (lines ++ more) (acts ++ others)
 acts_both lines more acts others first later = record {
   opens = flat_map-append (λ line. opened_at (tape_order line)) lines more ∙ ap₂ ◌++◌ first.opens later.opens ∙ sym (flat_map-append opened_by acts others);
-  feeds = λ k. flat_map-append (λ line. told.fed_by k (tape_order line)) lines more ∙ ap₂ ◌++◌ (first.feeds k) (later.feeds k) ∙ sym (flat_map-append (fed_by k) acts others);
+  feeds = λ k. flat_map-append (λ line. told.fed_by k (tape_order line)) lines more ∙ ap₂ ◌++◌ (first.feeds k) (later.feeds k) ∙ sym (flat_map-append (fed_by_act k) acts others);
 }
 
 made_both : (plan : Plan) (old mid new : List Session) (lines more : List (List ℕ)) (acts others : List Act) (outputs says : List (List Entry)) → AreMade plan old lines acts outputs mid
@@ -188,9 +188,9 @@ whole_shows plan lines acts outputs last done acts_of = record {
   are = record {
     kinds = acts_of.opens ∙ all.0.kinds;
     each = λ k session at.
-        let shown : Shown plan (flat_map (fed_by k) acts) (lines_to k (all_of outputs)) (Some session) =
-        subst (Shown plan (flat_map (fed_by k) acts) (lines_to k (all_of outputs))) at
-        (spoken_shown plan (flat_map (fed_by k) acts) (lines_to k (all_of outputs)) (session_at last k) (all.0.each k)) in
+        let shown : Shown plan (flat_map (fed_by_act k) acts) (lines_to k (all_of outputs)) (Some session) =
+        subst (Shown plan (flat_map (fed_by_act k) acts) (lines_to k (all_of outputs))) at
+        (spoken_shown plan (flat_map (fed_by_act k) acts) (lines_to k (all_of outputs)) (session_at last k) (all.0.each k)) in
         record { talk = shown.0.talk; fed = shown.1 ∙ sym (acts_of.feeds k); gets = shown.0.gets };
   };
   logged = λ k. by_session k (session_at last k) refl;
@@ -204,8 +204,8 @@ whole_shows plan lines acts outputs last done acts_of = record {
         subst (IsLogged (asked_in k (flat_map asked_by acts)) (answered_in k (flat_map answered_by acts))) (sym none)
         (subst (Logged (asked_in k (flat_map asked_by acts)) (answered_in k (flat_map answered_by acts))) none (all.1 k))
     by_session k (Some session) at =
-        let spoken : Spoken plan (flat_map (fed_by k) acts) (lines_to k (all_of outputs)) (Some session) =
-        subst (Spoken plan (flat_map (fed_by k) acts) (lines_to k (all_of outputs))) at (all.0.each k) in
+        let spoken : Spoken plan (flat_map (fed_by_act k) acts) (lines_to k (all_of outputs)) (Some session) =
+        subst (Spoken plan (flat_map (fed_by_act k) acts) (lines_to k (all_of outputs))) at (all.0.each k) in
         subst (IsLogged (asked_in k (flat_map asked_by acts)) (answered_in k (flat_map answered_by acts))) (sym at)
         (logged_whole _ _ session spoken.3.none (subst (Logged (asked_in k (flat_map asked_by acts)) (answered_in k (flat_map answered_by acts))) at (all.1 k)))
 

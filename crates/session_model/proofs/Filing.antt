@@ -5,9 +5,9 @@ use Rattle.std.proofs.lemmas.Option.{none-some}
 use Rattle.mail_model.specs.Identity.{Id, id_text}
 use Rattle.mail_model.specs.Tape.{Protocol}
 use Rattle.mail_model.specs.PopReplies.{Item}
-use Rattle.session_model.specs.Talk.{Exchange, Goes, opening}
+use Rattle.session_model.specs.Talk.{Exchange, TalkGoes, opening_state}
 use Rattle.session_model.specs.Talk.Standing.{Hearing}
-use Rattle.session_model.specs.Reading.{Each, seen}
+use Rattle.session_model.specs.Reading.{Each, seen_exchange}
 use Rattle.session_model.specs.Showing.{numbered, ShowsListed, WasListed}
 use Rattle.mail_model.specs.Shown.{ShowsId, ShowsSize, ShowsOctets}
 use Rattle.session_model.specs.Sessions.{Session, session_at, exchanges_of}
@@ -58,10 +58,10 @@ module _ (filed : Id → Option (List ℕ)) (sessions : List Session) (facts : P
   part_filed front rest x cut = each_at (IsPartFiled filed) front (rest ++ session.others) x (subst (Each (IsPartFiled filed)) (in_all front rest x cut) (facts.parts k session at))
 
   -- what an exchange shows of a number for which another shows an id
-  shown_filed : (n : ℕ) (text : List ℕ) (before behind before_it behind_it : List Exchange) (one other : Exchange) → n < 10 ^ 63 → session.whole ≡ before ++ one ∷ behind → ShowsId n text (seen one)
+  shown_filed : (n : ℕ) (text : List ℕ) (before behind before_it behind_it : List Exchange) (one other : Exchange) → n < 10 ^ 63 → session.whole ≡ before ++ one ∷ behind → ShowsId n text (seen_exchange one)
       → session.whole ≡ before_it ++ other ∷ behind_it
-      → ((size : List ℕ) → ShowsSize n size (seen other) → (octets : List ℕ) × AreFiled filed text octets × (size ≡ decimal (length octets)))
-      × ((octets : List ℕ) → ShowsOctets n octets (seen other) → AreFiled filed text octets)
+      → ((size : List ℕ) → ShowsSize n size (seen_exchange other) → (octets : List ℕ) × AreFiled filed text octets × (size ≡ decimal (length octets)))
+      × ((octets : List ℕ) → ShowsOctets n octets (seen_exchange other) → AreFiled filed text octets)
   shown_filed n text before behind before_it behind_it one other small at_one shows_id at_other =
       let named = (shows_it before behind one at_one).ids n text small shows_id in
       let it = shows_it before_it behind_it other at_other in (
@@ -81,5 +81,5 @@ pub true_answers_show : TrueAnswersShow
 true_answers_show plan lines entries filed sessions are facts k session at pop n text before behind one small at_one shows_id before_it behind_it other at_other =
     let is = are.each k session at in
     let law = shown_as_listed plan session.node session.octets (exchanges_of session) is.talk.before session.rest
-    (subst (λ (p : Protocol). Goes plan session.node (Hearing (opening p)) session.octets (exchanges_of session) is.talk.before session.rest) pop is.talk.goes) in
+    (subst (λ (p : Protocol). TalkGoes plan session.node (Hearing (opening_state p)) session.octets (exchanges_of session) is.talk.before session.rest) pop is.talk.goes) in
     shown_filed filed sessions facts k session at law.0 law.1 law.2 n text before behind before_it behind_it one other small at_one shows_id at_other

@@ -25,12 +25,12 @@ use Rattle.mail_model.proofs.ShownCuts.{no_part, front_of_one}
 use Rattle.session_model.specs.Calls.{Call, Answer}
 use Rattle.session_model.specs.Calls.Call.{Deliver, Login, Fetch, Strike}
 use Rattle.session_model.specs.Calls.Answer.{Stored}
-use Rattle.session_model.specs.Talk.{Exchange, Goes, opening, replies, farewell}
+use Rattle.session_model.specs.Talk.{Exchange, TalkGoes, opening_state, replies, farewell}
 use Rattle.session_model.specs.Talk.Standing.{Hearing}
-use Rattle.session_model.specs.Mailing.{Filing, filing_of, filings, stored_lines}
+use Rattle.session_model.specs.Mailing.{StoredMail, filing_of, filings, stored_lines}
 use Rattle.session_model.specs.Sessions.{Session, session_at}
 use Rattle.session_model.specs.Facts.{ack_of}
-use Rattle.session_model.specs.Acts.{Act, Deed, Did, Acted, ActedAll, closing, opened_by, fed_by}
+use Rattle.session_model.specs.Acts.{Act, Deed, Did, Acted, ActedAll, closing, opened_by, fed_by_act}
 use Rattle.session_model.specs.Acts.Act.{Opens, Does, Faults, StillWaits, Leaves}
 use Rattle.session_model.specs.Acts.Deed.{IsFed, Hears, IsAnswered, Falls, Closes}
 use Rattle.session_model.specs.Logs.{answered_by, answered_in, answers_of}
@@ -58,7 +58,7 @@ times zero k = []
 times (suc n) k = k ∷ times n k
 
 -- whose messages these are
-all_of_one : (k : ℕ) (filed : List Filing) → map (λ (ack : Ack). ack.session) (map (ack_of k) filed) ≡ times (length filed) k
+all_of_one : (k : ℕ) (filed : List StoredMail) → map (λ (ack : Ack). ack.session) (map (ack_of k) filed) ≡ times (length filed) k
 all_of_one k [] = refl
 all_of_one k (filing ∷ filed) = ap (λ (l : List ℕ). k ∷ l) (all_of_one k filed)
 
@@ -72,11 +72,11 @@ kind_there kinds more sessions (suc n) session same at =
 
 -- a session that reads mail has no message stored
 module _ (plan : Plan) (node : ℕ) (octets rest : List ℕ) (last : _) where
-  none_filed : (front xs : List Exchange) → Goes plan node (Hearing (opening Pop)) octets (front ++ xs) last rest → filings xs ≡ []
+  none_filed : (front xs : List Exchange) → TalkGoes plan node (Hearing (opening_state Pop)) octets (front ++ xs) last rest → filings xs ≡ []
   none_filed front [] g = refl
   none_filed front (one ∷ xs) g =
       ap₂ ◌++◌ (by_call one.call one.answer refl)
-      (none_filed (front ++ one ∷ []) xs (subst (λ (l : List Exchange). Goes plan node (Hearing (opening Pop)) octets l last rest) (sym (append_assoc front (one ∷ []) xs)) g))
+      (none_filed (front ++ one ∷ []) xs (subst (λ (l : List Exchange). TalkGoes plan node (Hearing (opening_state Pop)) octets l last rest) (sym (append_assoc front (one ∷ []) xs)) g))
     where
       by_call : (call : Option Call) (answer : Option Answer) → one.call ≡ call → filing_of call answer ≡ []
       by_call (Some (Deliver mail)) answer is =
@@ -89,8 +89,8 @@ module _ (plan : Plan) (node : ℕ) (octets rest : List ℕ) (last : _) where
 -- as many lines as messages
 lines_told : (plan : Plan) (said : List (List ℕ)) (session : Session) → Speaks plan said session → session.protocol ≡ Smtp → stored_lines said ≡ length (filings session.whole)
 lines_told plan said session speaks smtp =
-    let goes : Goes plan session.node (Hearing (opening Smtp)) session.octets session.whole speaks.talk.before session.rest =
-    subst (λ (p : Protocol). Goes plan session.node (Hearing (opening p)) session.octets session.whole speaks.talk.before session.rest) smtp speaks.talk.goes in
+    let goes : TalkGoes plan session.node (Hearing (opening_state Smtp)) session.octets session.whole speaks.talk.before session.rest =
+    subst (λ (p : Protocol). TalkGoes plan session.node (Hearing (opening_state p)) session.octets session.whole speaks.talk.before session.rest) smtp speaks.talk.goes in
     let told = (stored_as_told plan session.node session.octets session.whole speaks.talk.before session.rest goes).2 in
     let none : stored_lines (farewell session.protocol session.node session.standing) ≡ 0 =
     ap (λ (p : Protocol). stored_lines (farewell p session.node session.standing)) smtp ∙ last_lines session.node session.standing in
@@ -154,12 +154,12 @@ module _ (plan : Plan) (kinds : List (Protocol × ℕ)) (acts : List Act) (entri
       → map (λ (ack : Ack). ack.session) (flat_map acks_by (answered_by (Does k deed))) ≡ stored_sessions kinds (said_lines k said)
   deed_order k deed before behind said at did kind same = by_protocol before.protocol refl
     where
-      none_behind : (a b : List Filing) → a ++ b ≡ [] → b ≡ []
+      none_behind : (a b : List StoredMail) → a ++ b ≡ [] → b ≡ []
       none_behind [] b e = e
       none_behind (x ∷ a) b e = cc
 
-      was : Spoken plan (flat_map (fed_by k) acts) (lines_to k entries) (Some before)
-      was = subst (Spoken plan (flat_map (fed_by k) acts) (lines_to k entries)) at (kept.each k)
+      was : Spoken plan (flat_map (fed_by_act k) acts) (lines_to k entries) (Some before)
+      was = subst (Spoken plan (flat_map (fed_by_act k) acts) (lines_to k entries)) at (kept.each k)
 
       now : Speaks plan (was.1 ++ said) behind
       now = did_speaks plan was.1 said before behind deed was.3 did
@@ -167,7 +167,7 @@ module _ (plan : Plan) (kinds : List (Protocol × ℕ)) (acts : List Act) (entri
       filed : filings behind.whole ≡ filings before.whole ++ filed_by (answered_in k (answered_by (Does k deed)))
       filed = sym (filed_all behind.whole) ∙ ap filed_by (did_grows plan k was.1 said before behind deed was.3 did).answers
           ∙ flat_map-append (λ (x : Call × Answer). filing_of (Some x.0) (Some x.1)) (answers_of before.whole) (answered_in k (answered_by (Does k deed)))
-          ∙ ap (λ (l : List Filing). l ++ filed_by (answered_in k (answered_by (Does k deed)))) (filed_all before.whole)
+          ∙ ap (λ (l : List StoredMail). l ++ filed_by (answered_in k (answered_by (Does k deed)))) (filed_all before.whole)
 
       own : map (λ (ack : Ack). ack.session) (flat_map acks_by (answered_by (Does k deed))) ≡ times (length (filed_by (answered_in k (answered_by (Does k deed))))) k
       own = ap (map (λ (ack : Ack). ack.session)) (acks_own k deed) ∙ all_of_one k (filed_by (answered_in k (answered_by (Does k deed))))
@@ -182,11 +182,11 @@ module _ (plan : Plan) (kinds : List (Protocol × ℕ)) (acts : List Act) (entri
           let equal : stored_lines said ≡ length (filed_by (answered_in k (answered_by (Does k deed)))) = omega (arith, first, all, both, longer) in
           own ∙ ap (λ (n : ℕ). times n k) (sym equal) ∙ sym (stored_said kinds k said (ap is_taking kind ∙ ap (λ (p : Protocol). is_taking (Some (p, before.node))) is))
       by_protocol Pop is =
-          let goes : Goes plan behind.node (Hearing (opening Pop)) behind.octets behind.whole now.talk.before behind.rest =
-          subst (λ (p : Protocol). Goes plan behind.node (Hearing (opening p)) behind.octets behind.whole now.talk.before behind.rest) (same ∙ is) now.talk.goes in
+          let goes : TalkGoes plan behind.node (Hearing (opening_state Pop)) behind.octets behind.whole now.talk.before behind.rest =
+          subst (λ (p : Protocol). TalkGoes plan behind.node (Hearing (opening_state p)) behind.octets behind.whole now.talk.before behind.rest) (same ∙ is) now.talk.goes in
           let none : filings before.whole ++ filed_by (answered_in k (answered_by (Does k deed))) ≡ [] =
           sym filed ∙ none_filed plan behind.node behind.octets behind.rest now.talk.before [] behind.whole goes in
-          own ∙ ap (λ (l : List Filing). times (length l) k) (none_behind (filings before.whole) (filed_by (answered_in k (answered_by (Does k deed)))) none)
+          own ∙ ap (λ (l : List StoredMail). times (length l) k) (none_behind (filings before.whole) (filed_by (answered_in k (answered_by (Does k deed)))) none)
           ∙ sym (stored_read kinds k said (ap is_taking kind ∙ ap (λ (p : Protocol). is_taking (Some (p, before.node))) is))
 
   -- whatever act
@@ -235,7 +235,7 @@ module _ (plan : Plan) (acts : List Act) (entries : List Entry) (old : List Sess
       by_act (Leaves j user) greets (says, is) none = subst (λ (e : List Entry). Greeted (lines_to k e)) (sym says) tt
       by_act (Does j deed) greets (first, behind, said, at, did, says, is) none = ⊎_elim
           (λ same.
-          let was : Spoken plan (flat_map (fed_by k) acts) (lines_to k entries) (Some first) = subst (Spoken plan (flat_map (fed_by k) acts) (lines_to k entries)) (ap (session_at old) same ∙ at) (kept.each k) in
+          let was : Spoken plan (flat_map (fed_by_act k) acts) (lines_to k entries) (Some first) = subst (Spoken plan (flat_map (fed_by_act k) acts) (lines_to k entries)) (ap (session_at old) same ∙ at) (kept.each k) in
           let clash : [] ≡ was.0 ∷ was.1 = sym none ∙ was.2 in cc)
           (λ other. subst (λ (e : List Entry). Greeted (lines_to k e)) (sym says) (subst Greeted (sym (does_other j k said deed behind.standing other)) tt))
           (cases_eq k j)

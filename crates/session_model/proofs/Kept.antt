@@ -22,7 +22,7 @@ use Rattle.session_model.specs.Calls.Call.{Strike}
 use Rattle.session_model.specs.Calls.Answer.{Dropped}
 use Rattle.session_model.specs.Talk.{Exchange}
 use Rattle.session_model.specs.Reading.{IsQuitUnit, all_seen}
-use Rattle.session_model.specs.Mailing.{Filing, filings, stored_lines}
+use Rattle.session_model.specs.Mailing.{StoredMail, filings, stored_lines}
 use Rattle.session_model.specs.Sessions.{Session, Gets, session_at, exchanges_of}
 use Rattle.session_model.specs.Acts.{Act}
 use Rattle.session_model.specs.Logs.{Asked, calls_of, asked_by, answered_by, asked_in}
@@ -188,13 +188,13 @@ module _ (plan : Plan) (lines : List (List ℕ)) (entries : List Entry) (acts : 
 
       whole : mails_in k acked.acks ++ mails_in k unwritten ≡ mails (filings session.whole) ++ mails (filings session.others)
       whole = sym (mails_both k acked.acks unwritten) ∙ ap (mails_in k) acked.are ∙ of_session k session at ∙ ap mails (filings_both session.whole session.others)
-          ∙ map-append (λ (filing : Filing). filing.mail) (filings session.whole) (filings session.others)
+          ∙ map-append (λ (filing : StoredMail). filing.mail) (filings session.whole) (filings session.others)
 
       long : length (mails_in k acked.acks) ≡ length (mails (filings session.whole))
       long = mails_counted k acked.acks ∙ ap (count k) acked.lines_of ∙ lines_counted (opened lines) k takes entries ∙ greeting_none (lines_to k entries) (acked.greeted k) ∙ mail.lines
           ∙ sym (length_mails (filings session.whole))
         where
-          length_mails : (filed : List Filing) → length (mails filed) ≡ length filed
+          length_mails : (filed : List StoredMail) → length (mails filed) ≡ length filed
           length_mails [] = refl
           length_mails (filing ∷ filed) = ap suc (length_mails filed)
 

@@ -8,7 +8,7 @@ use Rattle.mail_model.specs.Transcript.{all_of}
 use Rattle.mail_model.proofs.Choices.{split_if}
 use Rattle.mail_model.proofs.Sessions.{by_number}
 use Rattle.session_model.specs.Calls.{Call, Answer}
-use Rattle.session_model.specs.Talk.{State, Exchange, Standing, Lead, IsLed, Breaks, Goes, opening, stands, asked, heard, lead_of}
+use Rattle.session_model.specs.Talk.{TalkState, Exchange, Standing, Lead, IsLed, Breaks, TalkGoes, opening_state, stands, standing_asked, heard, lead_of}
 use Rattle.session_model.specs.Talk.Lead.{Says, Ends, Asks}
 use Rattle.session_model.specs.Talk.Standing.{Hearing, Waiting}
 use Rattle.session_model.specs.Moves.{with_answer}
@@ -64,7 +64,7 @@ answered_other j k Closes other = refl
 
 -- the exchange that waits
 
-waiting_one : (plan : Plan) (state told : State) (call : Call) (one : Exchange) (lead : Lead) → IsLed lead one → Waiting told call ≡ stands plan state one lead
+waiting_one : (plan : Plan) (state told : TalkState) (call : Call) (one : Exchange) (lead : Lead) → IsLed lead one → Waiting told call ≡ stands plan state one lead
     → (one.answer ≡ None) × (one.call ≡ Some call)
 waiting_one plan state told call one (Says reply) led e = cc
 waiting_one plan state told call one (Ends reply) led e = cc
@@ -72,19 +72,19 @@ waiting_one plan state told call one (Asks asks) led e = by_answer one.answer re
   where
     by_answer : (answer : Option Answer) → one.answer ≡ answer → (one.answer ≡ None) × (one.call ≡ Some call)
     by_answer None there =
-        let waits : Waiting told call ≡ Waiting (heard plan state one.unit []) asks = e ∙ ap (asked (heard plan state one.unit []) asks) there in
+        let waits : Waiting told call ≡ Waiting (heard plan state one.unit []) asks = e ∙ ap (standing_asked (heard plan state one.unit []) asks) there in
         let same : call ≡ asks = cc in
         (there, led.0 ∙ ap Some (sym same))
-    by_answer (Some answer) there = absurd (never_waits (heard plan state one.unit []) told asks call answer (e ∙ ap (asked (heard plan state one.unit []) asks) there))
+    by_answer (Some answer) there = absurd (never_waits (heard plan state one.unit []) told asks call answer (e ∙ ap (standing_asked (heard plan state one.unit []) asks) there))
 
-waiting_in : (plan : Plan) (said : List (List ℕ)) (session : Session) (before : List Exchange) (one : Exchange) (told : State) (call : Call) → Speaks plan said session
+waiting_in : (plan : Plan) (said : List (List ℕ)) (session : Session) (before : List Exchange) (one : Exchange) (told : TalkState) (call : Call) → Speaks plan said session
     → session.whole ≡ before ++ one ∷ [] → session.standing ≡ Waiting told call → (one.answer ≡ None) × (one.call ≡ Some call)
 waiting_in plan said session before one told call speaks cut waits =
     let first : speaks.talk.before ≡ Waiting told call = broken speaks.talk.before session.standing waits speaks.talk.ends in
-    let goes : Goes plan session.node (Hearing (opening session.protocol)) session.octets (before ++ one ∷ []) (Waiting told call) session.rest =
-    subst (λ (l : List Exchange). Goes plan session.node (Hearing (opening session.protocol)) session.octets l (Waiting told call) session.rest) cut
-    (subst (λ (s : Standing). Goes plan session.node (Hearing (opening session.protocol)) session.octets session.whole s session.rest) first speaks.talk.goes) in
-    let at = goes_at plan session.node (Hearing (opening session.protocol)) session.octets before one [] (Waiting told call) session.rest goes in
+    let goes : TalkGoes plan session.node (Hearing (opening_state session.protocol)) session.octets (before ++ one ∷ []) (Waiting told call) session.rest =
+    subst (λ (l : List Exchange). TalkGoes plan session.node (Hearing (opening_state session.protocol)) session.octets l (Waiting told call) session.rest) cut
+    (subst (λ (s : Standing). TalkGoes plan session.node (Hearing (opening_state session.protocol)) session.octets session.whole s session.rest) first speaks.talk.goes) in
+    let at = goes_at plan session.node (Hearing (opening_state session.protocol)) session.octets before one [] (Waiting told call) session.rest goes in
     waiting_one plan at.state told call one (lead_of plan session.node at.state one.unit) at.next.led at.goes_behind.0
   where
     broken : (first standing : Standing) → standing ≡ Waiting told call → Breaks first standing → first ≡ Waiting told call

@@ -12,14 +12,14 @@ use Rattle.mail_model.proofs.Replies.{line_fits}
 use Rattle.session_model.specs.Calls.{Call, Answer, unstored_text}
 use Rattle.session_model.specs.Calls.Call.{Deliver}
 use Rattle.session_model.specs.Calls.Answer.{Stored, Failed}
-use Rattle.session_model.specs.Talk.{State, Exchange, Standing, Lead, IsNext, IsLed, Awaits, Goes, first_line, replies, lead_of, stands, stands_by, heard, asked}
-use Rattle.session_model.specs.Talk.State.{Mailing}
+use Rattle.session_model.specs.Talk.{TalkState, Exchange, Standing, Lead, IsNext, IsLed, Awaits, TalkGoes, first_line, replies, lead_of, stands, stands_by, heard, standing_asked}
+use Rattle.session_model.specs.Talk.TalkState.{Mailing}
 use Rattle.session_model.specs.Talk.Lead.{Says, Ends, Asks}
 use Rattle.session_model.specs.Talk.Standing.{Hearing, Waiting, EndedByQuit}
-use Rattle.session_model.specs.Mailing.{Filing, filing_of, filings, pairs, stored_lines, StoredAsTold}
+use Rattle.session_model.specs.Mailing.{StoredMail, filing_of, filings, pairs, stored_lines, StoredAsTold}
 
 -- the message of a filing
-abbrev mails : List Filing → List Mail
+abbrev mails : List StoredMail → List Mail
 mails filed = map (λ filing. filing.mail) filed
 
 -- What one exchange tells: its message, where it was stored, and the line that says so.
@@ -51,7 +51,7 @@ told_more : (plan : Plan) (node : ℕ) (talk : Told) (octets left : List ℕ) (o
 told_more plan node talk octets left one xs rest next tells more = record {
   last_text = more.last_text;
   units = (left, next.is_unit, next.whole, more.units);
-  told = map-append (λ (filing : Filing). filing.mail) (filing_of one.call one.answer) (filings xs) ∙ ap₂ ◌++◌ (sym tells.told) more.told;
+  told = map-append (λ (filing : StoredMail). filing.mail) (filing_of one.call one.answer) (filings xs) ∙ ap₂ ◌++◌ (sym tells.told) more.told;
   lines = lines_both one.reply (replies xs)
       ∙ omega (arith, tells.line, more.lines, length-append (filing_of one.call one.answer) (filings xs));
 }
@@ -59,17 +59,17 @@ told_more plan node talk octets left one xs rest next tells more = record {
 -- a session that takes mail, from what it was told on; what comes after one exchange is handed in
 module _ (plan : Plan) (node : ℕ) (talk : Told) (octets left : List ℕ) (one : Exchange) (xs : List Exchange) (last : Standing) (rest : List ℕ)
     (next : IsNext plan node (Mailing talk) octets one left)
-    (later : (told : Told) → Goes plan node (Hearing (Mailing told)) left xs last rest → AreTold plan told.in_text told left xs rest) where
+    (later : (told : Told) → TalkGoes plan node (Hearing (Mailing told)) left xs last rest → AreTold plan told.in_text told left xs rest) where
   -- what is told after it
   abbrev told_next : Told
   told_next = after_unit plan talk one.unit (first_line one.reply)
 
   -- the session goes on
   on : Tells talk one → asks_text (first_line one.reply) ≡ told_next.in_text → (standing : Standing) → standing ≡ Hearing (Mailing told_next)
-      → Goes plan node standing left xs last rest → AreTold plan talk.in_text talk octets (one ∷ xs) rest
+      → TalkGoes plan node standing left xs last rest → AreTold plan talk.in_text talk octets (one ∷ xs) rest
   on tells mode standing is g = told_more plan node talk octets left one xs rest next tells
       (subst (λ (b : Bool). AreTold plan b told_next left xs rest) (sym mode)
-      (later told_next (subst (λ (s : Standing). Goes plan node s left xs last rest) is g)))
+      (later told_next (subst (λ (s : Standing). TalkGoes plan node s left xs last rest) is g)))
 
   -- or it does not
   over : Tells talk one → xs ≡ [] → rest ≡ left → AreTold plan talk.in_text talk octets (one ∷ xs) rest
@@ -78,19 +78,19 @@ module _ (plan : Plan) (node : ℕ) (talk : Told) (octets left : List ℕ) (one 
       (none_told plan (asks_text (first_line one.reply)) told_next left rest same))
 
   -- after a standing that hears nothing
-  nothing : (standing : Standing) (ys : List Exchange) → standing ≡ EndedByQuit ⊎ ((told : State) × (call : Call) × (standing ≡ Waiting told call))
-      → Goes plan node standing left ys last rest → (ys ≡ []) × (rest ≡ left)
+  nothing : (standing : Standing) (ys : List Exchange) → standing ≡ EndedByQuit ⊎ ((told : TalkState) × (call : Call) × (standing ≡ Waiting told call))
+      → TalkGoes plan node standing left ys last rest → (ys ≡ []) × (rest ≡ left)
   nothing standing [] is g = (refl, g.1)
   nothing standing (y ∷ ys) is g = ⊎_elim
-      (λ quit. absurd (subst (λ (s : Standing). Goes plan node s left (y ∷ ys) last rest) quit g))
-      (λ waits. absurd (subst (λ (s : Standing). Goes plan node s left (y ∷ ys) last rest) waits.2 g)) is
+      (λ quit. absurd (subst (λ (s : Standing). TalkGoes plan node s left (y ∷ ys) last rest) quit g))
+      (λ waits. absurd (subst (λ (s : Standing). TalkGoes plan node s left (y ∷ ys) last rest) waits.2 g)) is
 
   -- its standing
   abbrev here : Standing
   here = stands_by plan node (Mailing talk) one
 
   -- a line
-  line_told : (line : List ℕ) → one.unit ≡ Line line → (b : Bool) → is_quit_line line ≡ b → Goes plan node here left xs last rest
+  line_told : (line : List ℕ) → one.unit ≡ Line line → (b : Bool) → is_quit_line line ≡ b → TalkGoes plan node here left xs last rest
       → AreTold plan talk.in_text talk octets (one ∷ xs) rest
   line_told line is b quits g = by_test b quits
     where
@@ -132,7 +132,7 @@ module _ (plan : Plan) (node : ℕ) (talk : Told) (octets left : List ℕ) (one 
           on (tells led.0 led.2) (mode led.2) here (ap (stands plan (Mailing talk) one) lead) g
 
   -- a text
-  text_told : (lines : List (List ℕ)) → one.unit ≡ Text lines → Goes plan node here left xs last rest → AreTold plan talk.in_text talk octets (one ∷ xs) rest
+  text_told : (lines : List (List ℕ)) → one.unit ≡ Text lines → TalkGoes plan node here left xs last rest → AreTold plan talk.in_text talk octets (one ∷ xs) rest
   text_told lines is g = by_test (is_large lines) refl
     where
       lead_is : lead_of plan node (Mailing talk) one.unit ≡ (if is_large lines then Says (one_line (reply_text plan node talk (Text lines))) else Asks (Deliver (mail_of talk lines)))
@@ -160,19 +160,19 @@ module _ (plan : Plan) (node : ℕ) (talk : Told) (octets left : List ℕ) (one 
           let done = nothing here xs (inr (
             heard plan (Mailing talk) one.unit [],
             Deliver (mail_of talk lines),
-            ap (stands plan (Mailing talk) one) lead ∙ ap (asked (heard plan (Mailing talk) one.unit []) (Deliver (mail_of talk lines))) there,
+            ap (stands plan (Mailing talk) one) lead ∙ ap (standing_asked (heard plan (Mailing talk) one.unit []) (Deliver (mail_of talk lines))) there,
           )) g in
           over (tells_by [] (Some (Deliver (mail_of talk lines))) None says call there refl refl) done.0 done.1
       by_answer call lead (Some (Stored id)) there says =
           on (tells_by (one_line stored_text) (Some (Deliver (mail_of talk lines))) (Some (Stored id)) says call there refl refl)
           (mode (one_line stored_text) says refl) here
-          (ap (stands plan (Mailing talk) one) lead ∙ ap (asked (heard plan (Mailing talk) one.unit []) (Deliver (mail_of talk lines))) there
+          (ap (stands plan (Mailing talk) one) lead ∙ ap (standing_asked (heard plan (Mailing talk) one.unit []) (Deliver (mail_of talk lines))) there
           ∙ ap₂ (λ (u : Unit) (v : Unit). Hearing (Mailing (after_unit plan talk u []))) is is
           ∙ ap (λ (u : Unit). Hearing (Mailing (after_unit plan talk u (first_line one.reply)))) (sym is)) g
       by_answer call lead (Some Failed) there says =
           on (tells_by (one_line unstored_text) (Some (Deliver (mail_of talk lines))) (Some Failed) says call there refl refl)
           (mode (one_line unstored_text) says refl) here
-          (ap (stands plan (Mailing talk) one) lead ∙ ap (asked (heard plan (Mailing talk) one.unit []) (Deliver (mail_of talk lines))) there
+          (ap (stands plan (Mailing talk) one) lead ∙ ap (standing_asked (heard plan (Mailing talk) one.unit []) (Deliver (mail_of talk lines))) there
           ∙ ap (λ (u : Unit). Hearing (Mailing (after_unit plan talk u []))) is
           ∙ ap (λ (u : Unit). Hearing (Mailing (after_unit plan talk u (first_line one.reply)))) (sym is)) g
       by_answer call lead (Some answer) there says = absurd says
@@ -191,13 +191,13 @@ module _ (plan : Plan) (node : ℕ) (talk : Told) (octets left : List ℕ) (one 
           by_answer led.0 lead one.answer refl led.1
 
   -- either
-  unit_told : (unit : Unit) → one.unit ≡ unit → Goes plan node here left xs last rest → AreTold plan talk.in_text talk octets (one ∷ xs) rest
+  unit_told : (unit : Unit) → one.unit ≡ unit → TalkGoes plan node here left xs last rest → AreTold plan talk.in_text talk octets (one ∷ xs) rest
   unit_told (Line line) is g = line_told line is (is_quit_line line) refl g
   unit_told (Text lines) is g = text_told lines is g
 
 -- all exchanges
 all_told : (plan : Plan) (node : ℕ) (talk : Told) (octets : List ℕ) (xs : List Exchange) (last : Standing) (rest : List ℕ)
-    → Goes plan node (Hearing (Mailing talk)) octets xs last rest → AreTold plan talk.in_text talk octets xs rest
+    → TalkGoes plan node (Hearing (Mailing talk)) octets xs last rest → AreTold plan talk.in_text talk octets xs rest
 all_told plan node talk octets [] last rest g = none_told plan talk.in_text talk octets rest g.1
 all_told plan node talk octets (one ∷ xs) last rest (left, next, g) =
     unit_told plan node talk octets left one xs last rest next (λ told h. all_told plan node told left xs last rest h) one.unit refl g

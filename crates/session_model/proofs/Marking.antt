@@ -8,10 +8,10 @@ use Rattle.mail_model.specs.Session.{Unit}
 use Rattle.mail_model.specs.Session.Unit.{Line, Text}
 use Rattle.mail_model.specs.Pop.{pop_command_of}
 use Rattle.mail_model.specs.Pop.Command.{Pass, Retr}
-use Rattle.mail_model.specs.PopReplies.{Item, Slot, one_line, listed_slots, octets_text, dotted_line, last_line}
-use Rattle.mail_model.specs.Maildrop.{Outcome, line_outcome, named_in, deleted_in, wrong_text, entered_text, gone_text, later_text}
+use Rattle.mail_model.specs.PopReplies.{Item, ListingSlot, one_line, listed_slots, octets_text, dotted_line, last_line}
+use Rattle.mail_model.specs.Maildrop.{LineOutcome, line_outcome, named_in, deleted_in, wrong_text, entered_text, gone_text, later_text}
 use Rattle.mail_model.specs.Maildrop.Stage.{Authorization, Transaction}
-use Rattle.mail_model.specs.Maildrop.Outcome.{Answered, Closed, AsksLogin, AsksMessage, AsksDeletion}
+use Rattle.mail_model.specs.Maildrop.LineOutcome.{Answered, Closed, AsksLogin, AsksMessage, AsksDeletion}
 use Rattle.mail_model.specs.Told.{IsUnit}
 use Rattle.mail_model.proofs.ShownCuts.{bad_answers}
 use Rattle.mail_model.proofs.ShownReplies.{exchange}
@@ -22,20 +22,20 @@ use Rattle.mail_model.proofs.DeletedSessions.{Unknown, Known, unknown_more, logs
 use Rattle.session_model.specs.Calls.{Answer}
 use Rattle.session_model.specs.Calls.Call.{Login, Fetch, Strike}
 use Rattle.session_model.specs.Calls.Answer.{Listed, Wrong, Part, GoneAlready, Failed}
-use Rattle.session_model.specs.Talk.{State, Exchange, IsNext, IsLed, Awaits, line_lead, lead_of, stands, stands_by, asked}
-use Rattle.session_model.specs.Talk.State.{Mailing, Entering, Reading}
+use Rattle.session_model.specs.Talk.{TalkState, Exchange, IsNext, IsLed, Awaits, line_lead, lead_of, stands, stands_by, standing_asked}
+use Rattle.session_model.specs.Talk.TalkState.{Mailing, Entering, Reading}
 use Rattle.session_model.specs.Talk.Standing.{Hearing}
-use Rattle.session_model.specs.Reading.{ListsOnce, all_seen, seen, line_of}
+use Rattle.session_model.specs.Reading.{ListsOnce, all_seen, seen_exchange, line_of}
 
 -- what the exchanges so far are to a session that reads mail and hears
-abbrev pub IsAsSeen : State → List Exchange → Type 0
+abbrev pub IsAsSeen : TalkState → List Exchange → Type 0
 IsAsSeen (Mailing talk) been = ⊥
 IsAsSeen (Entering named) been = Unknown named (all_seen been)
 IsAsSeen (Reading user slots) been = Known slots user (all_seen been)
 
 -- all of them, with one more
-pub seen_more : (been : List Exchange) (one : Exchange) → all_seen (been ++ one ∷ []) ≡ all_seen been ++ seen one ∷ []
-seen_more been one = map-append seen been (one ∷ [])
+pub seen_more : (been : List Exchange) (one : Exchange) → all_seen (been ++ one ∷ []) ≡ all_seen been ++ seen_exchange one ∷ []
+seen_more been one = map-append seen_exchange been (one ∷ [])
 
 -- that a node could not answer shows and marks nothing
 pub later_quiet : (line : List ℕ) → Quiet line (one_line later_text)
@@ -65,41 +65,41 @@ module _ (plan : Plan) (node : ℕ) (named : Option (List ℕ)) (been : List Exc
   -- a login that is let in
   entered : (name secret : List ℕ) (items : List Item) → named ≡ Some name → pop_command_of line ≡ Ok (Pass secret) → one.call ≡ Some (Login name secret) → one.answer ≡ Some (Listed items)
       → one.reply ≡ one_line entered_text → IsAsSeen (Reading name (listed_slots items)) (been ++ one ∷ [])
-  entered name secret items is_named asked call there says =
+  entered name secret items is_named standing_asked call there says =
       subst (Known (listed_slots items) name)
       (ap₂ (λ (l : List ℕ) (r : List (List ℕ)). all_seen been ++ exchange l r ∷ []) (ap line_of (sym is)) (sym says) ∙ sym (seen_more been one))
-      (logs_in name secret line (all_seen been) items (subst (λ (n : Option (List ℕ)). Unknown n (all_seen been)) is_named unknown) asked
-      (pass_quiet line secret asked) (lists name secret items call there))
+      (logs_in name secret line (all_seen been) items (subst (λ (n : Option (List ℕ)). Unknown n (all_seen been)) is_named unknown) standing_asked
+      (pass_quiet line secret standing_asked) (lists name secret items call there))
 
   -- the answer to a login
   login_seen : (name secret : List ℕ) → named ≡ Some name → pop_command_of line ≡ Ok (Pass secret) → one.call ≡ Some (Login name secret) → (answer : Option Answer) → one.answer ≡ answer
-      → Awaits (Login name secret) answer one.reply → (state : State) → asked (Entering (named_in line)) (Login name secret) answer ≡ Hearing state
+      → Awaits (Login name secret) answer one.reply → (state : TalkState) → standing_asked (Entering (named_in line)) (Login name secret) answer ≡ Hearing state
       → IsAsSeen state (been ++ one ∷ [])
   login_seen name secret is_named pass call None there says state e = cc
   login_seen name secret is_named pass call (Some (Listed items)) there says state e =
       let same : Reading name (listed_slots items) ≡ state = cc in
-      subst (λ (s : State). IsAsSeen s (been ++ one ∷ [])) same (entered name secret items is_named pass call there says)
+      subst (λ (s : TalkState). IsAsSeen s (been ++ one ∷ [])) same (entered name secret items is_named pass call there says)
   login_seen name secret is_named pass call (Some Wrong) there says state e =
       let same : Entering (named_in line) ≡ state = cc in
-      subst (λ (s : State). IsAsSeen s (been ++ one ∷ [])) same (quiet_entering (one_line wrong_text) says (bad line wrong_text (refl, refl, refl)))
+      subst (λ (s : TalkState). IsAsSeen s (been ++ one ∷ [])) same (quiet_entering (one_line wrong_text) says (bad line wrong_text (refl, refl, refl)))
   login_seen name secret is_named pass call (Some Failed) there says state e =
       let same : Entering (named_in line) ≡ state = cc in
-      subst (λ (s : State). IsAsSeen s (been ++ one ∷ [])) same (quiet_entering (one_line later_text) says (later_quiet line))
+      subst (λ (s : TalkState). IsAsSeen s (been ++ one ∷ [])) same (quiet_entering (one_line later_text) says (later_quiet line))
   login_seen name secret is_named pass call (Some answer) there says state e = absurd says
 
   -- whatever the line leads to
-  outcome_seen : (outcome : Outcome) → LeadsBefore named line outcome → IsLed (line_lead [] outcome) one → (state : State)
+  outcome_seen : (outcome : LineOutcome) → LeadsBefore named line outcome → IsLed (line_lead [] outcome) one → (state : TalkState)
       → stands plan (Entering named) (record one { unit = Line line }) (line_lead [] outcome) ≡ Hearing state → IsAsSeen state (been ++ one ∷ [])
   outcome_seen (Answered lines) leads led state e =
       let same : Entering (named_in line) ≡ state = cc in
-      subst (λ (s : State). IsAsSeen s (been ++ one ∷ [])) same (quiet_entering lines led.2 leads)
+      subst (λ (s : TalkState). IsAsSeen s (been ++ one ∷ [])) same (quiet_entering lines led.2 leads)
   outcome_seen (Closed lines) leads led state e = cc
   outcome_seen (AsksLogin name secret) leads led state e = login_seen name secret leads.0 leads.1 led.0 one.answer refl led.1 state e
   outcome_seen (AsksMessage number id) leads led state e = absurd leads
   outcome_seen (AsksDeletion ids) leads led state e = absurd leads
 
 -- a session after its login
-module _ (plan : Plan) (node : ℕ) (user : List ℕ) (slots : List Slot) (been : List Exchange) (known : Known slots user (all_seen been))
+module _ (plan : Plan) (node : ℕ) (user : List ℕ) (slots : List ListingSlot) (been : List Exchange) (known : Known slots user (all_seen been))
     (line : List ℕ) (one : Exchange) (is : one.unit ≡ Line line) where
   -- a reply that shows and marks what the line does
   tells_reading : (reply : List (List ℕ)) → one.reply ≡ reply → Tells slots line reply → IsAsSeen (Reading user (deleted_in slots line)) (been ++ one ∷ [])
@@ -109,40 +109,40 @@ module _ (plan : Plan) (node : ℕ) (user : List ℕ) (slots : List Slot) (been 
       (known_more slots user (all_seen been) line reply known tells)
 
   -- the answer to RETR
-  fetch_seen : (number : ℕ) (id : Id) → pop_command_of line ≡ Ok (Retr number) → (answer : Option Answer) → Awaits (Fetch user id) answer one.reply → (state : State)
-      → asked (Reading user (deleted_in slots line)) (Fetch user id) answer ≡ Hearing state → IsAsSeen state (been ++ one ∷ [])
+  fetch_seen : (number : ℕ) (id : Id) → pop_command_of line ≡ Ok (Retr number) → (answer : Option Answer) → Awaits (Fetch user id) answer one.reply → (state : TalkState)
+      → standing_asked (Reading user (deleted_in slots line)) (Fetch user id) answer ≡ Hearing state → IsAsSeen state (been ++ one ∷ [])
   fetch_seen number id retr None says state e = cc
   fetch_seen number id retr (Some (Part octets)) says state e =
       let same : Reading user (deleted_in slots line) ≡ state = cc in
-      subst (λ (s : State). IsAsSeen s (been ++ one ∷ [])) same
+      subst (λ (s : TalkState). IsAsSeen s (been ++ one ∷ [])) same
       (tells_reading (octets_text (length octets) ∷ map dotted_line says.lines ++ last_line) says.says (retr_tells slots line number (length octets) says.lines retr))
   fetch_seen number id retr (Some GoneAlready) says state e =
       let same : Reading user (deleted_in slots line) ≡ state = cc in
-      subst (λ (s : State). IsAsSeen s (been ++ one ∷ [])) same (tells_reading (one_line gone_text) says (gone_tells slots line number retr))
+      subst (λ (s : TalkState). IsAsSeen s (been ++ one ∷ [])) same (tells_reading (one_line gone_text) says (gone_tells slots line number retr))
   fetch_seen number id retr (Some Failed) says state e =
       let same : Reading user (deleted_in slots line) ≡ state = cc in
-      subst (λ (s : State). IsAsSeen s (been ++ one ∷ [])) same
+      subst (λ (s : TalkState). IsAsSeen s (been ++ one ∷ [])) same
       (tells_reading (one_line later_text) says (unmarked_tells slots line (one_line later_text) (ap dele_number retr) (later_quiet line)))
   fetch_seen number id retr (Some answer) says state e = absurd says
 
   -- after a deletion it hears nothing
-  strike_over : (ids : List Id) (answer : Option Answer) (state : State) → asked (Reading user (deleted_in slots line)) (Strike user ids) answer ≡ Hearing state → ⊥
+  strike_over : (ids : List Id) (answer : Option Answer) (state : TalkState) → standing_asked (Reading user (deleted_in slots line)) (Strike user ids) answer ≡ Hearing state → ⊥
   strike_over ids None state e = cc
   strike_over ids (Some answer) state e = cc
 
   -- whatever the line leads to
-  outcome_seen_behind : (outcome : Outcome) → LeadsBehind slots line outcome → IsLed (line_lead user outcome) one → (state : State)
+  outcome_seen_behind : (outcome : LineOutcome) → LeadsBehind slots line outcome → IsLed (line_lead user outcome) one → (state : TalkState)
       → stands plan (Reading user slots) (record one { unit = Line line }) (line_lead user outcome) ≡ Hearing state → IsAsSeen state (been ++ one ∷ [])
   outcome_seen_behind (Answered lines) leads led state e =
       let same : Reading user (deleted_in slots line) ≡ state = cc in
-      subst (λ (s : State). IsAsSeen s (been ++ one ∷ [])) same (tells_reading lines led.2 leads)
+      subst (λ (s : TalkState). IsAsSeen s (been ++ one ∷ [])) same (tells_reading lines led.2 leads)
   outcome_seen_behind (Closed lines) leads led state e = cc
   outcome_seen_behind (AsksLogin name secret) leads led state e = absurd leads
   outcome_seen_behind (AsksMessage number id) leads led state e = fetch_seen number id leads one.answer led.1 state e
   outcome_seen_behind (AsksDeletion ids) leads led state e = absurd (strike_over ids one.answer state e)
 
 -- each exchange
-pub step_seen : (plan : Plan) (node : ℕ) (been : List Exchange) (state : State) (there left : List ℕ) (one : Exchange) (next : State) → IsAsSeen state been → ListsOnce one
+pub step_seen : (plan : Plan) (node : ℕ) (been : List Exchange) (state : TalkState) (there left : List ℕ) (one : Exchange) (next : TalkState) → IsAsSeen state been → ListsOnce one
     → IsNext plan node state there one left → stands_by plan node state one ≡ Hearing next → IsAsSeen next (been ++ one ∷ [])
 step_seen plan node been (Mailing talk) there left one next as_seen lists n e = absurd as_seen
 step_seen plan node been (Entering named) there left one next as_seen lists n e = by_unit one.unit refl

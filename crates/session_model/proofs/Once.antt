@@ -11,7 +11,7 @@ use Rattle.mail_model.specs.Identity.{Id, id_text}
 use Rattle.mail_model.specs.Grammar.{IsId}
 use Rattle.mail_model.specs.Tape.{Protocol}
 use Rattle.mail_model.specs.PopReplies.{Item}
-use Rattle.session_model.specs.Talk.{Exchange, Goes, opening}
+use Rattle.session_model.specs.Talk.{Exchange, TalkGoes, opening_state}
 use Rattle.session_model.specs.Talk.Standing.{Hearing}
 use Rattle.session_model.specs.Reading.{Each, ListsOnce, ListsNamed}
 use Rattle.session_model.specs.Showing.{numbered, ShowsListed, WasListed}
@@ -114,7 +114,7 @@ pub true_listings_show : TrueListingsShow
 true_listings_show plan lines entries sessions are facts k session at pop n m text before behind before_it behind_it one other small small_too at_one shows_one at_other shows_other =
     let is = are.each k session at in
     let law = shown_as_listed plan session.node session.octets (exchanges_of session) is.talk.before session.rest
-    (subst (λ (p : Protocol). Goes plan session.node (Hearing (opening p)) session.octets (exchanges_of session) is.talk.before session.rest) pop is.talk.goes) in
+    (subst (λ (p : Protocol). TalkGoes plan session.node (Hearing (opening_state p)) session.octets (exchanges_of session) is.talk.before session.rest) pop is.talk.goes) in
     one_number sessions facts k session at law.0 law.1 law.2 n m text
     ((shows_it sessions facts k session at law.0 law.1 law.2 before behind one at_one).ids n text small shows_one)
     ((shows_it sessions facts k session at law.0 law.1 law.2 before_it behind_it other at_other).ids m text small_too shows_other)

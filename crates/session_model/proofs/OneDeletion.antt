@@ -4,15 +4,15 @@ use Rattle.std.proofs.lemmas.Option.{none-some}
 use Rattle.mail_model.specs.Identity.{Id}
 use Rattle.mail_model.specs.Lines.{sent_line}
 use Rattle.mail_model.specs.Maildrop.{wrong_text, entered_text}
-use Rattle.mail_model.specs.Maildrop.Outcome.{Answered, AsksLogin}
+use Rattle.mail_model.specs.Maildrop.LineOutcome.{Answered, AsksLogin}
 use Rattle.mail_model.specs.PopReplies.{Item, one_line}
 use Rattle.mail_model.specs.Session.Unit.{Line}
 use Rattle.mail_model.specs.Site.{nth_id}
 use Rattle.mail_model.specs.Tape.Protocol.{Pop}
 use Rattle.session_model.specs.Calls.Call.{Login, Strike}
 use Rattle.session_model.specs.Calls.Answer.{Listed}
-use Rattle.session_model.specs.Talk.{State, Lead, Exchange, IsLed, Goes, opening, lead_of, line_lead, stands}
-use Rattle.session_model.specs.Talk.State.{Entering}
+use Rattle.session_model.specs.Talk.{TalkState, Lead, Exchange, IsLed, TalkGoes, opening_state, lead_of, line_lead, stands}
+use Rattle.session_model.specs.Talk.TalkState.{Entering}
 use Rattle.session_model.specs.Talk.Lead.{Asks}
 use Rattle.session_model.specs.Talk.Standing.{Hearing, EndedByQuit}
 use Rattle.session_model.specs.Reading.{Each, ListsOnce}
@@ -25,20 +25,20 @@ use Rattle.session_model.proofs.Striking.{strikes_at_quit}
 abbrev pass : Exchange
 pass = record { unit = Line (codes "PASS tanstaaf"); call = Some (Login (codes "alice") (codes "tanstaaf")); answer = Some (Listed small_items); reply = one_line entered_text }
 
-abbrev named : State
+abbrev named : TalkState
 named = Entering (Some (codes "alice"))
 
 pass_leads : lead_of small_plan 1 named (Line (codes "PASS tanstaaf")) ≡ Asks (Login (codes "alice") (codes "tanstaaf"))
 pass_leads = ap (λ (b : Bool). line_lead [] (if b then AsksLogin (codes "alice") (codes "tanstaaf") else Answered (one_line wrong_text))) has_alice
 
-goes : Goes small_plan 1 (Hearing (opening Pop)) deleting_octets (before_quit ++ last_quit ∷ []) EndedByQuit []
+goes : TalkGoes small_plan 1 (Hearing (opening_state Pop)) deleting_octets (before_quit ++ last_quit ∷ []) EndedByQuit []
 goes = (
   flat_map sent_line (codes "PASS tanstaaf" ∷ codes "DELE 1" ∷ codes "QUIT" ∷ []),
   record { is_unit = whole_line (codes "USER alice") refl; whole = refl; led = (refl, refl, refl) },
   (
     flat_map sent_line (codes "DELE 1" ∷ codes "QUIT" ∷ []),
     record { is_unit = whole_line (codes "PASS tanstaaf") refl; whole = refl; led = subst (λ (lead : Lead). IsLed lead pass) (sym pass_leads) (refl, refl) },
-    subst (λ (lead : Lead). Goes small_plan 1 (stands small_plan named pass lead) (flat_map sent_line (codes "DELE 1" ∷ codes "QUIT" ∷ [])) (drop 2 (before_quit ++ last_quit ∷ [])) EndedByQuit []) (sym pass_leads) (
+    subst (λ (lead : Lead). TalkGoes small_plan 1 (stands small_plan named pass lead) (flat_map sent_line (codes "DELE 1" ∷ codes "QUIT" ∷ [])) (drop 2 (before_quit ++ last_quit ∷ [])) EndedByQuit []) (sym pass_leads) (
       sent_line (codes "QUIT"),
       record { is_unit = whole_line (codes "DELE 1") refl; whole = refl; led = (refl, refl, refl) },
       ([], record { is_unit = whole_line (codes "QUIT") refl; whole = refl; led = (refl, refl) }, (refl, refl)),

@@ -12,7 +12,7 @@ use Rattle.mail_model.specs.Identity.{Stamp, Value}
 use Rattle.mail_model.specs.Grammar.{IsId, IsRecord}
 use Rattle.mail_model.specs.Lines.{HasNoCrlf, sent_line}
 use Rattle.mail_model.specs.Mail.{IsStored}
-use Rattle.mail_model.specs.Record.{Record, Member}
+use Rattle.mail_model.specs.Record.{Record, IsAmongRecords}
 use Rattle.mail_model.specs.Book.{copies_acked}
 use Rattle.mail_model.specs.Record.Record.{Boot, Octets, Stated}
 use Rattle.mail_model.specs.Smtp.{helo_text, closing_text, greeting_text, stored_text}
@@ -31,8 +31,8 @@ use Rattle.mail_model.proofs.Sessions.{by_number}
 use Rattle.mail_model.proofs.Units.{one_unit}
 use Rattle.session_model.specs.Calls.Call.{Deliver}
 use Rattle.session_model.specs.Calls.Answer.{Stored}
-use Rattle.session_model.specs.Talk.{State, IsNext, IsOn, stands_by}
-use Rattle.session_model.specs.Talk.State.{Mailing}
+use Rattle.session_model.specs.Talk.{TalkState, IsNext, IsOn, stands_by}
+use Rattle.session_model.specs.Talk.TalkState.{Mailing}
 use Rattle.session_model.specs.Talk.Standing.{Hearing}
 use Rattle.session_model.specs.Sessions.{Session}
 use Rattle.session_model.specs.Acts.{closing}
@@ -43,7 +43,7 @@ use Rattle.session_model.specs.Turns.Turn.{Hearing as Hears_on, Beginning, Askin
 use Rattle.session_model.specs.Run.{IsHandled, IsDriven, refusal}
 use Rattle.session_model.specs.Run.Stop.{BehindLine, SinkFailed}
 use Rattle.session_model.specs.Books.{IsBookOf}
-use Rattle.session_model.specs.OneNode.{Node, ServesAll, first_node, asked_of, answered_of}
+use Rattle.session_model.specs.OneNode.{NodeState, ServesAll, first_node, asked_of, answered_of}
 use Rattle.session_model.specs.OneMessage.{OneMessageKept, small_plan, greeted, sending, addressed, texting, small_text, small_mail, small_octets, at_once, waiting, fed_with, heard_with, at_open, at_helo, at_mail, at_rcpt, at_data, at_subject, at_gap, at_hello, at_wait, at_stored, at_quit, said_once, small_lines, small_acts, small_made, small_entries, small_served, small_records, small_store, small_book}
 use Rattle.session_model.proofs.Alone.{one_node_promises}
 
@@ -91,13 +91,13 @@ nobody session never (suc n) above waits = at_place n (subst Waits (by_number (s
     at_place zero there = never there
     at_place (suc i) there = there
 
-never_waits : (session : Session) (state : State) → session.standing ≡ Hearing state → Waits (Some session) → ⊥
+never_waits : (session : Session) (state : TalkState) → session.standing ≡ Hearing state → Waits (Some session) → ⊥
 never_waits session state hears (other, call, waits) = cc
 
 -- lines
 
 -- one that is answered at once
-answered : (old new : Session) (line text reply : List ℕ) (state : State) (entries : List Entry) → tape_order line ≡ Some (Say 1 text)
+answered : (old new : Session) (line text reply : List ℕ) (state : TalkState) (entries : List Entry) → tape_order line ≡ Some (Say 1 text)
     → refusal small_plan [] (old ∷ []) (Say 1 text) ≡ None → IsOn old.standing → closing 1 (IsFed (sent_line text)) old.standing ≡ [] → old.standing ≡ Hearing state
     → IsNext small_plan old.node state (old.rest ++ sent_line text) (at_once text reply) []
     → new ≡ record (fed_with old text) { whole = old.whole ++ at_once text reply ∷ []; standing = stands_by small_plan old.node state (at_once text reply); rest = [] }
@@ -126,7 +126,7 @@ answered old new line text reply state entries spelled accepted on quiet hears n
 }
 
 -- one of a text
-fed_only : (old : Session) (line text : List ℕ) (state : State) → tape_order line ≡ Some (Say 1 text)
+fed_only : (old : Session) (line text : List ℕ) (state : TalkState) → tape_order line ≡ Some (Say 1 text)
     → refusal small_plan [] (old ∷ []) (Say 1 text) ≡ None → IsOn old.standing → closing 1 (IsFed (sent_line text)) old.standing ≡ [] → old.standing ≡ Hearing state
     → IsAtRest (Some (fed_with old text)) → to_leave (Some (fed_with old text)) ≡ None
     → IsHandled small_plan [] (old ∷ []) line (Does 1 (IsFed (sent_line text)) ∷ []) ([] ∷ []) (fed_with old text ∷ [])
@@ -315,7 +315,7 @@ driven = record {
 stored : IsStored small_mail (nth_id 1) 0 small_octets
 stored = record { date = codes "Thu, 01 Jan 1970 00:00:00 +0000"; dated = first_date; whole = refl }
 
-abbrev small_node : Node
+abbrev small_node : NodeState
 small_node = record { drawn = 1; stamps = 1; records = small_records }
 
 id_fits : IsId (nth_id 1)
@@ -349,7 +349,7 @@ abbrev value_in : Record → Value
 value_in (Stated key state) = state.value
 value_in other = Here
 
-not_gone : (stamp : Stamp) (targets : ℕ) → Member (Stated (Message (codes "alice") (nth_id 1)) (record { value = Gone; stamp = stamp; targets = targets })) small_records → ⊥
+not_gone : (stamp : Stamp) (targets : ℕ) → IsAmongRecords (Stated (Message (codes "alice") (nth_id 1)) (record { value = Gone; stamp = stamp; targets = targets })) small_records → ⊥
 not_gone stamp targets (inl is) = cc
 not_gone stamp targets (inr (inl is)) = cc
 not_gone stamp targets (inr (inr (inl is))) = let never : Here ≡ Gone = ap value_in is in cc

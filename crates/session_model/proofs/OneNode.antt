@@ -31,14 +31,14 @@ use Rattle.session_model.specs.Calls.Answer.{Stored, Listed, Wrong, Part, GoneAl
 use Rattle.session_model.specs.Facts.{IsIn, IsGoneIn}
 use Rattle.session_model.specs.Logs.{Answered}
 use Rattle.session_model.specs.Books.{Among, AmongAnswers, struck_by}
-use Rattle.session_model.specs.OneNode.{Node, Served, Serves, ServesAll, LeavesSome, IsSoundMail, AreSoundMails, OneNodeOwes, first_node, asked_of, told_of, answered_of}
+use Rattle.session_model.specs.OneNode.{NodeState, Served, Serves, ServesAll, LeavesSome, IsSoundMail, AreSoundMails, OneNodeOwes, first_node, asked_of, told_of, answered_of}
 
 -- the copies that calls asked to be deleted
 abbrev struck_in : List Served → List (List ℕ × Id)
 struck_in served = flat_map (λ one. struck_by one.call) served
 
 -- what holds of the node after these calls
-record Sound (node : Node) (struck : List (List ℕ × Id)) : Type 0 where
+record Sound (node : NodeState) (struck : List (List ℕ × Id)) : Type 0 where
   pub here : HeresDrawn node.drawn node.records
   pub closed : AreClosed node.records
   pub gone : (user : List ℕ) (id : Id) → SaysGone (Message user id) node.records → IsCopyOf user id struck
@@ -87,7 +87,7 @@ closed_both (Octets id octets ∷ records) more a b = (a.0, closed_both records 
 closed_both (Stated key state ∷ records) more a b = closed_both records more a b
 
 -- What a call adds to a node.
-record Adds (old new : Node) (call : Call) (added : List Record) : Type 0 where
+record Adds (old new : NodeState) (call : Call) (added : List Record) : Type 0 where
   pub grows : new.records ≡ old.records ++ added
   pub heres : Heres old.drawn new.drawn added
   pub rises : old.drawn ≤ new.drawn
@@ -95,7 +95,7 @@ record Adds (old new : Node) (call : Call) (added : List Record) : Type 0 where
   pub gone : (user : List ℕ) (id : Id) → SaysGone (Message user id) added → IsCopyOf user id (struck_by call)
 
 -- so it stays sound
-adds_sound : (old new : Node) (call : Call) (added : List Record) (struck : List (List ℕ × Id)) → Sound old struck → Adds old new call added → Sound new (struck ++ struck_by call)
+adds_sound : (old new : NodeState) (call : Call) (added : List Record) (struck : List (List ℕ × Id)) → Sound old struck → Adds old new call added → Sound new (struck ++ struck_by call)
 adds_sound old new call added struck sound adds = record {
   here = subst (HeresDrawn new.drawn) (sym adds.grows) (heres_more old.drawn new.drawn old.records added adds.rises sound.here adds.heres);
   closed = subst AreClosed (sym adds.grows) (closed_both old.records added sound.closed adds.ends);
@@ -106,7 +106,7 @@ adds_sound old new call added struck sound adds = record {
 }
 
 -- a message, or a prefix of it
-message_adds : (old new : Node) (call : Call) (octets : List ℕ) (added missing : List Record) → (mail : _) → call ≡ Deliver mail → IsSoundMail call → IsStored mail (nth_id (old.drawn + 1)) 0 octets
+message_adds : (old new : NodeState) (call : Call) (octets : List ℕ) (added missing : List Record) → (mail : _) → call ≡ Deliver mail → IsSoundMail call → IsStored mail (nth_id (old.drawn + 1)) 0 octets
     → message_records (nth_id (old.drawn + 1)) (nth_stamp (old.stamps + 1)) octets mail.mailboxes ≡ added ++ missing
     → new.records ≡ old.records ++ added → new.drawn ≡ old.drawn + 1 → Adds old new call added
 message_adds old new call octets added missing mail is sound stored whole grows drawn =
@@ -123,7 +123,7 @@ message_adds old new call octets added missing mail is sound stored whole grows 
     }
 
 -- Gone states, or a prefix of them
-strike_adds : (old new : Node) (user : List ℕ) (ids : List Id) (added missing : List Record) → gone_records user old.stamps ids ≡ added ++ missing → new.records ≡ old.records ++ added
+strike_adds : (old new : NodeState) (user : List ℕ) (ids : List Id) (added missing : List Record) → gone_records user old.stamps ids ≡ added ++ missing → new.records ≡ old.records ++ added
     → new.drawn ≡ drawn_through old.drawn ids → Adds old new (Strike user ids) added
 strike_adds old new user ids added missing whole grows drawn = record {
   grows = grows;
@@ -135,7 +135,7 @@ strike_adds old new user ids added missing whole grows drawn = record {
 }
 
 -- nothing
-none_adds : (old new : Node) (call : Call) → new.records ≡ old.records → new.drawn ≡ old.drawn → Adds old new call []
+none_adds : (old new : NodeState) (call : Call) → new.records ≡ old.records → new.drawn ≡ old.drawn → Adds old new call []
 none_adds old new call same drawn = record {
   grows = same ∙ sym (append-nil old.records);
   heres = heres_none old.drawn new.drawn [] refl;
@@ -145,7 +145,7 @@ none_adds old new call same drawn = record {
 }
 
 -- What a call does: it adds records, and its answer is true.
-record Done (tells : Bool) (old new : Node) (call : Call) (answer : Option Answer) : Type 0 where
+record Done (tells : Bool) (old new : NodeState) (call : Call) (answer : Option Answer) : Type 0 where
   pub added : List Record
   pub adds : Adds old new call added
   pub true_of : IsTrueOf tells new.records call answer
@@ -162,72 +162,72 @@ listed_at items (message ∷ messages) records are held (suc i) item at =
     listed_at (items_for messages) messages records refl held.1 i item (ap (λ (l : List Item). slice_get l (suc i)) are ∙ at)
 
 -- whatever call that has no answer
-leaves_done : (tells : Bool) (old new : Node) (call : Call) (struck : List (List ℕ × Id)) → Sound old struck → IsSoundMail call → LeavesSome old call new → Done tells old new call None
+leaves_done : (tells : Bool) (old new : NodeState) (call : Call) (struck : List (List ℕ × Id)) → Sound old struck → IsSoundMail call → LeavesSome old call new → Done tells old new call None
 leaves_done tells old new (Deliver mail) struck sound mail_sound (added, stamps, (octets, missing, stored, whole), is) = record {
   added = added;
-  adds = message_adds old new (Deliver mail) octets added missing mail refl mail_sound stored whole (ap (λ (n : Node). n.records) is) (ap (λ (n : Node). n.drawn) is);
+  adds = message_adds old new (Deliver mail) octets added missing mail refl mail_sound stored whole (ap (λ (n : NodeState). n.records) is) (ap (λ (n : NodeState). n.drawn) is);
   true_of = tt;
 }
 leaves_done tells old new (Strike user ids) struck sound mail_sound (added, stamps, (missing, whole), is) = record {
   added = added;
-  adds = strike_adds old new user ids added missing whole (ap (λ (n : Node). n.records) is) (ap (λ (n : Node). n.drawn) is);
+  adds = strike_adds old new user ids added missing whole (ap (λ (n : NodeState). n.records) is) (ap (λ (n : NodeState). n.drawn) is);
   true_of = tt;
 }
 leaves_done tells old new (Login user secret) struck sound mail_sound (added, stamps, none, is) = record {
   added = [];
-  adds = none_adds old new (Login user secret) (ap (λ (n : Node). n.records) is ∙ ap (λ (l : List Record). old.records ++ l) none ∙ append-nil old.records) (ap (λ (n : Node). n.drawn) is);
+  adds = none_adds old new (Login user secret) (ap (λ (n : NodeState). n.records) is ∙ ap (λ (l : List Record). old.records ++ l) none ∙ append-nil old.records) (ap (λ (n : NodeState). n.drawn) is);
   true_of = tt;
 }
 leaves_done tells old new (Fetch user id) struck sound mail_sound (added, stamps, none, is) = record {
   added = [];
-  adds = none_adds old new (Fetch user id) (ap (λ (n : Node). n.records) is ∙ ap (λ (l : List Record). old.records ++ l) none ∙ append-nil old.records) (ap (λ (n : Node). n.drawn) is);
+  adds = none_adds old new (Fetch user id) (ap (λ (n : NodeState). n.records) is ∙ ap (λ (l : List Record). old.records ++ l) none ∙ append-nil old.records) (ap (λ (n : NodeState). n.drawn) is);
   true_of = tt;
 }
 
 -- whatever call
-serves_done : (plan : Plan) (tells : Bool) (old new : Node) (call : Call) (answer : Option Answer) (struck : List (List ℕ × Id)) → Sound old struck → IsSoundMail call → Serves plan tells old call answer new
+serves_done : (plan : Plan) (tells : Bool) (old new : NodeState) (call : Call) (answer : Option Answer) (struck : List (List ℕ × Id)) → Sound old struck → IsSoundMail call → Serves plan tells old call answer new
     → Done tells old new call answer
 serves_done plan tells old new call None struck sound mail_sound serves = ⊎_elim
-    (λ is. record { added = []; adds = none_adds old new call (ap (λ (n : Node). n.records) is) (ap (λ (n : Node). n.drawn) is); true_of = nothing_told tells new.records call })
+    (λ is. record { added = []; adds = none_adds old new call (ap (λ (n : NodeState). n.records) is) (ap (λ (n : NodeState). n.drawn) is); true_of = nothing_told tells new.records call })
     (λ some. leaves_done tells old new call struck sound mail_sound some) serves
 serves_done plan tells old new (Deliver mail) (Some (Stored id)) struck sound mail_sound (octets, id_is, stored, is) =
     let added : List Record = message_records (nth_id (old.drawn + 1)) (nth_stamp (old.stamps + 1)) octets mail.mailboxes in
     record {
       added = added;
-      adds = message_adds old new (Deliver mail) octets added [] mail refl mail_sound stored (sym (append-nil added)) (ap (λ (n : Node). n.records) is) (ap (λ (n : Node). n.drawn) is);
+      adds = message_adds old new (Deliver mail) octets added [] mail refl mail_sound stored (sym (append-nil added)) (ap (λ (n : NodeState). n.records) is) (ap (λ (n : NodeState). n.drawn) is);
       true_of = tt;
     }
 serves_done plan tells old new (Login user secret) (Some (Listed items)) struck sound mail_sound (opened, items_are, is) =
     let listed = listing_listed user old.records in
     record {
       added = [];
-      adds = none_adds old new (Login user secret) (ap (λ (n : Node). n.records) is) (ap (λ (n : Node). n.drawn) is);
-      true_of = subst (λ (n : Node). IsTrueOf tells n.records (Login user secret) (Some (Listed items))) (sym is) (
+      adds = none_adds old new (Login user secret) (ap (λ (n : NodeState). n.records) is) (ap (λ (n : NodeState). n.drawn) is);
+      true_of = subst (λ (n : NodeState). IsTrueOf tells n.records (Login user secret) (Some (Listed items))) (sym is) (
         subst (λ (l : List Item). AllPairs (λ (a b : Id). a ≢ b) (map (λ (item : Item). item.id) l)) (sym items_are) (listing_once user old.records sound.here.once),
         listed_at items listed.messages old.records (listed.are ∙ sym items_are) listed.held,
       );
     }
 serves_done plan tells old new (Login user secret) (Some Wrong) struck sound mail_sound (opened, is) = record {
   added = [];
-  adds = none_adds old new (Login user secret) (ap (λ (n : Node). n.records) is) (ap (λ (n : Node). n.drawn) is);
+  adds = none_adds old new (Login user secret) (ap (λ (n : NodeState). n.records) is) (ap (λ (n : NodeState). n.drawn) is);
   true_of = tt;
 }
 serves_done plan tells old new (Fetch user id) (Some (Part part)) struck sound mail_sound (held, is) = record {
   added = [];
-  adds = none_adds old new (Fetch user id) (ap (λ (n : Node). n.records) is) (ap (λ (n : Node). n.drawn) is);
-  true_of = subst (λ (n : Node). IsTrueOf tells n.records (Fetch user id) (Some (Part part))) (sym is) (λ told. let there = held told in (there, held_closed id old.records part sound.closed there));
+  adds = none_adds old new (Fetch user id) (ap (λ (n : NodeState). n.records) is) (ap (λ (n : NodeState). n.drawn) is);
+  true_of = subst (λ (n : NodeState). IsTrueOf tells n.records (Fetch user id) (Some (Part part))) (sym is) (λ told. let there = held told in (there, held_closed id old.records part sound.closed there));
 }
 serves_done plan tells old new (Fetch user id) (Some GoneAlready) struck sound mail_sound (gone, is) = record {
   added = [];
-  adds = none_adds old new (Fetch user id) (ap (λ (n : Node). n.records) is) (ap (λ (n : Node). n.drawn) is);
+  adds = none_adds old new (Fetch user id) (ap (λ (n : NodeState). n.records) is) (ap (λ (n : NodeState). n.drawn) is);
   true_of = tt;
 }
 serves_done plan tells old new (Strike user ids) (Some Dropped) struck sound mail_sound is =
     let added : List Record = gone_records user old.stamps ids in
     record {
       added = added;
-      adds = strike_adds old new user ids added [] (sym (append-nil added)) (ap (λ (n : Node). n.records) is) (ap (λ (n : Node). n.drawn) is);
-      true_of = subst (λ (n : Node). IsTrueOf tells n.records (Strike user ids) (Some Dropped)) (sym is)
+      adds = strike_adds old new user ids added [] (sym (append-nil added)) (ap (λ (n : NodeState). n.records) is) (ap (λ (n : NodeState). n.drawn) is);
+      true_of = subst (λ (n : NodeState). IsTrueOf tells n.records (Strike user ids) (Some Dropped)) (sym is)
           (λ id within. gone_behind (Message user id) old.records added (gone_of_copies user old.stamps ids user id (is_copy user id ids within)));
     }
   where
@@ -244,18 +244,18 @@ AreTrueOf tells records [] = ⊤
 AreTrueOf tells records (one ∷ more) = IsTrueOf tells records one.call one.answer × AreTrueOf tells records more
 
 -- What all calls did.
-record AllDone (tells : Bool) (old last : Node) (struck : List (List ℕ × Id)) (served : List Served) : Type 0 where
+record AllDone (tells : Bool) (old last : NodeState) (struck : List (List ℕ × Id)) (served : List Served) : Type 0 where
   pub sound : Sound last (struck ++ struck_in served)
   pub more : List Record
   pub grows : last.records ≡ old.records ++ more
   pub true_of : AreTrueOf tells last.records served
 
-serves_all : (plan : Plan) (tells : Bool) (old last : Node) (struck : List (List ℕ × Id)) (served : List Served) → Sound old struck → AreSoundMails served → ServesAll plan tells old served last
+serves_all : (plan : Plan) (tells : Bool) (old last : NodeState) (struck : List (List ℕ × Id)) (served : List Served) → Sound old struck → AreSoundMails served → ServesAll plan tells old served last
     → AllDone tells old last struck served
 serves_all plan tells old last struck [] sound mails is = record {
-  sound = subst (λ (n : Node). Sound n (struck ++ [])) (sym is) (subst (Sound old) (sym (append-nil struck)) sound);
+  sound = subst (λ (n : NodeState). Sound n (struck ++ [])) (sym is) (subst (Sound old) (sym (append-nil struck)) sound);
   more = [];
-  grows = ap (λ (n : Node). n.records) is ∙ sym (append-nil old.records);
+  grows = ap (λ (n : NodeState). n.records) is ∙ sym (append-nil old.records);
   true_of = tt;
 }
 serves_all plan tells old last struck (one ∷ served) sound mails (mid, serves, rest) =

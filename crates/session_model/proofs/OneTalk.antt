@@ -9,7 +9,7 @@ use Rattle.mail_model.proofs.Units.{one_sent_line, one_unit}
 use Rattle.session_model.specs.Calls.{Call, Answer, IsReply, ShowsPart}
 use Rattle.session_model.specs.Calls.Call.{Deliver, Login, Fetch, Strike}
 use Rattle.session_model.specs.Calls.Answer.{Stored, Listed, Wrong, Part, GoneAlready, Dropped, Failed}
-use Rattle.session_model.specs.Talk.{Exchange, Standing, Lead, IsLed, Awaits, IsIdle, Goes, in_text, lead_of, stands_by}
+use Rattle.session_model.specs.Talk.{Exchange, Standing, Lead, IsLed, Awaits, IsIdle, TalkGoes, in_text, lead_of, stands_by}
 use Rattle.session_model.specs.Talk.Lead.{Says, Ends, Asks}
 use Rattle.session_model.specs.Talk.Standing.{Hearing}
 use Rattle.session_model.specs.Moves.{OneTalk, answers, answer_to}
@@ -83,7 +83,7 @@ one_led (Asks call) x y xs ys units is is_too e =
 
 -- where nothing is to be answered, no exchange is next
 none_next : (plan : Plan) (node : ℕ) (first last : Standing) (octets rest : List ℕ) (y : Exchange) (ys : List Exchange) (end : Standing) (left : List ℕ)
-    → last ≡ first → rest ≡ octets → IsIdle last rest → Goes plan node first octets (y ∷ ys) end left → ⊥
+    → last ≡ first → rest ≡ octets → IsIdle last rest → TalkGoes plan node first octets (y ∷ ys) end left → ⊥
 none_next plan node (Hearing state) last octets rest y ys end left is same idle g =
     let here : IsIdle (Hearing state) octets = subst (λ (s : Standing). IsIdle s octets) is (subst (IsIdle last) same idle) in
     here y.unit g.0 g.1.is_unit g.1.whole
@@ -99,9 +99,9 @@ one_talk plan node (Hearing state) octets (x ∷ xs) (y ∷ ys) last_x last_y re
     let units = one_unit (in_text state) x.unit y.unit left_x left_y next_x.is_unit next_y.is_unit (sym next_x.whole ∙ next_y.whole) in
     let led : IsLed (lead_of plan node state x.unit) y = subst (λ (u : Unit). IsLed (lead_of plan node state u) y) (sym units.0) next_y.led in
     let parts = one_led (lead_of plan node state x.unit) x y (answers xs) (answers ys) units.0 next_x.led led same in
-    let later : Goes plan node (stands_by plan node state x) left_x ys last_y rest_y =
-    subst (λ (l : List ℕ). Goes plan node (stands_by plan node state x) l ys last_y rest_y) (sym units.1)
-    (subst (λ (one : Exchange). Goes plan node (stands_by plan node state one) left_y ys last_y rest_y) (sym parts.0) h) in
+    let later : TalkGoes plan node (stands_by plan node state x) left_x ys last_y rest_y =
+    subst (λ (l : List ℕ). TalkGoes plan node (stands_by plan node state x) l ys last_y rest_y) (sym units.1)
+    (subst (λ (one : Exchange). TalkGoes plan node (stands_by plan node state one) left_y ys last_y rest_y) (sym parts.0) h) in
     let rest = one_talk plan node (stands_by plan node state x) left_x xs ys last_x last_y rest_x rest_y g later parts.1 idle idle_too in
     (ap₂ ◌∷◌ parts.0 rest.0, rest.1, rest.2)
 one_talk plan node first octets (x ∷ xs) (y ∷ ys) last_x last_y rest_x rest_y g h same idle idle_too = absurd g

@@ -10,7 +10,7 @@ use Rattle.session_model.specs.Calls.Answer.{Listed, Part, Dropped}
 use Rattle.session_model.specs.Talk.{Exchange}
 use Rattle.session_model.specs.Reading.{Each, ListsOnce, ListsNamed}
 use Rattle.session_model.specs.Sessions.{Session, session_at, exchanges_of}
-use Rattle.session_model.specs.Facts.{Strikes, SizesFiled, IsPartFiled}
+use Rattle.session_model.specs.Facts.{AsksDeletion, SizesFiled, IsPartFiled}
 use Rattle.session_model.specs.Acts.{Act}
 use Rattle.session_model.specs.Logs.{Answered, IsLogged, answer_in, answers_of, asked_by, answered_by, asked_in, answered_in}
 use Rattle.session_model.specs.Runs.{Shows}
@@ -72,7 +72,7 @@ module _ (plan : Plan) (lines : List (List ℕ)) (entries : List Entry) (acts : 
 
   -- a call of the log is one of a session
   strike_of : (k : ℕ) (user : List ℕ) (ids : List Id) (there : Option Session) → session_at sessions k ≡ there → IsCallIn (Strike user ids) (asked_in k (flat_map asked_by acts))
-      → (session : Session) × (one : Exchange) × (session_at sessions k ≡ Some session) × Strikes session user ids one
+      → (session : Session) × (one : Exchange) × (session_at sessions k ≡ Some session) × AsksDeletion session user ids one
   strike_of k user ids None none is = absurd (subst (IsCallIn (Strike user ids)) (logged k None none).0 is)
   strike_of k user ids (Some session) at is =
       let found = call_at (Strike user ids) (exchanges_of session) (subst (IsCallIn (Strike user ids)) (logged k (Some session) at).0 is) in

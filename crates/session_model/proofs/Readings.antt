@@ -9,21 +9,21 @@ use Rattle.mail_model.specs.Tape.Protocol.{Smtp, Pop}
 use Rattle.mail_model.specs.Session.{Unit, Told, reply_text, after_unit, is_quit_line, is_large}
 use Rattle.mail_model.specs.Session.Unit.{Line, Text}
 use Rattle.mail_model.specs.PopReplies.{one_line}
-use Rattle.mail_model.specs.Maildrop.{Outcome, line_outcome}
+use Rattle.mail_model.specs.Maildrop.{LineOutcome, line_outcome}
 use Rattle.mail_model.specs.Maildrop.Stage.{Authorization, Transaction}
-use Rattle.mail_model.specs.Maildrop.Outcome.{Answered, Closed, AsksLogin, AsksMessage, AsksDeletion}
+use Rattle.mail_model.specs.Maildrop.LineOutcome.{Answered, Closed, AsksLogin, AsksMessage, AsksDeletion}
 use Rattle.mail_model.specs.Told.{IsUnit, unit_octets, asks_text, mail_of}
 use Rattle.mail_model.proofs.Replies.{line_fits}
 use Rattle.mail_model.proofs.Units.{one_unit}
 use Rattle.session_model.specs.Calls.{Call, Answer}
 use Rattle.session_model.specs.Calls.Call.{Deliver, Login, Fetch, Strike}
 use Rattle.session_model.specs.Calls.Answer.{Stored, Listed, Failed}
-use Rattle.session_model.specs.Talk.{State, Exchange, Standing, Lead, IsNext, IsLed, Awaits, Goes, opening, in_text, line_lead, lead_of, heard, asked, answered, stands, stands_by, first_line, farewell, down_line, replies}
-use Rattle.session_model.specs.Talk.State.{Mailing, Entering, Reading}
+use Rattle.session_model.specs.Talk.{TalkState, Exchange, Standing, Lead, IsNext, IsLed, Awaits, TalkGoes, opening_state, in_text, line_lead, lead_of, heard, standing_asked, answered, stands, stands_by, first_line, farewell, down_line, replies}
+use Rattle.session_model.specs.Talk.TalkState.{Mailing, Entering, Reading}
 use Rattle.session_model.specs.Talk.Lead.{Says, Ends, Asks}
 use Rattle.session_model.specs.Talk.Standing.{Hearing, Waiting, EndedByQuit, EndedDown, EndedClosed}
 use Rattle.session_model.specs.Sessions.{IsCut}
-use Rattle.session_model.specs.Readings.{OneReading, view, views}
+use Rattle.session_model.specs.Readings.{OneReadingOfSession, view, views}
 use Rattle.session_model.proofs.Replying.{IsWhole, IsReplied, Speaks, some_reply, one_whole, next_replied}
 
 -- how a session of a protocol stands, and whether a text comes next
@@ -64,7 +64,7 @@ mailing_behind plan node talk one is_unit led = by_unit one.unit refl
     Is lead = IsLed lead one → IsBehind Smtp one (stands plan (Mailing talk) one lead)
 
     by_answer : (lines : List (List ℕ)) → one.unit ≡ Text lines → (answer : Option Answer) → one.answer ≡ answer → Awaits (Deliver (mail_of talk lines)) answer one.reply
-        → IsBehind Smtp one (asked (heard plan (Mailing talk) one.unit []) (Deliver (mail_of talk lines)) answer)
+        → IsBehind Smtp one (standing_asked (heard plan (Mailing talk) one.unit []) (Deliver (mail_of talk lines)) answer)
     by_answer lines is None there says = record { speaks = tt; mode = tt }
     by_answer lines is (Some (Stored id)) there says = record {
       speaks = tt;
@@ -103,33 +103,33 @@ mailing_behind plan node talk one is_unit led = by_unit one.unit refl
         text_off lines = cond_both (is_large lines) _ _ (λ (t : List ℕ). false ≡ asks_text t) (λ _. refl) (λ _. refl)
 
 -- a session that reads mail
-reader_answered : (told : State) (call : Call) (answer : Answer) → Speaks Pop told → in_text told ≡ false → SpeaksAt Pop (answered told call answer) × ModeIs false (answered told call answer)
+reader_answered : (told : TalkState) (call : Call) (answer : Answer) → Speaks Pop told → in_text told ≡ false → SpeaksAt Pop (answered told call answer) × ModeIs false (answered told call answer)
 reader_answered told (Login user secret) (Listed items) speaks off = (tt, refl)
 reader_answered told (Login user secret) answer speaks off = (speaks, off)
 reader_answered told (Deliver mail) answer speaks off = (speaks, off)
 reader_answered told (Fetch user id) answer speaks off = (speaks, off)
 reader_answered told (Strike user ids) answer speaks off = (tt, tt)
 
-reader_asked : (told : State) (call : Call) (answer : Option Answer) → Speaks Pop told → in_text told ≡ false → SpeaksAt Pop (asked told call answer) × ModeIs false (asked told call answer)
+reader_asked : (told : TalkState) (call : Call) (answer : Option Answer) → Speaks Pop told → in_text told ≡ false → SpeaksAt Pop (standing_asked told call answer) × ModeIs false (standing_asked told call answer)
 reader_asked told call None speaks off = (tt, tt)
 reader_asked told call (Some answer) speaks off = reader_answered told call answer speaks off
 
-reader_outcome : (plan : Plan) (state told : State) (one : Exchange) (user : List ℕ) (outcome : Outcome) → ((reply : List (List ℕ)) → heard plan state one.unit reply ≡ told) → Speaks Pop told → in_text told ≡ false
+reader_outcome : (plan : Plan) (state told : TalkState) (one : Exchange) (user : List ℕ) (outcome : LineOutcome) → ((reply : List (List ℕ)) → heard plan state one.unit reply ≡ told) → Speaks Pop told → in_text told ≡ false
     → SpeaksAt Pop (stands plan state one (line_lead user outcome)) × ModeIs false (stands plan state one (line_lead user outcome))
 reader_outcome plan state told one user (Answered lines) is speaks off =
-    subst (λ (s : State). Speaks Pop s × (in_text s ≡ false)) (sym (is one.reply)) (speaks, off)
+    subst (λ (s : TalkState). Speaks Pop s × (in_text s ≡ false)) (sym (is one.reply)) (speaks, off)
 reader_outcome plan state told one user (Closed lines) is speaks off = (tt, tt)
 reader_outcome plan state told one user (AsksLogin name secret) is speaks off =
-    subst (λ (s : State). SpeaksAt Pop (asked s (Login name secret) one.answer) × ModeIs false (asked s (Login name secret) one.answer)) (sym (is []))
+    subst (λ (s : TalkState). SpeaksAt Pop (standing_asked s (Login name secret) one.answer) × ModeIs false (standing_asked s (Login name secret) one.answer)) (sym (is []))
     (reader_asked told (Login name secret) one.answer speaks off)
 reader_outcome plan state told one user (AsksMessage number id) is speaks off =
-    subst (λ (s : State). SpeaksAt Pop (asked s (Fetch user id) one.answer) × ModeIs false (asked s (Fetch user id) one.answer)) (sym (is []))
+    subst (λ (s : TalkState). SpeaksAt Pop (standing_asked s (Fetch user id) one.answer) × ModeIs false (standing_asked s (Fetch user id) one.answer)) (sym (is []))
     (reader_asked told (Fetch user id) one.answer speaks off)
 reader_outcome plan state told one user (AsksDeletion ids) is speaks off =
-    subst (λ (s : State). SpeaksAt Pop (asked s (Strike user ids) one.answer) × ModeIs false (asked s (Strike user ids) one.answer)) (sym (is []))
+    subst (λ (s : TalkState). SpeaksAt Pop (standing_asked s (Strike user ids) one.answer) × ModeIs false (standing_asked s (Strike user ids) one.answer)) (sym (is []))
     (reader_asked told (Strike user ids) one.answer speaks off)
 
-next_behind : (plan : Plan) (node : ℕ) (protocol : Protocol) (state : State) (there left : List ℕ) (one : Exchange) → Speaks protocol state → IsNext plan node state there one left
+next_behind : (plan : Plan) (node : ℕ) (protocol : Protocol) (state : TalkState) (there left : List ℕ) (one : Exchange) → Speaks protocol state → IsNext plan node state there one left
     → IsBehind protocol one (stands_by plan node state one)
 next_behind plan node Smtp (Mailing talk) there left one speaks n = mailing_behind plan node talk one n.is_unit n.led
 next_behind plan node Smtp (Entering named) there left one speaks n = absurd speaks
@@ -153,13 +153,13 @@ next_behind plan node Pop (Reading user slots) there left one speaks n = by_unit
         subst (λ (u : Unit). IsBehind Pop one (stands plan (Reading user slots) one (lead_of plan node (Reading user slots) u))) (sym is) (record { speaks = both.0; mode = both.1 })
 
 -- an exchange that waits is the last
-waits_last : (plan : Plan) (node : ℕ) (state : State) (one : Exchange) (call : Call) (lead : Lead) → IsLed lead one → one.call ≡ Some call → one.answer ≡ None
-    → (left : List ℕ) (xs : List Exchange) (last : Standing) (rest : List ℕ) → Goes plan node (stands plan state one lead) left xs last rest → xs ≡ []
+waits_last : (plan : Plan) (node : ℕ) (state : TalkState) (one : Exchange) (call : Call) (lead : Lead) → IsLed lead one → one.call ≡ Some call → one.answer ≡ None
+    → (left : List ℕ) (xs : List Exchange) (last : Standing) (rest : List ℕ) → TalkGoes plan node (stands plan state one lead) left xs last rest → xs ≡ []
 waits_last plan node state one call (Says reply) led is none left xs last rest g = absurd (none-some call (sym led.0 ∙ is))
 waits_last plan node state one call (Ends reply) led is none left xs last rest g = absurd (none-some call (sym led.0 ∙ is))
 waits_last plan node state one call (Asks asks) led is none left [] last rest g = refl
 waits_last plan node state one call (Asks asks) led is none left (x ∷ xs) last rest g =
-    absurd (subst (λ (a : Option Answer). Goes plan node (asked (heard plan state one.unit []) asks a) left (x ∷ xs) last rest) none g)
+    absurd (subst (λ (a : Option Answer). TalkGoes plan node (standing_asked (heard plan state one.unit []) asks a) left (x ∷ xs) last rest) none g)
 
 -- lists
 
@@ -205,7 +205,7 @@ module _ (plan : Plan) (node : ℕ) (protocol : Protocol) where
 
   -- so where one list of exchanges has ended, the other has no reply more
   ended : (first : Standing) (octets : List ℕ) (others : List Exchange) (last : Standing) (rest : List ℕ) (part missing last_lines : List (List ℕ)) → SpeaksAt protocol first
-      → Goes plan node first octets others last rest → IsLast protocol node last_lines → IsCut others last_lines part missing
+      → TalkGoes plan node first octets others last rest → IsLast protocol node last_lines → IsCut others last_lines part missing
       → (mode : Bool) → ModeIs mode first → (unit : Unit) (left : List ℕ) → IsUnit mode unit → octets ≡ unit_octets unit ++ left
       → (reply behind : List (List ℕ)) → part ≡ reply ++ behind → IsWhole protocol node unit reply → ⊥
   ended first octets [] last rest part missing last_lines speaks g is cut mode mode_is unit left is_unit whole_unit reply behind begins whole =
@@ -223,8 +223,8 @@ module _ (plan : Plan) (node : ℕ) (protocol : Protocol) where
   ended first octets (one ∷ other ∷ more) last rest part missing last_lines speaks g is cut mode mode_is unit left is_unit whole_unit reply behind begins whole = absurd cut
 
   -- one that waits shows nothing, and is the last
-  waiting_views : (state : State) (one : Exchange) (left : List ℕ) (xs others : List Exchange) (last : Standing) (rest : List ℕ) (call : Call) → IsLed (lead_of plan node state one.unit) one
-      → one.reply ≡ [] → one.answer ≡ None → one.call ≡ Some call → Goes plan node (stands_by plan node state one) left (xs ++ others) last rest
+  waiting_views : (state : TalkState) (one : Exchange) (left : List ℕ) (xs others : List Exchange) (last : Standing) (rest : List ℕ) (call : Call) → IsLed (lead_of plan node state one.unit) one
+      → one.reply ≡ [] → one.answer ≡ None → one.call ≡ Some call → TalkGoes plan node (stands_by plan node state one) left (xs ++ others) last rest
       → (xs ≡ []) × (others ≡ []) × (views (one ∷ xs) ≡ [])
   waiting_views state one left xs others last rest call led says none is g =
       let all = waits_last plan node state one call (lead_of plan node state one.unit) led is none left (xs ++ others) last rest g in
@@ -234,7 +234,7 @@ module _ (plan : Plan) (node : ℕ) (protocol : Protocol) where
   module _ (others_x others_y : List Exchange) (last_x last_y : Standing) (rest_x rest_y : List ℕ) (part_x missing_x lines_x part_y missing_y lines_y : List (List ℕ))
       (is_x : IsLast protocol node lines_x) (is_y : IsLast protocol node lines_y) (cut_x : IsCut others_x lines_x part_x missing_x) (cut_y : IsCut others_y lines_y part_y missing_y) where
     same_views : (mode : Bool) (first_x first_y : Standing) (octets : List ℕ) (xs ys : List Exchange) → SpeaksAt protocol first_x → SpeaksAt protocol first_y → ModeIs mode first_x → ModeIs mode first_y
-        → Goes plan node first_x octets (xs ++ others_x) last_x rest_x → Goes plan node first_y octets (ys ++ others_y) last_y rest_y → replies xs ++ part_x ≡ replies ys ++ part_y → views xs ≡ views ys
+        → TalkGoes plan node first_x octets (xs ++ others_x) last_x rest_x → TalkGoes plan node first_y octets (ys ++ others_y) last_y rest_y → replies xs ++ part_x ≡ replies ys ++ part_y → views xs ≡ views ys
     same_views mode first_x first_y octets [] [] speaks_x speaks_y mode_x mode_y g h e = refl
     same_views mode first_x (Hearing state) octets [] (y ∷ ys) speaks_x speaks_y mode_x mode_y g (left, next, h) e = ⊎_elim
         (λ waits. sym (waiting_views state y left ys others_y last_y rest_y waits.2.0 next.led waits.0 waits.1 waits.2.1 h).2)
@@ -260,7 +260,7 @@ module _ (plan : Plan) (node : ℕ) (protocol : Protocol) where
         e_flat = sym (append_assoc x.reply (replies xs) part_x) ∙ e ∙ append_assoc y.reply (replies ys) part_y
 
         by_replies : IsReplied protocol node x → IsReplied protocol node y
-            → ((m : Bool) → Goes plan node (stands_by plan node state x) left (xs ++ others_x) last_x rest_x → Goes plan node (stands_by plan node state_y y) left (ys ++ others_y) last_y rest_y
+            → ((m : Bool) → TalkGoes plan node (stands_by plan node state x) left (xs ++ others_x) last_x rest_x → TalkGoes plan node (stands_by plan node state_y y) left (ys ++ others_y) last_y rest_y
             → replies xs ++ part_x ≡ replies ys ++ part_y → SpeaksAt protocol (stands_by plan node state x) → SpeaksAt protocol (stands_by plan node state_y y)
             → ModeIs m (stands_by plan node state x) → ModeIs m (stands_by plan node state_y y) → views xs ≡ views ys)
             → views (x ∷ xs) ≡ views (y ∷ ys)
@@ -281,29 +281,29 @@ module _ (plan : Plan) (node : ℕ) (protocol : Protocol) where
             let behind_x = next_behind plan node protocol state octets left x speaks_x next in
             let behind_y = next_behind plan node protocol state_y octets left_y y speaks_y next_y in
             ap₂ ◌++◌ (ap₂ view units.0 same.0)
-            (later (mode_by protocol x.reply) g (subst (λ (l : List ℕ). Goes plan node (stands_by plan node state_y y) l (ys ++ others_y) last_y rest_y) (sym units.1) h) same.1
+            (later (mode_by protocol x.reply) g (subst (λ (l : List ℕ). TalkGoes plan node (stands_by plan node state_y y) l (ys ++ others_y) last_y rest_y) (sym units.1) h) same.1
             behind_x.speaks behind_y.speaks behind_x.mode (subst (λ (r : List (List ℕ)). ModeIs (mode_by protocol r) (stands_by plan node state_y y)) (sym same.0) behind_y.mode))
     same_views mode (Hearing state) first_y octets (x ∷ xs) (y ∷ ys) speaks_x speaks_y mode_x mode_y g h e = absurd h
     same_views mode first_x first_y octets (x ∷ xs) (y ∷ ys) speaks_x speaks_y mode_x mode_y g h e = absurd g
 
 -- where a session begins
-opening_speaks : (protocol : Protocol) → Speaks protocol (opening protocol)
+opening_speaks : (protocol : Protocol) → Speaks protocol (opening_state protocol)
 opening_speaks Smtp = tt
 opening_speaks Pop = tt
 
-opening_mode : (protocol : Protocol) → in_text (opening protocol) ≡ false
+opening_mode : (protocol : Protocol) → in_text (opening_state protocol) ≡ false
 opening_mode Smtp = refl
 opening_mode Pop = refl
 
-pub one_reading : OneReading
+pub one_reading : OneReadingOfSession
 one_reading plan lines entries k one two protocols nodes a b =
     same_views plan one.node one.protocol one.others two.others a.talk.before b.talk.before one.rest two.rest a.gets.part a.gets.missing (farewell one.protocol one.node one.standing)
     b.gets.part b.gets.missing (farewell one.protocol one.node two.standing) (last_is one.protocol one.node one.standing) (last_is one.protocol one.node two.standing) a.gets.cut
     (subst (λ (p : Protocol). IsCut two.others (farewell p one.node two.standing) b.gets.part b.gets.missing) (sym protocols)
     (subst (λ (n : ℕ). IsCut two.others (farewell two.protocol n two.standing) b.gets.part b.gets.missing) (sym nodes) b.gets.cut))
-    false (Hearing (opening one.protocol)) (Hearing (opening one.protocol)) one.octets one.whole two.whole
+    false (Hearing (opening_state one.protocol)) (Hearing (opening_state one.protocol)) one.octets one.whole two.whole
     (opening_speaks one.protocol) (opening_speaks one.protocol) (opening_mode one.protocol) (opening_mode one.protocol) a.talk.goes
-    (subst (λ (l : List ℕ). Goes plan one.node (Hearing (opening one.protocol)) l (two.whole ++ two.others) b.talk.before two.rest) (b.fed ∙ sym a.fed)
-    (subst (λ (p : Protocol). Goes plan one.node (Hearing (opening p)) two.octets (two.whole ++ two.others) b.talk.before two.rest) (sym protocols)
-    (subst (λ (n : ℕ). Goes plan n (Hearing (opening two.protocol)) two.octets (two.whole ++ two.others) b.talk.before two.rest) (sym nodes) b.talk.goes)))
+    (subst (λ (l : List ℕ). TalkGoes plan one.node (Hearing (opening_state one.protocol)) l (two.whole ++ two.others) b.talk.before two.rest) (b.fed ∙ sym a.fed)
+    (subst (λ (p : Protocol). TalkGoes plan one.node (Hearing (opening_state p)) two.octets (two.whole ++ two.others) b.talk.before two.rest) (sym protocols)
+    (subst (λ (n : ℕ). TalkGoes plan n (Hearing (opening_state two.protocol)) two.octets (two.whole ++ two.others) b.talk.before two.rest) (sym nodes) b.talk.goes)))
     (sym a.gets.are ∙ b.gets.are)

@@ -13,9 +13,9 @@ use Rattle.mail_model.specs.Pop.{pop_command_of}
 use Rattle.mail_model.specs.Pop.Command.{Quit}
 use Rattle.mail_model.specs.PopReplies as pop
 use Rattle.mail_model.specs.PopReplies.{one_line, octets_text, dotted_line, last_line}
-use Rattle.mail_model.specs.Maildrop.{Outcome, line_outcome, wrong_text, entered_text, gone_text, later_text, bye_text, remaining_text}
+use Rattle.mail_model.specs.Maildrop.{LineOutcome, line_outcome, wrong_text, entered_text, gone_text, later_text, bye_text, remaining_text}
 use Rattle.mail_model.specs.Maildrop.Stage.{Authorization, Transaction}
-use Rattle.mail_model.specs.Maildrop.Outcome.{Answered, Closed, AsksLogin, AsksMessage, AsksDeletion}
+use Rattle.mail_model.specs.Maildrop.LineOutcome.{Answered, Closed, AsksLogin, AsksMessage, AsksDeletion}
 use Rattle.mail_model.specs.Shown.{IsReplyTo, asks_several, is_good}
 use Rattle.mail_model.specs.Told.{IsUnit, mail_of}
 use Rattle.mail_model.proofs.Replies.{line_fits}
@@ -25,8 +25,8 @@ use Rattle.mail_model.proofs.DeletedOutcomes.{LeadsBefore, LeadsBehind, before, 
 use Rattle.session_model.specs.Calls.{Call, Answer, unstored_text}
 use Rattle.session_model.specs.Calls.Call.{Deliver, Login, Fetch, Strike}
 use Rattle.session_model.specs.Calls.Answer.{Stored, Listed, Wrong, Part, GoneAlready, Dropped, Failed}
-use Rattle.session_model.specs.Talk.{State, Exchange, IsNext, IsLed, Awaits, line_lead, lead_of, first_line, down_line}
-use Rattle.session_model.specs.Talk.State.{Mailing, Entering, Reading}
+use Rattle.session_model.specs.Talk.{TalkState, Exchange, IsNext, IsLed, Awaits, line_lead, lead_of, first_line, down_line}
+use Rattle.session_model.specs.Talk.TalkState.{Mailing, Entering, Reading}
 use Rattle.session_model.specs.Talk.Lead.{Says, Ends, Asks}
 use Rattle.session_model.specs.Reading.{line_of}
 use Rattle.session_model.proofs.Marking.{later_quiet}
@@ -115,7 +115,7 @@ module _ (node : ℕ) (line : List ℕ) (one : Exchange) (is : one.unit ≡ Line
   remaining_other : remaining_text ≢ pop.down_text node
   remaining_other e = let letter : 115 ≡ 110 = ap (λ (l : List ℕ). get_or l 16 0) e in omega (arith, letter)
 
-  entering_replied : (named : Option (List ℕ)) (outcome : Outcome) → LeadsBefore named line outcome → IsLed (line_lead [] outcome) one → IsReplied Pop node one
+  entering_replied : (named : Option (List ℕ)) (outcome : LineOutcome) → LeadsBefore named line outcome → IsLed (line_lead [] outcome) one → IsReplied Pop node one
   entering_replied named (Answered lines) leads led = by_answers lines led.2 leads.answers
   entering_replied named (Closed lines) leads led = by_quit bye_text (led.2 ∙ leads.0) leads.1.1 bye_other
   entering_replied named (AsksLogin name secret) leads led = by_answer one.answer refl led.1
@@ -129,7 +129,7 @@ module _ (node : ℕ) (line : List ℕ) (one : Exchange) (is : one.unit ≡ Line
   entering_replied named (AsksMessage number id) leads led = absurd leads
   entering_replied named (AsksDeletion ids) leads led = absurd leads
 
-  reading_replied : (user : List ℕ) (slots : List pop.Slot) (outcome : Outcome) → LeadsBehind slots line outcome → IsLed (line_lead user outcome) one → IsReplied Pop node one
+  reading_replied : (user : List ℕ) (slots : List pop.ListingSlot) (outcome : LineOutcome) → LeadsBehind slots line outcome → IsLed (line_lead user outcome) one → IsReplied Pop node one
   reading_replied user slots (Answered lines) leads led = by_answers lines led.2 leads.answers
   reading_replied user slots (Closed lines) leads led = by_quit bye_text (led.2 ∙ leads.0) leads.1.1 bye_other
   reading_replied user slots (AsksLogin name secret) leads led = absurd leads
@@ -153,7 +153,7 @@ module _ (node : ℕ) (line : List ℕ) (one : Exchange) (is : one.unit ≡ Line
 -- either
 
 -- the session is of this protocol
-abbrev pub Speaks : Protocol → State → Type 0
+abbrev pub Speaks : Protocol → TalkState → Type 0
 Speaks Smtp (Mailing talk) = ⊤
 Speaks Smtp (Entering named) = ⊥
 Speaks Smtp (Reading user slots) = ⊥
@@ -161,7 +161,7 @@ Speaks Pop (Mailing talk) = ⊥
 Speaks Pop (Entering named) = ⊤
 Speaks Pop (Reading user slots) = ⊤
 
-pub next_replied : (plan : Plan) (node : ℕ) (protocol : Protocol) (state : State) (there left : List ℕ) (one : Exchange) → Speaks protocol state → IsNext plan node state there one left
+pub next_replied : (plan : Plan) (node : ℕ) (protocol : Protocol) (state : TalkState) (there left : List ℕ) (one : Exchange) → Speaks protocol state → IsNext plan node state there one left
     → IsReplied protocol node one
 next_replied plan node Smtp (Mailing talk) there left one speaks n = mailing_replied plan node talk one n.is_unit n.led
 next_replied plan node Smtp (Entering named) there left one speaks n = absurd speaks

@@ -13,15 +13,15 @@ use Rattle.mail_model.specs.Transcript.{Entry, all_of}
 use Rattle.mail_model.specs.Shown.{lines_to}
 use Rattle.mail_model.proofs.Sessions.{by_number}
 use Rattle.session_model.specs.Calls.{Call, Answer}
-use Rattle.session_model.specs.Talk.{State, Exchange, Standing, Lead, IsLed, IsIdle, opening, in_text, heard, asked, stands, leave_of}
+use Rattle.session_model.specs.Talk.{TalkState, Exchange, Standing, Lead, IsLed, IsIdle, opening_state, in_text, heard, standing_asked, stands, leave_of}
 use Rattle.session_model.specs.Talk.Lead.{Says, Ends, Asks}
 use Rattle.session_model.specs.Talk.Standing.{EndedByQuit, EndedDown, EndedClosed}
 use Rattle.session_model.specs.Talk.Standing.{Hearing as Hears_on, Waiting}
 use Rattle.session_model.specs.Sessions.{Session, IsSession, session_at, exchanges_of}
-use Rattle.session_model.specs.Acts.{Act, Deed, Acted, replace, greeting_of, opened_session, fed_by}
+use Rattle.session_model.specs.Acts.{Act, Deed, Acted, replace, greeting_of, opened_session, fed_by_act}
 use Rattle.session_model.specs.Acts.Act.{Opens, Does, Faults, StillWaits, Leaves}
 use Rattle.session_model.specs.Acts.Deed.{IsFed, Hears, IsAnswered, Falls, Closes}
-use Rattle.session_model.specs.Turns.{Turn, Next, Goes, Starts, IsReady, IsAtRest, after_unit, to_leave}
+use Rattle.session_model.specs.Turns.{Turn, Next, ActsGo, Starts, IsReadyToAsk, IsAtRest, turn_after_unit, to_leave}
 use Rattle.session_model.specs.Turns.Turn.{Hearing, Beginning, Falling, Asking}
 use Rattle.session_model.specs.Run.{Made, IsHandled, AreHandled, IsLeftOff}
 use Rattle.session_model.specs.Run.Stop.{BehindLine}
@@ -41,7 +41,7 @@ abbrev OthersRest : Turn → List Session → Type 0
 OthersRest turn sessions = (j : ℕ) → IsAtRest (session_at sessions j) ⊎ HearsNow turn j
 
 -- once what was under way is done, it does too
-ready_rests : (turn : Turn) (sessions : List Session) (from : ℕ) → IsReady turn sessions from → OthersRest turn sessions → (j : ℕ) → IsAtRest (session_at sessions j)
+ready_rests : (turn : Turn) (sessions : List Session) (from : ℕ) → IsReadyToAsk turn sessions from → OthersRest turn sessions → (j : ℕ) → IsAtRest (session_at sessions j)
 ready_rests (Hearing k onward) sessions from ready rest j =
     ⊎_elim (λ is. is) (λ same. subst (λ (n : ℕ). IsAtRest (session_at sessions n)) (sym same) ready.1) (rest j)
 ready_rests (Beginning k onward) sessions from ready rest j = ⊎_elim (λ is. is) (λ none. absurd none) (rest j)
@@ -61,17 +61,17 @@ leaves_rest None user is = tt
 leaves_rest (Some session) user is = leave_rests (exchanges_of session) session.standing session.rest user is
 
 -- one that has just asked its node waits
-asks_rest : (plan : Plan) (state : State) (one : Exchange) (lead : Lead) (call : Call) (rest : List ℕ) → IsLed lead one → one.call ≡ Some call → one.answer ≡ None → IsIdle (stands plan state one lead) rest
+asks_rest : (plan : Plan) (state : TalkState) (one : Exchange) (lead : Lead) (call : Call) (rest : List ℕ) → IsLed lead one → one.call ≡ Some call → one.answer ≡ None → IsIdle (stands plan state one lead) rest
 asks_rest plan state one (Says reply) call rest led asks none = absurd (none-some call (sym led.0 ∙ asks))
 asks_rest plan state one (Ends reply) call rest led asks none = absurd (none-some call (sym led.0 ∙ asks))
-asks_rest plan state one (Asks own) call rest led asks none = subst (λ (a : Option Answer). IsIdle (asked (heard plan state one.unit []) own a) rest) (sym none) tt
+asks_rest plan state one (Asks own) call rest led asks none = subst (λ (a : Option Answer). IsIdle (standing_asked (heard plan state one.unit []) own a) rest) (sym none) tt
 
 -- a session that was opened has no unit
 no_unit : (octets more : List ℕ) → [] ≡ sent_line octets ++ more → ⊥
 no_unit [] more e = cc
 no_unit (x ∷ octets) more e = cc
 
-opened_rests : (protocol : Protocol) → HasNoUnit (in_text (opening protocol)) []
+opened_rests : (protocol : Protocol) → HasNoUnit (in_text (opening_state protocol)) []
 opened_rests Smtp (Line line) more is whole = no_unit line more whole
 opened_rests Smtp (Text lines) more is whole = absurd is
 opened_rests Pop (Line line) more is whole = no_unit line more whole
@@ -99,7 +99,7 @@ module _ (plan : Plan) (old new : List Session) where
   next_rests (Hearing k onward) next (Does j (Hears one)) entries (same, then) (before, behind, said, at, did, says, is) rest =
       subst (λ (t : Turn). OthersRest t new) (sym then) (by_call one.call refl)
     where
-      by_call : (call : Option Call) → one.call ≡ call → OthersRest (after_unit k onward call) new
+      by_call : (call : Option Call) → one.call ≡ call → OthersRest (turn_after_unit k onward call) new
       by_call None none = changes j before behind (Hearing k onward) (Hearing k onward) at is rest (inr same) (λ i other hears. hears)
       by_call (Some call) asks = changes j before behind (Hearing k onward) (Beginning k onward) at is rest
           (inl (subst (λ (s : Session). IsIdle s.standing s.rest) (sym did.5) (asks_rest plan did.0 one _ call did.1 did.3.led asks did.6)))
@@ -149,7 +149,7 @@ module _ (plan : Plan) (old new : List Session) where
   starts_rest End act turn entries starts acted rest = absurd starts
 
 -- acts, one after another
-goes_rest : (plan : Plan) (turn last : Turn) (old new : List Session) (acts : List Act) (outputs : List (List Entry)) → Goes plan turn old acts outputs last new → OthersRest turn old
+goes_rest : (plan : Plan) (turn last : Turn) (old new : List Session) (acts : List Act) (outputs : List (List Entry)) → ActsGo plan turn old acts outputs last new → OthersRest turn old
     → OthersRest last new
 goes_rest plan turn last old new [] [] (same, is) rest = subst (λ (t : Turn). OthersRest t new) (sym same) (subst (OthersRest turn) (sym is) rest)
 goes_rest plan turn last old new (act ∷ acts) (entries ∷ outputs) (next, mid, is, acted, goes) rest =
@@ -206,5 +206,5 @@ driven_answers_units plan handled left acts others made entries last driven k se
     wrote : WroteAll plan done entries last
     wrote = written.wrote
 
-    spoken : Spoken plan (flat_map (fed_by k) done) (lines_to k (all_of wrote.outputs)) (Some session)
-    spoken = subst (Spoken plan (flat_map (fed_by k) done) (lines_to k (all_of wrote.outputs))) at ((acts_keep plan [] done [] [] last wrote.outputs (at_first plan) wrote.done).each k)
+    spoken : Spoken plan (flat_map (fed_by_act k) done) (lines_to k (all_of wrote.outputs)) (Some session)
+    spoken = subst (Spoken plan (flat_map (fed_by_act k) done) (lines_to k (all_of wrote.outputs))) at ((acts_keep plan [] done [] [] last wrote.outputs (at_first plan) wrote.done).each k)

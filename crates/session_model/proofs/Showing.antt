@@ -12,10 +12,10 @@ use Rattle.mail_model.specs.Session.{Unit, undotted, is_long_line}
 use Rattle.mail_model.specs.Session.Unit.{Line, Text}
 use Rattle.mail_model.specs.Pop.{Command, Fault, pop_command_of}
 use Rattle.mail_model.specs.Pop.Command.{Uidl, Listing, Retr}
-use Rattle.mail_model.specs.PopReplies.{Item, Slot, one_line, octets_text, dotted_line, last_line}
-use Rattle.mail_model.specs.Maildrop.{Stage, Outcome, line_outcome, command_outcome, message_at, of_message, named_in, deleted_in, wrong_text, entered_text, later_text, bye_text, remaining_text}
+use Rattle.mail_model.specs.PopReplies.{Item, ListingSlot, one_line, octets_text, dotted_line, last_line}
+use Rattle.mail_model.specs.Maildrop.{Stage, LineOutcome, line_outcome, command_outcome, message_at, of_message, named_in, deleted_in, wrong_text, entered_text, later_text, bye_text, remaining_text}
 use Rattle.mail_model.specs.Maildrop.Stage.{Authorization, Transaction}
-use Rattle.mail_model.specs.Maildrop.Outcome.{Answered, Closed, AsksLogin, AsksMessage, AsksDeletion}
+use Rattle.mail_model.specs.Maildrop.LineOutcome.{Answered, Closed, AsksLogin, AsksMessage, AsksDeletion}
 use Rattle.mail_model.specs.Shown.{ShowsId, ShowsSize, ShowsOctets, is_good}
 use Rattle.mail_model.specs.Told.{IsUnit}
 use Rattle.mail_model.proofs.ShownSlots.{all_items, listed_all, deleted_all}
@@ -26,10 +26,10 @@ use Rattle.mail_model.specs.Tape.Protocol.{Pop}
 use Rattle.session_model.specs.Calls.{Answer}
 use Rattle.session_model.specs.Calls.Call.{Login, Fetch, Strike}
 use Rattle.session_model.specs.Calls.Answer.{Listed, Wrong, Part, GoneAlready, Dropped, Failed}
-use Rattle.session_model.specs.Talk.{State, Exchange, Standing, IsNext, IsLed, Awaits, opening, line_lead, lead_of, stands, stands_by, asked}
-use Rattle.session_model.specs.Talk.State.{Mailing, Entering, Reading}
+use Rattle.session_model.specs.Talk.{TalkState, Exchange, Standing, IsNext, IsLed, Awaits, opening_state, line_lead, lead_of, stands, stands_by, standing_asked}
+use Rattle.session_model.specs.Talk.TalkState.{Mailing, Entering, Reading}
 use Rattle.session_model.specs.Talk.Standing.{Hearing, Waiting, EndedByQuit, EndedDown, EndedClosed}
-use Rattle.session_model.specs.Reading.{Each, seen, line_of}
+use Rattle.session_model.specs.Reading.{Each, seen_exchange, line_of}
 use Rattle.session_model.specs.Showing.{numbered, ShowsListed, WasListed, ShownAsListed}
 use Rattle.session_model.proofs.Chains.{through}
 
@@ -83,7 +83,7 @@ no_text_quiet : (line : List ℕ) (reply : List (List ℕ)) (n : ℕ) (octets : 
 no_text_quiet line reply n octets nothing shows = subst AsksNothing shows.asked nothing
 
 -- what RETR leads to
-abbrev RetrLeads : Outcome → Type 0
+abbrev RetrLeads : LineOutcome → Type 0
 RetrLeads (Answered lines) = (rest : List ℕ) × (lines ≡ (45 ∷ rest) ∷ [])
 RetrLeads (Closed lines) = ⊥
 RetrLeads (AsksLogin user secret) = ⊥
@@ -104,7 +104,7 @@ retr_leads plan stage line n is =
     by_stage (Transaction slots) = by_item (message_at slots n)
 
 -- so what is answered at once shows none
-no_text_at_once : (plan : Plan) (stage : Stage) (line : List ℕ) (outcome : Outcome) → line_outcome plan stage line ≡ outcome → (lines : List (List ℕ))
+no_text_at_once : (plan : Plan) (stage : Stage) (line : List ℕ) (outcome : LineOutcome) → line_outcome plan stage line ≡ outcome → (lines : List (List ℕ))
     → (outcome ≡ Answered lines) ⊎ (outcome ≡ Closed lines) → (n : ℕ) (octets : List ℕ) → ShowsOctets n octets (exchange line lines) → ⊥
 no_text_at_once plan stage line outcome is lines at_once n octets shows =
     let leads : RetrLeads outcome = subst RetrLeads is (retr_leads plan stage line n shows.asked) in
@@ -121,7 +121,7 @@ by_fits : (items : List Item) (line : List ℕ) (reply : List (List ℕ)) (one :
     → Fits (map sized items) (exchange line reply) → ((n : ℕ) (octets : List ℕ) → ShowsOctets n octets (exchange line reply) → ⊥)
     → ((others : List Item) → one.answer ≡ Some (Listed others) → others ≡ items) → ShowsListed items one
 by_fits items line reply one unit_is reply_is fits no_text listed =
-    let same : exchange line reply ≡ seen one = ap₂ exchange (ap line_of (sym unit_is)) (sym reply_is) in
+    let same : exchange line reply ≡ seen_exchange one = ap₂ exchange (ap line_of (sym unit_is)) (sym reply_is) in
     record {
       listed = listed;
       ids = λ n text small shows.
@@ -138,7 +138,7 @@ by_fits items line reply one unit_is reply_is fits no_text listed =
 -- one that waits
 waits_shown : (items : List Item) (line : List ℕ) (one : Exchange) → one.unit ≡ Line line → one.reply ≡ [] → one.answer ≡ None → ShowsListed items one
 waits_shown items line one unit_is none unanswered =
-    let same : seen one ≡ exchange line [] = ap₂ exchange (ap line_of unit_is) none in
+    let same : seen_exchange one ≡ exchange line [] = ap₂ exchange (ap line_of unit_is) none in
     record {
       listed = λ others is. absurd (none-some (Listed others) (sym unanswered ∙ is));
       ids = λ n text small shows. absurd (no_id n text (subst (ShowsId n text) same shows));
@@ -234,7 +234,7 @@ module _ (plan : Plan) (named : Option (List ℕ)) (been : List Exchange) (so_fa
 
   -- a login
   login_shown : (name secret : List ℕ) → AsksNothing (pop_command_of line) → one.call ≡ Some (Login name secret) → (answer : Option Answer) → one.answer ≡ answer → Awaits (Login name secret) answer one.reply
-      → ShowsSoFar (asked (Entering (named_in line)) (Login name secret) answer) (been ++ one ∷ [])
+      → ShowsSoFar (standing_asked (Entering (named_in line)) (Login name secret) answer) (been ++ one ∷ [])
   login_shown name secret nothing call None there says =
       ([], inl refl, each_more (ShowsListed []) been one (so_far []) (waits_shown [] line one is says there))
   login_shown name secret nothing call (Some (Listed items)) there says =
@@ -252,7 +252,7 @@ module _ (plan : Plan) (named : Option (List ℕ)) (been : List Exchange) (so_fa
   login_shown name secret nothing call (Some answer) there says = absurd says
 
   -- whatever the line leads to
-  entering_shown : (outcome : Outcome) → line_outcome plan (Authorization named) line ≡ outcome → ((items : List Item) → LeadsBefore (map sized items) line outcome)
+  entering_shown : (outcome : LineOutcome) → line_outcome plan (Authorization named) line ≡ outcome → ((items : List Item) → LeadsBefore (map sized items) line outcome)
       → IsLed (line_lead [] outcome) one
       → ShowsSoFar (stands plan (Entering named) (record one { unit = Line line }) (line_lead [] outcome)) (been ++ one ∷ [])
   entering_shown (Answered lines) outcome_is leads led = λ items.
@@ -269,7 +269,7 @@ module _ (plan : Plan) (named : Option (List ℕ)) (been : List Exchange) (so_fa
   entering_shown (AsksDeletion ids) outcome_is leads led = absurd (leads [])
 
 -- and after it
-module _ (plan : Plan) (user : List ℕ) (slots : List Slot) (been : List Exchange) (was : WasListed (all_items slots) been) (so_far : Each (ShowsListed (all_items slots)) been)
+module _ (plan : Plan) (user : List ℕ) (slots : List ListingSlot) (been : List Exchange) (was : WasListed (all_items slots) been) (so_far : Each (ShowsListed (all_items slots)) been)
     (line : List ℕ) (one : Exchange) (is : one.unit ≡ Line line) where
   -- with one more
   with_one : ShowsListed (all_items slots) one → WasListed (all_items slots) (been ++ one ∷ []) × Each (ShowsListed (all_items slots)) (been ++ one ∷ [])
@@ -292,7 +292,7 @@ module _ (plan : Plan) (user : List ℕ) (slots : List Slot) (been : List Exchan
   -- RETR
   fetch_shown : (number : ℕ) (id : Id) → pop_command_of line ≡ Ok (Retr number) → (message : Message) → shown.numbered (map sized (all_items slots)) number ≡ Some message
       → message.id ≡ id → one.call ≡ Some (Fetch user id) → (answer : Option Answer) → one.answer ≡ answer → Awaits (Fetch user id) answer one.reply
-      → ShowsSoFar (asked (Reading user (deleted_in slots line)) (Fetch user id) answer) (been ++ one ∷ [])
+      → ShowsSoFar (standing_asked (Reading user (deleted_in slots line)) (Fetch user id) answer) (been ++ one ∷ [])
   fetch_shown number id retr message at same call None there says = ends_with (waits_shown (all_items slots) line one is says there)
   fetch_shown number id retr message at same call (Some (Part octets)) there says =
       let item = sized_number (all_items slots) number message at in
@@ -306,7 +306,7 @@ module _ (plan : Plan) (user : List ℕ) (slots : List Slot) (been : List Exchan
 
   -- QUIT
   strike_shown : (ids : List Id) → AsksNothing (pop_command_of line) → (answer : Option Answer) → one.answer ≡ answer → Awaits (Strike user ids) answer one.reply
-      → ShowsSoFar (asked (Reading user (deleted_in slots line)) (Strike user ids) answer) (been ++ one ∷ [])
+      → ShowsSoFar (standing_asked (Reading user (deleted_in slots line)) (Strike user ids) answer) (been ++ one ∷ [])
   strike_shown ids nothing None there says = ends_with (waits_shown (all_items slots) line one is says there)
   strike_shown ids nothing (Some Dropped) there says =
       ends_with (quiet_shown (all_items slots) line bye_text one is nothing says (never_listed (Some Dropped) there (λ others e. cc)))
@@ -315,7 +315,7 @@ module _ (plan : Plan) (user : List ℕ) (slots : List Slot) (been : List Exchan
   strike_shown ids nothing (Some answer) there says = absurd says
 
   -- whatever the line leads to
-  reading_shown : (outcome : Outcome) → line_outcome plan (Transaction slots) line ≡ outcome → LeadsBehind (map sized (all_items slots)) line outcome
+  reading_shown : (outcome : LineOutcome) → line_outcome plan (Transaction slots) line ≡ outcome → LeadsBehind (map sized (all_items slots)) line outcome
       → IsLed (line_lead user outcome) one
       → ShowsSoFar (stands plan (Reading user slots) (record one { unit = Line line }) (line_lead user outcome)) (been ++ one ∷ [])
   reading_shown (Answered lines) outcome_is leads led =
@@ -329,7 +329,7 @@ module _ (plan : Plan) (user : List ℕ) (slots : List Slot) (been : List Exchan
   reading_shown (AsksDeletion ids) outcome_is leads led = strike_shown ids leads one.answer refl led.1
 
 -- each exchange
-pub step_shown : (plan : Plan) (node : ℕ) (been : List Exchange) (state : State) (there left : List ℕ) (one : Exchange) → ShowsSoFar (Hearing state) been
+pub step_shown : (plan : Plan) (node : ℕ) (been : List Exchange) (state : TalkState) (there left : List ℕ) (one : Exchange) → ShowsSoFar (Hearing state) been
     → IsNext plan node state there one left → ShowsSoFar (stands_by plan node state one) (been ++ one ∷ [])
 step_shown plan node been (Mailing talk) there left one so_far n = absurd so_far
 step_shown plan node been (Entering named) there left one so_far n = by_unit one.unit refl
@@ -363,4 +363,4 @@ so_far_shown EndedClosed exchanges so_far = absurd so_far
 
 pub shown_as_listed : ShownAsListed
 shown_as_listed plan node octets exchanges last rest g =
-    so_far_shown last exchanges (through plan node ShowsSoFar (step_shown plan node) (Hearing (opening Pop)) octets [] exchanges last rest (λ items. tt) g)
+    so_far_shown last exchanges (through plan node ShowsSoFar (step_shown plan node) (Hearing (opening_state Pop)) octets [] exchanges last rest (λ items. tt) g)

@@ -5,7 +5,7 @@ use Rattle.mail_model.specs.Plan.{Plan}
 use Rattle.mail_model.specs.Tape.{Protocol}
 use Rattle.mail_model.specs.Tape.Protocol.{Smtp}
 use Rattle.mail_model.specs.Transcript.{Entry}
-use Rattle.session_model.specs.Talk.{Exchange, Standing, Goes, opening, farewell, replies}
+use Rattle.session_model.specs.Talk.{Exchange, Standing, TalkGoes, opening_state, farewell, replies}
 use Rattle.session_model.specs.Talk.Standing.{Hearing, Waiting, EndedByQuit, EndedDown, EndedClosed}
 use Rattle.session_model.specs.Mailing.{filing_of, filings, pairs, stored_lines}
 use Rattle.session_model.specs.Sessions.{Session, IsCut, IsSession, exchanges_of}
@@ -41,7 +41,7 @@ no_part reply (line ∷ part) missing short cut some = absurd (⊎_elim
 
 -- so what a client got in part is none
 part_lines : (plan : Plan) (node : ℕ) (octets : List ℕ) (whole others : List Exchange) (before : Standing) (rest : List ℕ) (standing : Standing) (part missing : List (List ℕ))
-    → Goes plan node (Hearing (opening Smtp)) octets (whole ++ others) before rest → IsCut others (farewell Smtp node standing) part missing → stored_lines part ≡ 0
+    → TalkGoes plan node (Hearing (opening_state Smtp)) octets (whole ++ others) before rest → IsCut others (farewell Smtp node standing) part missing → stored_lines part ≡ 0
 part_lines plan node octets whole [] before rest standing part missing g cut = front_lines part missing (farewell Smtp node standing) cut (last_lines node standing)
 part_lines plan node octets whole (one ∷ []) before rest standing part missing g cut =
     ap stored_lines (no_part one.reply part missing (of_mail plan node octets whole [] one before rest g).0 cut.0 cut.1)
@@ -63,9 +63,9 @@ pub record IsShownMail (plan : Plan) (entries : List Entry) (k : ℕ) (session :
 pub told_so : (plan : Plan) (lines : List (List ℕ)) (entries : List Entry) (k : ℕ) (session : Session) → IsSession plan lines entries k session → session.protocol ≡ Smtp
     → IsShownMail plan entries k session
 told_so plan lines entries k session is smtp =
-    let goes : Goes plan session.node (Hearing (opening Smtp)) session.octets (exchanges_of session) is.talk.before session.rest =
-    subst (λ (p : Protocol). Goes plan session.node (Hearing (opening p)) session.octets (exchanges_of session) is.talk.before session.rest) smtp is.talk.goes in
-    let front = goes_front plan session.node (Hearing (opening Smtp)) session.octets session.whole session.others is.talk.before session.rest goes in
+    let goes : TalkGoes plan session.node (Hearing (opening_state Smtp)) session.octets (exchanges_of session) is.talk.before session.rest =
+    subst (λ (p : Protocol). TalkGoes plan session.node (Hearing (opening_state p)) session.octets (exchanges_of session) is.talk.before session.rest) smtp is.talk.goes in
+    let front = goes_front plan session.node (Hearing (opening_state Smtp)) session.octets session.whole session.others is.talk.before session.rest goes in
     let told = stored_as_told plan session.node session.octets session.whole front.0 front.1 front.2 in
     let none : stored_lines is.gets.part ≡ 0 = part_lines plan session.node session.octets session.whole session.others is.talk.before session.rest session.standing is.gets.part is.gets.missing goes
     (subst (λ (p : Protocol). IsCut session.others (farewell p session.node session.standing) is.gets.part is.gets.missing) smtp is.gets.cut) in

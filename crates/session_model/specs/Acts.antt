@@ -13,7 +13,7 @@ use Rattle.mail_model.specs.Transcript.{said_lines}
 use Rattle.mail_model.specs.Told.{sent, fed_to}
 use Rattle.mail_model.specs.Stored.{opened}
 use Rattle.session_model.specs.Calls.{Call, Answer, IsReply}
-use Rattle.session_model.specs.Talk.{State, Exchange, Standing, IsNext, IsOn, opening, stands_by, answered, down_line}
+use Rattle.session_model.specs.Talk.{TalkState, Exchange, Standing, IsNext, IsOn, opening_state, stands_by, answered, down_line}
 use Rattle.session_model.specs.Talk.Standing.{Hearing, Waiting, EndedByQuit, EndedDown, EndedClosed}
 use Rattle.session_model.specs.Moves.{with_answer}
 use Rattle.session_model.specs.Sessions.{Session, session_at}
@@ -30,10 +30,10 @@ pub data Deed : Type 0 where
 abbrev pub Did : Plan → Session → Deed → List (List ℕ) → Session → Type 0
 Did plan old (IsFed more) said new = IsOn old.standing × (said ≡ []) × (new ≡ record old { octets = old.octets ++ more; rest = old.rest ++ more })
 Did plan old (Hears one) said new =
-    (state : State) × (left : List ℕ) × (old.standing ≡ Hearing state) × IsNext plan old.node state old.rest one left × (said ≡ one.reply)
+    (state : TalkState) × (left : List ℕ) × (old.standing ≡ Hearing state) × IsNext plan old.node state old.rest one left × (said ≡ one.reply)
     × (new ≡ record old { whole = old.whole ++ one ∷ []; standing = stands_by plan old.node state one; rest = left }) × (one.answer ≡ None)
 Did plan old (IsAnswered call answer reply) said new =
-    (before : List Exchange) × (one : Exchange) × (state : State) × (old.whole ≡ before ++ one ∷ []) × (old.standing ≡ Waiting state call)
+    (before : List Exchange) × (one : Exchange) × (state : TalkState) × (old.whole ≡ before ++ one ∷ []) × (old.standing ≡ Waiting state call)
     × IsReply call answer reply × (said ≡ reply)
     × (new ≡ record old { whole = before ++ with_answer one answer reply ∷ []; standing = answered state call answer })
 Did plan old Falls said new = IsOn old.standing × (said ≡ down_line old.protocol old.node ∷ []) × (new ≡ record old { standing = EndedDown })
@@ -47,7 +47,7 @@ greeting_of Pop node boot number seconds = ready_text node boot number seconds
 -- a session that was opened
 abbrev pub opened_session : Protocol → ℕ → Session
 opened_session protocol node =
-    record { protocol = protocol; node = node; octets = []; whole = []; others = []; standing = Hearing (opening protocol); rest = [] }
+    record { protocol = protocol; node = node; octets = []; whole = []; others = []; standing = Hearing (opening_state protocol); rest = [] }
 
 -- that the server ended it
 abbrev pub closing : ℕ → Deed → Standing → List Entry
@@ -100,18 +100,18 @@ opened_by (StillWaits session) = []
 opened_by (Leaves session user) = []
 
 -- and what they feed to session k
-abbrev pub fed_by : ℕ → Act → List ℕ
-fed_by k (Opens protocol node greeting) = []
-fed_by k (Does session (IsFed octets)) = fed_to k session octets
-fed_by k (Does session deed) = []
-fed_by k (Faults node) = []
-fed_by k (StillWaits session) = []
-fed_by k (Leaves session user) = []
+abbrev pub fed_by_act : ℕ → Act → List ℕ
+fed_by_act k (Opens protocol node greeting) = []
+fed_by_act k (Does session (IsFed octets)) = fed_to k session octets
+fed_by_act k (Does session deed) = []
+fed_by_act k (Faults node) = []
+fed_by_act k (StillWaits session) = []
+fed_by_act k (Leaves session user) = []
 
 -- the acts are those of these lines: they open and feed what the lines do, and nothing else
 pub record AreActsOf (lines : List (List ℕ)) (acts : List Act) : Type 0 where
   pub opens : opened lines ≡ flat_map opened_by acts
-  pub feeds : (k : ℕ) → sent k lines ≡ flat_map (fed_by k) acts
+  pub feeds : (k : ℕ) → sent k lines ≡ flat_map (fed_by_act k) acts
 
 -- the last reply of a session is parted into what was written and what was not
 pub record IsParted (session parted : Session) : Type 0 where

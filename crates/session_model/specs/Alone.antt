@@ -12,7 +12,7 @@ use Rattle.session_model.specs.Acts.{Act}
 use Rattle.session_model.specs.Logs.{asked_by, answered_by}
 use Rattle.session_model.specs.Run.{Stop, Made, IsDriven}
 use Rattle.session_model.specs.Books.{IsBookOf, AreBegun}
-use Rattle.session_model.specs.OneNode.{Node, Served, ServesAll, first_node, asked_of, answered_of}
+use Rattle.session_model.specs.OneNode.{NodeState, Served, ServesAll, first_node, asked_of, answered_of}
 use Rattle.session_model.specs.Kept.{KeepsPromises, IsEnding}
 
 -- all that the book says was confirmed, node 1 confirmed
@@ -25,7 +25,7 @@ AreByOne (entry ∷ book) = AreByOne book
 -- The node served the calls that were begun and gave their answers; its store holds its records, and the book is that of its calls.
 abbrev pub OneNodePromises : Type 0
 OneNodePromises = (plan : Plan) (tells : Bool) (stop : Stop) (handled left : List (List ℕ)) (acts others : List (List Act)) (made : List Made) (entries ending : List Entry) (sessions : List Session)
-    (served : List Served) (last : Node) (store : Option (List ℕ)) (book : List BookEntry) → plan.nodes ≡ 1 → plan.confirm ≡ 1
+    (served : List Served) (last : NodeState) (store : Option (List ℕ)) (book : List BookEntry) → plan.nodes ≡ 1 → plan.confirm ≡ 1
     → IsDriven plan stop handled left acts others made entries sessions → IsEnding ending
     → ServesAll plan tells first_node served last → All IsRecord last.records → IfSome store (HoldsRecords last.records)
     → AreBegun stop (flat_map asked_by (flat_map (λ a. a) (acts ++ others))) (asked_of served) → answered_of served ≡ flat_map answered_by (flat_map (λ a. a) (acts ++ others))

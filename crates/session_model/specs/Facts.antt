@@ -12,7 +12,7 @@ use Rattle.session_model.specs.Calls.Call.{Login, Fetch, Strike}
 use Rattle.session_model.specs.Calls.Answer.{Listed, Part, Dropped}
 use Rattle.session_model.specs.Talk.{Exchange}
 use Rattle.session_model.specs.Copies.{AreGoneOn}
-use Rattle.session_model.specs.Mailing.{Filing}
+use Rattle.session_model.specs.Mailing.{StoredMail}
 use Rattle.session_model.specs.Reading.{ListsOnce, ListsNamed, Each}
 use Rattle.session_model.specs.Sessions.{Session, session_at, exchanges_of}
 
@@ -22,12 +22,12 @@ IsIn id [] = ⊥
 IsIn id (other ∷ ids) = (other ≡ id) ⊎ IsIn id ids
 
 -- a message that was filed in session k
-abbrev pub ack_of : ℕ → Filing → Ack
+abbrev pub ack_of : ℕ → StoredMail → Ack
 ack_of k filing = record { session = k; mail = filing.mail; id = filing.id; seconds = 0 }
 
 -- the session asked that the user's copies of these messages be deleted
-abbrev pub Strikes : Session → List ℕ → List Id → Exchange → Type 0
-Strikes session user ids one = (before : List Exchange) × (behind : List Exchange) × (exchanges_of session ≡ before ++ one ∷ behind) × (one.call ≡ Some (Strike user ids))
+abbrev pub AsksDeletion : Session → List ℕ → List Id → Exchange → Type 0
+AsksDeletion session user ids one = (before : List Exchange) × (behind : List Exchange) × (exchanges_of session ≡ before ++ one ∷ behind) × (one.call ≡ Some (Strike user ids))
 
 -- the records of node n + 1 say that the user's copy is gone
 abbrev pub IsGoneIn : List (List Record) → ℕ → List ℕ → Id → Type 0
@@ -36,8 +36,8 @@ IsGoneIn disks n user id = (records : List Record) × (slice_get disks n ≡ Som
 -- what is gone was to be deleted, each `Dropped` is gone, and a listing has each id once
 pub record DroppedAreTrue (plan : Plan) (entries : List Entry) (disks : List (List Record)) (sessions : List Session) : Type 0 where
   pub asked : (n : ℕ) (user : List ℕ) (id : Id) → IsGoneIn disks n user id
-      → (k : ℕ) × (session : Session) × (ids : List Id) × (one : Exchange) × (session_at sessions k ≡ Some session) × Strikes session user ids one × IsIn id ids
-  pub gone : (k : ℕ) (session : Session) (user : List ℕ) (ids : List Id) (one : Exchange) → session_at sessions k ≡ Some session → Strikes session user ids one
+      → (k : ℕ) × (session : Session) × (ids : List Id) × (one : Exchange) × (session_at sessions k ≡ Some session) × AsksDeletion session user ids one × IsIn id ids
+  pub gone : (k : ℕ) (session : Session) (user : List ℕ) (ids : List Id) (one : Exchange) → session_at sessions k ≡ Some session → AsksDeletion session user ids one
       → one.answer ≡ Some Dropped → (id : Id) → IsIn id ids → (nodes : List ℕ) × AreGoneOn plan entries disks user id nodes
   pub once : (k : ℕ) (session : Session) → session_at sessions k ≡ Some session → Each ListsOnce (exchanges_of session)
 

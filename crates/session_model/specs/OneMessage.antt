@@ -21,7 +21,7 @@ use Rattle.mail_model.specs.Site.{nth_id, nth_stamp, nth_entries, message_record
 use Rattle.session_model.specs.Calls.Call.{Deliver}
 use Rattle.session_model.specs.Calls.Answer.{Stored}
 use Rattle.session_model.specs.Talk.{Exchange}
-use Rattle.session_model.specs.Talk.State.{Mailing}
+use Rattle.session_model.specs.Talk.TalkState.{Mailing}
 use Rattle.session_model.specs.Talk.Standing.{Hearing, Waiting, EndedByQuit}
 use Rattle.session_model.specs.Moves.{with_answer}
 use Rattle.session_model.specs.Mailing.{pairs}

@@ -19,13 +19,13 @@ use Rattle.session_model.specs.Logs.{Asked, Answered}
 use Rattle.session_model.specs.Owes.{OwesStored, OwesDeletions, OwesParts}
 
 -- the numbers that it drew, and its records
-pub record Node : Type 0 where
+pub record NodeState : Type 0 where
   pub drawn : ℕ
   pub stamps : ℕ
   pub records : List Record
 
 -- with the record of its first boot
-abbrev pub first_node : Node
+abbrev pub first_node : NodeState
 first_node = record { drawn = 0; stamps = 0; records = Boot 1 ∷ [] }
 
 -- a call, and its answer, where one was given
@@ -35,7 +35,7 @@ pub record Served : Type 0 where
   pub answer : Option Answer
 
 -- what a call may write that has no answer, since the disk or memory failed: a prefix of what it would
-abbrev pub MayLeave : Node → Call → List Record → Type 0
+abbrev pub MayLeave : NodeState → Call → List Record → Type 0
 MayLeave old (Deliver mail) added = (octets : List ℕ) × (missing : List Record) × IsStored mail (nth_id (old.drawn + 1)) 0 octets
     × (message_records (nth_id (old.drawn + 1)) (nth_stamp (old.stamps + 1)) octets mail.mailboxes ≡ added ++ missing)
 MayLeave old (Strike user ids) added = (missing : List Record) × (gone_records user old.stamps ids ≡ added ++ missing)
@@ -50,12 +50,12 @@ drawn_by (Login user secret) drawn = drawn
 drawn_by (Fetch user id) drawn = drawn
 
 -- a call that has no answer: memory ran out before anything was done, or in its midst, or the disk failed
-abbrev pub LeavesSome : Node → Call → Node → Type 0
+abbrev pub LeavesSome : NodeState → Call → NodeState → Type 0
 LeavesSome old call new = (added : List Record) × (stamps : ℕ) × MayLeave old call added
     × (new ≡ record { drawn = drawn_by call old.drawn; stamps = stamps; records = old.records ++ added })
 
 -- What a call leaves; the disk may tell what it holds, and what a read of one that does not gives is not known.
-abbrev pub Serves : Plan → Bool → Node → Call → Option Answer → Node → Type 0
+abbrev pub Serves : Plan → Bool → NodeState → Call → Option Answer → NodeState → Type 0
 Serves plan tells old call None new = (new ≡ old) ⊎ LeavesSome old call new
 Serves plan tells old (Deliver mail) (Some (Stored id)) new = (octets : List ℕ) × (id ≡ nth_id (old.drawn + 1)) × IsStored mail (nth_id (old.drawn + 1)) 0 octets
     × (new ≡ record {
@@ -72,10 +72,10 @@ Serves plan tells old (Strike user ids) (Some Dropped) new =
 Serves plan tells old call answer new = ⊥
 
 -- all calls, one after another
-abbrev pub ServesAll : Plan → Bool → Node → List Served → Node → Type 0
+abbrev pub ServesAll : Plan → Bool → NodeState → List Served → NodeState → Type 0
 ServesAll plan tells old [] new = new ≡ old
 ServesAll plan tells old (one ∷ more) new =
-    (mid : Node) × Serves plan tells old one.call one.answer mid × ServesAll plan tells mid more new
+    (mid : NodeState) × Serves plan tells old one.call one.answer mid × ServesAll plan tells mid more new
 
 -- a message as a session tells it, with each mailbox once
 abbrev pub IsSoundMail : Call → Type 0
@@ -101,7 +101,7 @@ answered_of served = flat_map (λ one. told_of one.session one.call one.answer) 
 
 -- One node gives what a cluster owes.
 abbrev pub OneNodeOwes : Type 0
-OneNodeOwes = (plan : Plan) (tells : Bool) (entries : List Entry) (served : List Served) (last : Node) → plan.nodes ≡ 1 → plan.confirm ≡ 1
+OneNodeOwes = (plan : Plan) (tells : Bool) (entries : List Entry) (served : List Served) (last : NodeState) → plan.nodes ≡ 1 → plan.confirm ≡ 1
     → AreSoundMails served → ServesAll plan tells first_node served last → All IsRecord last.records
     → OwesDeletions plan entries (last.records ∷ []) (asked_of served) (answered_of served)
     × (tells ≡ true → OwesParts (λ id. octets_in id last.records) (answered_of served))
@@ -113,11 +113,11 @@ IsTaken lines k (Login user secret) = ⊤
 IsTaken lines k (Fetch user id) = ⊤
 IsTaken lines k (Strike user ids) = ⊤
 
-abbrev pub AreTaken : List (List ℕ) → List Served → Type 0
-AreTaken lines [] = ⊤
-AreTaken lines (one ∷ more) = IsTaken lines one.session one.call × AreTaken lines more
+abbrev pub AreCallsTaken : List (List ℕ) → List Served → Type 0
+AreCallsTaken lines [] = ⊤
+AreCallsTaken lines (one ∷ more) = IsTaken lines one.session one.call × AreCallsTaken lines more
 
 abbrev pub OneNodeStores : Type 0
-OneNodeStores = (plan : Plan) (tells : Bool) (lines : List (List ℕ)) (entries : List Entry) (served : List Served) (last : Node) → plan.nodes ≡ 1 → plan.confirm ≡ 1
-    → AreTaken lines served → ServesAll plan tells first_node served last
+OneNodeStores = (plan : Plan) (tells : Bool) (lines : List (List ℕ)) (entries : List Entry) (served : List Served) (last : NodeState) → plan.nodes ≡ 1 → plan.confirm ≡ 1
+    → AreCallsTaken lines served → ServesAll plan tells first_node served last
     → OwesStored plan lines entries (last.records ∷ []) (answered_of served)

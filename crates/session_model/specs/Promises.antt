@@ -16,7 +16,7 @@ use Rattle.mail_model.specs.Deleted.{IsMarked}
 use Rattle.session_model.specs.Talk.{Exchange, replies}
 use Rattle.session_model.specs.Copies.{EachStands, AreGoneOn}
 use Rattle.session_model.specs.Mailing.{pairs}
-use Rattle.session_model.specs.Reading.{QuitsMarked, IsQuitUnit, all_seen, seen}
+use Rattle.session_model.specs.Reading.{QuitsMarked, IsQuitUnit, all_seen, seen_exchange}
 use Rattle.session_model.specs.Sessions.{Session, AreSessions, session_at, exchanges_of}
 use Rattle.session_model.specs.Facts.{IsGoneIn, IsIn, DroppedAreTrue, ListingsAreTrue, PartsAreTrue}
 
@@ -62,16 +62,16 @@ AreFiled filed text octets = (id : Id) × (id_text id ≡ text) × (filed id ≡
 -- Where UIDL shows an id for a number, each size that LIST shows for it is the number of the octets filed under the id, and what RETR shows are these octets.
 abbrev pub ShownAsFiled : (Id → Option (List ℕ)) → List Session → Type 0
 ShownAsFiled filed sessions = (k : ℕ) (session : Session) → session_at sessions k ≡ Some session → session.protocol ≡ Pop
-    → (n : ℕ) (text : List ℕ) (before behind : List Exchange) (one : Exchange) → n < 10 ^ 63 → session.whole ≡ before ++ one ∷ behind → ShowsId n text (seen one)
+    → (n : ℕ) (text : List ℕ) (before behind : List Exchange) (one : Exchange) → n < 10 ^ 63 → session.whole ≡ before ++ one ∷ behind → ShowsId n text (seen_exchange one)
     → (before_it behind_it : List Exchange) (other : Exchange) → session.whole ≡ before_it ++ other ∷ behind_it
-    → ((size : List ℕ) → ShowsSize n size (seen other) → (octets : List ℕ) × AreFiled filed text octets × (size ≡ decimal (length octets)))
-    × ((octets : List ℕ) → ShowsOctets n octets (seen other) → AreFiled filed text octets)
+    → ((size : List ℕ) → ShowsSize n size (seen_exchange other) → (octets : List ℕ) × AreFiled filed text octets × (size ≡ decimal (length octets)))
+    × ((octets : List ℕ) → ShowsOctets n octets (seen_exchange other) → AreFiled filed text octets)
 
 -- UIDL shows no id for two numbers of one session: no message is listed twice.
 abbrev pub ShownOnce : List Session → Type 0
 ShownOnce sessions = (k : ℕ) (session : Session) → session_at sessions k ≡ Some session → session.protocol ≡ Pop
     → (n m : ℕ) (text : List ℕ) (before behind before_it behind_it : List Exchange) (one other : Exchange) → n < 10 ^ 63 → m < 10 ^ 63
-    → session.whole ≡ before ++ one ∷ behind → ShowsId n text (seen one) → session.whole ≡ before_it ++ other ∷ behind_it → ShowsId m text (seen other) → n ≡ m
+    → session.whole ≡ before ++ one ∷ behind → ShowsId n text (seen_exchange one) → session.whole ≡ before_it ++ other ∷ behind_it → ShowsId m text (seen_exchange other) → n ≡ m
 
 -- The promises follow for every tape and every status from the sessions and from facts about answers.
 abbrev pub TrueAnswersDelete : Type 0

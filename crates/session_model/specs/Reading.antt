@@ -13,7 +13,7 @@ use Rattle.mail_model.specs.Shown as reader
 use Rattle.mail_model.specs.Deleted.{Enters, IsMarked, Mark, AreMarks}
 use Rattle.session_model.specs.Calls.Call.{Login, Strike}
 use Rattle.session_model.specs.Calls.Answer.{Listed}
-use Rattle.session_model.specs.Talk.{Exchange, Standing, Goes, opening}
+use Rattle.session_model.specs.Talk.{Exchange, Standing, TalkGoes, opening_state}
 use Rattle.session_model.specs.Talk.Standing.{Hearing}
 
 -- the line of a unit
@@ -22,12 +22,12 @@ line_of (Line line) = line
 line_of (Text lines) = []
 
 -- a command line with its reply, which is all that its client knows of an exchange
-abbrev pub seen : Exchange → reader.Exchange
-seen one = record { line = line_of one.unit; reply = one.reply }
+abbrev pub seen_exchange : Exchange → reader.SeenExchange
+seen_exchange one = record { line = line_of one.unit; reply = one.reply }
 
 -- of each
-abbrev pub all_seen : List Exchange → List reader.Exchange
-all_seen exchanges = map seen exchanges
+abbrev pub all_seen : List Exchange → List reader.SeenExchange
+all_seen exchanges = map seen_exchange exchanges
 
 -- each of the exchanges has this
 abbrev pub Each : (Exchange → Type 0) → List Exchange → Type 0
@@ -63,13 +63,13 @@ pub record QuitsMarked (before : List Exchange) (one : Exchange) (user : List �
 -- A deletion is asked for only by the QUIT of a session that marked messages, for exactly these, and it is the last that the session asks.
 abbrev pub StrikesAtQuit : Type 0
 StrikesAtQuit = (plan : Plan) (node : ℕ) (octets : List ℕ) (exchanges : List Exchange) (last : Standing) (rest : List ℕ)
-    → Goes plan node (Hearing (opening Pop)) octets exchanges last rest → Each ListsOnce exchanges
+    → TalkGoes plan node (Hearing (opening_state Pop)) octets exchanges last rest → Each ListsOnce exchanges
     → (before behind : List Exchange) (one : Exchange) (user : List ℕ) (ids : List Id) → exchanges ≡ before ++ one ∷ behind → one.call ≡ Some (Strike user ids)
     → (behind ≡ []) × QuitsMarked before one user ids
 
 -- And each such QUIT asks for one.
 abbrev pub QuitStrikes : Type 0
 QuitStrikes = (plan : Plan) (node : ℕ) (octets : List ℕ) (exchanges : List Exchange) (last : Standing) (rest : List ℕ)
-    → Goes plan node (Hearing (opening Pop)) octets exchanges last rest → Each ListsOnce exchanges
+    → TalkGoes plan node (Hearing (opening_state Pop)) octets exchanges last rest → Each ListsOnce exchanges
     → (before behind : List Exchange) (one : Exchange) (n : ℕ) → exchanges ≡ before ++ one ∷ behind → IsQuitUnit one.unit → IsMarked n (all_seen before)
     → (user : List ℕ) × (ids : List Id) × (one.call ≡ Some (Strike user ids))

@@ -16,6 +16,6 @@ abbrev pub views : List Exchange → List (Unit × List (List ℕ))
 views exchanges = flat_map (λ one. view one.unit one.reply) exchanges
 
 -- Two sessions that both are as the tape and the transcript show session k: the units that their clients know to be answered are the same, with the same replies.
-abbrev pub OneReading : Type 0
-OneReading = (plan : Plan) (lines : List (List ℕ)) (entries : List Entry) (k : ℕ) (one two : Session) → one.protocol ≡ two.protocol → one.node ≡ two.node
+abbrev pub OneReadingOfSession : Type 0
+OneReadingOfSession = (plan : Plan) (lines : List (List ℕ)) (entries : List Entry) (k : ℕ) (one two : Session) → one.protocol ≡ two.protocol → one.node ≡ two.node
     → IsSession plan lines entries k one → IsSession plan lines entries k two → views one.whole ≡ views two.whole

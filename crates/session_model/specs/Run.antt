@@ -14,7 +14,7 @@ use Rattle.session_model.specs.Sessions.{Session, session_at}
 use Rattle.session_model.specs.Acts.{Act, Acted}
 use Rattle.session_model.specs.Acts.Deed.{Hears, IsAnswered}
 use Rattle.session_model.specs.Logs.{call_in}
-use Rattle.session_model.specs.Turns.{Turn, Goes, Starts, IsDone, IsReady, IsFirst, Waits}
+use Rattle.session_model.specs.Turns.{Turn, ActsGo, Starts, IsDone, IsReadyToAsk, IsFirst, Waits}
 
 -- A step of the cluster: a call of session k begins at its node, its ticket is asked, or the session's user leaves.
 pub data Made : Type 0 where
@@ -85,7 +85,7 @@ pub record IsBegun (plan : Plan) (down : List ℕ) (old : List Session) (line : 
   pub acted : Acted plan old first said mid
   pub more : List Act
   pub others : List (List Entry)
-  pub goes : Goes plan next mid more others turn new
+  pub goes : ActsGo plan next mid more others turn new
   pub acts_are : acts ≡ first ∷ more
   pub outputs_are : outputs ≡ said ∷ others
 
@@ -128,7 +128,7 @@ pub record IsCutOff (plan : Plan) (down : List ℕ) (stop : Stop) (old : List Se
 -- Where memory ran out, it may have been in a step that asked the session whose turn it was.
 abbrev pub MayHaveAsked : Stop → Turn → List Session → List Made → Type 0
 MayHaveAsked OutOfMemory turn sessions extra =
-    (extra ≡ []) ⊎ ((from : ℕ) × (k : ℕ) × IsReady turn sessions from × IsFirst Waits sessions from k × (extra ≡ Asks k ∷ []))
+    (extra ≡ []) ⊎ ((from : ℕ) × (k : ℕ) × IsReadyToAsk turn sessions from × IsFirst Waits sessions from k × (extra ≡ Asks k ∷ []))
 MayHaveAsked other turn sessions extra = extra ≡ []
 
 -- nothing more was done; or one more line was begun

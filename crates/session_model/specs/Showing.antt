@@ -9,9 +9,9 @@ use Rattle.mail_model.specs.PopReplies.{Item}
 use Rattle.mail_model.specs.Shown.{ShowsId, ShowsSize, ShowsOctets}
 use Rattle.session_model.specs.Calls.Call.{Login, Fetch}
 use Rattle.session_model.specs.Calls.Answer.{Listed, Part}
-use Rattle.session_model.specs.Talk.{Exchange, Standing, Goes, opening}
+use Rattle.session_model.specs.Talk.{Exchange, Standing, TalkGoes, opening_state}
 use Rattle.session_model.specs.Talk.Standing.{Hearing}
-use Rattle.session_model.specs.Reading.{seen, Each}
+use Rattle.session_model.specs.Reading.{seen_exchange, Each}
 
 -- the message of this number, the first being 1
 abbrev pub numbered : List Item → ℕ → Option Item
@@ -32,9 +32,9 @@ pub record IsFetched (items : List Item) (n : ℕ) (octets : List ℕ) (one : Ex
 -- The exchange shows of each number what this listing has for it.
 pub record ShowsListed (items : List Item) (one : Exchange) : Type 0 where
   pub listed : (others : List Item) → one.answer ≡ Some (Listed others) → others ≡ items
-  pub ids : (n : ℕ) (text : List ℕ) → n < 10 ^ 63 → ShowsId n text (seen one) → (item : Item) × (numbered items n ≡ Some item) × (text ≡ id_text item.id)
-  pub sizes : (n : ℕ) (text : List ℕ) → n < 10 ^ 63 → ShowsSize n text (seen one) → (item : Item) × (numbered items n ≡ Some item) × (text ≡ decimal item.size)
-  pub texts : (n : ℕ) (octets : List ℕ) → ShowsOctets n octets (seen one) → IsFetched items n octets one
+  pub ids : (n : ℕ) (text : List ℕ) → n < 10 ^ 63 → ShowsId n text (seen_exchange one) → (item : Item) × (numbered items n ≡ Some item) × (text ≡ id_text item.id)
+  pub sizes : (n : ℕ) (text : List ℕ) → n < 10 ^ 63 → ShowsSize n text (seen_exchange one) → (item : Item) × (numbered items n ≡ Some item) × (text ≡ decimal item.size)
+  pub texts : (n : ℕ) (octets : List ℕ) → ShowsOctets n octets (seen_exchange one) → IsFetched items n octets one
 
 -- a login was answered with this listing
 pub record WasListed (items : List Item) (exchanges : List Exchange) : Type 0 where
@@ -50,4 +50,4 @@ pub record WasListed (items : List Item) (exchanges : List Exchange) : Type 0 wh
 -- All exchanges of a session show what one listing has; it is that with which a login was answered, or it is empty.
 abbrev pub ShownAsListed : Type 0
 ShownAsListed = (plan : Plan) (node : ℕ) (octets : List ℕ) (exchanges : List Exchange) (last : Standing) (rest : List ℕ)
-    → Goes plan node (Hearing (opening Pop)) octets exchanges last rest → (items : List Item) × ((items ≡ []) ⊎ WasListed items exchanges) × Each (ShowsListed items) exchanges
+    → TalkGoes plan node (Hearing (opening_state Pop)) octets exchanges last rest → (items : List Item) × ((items ≡ []) ⊎ WasListed items exchanges) × Each (ShowsListed items) exchanges

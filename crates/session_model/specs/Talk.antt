@@ -5,30 +5,30 @@ use Rattle.mail_model.specs.Tape.{Protocol, or_else}
 use Rattle.mail_model.specs.Tape.Protocol.{Smtp, Pop}
 use Rattle.mail_model.specs.Smtp as smtp
 use Rattle.mail_model.specs.PopReplies as pop
-use Rattle.mail_model.specs.PopReplies.{Slot, one_line, listed_slots}
+use Rattle.mail_model.specs.PopReplies.{ListingSlot, one_line, listed_slots}
 use Rattle.mail_model.specs.Session.{Unit, Told, silent, reply_text, after_unit, is_quit_line, is_large}
 use Rattle.mail_model.specs.Session.Unit.{Line, Text}
-use Rattle.mail_model.specs.Maildrop.{Outcome, line_outcome, named_in, deleted_in}
+use Rattle.mail_model.specs.Maildrop.{LineOutcome, line_outcome, named_in, deleted_in}
 use Rattle.mail_model.specs.Maildrop.Stage.{Authorization, Transaction}
-use Rattle.mail_model.specs.Maildrop.Outcome.{Answered, Closed, AsksLogin, AsksMessage, AsksDeletion}
+use Rattle.mail_model.specs.Maildrop.LineOutcome.{Answered, Closed, AsksLogin, AsksMessage, AsksDeletion}
 use Rattle.mail_model.specs.Told.{IsUnit, HasNoUnit, unit_octets, mail_of}
 use Rattle.session_model.specs.Calls.{Call, Answer, IsReply}
 use Rattle.session_model.specs.Calls.Call.{Deliver, Login, Fetch, Strike}
 use Rattle.session_model.specs.Calls.Answer.{Listed}
 
 -- What a session was told that hears its next unit: one that takes mail; one that reads mail, before its login; and after it, with its user and its listing.
-pub data State : Type 0 where
-  Mailing : (talk : Told) → State
-  Entering : (named : Option (List ℕ)) → State
-  Reading : (user : List ℕ) (slots : List Slot) → State
+pub data TalkState : Type 0 where
+  Mailing : (talk : Told) → TalkState
+  Entering : (named : Option (List ℕ)) → TalkState
+  Reading : (user : List ℕ) (slots : List ListingSlot) → TalkState
 
 -- a session that was told nothing yet
-abbrev pub opening : Protocol → State
-opening Smtp = Mailing silent
-opening Pop = Entering None
+abbrev pub opening_state : Protocol → TalkState
+opening_state Smtp = Mailing silent
+opening_state Pop = Entering None
 
 -- a text comes next
-abbrev pub in_text : State → Bool
+abbrev pub in_text : TalkState → Bool
 in_text (Mailing talk) = talk.in_text
 in_text (Entering named) = false
 in_text (Reading user slots) = false
@@ -46,7 +46,7 @@ mail_lead plan node talk (Line line) =
 mail_lead plan node talk (Text lines) = if is_large lines then Says (one_line (reply_text plan node talk (Text lines))) else Asks (Deliver (mail_of talk lines))
 
 -- in one that reads mail as this user
-abbrev pub line_lead : List ℕ → Outcome → Lead
+abbrev pub line_lead : List ℕ → LineOutcome → Lead
 line_lead user (Answered reply) = Says reply
 line_lead user (Closed reply) = Ends reply
 line_lead user (AsksLogin name secret) = Asks (Login name secret)
@@ -54,7 +54,7 @@ line_lead user (AsksMessage number id) = Asks (Fetch user id)
 line_lead user (AsksDeletion ids) = Asks (Strike user ids)
 
 -- what the next unit leads to; one that reads mail hears lines alone
-abbrev pub lead_of : Plan → ℕ → State → Unit → Lead
+abbrev pub lead_of : Plan → ℕ → TalkState → Unit → Lead
 lead_of plan node (Mailing talk) unit = mail_lead plan node talk unit
 lead_of plan node (Entering named) (Line line) = line_lead [] (line_outcome plan (Authorization named) line)
 lead_of plan node (Reading user slots) (Line line) = line_lead user (line_outcome plan (Transaction slots) line)
@@ -82,8 +82,8 @@ IsLed (Asks call) one = (one.call ≡ Some call) × Awaits call one.answer one.r
 -- How a session stands: it hears its next unit; it waits for the answer to a call, with what it was told before; or it has ended, by QUIT, as its node went
 -- down, or since its client closed it.
 pub data Standing : Type 0 where
-  Hearing : (state : State) → Standing
-  Waiting : (state : State) (call : Call) → Standing
+  Hearing : (state : TalkState) → Standing
+  Waiting : (state : TalkState) (call : Call) → Standing
   EndedByQuit : Standing
   EndedDown : Standing
   EndedClosed : Standing
@@ -94,7 +94,7 @@ first_line [] = []
 first_line (line ∷ lines) = line
 
 -- what a session was told once the unit was heard
-abbrev pub heard : Plan → State → Unit → List (List ℕ) → State
+abbrev pub heard : Plan → TalkState → Unit → List (List ℕ) → TalkState
 heard plan (Mailing talk) unit reply = Mailing (after_unit plan talk unit (first_line reply))
 heard plan (Entering named) (Line line) reply = Entering (named_in line)
 heard plan (Reading user slots) (Line line) reply = Reading user (deleted_in slots line)
@@ -102,38 +102,38 @@ heard plan (Entering named) (Text lines) reply = Entering named
 heard plan (Reading user slots) (Text lines) reply = Reading user slots
 
 -- how it stands once its node answered: a login begins TRANSACTION, and a deletion ends the session
-abbrev pub answered : State → Call → Answer → Standing
+abbrev pub answered : TalkState → Call → Answer → Standing
 answered state (Login user secret) (Listed items) = Hearing (Reading user (listed_slots items))
 answered state (Strike user ids) answer = EndedByQuit
 answered state call answer = Hearing state
 
 -- and after a call
-abbrev pub asked : State → Call → Option Answer → Standing
-asked state call None = Waiting state call
-asked state call (Some answer) = answered state call answer
+abbrev pub standing_asked : TalkState → Call → Option Answer → Standing
+standing_asked state call None = Waiting state call
+standing_asked state call (Some answer) = answered state call answer
 
 -- and after an exchange
-abbrev pub stands : Plan → State → Exchange → Lead → Standing
+abbrev pub stands : Plan → TalkState → Exchange → Lead → Standing
 stands plan state one (Says reply) = Hearing (heard plan state one.unit one.reply)
 stands plan state one (Ends reply) = EndedByQuit
-stands plan state one (Asks call) = asked (heard plan state one.unit []) call one.answer
+stands plan state one (Asks call) = standing_asked (heard plan state one.unit []) call one.answer
 
 -- the next unit of a session that hears is answered so, and this is left
-pub record IsNext (plan : Plan) (node : ℕ) (state : State) (rest : List ℕ) (one : Exchange) (left : List ℕ) : Type 0 where
+pub record IsNext (plan : Plan) (node : ℕ) (state : TalkState) (rest : List ℕ) (one : Exchange) (left : List ℕ) : Type 0 where
   pub is_unit : IsUnit (in_text state) one.unit
   pub whole : rest ≡ unit_octets one.unit ++ left
   pub led : IsLed (lead_of plan node state one.unit) one
 
 -- how it then stands
-abbrev pub stands_by : Plan → ℕ → State → Exchange → Standing
+abbrev pub stands_by : Plan → ℕ → TalkState → Exchange → Standing
 stands_by plan node state one = stands plan state one (lead_of plan node state one.unit)
 
 -- These exchanges, one after another, cut from the left of the octets; what is left is not heard yet.
-abbrev pub Goes : Plan → ℕ → Standing → List ℕ → List Exchange → Standing → List ℕ → Type 0
-Goes plan node first octets [] last rest = (last ≡ first) × (rest ≡ octets)
-Goes plan node (Hearing state) octets (one ∷ more) last rest =
-    (left : List ℕ) × IsNext plan node state octets one left × Goes plan node (stands_by plan node state one) left more last rest
-Goes plan node first octets (one ∷ more) last rest = ⊥
+abbrev pub TalkGoes : Plan → ℕ → Standing → List ℕ → List Exchange → Standing → List ℕ → Type 0
+TalkGoes plan node first octets [] last rest = (last ≡ first) × (rest ≡ octets)
+TalkGoes plan node (Hearing state) octets (one ∷ more) last rest =
+    (left : List ℕ) × IsNext plan node state octets one left × TalkGoes plan node (stands_by plan node state one) left more last rest
+TalkGoes plan node first octets (one ∷ more) last rest = ⊥
 
 -- a session that its node or its client may end
 abbrev pub IsOn : Standing → Type 0
@@ -154,7 +154,7 @@ Breaks before EndedClosed = IsOn before
 -- A session at a node that was fed these octets has had these exchanges, stands so, and has these octets left.
 pub record IsTalk (plan : Plan) (node : ℕ) (protocol : Protocol) (octets : List ℕ) (exchanges : List Exchange) (standing : Standing) (rest : List ℕ) : Type 0 where
   pub before : Standing
-  pub goes : Goes plan node (Hearing (opening protocol)) octets exchanges before rest
+  pub goes : TalkGoes plan node (Hearing (opening_state protocol)) octets exchanges before rest
   pub ends : Breaks before standing
 
 -- nothing that it was fed is to be answered yet

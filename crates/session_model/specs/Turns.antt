@@ -6,7 +6,7 @@ use Rattle.mail_model.specs.Tape.{Order}
 use Rattle.mail_model.specs.Tape.Order.{Open, Say, Feed, Close, End}
 use Rattle.mail_model.specs.Transcript.{Entry}
 use Rattle.session_model.specs.Calls.{Call}
-use Rattle.session_model.specs.Talk.{State, Standing, IsIdle, IsOn, leave_of}
+use Rattle.session_model.specs.Talk.{TalkState, Standing, IsIdle, IsOn, leave_of}
 use Rattle.session_model.specs.Sessions.{Session, session_at, exchanges_of}
 use Rattle.session_model.specs.Acts.{Act, Acted, greeting_of}
 use Rattle.session_model.specs.Acts.Act.{Opens, Does, Faults, StillWaits, Leaves}
@@ -23,7 +23,7 @@ pub data Turn : Type 0 where
 -- the session waits for an answer
 abbrev pub Waits : Option Session → Type 0
 Waits None = ⊥
-Waits (Some session) = (state : State) × (call : Call) × (session.standing ≡ Standing.Waiting state call)
+Waits (Some session) = (state : TalkState) × (call : Call) × (session.standing ≡ Standing.Waiting state call)
 
 -- it is at this node
 abbrev pub IsAtNode : ℕ → Option Session → Type 0
@@ -56,39 +56,39 @@ abbrev pub IsNone : (Option Session → Type 0) → List Session → ℕ → Typ
 IsNone is_so sessions from = (j : ℕ) → from ≤ j → is_so (session_at sessions j) → ⊥
 
 -- what was under way is done, and sessions that wait are to be asked from this number on
-abbrev pub IsReady : Turn → List Session → ℕ → Type 0
-IsReady (Hearing k onward) sessions from = (from ≡ onward) × IsAtRest (session_at sessions k) × (to_leave (session_at sessions k) ≡ None)
-IsReady (Beginning k onward) sessions from = from ≡ onward
-IsReady (Falling k node onward) sessions from = (from ≡ onward) × IsNone (StandsAt node) sessions k
-IsReady (Asking k) sessions from = from ≡ k
+abbrev pub IsReadyToAsk : Turn → List Session → ℕ → Type 0
+IsReadyToAsk (Hearing k onward) sessions from = (from ≡ onward) × IsAtRest (session_at sessions k) × (to_leave (session_at sessions k) ≡ None)
+IsReadyToAsk (Beginning k onward) sessions from = from ≡ onward
+IsReadyToAsk (Falling k node onward) sessions from = (from ≡ onward) × IsNone (StandsAt node) sessions k
+IsReadyToAsk (Asking k) sessions from = from ≡ k
 
 -- what is under way once session k heard a unit
-abbrev pub after_unit : ℕ → ℕ → Option Call → Turn
-after_unit k onward None = Hearing k onward
-after_unit k onward (Some call) = Beginning k onward
+abbrev pub turn_after_unit : ℕ → ℕ → Option Call → Turn
+turn_after_unit k onward None = Hearing k onward
+turn_after_unit k onward (Some call) = Beginning k onward
 
 -- The next act, and what is under way after it. A session hears until it rests or waits, and leaves once it has ended by QUIT or its client closed it. Its node
 -- may fail as a call begins: then all sessions of the node fall. The sessions that wait are asked in rising order, and one that is answered hears on.
 abbrev pub Next : Turn → List Session → Act → Turn → Type 0
-Next (Hearing k onward) sessions (Does j (Hears one)) next = (j ≡ k) × (next ≡ after_unit k onward one.call)
+Next (Hearing k onward) sessions (Does j (Hears one)) next = (j ≡ k) × (next ≡ turn_after_unit k onward one.call)
 Next (Hearing k onward) sessions (Leaves j user) next = (j ≡ k) × (to_leave (session_at sessions k) ≡ Some user) × (next ≡ Asking onward)
 Next (Beginning k onward) sessions (Faults node) next = IsAtNode node (session_at sessions k) × (next ≡ Falling 1 node onward)
 Next (Falling k node onward) sessions (Does j Falls) next = IsFirst (StandsAt node) sessions k j × (next ≡ Falling (j + 1) node onward)
-Next turn sessions (StillWaits j) next = (from : ℕ) × IsReady turn sessions from × IsFirst Waits sessions from j × (next ≡ Asking (j + 1))
-Next turn sessions (Does j (IsAnswered call answer reply)) next = (from : ℕ) × IsReady turn sessions from × IsFirst Waits sessions from j × (next ≡ Hearing j j)
+Next turn sessions (StillWaits j) next = (from : ℕ) × IsReadyToAsk turn sessions from × IsFirst Waits sessions from j × (next ≡ Asking (j + 1))
+Next turn sessions (Does j (IsAnswered call answer reply)) next = (from : ℕ) × IsReadyToAsk turn sessions from × IsFirst Waits sessions from j × (next ≡ Hearing j j)
 Next turn sessions act next = ⊥
 
 -- acts, one after another, with what each writes
-abbrev pub Goes : Plan → Turn → List Session → List Act → List (List Entry) → Turn → List Session → Type 0
-Goes plan turn old [] [] last new = (last ≡ turn) × (new ≡ old)
-Goes plan turn old (act ∷ acts) (entries ∷ outputs) last new =
-    (next : Turn) × (mid : List Session) × Next turn old act next × Acted plan old act entries mid × Goes plan next mid acts outputs last new
-Goes plan turn old [] (entries ∷ outputs) last new = ⊥
-Goes plan turn old (act ∷ acts) [] last new = ⊥
+abbrev pub ActsGo : Plan → Turn → List Session → List Act → List (List Entry) → Turn → List Session → Type 0
+ActsGo plan turn old [] [] last new = (last ≡ turn) × (new ≡ old)
+ActsGo plan turn old (act ∷ acts) (entries ∷ outputs) last new =
+    (next : Turn) × (mid : List Session) × Next turn old act next × Acted plan old act entries mid × ActsGo plan next mid acts outputs last new
+ActsGo plan turn old [] (entries ∷ outputs) last new = ⊥
+ActsGo plan turn old (act ∷ acts) [] last new = ⊥
 
 -- nothing is under way, and nobody is left to be asked
 abbrev pub IsDone : Turn → List Session → Type 0
-IsDone turn sessions = (from : ℕ) × IsReady turn sessions from × IsNone Waits sessions from
+IsDone turn sessions = (from : ℕ) × IsReadyToAsk turn sessions from × IsNone Waits sessions from
 
 -- what a line begins with, and what is under way after it
 abbrev pub Starts : Order → List Session → Act → Turn → Type 0

@@ -8,7 +8,7 @@ ghost use Rattle.session_model.specs.Runs.{ActsAreShown, DrivenIsShown, DrivenWr
 ghost use Rattle.session_model.specs.Owes.{OwedDeletionsAreTrue, OwedListingsAreTrue, OwedPartsAreTrue};
 ghost use Rattle.session_model.specs.Kept.{OwedIsKept};
 ghost use Rattle.session_model.specs.Alone.{OneNodePromises};
-ghost use Rattle.session_model.specs.Readings.{OneReading};
+ghost use Rattle.session_model.specs.Readings.{OneReadingOfSession};
 ghost use Rattle.session_model.specs.OneNode.{OneNodeOwes, OneNodeStores};
 ghost use Rattle.session_model.specs.OneMessage.{OneMessageKept};
 ghost use Rattle.session_model.specs.OneDeletion.{OneDeletionAsked};
@@ -127,7 +127,7 @@ pub fn driven_is_shown()
 
 /// What a client sent and got has one reading.
 pub fn one_reading()
-    ensures { OneReading }
+    ensures { OneReadingOfSession }
 {}
 
 /// However a tape is driven, the promises to clients are kept where the cluster gives what it owes

@@ -8,21 +8,21 @@ use Rattle.mail_model.specs.Session.{undotted, is_large}
 use Rattle.mail_model.specs.Told.{Mail, mail_of, unnamed, unaddressed}
 use Rattle.smtp_session.specs.declared.envelope.Greeting.{Greeting}
 use Rattle.smtp_session.specs.declared.told.Told.{Told}
-use Rattle.smtp_session.specs.Talks.{talk_of, greeting_of}
-use Rattle.smtp_session.specs.Texts.{IsText}
+use Rattle.smtp_session.specs.Talks.{talk_of, greeting_seen}
+use Rattle.smtp_session.specs.Texts.{IsGivenText}
 
 -- a text that has passed the limit, and one that is kept
-pub large_text : (text : List ℕ × Bool) (lines : List (List ℕ)) → (text.1 || nat_lt 16777216 (length text.0)) ≡ true → IsText text (undotted lines) → is_large lines ≡ true
+pub large_text : (text : List ℕ × Bool) (lines : List (List ℕ)) → (text.1 || nat_lt 16777216 (length text.0)) ≡ true → IsGivenText text (undotted lines) → is_large lines ≡ true
 large_text (octets, true) lines large is = lt-ltb 16777216 (length (undotted lines)) is.1
 large_text (octets, false) lines large is = ap (λ (l : List ℕ). nat_lt 16777216 (length l)) (sym is) ∙ large
 
-pub small_text : (text : List ℕ × Bool) (lines : List (List ℕ)) → (text.1 || nat_lt 16777216 (length text.0)) ≡ false → IsText text (undotted lines)
+pub small_text : (text : List ℕ × Bool) (lines : List (List ℕ)) → (text.1 || nat_lt 16777216 (length text.0)) ≡ false → IsGivenText text (undotted lines)
     → (text.0 ≡ undotted lines) × (is_large lines ≡ false)
 small_text (octets, true) lines small is = cc
 small_text (octets, false) lines small is = (is, ap (λ (l : List ℕ). nat_lt 16777216 (length l)) (sym is) ∙ small)
 
 -- no session was greeted by EHLO
-not_extended : (greeting : Option Greeting) → (unwrap_or (option_map greeting_of greeting) unnamed).extended ≡ false
+not_extended : (greeting : Option Greeting) → (unwrap_or (option_map greeting_seen greeting) unnamed).extended ≡ false
 not_extended None = refl
 not_extended (Some greeting) = refl
 

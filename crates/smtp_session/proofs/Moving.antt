@@ -27,7 +27,7 @@ use Rattle.smtp_session.specs.declared.told.Heard.TheVariants.{GoesOn, Ends}
 use Rattle.smtp_session.specs.declared.reply.Reply.{Reply}
 use Rattle.smtp_session.specs.declared.reply.Reply.TheVariants.{LineTooLong, Down}
 use Rattle.smtp_session.specs.Replies.{text_of}
-use Rattle.smtp_session.specs.Texts.{IsText}
+use Rattle.smtp_session.specs.Texts.{IsGivenText}
 use Rattle.smtp_session.specs.Talks.{talk_of}
 use Rattle.smtp_session.specs.Hears.{HearsLine, reply_in}
 use Rattle.smtp_session.specs.Follows.{Follows, Goes, Moved, Stands, WaitsFor, IsDue, Turns, IsBounded, due_count, left, held}
@@ -40,7 +40,7 @@ at_false X Y true is y = cc
 at_false X Y false is y = y
 
 -- an empty text
-no_text : (text : List ℕ × Bool) → IsText text [] → text.0 ≡ []
+no_text : (text : List ℕ × Bool) → IsGivenText text [] → text.0 ≡ []
 no_text (octets, true) is = is.0
 no_text (octets, false) is = is
 

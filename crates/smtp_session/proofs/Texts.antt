@@ -15,7 +15,7 @@ use Rattle.mail_model.specs.PopReplies.{one_line}
 use Rattle.session_model.specs.Calls as calls
 use Rattle.session_model.specs.Talk as talks
 use Rattle.session_model.specs.Talk.{Exchange, Standing, lead_of, let_in}
-use Rattle.session_model.specs.Talk.State.{Mailing}
+use Rattle.session_model.specs.Talk.TalkState.{Mailing}
 use Rattle.session_model.specs.Talk.Standing.{Hearing, Waiting}
 use Rattle.session_model.specs.Sessions.{Session}
 use Rattle.call_tickets.specs.Moves.{Due, Moves, HearsNothing}
@@ -34,20 +34,20 @@ use Rattle.smtp_session.specs.declared.session.Turn.TheVariants as turn
 use Rattle.smtp_session.specs.declared.told.Told.{Told}
 use Rattle.smtp_session.specs.declared.reply.Reply.TheVariants.{TooLarge}
 use Rattle.smtp_session.specs.Replies.{text_of}
-use Rattle.smtp_session.specs.Texts.{IsText, Grows, Settles}
+use Rattle.smtp_session.specs.Texts.{IsGivenText, Grows, SettlesText}
 use Rattle.smtp_session.specs.Talks.{talk_of}
-use Rattle.smtp_session.specs.Follows.{Follows, Reads, Goes, Moved, Stands, WaitsFor, EndsText, HasFewUsers, due_count}
+use Rattle.smtp_session.specs.Follows.{Follows, ReadsFed, Goes, Moved, Stands, WaitsFor, EndsText, HasFewUsers, due_count}
 use Rattle.smtp_session.proofs.Lines.{one_line_of}
 use Rattle.smtp_session.proofs.Entered.{still_nobody, mail_nobody}
 use Rattle.smtp_session.proofs.Units.{session, at_nothing, begins, heard_says, heard_asks}
 
 -- more was given
-pub is_text_more : (text now : List ℕ × Bool) (given more : List ℕ) → Grows text more now → IsText text given → IsText now (given ++ more)
+pub is_text_more : (text now : List ℕ × Bool) (given more : List ℕ) → Grows text more now → IsGivenText text given → IsGivenText now (given ++ more)
 is_text_more (octets, true) now given more grows is =
-    let At : List ℕ × Bool → Type 0 = λ t. IsText t (given ++ more) in
+    let At : List ℕ × Bool → Type 0 = λ t. IsGivenText t (given ++ more) in
     subst At (sym grows) (is.0, omega (arith, is.1, length-append given more))
 is_text_more (octets, false) now given more grows is =
-    let At : List ℕ × Bool → Type 0 = λ t. IsText t (given ++ more) in
+    let At : List ℕ × Bool → Type 0 = λ t. IsGivenText t (given ++ more) in
     subst At (sym grows) (ap (λ (l : List ℕ). l ++ more) is)
 
 -- and taken back
@@ -83,7 +83,7 @@ module _ (plan : Plan) (node : ℕ) (told : Told) (old new : Shown) (undotter be
   before = session node turn.Hears told old undotter text
 
   -- it goes on
-  module _ (feeds : (fed given : List ℕ) → Undots undotter fed given → Feeds More behind fed old.rest (given ++ more)) (later : List ℕ × Bool) (settles : Settles now later)
+  module _ (feeds : (fed given : List ℕ) → Undots undotter fed given → Feeds More behind fed old.rest (given ++ more)) (later : List ℕ × Bool) (settles : SettlesText now later)
       (all : new ≡ record old { rest = [] }) where
     pub reads_on : Goes plan before Idle [] (session node turn.Hears told new behind later)
     reads_on plain due follows =
@@ -95,8 +95,8 @@ module _ (plan : Plan) (node : ℕ) (told : Told) (old new : Shown) (undotter be
         let Of : List ℕ → Type 0 = λ l. HasNoUnit true l in
         let OfText : Bool → Type 0 = λ b. HasNoUnit b plain.rest in
         let At : Standing → Type 0 = λ s. HearsNothing s plain.rest in
-        let OfCutter : Shown → Type 0 = λ c. Reads told.in_text c behind later plain.rest in
-        let now_reads : Reads told.in_text (record { limit = old.limit; past = old.past; rest = [] }) behind later plain.rest = record {
+        let OfCutter : Shown → Type 0 = λ c. ReadsFed told.in_text c behind later plain.rest in
+        let now_reads : ReadsFed told.in_text (record { limit = old.limit; past = old.past; rest = [] }) behind later plain.rest = record {
           taken = reads.taken ++ old.rest;
           given = reads.given ++ more;
           pending = [];
@@ -140,9 +140,9 @@ module _ (plan : Plan) (node : ℕ) (told : Told) (old new : Shown) (undotter be
     abbrev lines : List (List ℕ)
     lines = (ends follows.reads.taken follows.reads.given follows.reads.undots).0.lines
 
-    is_read : IsText now (undotted lines)
+    is_read : IsGivenText now (undotted lines)
     is_read =
-        let Of : List ℕ → Type 0 = λ l. IsText now l in
+        let Of : List ℕ → Type 0 = λ l. IsGivenText now l in
         subst Of (ends follows.reads.taken follows.reads.given follows.reads.undots).0.gives (is_text_more text now follows.reads.given more grows follows.reads.text_is)
 
     is_text : IsUnit (talk_of told).in_text (Text lines)
@@ -156,10 +156,10 @@ module _ (plan : Plan) (node : ℕ) (told : Told) (old new : Shown) (undotter be
         ∙ sym (append_assoc follows.reads.taken (take used old.rest) (drop used old.rest))
         ∙ ap (λ (l : List ℕ). l ++ drop used old.rest) (ends follows.reads.taken follows.reads.given follows.reads.undots).0.whole
 
-    reads_behind : Reads later.in_text new behind ([], false) (drop used old.rest)
+    reads_behind : ReadsFed later.in_text new behind ([], false) (drop used old.rest)
     reads_behind =
-        let OfCutter : Shown → Type 0 = λ c. Reads later.in_text c behind ([], false) (drop used old.rest) in
-        let OfPast : Bool → Type 0 = λ b. Reads later.in_text (record { limit = old.limit; past = b; rest = drop used old.rest }) behind ([], false) (drop used old.rest) in
+        let OfCutter : Shown → Type 0 = λ c. ReadsFed later.in_text c behind ([], false) (drop used old.rest) in
+        let OfPast : Bool → Type 0 = λ b. ReadsFed later.in_text (record { limit = old.limit; past = b; rest = drop used old.rest }) behind ([], false) (drop used old.rest) in
         subst OfCutter (sym cut) (subst OfPast (sym plain_past)
         (begins later.in_text old.limit (drop used old.rest) behind ([], false) follows.reads.limit (ends follows.reads.taken follows.reads.given follows.reads.undots).1 refl (omega arith)))
 
@@ -215,7 +215,7 @@ module _ (plan : Plan) (node : ℕ) (told : Told) (old new : Shown) (undotter be
 
   pub moved_end : (used : ℕ) → (0 < used) × (used ≤ length old.rest) → ((fed given : List ℕ) → Undots undotter fed given → Feeds (Ended used) behind fed old.rest (given ++ more))
       → (later : Told) (turned : Turn) (did : Move) (octets : List ℕ) → new ≡ record old { rest = drop used old.rest } → due_count turned ≤ 0 → HasFewUsers did
-      → ((lines : List (List ℕ)) → IsText now (undotted lines) → EndsText plan node (talk_of told) lines did octets (talk_of later) turn.Hears turned)
+      → ((lines : List (List ℕ)) → IsGivenText now (undotted lines) → EndsText plan node (talk_of told) lines did octets (talk_of later) turn.Hears turned)
       → Moved plan before did octets (session node turned later new behind ([], false))
   moved_end used within ends later turned did octets cut quiet few means = record {
     goes = λ plain due follows. goes_end used ends later turned cut plain due follows did octets
@@ -237,7 +237,7 @@ module _ (plan : Plan) (node : ℕ) (told : Told) (old new : Shown) (undotter be
   pub ended : (start turned : Turn) (used at : ℕ) (later : Told) (last : Undotter) (empty : List ℕ × Bool) (did : Move) (octets : List ℕ) → start ≡ turn.Hears → at ≡ node → last ≡ behind → empty ≡ ([], false)
       → IsWithin (Ended used) old.rest → ((fed given : List ℕ) → Undots undotter fed given → Feeds (Ended used) behind fed old.rest (given ++ more))
       → new ≡ record old { rest = drop used old.rest } → due_count turned ≤ due_count start → HasFewUsers did
-      → ((lines : List (List ℕ)) → IsText now (undotted lines) → EndsText plan node (talk_of told) lines did octets (talk_of later) start turned)
+      → ((lines : List (List ℕ)) → IsGivenText now (undotted lines) → EndsText plan node (talk_of told) lines did octets (talk_of later) start turned)
       → Moved plan (session node start told old undotter text) did octets (session at turned later new last empty)
   ended start turned used at later last empty did octets starts same_node same_place none within ends cut quiet few means =
       let Start : Turn → Type 0 = λ t. Moved plan (session node t told old undotter text) did octets (session at turned later new last empty) in

@@ -11,11 +11,11 @@ use Rattle.mail_model.specs.Session.Unit.{Line, Text}
 use Rattle.mail_model.specs.Told.{IsUnit, HasNoUnit, unit_octets, Mail, mail_of}
 use Rattle.mail_model.specs.PopReplies.{one_line}
 use Rattle.session_model.specs.Calls as calls
-use Rattle.session_model.specs.Talk.{State, Exchange, Standing, Lead, IsNext, stands, stands_by, lead_of, IsLed, in_text, answered, let_in, entered_as}
+use Rattle.session_model.specs.Talk.{TalkState, Exchange, Standing, Lead, IsNext, stands, stands_by, lead_of, IsLed, in_text, answered, let_in, entered_as}
 use Rattle.session_model.specs.Moves.{with_answer}
 use Rattle.session_model.specs.Talk as talks
 use Rattle.std.proofs.lemmas.List.Elements.{All-cons, All-nil}
-use Rattle.session_model.specs.Talk.State.{Mailing}
+use Rattle.session_model.specs.Talk.TalkState.{Mailing}
 use Rattle.session_model.specs.Talk.Standing.{Hearing, Waiting, EndedByQuit}
 use Rattle.session_model.specs.Sessions.{Session}
 use Rattle.call_tickets.specs.Moves as moves
@@ -38,10 +38,10 @@ use Rattle.smtp_session.specs.declared.told.Heard.TheVariants.{GoesOn, Ends}
 use Rattle.smtp_session.specs.declared.reply.Reply.{Reply}
 use Rattle.smtp_session.specs.declared.reply.Reply.TheVariants.{Ready, LineTooLong}
 use Rattle.smtp_session.specs.Replies.{text_of}
-use Rattle.smtp_session.specs.Texts.{IsText, Settles}
+use Rattle.smtp_session.specs.Texts.{IsGivenText, SettlesText}
 use Rattle.smtp_session.specs.Talks.{talk_of}
 use Rattle.smtp_session.specs.Hears.{HearsLine, reply_in}
-use Rattle.smtp_session.specs.Follows.{Follows, Reads, Stands, Goes, EndsText, IsDue, Turns, left, held, IsBounded}
+use Rattle.smtp_session.specs.Follows.{Follows, ReadsFed, Stands, Goes, EndsText, IsDue, Turns, left, held, IsBounded}
 use Rattle.smtp_session.proofs.Lines.{all_one, one_line_of}
 use Rattle.smtp_session.proofs.Entered.{still_nobody, answered_nobody}
 
@@ -60,8 +60,8 @@ pub all_pending : (limit : ℕ) (rest : List ℕ) → Pending (record { limit = 
 all_pending limit rest = record { gone = []; whole = refl; none = λ k within. absurd (omega arith); seam = λ k last. absurd (omega (arith, last)); long = refl }
 
 -- behind a unit, where no octet of a text was read
-pub begins : (inside : Bool) (limit : ℕ) (rest : List ℕ) (undotter : Undotter) (text : List ℕ × Bool) → limit ≡ 1024 → Undots undotter [] [] → IsText text [] → length text.0 ≤ 16777216
-    → Reads inside (record { limit = limit; past = false; rest = rest }) undotter text rest
+pub begins : (inside : Bool) (limit : ℕ) (rest : List ℕ) (undotter : Undotter) (text : List ℕ × Bool) → limit ≡ 1024 → Undots undotter [] [] → IsGivenText text [] → length text.0 ≤ 16777216
+    → ReadsFed inside (record { limit = limit; past = false; rest = rest }) undotter text rest
 begins inside limit rest undotter text is undots empty short = record {
   taken = [];
   given = [];
@@ -77,7 +77,7 @@ begins inside limit rest undotter text is undots empty short = record {
 }
 
 -- outside a text nothing was read
-module _ (cutter : Shown) (undotter : Undotter) (text : List ℕ × Bool) (rest : List ℕ) (inside : Bool) (reads : Reads inside cutter undotter text rest) (outside : inside ≡ false) where
+module _ (cutter : Shown) (undotter : Undotter) (text : List ℕ × Bool) (rest : List ℕ) (inside : Bool) (reads : ReadsFed inside cutter undotter text rest) (outside : inside ≡ false) where
   pub whole_outside : rest ≡ reads.pending
   whole_outside = reads.whole ∙ ap (λ (l : List ℕ). l ++ reads.pending) (reads.outside outside).0
 
@@ -87,11 +87,11 @@ module _ (cutter : Shown) (undotter : Undotter) (text : List ℕ × Bool) (rest 
       let OfGiven : List ℕ → Type 0 = λ l. Undots undotter [] l in
       subst OfGiven (reads.outside outside).1 (subst OfTaken (reads.outside outside).0 reads.undots)
 
-  pub text_outside : IsText text []
-  text_outside = let InText : List ℕ → Type 0 = λ l. IsText text l in subst InText (reads.outside outside).1 reads.text_is
+  pub text_outside : IsGivenText text []
+  text_outside = let InText : List ℕ → Type 0 = λ l. IsGivenText text l in subst InText (reads.outside outside).1 reads.text_is
 
   -- the line was found, and taken
-  pub reads_behind : (line : Found) (later : Bool) → Reads later (behind_line cutter line) undotter text (behind_line cutter line).rest
+  pub reads_behind : (line : Found) (later : Bool) → ReadsFed later (behind_line cutter line) undotter text (behind_line cutter line).rest
   reads_behind line later = begins later cutter.limit (behind_line cutter line).rest undotter text reads.limit undots_outside text_outside reads.short
 
 -- A unit that asks nothing was heard, in a session that takes mail.
@@ -112,7 +112,7 @@ module _ (plan : Plan) (plain : Session) (talk : model.Told) (unit : model.Unit)
   pub heard_says : (quits : Bool) → lead_of plan plain.node (Mailing talk) unit ≡ cond quits (talks.Lead.Ends (one_line text)) (talks.Lead.Says (one_line text))
       → HasNoCrlf text → octets ≡ sent_line text
       → ((one : Exchange) → let_in one.call one.answer ≡ None → follows (record plain { whole = plain.whole ++ one ∷ []; standing = standing_behind quits; rest = more }) Nothing)
-      → moves.Heard follows plan plain None octets
+      → moves.HeardUnit follows plan plain None octets
   heard_says quits leads line says goes_on =
       let one : Exchange = record { unit = unit; call = None; answer = None; reply = one_line text } in
       let Led : Lead → Type 0 = λ l. IsLed l one in
@@ -132,7 +132,7 @@ module _ (plan : Plan) (plain : Session) (talk : model.Told) (unit : model.Unit)
   -- a unit that asks was heard
   pub heard_asks : (asked : calls.Call) → lead_of plan plain.node (Mailing talk) unit ≡ talks.Lead.Asks asked → octets ≡ []
       → ((one : Exchange) → one.call ≡ Some asked → one.answer ≡ None → follows (record plain { whole = plain.whole ++ one ∷ []; standing = Waiting (Mailing (after_unit plan talk unit [])) asked; rest = more }) Nothing)
-      → moves.Heard follows plan plain (Some asked) octets
+      → moves.HeardUnit follows plan plain (Some asked) octets
   heard_asks asked leads says goes_on =
       let one : Exchange = record { unit = unit; call = Some asked; answer = None; reply = [] } in
       let Led : Lead → Type 0 = λ l. IsLed l one in
@@ -240,7 +240,7 @@ module _ (plan : Plan) (node : ℕ) (told : Told) (undotter : Undotter) (text : 
         }))
       where
         OfCutter : Shown → Type 0
-        OfCutter c = Reads later.in_text c undotter text (behind_line old found).rest
+        OfCutter c = ReadsFed later.in_text c undotter text (behind_line old found).rest
 
   -- one that is too long
   pub hears_long : (length : ℕ) → Finds old (Long length) old → new ≡ behind_line old (Long length)

@@ -10,7 +10,7 @@ use Rattle.session_model.specs.Calls as calls
 use Rattle.session_model.specs.Calls.{IsReply}
 use Rattle.session_model.specs.Calls.Call.{Deliver}
 use Rattle.session_model.specs.Talk.{Exchange, entered_as}
-use Rattle.session_model.specs.Talk.State.{Mailing}
+use Rattle.session_model.specs.Talk.TalkState.{Mailing}
 use Rattle.session_model.specs.Talk.Standing.{Hearing, Waiting}
 use Rattle.session_model.specs.Sessions.{Session}
 use Rattle.call_tickets.specs.Moves.{Due, Moves, HasEnded}
@@ -36,18 +36,18 @@ use Rattle.smtp_session.specs.declared.told.Heard.{Heard}
 use Rattle.smtp_session.specs.declared.told.Heard.TheVariants.{GoesOn, Ends}
 use Rattle.smtp_session.specs.Replies.{text_of}
 use Rattle.smtp_session.specs.Talks.{talk_of}
-use Rattle.smtp_session.specs.Texts.{IsText}
+use Rattle.smtp_session.specs.Texts.{IsGivenText}
 
 -- These octets were fed, and no unit has taken them: those of a text that were read, which are none outside one, and those that the cutter has, of which it
 -- may have let some go.
-pub record Reads (in_text : Bool) (cutter : Shown) (undotter : Undotter) (text : List ℕ × Bool) (rest : List ℕ) : Type 0 where
+pub record ReadsFed (in_text : Bool) (cutter : Shown) (undotter : Undotter) (text : List ℕ × Bool) (rest : List ℕ) : Type 0 where
   pub taken : List ℕ
   pub given : List ℕ
   pub pending : List ℕ
   pub whole : rest ≡ taken ++ pending
   pub pends : Pending cutter pending
   pub undots : Undots undotter taken given
-  pub text_is : IsText text given
+  pub text_is : IsGivenText text given
   pub short : length text.0 ≤ 16777216
   pub limit : cutter.limit ≡ 1024
   pub inside : in_text ≡ true → cutter.past ≡ false
@@ -77,7 +77,7 @@ pub record Follows (session : SmtpSession) (plain : Session) (due : Due) : Type 
   pub node : plain.node ≡ session.node
   pub others : plain.others ≡ []
   pub nobody : entered_as plain.whole ≡ None
-  pub reads : Reads session.told.in_text session.cutter session.undotter session.text plain.rest
+  pub reads : ReadsFed session.told.in_text session.cutter session.undotter session.text plain.rest
   pub stands : Stands session.turn session.node (talk_of session.told) plain due
 
 -- what a move does, whichever session of the definitions the value is

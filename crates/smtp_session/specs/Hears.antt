@@ -15,13 +15,13 @@ reply_in (GoesOn reply) = reply
 reply_in (Ends reply) = reply
 
 -- at every node the reply is that of the unit, and the session is told what the unit tells
-abbrev pub Replied : Plan → model.Told → model.Unit → Reply → model.Told → Type 0
-Replied plan talk unit reply new = (n : ℕ) → (text_of reply n ≡ reply_text plan n talk unit) × (new ≡ after_unit plan talk unit (reply_text plan n talk unit))
+abbrev pub RepliedToUnit : Plan → model.Told → model.Unit → Reply → model.Told → Type 0
+RepliedToUnit plan talk unit reply new = (n : ℕ) → (text_of reply n ≡ reply_text plan n talk unit) × (new ≡ after_unit plan talk unit (reply_text plan n talk unit))
 
 -- a command line is answered, and QUIT ends the session
 abbrev pub HearsLine : Plan → model.Told → List ℕ → Heard → model.Told → Type 0
-HearsLine plan talk line (GoesOn reply) new = (is_quit_line line ≡ false) × Replied plan talk (Line line) reply new
-HearsLine plan talk line (Ends reply) new = (is_quit_line line ≡ true) × Replied plan talk (Line line) reply new
+HearsLine plan talk line (GoesOn reply) new = (is_quit_line line ≡ false) × RepliedToUnit plan talk (Line line) reply new
+HearsLine plan talk line (Ends reply) new = (is_quit_line line ≡ true) × RepliedToUnit plan talk (Line line) reply new
 
 -- the reply to RCPT, and the envelope afterwards
 abbrev pub Addresses : Plan → Option model.Envelope → List ℕ → List ℕ → Option model.Envelope → Type 0

@@ -11,20 +11,20 @@ use Rattle.smtp_session.specs.declared.envelope.Envelope.{Envelope}
 use Rattle.smtp_session.specs.declared.reply.Reply.{Reply}
 use Rattle.smtp_session.specs.Replies.{text_of}
 
-abbrev pub greeting_of : Greeting → model.Greeting
-greeting_of greeting = record { name = greeting.name; extended = false }
+abbrev pub greeting_seen : Greeting → model.Greeting
+greeting_seen greeting = record { name = greeting.name; extended = false }
 
 abbrev pub envelope_of : Envelope → model.Envelope
 envelope_of envelope = record { sender = envelope.sender; mailboxes = envelope.mailboxes }
 
 abbrev pub talk_of : Told → model.Told
 talk_of told = record {
-  greeting = option_map greeting_of told.greeting;
+  greeting = option_map greeting_seen told.greeting;
   envelope = option_map envelope_of told.envelope;
   in_text = told.in_text;
 }
 
 -- the reply to a command, and what it leaves
-abbrev pub Does : Plan → model.Told → Result Command Fault → Reply → model.Told → Type 0
-Does plan talk command reply new = (n : ℕ) → (text_of reply n ≡ command_text plan n talk command)
+abbrev pub DoesCommand : Plan → model.Told → Result Command Fault → Reply → model.Told → Type 0
+DoesCommand plan talk command reply new = (n : ℕ) → (text_of reply n ≡ command_text plan n talk command)
     × (new ≡ (if is_accepted (command_text plan n talk command) then told_by plan talk command else talk))

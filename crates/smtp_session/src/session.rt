@@ -7,7 +7,7 @@ ghost use Rattle.mail_model.specs.Plan.{Plan as Plans};
 ghost use Rattle.mail_model.specs.Tape.Protocol.{Smtp};
 ghost use Rattle.session_model.specs.Calls as calls;
 ghost use Rattle.session_model.specs.Calls.{IsReply};
-ghost use Rattle.session_model.specs.Talk.{State, IsOn};
+ghost use Rattle.session_model.specs.Talk.{TalkState, IsOn};
 ghost use Rattle.session_model.specs.Talk.Standing.{Waiting};
 ghost use Rattle.session_model.specs.Sessions.{Session};
 ghost use Rattle.session_model.specs.Acts.{opened_session};
@@ -16,7 +16,7 @@ ghost use Rattle.call_tickets.specs.Moves.{Due, Fed, Fell, HasEnded};
 ghost use Rattle.smtp_session.specs.Replies.{text_of};
 ghost use Rattle.smtp_session.specs.Talks.{talk_of};
 ghost use Rattle.smtp_session.specs.Follows.{Follows, Moved, EndsText, HasFewUsers, IsDue, Turns, due_count, left, held};
-ghost use Rattle.smtp_session.specs.Texts.{IsText};
+ghost use Rattle.smtp_session.specs.Texts.{IsGivenText};
 
 use crate::told::Heard;
 use crate::{Reply, Text, Told};
@@ -216,7 +216,7 @@ impl SmtpSession {
     // A text has ended: its message is to be stored, unless the text is too large. Unchanged on refusal.
     fn end_text(&mut self, alloc: Global, out: &mut Vec<u8>) -> Result<Move, AllocError>
         ensures ok { IfOk result (λ did. (octets : List ℕ) × (out.new.items ≡ out.old.items ++ octets)
-            × ((plan : Plans) (lines : List (List ℕ)) → IsText self.old.text (undotted lines) → EndsText plan self.old.node (talk_of self.old.told) lines did octets (talk_of self.new.told) self.old.turn self.new.turn)) }
+            × ((plan : Plans) (lines : List (List ℕ)) → IsGivenText self.old.text (undotted lines) → EndsText plan self.old.node (talk_of self.old.told) lines did octets (talk_of self.new.told) self.old.turn self.new.turn)) }
         ensures text { OnOk result (self.new.text ≡ ([], false)) }
         ensures few { IfOk result HasFewUsers }
         ensures quiet { OnOk result (due_count self.new.turn ≤ due_count self.old.turn) }
@@ -245,7 +245,7 @@ impl SmtpSession {
     /// Takes the answer to its call; `None` is a call that was given up. The next `next` says the reply to it.
     /// A session that waits for no answer takes none. It takes no memory.
     pub fn answer(&mut self, answer: Option<Answer>)
-        ensures replies { (plain : Session) (state : State) (call : calls.Call) (reply : List (List ℕ)) → Follows self.old plain Due.Nothing → plain.standing ≡ Waiting state call
+        ensures replies { (plain : Session) (state : TalkState) (call : calls.Call) (reply : List (List ℕ)) → Follows self.old plain Due.Nothing → plain.standing ≡ Waiting state call
             → IsReply call (given_answer answer) reply → Follows self.new plain (Due.Reply (given_answer answer)) }
         ensures left { left self.new + due_count self.old.turn ≡ left self.old + due_count self.new.turn }
     {

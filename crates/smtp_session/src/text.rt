@@ -1,7 +1,7 @@
 // The text of a message as its octets come.
 ghost use Rattle.std.specs.Prelude.{◌≡◌, ◌≤◌, ◌++◌, ◌||◌, [], List, ℕ, Bool, true, false, nat_lt, length, take, IfOk, OnErr};
 ghost use Rattle.dot_text.specs.Places.{Undots, Feeds, IsWithin};
-ghost use Rattle.smtp_session.specs.Texts.{Grows, Settles};
+ghost use Rattle.smtp_session.specs.Texts.{Grows, SettlesText};
 
 use dot_text::{Cut, Undotter};
 use mail_base::Octets;
@@ -92,7 +92,7 @@ impl Text {
 
     /// Lets the octets of a text go that has passed the limit. It takes no memory.
     pub fn settle(&mut self, alloc: Global)
-        ensures { Settles self.old self.new }
+        ensures { SettlesText self.old self.new }
     {
         if self.octets.len() > LIMIT {
             self.octets = Vec::new(alloc);

@@ -9,7 +9,7 @@ ghost use Rattle.mail_model.specs.Plan.{Plan as Plans};
 ghost use Rattle.mail_model.specs.Told.{unnamed, unaddressed};
 ghost use Rattle.smtp_wire.specs.Seen.{seen, IsWithinLimits};
 ghost use Rattle.smtp_session.specs.Replies.{text_of};
-ghost use Rattle.smtp_session.specs.Talks.{talk_of, greeting_of, envelope_of, Does};
+ghost use Rattle.smtp_session.specs.Talks.{talk_of, greeting_seen, envelope_of, DoesCommand};
 ghost use Rattle.smtp_session.specs.Hears.{HearsLine, Addresses, reply_in};
 
 use crate::{Envelope, Greeting, Reply};
@@ -58,7 +58,7 @@ impl Told {
         out: &mut Vec<u8>,
     ) -> Result<Reply, AllocError>
         requires { length name.now ≤ 255 }
-        ensures ok { IfOk result (λ reply. (plan : Plans) → Does plan (talk_of self.old) (Ok (smtp.Command.Helo name.now)) reply (talk_of self.new)) }
+        ensures ok { IfOk result (λ reply. (plan : Plans) → DoesCommand plan (talk_of self.old) (Ok (smtp.Command.Helo name.now)) reply (talk_of self.new)) }
         ensures said { IfOk result (λ reply. out.new.items ≡ out.old.items ++ sent_line (text_of reply node)) }
         ensures err { OnErr result ((self.new ≡ self.old) × (out.new.items ≡ out.old.items)) }
     {
@@ -78,7 +78,7 @@ impl Told {
         out: &mut Vec<u8>,
     ) -> Result<Reply, AllocError>
         requires { length sender.now ≤ 512 }
-        ensures ok { IfOk result (λ reply. (plan : Plans) → Does plan (talk_of self.old) (Ok (smtp.Command.Mail sender.now)) reply (talk_of self.new)) }
+        ensures ok { IfOk result (λ reply. (plan : Plans) → DoesCommand plan (talk_of self.old) (Ok (smtp.Command.Mail sender.now)) reply (talk_of self.new)) }
         ensures said { IfOk result (λ reply. out.new.items ≡ out.old.items ++ sent_line (text_of reply node)) }
         ensures err { OnErr result ((self.new ≡ self.old) × (out.new.items ≡ out.old.items)) }
     {
@@ -101,7 +101,7 @@ impl Told {
         node: NodeNo,
         out: &mut Vec<u8>,
     ) -> Result<Reply, AllocError>
-        ensures ok { IfOk result (λ reply. (plan : Plans) → Does plan (talk_of self.old) (Ok smtp.Command.Data) reply (talk_of self.new)) }
+        ensures ok { IfOk result (λ reply. (plan : Plans) → DoesCommand plan (talk_of self.old) (Ok smtp.Command.Data) reply (talk_of self.new)) }
         ensures said { IfOk result (λ reply. out.new.items ≡ out.old.items ++ sent_line (text_of reply node)) }
         ensures err { OnErr result ((self.new ≡ self.old) × (out.new.items ≡ out.old.items)) }
     {
@@ -125,7 +125,7 @@ impl Told {
         out: &mut Vec<u8>,
     ) -> Result<Reply, AllocError>
         requires { IfOk command.now IsWithinLimits }
-        ensures ok { IfOk result (λ reply. Does plan.now (talk_of self.old) (seen command.now) reply (talk_of self.new)) }
+        ensures ok { IfOk result (λ reply. DoesCommand plan.now (talk_of self.old) (seen command.now) reply (talk_of self.new)) }
         ensures said { IfOk result (λ reply. out.new.items ≡ out.old.items ++ sent_line (text_of reply node)) }
         ensures err { OnErr result ((self.new ≡ self.old) × (out.new.items ≡ out.old.items)) }
     {

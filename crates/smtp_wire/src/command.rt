@@ -2,7 +2,7 @@
 ghost use Rattle.std.specs.Prelude.{◌≡◌, IfOk};
 ghost use Rattle.std.specs.List.{list_all};
 ghost use Rattle.mail_model.specs.Smtp.{is_visible, is_helo_name, alone, command_of};
-ghost use Rattle.smtp_wire.specs.Seen.{seen, IsWithinLimits, command_seen, helo_of, mail_of, rcpt_of};
+ghost use Rattle.smtp_wire.specs.Seen.{seen, IsWithinLimits, command_seen, helo_of, mail_command, rcpt_of};
 
 use crate::path::{path_behind, recipient_in, sender_in};
 use line_words::{is_word, split_verb, trimmed, unspaced};
@@ -66,7 +66,7 @@ fn read_helo(rest: &[u8]) -> Result<Command<'_>, SmtpFault>
 }
 
 fn read_mail(rest: &[u8]) -> Result<Command<'_>, SmtpFault>
-    ensures exact { seen result ≡ mail_of rest.now }
+    ensures exact { seen result ≡ mail_command rest.now }
     ensures limits { IfOk result IsWithinLimits }
 {
     match path_behind(b"FROM:", rest).and_then(sender_in) {

@@ -4,8 +4,8 @@ use Rattle.std.specs.Prelude.{slice_get}
 use Rattle.std.proofs.lemmas.Bool.{eqb-true, ltb-true, ltb-false, lt-ltb}
 use Rattle.mail_model.specs.Identity.{EpochId}
 use Rattle.object_model.specs.Letters.{Claim, MapRow, Member}
-use Rattle.maps_model.specs.Assign.{IsIn, is_claimed, count_rows, load, ClaimedRow, FreeRow}
-use Rattle.user_map.specs.Plain.{raised, with_cell, claimed_loads, is_less, lesser, first_node, least, row_at, loads_after, placed}
+use Rattle.maps_model.specs.Assign.{IsOfMembers, is_claimed, count_rows, load, ClaimedRow, FreeRow}
+use Rattle.user_map.specs.Plain.{raised, with_cell, claimed_loads, is_less, lesser, first_member, least, row_at, loads_after, placed}
 use Rattle.user_map.proofs.Best.{CellFor, not_same}
 
 abbrev pub one_if : Bool → ℕ
@@ -44,8 +44,8 @@ lesser_is loads node member = ⊎_elim
     (less_or_not loads member.node node)
 
 least_of : (loads : ℕ → ℕ) (members : List Member) (node : ℕ) → NotAbove loads (fold (lesser loads) node members) node
-    × ((other : ℕ) → IsIn members other → NotAbove loads (fold (lesser loads) node members) other)
-    × ((fold (lesser loads) node members ≡ node) ⊎ IsIn members (fold (lesser loads) node members))
+    × ((other : ℕ) → IsOfMembers members other → NotAbove loads (fold (lesser loads) node members) other)
+    × ((fold (lesser loads) node members ≡ node) ⊎ IsOfMembers members (fold (lesser loads) node members))
 least_of loads [] node = (above_itself loads node, λ other i. absurd i.inside, inl refl)
 least_of loads (member ∷ members) node =
     let first = lesser_is loads node member in
@@ -61,15 +61,15 @@ least_of loads (member ∷ members) node =
           rest.2,
     )
 
-pub least_in : (loads : ℕ → ℕ) (members : List Member) → 0 < length members → IsIn members (least loads members)
+pub least_in : (loads : ℕ → ℕ) (members : List Member) → 0 < length members → IsOfMembers members (least loads members)
 least_in loads [] some = absurd (omega (arith, some))
 least_in loads (member ∷ members) some = ⊎_elim
     (λ same. record { member = member; inside = inl refl; is = sym same })
     (λ i. i)
     (least_of loads (member ∷ members) member.node).2
 
-pub least_low : (loads : ℕ → ℕ) (members : List Member) (other : ℕ) → IsIn members other → NotAbove loads (least loads members) other
-least_low loads members other i = (least_of loads members (first_node members)).1 other i
+pub least_low : (loads : ℕ → ℕ) (members : List Member) (other : ℕ) → IsOfMembers members other → NotAbove loads (least loads members) other
+least_low loads members other i = (least_of loads members (first_member members)).1 other i
 
 -- how many rows a node has, and how many cells
 abbrev pub rows_of : ℕ → List MapRow → ℕ

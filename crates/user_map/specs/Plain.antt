@@ -53,12 +53,12 @@ is_less loads a b = nat_lt (loads a) (loads b) || (nat_eq (loads a) (loads b) &&
 abbrev pub lesser : (ℕ → ℕ) → ℕ → Member → ℕ
 lesser loads node member = if is_less loads member.node node then member.node else node
 
-abbrev pub first_node : List Member → ℕ
-first_node [] = 0
-first_node (member ∷ members) = member.node
+abbrev pub first_member : List Member → ℕ
+first_member [] = 0
+first_member (member ∷ members) = member.node
 
 abbrev pub least : (ℕ → ℕ) → List Member → ℕ
-least loads members = fold (lesser loads) (first_node members) members
+least loads members = fold (lesser loads) (first_member members) members
 
 -- The row of a cell: its claim, or with nobody's claim the least of the members; and the loads with that bucket placed. Claimed buckets are in the loads from the start.
 abbrev pub row_at : EpochId → List Member → (ℕ → ℕ) → Option MapRow → MapRow

@@ -10,7 +10,7 @@ use Rattle.object_model.proofs.SaidLaws.{held_both, said_other, said_retired, sa
 use Rattle.cluster_model.specs.Claims.{boot_of}
 use Rattle.cluster_model.proofs.StoreSteps.{boot_both}
 use Rattle.maps_model.specs.Rules.{set_at}
-use Rattle.whole_model.specs.Whole.{promise_after, promise_of, is_held_here, shows_here, some_here, holds_of, disk_of}
+use Rattle.whole_model.specs.Whole.{promise_after, promise_of, is_held_here, shows_here, some_here, holds_of, maps_disk_of}
 
 pub promise_both : (promise : EpochId) (records more : List Record) → promise_after promise (records ++ more) ≡ promise_after (promise_after promise records) more
 promise_both promise [] more = refl
@@ -60,22 +60,22 @@ held_same user seen one same none = some_both user (seen ++ one ∷ []) seen (on
     ∙ or_none (some_here user (seen ++ one ∷ []) seen) ∙ some_same user seen (seen ++ one ∷ []) seen same
 
 -- what the disk looks like to maps
-alike : (a b : List Record) → boot_of a ≡ boot_of b → promise_of a ≡ promise_of b → ((user : List ℕ) → holds_of a user ≡ holds_of b user) → disk_of a ≡ disk_of b
+alike : (a b : List Record) → boot_of a ≡ boot_of b → promise_of a ≡ promise_of b → ((user : List ℕ) → holds_of a user ≡ holds_of b user) → maps_disk_of a ≡ maps_disk_of b
 alike a b boots promises holds = λ i. record { boot = boots i; promise = promises i; holds = λ user. holds user i }
 
-pub after_octets : (seen : List Record) (id : Id) (octets : List ℕ) → disk_of (seen ++ Octets id octets ∷ []) ≡ disk_of seen
+pub after_octets : (seen : List Record) (id : Id) (octets : List ℕ) → maps_disk_of (seen ++ Octets id octets ∷ []) ≡ maps_disk_of seen
 after_octets seen id octets = alike (seen ++ Octets id octets ∷ []) seen (boot_both 0 seen (Octets id octets ∷ [])) (promise_both _ seen (Octets id octets ∷ []))
     (λ user. held_same user seen (Octets id octets) (λ i. said_octets (Message user i) seen id octets) refl)
 
-pub after_retired : (seen : List Record) (key : Key) (state : State) → disk_of (seen ++ Retired key state ∷ []) ≡ disk_of seen
+pub after_retired : (seen : List Record) (key : Key) (state : State) → maps_disk_of (seen ++ Retired key state ∷ []) ≡ maps_disk_of seen
 after_retired seen key state = alike (seen ++ Retired key state ∷ []) seen (boot_both 0 seen (Retired key state ∷ [])) (promise_both _ seen (Retired key state ∷ []))
     (λ user. held_same user seen (Retired key state) (λ i. said_retired (Message user i) key seen state) refl)
 
-pub after_profile : (seen : List Record) (name : List ℕ) (state : State) → disk_of (seen ++ Stated (Profile name) state ∷ []) ≡ disk_of seen
+pub after_profile : (seen : List Record) (name : List ℕ) (state : State) → maps_disk_of (seen ++ Stated (Profile name) state ∷ []) ≡ maps_disk_of seen
 after_profile seen name state = alike (seen ++ Stated (Profile name) state ∷ []) seen (boot_both 0 seen (Stated (Profile name) state ∷ [])) (promise_both _ seen (Stated (Profile name) state ∷ []))
     (λ user. held_same user seen (Stated (Profile name) state) (λ i. said_other (Message user i) (Profile name) seen state (λ e. cc)) refl)
 
-pub after_promise : (seen : List Record) (epoch : EpochId) → disk_of (seen ++ Promise epoch ∷ []) ≡ record (disk_of seen) { promise = epoch }
+pub after_promise : (seen : List Record) (epoch : EpochId) → maps_disk_of (seen ++ Promise epoch ∷ []) ≡ record (maps_disk_of seen) { promise = epoch }
 after_promise seen epoch =
     let boots : boot_of (seen ++ Promise epoch ∷ []) ≡ boot_of seen = boot_both 0 seen (Promise epoch ∷ []) in
     let promises : promise_of (seen ++ Promise epoch ∷ []) ≡ epoch = promise_both _ seen (Promise epoch ∷ []) in
@@ -83,7 +83,7 @@ after_promise seen epoch =
     λ user. held_same user seen (Promise epoch) (λ i. held_both (Message user i) None seen (Promise epoch ∷ [])) refl in
     λ i. record { boot = boots i; promise = promises i; holds = λ user. holds user i }
 
-pub after_boot : (seen : List Record) (boot : ℕ) → disk_of (seen ++ Boot boot ∷ []) ≡ record (disk_of seen) { boot = boot }
+pub after_boot : (seen : List Record) (boot : ℕ) → maps_disk_of (seen ++ Boot boot ∷ []) ≡ record (maps_disk_of seen) { boot = boot }
 after_boot seen boot =
     let boots : boot_of (seen ++ Boot boot ∷ []) ≡ boot = boot_both 0 seen (Boot boot ∷ []) in
     let promises : promise_of (seen ++ Boot boot ∷ []) ≡ promise_of seen = promise_both _ seen (Boot boot ∷ []) in
@@ -93,7 +93,7 @@ after_boot seen boot =
 
 -- a state of a copy: what the disk says of its user may turn, and of nobody else
 pub after_copy : (seen : List Record) (user : List ℕ) (id : Id) (state : State)
-    → disk_of (seen ++ Stated (Message user id) state ∷ []) ≡ record (disk_of seen) { holds = set_at (holds_of seen) user (holds_of (seen ++ Stated (Message user id) state ∷ []) user) }
+    → maps_disk_of (seen ++ Stated (Message user id) state ∷ []) ≡ record (maps_disk_of seen) { holds = set_at (holds_of seen) user (holds_of (seen ++ Stated (Message user id) state ∷ []) user) }
 after_copy seen user id state =
     let boots : boot_of now ≡ boot_of seen = boot_both 0 seen (Stated (Message user id) state ∷ []) in
     let promises : promise_of now ≡ promise_of seen = promise_both _ seen (Stated (Message user id) state ∷ []) in
@@ -119,7 +119,7 @@ after_copy seen user id state =
             none false p = refl
 
 -- where it does not turn, nothing does
-pub set_same : (seen : List Record) (user : List ℕ) (full : Bool) → holds_of seen user ≡ full → record (disk_of seen) { holds = set_at (holds_of seen) user full } ≡ disk_of seen
+pub set_same : (seen : List Record) (user : List ℕ) (full : Bool) → holds_of seen user ≡ full → record (maps_disk_of seen) { holds = set_at (holds_of seen) user full } ≡ maps_disk_of seen
 set_same seen user full is = λ i. record { boot = boot_of seen; promise = promise_of seen; holds = λ u. held u i }
   where
     held : (u : List ℕ) → set_at (holds_of seen) user full u ≡ holds_of seen u

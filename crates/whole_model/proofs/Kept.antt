@@ -8,7 +8,7 @@ use Rattle.maps_model.specs.Cluster as maps
 use Rattle.maps_model.specs.Moves as maps_moves
 use Rattle.maps_model.specs.Parts as maps_parts
 use Rattle.maps_model.proofs.Kept as maps_kept
-use Rattle.whole_model.specs.Whole.{Slot, Cluster, slot_at, with_slot, mail_slot, maps_slot, mail_of, maps_of}
+use Rattle.whole_model.specs.Whole.{Slot, Cluster, slot_at, with_slot, mail_slot, maps_slot, mail_part_of, maps_of}
 use Rattle.whole_model.specs.Moves.{mail_act, Move, after_move, after_moves, MayMove, MayMoves, Sound}
 use Rattle.whole_model.specs.Moves.Move.{Acted, Taken, Entered}
 use Rattle.whole_model.proofs.Seen.{get_seen, set_seen}
@@ -31,8 +31,8 @@ maps_set slots (suc k) slot = set_seen maps_slot slots k slot
 
 module _ (confirm : ℕ) where
   -- the same move, as messages see it
-  one_mail : (w : Cluster) (move : mail_moves.Move) → mail_moves.MayMove confirm move (mail_of w) → mail_parts.Sound confirm (mail_of w) → mail_parts.Sound confirm (mail_moves.after_move move (mail_of w))
-  one_mail w move may s = mail_kept.all_kept confirm (mail_of w) (move ∷ []) (may, tt) s
+  one_mail : (w : Cluster) (move : mail_moves.Move) → mail_moves.MayMove confirm move (mail_part_of w) → mail_parts.Sound confirm (mail_part_of w) → mail_parts.Sound confirm (mail_moves.after_move move (mail_part_of w))
+  one_mail w move may s = mail_kept.all_kept confirm (mail_part_of w) (move ∷ []) (may, tt) s
 
   pub kept : (move : Move) (w : Cluster) → MayMove confirm move w → Sound confirm w → Sound confirm (after_move move w)
   kept (Acted act) w may s =

@@ -15,7 +15,7 @@ use Rattle.maps_model.specs.NodeLaws.{act_of}
 use Rattle.maps_model.proofs.Making.{IsPlain, rests}
 use Rattle.maps_model.proofs.Lives.{gone}
 use Rattle.maps_model.proofs.Reporting.{changes}
-use Rattle.whole_model.specs.Whole.{Node, disk_of, holds_of, promise_of, maps_slot}
+use Rattle.whole_model.specs.Whole.{Node, maps_disk_of, holds_of, promise_of, maps_slot}
 use Rattle.whole_model.specs.Whole.Life.{Up, Down}
 use Rattle.whole_model.specs.Moves.{LeadsMaps}
 use Rattle.whole_model.specs.Rules.{differ, followed, follows, IsOfMessages, AreOfMessages, IsMailBody, IsMail}
@@ -94,7 +94,7 @@ act_leads own a b heard out acts w here flew = record {
 }
 
 -- a letter of messages says nothing to maps
-plain : (own : ℕ) (act : moves.Act) (letter : Letter) → act.node ≡ own → IsMail own letter → IsPlain act letter
+plain : (own : ℕ) (act : moves.NodeAct) (letter : Letter) → act.node ≡ own → IsMail own letter → IsPlain act letter
 plain own act letter at mail = record {
   from = mail.from ∙ sym at;
   to = λ same. mail.to (same ∙ at);
@@ -128,22 +128,22 @@ differs false false e = refl
 
 -- one record of messages
 one_led : (own : ℕ) (node : maps.Node) (seen : List Record) (one : Record) → IsOfMessages one
-    → LeadsMaps own (maps.slot_up node (disk_of seen)) (maps.slot_up (followed own node seen one) (disk_of (seen ++ one ∷ []))) None []
+    → LeadsMaps own (maps.slot_up node (maps_disk_of seen)) (maps.slot_up (followed own node seen one) (maps_disk_of (seen ++ one ∷ []))) None []
 one_led own node seen (Boot boot) of = absurd of
 one_led own node seen (Promise epoch) of = absurd of
-one_led own node seen (Octets id octets) of = same_led own node (disk_of seen) (disk_of (seen ++ Octets id octets ∷ [])) (after_octets seen id octets)
-one_led own node seen (Retired key state) of = same_led own node (disk_of seen) (disk_of (seen ++ Retired key state ∷ [])) (after_retired seen key state)
-one_led own node seen (Stated (Profile name) state) of = same_led own node (disk_of seen) (disk_of (seen ++ Stated (Profile name) state ∷ [])) (after_profile seen name state)
+one_led own node seen (Octets id octets) of = same_led own node (maps_disk_of seen) (maps_disk_of (seen ++ Octets id octets ∷ [])) (after_octets seen id octets)
+one_led own node seen (Retired key state) of = same_led own node (maps_disk_of seen) (maps_disk_of (seen ++ Retired key state ∷ [])) (after_retired seen key state)
+one_led own node seen (Stated (Profile name) state) of = same_led own node (maps_disk_of seen) (maps_disk_of (seen ++ Stated (Profile name) state ∷ [])) (after_profile seen name state)
 one_led own node seen (Stated (Message user id) state) of = by (differ (holds_of seen user) full) refl
   where
     full : Bool
     full = holds_of (seen ++ Stated (Message user id) state ∷ []) user
 
     by : (b : Bool) → differ (holds_of seen user) full ≡ b
-        → LeadsMaps own (maps.slot_up node (disk_of seen)) (maps.slot_up (cond b (change own node (disk_of seen) user full).node node) (disk_of (seen ++ Stated (Message user id) state ∷ []))) None []
-    by true e = subst (λ d. LeadsMaps own (maps.slot_up node (disk_of seen)) (maps.slot_up (change own node (disk_of seen) user full).node d) None []) (sym (after_copy seen user id state))
-        (change_led own node (disk_of seen) user full)
-    by false e = same_led own node (disk_of seen) (disk_of (seen ++ Stated (Message user id) state ∷ [])) (after_copy seen user id state ∙ set_same seen user full (differs (holds_of seen user) full e))
+        → LeadsMaps own (maps.slot_up node (maps_disk_of seen)) (maps.slot_up (cond b (change own node (maps_disk_of seen) user full).node node) (maps_disk_of (seen ++ Stated (Message user id) state ∷ []))) None []
+    by true e = subst (λ d. LeadsMaps own (maps.slot_up node (maps_disk_of seen)) (maps.slot_up (change own node (maps_disk_of seen) user full).node d) None []) (sym (after_copy seen user id state))
+        (change_led own node (maps_disk_of seen) user full)
+    by false e = same_led own node (maps_disk_of seen) (maps_disk_of (seen ++ Stated (Message user id) state ∷ [])) (after_copy seen user id state ∙ set_same seen user full (differs (holds_of seen user) full e))
 
 split : (seen : List Record) (one : Record) (records : List Record) → (seen ++ one ∷ []) ++ records ≡ seen ++ one ∷ records
 split [] one records = refl
@@ -155,21 +155,21 @@ no_records (x ∷ seen) = ap (λ (l : List Record). x ∷ l) (no_records seen)
 
 -- and records, one after another
 pub all_led : (own : ℕ) (node : maps.Node) (seen added : List Record) → AreOfMessages added
-    → LeadsMaps own (maps.slot_up node (disk_of seen)) (maps.slot_up (follows own node seen added) (disk_of (seen ++ added))) None []
-all_led own node seen [] of = same_led own node (disk_of seen) (disk_of (seen ++ [])) (ap disk_of (no_records seen))
-all_led own node seen (one ∷ added) of = led_on own (maps.slot_up node (disk_of seen)) (maps.slot_up (followed own node seen one) (disk_of (seen ++ one ∷ [])))
-    (maps.slot_up (follows own node seen (one ∷ added)) (disk_of (seen ++ one ∷ added))) None []
+    → LeadsMaps own (maps.slot_up node (maps_disk_of seen)) (maps.slot_up (follows own node seen added) (maps_disk_of (seen ++ added))) None []
+all_led own node seen [] of = same_led own node (maps_disk_of seen) (maps_disk_of (seen ++ [])) (ap maps_disk_of (no_records seen))
+all_led own node seen (one ∷ added) of = led_on own (maps.slot_up node (maps_disk_of seen)) (maps.slot_up (followed own node seen one) (maps_disk_of (seen ++ one ∷ [])))
+    (maps.slot_up (follows own node seen (one ∷ added)) (maps_disk_of (seen ++ one ∷ added))) None []
     (one_led own node seen one (of one (inl refl)))
-    (subst (λ d. LeadsMaps own (maps.slot_up (followed own node seen one) (disk_of (seen ++ one ∷ []))) (maps.slot_up (follows own (followed own node seen one) (seen ++ one ∷ []) added) (disk_of d)) None [])
+    (subst (λ d. LeadsMaps own (maps.slot_up (followed own node seen one) (maps_disk_of (seen ++ one ∷ []))) (maps.slot_up (follows own (followed own node seen one) (seen ++ one ∷ []) added) (maps_disk_of d)) None [])
     (split seen one added)
     (all_led own (followed own node seen one) (seen ++ one ∷ []) added (λ r m. of r (inr m))))
 
 pub messages_led : (own : ℕ) (old new : Node) (disk added : List Record) (heard : Option Letter) (out : List Letter)
     → AreOfMessages added → ((letter : Letter) → Among letter out → IsMail own letter) → new.maps ≡ follows own old.maps disk added
     → LeadsMaps own (maps_slot (record { life = Up old; disk = disk })) (maps_slot (record { life = Up new; disk = disk ++ added })) heard out
-messages_led own old new disk added heard out of mail is = subst (λ n. LeadsMaps own (maps.slot_up old.maps (disk_of disk)) (maps.slot_up n (disk_of (disk ++ added))) heard out) (sym is)
-    (led_on own (maps.slot_up old.maps (disk_of disk)) (maps.slot_up old.maps (disk_of disk)) (maps.slot_up (follows own old.maps disk added) (disk_of (disk ++ added))) heard out
-    (rests_led own old.maps (disk_of disk) heard out mail)
+messages_led own old new disk added heard out of mail is = subst (λ n. LeadsMaps own (maps.slot_up old.maps (maps_disk_of disk)) (maps.slot_up n (maps_disk_of (disk ++ added))) heard out) (sym is)
+    (led_on own (maps.slot_up old.maps (maps_disk_of disk)) (maps.slot_up old.maps (maps_disk_of disk)) (maps.slot_up (follows own old.maps disk added) (maps_disk_of (disk ++ added))) heard out
+    (rests_led own old.maps (maps_disk_of disk) heard out mail)
     (all_led own old.maps disk added of))
 
 pub falls_led : (own : ℕ) (old : Node) (disk front pending : List Record) (heard : Option Letter)
@@ -188,5 +188,5 @@ falls_led own old disk front pending heard boots later promises above = act_lead
     up_not_lost : maps.Life.Up old.maps ≡ maps.Life.Lost → ⊥
     up_not_lost e = cc
 
-    down_not_up : (new : maps.Node) → maps.Life.Down (disk_of ((disk ++ front) ++ pending)) ≡ maps.Life.Up new → ⊥
+    down_not_up : (new : maps.Node) → maps.Life.Down (maps_disk_of ((disk ++ front) ++ pending)) ≡ maps.Life.Up new → ⊥
     down_not_up new e = cc

@@ -9,10 +9,10 @@ use Rattle.object_model.specs.Letters.{Membership, Body, Letter}
 use Rattle.object_model.specs.Letters.Body.{File, Filed, Group, Join, Install, Report, ReportAck}
 use Rattle.object_model.proofs.Lists.{among_either}
 use Rattle.object_model.proofs.SaidLaws.{held_both}
-use Rattle.cluster_model.specs.Cluster.{Asked, Node}
+use Rattle.cluster_model.specs.Cluster.{AskedOfNodes, Node}
 use Rattle.cluster_model.specs.Store.{Store}
 use Rattle.cluster_model.specs.Claims.{Fact, BodyHolds, BodyClaims, BodySpeaks, Asks, Tells}
-use Rattle.cluster_model.specs.Moves.{Act, BodyFits, IsReady, IsDone}
+use Rattle.cluster_model.specs.Moves.{NodeAct, BodyFits, IsReady, IsCallDone}
 use Rattle.cluster_model.specs.Rules.{Reaction, store_of}
 use Rattle.cluster_model.specs.Deeds.{act_of, slot_up}
 use Rattle.cluster_model.proofs.StoreSteps.{StoreStep, stays, boot_both}
@@ -22,10 +22,10 @@ use Rattle.maps_model.specs.Cluster as maps
 use Rattle.maps_model.specs.Moves as moves
 use Rattle.maps_model.specs.Rules as maps_rules
 use Rattle.maps_model.specs.NodeLaws as maps_laws
-use Rattle.whole_model.specs.Whole.{Slot, disk_of, maps_slot}
+use Rattle.whole_model.specs.Whole.{Slot, maps_disk_of, maps_slot}
 use Rattle.whole_model.specs.Whole as whole
 use Rattle.whole_model.specs.Moves.{LeadsMaps}
-use Rattle.whole_model.specs.Rules.{IsMapsBody, promised}
+use Rattle.whole_model.specs.Rules.{IsMapsBody, promise_records}
 use Rattle.whole_model.proofs.Leading.{act_leads}
 
 -- the record of a promise changes nothing that is said
@@ -66,7 +66,7 @@ no_records [] = refl
 no_records (x ∷ xs) = ap (λ (l : List Record). x ∷ l) (no_records xs)
 
 step_of : (own : ℕ) (Brought : Id → List ℕ → Type 0) (Acks : Key → State → ℕ → Type 0) (store : Store) (promise : Option EpochId)
-    → StoreStep own [] Brought Acks store (record store { disk = store.disk ++ promised promise })
+    → StoreStep own [] Brought Acks store (record store { disk = store.disk ++ promise_records promise })
 step_of own Brought Acks store None = subst (λ d. StoreStep own [] Brought Acks store (record store { disk = d })) (sym (no_records store.disk)) (stays own [] Brought Acks store)
 step_of own Brought Acks store (Some epoch) = promise_step own Brought Acks store epoch
 
@@ -78,8 +78,8 @@ record SaysNothing (to : ℕ) (body : Body) : Type 0 where
   claims : (from m : ℕ) (fact : Fact) → BodyClaims from body m fact → ⊥
   speaks : (user : List ℕ) (id : Id) → BodySpeaks body user id → ⊥
   fit : BodyFits to body
-  asks : (asked : Asked) → Asks body asked → ⊥
-  tells : (asked : Asked) → Tells body asked → ⊥
+  asks : (asked : AskedOfNodes) → Asks body asked → ⊥
+  tells : (asked : AskedOfNodes) → Tells body asked → ⊥
 
 says_nothing : (to : ℕ) (body : Body) → IsMapsBody body → SaysNothing to body
 says_nothing to (Group epoch) of = record { holds = λ id o h. h; file = λ id s t u o e. cc; filed = λ id e. cc; claims = λ f m fact c. c; speaks = λ u id s. s; fit = tt; asks = λ a k. k; tells = λ a k. k }
@@ -93,7 +93,7 @@ says_nothing to body of = absurd of
 pub membership_acts : (own : ℕ) (node : Node) (disk : List Record) (installed : Option Membership) (promise : Option EpochId) (heard : Option Letter) (out : List Letter)
     → ((letter : Letter) → heard ≡ Some letter → IsMapsBody letter.body) → ((letter : Letter) → Among letter out → IsMapsBody letter.body)
     → IsReady own (slot_up node disk) heard
-    → IsDone (act_of own node disk (record { node = record node { installed = installed }; disk = disk ++ promised promise; out = out }) heard None [])
+    → IsCallDone (act_of own node disk (record { node = record node { installed = installed }; disk = disk ++ promise_records promise; out = out }) heard None [])
 membership_acts own node disk installed promise heard out of_heard of_out ready = is_act own node disk did heard None [] [] ready
     (record { step = step_of own (BroughtBy act) (AckedBy act) (store_of node disk) promise; fits = λ u m. absurd m; speaks = λ user id s. absurd s.inside })
     (record { boot = refl; drawn = le_refl node.drawn; fresh = λ content e. absurd (cc e); ended = λ content e. absurd (cc e) })
@@ -111,17 +111,17 @@ membership_acts own node disk installed promise heard out of_heard of_out ready 
     })
   where
     did : Reaction
-    did = record { node = record node { installed = installed }; disk = disk ++ promised promise; out = out }
+    did = record { node = record node { installed = installed }; disk = disk ++ promise_records promise; out = out }
 
-    act : Act
+    act : NodeAct
     act = act_of own node disk did heard None []
 
 -- and a rule of membership leads the maps along
 pub membership_led : (own : ℕ) (old new : whole.Node) (disk : List Record) (promise : Option EpochId) (heard : Option Letter) (did : maps_rules.Reaction)
-    → did.disk ≡ disk_of (disk ++ promised promise) → new.maps ≡ did.node
-    → (moves.IsReady own (maps.slot_up old.maps (disk_of disk)) heard → moves.IsAct (maps_laws.act_of own old.maps (disk_of disk) did heard))
-    → LeadsMaps own (maps_slot (record { life = whole.Life.Up old; disk = disk })) (maps_slot (record { life = whole.Life.Up new; disk = disk ++ promised promise })) heard did.out
+    → did.disk ≡ maps_disk_of (disk ++ promise_records promise) → new.maps ≡ did.node
+    → (moves.IsReady own (maps.slot_up old.maps (maps_disk_of disk)) heard → moves.IsAct (maps_laws.act_of own old.maps (maps_disk_of disk) did heard))
+    → LeadsMaps own (maps_slot (record { life = whole.Life.Up old; disk = disk })) (maps_slot (record { life = whole.Life.Up new; disk = disk ++ promise_records promise })) heard did.out
 membership_led own old new disk promise heard did seen is acts =
-    subst (λ d. LeadsMaps own (maps.slot_up old.maps (disk_of disk)) (maps.slot_up new.maps d) heard did.out) seen
-    (subst (λ n. LeadsMaps own (maps.slot_up old.maps (disk_of disk)) (maps.slot_up n did.disk) heard did.out) (sym is)
-    (act_leads own (maps.slot_up old.maps (disk_of disk)) (maps.slot_up did.node did.disk) heard did.out acts))
+    subst (λ d. LeadsMaps own (maps.slot_up old.maps (maps_disk_of disk)) (maps.slot_up new.maps d) heard did.out) seen
+    (subst (λ n. LeadsMaps own (maps.slot_up old.maps (maps_disk_of disk)) (maps.slot_up n did.disk) heard did.out) (sym is)
+    (act_leads own (maps.slot_up old.maps (maps_disk_of disk)) (maps.slot_up did.node did.disk) heard did.out acts))

@@ -14,10 +14,10 @@ use Rattle.maps_model.specs.Moves as maps_moves
 use Rattle.maps_model.specs.Rules as maps_rules
 use Rattle.maps_model.specs.NodeLaws as maps_laws
 use Rattle.maps_model.specs.Epochs.{IsAtMost}
-use Rattle.whole_model.specs.Whole.{Node, Cluster, disk_of, promise_of, maps_slot}
+use Rattle.whole_model.specs.Whole.{Node, Cluster, maps_disk_of, promise_of, maps_slot}
 use Rattle.whole_model.specs.Whole.Life.{Up, Down}
 use Rattle.whole_model.specs.Moves.{LeadsMaps, after_moves, MayMoves, Move, Sound}
-use Rattle.whole_model.specs.Rules.{follows, AreOfMessages, IsMail, IsMapsBody, promised}
+use Rattle.whole_model.specs.Rules.{follows, AreOfMessages, IsMail, IsMapsBody, promise_records}
 
 -- whatever moves are made, both invariants stay
 abbrev pub MovesKeepSound : Type 0
@@ -47,15 +47,15 @@ abbrev pub MembershipIsAct : Type 0
 MembershipIsAct = (own : ℕ) (node : mail.Node) (disk : List Record) (installed : Option Membership) (promise : Option EpochId) (heard : Option Letter) (out : List Letter)
     → ((letter : Letter) → heard ≡ Some letter → IsMapsBody letter.body) → ((letter : Letter) → Among letter out → IsMapsBody letter.body)
     → mail_moves.IsReady own (mail_deeds.slot_up node disk) heard
-    → mail_moves.IsDone (mail_deeds.act_of own node disk (record { node = record node { installed = installed }; disk = disk ++ promised promise; out = out }) heard None [])
+    → mail_moves.IsCallDone (mail_deeds.act_of own node disk (record { node = record node { installed = installed }; disk = disk ++ promise_records promise; out = out }) heard None [])
 
 -- And whatever rule of membership and maps it is, it leads the maps along, where the disk as maps see it has that promise.
 abbrev pub MembershipLeadsMaps : Type 0
 MembershipLeadsMaps = (own : ℕ) (old new : Node) (disk : List Record) (promise : Option EpochId) (heard : Option Letter) (did : maps_rules.Reaction)
-    → did.disk ≡ disk_of (disk ++ promised promise) → new.maps ≡ did.node
-    → (maps_moves.IsReady own (maps.slot_up old.maps (disk_of disk)) heard → maps_moves.IsAct (maps_laws.act_of own old.maps (disk_of disk) did heard))
-    → LeadsMaps own (maps_slot (record { life = Up old; disk = disk })) (maps_slot (record { life = Up new; disk = disk ++ promised promise })) heard did.out
+    → did.disk ≡ maps_disk_of (disk ++ promise_records promise) → new.maps ≡ did.node
+    → (maps_moves.IsReady own (maps.slot_up old.maps (maps_disk_of disk)) heard → maps_moves.IsAct (maps_laws.act_of own old.maps (maps_disk_of disk) did heard))
+    → LeadsMaps own (maps_slot (record { life = Up old; disk = disk })) (maps_slot (record { life = Up new; disk = disk ++ promise_records promise })) heard did.out
 
 -- The record of a promise is what maps see of it, and of nothing else.
 abbrev pub PromisesAreSeen : Type 0
-PromisesAreSeen = (disk : List Record) (epoch : EpochId) → disk_of (disk ++ promised (Some epoch)) ≡ record (disk_of disk) { promise = epoch }
+PromisesAreSeen = (disk : List Record) (epoch : EpochId) → maps_disk_of (disk ++ promise_records (Some epoch)) ≡ record (maps_disk_of disk) { promise = epoch }

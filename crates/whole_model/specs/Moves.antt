@@ -10,10 +10,10 @@ use Rattle.cluster_model.specs.Parts as mail_parts
 use Rattle.maps_model.specs.Cluster as maps_cluster
 use Rattle.maps_model.specs.Moves as maps
 use Rattle.maps_model.specs.Parts as maps_parts
-use Rattle.whole_model.specs.Whole.{Slot, Cluster, slot_at, with_slot, mail_slot, maps_slot, mail_of, maps_of}
+use Rattle.whole_model.specs.Whole.{Slot, Cluster, slot_at, with_slot, mail_slot, maps_slot, mail_part_of, maps_of}
 
 -- what a node did, or what befell it
-pub record Act : Type 0 where
+pub record NodeAct : Type 0 where
   pub node : ℕ
   pub before : Slot
   pub after : Slot
@@ -23,7 +23,7 @@ pub record Act : Type 0 where
   pub strikes : List (List ℕ × Id)
 
 -- what messages see of it
-abbrev pub mail_act : Act → mail.Act
+abbrev pub mail_act : NodeAct → mail.NodeAct
 mail_act act = record {
   node = act.node;
   before = mail_slot act.before;
@@ -35,17 +35,17 @@ mail_act act = record {
 }
 
 -- Some moves for membership and maps lead from a slot to another: the first hears the letter, and all together send these letters.
-pub record IsLed (own : ℕ) (before after : maps_cluster.Slot) (heard : Option Letter) (out : List Letter) (w : maps_cluster.Cluster) : Type 0 where
+pub record IsSlotLed (own : ℕ) (before after : maps_cluster.Slot) (heard : Option Letter) (out : List Letter) (w : maps_cluster.Cluster) : Type 0 where
   pub moves : List maps.Move
   pub may : maps.MayMoves moves w
   pub is : maps.after_moves moves w ≡ record { slots = maps_cluster.with_slot w.slots own after; flying = w.flying ++ out }
 
 abbrev pub LeadsMaps : ℕ → maps_cluster.Slot → maps_cluster.Slot → Option Letter → List Letter → Type 0
 LeadsMaps own before after heard out = (w : maps_cluster.Cluster) → maps_cluster.slot_at w.slots own ≡ Some before
-    → ((letter : Letter) → heard ≡ Some letter → Among letter w.flying × (letter.to ≡ own)) → IsLed own before after heard out w
+    → ((letter : Letter) → heard ≡ Some letter → Among letter w.flying × (letter.to ≡ own)) → IsSlotLed own before after heard out w
 
 pub data Move : Type 0 where
-  Acted : (act : Act) → Move
+  Acted : (act : NodeAct) → Move
   Taken : (letter : Letter) (left : List Letter) → Move
   Entered : (entry : BookEntry) → Move
 
@@ -55,7 +55,7 @@ after_move (Taken letter left) w = record w { flying = left }
 after_move (Entered entry) w = record w { book = w.book ++ entry ∷ [] }
 
 -- What a node may do: an act for messages, and moves for membership and maps.
-pub record MayAct (act : Act) (w : Cluster) : Type 0 where
+pub record MayAct (act : NodeAct) (w : Cluster) : Type 0 where
   pub here : slot_at w.slots act.node ≡ Some act.before
   pub mail : mail.IsReady act.node (mail_slot act.before) act.heard → mail.IsAct (mail_act act)
   pub maps : LeadsMaps act.node (maps_slot act.before) (maps_slot act.after) act.heard act.out
@@ -64,8 +64,8 @@ pub record MayAct (act : Act) (w : Cluster) : Type 0 where
 
 abbrev pub MayMove : ℕ → Move → Cluster → Type 0
 MayMove confirm (Acted act) w = MayAct act w
-MayMove confirm (Taken letter left) w = mail.MayMove confirm (mail.Move.Taken letter left) (mail_of w)
-MayMove confirm (Entered entry) w = mail.MayMove confirm (mail.Move.Entered entry) (mail_of w)
+MayMove confirm (Taken letter left) w = mail.MayMove confirm (mail.Move.Taken letter left) (mail_part_of w)
+MayMove confirm (Entered entry) w = mail.MayMove confirm (mail.Move.Entered entry) (mail_part_of w)
 
 abbrev pub after_moves : List Move → Cluster → Cluster
 after_moves [] w = w
@@ -77,5 +77,5 @@ MayMoves confirm (move ∷ moves) w = MayMove confirm move w × MayMoves confirm
 
 -- both invariants hold
 pub record Sound (confirm : ℕ) (w : Cluster) : Type 0 where
-  pub mail : mail_parts.Sound confirm (mail_of w)
+  pub mail : mail_parts.Sound confirm (mail_part_of w)
   pub maps : maps_parts.Sound (maps_of w)

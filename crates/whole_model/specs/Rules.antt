@@ -9,7 +9,7 @@ use Rattle.object_model.specs.Letters.{Body, Letter}
 use Rattle.object_model.specs.Letters.Body.{Group, Join, Install, Report, ReportAck}
 use Rattle.maps_model.specs.Cluster as maps
 use Rattle.maps_model.specs.Rules.{change}
-use Rattle.whole_model.specs.Whole.{disk_of, holds_of}
+use Rattle.whole_model.specs.Whole.{maps_disk_of, holds_of}
 
 abbrev pub differ : Bool → Bool → Bool
 differ true other = not other
@@ -17,7 +17,7 @@ differ false other = other
 
 -- A user comes to have a copy here, or has none any more: the node's row of the user changes.
 abbrev pub turned_for : ℕ → maps.Node → List Record → List ℕ → Bool → maps.Node
-turned_for own node seen user full = if differ (holds_of seen user) full then (change own node (disk_of seen) user full).node else node
+turned_for own node seen user full = if differ (holds_of seen user) full then (change own node (maps_disk_of seen) user full).node else node
 
 -- what a record that is appended after those that were seen makes of it
 abbrev pub followed : ℕ → maps.Node → List Record → Record → maps.Node
@@ -63,6 +63,6 @@ IsMapsBody (ReportAck user version) = Unit {0}
 IsMapsBody body = ⊥
 
 -- what a rule of membership appends: the record of a promise, or nothing
-abbrev pub promised : Option EpochId → List Record
-promised None = []
-promised (Some epoch) = Promise epoch ∷ []
+abbrev pub promise_records : Option EpochId → List Record
+promise_records None = []
+promise_records (Some epoch) = Promise epoch ∷ []

@@ -68,8 +68,8 @@ abbrev pub holds_of : List Record → List ℕ → Bool
 holds_of records user = some_here user records records
 
 -- what membership and maps see of a disk
-abbrev pub disk_of : List Record → maps.Disk
-disk_of records = record { boot = boot_of records; promise = promise_of records; holds = holds_of records }
+abbrev pub maps_disk_of : List Record → maps.Disk
+maps_disk_of records = record { boot = boot_of records; promise = promise_of records; holds = holds_of records }
 
 -- What messages see of a life and of a slot, and what membership and maps see.
 abbrev pub mail_life : Life → mail.Life
@@ -82,14 +82,14 @@ mail_slot slot = record { life = mail_life slot.life; disk = slot.disk }
 
 abbrev pub maps_life : List Record → Life → maps.Life
 maps_life disk (Up node) = maps.Life.Up node.maps
-maps_life disk (Down pending) = maps.Life.Down (disk_of (disk ++ pending))
+maps_life disk (Down pending) = maps.Life.Down (maps_disk_of (disk ++ pending))
 maps_life disk Lost = maps.Life.Lost
 
 abbrev pub maps_slot : Slot → maps.Slot
-maps_slot slot = record { life = maps_life slot.disk slot.life; disk = disk_of slot.disk }
+maps_slot slot = record { life = maps_life slot.disk slot.life; disk = maps_disk_of slot.disk }
 
-abbrev pub mail_of : Cluster → mail.Cluster
-mail_of w = record { slots = map mail_slot w.slots; flying = w.flying; book = w.book }
+abbrev pub mail_part_of : Cluster → mail.Cluster
+mail_part_of w = record { slots = map mail_slot w.slots; flying = w.flying; book = w.book }
 
 abbrev pub maps_of : Cluster → maps.Cluster
 maps_of w = record { slots = map maps_slot w.slots; flying = w.flying }

@@ -1,6 +1,6 @@
 // Logins, fetches and leaves.
 ghost use Rattle.std.specs.Prelude.{◌≤◌, ◌<◌, length, IfOk, IsTrue};
-ghost use Rattle.mail_base.specs.Delivers.{IsWithinLimits};
+ghost use Rattle.mail_base.specs.Delivers.{IsMessageWithinLimits};
 ghost use Rattle.cluster_world.specs.World.{ShowsGate, is_up};
 
 use super::{
@@ -158,7 +158,7 @@ pub(super) fn is_gone<D: Disk>(alloc: Global, world: &mut World<D>, seq: u64, ca
 
 // A message for these users, the second of whom may be left out.
 pub(super) fn odd(alloc: Global, first: &[u8], second: &[u8]) -> Result<Deliver, AllocError>
-    ensures { IfOk result IsWithinLimits }
+    ensures { IfOk result IsMessageWithinLimits }
 {
     let mut users = Names::new(alloc);
     users.push(name(alloc, first)?)?;

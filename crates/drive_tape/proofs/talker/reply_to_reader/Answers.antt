@@ -12,7 +12,7 @@ returns-clause-replied c =
       moved.0,
       moved.1,
       λ plain state call reply follows stands is.
-          replies_only (reader.Follows c.next.new.self) c.args.plan.now plain (reader.greeting_of c.answer.new.self) answer c.in_ok-next.field-0 moved.0
+          replies_only (reader.Follows c.next.new.self) c.args.plan.now plain (reader.opening_line c.answer.new.self) answer c.in_ok-next.field-0 moved.0
           (moved.2.goes plain (Reply answer) (c.answer.ensures.replies plain state call reply follows stands is)),
     )
 

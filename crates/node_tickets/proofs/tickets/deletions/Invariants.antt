@@ -1,5 +1,5 @@
 use Rattle.std.proofs.Common.{◌≡◌, map, take}
-use Rattle.cluster_model.specs.Cluster.Asked.{Deletion}
+use Rattle.cluster_model.specs.Cluster.AskedOfNodes.{Deletion}
 use Rattle.cluster_model.specs.Rules.{new_want}
 use Rattle.node_tickets.proofs.tickets.deletions.Given as goal
 

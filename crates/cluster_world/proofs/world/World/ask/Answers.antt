@@ -1,7 +1,7 @@
 use Rattle.std.proofs.Common.{ap, refl, subst, ◌+◌, List, take, drop, map, rules}
 use Rattle.mail_model.specs.Book.{BookEntry}
-use Rattle.cluster_world.specs.Books.{entry_of, told_by}
-use Rattle.cluster_world.specs.Steps.{Settles}
+use Rattle.cluster_world.specs.Books.{entry_of, booked_by}
+use Rattle.cluster_world.specs.Steps.{SettlesCall}
 use Rattle.cluster_world.proofs.Asked.{taken_out}
 use Rattle.cluster_world.proofs.world.World.ask.Goals as goal
 
@@ -25,6 +25,6 @@ returns-clause-did g c =
         behind = drop (c.in-Some.place + 1) stood;
         stood = taken_out stood c.in-Some.place c.remove-standing.result _ (search rules) c.remove-standing.ensures.value c.in-Some.ensures.some;
         stands = c.remove-standing.ensures.by_index.2;
-        settles = subst (λ (l : List BookEntry). Settles pending c.settle-answer.result l (told_by c.settle-answer.new.book)) booked c.settle-answer.ensures;
+        settles = subst (λ (l : List BookEntry). SettlesCall pending c.settle-answer.result l (booked_by c.settle-answer.new.book)) booked c.settle-answer.ensures;
       },
     )

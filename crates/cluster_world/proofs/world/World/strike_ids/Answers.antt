@@ -1,9 +1,9 @@
 use Rattle.std.proofs.Common.{refl, ap, subst, ◌+◌, List, ◌∙◌}
 use Rattle.mail_model.specs.Identity.{Id}
 use Rattle.mail_model.specs.Site.{struck_entries}
-use Rattle.cluster_world.specs.World.{tickets_of}
-use Rattle.cluster_world.specs.Steps.{Strikes, nth_ticket}
-use Rattle.cluster_world.specs.Books.{entries_of, told_by}
+use Rattle.cluster_world.specs.World.{tickets_drawn}
+use Rattle.cluster_world.specs.Steps.{BeginsDeletion, nth_ticket}
+use Rattle.cluster_world.specs.Books.{entries_of, booked_by}
 use Rattle.cluster_world.specs.declared.book.Book.{Book}
 use Rattle.cluster_world.proofs.Down.{IsReserved, as_before}
 use Rattle.cluster_world.proofs.Deleting.{IsOtherwiseSame, booked, strikes, wrote_none}
@@ -24,8 +24,8 @@ returns-in-Ok-clause-did g c = λ node items within same_ids.
       within,
       c.requires.up,
       refl,
-      subst (λ (ids : List Id). Strikes g.D.Disk.seen g.D.Disk.faults c.args.user ids (nth_ticket (tickets_of c.delete.new.self + 1)) old c.stand.new.self) same_ids (strikes g.D.Disk.seen g.D.Disk.faults c.args.user c.args.ids old mid c.delete.new.self c.stand.new.self same others c.in_ok-reserve-2.ensures.items
-          (rw c.as_slice-2.ensures at done.deletes) (ap (λ (b : Book). told_by b) rest.7 ∙ told) stand.tickets stand.standing
+      subst (λ (ids : List Id). BeginsDeletion g.D.Disk.seen g.D.Disk.faults c.args.user ids (nth_ticket (tickets_drawn c.delete.new.self + 1)) old c.stand.new.self) same_ids (strikes g.D.Disk.seen g.D.Disk.faults c.args.user c.args.ids old mid c.delete.new.self c.stand.new.self same others c.in_ok-reserve-2.ensures.items
+          (rw c.as_slice-2.ensures at done.deletes) (ap (λ (b : Book). booked_by b) rest.7 ∙ told) stand.tickets stand.standing
           (rest.0, rest.1, rest.2, rest.3, rest.4, rest.5, rest.6)),
     )
 

@@ -2,7 +2,7 @@ use Rattle.std.proofs.Common.{refl, ap, map, ◌∙◌, ◌+◌, ◌++◌, ◌�
 use Rattle.std.proofs.lemmas.Result.{err_from_is_err_and}
 use Rattle.mail_base.specs.Delivers.{mail_in}
 use Rattle.cluster_world.specs.Books.{entry_of}
-use Rattle.cluster_world.specs.World.{kept_of, gate_of, drawn_of, tickets_of, standing_of}
+use Rattle.cluster_world.specs.World.{kept_of, gate_of, drawn_of, tickets_drawn, standing_of}
 use Rattle.cluster_world.specs.Steps.{call_of, nth_ticket}
 use Rattle.cluster_world.specs.declared.step.Filing.{Filing}
 use Rattle.cluster_world.specs.declared.step.Pending.TheVariants.{Filed}
@@ -39,7 +39,7 @@ returns-in-Ok-clause-did g c = λ node within.
     let same : IsReserved old mid = record { plan = refl; drawn = refl; stamps = refl; tickets = refl; disk = refl; gate = refl; entries = c.in_ok-reserve.ensures.entries; kept = c.in_ok-reserve-3.ensures } in
     let filed = c.in-Ok.ensures in
     let stand = c.stand.ensures in
-    let number = tickets_of c.file.new.self + 1 in
+    let number = tickets_drawn c.file.new.self + 1 in
     rw stand.said (
       within,
       c.requires.up,

@@ -1,7 +1,7 @@
 use Rattle.std.proofs.Common.{rules, ◌≡◌, ℕ, ◌<◌, ◌^◌, List, ◌++◌, length, Option, sym, subst, ◌∙◌, arith, length-append}
 use Rattle.std.proofs.lemmas.Result.{err_from_is_err_and}
 use Rattle.io_edge.proofs.Passing.{keeps_none}
-use Rattle.disk_journal.specs.Journal.{Stands, end_of}
+use Rattle.disk_journal.specs.Journal.{TellsJournal, end_of}
 use Rattle.disk_journal.proofs.Images.{keeps_adds, if_told, told_after, told_all_after}
 use Rattle.disk_journal.proofs.journal.Journal.append.Goals as goal
 
@@ -23,7 +23,7 @@ returns-in_err-write_behind_gate-clause-appended g c = λ node payloads stands.
     let small : length payload < 2 ^ 32 = omega (arith, length-append c.args.head.now c.args.body.now, c.if-head-body-gt-LARGEST.false) in
     let p = err_from_is_err_and c.from_residual-in_err-write_behind_gate.result c.from_residual-in_err-write_behind_gate.ensures.1 in
     rw (p.1, p.2) (c.in_err-write_behind_gate.ensures.gated node payloads payload (c.deref.ensures.value ∙ c.in_ok-octets.ensures.octets) small
-    (subst (λ (o : Option (List ℕ)). Stands o node payloads (end_of c.args.self.now)) (sym c.reserve.ensures.seen) stands))
+    (subst (λ (o : Option (List ℕ)). TellsJournal o node payloads (end_of c.args.self.now)) (sym c.reserve.ensures.seen) stands))
 
 pub returns-in_err-write_behind_gate-clause-images : goal.returns-in_err-write_behind_gate-clause-images
 returns-in_err-write_behind_gate-clause-images g c =

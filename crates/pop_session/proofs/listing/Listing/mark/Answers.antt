@@ -1,6 +1,6 @@
 use Rattle.std.proofs.Common.{◌≡◌, ◌+◌, List, length, ap, ◌∙◌, arith}
 use Rattle.pop_session.specs.declared.listing.Slot.{Slot}
-use Rattle.pop_session.specs.Slots.{slots_seen, items_in, marked_at}
+use Rattle.pop_session.specs.Slots.{slots_seen, items_of_slots, marked_at}
 use Rattle.pop_session.proofs.Marks.{marks, items_stay, held_back}
 use Rattle.pop_session.proofs.listing.Listing.mark.Goals as goal
 
@@ -16,5 +16,5 @@ pub returns-in-Some-clause-items : goal.returns-in-Some-clause-items
 returns-in-Some-clause-items c =
     let held = c.self.inside.held in
     let back = held_back c.mark_at.new.slots held.items held.len (c.mark_at.auto.slots ∙ ap (λ (l : List Slot). length l) c.deref_mut.ensures.value) (omega (arith, held.ok.0)) in
-    ap items_in (back ∙ c.mark_at.ensures) ∙ ap (λ (l : List Slot). items_in (marked_at l c.in-Some.at)) (c.deref_mut.ensures.value ∙ c.self.view_is)
+    ap items_of_slots (back ∙ c.mark_at.ensures) ∙ ap (λ (l : List Slot). items_of_slots (marked_at l c.in-Some.at)) (c.deref_mut.ensures.value ∙ c.self.view_is)
     ∙ items_stay c.args.self.now c.in-Some.at
