@@ -85,7 +85,7 @@ Moves follows greeting plan plain due move octets = ⊥
 abbrev pub Fed : (Session → Due → Type 0) → Session → Due → List ℕ → Type 0
 Fed follows plain due octets = follows (record plain { octets = plain.octets ++ octets; rest = plain.rest ++ octets }) due
 
--- whether a move was made behind which another may come at once
+-- whether a move was made after which another may come at once
 abbrev pub IsBusy : Move → Type 0
 IsBusy Said = ⊤
 IsBusy (Begin call) = ⊤

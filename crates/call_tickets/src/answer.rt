@@ -49,7 +49,7 @@ pub enum Answer {
     },
     /// To a Fetch: a part of the message.
     Part {
-        /// Its octets: those behind the ones to be passed over, and no more than were asked for.
+        /// Its octets: those after the ones to be passed over, and no more than were asked for.
         octets: Octets,
         /// How many octets the message has.
         whole: u64,

@@ -12,7 +12,7 @@ use Rattle.cluster_model.specs.Moves.{NodeAct, IsAct, LifeWants, Opens, Content}
 use Rattle.object_model.proofs.Lists.{among_front, same_some}
 use Rattle.cluster_model.proofs.Slots.{at_same, read_after, read_before}
 
--- what records say they say with more behind them
+-- what records say they say with more after them
 pub says_more : (disk added : List Record) (fact : Fact) → SaysFact disk fact → SaysFact (disk ++ added) fact
 says_more disk added (HasCopies users id) says = λ user m. let c = says user m in record {
   state = c.state;

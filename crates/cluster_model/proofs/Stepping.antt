@@ -154,7 +154,7 @@ module _ (confirm : ℕ) (May : Id → List ℕ → Type 0) where
         (λ one e. subst (λ (l : Letter). Among l (letters_of w.flying)) (same_letter one e) (flew w number flies)) (λ user id m. absurd m) (λ content f. absurd (cc f)))
         (by_keep keep)
 
-  -- A node goes down in its work: its disk has a front of the records, and the book has it.
+  -- A node goes down in its work: its disk has a prefix of the records, and the book has it.
   module _ (w : World) (own : ℕ) (node : Node) (disk : List Record) (did : Reaction) (heard : Option Letter) (files : Option Content) (strikes : List (List ℕ × Id))
       (here : slot_at w.slots own ≡ Some (slot_up node disk)) (done : IsReady own (slot_up node disk) heard → IsCallDone (act_of own node disk did heard files strikes))
       (front pending : List Record) (cut : IsWorkCut disk did.disk front pending) where

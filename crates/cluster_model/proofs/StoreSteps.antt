@@ -88,7 +88,7 @@ module _ (own : ℕ) (updates : List Update) (Brought : Id → List ℕ → Type
     gone = λ user id s. ⊎_elim (λ old. p.gone user id old) (λ new. inr new) (q.gone user id s);
   }
 
--- records behind others leave the boot, where they are of no boot
+-- records after others leave the boot, where they are of no boot
 pub boot_both : (boot : ℕ) (records more : List Record) → boot_after boot (records ++ more) ≡ boot_after (boot_after boot records) more
 boot_both boot [] more = refl
 boot_both boot (Boot other ∷ records) more = boot_both other records more

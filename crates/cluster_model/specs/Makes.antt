@@ -209,7 +209,7 @@ pub data RunsShort (plan : Plan) (old : World) (step : Step) (n : ℕ) (new : Wo
       → new ≡ record old { slots = with_slot old.slots n (record { life = Down next; disk = records }); book = old.book ++ WentDown n ∷ [] }
       → RunsShort plan old step n new
 
--- A step is refused exactly where it has a fault, and then changes nothing. Want of memory has no cause that is told.
+-- A step is refused exactly where it has a fault, and then changes nothing. Out of memory has no cause that is told.
 abbrev pub MakesStep : Plan → World → Step → StepOutcome → World → Type 0
 MakesStep plan old step (Says said) new = (step_fault plan step old ≡ None) × DoesStep plan old step said new
 MakesStep plan old step (Refused fault) new = (step_fault plan step old ≡ Some fault) × (new ≡ old)

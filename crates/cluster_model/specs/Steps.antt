@@ -238,7 +238,7 @@ first_fault [] = None
 first_fault (None ∷ faults) = first_fault faults
 first_fault (Some fault ∷ faults) = Some fault
 
--- why a step is refused, if it is: the first that fits
+-- why a step is refused, if it is: the first that applies
 abbrev pub step_fault : Plan → Step → World → Option StepFault
 step_fault plan step w = first_fault (
     node_name_fault plan step ∷ actor_fault step w.slots (actor_of step) ∷ letter_fault step w.flying ∷ ticket_fault step w.slots ∷ worn_fault plan step w ∷ room_fault step w ∷ []

@@ -45,7 +45,7 @@ is_stale letter (Some membership) = has_epoch letter.body && not (is_same_epoch 
 abbrev pub is_late : ℕ → Node → Letter → Bool
 is_late own node letter = answers_ticket letter.body && not (is_some (ticket_at own node letter.ticket))
 
--- why the node throws the letter, if it does: the first that fits
+-- why the node throws the letter, if it does: the first that applies
 abbrev pub thrown_by : ℕ → Node → Letter → Option Why
 thrown_by own node letter = if is_stale letter node.installed then Some Stale else (if is_late own node letter then Some Late else None)
 

@@ -98,7 +98,7 @@ holds_behind seen records first second h = record {
   holds = subst (λ (l : List Record). IfSome seen (HoldsRecords l)) (append_assoc records first h.added) h.holds;
 }
 
--- some records, and then a front of more
+-- some records, and then a prefix of more
 pub stops_more : (old mid new : Option (List ℕ)) (end end' before between : ℕ) (first second : List Record)
     → AppendsAll old mid end end' before between first → StopsAppending mid new end' second → StopsAppending old new end (first ++ second)
 stops_more old mid new end end' before between first second a b = record {
@@ -109,11 +109,11 @@ holds_all : (seen : Option (List ℕ)) (records wanted : List Record) (end : ℕ
 holds_all None records wanted end stands = record { added = wanted; missing = []; front = sym (append-nil wanted); holds = tt }
 holds_all (Some held) records wanted end stands = record { added = wanted; missing = []; front = sym (append-nil wanted); holds = stands.journal }
 
--- all of the records are a front of them
+-- all of the records are a prefix of them
 pub all_stop : (old new : Option (List ℕ)) (end end' before now : ℕ) (wanted : List Record) → AppendsAll old new end end' before now wanted → StopsAppending old new end wanted
 all_stop old new end end' before now wanted a = record { holds = λ records stands. holds_all new records wanted end' (a.stand records stands) }
 
--- a front of these is a front of more
+-- a prefix of these is a prefix of more
 pub stops_before : (old new : Option (List ℕ)) (end : ℕ) (first second : List Record) → StopsAppending old new end first → StopsAppending old new end (first ++ second)
 stops_before old new end first second stops = record {
   holds = λ records stands. let h = stops.holds records stands in record {
@@ -124,7 +124,7 @@ stops_before old new end first second stops = record {
   };
 }
 
--- the count rose behind where it had not fallen
+-- the count rose after where it had not fallen
 pub rose_later : (before between now : ℕ) → before ≤ between → Rose between now → Rose before now
 rose_later before between now later rose = omega (arith, rose)
 
@@ -158,7 +158,7 @@ copy_failed S T old mid new end end' end'' before between now id stamp users i u
 copy_failed S T old mid new end end' end'' before between now id stamp users i user NoMemory within is front wrote =
     (stops_in_copies old mid new end end' before between id stamp users i user within is front wrote.0, omega (arith, front.quiet, wrote.1))
 
--- behind its kind and its id, a head has the trace lines
+-- after its kind and its id, a head has the trace lines
 lines_behind : (seq : ℕ) (lines : List ℕ) → drop 14 (payload_of (Octets (nth_id seq) lines)) ≡ lines
 lines_behind seq lines = refl
 

@@ -5,7 +5,7 @@ use Rattle.std.proofs.lemmas.Option.{slice_get_read}
 use Rattle.mail_base.specs.declared.ticket.Ticket.{Ticket}
 use Rattle.cluster_world.specs.declared.step.Standing.{Standing}
 
--- the call at this place, and those before and behind it
+-- the call at this place, and those before and after it
 pub taken_out : (stood : List Standing) (place : ℕ) (standing : Standing) (ticket : Ticket) → place < length stood → standing ≡ get_or stood place standing
     → IfSome (slice_get stood place) (λ other. other.ticket ≡ ticket)
     → stood ≡ take place stood ++ record { ticket = ticket; pending = standing.pending } ∷ drop (place + 1) stood

@@ -22,7 +22,7 @@ use Rattle.cluster_world.proofs.Recalled.{recalls_same}
 use Rattle.cluster_world.proofs.Gone.{recalls_left}
 use Rattle.cluster_world.proofs.Down.{IsReserved}
 
--- a book with entries behind those that it had
+-- a book with entries after those that it had
 pub booked : (first more last : Book) (entries : List Entry) (told : List BookEntry) → entries_of more ≡ entries_of first → entries_of last ≡ entries_of more ++ entries
     → map entry_of entries ≡ told → booked_by last ≡ booked_by first ++ told
 booked first more last entries told same added are =

@@ -16,7 +16,7 @@ use Rattle.cluster_world.proofs.Recalled.{recalls_more}
 use Rattle.cluster_world.proofs.Appended.{appends_more, stops_more, stops_before, rose_later}
 
 module _ {D : Type 0} (seen : D → Option (List ℕ)) (faults : D → ℕ) (mail : Mail) (old new : World D) where
-  -- a front of the message's records follows those that stood
+  -- a prefix of the message's records follows those that stood
   falls : (octets : List ℕ) → IsStored mail (nth_id (drawn_of old + 1)) 0 octets → StopsAppending (seen (disk_of old)) (seen (disk_of new)) (gate_of old) (message_records (nth_id (drawn_of old + 1)) (nth_stamp (stamps_of old + 1)) octets mail.mailboxes)
       → FilesInPart seen mail old new
   falls octets stored stops = record { holds = λ records stands. record { octets = octets; stored = stored; front = stops.holds records stands } }

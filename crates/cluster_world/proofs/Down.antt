@@ -68,7 +68,7 @@ module _ {D : Type 0} (seen : D → Option (List ℕ)) (faults : D → ℕ) (mai
         record { octets = some.octets; stored = rw same.drawn at some.stored; front = rw disk front };
   }
 
-  -- a front of the message was filed, and then the node went down
+  -- a prefix of the message was filed, and then the node went down
   pub goes_down : IsReserved old mid → BreaksFiling seen faults mail mid filed → plan_of filed ≡ plan_of mid → tickets_drawn filed ≡ tickets_drawn mid → filed.book ≡ mid.book
       → (plan_of new ≡ plan_of filed) × (drawn_of new ≡ drawn_of filed) × (stamps_of new ≡ stamps_of filed) × (tickets_drawn new ≡ tickets_drawn filed) × (disk_of new ≡ disk_of filed)
       → IsFalse (is_up new) → standing_of new ≡ [] → book_of new ≡ book_of filed ++ WentDown 1 ∷ [] → GoesDownFiling seen faults mail old new

@@ -80,7 +80,7 @@ shown_left own ids false true false id octets = refl
 shown_left own ids false false true id octets = refl
 shown_left own ids false false false id octets = refl
 
--- the listing of a user behind Gone states
+-- the listing of a user after Gone states
 module _ (owner user : List ℕ) (count : ℕ) (ids : List Id) where
   abbrev added : List Record
   added = gone_records owner count ids

@@ -193,7 +193,7 @@ module _ (n : ℕ) (stamp : Stamp) (octets : List ℕ) (mailboxes : List (List �
       ∙ ap (λ (b : Bool). (if pointwise nat_eq name user && true && not b then kept_seen kept ∷ [] else []) ++ items_in user all (copies_of (nth_id (n + 1)) stamp names)) there
       ∙ one_more (pointwise nat_eq name user) kept _ _ (new_items user all kept names own size known there)
 
-  -- the listing behind the message
+  -- the listing after the message
   pub listing_more : (user : List ℕ) (records : List Record) (kept : Kept) → AreDrawn n records → kept.id ≡ nth_id (n + 1) → kept.place.length ≡ length octets
       → listing_of user (records ++ new_records) ≡ listing_of user records ++ map kept_seen (added_for user mailboxes kept)
   listing_more user records kept drawn own size =

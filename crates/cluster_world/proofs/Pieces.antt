@@ -1,4 +1,4 @@
--- Pieces that are put behind one another.
+-- Pieces that are put after one another.
 use Rattle.std.proofs.Common.{◌≡◌, ℕ, List, [], ◌++◌, ap, ◌∙◌, append_assoc}
 use Rattle.std.proofs.lemmas.List.{append-nil}
 
@@ -24,6 +24,6 @@ five_are old i1 i2 i3 i4 i5 a b c d e v w x y z p1 p2 p3 p4 p5 is_v is_w is_x is
     let front = three_are old i1 i2 i3 a b c v w x p1 p2 p3 is_v is_w is_x in
     let whole = three_more old i3 i4 i5 (v ++ w ++ x) d e front p4 p5 in cc
 
--- a head with nothing behind it
+-- a head with nothing after it
 pub no_body : (given head payload : List ℕ) → given ≡ head → head ≡ payload → given ++ [] ≡ payload
 no_body given head payload is spelt = append-nil given ∙ is ∙ spelt

@@ -26,7 +26,7 @@ frames_of records = flat_map framed (payloads_of records)
 frames-append : (records more : List Record) → frames_of (records ++ more) ≡ frames_of records ++ frames_of more
 frames-append records more = ap (λ (l : List (List ℕ)). flat_map framed l) (map-append payload_of records more) ∙ flat_map-append framed (payloads_of records) (payloads_of more)
 
--- two lists of records, one behind the other
+-- two lists of records, one after the other
 pub length-frames-append : (records more : List Record) → length (frames_of (records ++ more)) ≡ length (frames_of records) + length (frames_of more)
 length-frames-append records more = ap length (frames-append records more) ∙ length-append (frames_of records) (frames_of more)
 

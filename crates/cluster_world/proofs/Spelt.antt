@@ -55,7 +55,7 @@ gone_records_are user stamps (id ∷ ids) below name own =
     (gone_is user id (stamps + 1) (omega (arith, below)) name (All-head IsId id ids own))
     (gone_records_are user (stamps + 1) ids (omega (arith, below)) name (All-tail IsId id ids own))
 
--- a front of such records
+-- a prefix of such records
 pub front_is : (front missing : List Record) → All IsRecord (front ++ missing) → All IsRecord front
 front_is [] missing all = All-nil IsRecord
 front_is (entry ∷ front) missing all =

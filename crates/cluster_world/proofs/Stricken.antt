@@ -32,7 +32,7 @@ module _ (user : List ℕ) (count : ℕ) (ids : List Id) (i : ℕ) (id : Id) (wi
       ∙ gone-append user count (take i ids) (id ∷ [])
       ∙ ap (λ (n : ℕ). gone_records user count (take i ids) ++ gone_records user (count + n) (id ∷ [])) so_many
 
-  -- the states so far are a front of all
+  -- the states so far are a prefix of all
   gone_split : gone_records user count ids ≡ gone_records user count (take (i + 1) ids) ++ gone_records user (count + length (take (i + 1) ids)) (drop (i + 1) ids)
   gone_split = ap (λ (l : List Id). gone_records user count l) (sym (take-append-drop (i + 1) ids)) ∙ gone-append user count (take (i + 1) ids) (drop (i + 1) ids)
 
@@ -71,7 +71,7 @@ pub settled_yet : {D : Type 0} (settled : D → Type 0) (ids : List Id) (old new
 settled_yet settled [] old new behind sure = behind sure
 settled_yet settled (id ∷ ids) old new behind sure = behind
 
--- behind one state more the disk is settled
+-- after one state more the disk is settled
 pub settled_more : {D : Type 0} (settled : D → Type 0) (ids : List Id) (i : ℕ) (id : Id) (old new : D) → i < length ids → id ≡ get_or ids i id
     → settled new → SettledBehind settled (take (i + 1) ids) old new
 settled_more settled ids i id old new within is sure =

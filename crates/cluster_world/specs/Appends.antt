@@ -17,7 +17,7 @@ use Rattle.cluster_world.specs.declared.append.DeliverFault.TheVariants.{Disk, N
 abbrev pub RecordsStand : Option (List ℕ) → List Record → ℕ → Type 0
 RecordsStand seen records end = TellsJournal seen 1 (payloads_of records) end
 
--- The octets are told, and are the journal of node 1 with these records and a front of those that were to follow.
+-- The octets are told, and are the journal of node 1 with these records and a prefix of those that were to follow.
 pub record HoldsFront (seen : Option (List ℕ)) (records wanted : List Record) : Type 0 where
   pub added : List Record
   pub missing : List Record
@@ -31,7 +31,7 @@ pub record AppendsAll (old new : Option (List ℕ)) (end end' before now : ℕ) 
   pub stand : (records : List Record) → RecordsStand old records end → RecordsStand new (records ++ wanted) end'
   pub grew : end' ≡ end + length (flat_map framed (payloads_of wanted))
 
--- a front of them follows those that stood
+-- a prefix of them follows those that stood
 pub record StopsAppending (old new : Option (List ℕ)) (end : ℕ) (wanted : List Record) : Type 0 where
   pub holds : (records : List Record) → RecordsStand old records end → HoldsFront new records wanted
 
@@ -53,7 +53,7 @@ pub record IsHead (mail : Mail) (seq : ℕ) (head : List ℕ) : Type 0 where
   pub dated : IsDate 0 date
   pub whole : head ≡ payload_of (Octets (nth_id seq) (trace_lines mail (nth_id seq) date))
 
--- the message's octets were appended, behind the gate, the length, the kind and the id
+-- the message's octets were appended, after the gate, the length, the kind and the id
 pub record AppendsMail (old new : Option (List ℕ)) (end end' before now : ℕ) (mail : Mail) (seq : ℕ) (measure : Measure) : Type 0 where
   pub octets : List ℕ
   pub stored : IsStored mail (nth_id seq) 0 octets
@@ -62,14 +62,14 @@ pub record AppendsMail (old new : Option (List ℕ)) (end end' before now : ℕ)
   pub digest : measure.digest ≡ sha256 octets
   pub appends : AppendsAll old new end end' before now (Octets (nth_id seq) octets ∷ [])
 
--- what was done to the journal where a message's octets were to be appended: want of memory leaves it as it was
+-- what was done to the journal where a message's octets were to be appended: out of memory leaves it as it was
 abbrev pub WroteMail : Result Measure DeliverFault → Option (List ℕ) → Option (List ℕ) → ℕ → ℕ → ℕ → ℕ → Mail → ℕ → Type 0
 WroteMail (Ok measure) old new end end' before now mail seq = AppendsMail old new end end' before now mail seq measure
 WroteMail (Err Disk) old new end end' before now mail seq =
     ((octets : List ℕ) × IsStored mail (nth_id seq) 0 octets × StopsAppending old new end (Octets (nth_id seq) octets ∷ [])) × (before ≤ now) × Rose before now
 WroteMail (Err NoMemory) old new end end' before now mail seq = IsUntouched old new end end' before now
 
--- behind records of these messages the disk is settled, and behind those of none it is where it was
+-- after records of these messages the disk is settled, and after those of none it is where it was
 abbrev pub SettledBehind : {D : Type 0} → (D → Type 0) → List Id → D → D → Type 0
 SettledBehind settled [] old new = settled old → settled new
 SettledBehind settled (id ∷ ids) old new = settled new

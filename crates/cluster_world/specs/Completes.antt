@@ -22,7 +22,7 @@ use Rattle.cluster_world.specs.declared.step.StepFault.TheVariants.{NoSuchNode, 
 use Rattle.cluster_world.specs.declared.step.Pending.TheVariants.{Found}
 use Rattle.cluster_world.specs.declared.step.Standing.{Standing}
 
--- the call has begun or is noted, or memory was wanting
+-- the call has begun or is noted, or memory ran out
 abbrev pub IsCallBegun : Result Said StepFault → Type 0
 IsCallBegun (Ok (Begun ticket stirs)) = ⊤
 IsCallBegun (Ok Noted) = ⊤
@@ -34,7 +34,7 @@ IsCallBegun (Err NoSuchTicket) = ⊥
 IsCallBegun (Err Worn) = ⊥
 IsCallBegun (Err (NoMemory down)) = ⊤
 
--- the call is answered, or memory was wanting
+-- the call is answered, or memory ran out
 abbrev pub IsAnswer : Result Said StepFault → Type 0
 IsAnswer (Ok (Begun ticket stirs)) = ⊥
 IsAnswer (Ok Noted) = ⊥
@@ -47,7 +47,7 @@ IsAnswer (Err NoSuchTicket) = ⊥
 IsAnswer (Err Worn) = ⊥
 IsAnswer (Err (NoMemory down)) = ⊤
 
--- A call at a node that is up and has numbers left begins where the disk has no mishap, and is answered where it is asked for; want of memory alone is in the way.
+-- A call at a node that is up and has numbers left begins where the disk has no mishap, and is answered where it is asked for; out of memory alone is in the way.
 abbrev pub Completes : {D : Type 0} → (D → Option (List ℕ)) → (D → ℕ) → Result Said StepFault → Step → World D → World D → Type 0
 Completes seen faults result (Begin node call) old new =
     node ≤ (plan_of old).nodes → IsTrue (is_up old) → HasNumbers call old → IsSound seen old → (HasMishap seen faults call old new → ⊥) → IsCallBegun result

@@ -24,7 +24,7 @@ pub record IsAtNode1 (item : Item) : Type 0 where
   pub targets : item.targets ≡ 1
   pub holders : item.holders ≡ 1
 
--- what a read of this place gives: all its octets, or the disk failed or ended too early; want of memory comes before the disk is asked
+-- what a read of this place gives: all its octets, or the disk failed or ended too early; out of memory comes before the disk is asked
 abbrev pub HasRead : Result (List ℕ) JournalFault → Place → Option (List ℕ) → ℕ → ℕ → Type 0
 HasRead (Ok octets) place seen before now =
     (length octets ≡ place.length) × IfSome seen (λ held. octets ≡ take place.length (drop place.at held)) × (now ≡ before)
@@ -40,7 +40,7 @@ AnswersLogin (Listed login manager asked items) plan user proof ticket row =
 AnswersLogin (Wrong stamp) plan user proof ticket row = (is_right plan user proof ≡ false) × (stamp ≡ record { count = 0; boot = 0; node = 0 })
 AnswersLogin answer plan user proof ticket row = ⊥
 
--- the octets lie behind so many of those at the place, and are so many at most
+-- the octets lie after so many of those at the place, and are so many at most
 pub record IsPartAt (place : Place) (start most : ℕ) (octets : List ℕ) (seen : Option (List ℕ)) : Type 0 where
   pub count : length octets ≡ min most (place.length - start)
   pub part : IfSome seen (λ held. octets ≡ take (min most (place.length - start)) (drop (place.at + min start place.length) held))

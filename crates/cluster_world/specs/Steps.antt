@@ -67,7 +67,7 @@ pub record IsAsBefore {D : Type 0} (seen : D → Option (List ℕ)) (faults : D 
   pub count : faults (disk_of new) ≡ faults (disk_of old)
   pub fits : (records : List Record) → MemoryFits records old → MemoryFits records new
 
--- The node has gone down as a message was filed: a front of the message's records is on its disk, its calls are gone, and the book says that it is down.
+-- The node has gone down as a message was filed: a prefix of the message's records is on its disk, its calls are gone, and the book says that it is down.
 pub record GoesDownFiling {D : Type 0} (seen : D → Option (List ℕ)) (faults : D → ℕ) (mail : Mail) (old new : World D) : Type 0 where
   pub plan : plan_of new ≡ plan_of old
   pub down : IsFalse (is_up new)
@@ -143,7 +143,7 @@ pub record BeginsDeletion {D : Type 0} (seen : D → Option (List ℕ)) (faults 
   pub ticket_is : ticket ≡ nth_ticket (tickets_drawn old + 1)
   pub standing : standing_of new ≡ standing_of old ++ call_of ticket (Struck user ids) ∷ []
 
--- The node has gone down as copies were deleted: a front of the Gone states is on its disk, its calls are gone, and the book says that each was to be deleted,
+-- The node has gone down as copies were deleted: a prefix of the Gone states is on its disk, its calls are gone, and the book says that each was to be deleted,
 -- and that the node is down.
 pub record StopsDeleting {D : Type 0} (seen : D → Option (List ℕ)) (faults : D → ℕ) (user : List ℕ) (ids : List Id) (old new : World D) : Type 0 where
   pub plan : plan_of new ≡ plan_of old

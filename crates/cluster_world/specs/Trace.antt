@@ -24,7 +24,7 @@ lines_of trace date = trace_lines (traced_mail trace) trace.id date
 abbrev pub year_10000 : ℕ
 year_10000 = 253_402_300_800
 
--- the trace lines stand behind what was there, with the date of that second; or nothing was changed
+-- the trace lines stand after what was there, with the date of that second; or nothing was changed
 abbrev pub Traced : {T : Type 0} → Result T TraceFault → Trace → List ℕ → List ℕ → Type 0
 Traced (Ok _) trace old new = (date : List ℕ) × IsDate trace.seconds date × (new ≡ old ++ lines_of trace date)
 Traced (Err YearTooLarge) trace old new = (year_10000 ≤ trace.seconds) × (new ≡ old)

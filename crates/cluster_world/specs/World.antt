@@ -130,13 +130,13 @@ pub record Files {D : Type 0} (seen : D → Option (List ℕ)) (mail : Mail) (me
   pub fits : (records : List Record) → MemoryFits records old
       → MemoryFits (records ++ message_records (nth_id (drawn_of old + 1)) (nth_stamp (stamps_of old + 1)) octets mail.mailboxes) new
 
--- some of the message's records are on the disk behind those that were there
+-- some of the message's records are on the disk after those that were there
 pub record HoldsSome {D : Type 0} (seen : D → Option (List ℕ)) (mail : Mail) (records : List Record) (old new : World D) : Type 0 where
   pub octets : List ℕ
   pub stored : IsStored mail (nth_id (drawn_of old + 1)) 0 octets
   pub front : HoldsFront (seen (disk_of new)) records (message_records (nth_id (drawn_of old + 1)) (nth_stamp (stamps_of old + 1)) octets mail.mailboxes)
 
--- The message is not on the disk, or a front of its records is.
+-- The message is not on the disk, or a prefix of its records is.
 pub record FilesInPart {D : Type 0} (seen : D → Option (List ℕ)) (mail : Mail) (old new : World D) : Type 0 where
   pub holds : (records : List Record) → WorldHolds seen records old → HoldsSome seen mail records old new
 
@@ -150,7 +150,7 @@ pub record IsUnwritten {D : Type 0} (seen : D → Option (List ℕ)) (faults : D
   pub count : faults (disk_of new) ≡ faults (disk_of old)
   pub kept : (user : List ℕ) → kept_of user new ≡ kept_of user old
 
--- a front of the message's records may be there, and the node is down
+-- a prefix of the message's records may be there, and the node is down
 pub record BreaksFiling {D : Type 0} (seen : D → Option (List ℕ)) (faults : D → ℕ) (mail : Mail) (old new : World D) : Type 0 where
   pub falls : FilesInPart seen mail old new
   pub down : IsFalse (is_up new)
@@ -172,7 +172,7 @@ pub record Deleted {D : Type 0} (seen : D → Option (List ℕ)) (faults : D →
   pub appends : AppendsAll (seen (disk_of old)) (seen (disk_of new)) (gate_of old) (gate_of new) (faults (disk_of old)) (faults (disk_of new)) (gone_records user (stamps_of old) ids)
   pub left : (other : List ℕ) → kept_of other new ≡ left_for other user ids (kept_of other old)
 
--- a front of the Gone states may be there, and the node is down
+-- a prefix of the Gone states may be there, and the node is down
 pub record DeletedSome {D : Type 0} (seen : D → Option (List ℕ)) (faults : D → ℕ) (user : List ℕ) (ids : List Id) (old new : World D) : Type 0 where
   pub down : IsFalse (is_up new)
   pub drawn : drawn_of new ≡ drawn_through (drawn_of old) ids

@@ -25,7 +25,7 @@ use std::alloc::{AllocError, Global};
 pub(crate) enum DeliverFault {
     /// The disk failed.
     Disk,
-    /// Want of memory.
+    /// Out of memory.
     NoMemory,
 }
 
@@ -108,7 +108,7 @@ fn append_copy<D: Disk>(
     append_record(alloc, journal, disk, &payload, &[])
 }
 
-/// Appends the state that the user's copy of the message is gone, with the stamp behind that of this count.
+/// Appends the state that the user's copy of the message is gone, with the stamp after that of this count.
 fn append_one_gone<D: Disk>(
     alloc: Global,
     journal: &mut Journal,
@@ -185,7 +185,7 @@ pub(crate) fn append_copies<D: Disk>(
     Ok(())
 }
 
-/// How the payload of the message's octets begins. Its year is 1970, so that nothing but memory can be wanting.
+/// How the payload of the message's octets begins. Its year is 1970, so that only memory can run out.
 fn message_head(alloc: Global, deliver: &Deliver, seq: u64) -> Result<Vec<u8>, AllocError>
     requires small { IsMessageWithinLimits deliver.now }
     requires drawn { 0 < seq }

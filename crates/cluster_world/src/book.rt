@@ -74,7 +74,7 @@ impl Book {
     ///
     /// # Errors
     ///
-    /// Only want of memory; the book is then as before.
+    /// Out of memory alone; the book is then as before.
     pub fn reserve(&mut self, extra: usize) -> Result<(), AllocError>
         ensures entries { entries_of self.new ≡ entries_of self.old }
         ensures spare { OnOk result (extra ≤ spare_of self.new) }
@@ -82,7 +82,7 @@ impl Book {
         self.entries.reserve(extra)
     }
 
-    /// Puts the entry behind the others, into room that was made before. It takes no memory.
+    /// Puts the entry after the others, into room that was made before. It takes no memory.
     pub fn add(&mut self, entry: Entry)
         requires { 0 < spare_of self.old }
         ensures entries { entries_of self.new ≡ entries_of self.old ++ entry ∷ [] }
@@ -91,7 +91,7 @@ impl Book {
         self.entries.push_reserved(entry);
     }
 
-    /// Puts the entries behind the others, into room that was made before. It takes no memory.
+    /// Puts the entries after the others, into room that was made before. It takes no memory.
     pub(crate) fn add_all(&mut self, entries: Vec<Entry>)
         requires { length entries.items ≤ spare_of self.old }
         ensures entries { entries_of self.new ≡ entries_of self.old ++ entries.items }

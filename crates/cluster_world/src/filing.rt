@@ -126,7 +126,7 @@ impl<D: Disk> World<D> {
         ensures settled_while_up { IsTrue (is_up self.new) → D.settled (disk_of self.old) → D.settled (disk_of self.new) }
         ensures told { IsToldAlike (D.seen (disk_of self.old)) (D.seen (disk_of self.new)) }
     {
-        // So that want of memory is met before anything is written.
+        // So that memory runs out, if it does, before anything is written.
         self.book.reserve(1)?;
         self.standing.reserve(1)?;
         self.index

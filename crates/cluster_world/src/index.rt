@@ -99,7 +99,7 @@ impl Index {
     ///
     /// # Errors
     ///
-    /// Only want of memory. No user's messages are changed in either case.
+    /// Out of memory alone. No user's messages are changed in either case.
     pub(crate) fn reserve(
         &mut self,
         alloc: Global,
@@ -123,7 +123,7 @@ impl Index {
         }
     }
 
-    // Puts the message behind the others of this user.
+    // Puts the message after the others of this user.
     fn add_for(&mut self, alloc: Global, user: &Name, kept: &Kept) -> Result<(), AllocError>
         ensures { OnOk result ((other : List ℕ) → kept_in other self.new ≡ kept_in other self.old ++ added_for other (user.now ∷ []) kept.now) }
     {
@@ -135,11 +135,11 @@ impl Index {
         Ok(())
     }
 
-    /// Puts the message behind the others of each of these users.
+    /// Puts the message after the others of each of these users.
     ///
     /// # Errors
     ///
-    /// Only want of memory; some of the users may then have it.
+    /// Out of memory alone; some of the users may then have it.
     pub(crate) fn add(
         &mut self,
         alloc: Global,

@@ -56,12 +56,12 @@
 //! FAULTS AND REFUSALS
 //!
 //! Where the disk fails in a step, the step says `Faulted`: the node is down, its tickets stand no more, the
-//! book says that it went down, and of a message that was being filed, or of a deletion, a front of its
+//! book says that it went down, and of a message that was being filed, or of a deletion, a prefix of its
 //! records may be on the disk. A read that comes to the disk's end before the place's end is such a failure
 //! too; a disk that tells its octets has no such end. Where memory runs out, the step is refused: nothing has
 //! changed, or some of its records were written, and the node is down as if its disk had failed. Room in the
 //! index is made before anything is written, for one entry a user; so only a message that names a user twice
-//! may find memory wanting after its last record. Room in the book is made before anything is written too.
+//! may find no memory after its last record. Room in the book is made before anything is written too.
 //! Other refusals change nothing. The book only grows, and an entry of it is never changed.
 //!
 //! COSTS

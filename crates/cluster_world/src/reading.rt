@@ -98,7 +98,7 @@ fn read_at<D: Disk>(
     }
 }
 
-/// What a fetch is answered of a message that was found at this place: the octets behind `from` ones, `most` at most. It
+/// What a fetch is answered of a message that was found at this place: the octets after `from` ones, `most` at most. It
 /// reads these octets and no others.
 pub(crate) fn fetch_answer<D: Disk>(
     alloc: Global,

@@ -54,7 +54,7 @@ impl Row {
     ///
     /// # Errors
     ///
-    /// Only want of memory. The messages stay the same in either case.
+    /// Out of memory alone. The messages stay the same in either case.
     pub(crate) fn reserve(&mut self, id: MsgId) -> Result<(), AllocError>
         ensures { self.new.kept.items ≡ self.old.kept.items }
     {
@@ -62,11 +62,11 @@ impl Row {
         make_room(&mut self.places, id)
     }
 
-    /// Puts the message behind the others.
+    /// Puts the message after the others.
     ///
     /// # Errors
     ///
-    /// Only want of memory, for which room can be made before.
+    /// Out of memory alone, for which room can be made before.
     pub(crate) fn push(&mut self, kept: Kept) -> Result<(), AllocError>
         ensures { OnOk result (self.new.kept.items ≡ self.old.kept.items ++ kept ∷ []) }
     {

@@ -43,7 +43,7 @@ pub enum Said {
     Faulted(NodeNo),
 }
 
-/// Why a step was refused, the first of these that fits. All but `NoMemory` leave the world as it was.
+/// Why a step was refused, the first of these that applies. All but `NoMemory` leave the world as it was.
 #[derive(Clone, Copy, Debug, PartialEq, Eq)]
 pub enum StepFault {
     /// The plan has no such node.
@@ -54,7 +54,7 @@ pub enum StepFault {
     NoSuchTicket,
     /// The node has too few numbers left for the call: for its ticket, its message, or the stamps of its states.
     Worn,
-    /// Want of memory. The world is as it was; or this node is down, with some of the step's records on its disk.
+    /// Out of memory. The world is as it was; or this node is down, with some of the step's records on its disk.
     NoMemory {
         /// The node that is down, if one is.
         down: Option<NodeNo>,

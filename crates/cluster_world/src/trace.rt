@@ -30,7 +30,7 @@ pub struct Trace<'a> {
 pub enum TraceFault {
     /// The date is in the year 10000 or later.
     YearTooLarge,
-    /// Want of memory.
+    /// Out of memory.
     NoMemory,
 }
 
@@ -113,7 +113,7 @@ fn trace_text(alloc: Global, trace: &Trace<'_>, date: HttpDate) -> Result<Vec<u8
     Ok(text)
 }
 
-/// Puts the trace lines behind the octets in `out`. The year 10000 is refused before want of memory, and a refusal
+/// Puts the trace lines after the octets in `out`. The year 10000 is refused before memory is asked for, and a refusal
 /// leaves `out` as it was.
 pub fn trace_into(alloc: Global, out: &mut Vec<u8>, trace: &Trace<'_>) -> Result<(), TraceFault>
     ensures { Traced result trace.now out.old.items out.new.items }

@@ -31,7 +31,7 @@ use std::alloc::{AllocError, Global};
 pub enum OpenFault {
     /// The disk of this node failed.
     DiskFault(NodeNo),
-    /// Want of memory.
+    /// Out of memory.
     NoMemory,
 }
 
@@ -391,7 +391,7 @@ impl<D: Disk> World<D> {
     /// - A deletion puts the state that the user's copy is gone on the disk for each of its ids, in order, each with a stamp
     ///   of its own. That costs four disk calls for each. The user's listings then have none of these messages, and no
     ///   fetch of the user's finds them; other users' copies stay. The book has an entry for each as the call begins, also
-    ///   where the disk fails in it, or memory runs out behind the first that was written.
+    ///   where the disk fails in it, or memory runs out after the first that was written.
     /// - A `Leave` changes nothing, and is `Noted`.
     ///
     /// `Faulted` comes only where the disk failed, or ended before a message's octets do, which a disk that tells its
@@ -403,8 +403,8 @@ impl<D: Disk> World<D> {
     ///
     /// # Errors
     ///
-    /// The first that fits of `NoSuchNode`, `NodeDown`, `NoSuchTicket` and `Worn`, exactly where they say, and nothing is
-    /// changed; or `NoMemory`: nothing is changed, or the node is down with a front of the call's records on its disk.
+    /// The first that applies of `NoSuchNode`, `NodeDown`, `NoSuchTicket` and `Worn`, exactly where they say, and nothing is
+    /// changed; or `NoMemory`: nothing is changed, or the node is down with a prefix of the call's records on its disk.
     pub fn step(&mut self, alloc: Global, step: Step) -> Result<Said, StepFault>
         requires gate { IsTrue (is_up self.old) → ShowsGate D.seen self.old }
         ensures stepped { Stepped D.seen D.faults result step (with_step_counted self.old) self.new }

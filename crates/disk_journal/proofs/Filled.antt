@@ -3,7 +3,7 @@ use Rattle.std.proofs.Common.{◌≡◌, ℕ, ◌+◌, ◌≤◌, List, ◌++◌
 use Rattle.std.proofs.lemmas.List.{drop-drop, length-take-le, take-append-le}
 use Rattle.std.proofs.Math.Seq.{take-add, take-append-add}
 
--- one piece more, which was read into the octets behind those that were filled
+-- one piece more, which was read into the octets after those that were filled
 pub filled_more : (seen told : Option (List ℕ)) (into read behind : List ℕ) (at filled count : ℕ) → filled ≤ length into → count ≤ length read → told ≡ seen
     → IfSome seen (λ held. take filled into ≡ take filled (drop at held)) → IfSome told (λ held. take count read ≡ take count (drop (at + filled) held))
     → IfSome seen (λ held. take (filled + count) (take filled into ++ (read ++ behind)) ≡ take (filled + count) (drop at held))

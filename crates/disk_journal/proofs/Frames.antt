@@ -45,7 +45,7 @@ pub record IsLeft (tail : List ℕ) (gate : ℕ) (others : List ℕ) : Type 0 wh
   pub short : AreShort more
   pub are : tail ≡ flat_map framed more ++ gate ∷ others
 
--- octets that begin with records and are records up to a closed gate have this gate behind what follows the first ones
+-- octets that begin with records and are records up to a closed gate have this gate after what follows the first ones
 left_behind : (p q : List (List ℕ)) (tail : List ℕ) (gate : ℕ) (others : List ℕ) → AreShort p → AreShort q → gate ≢ 0xA5
     → flat_map framed p ++ tail ≡ flat_map framed q ++ gate ∷ others → IsLeft tail gate others
 left_behind [] q tail gate others short_p short_q closed same = record { more = q; short = short_q; are = same }
@@ -62,7 +62,7 @@ never_left held at gate others closed cut [] short are = cut.no_gate gate others
 never_left held at gate others closed cut (first ∷ more) short are =
     cut.no_record first (flat_map framed more ++ gate ∷ others) short.0 (are ∙ append_assoc (framed first) (flat_map framed more) (gate ∷ others))
 
--- The octets begin with these records, which lie at these places, and have an octet or an end behind them.
+-- The octets begin with these records, which lie at these places, and have an octet or an end after them.
 pub record HasRead (node : ℕ) (held : List ℕ) (end : ℕ) (places : List Place) : Type 0 where
   pub payloads : List (List ℕ)
   pub whole : held ≡ journal_of node payloads ++ drop end held

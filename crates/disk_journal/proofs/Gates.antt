@@ -1,4 +1,4 @@
--- What a journal is while a record is written behind its closed gate, and once that gate is open.
+-- What a journal is while a record is written after its closed gate, and once that gate is open.
 use Rattle.std.proofs.Common.{◌≡◌, ◌≢◌, ◌⊎◌, inl, inr, ⊎_elim, IfSome, MatchOption, get_or, ℕ, ◌+◌, ◌<◌, ◌≤◌, ◌^◌, List, [], ◌∷◌, ◌++◌, length, take, drop, Option, Some, None, Result, Ok, Err, refl, sym, ap, subst, ◌∙◌, arith, append_assoc, length-append, flat_map}
 use Rattle.std.proofs.lemmas.List.{take_at, drop_at, take-append-drop, drop_more, length-take-le}
 use Rattle.std.proofs.lemmas.Bool.{cases_eq}
@@ -10,7 +10,7 @@ use Rattle.io_edge.proofs.Torn.{torn_by}
 use Rattle.mail_model.specs.Record.{IsJournal, journal_of, header_of, framed, AreShort}
 use Rattle.disk_journal.specs.Journal.{EndsAt, TellsJournal, Gated, HoldsEither, HasGate, behind_gate}
 
--- a closed gate stands at `end`, and behind it these octets
+-- a closed gate stands at `end`, and after it these octets
 pub record Behind (node : ℕ) (held : List ℕ) (payloads : List (List ℕ)) (end : ℕ) (octets : List ℕ) : Type 0 where
   pub gate : ℕ
   pub rest : List ℕ
@@ -25,7 +25,7 @@ through_gate front gate others end e =
     ap (λ (l : List ℕ). take (end + 1) l) (sym (append_assoc front (gate ∷ []) others))
     ∙ take_at (front ++ gate ∷ []) others (end + 1) (length-append front (gate ∷ []) ∙ (let k : length front + 1 ≡ end + 1 = omega arith in k))
 
--- a failed write behind the gate leaves the journal
+-- a failed write after the gate leaves the journal
 pub still_closed : (node end n : ℕ) (payloads : List (List ℕ)) (held new : List ℕ) → EndsAt node held payloads end → Torn (end + 1) n held new → IsJournal node new payloads
 still_closed node end n payloads held new stands torn =
     let front = journal_of node payloads in
@@ -40,7 +40,7 @@ still_closed node end n payloads held new stands torn =
       short = stands.journal.short;
     }
 
--- a write behind the gate that was done
+-- a write after the gate that was done
 pub written_behind : (node end : ℕ) (payloads : List (List ℕ)) (octets held new : List ℕ) → EndsAt node held payloads end → Holds held (end + 1) octets new → Behind node new payloads end octets
 written_behind node end payloads octets held new stands holds =
     let front = journal_of node payloads in
@@ -69,7 +69,7 @@ journal_of-append node payloads payload =
 regroup : (front lens payload rest : List ℕ) → front ++ 0xA5 ∷ ((lens ++ payload ++ 0 ∷ []) ++ rest) ≡ (front ++ (0xA5 ∷ lens ++ payload)) ++ 0 ∷ rest
 regroup front lens payload rest = simp append_assoc
 
--- behind an open gate the record counts
+-- after an open gate the record counts
 opened : (node : ℕ) (payloads : List (List ℕ)) (payload rest : List ℕ)
     → journal_of node payloads ++ 0xA5 ∷ (behind_gate payload ++ rest) ≡ journal_of node (payloads ++ payload ∷ []) ++ 0 ∷ rest
 opened node payloads payload rest =
@@ -98,7 +98,7 @@ length-opened node end payloads payload octets e at_gate =
     let sum : end + length octets ≡ length (journal_of node payloads) + length (framed payload) = cc in
     sum ∙ sym more ∙ ap length (sym (journal_of-append node payloads payload))
 
--- what stands before the gate, and behind it
+-- what stands before the gate, and after it
 before_gate : (node end : ℕ) (payloads : List (List ℕ)) (octets held : List ℕ) → (b : Behind node held payloads end octets) → take end held ≡ journal_of node payloads
 before_gate node end payloads octets held b = ap (λ (l : List ℕ). take end l) b.whole ∙ take_at (journal_of node payloads) (b.gate ∷ (octets ++ b.rest)) end (sym b.at_gate)
 
@@ -209,7 +209,7 @@ created (Some held) new node octets empty e written =
       omega (arith, ap length whole),
     )
 
--- the next gate stands behind the record
+-- the next gate stands after the record
 gate_stands : (end : ℕ) (octets held mid new : List ℕ) → end < length held → Holds held (end + 1) octets mid → Holds mid end (0xA5 ∷ []) new → end + length octets < length new
 gate_stands end octets held mid new long first second =
     let size = ap length first ∙ length-append (take (end + 1) held ++ octets) (drop (end + 1 + length octets) held) in

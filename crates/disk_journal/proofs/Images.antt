@@ -36,7 +36,7 @@ module _ {D : Type 0} (clock : Clock D) where
   pub all_after : (old mid new : D) (end end' : ℕ) (added : List (List ℕ)) → Keeps clock old mid → AddsAll clock mid new end end' added → AddsAll clock old new end end' added
   all_after old mid new end end' added kept all = λ c is. let e = all c is in record { base = e.base; was = kept.now e.base e.was; is = e.is }
 
-  -- behind the closed gate anything may stand
+  -- after the closed gate anything may stand
   pub first_adds : (old new : D) (end n : ℕ) (payload : List ℕ) → Tears clock old new (end + 1) n → Adds clock old new end (payload ∷ [])
   first_adds old new end n payload tears = weaker clock old new (IsTornFrom clock old (end + 1) n) (Extends clock old end (payload ∷ []))
       (λ c t. record {
@@ -50,7 +50,7 @@ module _ {D : Type 0} (clock : Clock D) where
 
   module _ (old mid : D) (end : ℕ) (payload octets held0 held1 : List ℕ) (spelt : octets ≡ behind_gate payload) (small : length payload < 2 ^ 32)
       (was : clock.is_image old held0) (holds : Holds held0 (end + 1) octets held1) (only : IsOnly clock mid held1) where
-    -- the gate may hold any octet, and the record behind it is whole
+    -- the gate may hold any octet, and the record after it is whole
     gate_extends : (c : List ℕ) → IsTornFrom clock mid end 1 c → Extends clock old end (payload ∷ []) c
     gate_extends c t =
         let torn = rw (only t.base t.was) at t.torn in

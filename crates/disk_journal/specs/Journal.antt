@@ -24,7 +24,7 @@ pub record EndsAt (node : ℕ) (held : List ℕ) (payloads : List (List ℕ)) (e
 abbrev pub TellsJournal : Option (List ℕ) → ℕ → List (List ℕ) → ℕ → Type 0
 TellsJournal seen node payloads end = IfSome seen (λ held. EndsAt node held payloads end)
 
--- what a record has behind its gate, and the next gate, closed
+-- what a record has after its gate, and the next gate, closed
 abbrev pub behind_gate : List ℕ → List ℕ
 behind_gate payload = to_be_bytes w32 (length payload) ++ payload ++ 0 ∷ []
 
@@ -46,7 +46,7 @@ abbrev pub Gated : {T E : Type 0} → Result T E → Option (List ℕ) → ℕ �
 Gated (Ok _) seen node payloads payload end = TellsJournal seen node (payloads ++ payload ∷ []) end
 Gated (Err _) seen node payloads payload end = HoldsEither seen node payloads payload
 
--- what a creation leaves: a journal of 16 octets with no payload, or nothing where memory was wanting
+-- what a creation leaves: a journal of 16 octets with no payload, or nothing where memory ran out
 abbrev pub Created : Result Journal JournalFault → Option (List ℕ) → Option (List ℕ) → ℕ → ℕ → ℕ → Type 0
 Created (Ok journal) old new node before now = TellsJournal new node [] (end_of journal) × HasGate new (end_of journal) × (now ≡ before) × (end_of journal ≡ 16)
 Created (Err DiskFault) old new node before now = Rose before now
@@ -58,7 +58,7 @@ Created (Err NoMemory) old new node before now = (new ≡ old) × (now ≡ befor
 abbrev pub largest : ℕ
 largest = 16_842_752
 
--- When an append is refused, and what a refusal leaves: only want of memory and a payload that is too large leave all as it was.
+-- When an append is refused, and what a refusal leaves: only out of memory and a payload that is too large leave all as it was.
 abbrev pub Refuses : {T : Type 0} → Result T JournalFault → ℕ → Option (List ℕ) → Option (List ℕ) → ℕ → ℕ → ℕ → ℕ → Type 0
 Refuses (Ok _) size old new end end' before now = (size ≤ largest) × HasGate new end' × (now ≡ before) × (end' ≡ end + 5 + size)
 Refuses (Err DiskFault) size old new end end' before now = (size ≤ largest) × (before ≤ now) × Rose before now

@@ -12,7 +12,7 @@ pub enum JournalFault {
     NotAJournal,
     /// The payload has more than 16,842,752 octets.
     TooLarge,
-    /// Want of memory; nothing was written.
+    /// Out of memory; nothing was written.
     NoMemory,
 }
 

@@ -2,7 +2,7 @@
 //!
 //! A journal begins with a header of 16 octets. Each record has a gate octet, the length of its payload in four octets,
 //! and the payload. The gate 0xA5 is open, every other is closed, and the first closed gate ends the journal. A record is
-//! written behind the closed gate, with the next gate, and synced, before its own gate is opened, and that is synced too.
+//! written after the closed gate, with the next gate, and synced, before its own gate is opened, and that is synced too.
 //! So at each moment a stop of the machine leaves the records that were there, or these and the new one, whatever the
 //! disk made of the writes that it had not yet synced; and once `append` is Ok, each stop leaves the new one too.
 //!

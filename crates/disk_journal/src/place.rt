@@ -12,7 +12,7 @@ pub struct Place {
 }
 
 impl Place {
-    /// The place of the octets behind so many of these.
+    /// The place of the octets after so many of these.
     pub fn behind(self, skipped: u64) -> Place
         requires { skipped ≤ self.length }
         ensures at { result.at ≡ self.at + skipped }
@@ -35,7 +35,7 @@ impl Place {
         }
     }
 
-    /// The place of a part of these octets: behind so many of them, and so many at most.
+    /// The place of a part of these octets: after so many of them, and so many at most.
     pub fn part(self, from: u64, most: u64) -> Place
         ensures at { result.at ≡ self.at + min from self.length }
         ensures length { result.length ≡ min most (self.length - from) }

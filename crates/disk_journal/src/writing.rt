@@ -1,4 +1,4 @@
-//! How a record is written: behind the closed gate, which is then opened.
+//! How a record is written: after the closed gate, which is then opened.
 ghost use Rattle.std.specs.Prelude.{◌≡◌, ◌+◌, ◌≤◌, ◌<◌, ◌++◌, ◌∷◌, [], ℕ, List, length, IfOk, IfSome, OnOk, ◌^◌, vec_len};
 ghost use Rattle.io_edge.specs.Causes.{HasCause};
 ghost use Rattle.io_edge.specs.Moments.{Tears};
@@ -68,7 +68,7 @@ pub(crate) fn write_sure<D: Disk>(disk: &mut D, at: u64, octets: &[u8]) -> Resul
     disk.sync()
 }
 
-// Writes a record behind the closed gate, and makes it sure before its gate is touched.
+// Writes a record after the closed gate, and makes it sure before its gate is touched.
 fn write_record<D: Disk>(disk: &mut D, end: u64, octets: &[u8]) -> Result<(), Failed>
     requires gate { HasGate (D.seen disk.old) end }
     requires room { length octets.now ≤ D.room disk.old }
@@ -96,7 +96,7 @@ fn open_gate<D: Disk>(disk: &mut D, end: u64) -> Result<(), Failed>
     write_sure(disk, end, &[OPEN_GATE])
 }
 
-/// Writes a record behind the closed gate, makes it sure, opens the gate, and makes that sure.
+/// Writes a record after the closed gate, makes it sure, opens the gate, and makes that sure.
 pub(crate) fn write_behind_gate<D: Disk>(
     disk: &mut D,
     end: u64,

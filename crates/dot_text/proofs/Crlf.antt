@@ -3,7 +3,7 @@ use Rattle.std.proofs.Common.{◌≡◌, ◌≢◌, ◌+◌, ◌<◌, ℕ, zero,
 use Rattle.std.specs.Prelude.{slice_index}
 use Rattle.mail_model.specs.Lines.{HasNoCrlf, sent_line}
 
--- none in front of octets with none
+-- none before octets with none
 pub none_cons : (x y : ℕ) (l : List ℕ) → (x ≡ 13 → y ≢ 10) → HasNoCrlf (y ∷ l) → HasNoCrlf (x ∷ y ∷ l)
 none_cons x y l here later zero within cr lf = here cr lf
 none_cons x y l here later (suc k) within cr lf =
@@ -18,7 +18,7 @@ none_tail x l none k within cr lf =
     let inside : suc k + 1 < length (x ∷ l) = omega arith in
     none (suc k) inside cr (ap (slice_index (x ∷ l)) one ∙ lf)
 
--- and not at their front
+-- and not at their beginning
 pub none_here : (x y : ℕ) (l : List ℕ) → HasNoCrlf (x ∷ y ∷ l) → x ≡ 13 → y ≢ 10
 none_here x y l none cr lf = none 0 (omega arith) cr lf
 
@@ -29,7 +29,7 @@ none_nil k within = absurd (omega arith)
 pub none_one : (x : ℕ) → HasNoCrlf (x ∷ [])
 none_one x k within = absurd (omega arith)
 
--- one octet more behind a last one
+-- one octet more after a last one
 pub none_push : (front : List ℕ) (y x : ℕ) → HasNoCrlf (front ++ y ∷ []) → (y ≡ 13 → x ≢ 10) → HasNoCrlf ((front ++ y ∷ []) ++ x ∷ [])
 none_push [] y x none here = none_cons y x [] here (none_one x)
 none_push (a ∷ []) y x none here = none_cons a y (x ∷ []) (none_here a y [] none) (none_push [] y x (none_tail a (y ∷ []) none) here)
@@ -44,7 +44,7 @@ none_front (a ∷ []) more none = none_one a
 none_front (a ∷ b ∷ front) more none =
     none_cons a b front (none_here a b (front ++ more) none) (none_front (b ∷ front) more (none_tail a (b ∷ (front ++ more)) none))
 
--- octets that are no line yet, and CRLF behind others
+-- octets that are no line yet, and CRLF after others
 not_whole : (line : List ℕ) → HasNoCrlf (13 ∷ 10 ∷ line) → ⊥
 not_whole line none = none 0 (omega arith) refl refl
 

@@ -53,7 +53,7 @@ first_none octets place is k within cr lf =
     let before : k < place = omega arith in
     is.first k before (sym (get_or-take place octets k 0 before) ∙ cr) (sym (get_or-take place octets (k + 1) 0 inside) ∙ lf)
 
--- octets that were looked at, and octets more behind them
+-- octets that were looked at, and octets more after them
 pub seen_fed : (octets piece : List ℕ) (seen : ℕ) → HasNoneBefore octets seen → HasNoneBefore (octets ++ piece) seen
 seen_fed octets piece seen none k before =
     let here = none k before in
@@ -80,7 +80,7 @@ seen_skipped octets start count seen none k before =
 pub seen_all : (octets : List ℕ) → HasNoCrlf octets → HasNoneBefore octets (length octets - 1)
 seen_all octets none k before = (omega arith, none k (omega arith))
 
--- what is left once the front was moved behind it and cut off
+-- what is left once the prefix was moved after it and cut off
 pub moved : (octets : List ℕ) (start left : ℕ) → left ≡ length octets - start → take left (drop start octets ++ take start octets) ≡ drop start octets
 moved octets start left is = take_at (drop start octets) (take start octets) left (length-drop start octets ∙ sym is)
 

@@ -13,7 +13,7 @@ use Rattle.dot_text.specs.declared.cutter.Line.TheVariants.{Whole, Long}
 use Rattle.dot_text.proofs.Crlf.{none_front, no_line}
 use Rattle.dot_text.proofs.Cutting.{first_line, first_none, cuts_taken}
 
--- where the front ends in a CR, the octets behind it begin with one
+-- where the prefix ends in a CR, the octets after it begin with one
 abbrev pub IsSeam : List ℕ → List ℕ → Type 0
 IsSeam front behind = (k : ℕ) → k + 1 ≡ length front → slice_index front k ≡ 13 → slice_index behind 0 ≡ 13
 

@@ -26,7 +26,7 @@ same_front (c ∷ a) (d ∷ b) x y len same =
     let rest = same_front a b x y shorter later in
     (ap₂ ◌∷◌ first rest.0, rest.1)
 
--- behind the first of what was taken
+-- after the first of what was taken
 behind_first : (first : Taken) (taken : List Taken) (rest : List ℕ) → flat_map taken_octets (first ∷ taken) ++ rest ≡ taken_octets first ++ (flat_map taken_octets taken ++ rest)
 behind_first first taken rest = append_assoc (taken_octets first) (flat_map taken_octets taken) rest
 
@@ -78,7 +78,7 @@ lines_all fed lines others rest other first second none_a none_b =
 abbrev text_octets : List (List ℕ) → List ℕ
 text_octets lines = unit_octets (Text lines)
 
--- behind the first line of a text, and of one that has begun
+-- after the first line of a text, and of one that has begun
 behind_line : (line : List ℕ) (lines : List (List ℕ)) (x : List ℕ) → text_octets (line ∷ lines) ++ x ≡ sent_line line ++ (text_octets lines ++ x)
 behind_line line lines x =
     ap (λ (l : List ℕ). l ++ x) (append_assoc (sent_line line) (flat_map sent_line lines) (sent_line (46 ∷ [])))
@@ -114,7 +114,7 @@ texts_one octets others text other after behind first second same =
     (ap (λ (l : List ℕ). l ++ after) (sym first.whole) ∙ same ∙ ap (λ (l : List ℕ). l ++ behind) second.whole) in
     (first.whole ∙ ap text_octets lines.0 ∙ sym second.whole, first.gives ∙ ap undotted lines.0 ∙ sym second.gives)
 
--- a text that has begun has no whole text in front
+-- a text that has begun has no whole text before
 none_begun : (lines others : List (List ℕ)) (line x : List ℕ) → AreTextLines lines → AreTextLines others → HasNoCrlf line
     → text_octets lines ++ x ≡ flat_map sent_line others ++ line → ⊥
 none_begun [] [] line x are_a are_b none same = no_line (46 ∷ []) x line none same
@@ -138,7 +138,7 @@ no_unit : (fed line given : List ℕ) → IsTextBegun fed line given → HasNoUn
 no_unit fed line given begun (Line other) more is same = is
 no_unit fed line given begun (Text lines) more is same = none_begun lines begun.lines line more is begun.are begun.no_end (sym same ∙ begun.whole)
 
--- an undotter behind a piece
+-- an undotter after a piece
 pub feeds : (cut : Cut) (undotter : Undotter) (fed piece given : List ℕ) → Behind cut undotter.place fed piece given → Feeds cut undotter fed piece given
 feeds More undotter fed piece given here = (here, no_unit (fed ++ piece) here.0 given here.2)
 feeds (Ended used) undotter fed piece given here = here

@@ -101,7 +101,7 @@ module _ (tail : Tail) (text so_far out : List ℕ) (i : ℕ) (within : i < leng
 ends_tail : (x y z : ℕ) (l : List ℕ) → ends_in_crlf (x ∷ y ∷ z ∷ l) ≡ ends_in_crlf (y ∷ z ∷ l)
 ends_tail x y z l = refl
 
--- behind any octets, two or more decide
+-- after any octets, two or more decide
 ends_behind : (front : List ℕ) (y z : ℕ) (l : List ℕ) → ends_in_crlf (front ++ y ∷ z ∷ l) ≡ ends_in_crlf (y ∷ z ∷ l)
 ends_behind [] y z l = refl
 ends_behind (a ∷ []) y z l = refl
@@ -119,13 +119,13 @@ ends_no_line (x ∷ y ∷ []) none = by_test (nat_eq x 13) refl
     by_test false e = refl
 ends_no_line (x ∷ y ∷ z ∷ l) none = ends_no_line (y ∷ z ∷ l) (none_tail x (y ∷ z ∷ l) none)
 
--- behind an LF
+-- after an LF
 ends_behind_lf : (line : List ℕ) → HasNoCrlf line → ends_in_crlf (10 ∷ line) ≡ false
 ends_behind_lf [] none = refl
 ends_behind_lf (x ∷ []) none = refl
 ends_behind_lf (x ∷ y ∷ l) none = ends_no_line (x ∷ y ∷ l) none
 
--- behind any octets, octets that are two or more
+-- after any octets, octets that are two or more
 ends_append : (front l : List ℕ) → 2 ≤ length l → ends_in_crlf (front ++ l) ≡ ends_in_crlf l
 ends_append front [] two = absurd (omega (arith, two))
 ends_append front (y ∷ []) two = absurd (omega (arith, two))
@@ -141,7 +141,7 @@ ends_with_lines first [] = ap ends_in_crlf (append-nil (sent_line first)) ∙ en
 ends_with_lines first (second ∷ lines) =
     ends_append (sent_line first) (flat_map sent_line (second ∷ lines)) (two_octets second (flat_map sent_line lines)) ∙ ends_with_lines second lines
 
--- and octets behind them that are no line do not
+-- and octets after them that are no line do not
 ends_with_line : (lines : List (List ℕ)) (y : ℕ) (line : List ℕ) → HasNoCrlf (y ∷ line) → ends_in_crlf (flat_map sent_line lines ++ y ∷ line) ≡ false
 ends_with_line [] y line none = ends_no_line (y ∷ line) none
 ends_with_line (first ∷ []) y line none =
@@ -166,7 +166,7 @@ closed_lines : (lines : List (List ℕ)) → closed (flat_map sent_line lines) �
 closed_lines [] = refl
 closed_lines (first ∷ lines) = closed_same (flat_map sent_line (first ∷ lines)) (ends_with_lines first lines)
 
--- and octets behind them
+-- and octets after them
 closed_line : (lines : List (List ℕ)) (y : ℕ) (line : List ℕ) → HasNoCrlf (y ∷ line)
     → closed (flat_map sent_line lines ++ y ∷ line) ≡ flat_map sent_line (lines ++ (y ∷ line) ∷ [])
 closed_line lines y line none =
@@ -174,7 +174,7 @@ closed_line lines y line none =
     ∙ append_assoc (flat_map sent_line lines) (y ∷ line) (13 ∷ 10 ∷ [])
     ∙ sym (made_push sent_line lines (y ∷ line))
 
--- the end of the text behind whole lines, and behind others
+-- the end of the text after whole lines, and after others
 sends_lines : (text octets : List ℕ) → IsSent text [] octets → Dots text (octets ++ ending LineEnd)
 sends_lines text octets is = record {
   lines = is.lines;

@@ -104,7 +104,7 @@ plain_step fed line given x tells is other other_more none gives = by_test (nat_
     by_test true e = (line ++ x ∷ [], (line, ap (λ (y : ℕ). line ++ y ∷ []) (eqb-true x 13 e), other), in_line fed line given x tells is none gives)
     by_test false e = (line ++ x ∷ [], (line, x, refl, eqb-false x 13 e, other_more), in_line fed line given x tells is none gives)
 
--- at the front of a line
+-- at the beginning of a line
 at_start : (fed given : List ℕ) (x : ℕ) → IsTextBegun fed [] given
     → UndotsAt (if nat_eq x 46 then Period else plain_place x) (fed ++ x ∷ []) (given ++ (if nat_eq x 46 then [] else x ∷ []))
 at_start fed given x is = by_test (nat_eq x 46) refl
@@ -119,7 +119,7 @@ at_start fed given x is = by_test (nat_eq x 46) refl
         plain_step fed [] given x (x ∷ []) is refl no_period (none_one x)
         (begun_all (x ∷ []) (λ same. let two : 1 ≡ 2 = ap (λ (l : List ℕ). length l) same in absurd (omega (arith, two))) ∙ rw e refl)
 
--- behind a period that leads a line
+-- after a period that leads a line
 at_period : (fed given : List ℕ) (x : ℕ) → IsTextBegun fed (46 ∷ []) given
     → UndotsAt (if nat_eq x 13 then PeriodCr else Inside) (fed ++ x ∷ []) (given ++ (if nat_eq x 13 then [] else x ∷ []))
 at_period fed given x is = by_test (nat_eq x 13) refl
@@ -139,7 +139,7 @@ at_period fed given x is = by_test (nat_eq x 13) refl
           (begun_all (46 ∷ x ∷ []) (λ same. let cr : x ≡ 13 = cc in eqb-false x 13 e cr)),
     )
 
--- behind other octets
+-- after other octets
 at_inside : (fed front given : List ℕ) (y x : ℕ) → y ≢ 13 → is_period (front ++ y ∷ []) ≡ false → IsTextBegun fed (front ++ y ∷ []) given
     → UndotsAt (plain_place x) (fed ++ x ∷ []) (given ++ x ∷ [])
 at_inside fed front given y x no_cr other is =
@@ -152,7 +152,7 @@ at_inside fed front given y x no_cr other is =
     too_long [] z e = cc
     too_long (a ∷ l) z e = cc
 
--- behind CR that may end a line
+-- after CR that may end a line
 at_cr : (fed front given : List ℕ) (x : ℕ) → is_period front ≡ false → IsTextBegun fed (front ++ 13 ∷ []) given
     → UndotsAt (if nat_eq x 10 then LineStart else plain_place x) (fed ++ x ∷ []) (given ++ x ∷ [])
 at_cr fed front given x other is = by_test (nat_eq x 10) refl
@@ -182,7 +182,7 @@ at_cr fed front given x other is = by_test (nat_eq x 10) refl
         (none_push front 13 x is.no_end (λ _. eqb-false x 10 e))
         (begun_push front 13 x no_wait no_period)
 
--- behind a period that leads a line, and CR
+-- after a period that leads a line, and CR
 at_period_cr : (next : Place) (fed given : List ℕ) (x : ℕ) → IsTextBegun fed (46 ∷ 13 ∷ []) given → next_place PeriodCr x ≡ Some next
     → UndotsAt next (fed ++ x ∷ []) (given ++ told PeriodCr x)
 at_period_cr next fed given x is = by_test (nat_eq x 10) refl

@@ -4,7 +4,7 @@ use Rattle.mail_model.specs.Lines.{HasNoCrlf}
 use Rattle.dot_text.specs.Worked.{Received, Sent}
 use Rattle.dot_text.proofs.Crlf.{none_cons, none_one}
 
--- no CR is in front
+-- no CR is before
 no_cr : (x y : ℕ) (l : List ℕ) → x ≢ 13 → HasNoCrlf (y ∷ l) → HasNoCrlf (x ∷ y ∷ l)
 no_cr x y l other later = none_cons x y l (λ e. absurd (other e)) later
 

@@ -18,7 +18,7 @@ AreTaken [] = ⊤
 AreTaken (Given line ∷ taken) = HasNoCrlf line × AreTaken taken
 AreTaken (Skipped octets ∷ taken) = AreTaken taken
 
--- These octets were fed, this was taken off them one behind the other, and this is the rest.
+-- These octets were fed, this was taken off them one after the other, and this is the rest.
 pub record Cuts (fed : List ℕ) (taken : List Taken) (rest : List ℕ) : Type 0 where
   pub whole : fed ≡ flat_map taken_octets taken ++ rest
   pub lines : AreTaken taken

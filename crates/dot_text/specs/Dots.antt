@@ -27,7 +27,7 @@ IsTail LineEnd line = line ≡ []
 IsTail Cr line = (front : List ℕ) × (line ≡ front ++ 13 ∷ [])
 IsTail Other line = (front : List ℕ) × (x : ℕ) × (line ≡ front ++ x ∷ []) × (x ≢ 13)
 
--- and where it ends behind the octet
+-- and where it ends after the octet
 abbrev pub next_tail : Tail → ℕ → Tail
 next_tail LineEnd x = if nat_eq x 13 then Cr else Other
 next_tail Cr x = if nat_eq x 10 then LineEnd else (if nat_eq x 13 then Cr else Other)
@@ -39,7 +39,7 @@ dotted_octet LineEnd x = if nat_eq x 46 then 46 ∷ x ∷ [] else x ∷ []
 dotted_octet Cr x = x ∷ []
 dotted_octet Other x = x ∷ []
 
--- what is sent behind the last octet: CRLF where the line has not ended, and the line that is one period
+-- what is sent after the last octet: CRLF where the line has not ended, and the line that is one period
 abbrev pub ending : Tail → List ℕ
 ending LineEnd = sent_line (46 ∷ [])
 ending Cr = 13 ∷ 10 ∷ sent_line (46 ∷ [])

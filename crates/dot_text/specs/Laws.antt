@@ -26,7 +26,7 @@ TextsAreOne = (octets others text other after behind : List ℕ) → IsText octe
 abbrev pub BegunHasNoText : Type 0
 BegunHasNoText = (fed line given octets text after : List ℕ) → IsTextBegun fed line given → IsText octets text → octets ++ after ≡ fed → ⊥
 
--- A text that is sent, with anything behind it, is read back: just its octets are used, and they give the text, closed with CRLF.
+-- A text that is sent, with anything after it, is read back: just its octets are used, and they give the text, closed with CRLF.
 pub record ReadsBack (text octets : List ℕ) : Type 0 where
   pub is : IsText octets (closed text)
   pub used : (after others other behind : List ℕ) → IsText others other → others ++ behind ≡ octets ++ after → (others ≡ octets) × (other ≡ closed text)

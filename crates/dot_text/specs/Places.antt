@@ -17,11 +17,11 @@ IsAt PeriodCr line = line ≡ 46 ∷ 13 ∷ []
 IsAt Inside line = (front : List ℕ) × (x : ℕ) × (line ≡ front ++ x ∷ []) × (x ≢ 13) × (is_period line ≡ false)
 IsAt Cr line = (front : List ℕ) × (line ≡ front ++ 13 ∷ []) × (is_period front ≡ false)
 
--- the place behind an octet that does not end a line
+-- the place after an octet that does not end a line
 abbrev pub plain_place : ℕ → Place
 plain_place x = if nat_eq x 13 then Cr else Inside
 
--- the place behind the octet; none where it ends the line that is one period
+-- the place after the octet; none where it ends the line that is one period
 abbrev pub next_place : Place → ℕ → Option Place
 next_place LineStart x = Some (if nat_eq x 46 then Period else plain_place x)
 next_place Period x = Some (if nat_eq x 13 then PeriodCr else Inside)
@@ -45,7 +45,7 @@ UndotsAt place fed given = (line : List ℕ) × IsAt place line × IsTextBegun f
 abbrev pub Undots : Undotter → List ℕ → List ℕ → Type 0
 Undots undotter fed given = UndotsAt undotter.place fed given
 
--- behind a piece the text goes on, or it ended at one of the octets, and what comes next is a new text
+-- after a piece the text goes on, or it ended at one of the octets, and what comes next is a new text
 abbrev pub Behind : Cut → Place → List ℕ → List ℕ → List ℕ → Type 0
 Behind More place fed piece given = UndotsAt place (fed ++ piece) given
 Behind (Ended used) place fed piece given = IsText (fed ++ take used piece) given × UndotsAt place [] []

@@ -17,7 +17,7 @@ abbrev pub ends_in_cr : List ℕ → Bool
 ends_in_cr octets = nat_lt 0 (length octets) && nat_eq (slice_index octets (length octets - 1)) 13
 
 -- These octets were fed, and no line has taken them yet: first those that were let go, of a line that is then too long and of whose CRLF they have
--- nothing, and behind them those that are held.
+-- nothing, and after them those that are held.
 pub record Pending (cutter : Shown) (pending : List ℕ) : Type 0 where
   pub gone : List ℕ
   pub whole : pending ≡ gone ++ cutter.rest

@@ -13,7 +13,7 @@ pub record IsText (octets text : List ℕ) : Type 0 where
   pub whole : octets ≡ unit_octets (Text lines)
   pub gives : text ≡ undotted lines
 
--- what a line that has no CRLF yet has given to the text: a CR behind a period that leads it waits for the next octet
+-- what a line that has no CRLF yet has given to the text: a CR after a period that leads it waits for the next octet
 abbrev pub begun : List ℕ → List ℕ
 begun line = if pointwise nat_eq line (46 ∷ 13 ∷ []) then [] else undotted_line line
 

@@ -116,7 +116,7 @@ impl LineCutter {
     ///
     /// # Errors
     ///
-    /// Only want of memory; the cutter is then as before.
+    /// Out of memory alone; the cutter is then as before.
     pub fn feed(&mut self, piece: &[u8]) -> Result<(), AllocError>
         ensures ok { OnOk result (self.new ≡ record self.old { rest = self.old.rest ++ piece.now }) }
         ensures pends { OnOk result ((pending : List ℕ) → Pending self.old pending → Pending self.new (pending ++ piece.now)) }
@@ -128,7 +128,7 @@ impl LineCutter {
         Ok(())
     }
 
-    // Moves the octets that are held to the front, where as many were taken before them.
+    // Moves the octets that are held to the beginning, where as many were taken before them.
     fn compact(&mut self)
         ensures { self.new ≡ self.old }
     {
@@ -178,7 +178,7 @@ impl LineCutter {
         }
     }
 
-    /// Takes the line away that was found, with its CRLF; the next one begins behind it. It takes no memory.
+    /// Takes the line away that was found, with its CRLF; the next one begins after it. It takes no memory.
     pub fn take(&mut self, line: Line)
         requires { line_length line + 2 ≤ length self.old.rest }
         ensures { self.new ≡ behind_line self.old line }
@@ -196,7 +196,7 @@ impl LineCutter {
         &self.octets[self.start..]
     }
 
-    /// Takes the first octets of the rest away, no more than it has; the next line begins behind them, unless
+    /// Takes the first octets of the rest away, no more than it has; the next line begins after them, unless
     /// octets of it were let go. It takes no memory.
     pub fn skip(&mut self, count: usize)
         requires { count ≤ length self.old.rest }

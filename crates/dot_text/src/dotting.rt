@@ -26,7 +26,7 @@ fn next_tail(tail: Tail, octet: u8) -> Tail
     }
 }
 
-// Puts the octet behind `out`, twice where it is a period that leads a line.
+// Appends the octet to `out`, twice where it is a period that leads a line.
 fn dot_octet(tail: Tail, octet: u8, out: &mut Vec<u8>) -> Result<(), AllocError>
     ensures ok { OnOk result (out.new.items ≡ out.old.items ++ dotted_octet tail octet) }
     ensures err { OnErr result (out.new.items ≡ out.old.items) }
@@ -37,7 +37,7 @@ fn dot_octet(tail: Tail, octet: u8, out: &mut Vec<u8>) -> Result<(), AllocError>
     }
 }
 
-// Puts the end of a text behind `out`.
+// Appends the end of a text to `out`.
 fn end_text(tail: Tail, out: &mut Vec<u8>) -> Result<(), AllocError>
     ensures ok { OnOk result (out.new.items ≡ out.old.items ++ ending tail) }
     ensures err { OnErr result (out.new.items ≡ out.old.items) }
@@ -48,7 +48,7 @@ fn end_text(tail: Tail, out: &mut Vec<u8>) -> Result<(), AllocError>
     }
 }
 
-// Puts the text behind `out` as it is sent.
+// Appends the text to `out` as it is sent.
 fn push_dotted(out: &mut Vec<u8>, text: &[u8]) -> Result<(), AllocError>
     ensures ok { OnOk result ((octets : List ℕ) × (out.new.items ≡ out.old.items ++ octets) × Dots text.now octets) }
     ensures err { OnErr result ((octets : List ℕ) × (out.new.items ≡ out.old.items ++ octets)) }
@@ -61,13 +61,13 @@ fn push_dotted(out: &mut Vec<u8>, text: &[u8]) -> Result<(), AllocError>
     end_text(tail, out)
 }
 
-/// Puts the text behind `out` as it is sent: a period in front of each line that begins with one, CRLF where
+/// Appends the text to `out` as it is sent: a period before each line that begins with one, CRLF where
 /// the text is not empty and does not end in CRLF, and the line that is one period (RFC 5321, section
 /// 4.5.2, and RFC 1939, section 3). A line is what stands before CRLF; a lone CR or LF is an octet of it.
 ///
 /// # Errors
 ///
-/// Only want of memory; `out` is then as before.
+/// Out of memory alone; `out` is then as before.
 pub fn dot_into(out: &mut Vec<u8>, text: &[u8]) -> Result<(), AllocError>
     ensures ok { OnOk result ((octets : List ℕ) × (out.new.items ≡ out.old.items ++ octets) × Dots text.now octets) }
     ensures err { OnErr result (out.new.items ≡ out.old.items) }

@@ -21,7 +21,7 @@ pub fn begun_texts_have_no_end()
     ensures { BegunHasNoText }
 {}
 
-/// What `dot_into` makes of a text, with anything behind it, is read back as the text: just its octets
+/// What `dot_into` makes of a text, with anything after it, is read back as the text: just its octets
 /// are used.
 pub fn texts_are_read_back()
     ensures { RoundTrips }

@@ -5,7 +5,7 @@
 //! `LineCutter` cuts the octets of a connection into lines: `feed(piece)` takes octets up, `find()` finds
 //! the next line, `rest()` has the octets that no line has taken yet, that line first, `take(line)` takes the
 //! line away, and `skip(count)` octets of any kind. `Undotter` reads a text that ends with a line that is one
-//! period: `feed(piece, out)` puts behind `out` what the piece gives, and says whether the text goes on
+//! period: `feed(piece, out)` appends to `out` what the piece gives, and says whether the text goes on
 //! or where it ended. `dot_into(out, text)` writes such a text.
 //!
 //! DESCRIPTION
@@ -13,7 +13,7 @@
 //! A line is what stands before CRLF; a lone CR or LF is an octet of it (RFC 5321, section 2.3.8). In a
 //! text the line that is one period ends it, and a period that leads a longer line is removed; on the
 //! way out it is put there (RFC 5321, section 4.5.2, and RFC 1939, section 3). A text is read with each
-//! line's CRLF. Where one is written that is not empty and does not end in CRLF, CRLF is put behind it.
+//! line's CRLF. Where one is written that is not empty and does not end in CRLF, CRLF is put after it.
 //!
 //! A session feeds a piece, and takes lines until there is none:
 //!
@@ -26,15 +26,15 @@
 //!         cutter.take(line);
 //!     }
 //!
-//! A line is taken once it was heard, so one that could not be heard for want of memory is found again.
+//! A line is taken once it was heard, so one that could not be heard as memory ran out is found again.
 //!
 //! Where a line asks for a text, it feeds `cutter.rest()` to an undotter, and skips the octets that were
 //! used: all of them at `Cut::More`, and `used` of them at `Cut::Ended(used)`.
 //!
 //! It does not matter how the octets were cut into pieces. The lines are those of the joined octets, those
 //! that were skipped left out, and the rest is what follows the last of them. An undotter gives the text
-//! up to the line that is one period, and ends just behind that line's LF. What `dot_into` writes, with
-//! anything behind it, is read back as the text. These are the laws in `src/laws.rt`, and the contracts
+//! up to the line that is one period, and ends just after that line's LF. What `dot_into` writes, with
+//! anything after it, is read back as the text. These are the laws in `src/laws.rt`, and the contracts
 //! of the calls say that they take steps of what the laws speak of.
 //!
 //! Feeding is linear in the octets: none is looked at again for each piece, and what is pending is
@@ -43,7 +43,7 @@
 //!
 //! DIAGNOSTICS
 //!
-//! Only want of memory, an `AllocError`. The call has then changed nothing that its caller sees, and may
+//! Out of memory alone, an `AllocError`. The call has then changed nothing that its caller sees, and may
 //! be made again. A line that passes the limit of its cutter is found as `Line::Long`, once it is whole. What
 //! is held of it before that is let go as it comes.
 //!

@@ -30,7 +30,7 @@ fn laws_are_said() {
     texts_are_sent_in_one_way();
 }
 
-// The lines of the octets, with `|` behind each, or `!` in place of a long one, and the rest.
+// The lines of the octets, with `|` after each, or `!` in place of a long one, and the rest.
 fn lines_of(alloc: Global, limit: usize, pieces: [&[u8]; 2]) -> Result<Vec<u8>, AllocError>
     requires { 2 ≤ limit }
 {

@@ -4,7 +4,7 @@ ghost use Rattle.dot_text.specs.Places.{next_place, told, Undots, UndotsAt, Behi
 
 use std::alloc::AllocError;
 
-/// Where a text stands behind a piece of its octets.
+/// Where a text stands after a piece of its octets.
 #[derive(Clone, Copy, Debug, PartialEq, Eq)]
 pub enum Cut {
     /// It goes on.
@@ -28,7 +28,7 @@ enum Place {
     Cr,
 }
 
-/// Reads a text whose lines come with a period in front of those that begin with one, and which the line
+/// Reads a text whose lines come with a period before those that begin with one, and which the line
 /// that is one period ends (RFC 5321, section 4.5.2, and RFC 1939, section 3). A line is what stands before
 /// CRLF; a lone CR or LF is an octet of the text.
 #[derive(Clone, Copy, Debug, PartialEq, Eq)]
@@ -37,7 +37,7 @@ pub struct Undotter {
 }
 
 impl Undotter {
-    /// An undotter at the front of a text. It takes no memory.
+    /// An undotter at the beginning of a text. It takes no memory.
     pub fn new() -> Undotter
         ensures { Undots result [] [] }
     {
@@ -46,16 +46,16 @@ impl Undotter {
         }
     }
 
-    /// Puts behind `out` what the next octets of the text give: each line with its CRLF, without the period
-    /// that leads it. A period that leads a line waits for the octet behind it, and so does a CR behind
+    /// Appends to `out` what the next octets of the text give: each line with its CRLF, without the period
+    /// that leads it. A period that leads a line waits for the octet after it, and so does a CR after
     /// that period; all else is given at once.
     ///
     /// `Ended` comes exactly with the LF of the line that is one period, of which nothing is given. The
-    /// octets behind it are not used, and what is fed next is another text. A text has no limit here.
+    /// octets after it are not used, and what is fed next is another text. A text has no limit here.
     ///
     /// # Errors
     ///
-    /// Only want of memory; the undotter and `out` are then as before.
+    /// Out of memory alone; the undotter and `out` are then as before.
     pub fn feed(&mut self, piece: &[u8], out: &mut Vec<u8>) -> Result<Cut, AllocError>
         ensures ok { IfOk result (λ cut. (more : List ℕ) × (out.new.items ≡ out.old.items ++ more)
             × ((fed given : List ℕ) → Undots self.old fed given → Feeds cut self.new fed piece.now (given ++ more))) }
@@ -77,7 +77,7 @@ impl Undotter {
     }
 }
 
-// The place behind the octet; none where it ends the line that is one period.
+// The place after the octet; none where it ends the line that is one period.
 fn next_place(place: Place, octet: u8) -> Option<Place>
     ensures { result ≡ next_place place octet }
 {
@@ -92,7 +92,7 @@ fn next_place(place: Place, octet: u8) -> Option<Place>
     }
 }
 
-// Puts behind `out` what the octet gives.
+// Appends to `out` what the octet gives.
 fn tell(place: Place, octet: u8, out: &mut Vec<u8>) -> Result<(), AllocError>
     ensures ok { OnOk result (out.new.items ≡ out.old.items ++ told place octet) }
     ensures err { OnErr result (out.new.items ≡ out.old.items) }
@@ -104,7 +104,7 @@ fn tell(place: Place, octet: u8, out: &mut Vec<u8>) -> Result<(), AllocError>
     }
 }
 
-// Puts behind `out` what the octets give, up to the end of the text.
+// Appends to `out` what the octets give, up to the end of the text.
 fn undot(place: &mut Place, piece: &[u8], out: &mut Vec<u8>) -> Result<Cut, AllocError>
     ensures ok { IfOk result (λ cut. (more : List ℕ) × (out.new.items ≡ out.old.items ++ more)
         × ((fed given : List ℕ) → UndotsAt place.old fed given → Behind cut place.new fed piece.now (given ++ more))) }

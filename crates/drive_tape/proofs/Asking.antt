@@ -142,7 +142,7 @@ module _ {D : Type 0} (seen : D → Option (List ℕ)) (faults : D → ℕ) (sta
           let within : one.place < length p.sessions = within_get p.sessions one.place one.plain one.here in
           absurd (omega (arith, within, all, length_is, one.number_is, some.2))
 
--- it rests, and those behind it are to be asked
+-- it rests, and those after it are to be asked
 pub asks_on : (place : ℕ) (p : Point) → RestsAt place (place + 1) p → AsksFrom place p
 asks_on place p rests = record {
   from = place + 1;

@@ -71,7 +71,7 @@ module _ (p : Point) (place onward : ℕ) (plain : Session) (turn : p.turn ≡ H
       → OneAct plan p (Leaves (place + 1) user) [] (Left (place + 1) user ∷ []) (Asking onward) p.sessions
   leaves_one plan user is = record { next = next_leaves user is; acted = (refl, refl); linked = record { made = refl; asked = refl; answered = refl } }
 
--- the point behind the leave
+-- the point after the leave
 abbrev pub left_point : Point → ℕ → ℕ → List ℕ → Point
 left_point p place onward user = record p { turn = Asking onward; outcomes = p.outcomes ++ Left (place + 1) user ∷ [] }
 

@@ -239,7 +239,7 @@ halt_line seen faults start plan p line reason held world s = record {
   gave = s.gave;
 }
 
--- a front of a line with its LF that is not the whole of it
+-- a prefix of a line with its LF that is not the whole of it
 front_of_line : (line cut rest : List ℕ) → HasNoLf line → 0 < length rest → ended line ≡ cut ++ rest → HasNoLf cut
 front_of_line line [] rest none some parts = All-nil _
 front_of_line [] (y ∷ cut) rest none some parts = absurd (omega (arith, some, ap length parts, length-append cut rest))

@@ -136,7 +136,7 @@ module _ {D : Type 0} (seen : D → Option (List ℕ)) (faults : D → ℕ) (sta
   failed_on : (acts : List Act) → failed_in (first ∷ acts) ≡ failed_in acts
   failed_on acts = ap (λ (l : List ℕ). l ++ failed_in acts) sound
 
-  -- it stops in its midst
+  -- it stops before it was done
   stops_in : (reason : Why) (held : Option (List ℕ)) (world : World D) (stop : Stop) → IsStop reason stop → (acts : List Act) (outputs : List (List Entry)) (next : Turn) (new : List Session)
       → turns.ActsGo plan turn sessions acts outputs next new → (came : List Outcome) (lacking : List Asked) (extra : List Made) → AreLinked acts came lacking extra → MayHaveAsked stop next new extra
       → (front missing : List Entry) → LastCut (said ∷ outputs) front missing → MayLack stop missing lacking

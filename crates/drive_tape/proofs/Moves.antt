@@ -233,7 +233,7 @@ module _ {D : Type 0} (seen : D → Option (List ℕ)) (faults : D → ℕ) (sta
   sessions : List Session
   sessions = slice_set p.sessions place b.after
 
-  -- the point behind the beginning of the call
+  -- the point after the beginning of the call
   abbrev pub begun_point : Outcome → List Awaited → Point
   begun_point outcome awaited = record p { turn = Beginning (place + 1) onward; sessions = slice_set p.sessions place b.after; outcomes = p.outcomes ++ outcome ∷ []; awaited = awaited }
 

@@ -43,7 +43,7 @@ pub writes_none : (old : Option (List ℕ)) (entry : Entry) (entries : List Entr
 writes_none old entry entries why =
     ([], entry ∷ entries, [], refl, record { entry = entry; more = entries; rest = ended (entry_line entry); are = refl; some = some_line entry; whole = refl }, appends_none old)
 
--- some were, and of those behind them none, or a part
+-- some were, and of those after them none, or a part
 pub writes_part : (old new : Option (List ℕ)) (entries others : List Entry) (why : WriteStop) → WritesEntries {E = WriteStop} old new (Err why) entries
     → WritesEntries {E = WriteStop} old new (Err why) (entries ++ others)
 writes_part old new entries others why wrote =
@@ -154,6 +154,6 @@ module _ (old now : Option (List ℕ)) (k : ℕ) (lines : List (List ℕ)) (rest
       (writes_behind old now new (said_lines k w.done) (said_lines k w.left) (Err why) w.gave
       ([], said_lines k w.left, front, refl, record { entry = Said k (take at rest); more = said_lines k s.0; rest = missing; are = ap (said_lines k) s.1; some = some; whole = parts }, gave))
 
--- all that is behind a place
+-- all that is after a place
 pub all_taken : (n : ℕ) (octets : List ℕ) → take (length octets - n) (drop n octets) ≡ drop n octets
 all_taken n octets = subst (λ (k : ℕ). take k (drop n octets) ≡ drop n octets) (length-drop n octets) (take-length (drop n octets))

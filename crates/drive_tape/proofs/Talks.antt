@@ -54,7 +54,7 @@ node_at talkers old at talker one all there here =
     let got = converse_get talkers old at talker all there in
     sym (ap (λ (s : Session). s.node) (some_same got.0 one (sym got.1 ∙ here))) ∙ got.3
 
--- no session has a place behind the last
+-- no session has a place after the last
 pub converse_none : (talkers : List (Option Talker)) (old : List Session) (at : ℕ) → Converse talkers old → length talkers ≤ at → slice_get old at ≡ None
 converse_none [] [] at all past = refl
 converse_none [] (c ∷ cs) at all past = absurd all

@@ -141,7 +141,7 @@ work_act plan p q act entries outcomes one came failed gave = record {
   gave = subst (λ es. Appends p.held q.held (written_of es)) (sym (append-nil entries)) gave;
 }
 
--- a front of it is written
+-- a prefix of it is written
 unfoldable pub cut_act : (plan : Plan) (p : Point) (act : Act) (entries : List Entry) (outcomes : List Outcome) (turn : Turn) (sessions : List Session) (stop : Stop) (held : Option (List ℕ))
     (front missing : List Entry) (cut : List ℕ) → OneAct plan p act entries outcomes turn sessions → entries ≡ front ++ missing → MayLack stop missing [] → IsCutEntry missing cut
     → Appends p.held held (written_of front ++ cut) → Cut plan stop p held (p.outcomes ++ outcomes)

@@ -1,4 +1,4 @@
--- Writing that stops behind some of the entries.
+-- Writing that stops after some of the entries.
 use Rattle.std.proofs.Common.{◌≡◌, ◌<◌, ◌++◌, ◌∷◌, ℕ, zero, suc, arith, List, [], slice_get, Some, length, take, drop, Option, Err, refl, sym, ap, ◌∙◌, subst, inl, inr}
 use Rattle.std.specs.Io.KnownBytes.{Appends}
 use Rattle.std.proofs.Common.{length-append}
@@ -14,7 +14,7 @@ use Rattle.drive_tape.specs.Entries.{transcript_entry, transcript_entries, Write
 split_at : (k : ℕ) (entries : List Entry) → transcript_entries entries ≡ transcript_entries (take k entries) ++ transcript_entries (drop k entries)
 split_at k entries = sym (ap transcript_entries (take-append-drop k entries)) ∙ map-append transcript_entry (take k entries) (drop k entries)
 
--- the k-th of the entries stands first behind those before it
+-- the k-th of the entries stands first after those before it
 drop_at : (k : ℕ) (entries : List Entry) (entry : Entry) → slice_get entries k ≡ Some entry → drop k entries ≡ entry ∷ drop (suc k) entries
 drop_at zero [] entry at_k = grind (arith, at_k)
 drop_at zero (x ∷ xs) entry at_k = grind (arith, at_k)

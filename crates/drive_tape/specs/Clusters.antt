@@ -55,7 +55,7 @@ abbrev pub IsAfter : After → Session → Type 0
 IsAfter Stays plain = IsOn plain.standing
 IsAfter (Ends leave) plain = (plain.standing ≡ EndedByQuit) × IsLeaveOf leave (entered_as (exchanges_of plain))
 
--- The cluster is behind an act of the session at this place, of which nothing was written yet.
+-- The cluster is after an act of the session at this place, of which nothing was written yet.
 pub record IsSaying {D : Type 0} (seen : D → Option (List ℕ)) (faults : D → ℕ) (start : World D) (plan : Plan) (p q : Point) (place onward : ℕ) (after : After) (out : List ℕ) (cluster : Cluster D) : Type 0 where
   pub act : Act
   pub said : List (List ℕ)

@@ -64,7 +64,7 @@ NamesLine (drove.WriteFault n) line = n ≡ line
 NamesLine (drove.BadTape n why) line = n ≡ line
 NamesLine (drove.NoMemory n) line = n ≡ line
 
--- Why the work stopped: at the line `end`, a fault of the source, the sink or the tape, or for want of memory.
+-- Why the work stopped: at the line `end`, a fault of the source, the sink or the tape, or as memory ran out.
 abbrev pub Stops : Why → Stop → Plan → List ℕ → List Session → List (List ℕ) → Option (List ℕ) → List ℕ → ℕ → Type 0
 Stops why.Ended stop plan down sessions midst left octets room = (stop ≡ BehindLine) × (midst ≡ []) × IsOrder octets End
 Stops why.ReadFault stop plan down sessions midst left octets room = (stop ≡ BehindLine) × (midst ≡ []) × HasNoLf octets

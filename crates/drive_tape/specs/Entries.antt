@@ -15,7 +15,7 @@ transcript_entry (Refused text) = transcript.Entry.Refused text
 abbrev pub transcript_entries : List Entry → List transcript.Entry
 transcript_entries entries = map transcript_entry entries
 
--- all the lines were appended; or a front of them that is not all, and perhaps a part of the next
+-- all the lines were appended; or a prefix of them that is not all, and perhaps a part of the next
 abbrev pub WritesEntries : {E : Type 0} → Option (List ℕ) → Option (List ℕ) → Result (Unit {0}) E → List transcript.Entry → Type 0
 WritesEntries old new (Ok _) entries = Appends old new (written_of entries)
 WritesEntries old new (Err _) entries = (front : List transcript.Entry) × (missing : List transcript.Entry) × (cut : List ℕ)

@@ -68,7 +68,7 @@ IsWhy why.WriteFault plan p line stop midst = (stop ≡ SinkFailed) × (midst �
 IsWhy why.NoMemory plan p line stop midst = stop ≡ OutOfMemory
 IsWhy why.ReadFault plan p line stop midst = ⊥
 
--- The line was not handled, or the work stopped in its midst.
+-- The line was not handled, or the work stopped before it was done.
 pub record LineStopped {D : Type 0} (seen : D → Option (List ℕ)) (faults : D → ℕ) (start : World D) (plan : Plan) (p : Point) (line : List ℕ) (reason : Why) (held : Option (List ℕ)) (world : World D) : Type 0 where
   pub stop : Stop
   pub midst : List (List ℕ)

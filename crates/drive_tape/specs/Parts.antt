@@ -3,7 +3,7 @@ use Rattle.std.specs.Prelude.{◌≡◌, ◌⊎◌, ◌<◌, ℕ, List, [], ◌�
 use Rattle.mail_model.specs.Lines.{ended}
 use Rattle.mail_model.specs.Transcript.{Entry, entry_line}
 
--- a front of the line of the first of these entries, which may be empty and is not the whole of it
+-- a prefix of the line of the first of these entries, which may be empty and is not the whole of it
 pub record IsPart (entries : List Entry) (cut : List ℕ) : Type 0 where
   pub entry : Entry
   pub more : List Entry
@@ -12,6 +12,6 @@ pub record IsPart (entries : List Entry) (cut : List ℕ) : Type 0 where
   pub some : 0 < length rest
   pub whole : ended (entry_line entry) ≡ cut ++ rest
 
--- nothing, or such a front
+-- nothing, or such a prefix
 abbrev pub IsCutEntry : List Entry → List ℕ → Type 0
 IsCutEntry entries cut = (cut ≡ []) ⊎ IsPart entries cut

@@ -73,7 +73,7 @@ pub record PlanProgress (left0 left1 : Option (List ℕ)) (draft : Draft) (count
   pub counted : length lines ≡ count
   pub size : length (flat_map ended lines) + room ≡ 2 ^ 40
 
--- the octets behind the plan lines are `go`, with a plan that is served; or why they are not
+-- the octets after the plan lines are `go`, with a plan that is served; or why they are not
 abbrev pub HeadDid : Result (Plan × ℕ) Drove → Option (List ℕ) → List ℕ → ℕ → Draft → ℕ → Type 0
 HeadDid (Ok head) left octets room draft count =
     (line : List ℕ) × (octets ≡ ended line) × HasNoLf line × (tape_plan_line line ≡ Some Go) × (planned draft ≡ Some head.0) × IsServed head.0 × (head.1 ≡ count + 1)

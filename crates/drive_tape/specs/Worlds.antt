@@ -49,7 +49,7 @@ HandsOn (Ok (Asked ask)) (Err _) = ⊤
 HandsOn (Err fault) (Err _) = ⊤
 HandsOn said handed = ⊥
 
--- what came of the beginning of session k's call: its ticket, or the node failed; or want of memory
+-- what came of the beginning of session k's call: its ticket, or the node failed; or out of memory
 abbrev pub BeganSo : {D E : Type 0} → (D → Option (List ℕ)) → (D → ℕ) → World D → List Outcome → ℕ → calls.Call → Result (Option Ticket) E → World D → Type 0
 BeganSo seen faults start outcomes k call (Ok (Some ticket)) world =
     (number : ℕ) × (ticket ≡ nth_ticket number) × (is_up world ≡ true)
@@ -58,7 +58,7 @@ BeganSo seen faults start outcomes k call (Ok None) world = WorldIsAt seen fault
 BeganSo seen faults start outcomes k call (Err _) world =
     IsSince seen faults start (outcomes ++ Refused k call ∷ []) world ⊎ IsSince seen faults start (outcomes ++ Fell k call ∷ []) world
 
--- what came of asking for it: its answer, or want of memory
+-- what came of asking for it: its answer, or out of memory
 abbrev pub AskedSo : {D E : Type 0} → (D → Option (List ℕ)) → (D → ℕ) → World D → List Outcome → ℕ → calls.Call → ℕ → Result (Option Answer) E → World D → Type 0
 AskedSo seen faults start outcomes k call number (Ok (Some answer)) world =
     WorldIsAt seen faults start (outcomes ++ Answers k call number (answer_seen answer) ∷ []) [] world

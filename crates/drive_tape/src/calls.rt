@@ -39,7 +39,7 @@ fn hand_on(said: &Result<Said, StepFault>) -> Result<Option<Ticket>, AllocError>
 ///
 /// # Errors
 ///
-/// Want of memory. Also where all numbers of 64 bits are used up, which no tape is long enough for.
+/// Out of memory. Also where all numbers of 64 bits are used up, which no tape is long enough for.
 pub(crate) fn begin<D: Disk>(
     world: &mut World<D>,
     alloc: Global,
@@ -61,7 +61,7 @@ pub(crate) fn begin<D: Disk>(
 ///
 /// # Errors
 ///
-/// Want of memory.
+/// Out of memory.
 pub(crate) fn ask<D: Disk>(
     world: &mut World<D>,
     alloc: Global,
@@ -90,7 +90,7 @@ pub(crate) fn ask<D: Disk>(
 ///
 /// # Errors
 ///
-/// Want of memory.
+/// Out of memory.
 pub(crate) fn leave<D: Disk>(
     world: &mut World<D>,
     alloc: Global,
@@ -106,7 +106,7 @@ pub(crate) fn leave<D: Disk>(
     let node = only_node();
     match world.step(alloc, Step::Begin { node, call }) {
         Ok(Said::Noted) => Ok(()),
-        // Only memory is wanting for a leave.
+        // Memory alone can run out for a leave.
         _ => Err(AllocError),
     }
 }

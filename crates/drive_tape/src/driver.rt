@@ -19,7 +19,7 @@ use io_edge::{Disk, Sink, Source};
 use std::alloc::{AllocError, Global};
 use tape_lines::{Order, read_order};
 
-/// How many octets of a tape may be taken behind `go`. A plan part has at most 4,101 lines, and so never as many.
+/// How many octets of a tape may be taken after `go`. A plan part has at most 4,101 lines, and so never as many.
 pub const TAPE_OCTETS: u64 = 1_099_511_627_776;
 
 impl From<LineStop> for Stop {

@@ -18,7 +18,7 @@ pub enum TapeFault {
     NoSuchNode,
     /// The node is down. It comes before `TooManySessions`.
     NodeDown,
-    /// 1,099,511,627,776 octets were taken behind `go`, and no whole line is left of them.
+    /// 1,099,511,627,776 octets were taken after `go`, and no whole line is left of them.
     TapeTooLong,
 }
 
@@ -61,7 +61,7 @@ pub enum Drove {
     Ended,
     /// The source failed before a line was whole.
     ReadFault,
-    /// The sink failed at what this line writes. What gave it is done, and no unit behind it was heard.
+    /// The sink failed at what this line writes. What gave it is done, and no unit after it was heard.
     WriteFault(u64),
     /// This line has this fault, and nothing was done for it.
     BadTape(u64, TapeFault),

@@ -110,7 +110,7 @@ impl Entry {
     ///
     /// # Errors
     ///
-    /// Only want of memory.
+    /// Out of memory alone.
     pub fn line(&self, alloc: Global) -> Result<Vec<u8>, AllocError>
         ensures { IfOk result (λ line. line.items ≡ ended (entry_line (transcript_entry self.now))) }
     {

@@ -22,7 +22,7 @@ use tape_lines::Protocol;
 /// How many sessions may stand.
 const MOST_SESSIONS: u64 = 256;
 
-// The node at which a session may be opened; or why not, the first that fits.
+// The node at which a session may be opened; or why not, the first that applies.
 fn admit<D: Disk>(cluster: &Cluster<D>, node: u64) -> Result<NodeNo, TapeFault>
     requires ready { WorldIsReady D.seen D.settled cluster.now.world }
     ensures admits { (start : AWorld D) (p : Point) (protocol : tape.Protocol) → IsAtPoint D.seen D.faults start cluster.now p → Admits (plan_of cluster.now.world) p protocol node result cluster.now.sessions.standing }
@@ -49,7 +49,7 @@ fn admit<D: Disk>(cluster: &Cluster<D>, node: u64) -> Result<NodeNo, TapeFault>
 ///
 /// # Errors
 ///
-/// The fault of the tape where the order is refused, and then nothing is done; a fault of the sink, or want of memory.
+/// The fault of the tape where the order is refused, and then nothing is done; a fault of the sink, or out of memory.
 pub(crate) fn open_line<D: Disk, K: Sink>(
     cluster: &mut Cluster<D>,
     alloc: Global,

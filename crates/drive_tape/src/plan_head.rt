@@ -69,7 +69,7 @@ fn finish(draft: Draft, number: u64) -> Result<(Plan, u64), Drove>
     Ok((plan, number))
 }
 
-/// Reads the plan lines of a tape through `go`, and no octet behind it: the plan, and how many lines were read.
+/// Reads the plan lines of a tape through `go`, and no octet after it: the plan, and how many lines were read.
 ///
 /// # Errors
 ///

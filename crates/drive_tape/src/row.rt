@@ -28,7 +28,7 @@ impl<T> Row<T> {
         }
     }
 
-    /// The items, the first that was pushed in front.
+    /// The items, the first that was pushed coming first.
     pub fn as_slice(&self) -> &[T]
         ensures { result.now ≡ self.now }
     {
@@ -37,11 +37,11 @@ impl<T> Row<T> {
 }
 
 impl<T: Drop> Row<T> {
-    /// Puts the item behind the others.
+    /// Puts the item after the others.
     ///
     /// # Errors
     ///
-    /// Only want of memory; the row is then as before.
+    /// Out of memory alone; the row is then as before.
     pub fn push(&mut self, item: T) -> Result<(), AllocError>
         ensures ok { OnOk result (self.new ≡ self.old ++ item ∷ []) }
         ensures err { OnErr result (self.new ≡ self.old) }

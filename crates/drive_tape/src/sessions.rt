@@ -34,7 +34,7 @@ pub(crate) struct Sessions {
     pub standing: u64,
 }
 
-/// How a session goes on behind what it said.
+/// How a session goes on after what it said.
 #[derive(Debug, Drop)]
 pub(crate) enum After {
     /// It has not ended.
@@ -95,7 +95,7 @@ impl Sessions {
     ///
     /// # Errors
     ///
-    /// Only want of memory.
+    /// Out of memory alone.
     pub fn open(
         &mut self,
         alloc: Global,
@@ -126,7 +126,7 @@ impl Sessions {
     ///
     /// # Errors
     ///
-    /// Only want of memory.
+    /// Out of memory alone.
     pub fn feed(&mut self, place: usize, octets: &[u8]) -> Result<(), AllocError>
         requires within { place < length self.old.talkers.items }
         ensures talks { OnOk result ((sessions : List Session) (plain : Session) → Converse self.old.talkers.items sessions → slice_get sessions place ≡ Some plain → IsOn plain.standing
@@ -165,7 +165,7 @@ impl Sessions {
     ///
     /// # Errors
     ///
-    /// Only want of memory.
+    /// Out of memory alone.
     pub fn next(
         &mut self,
         alloc: Global,
@@ -198,7 +198,7 @@ impl Sessions {
     ///
     /// # Errors
     ///
-    /// Only want of memory.
+    /// Out of memory alone.
     pub fn reply(
         &mut self,
         alloc: Global,
@@ -227,7 +227,7 @@ impl Sessions {
     ///
     /// # Errors
     ///
-    /// Only want of memory.
+    /// Out of memory alone.
     pub fn fall(
         &mut self,
         alloc: Global,

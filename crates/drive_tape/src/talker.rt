@@ -36,7 +36,7 @@ impl Talker {
     ///
     /// # Errors
     ///
-    /// Only want of memory.
+    /// Out of memory alone.
     pub fn open(
         alloc: Global,
         protocol: Protocol,
@@ -67,7 +67,7 @@ impl Talker {
     ///
     /// # Errors
     ///
-    /// Only want of memory.
+    /// Out of memory alone.
     pub fn feed(&mut self, octets: &[u8]) -> Result<(), AllocError>
         ensures ok { OnOk result ((plain : Session) → Matches self.old plain Due.Nothing → IsOn plain.standing → Fed (Matches self.new) plain Due.Nothing octets.now) }
     {
@@ -81,7 +81,7 @@ impl Talker {
     ///
     /// # Errors
     ///
-    /// Only want of memory.
+    /// Out of memory alone.
     pub fn next(
         &mut self,
         alloc: Global,
@@ -102,7 +102,7 @@ impl Talker {
     ///
     /// # Errors
     ///
-    /// Only want of memory.
+    /// Out of memory alone.
     pub fn reply(
         &mut self,
         alloc: Global,
@@ -125,7 +125,7 @@ impl Talker {
     ///
     /// # Errors
     ///
-    /// Only want of memory.
+    /// Out of memory alone.
     pub fn node_down(&mut self, alloc: Global, out: &mut Vec<u8>) -> Result<(), AllocError>
         ensures fell { OnOk result ((octets : List ℕ) × (out.new.items ≡ out.old.items ++ octets)
             × ((plain : Session) → Matches self.old plain Due.Nothing → IsOn plain.standing → Fell (Matches self.new) plain octets)) }

@@ -142,7 +142,7 @@ fn a_marked_message_is_deleted_or_the_disk_fails(rt: HostRuntime) -> Result<(), 
         dropped: 0,
         down: 1,
     };
-    // The Gone state takes four disk calls, behind the eighteen before it.
+    // The Gone state takes four disk calls, after the eighteen before it.
     let cases: [(u64, &[u8], Counts); 4] = [
         (0, dropped, whole),
         (19, fallen, down),

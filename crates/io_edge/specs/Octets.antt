@@ -22,7 +22,7 @@ abbrev pub WritesAt : {E : Type 0} → Option (List ℕ) → Option (List ℕ) �
 WritesAt old new (Ok _) at octets = MatchOption old (new ≡ None) (λ held. (now : List ℕ) × (new ≡ Some now) × Holds held at octets now)
 WritesAt old new (Err _) at octets = MatchOption old (new ≡ None) (λ held. (now : List ℕ) × (new ≡ Some now) × Torn at (length octets) held now)
 
--- all of the piece was appended, or at a fault a front of it that is not the whole
+-- all of the piece was appended, or at a fault a prefix of it that is not the whole
 abbrev pub Writes : {E : Type 0} → Option (List ℕ) → Option (List ℕ) → Result (Unit {0}) E → List ℕ → Type 0
 Writes old new (Ok _) piece = Appends old new piece
 Writes old new (Err _) piece = (front : List ℕ) × (missing : List ℕ) × (0 < length missing) × (piece ≡ front ++ missing) × Appends old new front

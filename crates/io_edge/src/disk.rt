@@ -47,7 +47,7 @@ pub trait Disk {
         ensures cause { HasCause (faults self.old) (faults self.new) result }
         ensures quiet { OnOk result (faults self.new ≡ faults self.old) };
 
-    /// Makes room past the end. It fails for want of memory alone, and then changes nothing.
+    /// Makes room past the end. It fails only where memory runs out, and then changes nothing.
     fn reserve(&mut self, extra: u64) -> Result<(), AllocError>
         ensures room { OnOk result (extra ≤ room self.new) }
         ensures never_less { room self.old ≤ room self.new }

@@ -16,7 +16,7 @@
 //! disk that fails and tears is `MemoryDisk` of `node_disk`.
 //!
 //! Refused: a write to a disk that begins past its end, or goes further past the end than the room
-//! that was reserved. Want of memory is no fault of the outside where a call has an answer for it
+//! that was reserved. Out of memory is no fault of the outside where a call has an answer for it
 //! (`reserve` of a disk, `store` of a yard); a `VecSink` has none and counts it as a fault.
 //!
 //! Not done here: nothing is tried again, and nothing is buffered. After a failed write the written

@@ -15,7 +15,7 @@ pub trait Source {
     /// How often it has failed.
     ghost faults: { Self → ℕ };
 
-    /// Takes octets from the front of what is left. 0 for a slice that is not empty is the end.
+    /// Takes octets from the beginning of what is left. 0 for a slice that is not empty is the end.
     /// A failed call takes none, and a later call may go on.
     fn read(&mut self, into: &mut [u8]) -> Result<usize, Failed>
         ensures bound { ReadsAtMost result into.new }
@@ -31,7 +31,7 @@ pub trait Sink {
     /// How often it has failed.
     ghost faults: { Self → ℕ };
 
-    /// Appends that many octets from the front of the piece. A failed call appends none.
+    /// Appends that many octets from the beginning of the piece. A failed call appends none.
     /// Taking 0 octets of a piece that is not empty counts as a fault.
     fn write(&mut self, piece: &[u8]) -> Result<usize, Failed>
         ensures bound { WritesAtMost result piece.now }
@@ -42,7 +42,7 @@ pub trait Sink {
 
 /// Writes the whole piece, in as many calls as the sink needs.
 ///
-/// At a fault a front of the piece is written, and never all of it.
+/// At a fault a prefix of the piece is written, and never all of it.
 pub fn write_all<K: Sink>(sink: &mut K, piece: &[u8]) -> Result<(), Failed>
     ensures octets { Writes (K.contents sink.old) (K.contents sink.new) result piece.now }
     ensures cause { HasCause (K.faults sink.old) (K.faults sink.new) result }

@@ -19,7 +19,7 @@ use std::{env, io};
 /// The octets of a record's payload.
 static PAYLOAD: [u8; 1024] = [b'x'; 1024];
 
-// The words behind the program's name.
+// The words after the program's name.
 fn words_of(rt: &HostRuntime) -> io::Result<Vec<String>> {
     let mut words = Vec::new(rt.alloc());
     for word in env::args(rt)?.skip(1) {

@@ -1,4 +1,4 @@
--- Counts of octets at a front, and words in any case.
+-- Counts of octets at a beginning, and words in any case.
 use Rattle.std.proofs.Common.{◌≡◌, ℕ, ◌+◌, ◌-◌, ◌<◌, ◌≤◌, Bool, true, false, ◌&&◌, nat_eq, get_or, List, [], ◌∷◌, ◌++◌, length, take, refl, sym, ◌∙◌, ap, arith}
 use Rattle.std.proofs.lemmas.List.{take_rest, take_more, length_push}
 use Rattle.std.proofs.lemmas.List.Folds.{length-prefix_len}

@@ -1,4 +1,4 @@
--- A word at the front of a line, and what follows it.
+-- A word at the beginning of a line, and what follows it.
 use Rattle.std.proofs.Common.{◌≡◌, ◌⊎◌, inl, inr, ℕ, Bool, true, false, cond, ◌&&◌, ◌||◌, nat_eq, List, [], ◌∷◌, ◌++◌, length, refl, arith}
 use Rattle.std.specs.List.{position_or_len}
 use Rattle.mail_model.specs.Names.{begins_with}
@@ -13,7 +13,7 @@ pub or_false : (a b : Bool) → (a || b) ≡ false → (a ≡ false) × (b ≡ f
 or_false true b h = absurd (cc)
 or_false false b h = (refl, h)
 
--- a space in front, or nothing
+-- a leading space, or nothing
 abbrev pub begins_or_ends : List ℕ → Bool
 begins_or_ends [] = true
 begins_or_ends (x ∷ xs) = nat_eq x 32
@@ -30,7 +30,7 @@ trimmed_begins (x ∷ rest) r = elim (is_blank x && nat_eq (length (trimmed rest
 pub word_no_space : (x : ℕ) → is_blank x ≡ false → nat_eq x 32 ≡ false
 word_no_space x h = (or_false (nat_eq x 32) (nat_eq x 9) h).0
 
--- a word in front stays
+-- a leading word stays
 pub word_len : (verb rest : List ℕ) → IsOneWord verb → begins_or_ends rest ≡ true → position_or_len (λ x. nat_eq x 32) (verb ++ rest) ≡ length verb
 word_len [] [] w r = refl
 word_len [] (x ∷ rest) w r = rw r

@@ -8,14 +8,14 @@
 //! DESCRIPTION
 //!
 //! - `trimmed(line)` is the line without the spaces and tabs at its end, and `unspaced(octets)` the
-//!   octets without the spaces at their front.
+//!   octets without the spaces at their beginning.
 //! - `split_verb(line)` gives the octets up to the first space, and what follows them, with that space
-//!   in front. `is_word(octets, word)` says whether the octets are a word, given in upper case, in any
+//!   before. `is_word(octets, word)` says whether the octets are a word, given in upper case, in any
 //!   case.
 //! - `first_word`, `behind_word` and `has_space` cut at the first space, which belongs to neither
-//!   side. Where there is none, all octets are the first word, and nothing stands behind it.
+//!   side. Where there is none, all octets are the first word, and nothing stands after it.
 //! - `len_before(stop, octets)` counts the octets before the first of a kind.
-//! - `number(word)` is the number of 1 to 20 decimal digits, zeros in front among them, below 2^64;
+//! - `number(word)` is the number of 1 to 20 decimal digits, leading zeros among them, below 2^64;
 //!   `None` where the word is none.
 //!
 //! STANDS ON

@@ -62,7 +62,7 @@ fn space_count(octets: &[u8]) -> usize
     octets.iter().take_while(|x| **x == b' ').count()
 }
 
-/// The octets without the spaces at their front.
+/// The octets without the spaces at their beginning.
 #[tactic(auto, using(crate::proofs::Fronts::octet_counts))]
 pub fn unspaced(octets: &[u8]) -> &[u8]
     ensures { result.now ≡ unspaced octets.now }

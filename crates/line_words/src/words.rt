@@ -21,7 +21,7 @@ pub fn first_word(octets: &[u8]) -> &[u8]
     &octets[..word_len(octets)]
 }
 
-/// The octets behind the first space; none where there is none.
+/// The octets after the first space; none where there is none.
 pub fn behind_word(octets: &[u8]) -> &[u8]
     ensures { result.now ≡ behind_word octets.now }
 {

@@ -169,7 +169,7 @@ impl Body {
     ///
     /// # Errors
     ///
-    /// Only want of memory.
+    /// Out of memory alone.
     pub fn copy(&self) -> Result<Body, AllocError>
         ensures { IfOk result (λ body. body ≡ self.now) }
     {

@@ -10,7 +10,7 @@ pub trait Copied {
     ///
     /// # Errors
     ///
-    /// Only want of memory.
+    /// Out of memory alone.
     fn copy(&self) -> Result<Self, AllocError>
         ensures { IfOk result (λ copy. copy ≡ self.now) };
 }

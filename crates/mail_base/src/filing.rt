@@ -55,7 +55,7 @@ impl Filing {
     ///
     /// # Errors
     ///
-    /// Only want of memory.
+    /// Out of memory alone.
     pub fn copy(&self) -> Result<Filing, AllocError>
         ensures { IfOk result (λ filing. filing ≡ self.now) }
     {
@@ -74,7 +74,7 @@ impl Begun {
     ///
     /// # Errors
     ///
-    /// Only want of memory.
+    /// Out of memory alone.
     pub fn copy(&self) -> Result<Begun, AllocError>
         ensures { IfOk result (λ begun. begun ≡ self.now) }
     {

@@ -45,7 +45,7 @@ impl Ids {
     ///
     /// # Errors
     ///
-    /// Only want of memory.
+    /// Out of memory alone.
     pub fn copy(&self) -> Result<Ids, AllocError>
         ensures { IfOk result (λ ids. ids ≡ self.now) }
     {
@@ -56,11 +56,11 @@ impl Ids {
         Ok(Ids { held })
     }
 
-    /// Puts the id behind the others.
+    /// Puts the id after the others.
     ///
     /// # Errors
     ///
-    /// Only want of memory; the list is then as before.
+    /// Out of memory alone; the list is then as before.
     pub fn push(&mut self, id: MsgId) -> Result<(), AllocError>
         ensures ok { OnOk result (self.new ≡ self.old ++ id ∷ []) }
         ensures err { OnErr result (self.new ≡ self.old) }

@@ -30,11 +30,11 @@ impl Items {
         }
     }
 
-    /// Puts the message behind the others.
+    /// Puts the message after the others.
     ///
     /// # Errors
     ///
-    /// Only want of memory; the list is then as before.
+    /// Out of memory alone; the list is then as before.
     pub fn push(&mut self, item: Item) -> Result<(), AllocError>
         ensures ok { OnOk result (self.new ≡ self.old ++ item ∷ []) }
         ensures err { OnErr result (self.new ≡ self.old) }

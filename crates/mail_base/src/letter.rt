@@ -43,7 +43,7 @@ impl Letter {
     ///
     /// # Errors
     ///
-    /// Only want of memory.
+    /// Out of memory alone.
     pub fn copy(&self) -> Result<Letter, AllocError>
         ensures { IfOk result (λ letter. letter ≡ self.now) }
     {

@@ -5,7 +5,7 @@
 //! cluster; objects by key and state; epochs with their members and their map of users; and the letters by which
 //! nodes speak. Contracts see each as the plain record, list, number or map of `mail_model` or `object_model`, so
 //! that callers reason about those and never about fields. What allocates takes the allocator and answers
-//! want of memory, with nothing changed.
+//! out of memory, with nothing changed.
 //!
 //! An enum is seen as it stands; `specs/Seen.antt` and `specs/Bodies.antt` say which plain word it means.
 //!

@@ -111,7 +111,7 @@ impl Name {
     ///
     /// # Errors
     ///
-    /// The first rule that is broken, in the order of `NameFault`; want of memory may come in place of the name.
+    /// The first rule that is broken, in the order of `NameFault`; out of memory may come in place of the name.
     pub fn read(alloc: Global, octets: &[u8]) -> Result<Name, NameFault>
         ensures { AnswersByRules NameFault.NoMemory result (name_fault octets.now) (λ name. name ≡ lower octets.now) }
     {
@@ -139,7 +139,7 @@ impl Name {
     ///
     /// # Errors
     ///
-    /// Only want of memory.
+    /// Out of memory alone.
     pub fn copy(&self) -> Result<Name, AllocError>
         ensures { IfOk result (λ name. name ≡ self.now) }
     {

@@ -41,7 +41,7 @@ impl Names {
     ///
     /// # Errors
     ///
-    /// Only want of memory.
+    /// Out of memory alone.
     pub fn copy(&self) -> Result<Names, AllocError>
         ensures { IfOk result (λ names. names ≡ self.now) }
     {
@@ -52,11 +52,11 @@ impl Names {
         Ok(Names { held })
     }
 
-    /// Puts the name behind the others.
+    /// Puts the name after the others.
     ///
     /// # Errors
     ///
-    /// Only want of memory; the list is then as before.
+    /// Out of memory alone; the list is then as before.
     pub fn push(&mut self, name: Name) -> Result<(), AllocError>
         ensures ok { OnOk result (self.new ≡ self.old ++ name ∷ []) }
         ensures err { OnErr result (self.new ≡ self.old) }

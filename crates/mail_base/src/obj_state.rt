@@ -46,7 +46,7 @@ impl ObjState {
     ///
     /// # Errors
     ///
-    /// Only want of memory.
+    /// Out of memory alone.
     pub fn copy(&self) -> Result<ObjState, AllocError>
         ensures same { IfOk result (λ state. state ≡ self.now) }
         ensures of_messages { IsOfMessage self.now.value → IsOk result }

@@ -16,7 +16,7 @@ impl Proof {
     ///
     /// # Errors
     ///
-    /// Only want of memory.
+    /// Out of memory alone.
     pub fn copy(&self) -> Result<Proof, AllocError>
         ensures { IfOk result (λ proof. proof ≡ self.now) }
     {

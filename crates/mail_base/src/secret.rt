@@ -69,7 +69,7 @@ impl Secret {
     ///
     /// # Errors
     ///
-    /// Only want of memory.
+    /// Out of memory alone.
     pub fn copy(&self) -> Result<Secret, AllocError>
         ensures { IfOk result (λ secret. secret ≡ self.now) }
     {

@@ -70,7 +70,7 @@ impl<T: Drop> Sequence<T> {
     ///
     /// # Errors
     ///
-    /// Only want of memory; the list is then as before.
+    /// Out of memory alone; the list is then as before.
     pub fn push(&mut self, value: T) -> Result<(), AllocError>
         ensures ok { OnOk result (self.new ≡ self.old ++ value ∷ []) }
         ensures err { OnErr result (self.new ≡ self.old) }
@@ -85,7 +85,7 @@ impl<T: Copied + Drop> Sequence<T> {
     ///
     /// # Errors
     ///
-    /// Only want of memory.
+    /// Out of memory alone.
     pub fn copy(&self) -> Result<Sequence<T>, AllocError>
         ensures { IfOk result (λ values. values ≡ self.now) }
     {

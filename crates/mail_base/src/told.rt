@@ -119,7 +119,7 @@ impl ToldPart {
     ///
     /// # Errors
     ///
-    /// Only want of memory.
+    /// Out of memory alone.
     pub fn copy(&self) -> Result<ToldPart, AllocError>
         ensures { IfOk result (λ part. part ≡ self.now) }
     {

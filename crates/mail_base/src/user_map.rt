@@ -98,7 +98,7 @@ impl UserMap {
     ///
     /// # Errors
     ///
-    /// Only want of memory.
+    /// Out of memory alone.
     pub fn copy(&self) -> Result<UserMap, AllocError>
         ensures { IfOk result (λ map. map ≡ self.now) }
     {

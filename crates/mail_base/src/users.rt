@@ -40,7 +40,7 @@ impl Users {
     ///
     /// # Errors
     ///
-    /// Only want of memory; the users are then as before.
+    /// Out of memory alone; the users are then as before.
     pub fn insert(&mut self, name: Name, secret: Secret) -> Result<(), AllocError>
         ensures ok { OnOk result (self.new ≡ map.insert self.old name secret) }
         ensures err { OnErr result (self.new ≡ self.old) }

@@ -22,7 +22,7 @@ impl Value {
     ///
     /// # Errors
     ///
-    /// Only want of memory.
+    /// Out of memory alone.
     pub fn copy(&self) -> Result<Value, AllocError>
         ensures same { IfOk result (λ value. value ≡ self.now) }
         ensures of_messages { IsOfMessage (value_seen self.now) → IsOk result }

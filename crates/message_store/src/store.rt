@@ -101,7 +101,7 @@ impl MessageStore {
     ///
     /// # Errors
     ///
-    /// Only want of memory; nothing is noted then.
+    /// Out of memory alone; nothing is noted then.
     pub fn found(&mut self, id: MsgId, place: Place) -> Result<(), AllocError>
         requires { 14 ≤ place.length }
         ensures noted { OnOk result (Notes self.old self.new id place) }

@@ -57,7 +57,7 @@ passed_none old new P same held is_P = record {
   now = λ c is. is_P c (subst (λ (h : Held). IsImage h c) held is);
 }
 
--- the images behind a write
+-- the images after a write
 pub written_images : (disk : MemoryDisk) (new : Held) (at : ℕ) (octets : List ℕ) → at ≤ length disk.held.octets.items → Holds disk.held.octets.items at octets new.octets.items
     → new.synced ≡ disk.held.synced → new.unsynced.items ≡ disk.held.unsynced.items ++ (record { at = at; length = length octets }) ∷ []
     → (c : List ℕ) → IsImage new c → IsTornFrom memory_clock disk at (length octets) c
@@ -72,7 +72,7 @@ written_images disk new at octets within holds synced noted c image = ⊎_elim
     record { base = before.base; was = inr before.reached; torn = before.torn })
     image
 
--- the images behind a write that changed nothing
+-- the images after a write that changed nothing
 pub unwritten_images : (disk : MemoryDisk) (new : Held) (at n : ℕ) → new.octets ≡ disk.held.octets → new.synced ≡ disk.held.synced → new.unsynced.items ≡ disk.held.unsynced.items
     → (c : List ℕ) → IsImage new c → IsTornFrom memory_clock disk at n c
 unwritten_images disk new at n octets synced noted c image = record { base = c; was = rw (octets, synced, noted) at image; torn = torn_nothing at n c }

@@ -30,7 +30,7 @@ failing_of disk = disk.failing.items
 abbrev pub images_of : MemoryDisk → List Image
 images_of disk = disk.images.items
 
--- The moments are those before and behind each call, of which the disk keeps a record.
+-- The moments are those before and after each call, of which the disk keeps a record.
 abbrev pub memory_clock : Clock MemoryDisk
 memory_clock = record {
   is_image = λ disk. IsImage disk.held;

@@ -185,7 +185,7 @@ impl Tickets {
     ///
     /// # Errors
     ///
-    /// Only want of memory; the tickets are then as before.
+    /// Out of memory alone; the tickets are then as before.
     pub fn open_delivery(
         &mut self,
         alloc: Global,
@@ -206,7 +206,7 @@ impl Tickets {
     ///
     /// # Errors
     ///
-    /// Only want of memory; the tickets are then as before.
+    /// Out of memory alone; the tickets are then as before.
     pub fn open_deletion(
         &mut self,
         alloc: Global,
@@ -227,7 +227,7 @@ impl Tickets {
     ///
     /// # Errors
     ///
-    /// Only want of memory; the tickets are then as before.
+    /// Out of memory alone; the tickets are then as before.
     pub fn open_failed(
         &mut self,
         alloc: Global,

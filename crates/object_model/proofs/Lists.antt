@@ -16,7 +16,7 @@ module _ {X : Type 0} where
   among_either x [] ys h = inr h
   among_either x (z ∷ xs) ys h = ⊎_elim (λ e. inl (inl e)) (λ m. ⊎_elim (λ a. inl (inr a)) (λ b. inr b) (among_either x xs ys m)) h
 
-  -- one of a list with one more behind it
+  -- one of a list with one more after it
   pub among_last : (x : X) (xs : List X) (y : X) → Among x (xs ++ y ∷ []) → Among x xs ⊎ (y ≡ x)
   among_last x xs y h = ⊎_elim (λ a. inl a) (λ b. ⊎_elim (λ e. inr e) (λ none. absurd none) b) (among_either x xs (y ∷ []) h)
 

@@ -39,7 +39,7 @@ pub join_again : (held : Option State) (s : State) → join_with held (join_with
 join_again None s = refl
 join_again (Some h) s = joined_again h s
 
--- records behind others
+-- records after others
 pub held_both : (key : Key) (held : Option State) (records more : List Record) → held_after key held (records ++ more) ≡ held_after key (held_after key held records) more
 held_both key held [] more = refl
 held_both key held (Stated other state ∷ records) more = held_both key (cond (is_same_key other key) (Some (join_with held state)) held) records more
@@ -61,7 +61,7 @@ said_same key disk state = held_both key None disk (Stated key state ∷ []) ∙
 pub said_other : (key other : Key) (disk : List Record) (state : State) → other ≢ key → said key (disk ++ Stated other state ∷ []) ≡ said key disk
 said_other key other disk state apart = held_both key None disk (Stated other state ∷ []) ∙ ap (λ b. cond b (Some (join_with (said key disk) state)) (said key disk)) (key_apart other key apart)
 
--- a record behind all that states nothing
+-- a record after all that states nothing
 pub said_retired : (key other : Key) (disk : List Record) (state : State) → said key (disk ++ Retired other state ∷ []) ≡ said key disk
 said_retired key other disk state = held_both key None disk (Retired other state ∷ [])
 

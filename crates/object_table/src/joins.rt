@@ -50,7 +50,7 @@ fn compare(a: &ObjState, b: &ObjState) -> Ordering
 ///
 /// # Errors
 ///
-/// Only want of memory for a secret.
+/// Out of memory alone for a secret.
 pub fn join(a: &ObjState, b: &ObjState) -> Result<ObjState, AllocError>
     ensures joined { IfOk result (λ state. state ≡ joined a.now b.now) }
     ensures of_messages { IsOfMessage a.now.value → IsOfMessage b.now.value → IsOk result }

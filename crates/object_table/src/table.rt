@@ -103,7 +103,7 @@ impl ObjectTable {
     ///
     /// # Errors
     ///
-    /// Only want of memory.
+    /// Out of memory alone.
     pub fn users(&self, alloc: Global) -> Result<Names, AllocError>
         ensures { IfOk result (λ names. AreUsers names self.now) }
     {
@@ -114,7 +114,7 @@ impl ObjectTable {
     ///
     /// # Errors
     ///
-    /// Only want of memory; the table is then as before.
+    /// Out of memory alone; the table is then as before.
     pub fn take(&mut self, key: &Key, state: &ObjState) -> Result<Taken, AllocError>
         requires { IsOfKind (key_seen key.now) state.now.value }
         ensures taken { OnOk result (self.new ≡ taken (key_seen key.now) state.now self.old) }

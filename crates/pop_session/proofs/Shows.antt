@@ -8,7 +8,7 @@ use Rattle.pop_session.specs.Laws.{NumberedAlike, ListedOnce, NumbersStay, Marke
 abbrev slot_of : Item → Bool → ListingSlot
 slot_of item marked = record { item = item; marked = marked }
 
--- the line of the k-th slot behind the one of number n, in a listing that follows one line
+-- the line of the k-th slot after the one of number n, in a listing that follows one line
 shown : (first : List ℕ) (line : ℕ → Item → List ℕ) (slots : List ListingSlot) (n k : ℕ) (item : Item) (more : List (List ℕ)) →
     option_and_then unmarked_in (slice_get slots k) ≡ Some item →
     slice_get (first ∷ lines_from line n slots ++ more) (length (unmarked (take (suc k) slots))) ≡ Some (line (n + k) item)

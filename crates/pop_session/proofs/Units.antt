@@ -1,4 +1,4 @@
--- What a session follows behind a line, and behind what it had to say.
+-- What a session follows after a line, and after what it had to say.
 use Rattle.std.proofs.Common.{◌≡◌, ◌<◌, ◌≤◌, ◌+◌, ℕ, Bool, true, false, List, [], ◌∷◌, ◌++◌, length, take, drop, flat_map, map, refl, sym, ap, subst, ◌∙◌, arith, append_assoc}
 use Rattle.std.specs.Prelude.{All, Option, Some, None, MatchBool, codes}
 use Rattle.std.specs.Option.{option_map}

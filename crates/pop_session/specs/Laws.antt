@@ -9,7 +9,7 @@ use Rattle.mail_model.specs.PopReplies.{Item, ListingSlot, listing_reply, unmark
 use Rattle.mail_model.specs.Maildrop.{Stage, line_outcome, after_line, message_at, with_mark, list_outcome, uidl_outcome, retr_outcome, dele_outcome}
 use Rattle.mail_model.specs.Maildrop.LineOutcome.{AsksLogin}
 
--- Behind its first line a listing shows of each message that is not marked what is shown of it alone, under its own number, in the place that it has among those that are not marked.
+-- After its first line a listing shows of each message that is not marked what is shown of it alone, under its own number, in the place that it has among those that are not marked.
 abbrev pub NumberedAlike : Type 0
 NumberedAlike = (first : List ℕ) (line : ℕ → Item → List ℕ) (slots : List ListingSlot) (n : ℕ) (item : Item) →
     message_at slots n ≡ Some item → slice_get (listing_reply first line slots) (length (unmarked (take n slots))) ≡ Some (line n item)

@@ -67,7 +67,7 @@ impl Text {
     ///
     /// # Errors
     ///
-    /// Only want of memory; the octets are then as before.
+    /// Out of memory alone; the octets are then as before.
     pub(crate) fn line_into(self, out: &mut Vec<u8>) -> Result<(), AllocError>
         ensures ok { OnOk result (out.new.items ≡ out.old.items ++ sent_line (text_of self)) }
         ensures err { OnErr result (out.new.items ≡ out.old.items) }

@@ -50,7 +50,7 @@
 //! nothing, but that `PASS` may then not come next. `-ERR [SYS/TEMP]` (RFC 3206) says that a call failed, that
 //! some messages may remain, or that the node goes down.
 //!
-//! Want of memory is an `AllocError`. Nothing is then changed, and the call may be made again.
+//! Out of memory is an `AllocError`. Nothing is then changed, and the call may be made again.
 //!
 //! STANDS ON
 //!

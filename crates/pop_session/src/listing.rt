@@ -58,7 +58,7 @@ impl Listing {
     ///
     /// # Errors
     ///
-    /// Only want of memory.
+    /// Out of memory alone.
     pub(crate) fn listed(alloc: Global, items: &Items) -> Result<Listing, AllocError>
         ensures { IfOk result (λ listing. listing ≡ map listed_slot items.now) }
     {

@@ -97,7 +97,7 @@ impl Reply {
     ///
     /// # Errors
     ///
-    /// Only want of memory; the octets are then as before.
+    /// Out of memory alone; the octets are then as before.
     pub(crate) fn lines_into(&self, alloc: Global, out: &mut Vec<u8>) -> Result<(), AllocError>
         ensures ok { OnOk result (out.new.items ≡ out.old.items ++ flat_map sent_line self.now) }
         ensures err { OnErr result (out.new.items ≡ out.old.items) }
@@ -180,7 +180,7 @@ impl Reply {
 ///
 /// # Errors
 ///
-/// Only want of memory; the octets are then as before.
+/// Out of memory alone; the octets are then as before.
 pub(crate) fn ready_into(
     out: &mut Vec<u8>,
     alloc: Global,
@@ -205,7 +205,7 @@ pub(crate) fn ready_into(
 ///
 /// # Errors
 ///
-/// Only want of memory; the octets are then as before.
+/// Out of memory alone; the octets are then as before.
 pub(crate) fn down_into(out: &mut Vec<u8>, alloc: Global, node: NodeNo) -> Result<(), AllocError>
     ensures ok { OnOk result (out.new.items ≡ out.old.items ++ sent_line (down_text node)) }
     ensures err { OnErr result (out.new.items ≡ out.old.items) }
@@ -219,7 +219,7 @@ pub(crate) fn down_into(out: &mut Vec<u8>, alloc: Global, node: NodeNo) -> Resul
 ///
 /// # Errors
 ///
-/// Only want of memory; the octets are then as before.
+/// Out of memory alone; the octets are then as before.
 pub(crate) fn line_into(out: &mut Vec<u8>, line: &[u8]) -> Result<(), AllocError>
     ensures ok { OnOk result (out.new.items ≡ out.old.items ++ sent_line line.now) }
     ensures err { OnErr result (out.new.items ≡ out.old.items) }
@@ -239,7 +239,7 @@ pub(crate) fn line_into(out: &mut Vec<u8>, line: &[u8]) -> Result<(), AllocError
 ///
 /// # Errors
 ///
-/// Only want of memory; `out` is then as before.
+/// Out of memory alone; `out` is then as before.
 pub(crate) fn message_into(
     out: &mut Vec<u8>,
     alloc: Global,

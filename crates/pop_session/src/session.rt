@@ -95,7 +95,7 @@ impl PopSession {
     ///
     /// # Errors
     ///
-    /// Only want of memory; the session is then as before.
+    /// Out of memory alone; the session is then as before.
     pub fn feed(&mut self, piece: &[u8]) -> Result<(), AllocError>
         ensures ok { OnOk result ((plain : Session) (due : moves.Due) → Follows self.old plain due → Fed (Follows self.new) plain due piece.now) }
         ensures stays { KeepsLogin self.old self.new }
@@ -115,7 +115,7 @@ impl PopSession {
     ///
     /// # Errors
     ///
-    /// Only want of memory; the session and `out` are then as before.
+    /// Out of memory alone; the session and `out` are then as before.
     pub fn next(
         &mut self,
         alloc: Global,
@@ -238,7 +238,7 @@ impl PopSession {
     ///
     /// # Errors
     ///
-    /// Only want of memory; the session and `out` are then as before.
+    /// Out of memory alone; the session and `out` are then as before.
     pub fn node_down(&mut self, alloc: Global, out: &mut Vec<u8>) -> Result<(), AllocError>
         ensures ok { OnOk result ((octets : List ℕ) × (out.new.items ≡ out.old.items ++ octets)
             × ((plain : Session) (due : moves.Due) → Follows self.old plain due → IsOn plain.standing → Fell (Follows self.new) plain octets)) }

@@ -197,7 +197,7 @@ fn dele(listing: &Listing, alloc: Global, number: u32) -> Result<Heard, AllocErr
     }
 }
 
-// QUIT behind the login (RFC 1939, section 6).
+// QUIT after the login (RFC 1939, section 6).
 fn quit(user: &Name, listing: &Listing, alloc: Global) -> Result<Heard, AllocError>
     ensures outcome { IfOk result (λ heard. outcome_of_heard heard ≡ quit_outcome (slots_seen listing.now)) }
     ensures own { IfOk result (λ heard. IsOwn user.now listing.now heard) }
@@ -280,7 +280,7 @@ fn mark_by(listing: &mut Listing, command: &Result<PopCommand<'_>, PopFault>)
 }
 
 impl Stage {
-    // The command was obeyed: before the login this user comes in place of the one before, and behind it
+    // The command was obeyed: before the login this user comes in place of the one before, and after it
     // DELE marks.
     fn tell(&mut self, named: Option<Name>, command: &Result<PopCommand<'_>, PopFault>)
         ensures told { stage_of self.new ≡ told_by_line (stage_of self.old) named (seen command.now) }

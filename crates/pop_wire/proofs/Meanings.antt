@@ -26,7 +26,7 @@ not_false false h = refl
 some_more : (n : ℕ) → nat_eq (suc n) 0 ≡ false
 some_more n = grind (arith, nat_tests)
 
--- the command of the octets behind the first space, a verb in upper case and what follows it
+-- the command of the octets after the first space, a verb in upper case and what follows it
 abbrev said : List ℕ → List ℕ → List ℕ → Result Command Fault
 said secret verb rest =
     cond (pointwise nat_eq verb (codes "USER")) (user_command rest)
@@ -65,7 +65,7 @@ case_means_nothing verb other rest v o same r =
     let b = begins_or_ends_from rest r in
     word_said verb rest v b ∙ ap (λ (w : List ℕ). said (drop 1 rest) w (trimmed rest)) same ∙ sym (word_said other rest o b)
 
--- a word behind one space
+-- a word after one space
 word_kept : (word : List ℕ) → IsOneWord word → trimmed word ≡ word
 word_kept word w = ap trimmed (sym (append-nil word)) ∙ word_trimmed word [] w ∙ append-nil word
 
@@ -142,7 +142,7 @@ word_one : (word : List ℕ) → IsOneWord word → has_space word ≡ false
 word_one [] w = refl
 word_one (x ∷ word) w = let p = or_false (is_blank x) _ w in rw (word_no_space x p.0) (word_one word p.1)
 
--- what one word behind a space gives
+-- what one word after a space gives
 word_number : (x : ℕ) (word : List ℕ) → IsOneWord (x ∷ word) → number_in (32 ∷ x ∷ word) ≡ ok_or (short_number_of (x ∷ word)) BadNumber
 word_number x word w =
     let shown = (or_false (is_blank x) _ w).0 in
@@ -261,7 +261,7 @@ pub blanks_mean_nothing : BlanksAtEndMeanNothing
 blanks_mean_nothing line blanks p h =
     ap (λ (l : List ℕ). command_in (line ++ blanks) (verb_of l) (rest_of l)) (trimmed_blanks line blanks h) ∙ same_in (line ++ blanks) line (verb_of (trimmed line)) (rest_of (trimmed line)) p
 
--- spaces behind a verb
+-- spaces after a verb
 unspaced_more : (rest : List ℕ) → unspaced (32 ∷ rest) ≡ unspaced rest
 unspaced_more rest = let e : 1 + prefix_len (λ x. nat_eq x 32) rest ≡ suc (prefix_len (λ x. nat_eq x 32) rest) = omega arith in rw e
 

@@ -51,7 +51,7 @@ abbrev pub BlanksAtEndMeanNothing : Type 0
 BlanksAtEndMeanNothing = (line blanks : List ℕ) → is_pass (verb_of (trimmed line)) ≡ false → list_all is_blank blanks ≡ true →
     pop_command_of (line ++ blanks) ≡ pop_command_of line
 
--- so it does not matter how many spaces stand behind a verb
+-- so it does not matter how many spaces stand after a verb
 abbrev pub MoreSpacesMeanNothing : Type 0
 MoreSpacesMeanNothing = (verb rest : List ℕ) → IsOneWord verb → is_pass verb ≡ false →
     pop_command_of (verb ++ (codes "  " ++ rest)) ≡ pop_command_of (verb ++ (codes " " ++ rest))

@@ -22,7 +22,7 @@ pub fn larger_numbers_are_bad()
     ensures { LargerNumbersAreBad }
 {}
 
-/// Behind `RETR`, `LIST`, `UIDL` and `DELE` two words are a bad argument, whatever they are.
+/// After `RETR`, `LIST`, `UIDL` and `DELE` two words are a bad argument, whatever they are.
 pub fn two_arguments_are_too_many()
     ensures { TwoArgumentsAreTooMany }
 {}
@@ -32,7 +32,7 @@ pub fn blanks_at_end_mean_nothing()
     ensures { BlanksAtEndMeanNothing }
 {}
 
-/// One space more behind a verb means nothing, unless it is PASS.
+/// One space more after a verb means nothing, unless it is PASS.
 pub fn more_spaces_mean_nothing()
     ensures { MoreSpacesMeanNothing }
 {}

@@ -13,13 +13,13 @@
 //!
 //! - `USER name`: one name, of 1 to 64 octets from 0x21 to 0x7E, none of them `<` or `>`, the first
 //!   not `@`. It stays as it was sent.
-//! - `PASS secret`: whatever stands behind the first space, of any octets but not empty. Each space
-//!   and tab in it counts, at its front and its end too.
+//! - `PASS secret`: whatever stands after the first space, of any octets but not empty. Each space
+//!   and tab in it counts, at its beginning and its end too.
 //! - `LIST n` and `UIDL n`, or `LIST` and `UIDL` alone.
 //! - `RETR n` and `DELE n`.
 //! - `STAT` and `QUIT`, alone.
 //!
-//! A number `n` has 1 to 10 digits, zeros in front among them, and is below 2^32.
+//! A number `n` has 1 to 10 digits, leading zeros among them, and is below 2^32.
 //!
 //! DIAGNOSTICS
 //!

@@ -55,7 +55,7 @@ module _ (tape : List ℕ) (good : IsGoodTape tape) where
   abbrev pub run_part : List ℕ
   run_part = flat_map ended good.lines ++ (ended good.last ++ good.behind)
 
-  -- The next line behind plan lines: it is `go`, or the draft takes it too.
+  -- The next line after plan lines: it is `go`, or the draft takes it too.
   record PlanNext (lines : List (List ℕ)) (draft : Draft) (more : List ℕ) : Type 0 where
     next : List ℕ
     rest : List ℕ

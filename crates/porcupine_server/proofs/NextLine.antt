@@ -1,4 +1,4 @@
--- What comes next behind lines that were read from a text.
+-- What comes next after lines that were read from a text.
 use Rattle.std.proofs.Common.{◌≡◌, ◌≢◌, ◌≤◌, ℕ, List, [], ◌∷◌, ◌++◌, length, flat_map, All, refl, sym, ap, ◌∙◌, arith, append_assoc, length-append, inl, inr, ⊎_elim}
 use Rattle.std.specs.Prelude.{◌⊎◌}
 use Rattle.std.proofs.lemmas.List.Elements.{All-head, All-tail}
@@ -62,7 +62,7 @@ pub no_line : (octets line rest : List ℕ) → HasNoLf octets → octets ++ [] 
 no_line octets line rest none is =
     omega (arith, within_line octets [] line rest none is, ap length is, length-append octets [], length-append line (10 ∷ rest))
 
--- the octets behind some of the lines of a text: the next line, and others
+-- the octets after some of the lines of a text: the next line, and others
 pub record Ahead (all lines : List (List ℕ)) (behind more : List ℕ) : Type 0 where
   pub next : List ℕ
   pub others : List (List ℕ)
@@ -73,7 +73,7 @@ pub record Ahead (all lines : List (List ℕ)) (behind more : List ℕ) : Type 0
 line_first : (line : List ℕ) (lines : List (List ℕ)) (behind : List ℕ) → flat_map ended (line ∷ lines) ++ behind ≡ line ++ 10 ∷ (flat_map ended lines ++ behind)
 line_first line lines behind = append_assoc (ended line) (flat_map ended lines) behind ∙ append_assoc line (10 ∷ []) (flat_map ended lines ++ behind)
 
--- A text that is some lines and more, in two ways: the lines of the second are a front of those of the first, or go beyond them.
+-- A text that is some lines and more, in two ways: the lines of the second are a prefix of those of the first, or go beyond them.
 pub next_line : (all lines : List (List ℕ)) (behind more : List ℕ) → All HasNoLf all → All HasNoLf lines
     → flat_map ended all ++ behind ≡ flat_map ended lines ++ more → Ahead all lines behind more ⊎ ((extra : List (List ℕ)) × (lines ≡ all ++ extra))
 next_line [] lines behind more each read is = inr (lines, refl)

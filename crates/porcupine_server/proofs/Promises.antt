@@ -89,7 +89,7 @@ last_is_ending Write = tt
 last_is_ending Store = tt
 last_is_ending NoMemory = tt
 
--- a front of a last line is one
+-- a prefix of a last line is one
 front_ends : (front missing : List Entry) → IsEnding (front ++ missing) → IsEnding front
 front_ends [] missing ends = tt
 front_ends (Refused text ∷ []) missing ends = tt
@@ -116,7 +116,7 @@ missing_lines : (front missing : List Entry) → All HasNoLf (map entry_line (fr
 missing_lines [] missing all = all
 missing_lines (entry ∷ front) missing all = missing_lines front missing (All-tail HasNoLf (entry_line entry) (map entry_line (front ++ missing)) all)
 
--- a front of a line with its LF that is not the whole of it
+-- a prefix of a line with its LF that is not the whole of it
 front_of_line : (line cut rest : List ℕ) → HasNoLf line → 0 < length rest → ended line ≡ cut ++ rest → HasNoLf cut
 front_of_line line [] rest none some parts = All-nil _
 front_of_line [] (y ∷ cut) rest none some parts = absurd (omega (arith, some, ap length parts, length-append cut rest))

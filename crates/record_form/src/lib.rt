@@ -16,7 +16,7 @@
 //!
 //! DIAGNOSTICS
 //!
-//! Both calls fail for want of memory alone. `record_into` has then appended nothing.
+//! Both calls fail only where memory runs out. `record_into` has then appended nothing.
 //!
 //! STANDS ON
 //!

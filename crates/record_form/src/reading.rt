@@ -229,7 +229,7 @@ fn entry_in(alloc: Global, kind: u8, octets: &[u8]) -> Result<Option<DiskEntry>,
 ///
 /// # Errors
 ///
-/// Only want of memory.
+/// Out of memory alone.
 pub fn read_record(alloc: Global, payload: &[u8]) -> Result<Option<DiskEntry>, AllocError>
     ensures { IfOk result (λ found. ReadsAs payload.now found) }
 {

@@ -158,7 +158,7 @@ pub fn octets_head(id: MsgId) -> [u8; 14]
 ///
 /// # Errors
 ///
-/// Only want of memory: nothing is appended then.
+/// Out of memory alone: nothing is appended then.
 pub fn record_into(alloc: Global, out: &mut Vec<u8>, entry: &DiskEntry) -> Result<(), AllocError>
     requires { IsRecord (head_record entry.now) }
     ensures appended { OnOk result (out.new.items ≡ out.old.items ++ payload_of (head_record entry.now)) }

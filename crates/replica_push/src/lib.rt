@@ -4,7 +4,7 @@
 //! acknowledgement takes its sender out of an entry of that very state, and takes the entry out with the last one. A state
 //! that is retired loses its entry. `widen` gives a copy that is here one target more.
 //!
-//! Each call changes the table and the log together, or neither of them: where memory is wanting, both are as before.
+//! Each call changes the table and the log together, or neither of them: where memory runs out, both are as before.
 //! What is to be recorded is answered; this crate knows nothing of disks.
 #![tactic(auto)]
 

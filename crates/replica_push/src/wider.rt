@@ -51,7 +51,7 @@ fn wider_at(table: &ObjectTable, key: &Key, to: NodeNo) -> Option<ObjState>
 ///
 /// # Errors
 ///
-/// Only want of memory; table and log are then as before.
+/// Out of memory alone; table and log are then as before.
 pub fn widen(
     table: &mut ObjectTable,
     log: &mut UpdateLog,

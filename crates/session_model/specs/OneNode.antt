@@ -49,7 +49,7 @@ drawn_by (Strike user ids) drawn = drawn_through drawn ids
 drawn_by (Login user secret) drawn = drawn
 drawn_by (Fetch user id) drawn = drawn
 
--- a call that has no answer: memory ran out before anything was done, or in its midst, or the disk failed
+-- a call that has no answer: memory ran out before anything was done, or before it was done, or the disk failed
 abbrev pub LeavesSome : NodeState → Call → NodeState → Type 0
 LeavesSome old call new = (added : List Record) × (stamps : ℕ) × MayLeave old call added
     × (new ≡ record { drawn = drawn_by call old.drawn; stamps = stamps; records = old.records ++ added })

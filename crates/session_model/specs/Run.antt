@@ -61,7 +61,7 @@ abbrev pub session_fault : Option Session → Option TapeFault
 session_fault None = Some NoSuchSession
 session_fault (Some session) = if is_on session.standing then None else Some NoSuchSession
 
--- why an order is refused, the first that fits, where these nodes are down
+-- why an order is refused, the first that applies, where these nodes are down
 abbrev pub refusal : Plan → List ℕ → List Session → Order → Option TapeFault
 refusal plan down sessions (Open protocol node) =
     if nat_eq node 0 || nat_lt plan.nodes node then Some NoSuchNode
@@ -114,7 +114,7 @@ MayMiss BehindLine missing = ⊥
 MayMiss SinkFailed missing = missing ≢ []
 MayMiss OutOfMemory missing = ⊤
 
--- The work on a line stopped in its midst: of what its last act writes a prefix was written, and nothing was done after it.
+-- The work on a line stopped before it was done: of what its last act writes a prefix was written, and nothing was done after it.
 pub record IsCutOff (plan : Plan) (down : List ℕ) (stop : Stop) (old : List Session) (line : List ℕ) (acts : List Act) (entries : List Entry) (turn : Turn) (new : List Session) : Type 0 where
   pub before : List (List Entry)
   pub says : List Entry

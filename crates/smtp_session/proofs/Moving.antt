@@ -44,7 +44,7 @@ no_text : (text : List ℕ × Bool) → IsGivenText text [] → text.0 ≡ []
 no_text (octets, true) is = is.0
 no_text (octets, false) is = is
 
--- behind a line nothing is to be said
+-- after a line nothing is to be said
 none_due : (heard : Heard) (now : Turn) → Turns heard now → due_count now ≡ 0
 none_due (GoesOn reply) now is = ap due_count is
 none_due (Ends reply) now is = ap due_count is

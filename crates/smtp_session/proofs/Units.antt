@@ -1,4 +1,4 @@
--- What a session follows behind a line, behind octets of a text, and behind what it had to say.
+-- What a session follows after a line, after octets of a text, and after what it had to say.
 use Rattle.std.proofs.Common.{◌≡◌, ◌<◌, ◌≤◌, ◌+◌, ℕ, Bool, true, false, cond, List, [], ◌∷◌, ◌++◌, length, take, drop, Option, Some, None, refl, sym, ap, ap₂, subst, ◌∙◌, arith, append_assoc}
 use Rattle.std.proofs.lemmas.List.{append-nil, length-append, take-append-drop, length-drop}
 use Rattle.std.proofs.lemmas.Bool.{lt-ltb, le-ltb}
@@ -59,7 +59,7 @@ is_short line limit is short = le-ltb 1022 (length line) (omega (arith, is, shor
 pub all_pending : (limit : ℕ) (rest : List ℕ) → Pending (record { limit = limit; past = false; rest = rest }) rest
 all_pending limit rest = record { gone = []; whole = refl; none = λ k within. absurd (omega arith); seam = λ k last. absurd (omega (arith, last)); long = refl }
 
--- behind a unit, where no octet of a text was read
+-- after a unit, where no octet of a text was read
 pub begins : (inside : Bool) (limit : ℕ) (rest : List ℕ) (undotter : Undotter) (text : List ℕ × Bool) → limit ≡ 1024 → Undots undotter [] [] → IsGivenText text [] → length text.0 ≤ 16777216
     → ReadsFed inside (record { limit = limit; past = false; rest = rest }) undotter text rest
 begins inside limit rest undotter text is undots empty short = record {

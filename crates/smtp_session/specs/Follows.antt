@@ -131,7 +131,7 @@ abbrev pub Turns : Heard → Turn → Type 0
 Turns (GoesOn reply) turn = turn ≡ Hears
 Turns (Ends reply) turn = turn ≡ Ended
 
--- The period came behind these lines: the text was too large, and that was said; or the message is to be stored.
+-- The period came after these lines: the text was too large, and that was said; or the message is to be stored.
 abbrev pub EndsText : Plan → ℕ → model.Told → List (List ℕ) → Move → List ℕ → model.Told → Turn → Turn → Type 0
 EndsText plan node talk lines Said octets new was turn =
     (is_large lines ≡ true) × (octets ≡ sent_line (text_of replies.TooLarge node)) × (new ≡ after_unit plan talk (Text lines) []) × (turn ≡ was)

@@ -47,7 +47,7 @@ impl Envelope {
     ///
     /// # Errors
     ///
-    /// Only want of memory; the envelope and `out` are then as before.
+    /// Out of memory alone; the envelope and `out` are then as before.
     pub fn accept(
         &mut self,
         alloc: Global,

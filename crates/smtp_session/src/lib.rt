@@ -48,7 +48,7 @@
 //! 1,024 octets with its CRLF, once it is whole, and `TooLarge` at the end of a text of more than 16,777,216
 //! octets. A command that is refused changes nothing. The lines of a text have no limit of their own.
 //!
-//! Want of memory is an `AllocError`. Nothing is then changed, and the call may be made again.
+//! Out of memory is an `AllocError`. Nothing is then changed, and the call may be made again.
 //!
 //! STANDS ON
 //!

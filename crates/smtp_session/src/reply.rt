@@ -45,7 +45,7 @@ pub enum Reply {
     Down,
 }
 
-// The text of a reply that names the node: its parts before and behind the number.
+// The text of a reply that names the node: its parts before and after the number.
 fn named_into(
     out: &mut Vec<u8>,
     alloc: Global,
@@ -68,7 +68,7 @@ impl Reply {
     ///
     /// # Errors
     ///
-    /// Only want of memory; the octets are then as before.
+    /// Out of memory alone; the octets are then as before.
     pub fn text_into(self, alloc: Global, node: NodeNo, out: &mut Vec<u8>) -> Result<(), AllocError>
         ensures ok { OnOk result (out.new.items ≡ out.old.items ++ text_of self node) }
         ensures err { OnErr result (out.new.items ≡ out.old.items) }
@@ -99,7 +99,7 @@ impl Reply {
     ///
     /// # Errors
     ///
-    /// Only want of memory; the octets are then as before.
+    /// Out of memory alone; the octets are then as before.
     pub fn line_into(self, alloc: Global, node: NodeNo, out: &mut Vec<u8>) -> Result<(), AllocError>
         ensures ok { OnOk result (out.new.items ≡ out.old.items ++ sent_line (text_of self node)) }
         ensures err { OnErr result (out.new.items ≡ out.old.items) }

@@ -53,7 +53,7 @@ pub struct SmtpSession {
     told: Told,
     // the octets that were fed and not looked at further
     cutter: LineCutter,
-    // where in a line of a text the octets stand that were read; at its front outside a text
+    // where in a line of a text the octets stand that were read; at its beginning outside a text
     undotter: Undotter,
     // the text so far; none outside one
     text: Text,
@@ -89,7 +89,7 @@ impl SmtpSession {
     ///
     /// # Errors
     ///
-    /// Only want of memory; the session is then as before.
+    /// Out of memory alone; the session is then as before.
     pub fn feed(&mut self, piece: &[u8]) -> Result<(), AllocError>
         ensures ok { OnOk result ((plain : Session) (due : Due) → Follows self.old plain due → Fed (Follows self.new) plain due piece.now) }
         ensures held { OnOk result (held self.new ≤ held self.old + length piece.now) }
@@ -120,7 +120,7 @@ impl SmtpSession {
     ///
     /// # Errors
     ///
-    /// Only want of memory; the session and `out` are then as before.
+    /// Out of memory alone; the session and `out` are then as before.
     pub fn next(
         &mut self,
         alloc: Global,
@@ -259,7 +259,7 @@ impl SmtpSession {
     ///
     /// # Errors
     ///
-    /// Only want of memory; the session and `out` are then as before.
+    /// Out of memory alone; the session and `out` are then as before.
     pub fn node_down(&mut self, alloc: Global, out: &mut Vec<u8>) -> Result<(), AllocError>
         ensures ok { OnOk result ((octets : List ℕ) × (out.new.items ≡ out.old.items ++ octets)
             × ((plain : Session) (due : Due) → Follows self.old plain due → IsOn plain.standing → Fell (Follows self.new) plain octets)) }

@@ -158,7 +158,7 @@ impl Client {
         Ok(())
     }
 
-    // Feeds a piece, and puts behind `out` what each unit leads to that is then whole, with `|` behind it.
+    // Feeds a piece, and appends to `out` what each unit leads to that is then whole, with `|` after it.
     fn hears_piece(&mut self, piece: &[u8], out: &mut Vec<u8>) -> Result<(), Fail> {
         self.session.feed(piece)?;
         for _ in 0..piece.len().saturating_add(2) {
@@ -324,7 +324,7 @@ fn hears_the_same_in_any_pieces(rt: HostRuntime) -> Result<(), Fail> {
 const BEGIN: &[u8] = b"HELO c\r\nMAIL FROM:<bob>\r\nRCPT TO:<alice>\r\nDATA\r\n";
 
 impl Client {
-    // The text that is filed where these octets come behind DATA, in pieces of so many.
+    // The text that is filed where these octets come after DATA, in pieces of so many.
     fn files(&mut self, octets: &[u8], size: usize) -> Result<Option<Deliver>, Fail> {
         self.hears(BEGIN, size)?;
         self.hears(octets, size)?;

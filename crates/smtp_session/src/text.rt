@@ -72,7 +72,7 @@ impl Text {
     ///
     /// # Errors
     ///
-    /// Only want of memory; the text and the undotter are then as before.
+    /// Out of memory alone; the text and the undotter are then as before.
     pub fn read(
         &mut self,
         alloc: Global,

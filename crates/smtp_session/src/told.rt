@@ -20,7 +20,7 @@ use std::alloc::{AllocError, Global};
 /// What a command line leads to.
 #[derive(Clone, Copy, Debug, PartialEq, Eq)]
 pub enum Heard {
-    /// Its reply, behind which the session goes on.
+    /// Its reply, after which the session goes on.
     GoesOn(Reply),
     /// Its reply, which ends the session.
     Ends(Reply),
@@ -152,7 +152,7 @@ impl Told {
     ///
     /// # Errors
     ///
-    /// Only want of memory; nothing is changed then.
+    /// Out of memory alone; nothing is changed then.
     pub fn hear(
         &mut self,
         alloc: Global,
@@ -174,7 +174,7 @@ impl Told {
     ///
     /// # Errors
     ///
-    /// Only want of memory.
+    /// Out of memory alone.
     pub fn name(&self, alloc: Global) -> Result<Octets, AllocError>
         ensures name { IfOk result (λ name. name ≡ (unwrap_or (talk_of self.now).greeting unnamed).name) }
         ensures short { IfOk result (λ name. length name ≤ 255) }

@@ -19,7 +19,7 @@ pub record IsClientName (name : List ℕ) : Type 0 where
   pub some : 0 < length name
   pub short : length name ≤ 255
 
--- a source route behind its first `@` and before its `:`
+-- a source route after its first `@` and before its `:`
 pub record IsRoute (route : List ℕ) : Type 0 where
   pub octets : list_all is_path_octet route ≡ true
   pub no_colon : list_any (λ x. nat_eq x 58) route ≡ false

@@ -31,7 +31,7 @@ abbrev pub seen : Result Command SmtpFault → Result smtp.Command smtp.Fault
 seen (Ok command) = Ok (command_seen command)
 seen (Err fault) = Err (fault_seen fault)
 
--- the commands that the octets behind each verb make
+-- the commands that the octets after each verb make
 abbrev pub helo_of : List ℕ → Result smtp.Command smtp.Fault
 helo_of rest = if is_helo_name (unspaced rest) then Ok (smtp.Command.Helo (unspaced rest)) else Err smtp.Fault.BadArgument
 

@@ -16,7 +16,7 @@
 //! - `RCPT TO:<path>`: the same, but the path is not empty.
 //! - `DATA` and `QUIT`, alone.
 //!
-//! A path is printable ASCII without `<` and `>`. A source route in front of it (`@a,@b:`, RFC 5321,
+//! A path is printable ASCII without `<` and `>`. A source route before it (`@a,@b:`, RFC 5321,
 //! section 4.1.2 and appendix C) is left out, and what is left has at most 512 octets.
 //!
 //! DIAGNOSTICS

@@ -1,4 +1,4 @@
-// The front of a path.
+// The beginning of a path.
 ghost use Rattle.std.specs.Prelude.{◌≡◌, take, drop};
 ghost use Rattle.mail_model.specs.Names.{begins_with};
 

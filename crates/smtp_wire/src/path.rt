@@ -53,7 +53,7 @@ fn path_content(octets: &[u8]) -> Option<&[u8]>
     }
 }
 
-/// What stands between the brackets of the path behind the keyword, which is in upper case.
+/// What stands between the brackets of the path after the keyword, which is in upper case.
 pub fn path_behind<'a>(keyword: &[u8], rest: &'a [u8]) -> Option<&'a [u8]>
     ensures { option_copied result ≡ path_behind keyword.now rest.now }
 {

@@ -74,7 +74,7 @@ impl Draft {
     ///
     /// # Errors
     ///
-    /// Only want of memory, for a user; the draft is then as before.
+    /// Out of memory alone, for a user; the draft is then as before.
     pub fn add(&mut self, line: PlanLine) -> Result<bool, AllocError>
         ensures took { IfOk result (λ took. drafted self.old (plan_line_seen line) ≡ (if took then Some self.new else None)) }
         ensures kept { IfOk result (λ took. took ≡ false → self.new ≡ self.old) }

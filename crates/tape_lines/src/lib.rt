@@ -5,7 +5,7 @@
 //! the octets of `feed`. Each call answers exactly what the definitions of `mail_model` say of the line.
 //!
 //! A line is given without its LF; a CR at its end is dropped, and a line of more than 65,535 octets is
-//! refused. Words stand behind one space each. Numbers have 1 to 20 decimal digits and are below 2^64.
+//! refused. Words stand after one space each. Numbers have 1 to 20 decimal digits and are below 2^64.
 //! Octets are pairs of hexadecimal digits of either case, one pair at least.
 //! It reads no source and writes no transcript.
 #![tactic(auto)]

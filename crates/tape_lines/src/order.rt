@@ -45,7 +45,7 @@ fn say_to(rest: &[u8]) -> Option<Order<'_>>
     })
 }
 
-// The octets that the text spells. Only want of memory is an error: other faults mean that it spells none.
+// The octets that the text spells. Out of memory alone is an error: other faults mean that it spells none.
 fn hex_octets(alloc: Global, text: &[u8]) -> Result<Option<Vec<u8>>, AllocError>
     ensures { IfOk result (λ octets. option_map (λ held. held.items) octets ≡ hex_octets text.now) }
 {
@@ -157,7 +157,7 @@ fn spelt_order(alloc: Global, line: &[u8]) -> Result<Option<Order<'_>>, AllocErr
 ///
 /// # Errors
 ///
-/// Only want of memory, for the octets of `feed`.
+/// Out of memory alone, for the octets of `feed`.
 pub fn read_order(alloc: Global, raw: &[u8]) -> Result<Option<Order<'_>>, AllocError>
     ensures { IfOk result (λ order. option_map order_seen order ≡ tape_order raw.now) }
 {

@@ -171,7 +171,7 @@ fn spelt_line(alloc: Global, line: &[u8]) -> Result<Option<PlanLine>, AllocError
 ///
 /// # Errors
 ///
-/// Only want of memory, for a name or a secret.
+/// Out of memory alone, for a name or a secret.
 pub fn read_plan_line(alloc: Global, raw: &[u8]) -> Result<Option<PlanLine>, AllocError>
     ensures { IfOk result (λ line. option_map plan_line_seen line ≡ tape_plan_line raw.now) }
 {

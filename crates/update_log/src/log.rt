@@ -111,7 +111,7 @@ impl UpdateLog {
     ///
     /// # Errors
     ///
-    /// Only want of memory; the log is then as before.
+    /// Out of memory alone; the log is then as before.
     pub fn note(&mut self, key: &Key, state: &ObjState, own: NodeNo) -> Result<(), AllocError>
         ensures ok { OnOk result (self.new ≡ noted own (key_seen key.now) state.now self.old) }
         ensures err { OnErr result (self.new ≡ self.old) }
@@ -141,7 +141,7 @@ impl UpdateLog {
     ///
     /// # Errors
     ///
-    /// Only want of memory.
+    /// Out of memory alone.
     pub fn due(&self, alloc: Global, to: NodeNo, most: usize) -> Result<Vec<Key>, AllocError>
         ensures { IfOk result (λ keys. map key_seen keys.items ≡ due self.now to most) }
     {

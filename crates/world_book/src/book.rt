@@ -32,7 +32,7 @@ impl Book {
     ///
     /// # Errors
     ///
-    /// Only want of memory; entries and room are then as before.
+    /// Out of memory alone; entries and room are then as before.
     pub fn reserve(&mut self, extra: usize) -> Result<(), AllocError>
         ensures entries { entries_of self.new ≡ entries_of self.old }
         ensures spare { OnOk result (extra ≤ spare_of self.new) }

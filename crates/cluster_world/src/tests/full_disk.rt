@@ -2,7 +2,7 @@
 use io_edge::{Disk, Failed};
 use std::alloc::AllocError;
 
-/// A disk for which memory runs out behind so many calls of `reserve`.
+/// A disk for which memory runs out after so many calls of `reserve`.
 #[derive(Drop)]
 pub(super) struct FullDisk<D> {
     /// The disk that holds the octets.

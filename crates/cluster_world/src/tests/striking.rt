@@ -100,7 +100,7 @@ fn is_dropped(entry: &Entry, number: u64) -> bool {
     }
 }
 
-// Whether the book says behind four copies that bob's first and third message are to be deleted, and then, where the node
+// Whether the book says after four copies that bob's first and third message are to be deleted, and then, where the node
 // went down, that it did.
 fn books_both(entries: &[Entry], down: bool) -> bool {
     match entries {

@@ -1,4 +1,4 @@
-// Messages that DELE marks, and QUIT behind them.
+// Messages that DELE marks, and QUIT after them.
 
 use super::{Client, says_in_pieces};
 use std::test::Fail;

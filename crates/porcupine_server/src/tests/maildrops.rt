@@ -489,7 +489,7 @@ const READ_AT_ONCE_REPLIES: &[u8] = b"  2 +OK send PASS
 end
 ";
 
-// What comes behind the end of a session is ignored.
+// What comes after the end of a session is ignored.
 #[test]
 fn many_commands_come_in_one_line(rt: HostRuntime) -> Result<(), Fail> {
     let alloc = rt.alloc();

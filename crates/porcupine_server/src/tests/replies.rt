@@ -238,7 +238,7 @@ fn command_lines_have_greatest_lengths(rt: HostRuntime) -> Result<(), Fail> {
     let bad: &[u8] = b"501 bad argument";
     let none: &[u8] = b"550 no such mailbox";
     let long: &[u8] = b"500 line too long";
-    // What stands before and behind the letters, the greatest number of them, and the replies to so many and to one more.
+    // What stands before and after the letters, the greatest number of them, and the replies to so many and to one more.
     let cases: [(&[u8], &[u8], usize, &[u8], &[u8]); 7] = [
         (b"", b"", 1022, unknown, long),
         (b"DATA ", b"", 1017, bad, long),

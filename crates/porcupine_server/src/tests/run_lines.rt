@@ -271,7 +271,7 @@ say 1 QUIT
 end
 ";
 
-// The tape is cut at each octet of the line behind those of the script.
+// The tape is cut at each octet of the line after those of the script.
 fn stops_within(
     rt: &impl Abort,
     script: &Script,

@@ -3,7 +3,7 @@ use Rattle.std.specs.Vec.Iter.{into_iter_items, into_iter_len}
 use Rattle.world_book.specs.Books.{entries_of, spare_of}
 use Rattle.world_book.proofs.book.Book.add_all.Given as goal
 
--- the entries so far stand behind the others, and there is room for those that are left
+-- the entries so far stand after the others, and there is room for those that are left
 abbrev pub invariant-loop-entry : goal.invariant-loop-entry
 invariant-loop-entry l = record {
   all : l.yielded ++ into_iter_items l.entry-iterator ≡ into_iter_items l.initial.entry-iterator;
