@@ -36,7 +36,7 @@
 //! - the end of a session that was let in, by QUIT or `close`, is a leave, after its last line was written.
 //!
 //! Where the disk fails as a call begins, the node is down from then on: in place of the reply come
-//! `* fault 1` and, for each session that stands, in rising order of number, its last line and that it is
+//! `* fault 1` and, for each open session, in rising order of number, its last line and that it is
 //! closed. The tape goes on; `open` is then refused, and so are `say`, `feed` and `close`.
 //!
 //! An `Entry` is a line of the transcript. `k TEXT` says that session k got the line TEXT, `* TEXT` that
@@ -48,7 +48,7 @@
 //! `Ended` where the line `end` was read, `ReadFault` where the source failed before a line was whole,
 //! `WriteFault` where the sink failed, `NoMemory` where memory ran out, and `BadTape` where a line is
 //! refused. Lines are numbered from 1, the plan lines among them. A line is refused for the first of
-//! these that fits, and then does nothing:
+//! these that applies, and then does nothing:
 //!
 //! - `BadPlan`, up to `go`: the line is no plan line, or breaks its rule, or comes once too often. At
 //!   `go`: something is missing, or does not fit together, or the plan is not one of one node with one
@@ -61,8 +61,8 @@
 //! - `NoSuchSession`: `say`, `feed` or `close` names a session that was never opened, or has ended.
 //! - `TapeTooLong`: 1,099,511,627,776 octets were taken and no whole line is left of them.
 //!
-//! After `WriteFault` a prefix of what the line gives was written, the last line of it perhaps in part;
-//! what the move does whose line was not written stands all the same, and no move after it was made.
+//! After `WriteFault` a prefix of what the line gives was written, the last line of it perhaps in part.
+//! The move whose line was not written has been made all the same, and no move after it.
 //! `NoMemory` may come at any point of a line's work: a call that was begun may have come to nothing, or its
 //! message may stand on the disk whole or in part, and nobody was told that it is stored; or some or all of
 //! the messages of a `QUIT` may be gone, and nobody was told so. No stop takes back what was done before.
