@@ -1,0 +1,6 @@
+pub mod Saying
+pub mod Items
+pub mod Rising
+pub mod Serving
+pub mod Again
+pub mod Alone

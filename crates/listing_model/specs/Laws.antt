@@ -1,0 +1,44 @@
+-- What holds of listings.
+use Rattle.std.specs.Prelude.{◌≡◌, ℕ, Bool, List, [], ◌∷◌, ◌++◌, Some, ◌↔◌}
+use Rattle.mail_model.specs.Identity.{Key, State}
+use Rattle.mail_model.specs.Plan.{Plan}
+use Rattle.mail_model.specs.PopReplies.{Item}
+use Rattle.mail_model.specs.Record.{Record, IsAmongRecords}
+use Rattle.mail_model.specs.Record.Record.{Stated}
+use Rattle.mail_model.specs.Listing.{listing_of}
+use Rattle.session_model.specs.Calls.Call.{Login}
+use Rattle.session_model.specs.Calls.Answer.{Listed}
+use Rattle.session_model.specs.OneNode.{NodeState, Served, Serves, ServesAll, AreSoundMails, first_node}
+use Rattle.listing_model.specs.Listed.{AreListed, IsListing}
+use Rattle.listing_model.specs.Stamps.{KnowsStamps, ServesKnowing, AreAnswered}
+
+-- Whatever calls a node of one served, answered or not, its listing has exactly what its records say is here, each once.
+abbrev pub ListingHasSaid : Type 0
+ListingHasSaid = (plan : Plan) (tells : Bool) (served : List Served) (last : NodeState) → AreSoundMails served → ServesAll plan tells first_node served last
+    → (user : List ℕ) → AreListed user last.records (listing_of user last.records)
+
+-- where it knew the stamps on its disk as it began each call, in rising stamp
+abbrev pub ListingIsSaid : Type 0
+ListingIsSaid = (plan : Plan) (tells : Bool) (served : List Served) (last : NodeState) → AreSoundMails served → ServesKnowing plan tells first_node served last
+    → (user : List ℕ) → IsListing user last.records (listing_of user last.records)
+
+-- it knew them where each call but the last was answered
+abbrev pub AnsweredKnowStamps : Type 0
+AnsweredKnowStamps = (plan : Plan) (tells : Bool) (served : List Served) (last : NodeState) → AreAnswered served → ServesAll plan tells first_node served last
+    → ServesKnowing plan tells first_node served last
+
+-- so what a login is answered with, after calls that were all answered, is the user's listing by what the records say
+abbrev pub LoginLists : Type 0
+LoginLists = (plan : Plan) (tells : Bool) (served : List Served) (session : ℕ) (user secret : List ℕ) (items : List Item) (last : NodeState)
+    → AreSoundMails served → AreAnswered (served ++ record { session = session; call = Login user secret; answer = Some (Listed items) } ∷ [])
+    → ServesAll plan tells first_node (served ++ record { session = session; call = Login user secret; answer = Some (Listed items) } ∷ []) last
+    → IsListing user last.records items
+
+-- a state that is written twice is still one copy
+abbrev pub WrittenTwiceIsOne : Type 0
+WrittenTwiceIsOne = (key : Key) (state : State) (records : List Record) → IsAmongRecords (Stated key state) records
+    → (user : List ℕ) (items : List Item) → IsListing user records items ↔ IsListing user (records ++ Stated key state ∷ []) items
+
+-- a user has one listing
+abbrev pub OneListing : Type 0
+OneListing = (user : List ℕ) (records : List Record) (items others : List Item) → IsListing user records items → IsListing user records others → items ≡ others

@@ -1,0 +1,32 @@
+// What a listing has to do with what a disk says.
+ghost use Rattle.listing_model.specs.Laws.{AnsweredKnowStamps, ListingHasSaid, ListingIsSaid, LoginLists, OneListing, WrittenTwiceIsOne};
+
+/// A listing has exactly the copies that the records say are here, each once.
+pub fn listing_has_said()
+    ensures { ListingHasSaid }
+{}
+
+/// It has them in rising stamp, where no stamp was drawn twice.
+pub fn listing_is_said()
+    ensures { ListingIsSaid }
+{}
+
+/// No stamp is drawn twice where each call but the last was answered.
+pub fn answered_know_stamps()
+    ensures { AnsweredKnowStamps }
+{}
+
+/// A login is answered with the listing by what the records say.
+pub fn login_lists()
+    ensures { LoginLists }
+{}
+
+/// A state that is written twice is still one copy.
+pub fn written_twice_is_one()
+    ensures { WrittenTwiceIsOne }
+{}
+
+/// A user has one listing.
+pub fn one_listing()
+    ensures { OneListing }
+{}
