@@ -4,3 +4,4 @@ pub mod Rising
 pub mod Serving
 pub mod Again
 pub mod Alone
+pub mod Worked

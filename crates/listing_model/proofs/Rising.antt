@@ -117,7 +117,7 @@ pub all_among : (P : Item → Type 0) (items : List Item) → ((item : Item) →
 all_among P [] holds = All-nil P
 all_among P (item ∷ items) holds = All-cons P item items (holds item (inl refl)) (all_among P items (λ other m. holds other (inr m)))
 
-some_same : (o : Option State) (a b : State) → o ≡ Some a → o ≡ Some b → a ≡ b
+pub some_same : (o : Option State) (a b : State) → o ≡ Some a → o ≡ Some b → a ≡ b
 some_same o a b e f = cc
 
 first_less : (first rest : Ordering) → is_lt first ≡ true → is_lt (ordering_then first rest) ≡ true

@@ -1,3 +1,4 @@
 pub mod Listed
 pub mod Stamps
 pub mod Laws
+pub mod Worked

@@ -1,5 +1,6 @@
 // What a listing has to do with what a disk says.
 ghost use Rattle.listing_model.specs.Laws.{AnsweredKnowStamps, ListingHasSaid, ListingIsSaid, LoginLists, OneListing, WrittenTwiceIsOne};
+ghost use Rattle.listing_model.specs.Worked.{UnansweredMayRepeat, WorkedListing};
 
 /// A listing has exactly the copies that the records say are here, each once.
 pub fn listing_has_said()
@@ -29,4 +30,14 @@ pub fn written_twice_is_one()
 /// A user has one listing.
 pub fn one_listing()
     ensures { OneListing }
+{}
+
+/// A worked listing: of five copies two are listed.
+pub fn worked_listing()
+    ensures { WorkedListing }
+{}
+
+/// A node that goes on after a call without an answer may draw a stamp twice.
+pub fn unanswered_may_repeat()
+    ensures { UnansweredMayRepeat }
 {}

@@ -5,5 +5,5 @@ mod laws;
 
 pub use laws::{
     answered_know_stamps, listing_has_said, listing_is_said, login_lists, one_listing,
-    written_twice_is_one,
+    unanswered_may_repeat, worked_listing, written_twice_is_one,
 };
