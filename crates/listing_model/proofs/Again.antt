@@ -1,6 +1,5 @@
 -- A state that is written again changes nothing of what is said.
-use Rattle.std.proofs.Common.{◌≡◌, inl, inr, ⊎_elim, ℕ, Bool, true, false, cond, List, [], ◌∷◌, ◌++◌, Option, Some, None, refl, sym, ap, ◌∙◌, subst}
-use Rattle.std.specs.Prelude.{◌↔◌}
+use Rattle.std.proofs.Common.{◌≡◌, ⊎_elim, ℕ, cond, List, [], ◌∷◌, ◌++◌, Option, Some, refl, sym, ap, ◌∙◌, subst}
 use Rattle.mail_model.specs.Identity.{Id, Key, State}
 use Rattle.mail_model.specs.Identity.Key.{Message}
 use Rattle.mail_model.specs.PopReplies.{Item}
@@ -8,13 +7,9 @@ use Rattle.mail_model.specs.Record.{Record, IsAmongRecords}
 use Rattle.mail_model.specs.Record.Record.{Boot, Promise, Octets, Stated, Retired}
 use Rattle.mail_model.specs.Listing.{is_same_id, octets_in}
 use Rattle.object_model.specs.Lists.{Among}
-use Rattle.object_model.specs.Keys.{is_same_key}
-use Rattle.object_model.specs.States.{join_all}
 use Rattle.object_model.specs.Said.{said, states_in}
-use Rattle.object_model.proofs.Lists.{among_front, among_last}
-use Rattle.object_model.proofs.StateLaws.{key_is}
 use Rattle.object_model.proofs.Merges.{one_join, says_join}
-use Rattle.listing_model.specs.Listed.{IsListed, AreListed, IsListing}
+use Rattle.listing_model.specs.Listed.{IsListing}
 use Rattle.listing_model.specs.Laws.{WrittenTwiceIsOne}
 use Rattle.listing_model.proofs.Saying.{member_in, in_member}
 use Rattle.mail_model.proofs.GoneRecords.{member_either}
@@ -50,7 +45,7 @@ listing_same user records others items says holds is = record {
   listed = record {
     exact = λ item. (
       λ m. let old = (is.listed.exact item).0 m in
-      record { state = old.state; says = says item.id ∙ old.says; here = old.here; octets = old.octets; held = holds item.id ∙ old.held; size = old.size },
+          record { state = old.state; says = says item.id ∙ old.says; here = old.here; octets = old.octets; held = holds item.id ∙ old.held; size = old.size },
       λ new. (is.listed.exact item).1 (record { state = new.state; says = sym (says item.id) ∙ new.says; here = new.here; octets = new.octets; held = sym (holds item.id) ∙ new.held; size = new.size }),
     );
     once = is.listed.once;

@@ -1,5 +1,5 @@
 -- A user has one listing.
-use Rattle.std.proofs.Common.{◌≡◌, inl, inr, ⊎_elim, ℕ, zero, suc, ◌<◌, true, false, true≢false, List, [], ◌∷◌, length, get_or, AllPairs, Some, refl, sym, ap, ◌∙◌, subst, arith}
+use Rattle.std.proofs.Common.{◌≡◌, inl, inr, ⊎_elim, ℕ, zero, suc, ◌<◌, true, true≢false, List, [], ◌∷◌, length, get_or, AllPairs, refl, sym, ap, ◌∙◌, subst, arith}
 use Rattle.std.specs.Prelude.{⊤, ◌↔◌}
 use Rattle.std.specs.Ordering.{is_lt}
 use Rattle.std.specs.declared.cmp.Ordering.{Ordering}
@@ -10,7 +10,7 @@ use Rattle.mail_model.specs.Record.{Record}
 use Rattle.object_model.specs.Lists.{Among}
 use Rattle.object_model.specs.States.{is_below, state_cmp}
 use Rattle.object_model.proofs.StateLaws.{state_total, not_below_self}
-use Rattle.listing_model.specs.Listed.{IsListed, IsEarlier, AreListed, IsListing}
+use Rattle.listing_model.specs.Listed.{IsListed, IsEarlier}
 use Rattle.listing_model.specs.Laws.{OneListing}
 
 -- a place of a member
@@ -45,7 +45,7 @@ module _ (user : List ℕ) (records : List Record) where
   rising_of [] r = tt
   rising_of (one ∷ items) r = (
     λ other m. let at = place_of other items m in
-    subst (λ (i : Item). IsEarlier user records one i) (at.2 one) (r zero (suc at.0) one (omega arith) (omega (arith, at.1))),
+        subst (λ (i : Item). IsEarlier user records one i) (at.2 one) (r zero (suc at.0) one (omega arith) (omega (arith, at.1))),
     rising_of items (λ i j d lt within. r (suc i) (suc j) d (omega (arith, lt)) (omega (arith, within))),
   )
 
@@ -68,7 +68,7 @@ module _ (user : List ℕ) (records : List Record) where
       heads : one ≡ other
       heads = ⊎_elim (λ e. sym e)
           (λ later. ⊎_elim (λ e. e)
-          (λ behind. absurd (not_earlier one other (listed one (inl refl)) (other_listed other (inl refl)) (r.0 other behind) (s.0 one later)))
+          (λ after. absurd (not_earlier one other (listed one (inl refl)) (other_listed other (inl refl)) (r.0 other after) (s.0 one later)))
           ((same other).1 (inl refl)))
           ((same one).0 (inl refl))
 

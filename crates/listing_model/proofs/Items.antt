@@ -1,19 +1,19 @@
 -- Which items a node lists, and that these are what the records say.
-use Rattle.std.proofs.Common.{◌≡◌, ◌⊎◌, inl, inr, ⊎_elim, ℕ, Bool, true, false, true≢false, not, ◌&&◌, ◌||◌, List, [], ◌∷◌, ◌++◌, length, Option, Some, None, refl, sym, ap, ◌∙◌, subst, nat_eq, if◌then◌else◌}
+use Rattle.std.proofs.Common.{◌≡◌, inl, inr, ⊎_elim, ℕ, Bool, true, false, true≢false, not, ◌&&◌, ◌||◌, List, [], ◌∷◌, ◌++◌, length, Option, Some, None, refl, sym, ap, ◌∙◌, subst, nat_eq, if◌then◌else◌}
 use Rattle.std.specs.Cmp.Lexicographic.{pointwise, bytes_decides}
-use Rattle.std.proofs.lemmas.Bool.{and_parts, and_from, or_left, or_right, not_from_true, false_from_ne_true}
-use Rattle.mail_model.specs.Identity.{Id, Key, Value, State}
+use Rattle.std.proofs.lemmas.Bool.{and_parts, and_from, or_left, or_right, false_from_ne_true}
+use Rattle.mail_model.specs.Identity.{Id, Value, State}
 use Rattle.mail_model.specs.Identity.Key.{Profile, Message}
 use Rattle.mail_model.specs.Identity.Value.{Here, Gone, Secret}
 use Rattle.mail_model.specs.PopReplies.{Item}
 use Rattle.mail_model.specs.Record.{Record, IsAmongRecords}
 use Rattle.mail_model.specs.Record.Record.{Boot, Promise, Retired, Octets, Stated}
-use Rattle.mail_model.specs.Listing.{is_same_id, octets_in, item_of, is_here, is_gone, has_gone, items_in, listing_of}
+use Rattle.mail_model.specs.Listing.{is_same_id, octets_in, item_of, is_here, is_gone, has_gone, items_in}
 use Rattle.object_model.specs.Lists.{Among}
 use Rattle.object_model.proofs.Lists.{among_behind}
 use Rattle.object_model.proofs.StateLaws.{id_is, id_self}
 use Rattle.listing_model.specs.Listed.{IsListed}
-use Rattle.listing_model.proofs.Saying.{AreOfKind, NoneGone, stated_same, here_by, said_here}
+use Rattle.listing_model.proofs.Saying.{AreOfKind, stated_same, here_by, said_here}
 
 key_parts : (name user : List ℕ) (other id : Id) → Message name other ≡ Message user id → (name ≡ user) × (other ≡ id)
 key_parts name user other id e = (cc, cc)

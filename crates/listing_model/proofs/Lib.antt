@@ -5,3 +5,4 @@ pub mod Serving
 pub mod Again
 pub mod Alone
 pub mod Worked
+pub mod Standing

@@ -1,28 +1,27 @@
 -- Copies that come in rising stamp are listed in rising stamp.
 use Rattle.std.proofs.Common.{◌≡◌, inl, inr, ⊎_elim, ℕ, ◌<◌, ◌≤◌, Bool, true, false, List, [], ◌∷◌, ◌++◌, length, All, AllPairs, Option, Some, None, refl, sym, ap, ◌∙◌, subst, arith, if◌then◌else◌, cond, ◌==◌, lt-ltb, true≢false}
 use Rattle.std.specs.Prelude.{⊤}
-use Rattle.std.specs.Ordering.{is_lt, nat_cmp, ordering_then}
+use Rattle.std.specs.Ordering.{is_lt, ordering_then}
 use Rattle.std.specs.declared.cmp.Ordering.{Ordering}
 use Rattle.std.specs.declared.cmp.Ordering.TheVariants.{Less, Equal, Greater}
 use Rattle.std.proofs.lemmas.List.Elements.{All-nil, All-cons}
 use Rattle.std.proofs.lemmas.List.Kept.{AllPairs-cons}
-use Rattle.std.proofs.lemmas.Bool.Decides.{nat_tests}
 use Rattle.mail_model.specs.Identity.{Id, Key, Value, State}
 use Rattle.mail_model.specs.Identity.Key.{Profile, Message}
 use Rattle.mail_model.specs.Identity.Value.{Here, Gone, Secret}
 use Rattle.mail_model.specs.PopReplies.{Item}
 use Rattle.mail_model.specs.Record.{Record, IsAmongRecords}
 use Rattle.mail_model.specs.Record.Record.{Boot, Promise, Retired, Octets, Stated}
-use Rattle.mail_model.specs.Listing.{octets_in, item_of, items_in, listing_of}
+use Rattle.mail_model.specs.Listing.{octets_in, item_of, items_in}
 use Rattle.mail_model.specs.Deleted.{IsCopyOf}
 use Rattle.mail_model.proofs.GoneCopies.{Once, once_behind, once_apart, copy_front, copy_behind}
 use Rattle.mail_model.proofs.GoneListing.{heres_in, here_of}
 use Rattle.mail_model.proofs.GoneRecords.{member_either}
-use Rattle.mail_model.proofs.Disk.{member_front, member_behind}
+use Rattle.mail_model.proofs.Disk.{member_front}
 use Rattle.object_model.specs.Lists.{Among}
 use Rattle.object_model.specs.States.{is_below}
 use Rattle.object_model.specs.Said.{said}
-use Rattle.listing_model.specs.Listed.{IsListed, IsEarlier}
+use Rattle.listing_model.specs.Listed.{IsEarlier}
 use Rattle.listing_model.proofs.Saying.{AreOfKind, here_by}
 use Rattle.listing_model.proofs.Items.{IsOf, copy_same, no_profile, test_of, test_parts, items_from, of_listed}
 

@@ -1,11 +1,9 @@
 -- What a node of one lists, by the calls that it served.
-use Rattle.std.proofs.Common.{◌≡◌, ◌≢◌, ◌⊎◌, inl, inr, ⊎_elim, ◌+◌, ◌<◌, ◌≤◌, ℕ, suc, List, [], ◌∷◌, ◌++◌, length, map, AllPairs, Option, Some, None, Bool, true, refl, sym, ap, ◌∙◌, subst, arith, append-nil}
-use Rattle.std.specs.Prelude.{⊤, ◌↔◌}
-use Rattle.mail_model.specs.Identity.{Id, Stamp, Key, Value, State}
+use Rattle.std.proofs.Common.{◌≡◌, inl, inr, ⊎_elim, ◌+◌, ◌<◌, ◌≤◌, ℕ, suc, List, [], ◌∷◌, ◌++◌, length, Option, Some, None, Bool, refl, sym, ap, ◌∙◌, subst, arith, append-nil}
+use Rattle.mail_model.specs.Identity.{Id, Stamp, Key, State}
 use Rattle.mail_model.specs.Identity.Key.{Message}
 use Rattle.mail_model.specs.Identity.Value.{Here, Gone}
 use Rattle.mail_model.specs.Plan.{Plan}
-use Rattle.mail_model.specs.Mail.{IsStored}
 use Rattle.mail_model.specs.PopReplies.{Item}
 use Rattle.mail_model.specs.Record.{Record, IsAmongRecords}
 use Rattle.mail_model.specs.Record.Record.{Boot, Octets, Stated}
@@ -15,7 +13,7 @@ use Rattle.mail_model.specs.Deleted.{IsCopyOf}
 use Rattle.mail_model.specs.Site.{nth_id, nth_stamp, copies_of, message_records, gone_records, drawn_through}
 use Rattle.mail_model.proofs.Mailboxes.{AreOnce}
 use Rattle.mail_model.proofs.Disk.{through_rises, member_front}
-use Rattle.mail_model.proofs.GoneCopies.{copies_for, copied_at, copies_once}
+use Rattle.mail_model.proofs.GoneCopies.{copies_for, copies_once}
 use Rattle.mail_model.proofs.GoneRecords.{member_either}
 use Rattle.mail_model.proofs.GoneHere.{Heres, HeresDrawn, heres_more, heres_none, heres_front, message_heres, gone_heres}
 use Rattle.mail_model.proofs.GoneListing.{listing_once}
@@ -23,7 +21,7 @@ use Rattle.session_model.specs.Calls.{Call, Answer}
 use Rattle.session_model.specs.Calls.Call.{Deliver, Login, Fetch, Strike}
 use Rattle.session_model.specs.Calls.Answer.{Stored, Listed, Wrong, Part, GoneAlready, Dropped}
 use Rattle.session_model.specs.OneNode.{NodeState, Served, Serves, ServesAll, LeavesSome, IsSoundMail, AreSoundMails, first_node}
-use Rattle.listing_model.specs.Listed.{AreListed, IsListing, IsListed}
+use Rattle.listing_model.specs.Listed.{AreListed, IsListing}
 use Rattle.listing_model.specs.Stamps.{KnowsStamps, ServesKnowing, HasAnswer, AreAnswered}
 use Rattle.listing_model.specs.Laws.{ListingHasSaid, ListingIsSaid, AnsweredKnowStamps, LoginLists}
 use Rattle.listing_model.proofs.Saying.{AreOfKind, stated_same}

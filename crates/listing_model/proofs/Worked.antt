@@ -1,15 +1,15 @@
 -- A worked listing, and a run whose stamps repeat.
-use Rattle.std.proofs.Common.{◌≡◌, ◌≢◌, ◌⊎◌, inl, inr, ⊎_elim, ◌<◌, ℕ, Bool, true, false, true≢false, List, [], ◌∷◌, ◌++◌, length, map, AllPairs, Option, Some, None, refl, sym, ap, ◌∙◌, subst, arith, codes}
+use Rattle.std.proofs.Common.{◌≡◌, ◌≢◌, inl, inr, ℕ, true, true≢false, List, [], ◌∷◌, ◌++◌, length, AllPairs, Some, None, refl, sym, ap, ◌∙◌, subst, arith, codes}
 use Rattle.std.proofs.lemmas.List.Elements.{All-nil, All-cons}
 use Rattle.std.proofs.lemmas.List.Kept.{AllPairs-cons}
-use Rattle.mail_model.specs.Identity.{Id, Key, Value, State}
+use Rattle.mail_model.specs.Identity.{Id, State}
 use Rattle.mail_model.specs.Identity.Key.{Message}
 use Rattle.mail_model.specs.Identity.Value.{Here, Gone}
 use Rattle.mail_model.specs.PopReplies.{Item}
 use Rattle.mail_model.specs.Mail.{IsStored, trace_lines}
-use Rattle.mail_model.specs.Record.{Record, IsAmongRecords}
+use Rattle.mail_model.specs.Record.{IsAmongRecords}
 use Rattle.mail_model.specs.Record.Record.{Boot, Octets, Stated}
-use Rattle.mail_model.specs.Listing.{octets_in, listing_of}
+use Rattle.mail_model.specs.Listing.{octets_in}
 use Rattle.mail_model.specs.Site.{nth_id, nth_stamp, message_records}
 use Rattle.mail_model.proofs.FirstDate.{first_date}
 use Rattle.object_model.specs.Lists.{Among}
@@ -18,10 +18,10 @@ use Rattle.object_model.specs.Said.{said}
 use Rattle.session_model.specs.Calls.{Call}
 use Rattle.session_model.specs.Calls.Call.{Deliver}
 use Rattle.session_model.specs.Calls.Answer.{Stored}
-use Rattle.session_model.specs.OneNode.{NodeState, Served, ServesAll, IsSoundMail, AreSoundMails, first_node}
-use Rattle.session_model.specs.OneMessage.{small_plan, small_mail, small_text, texting}
-use Rattle.listing_model.specs.Listed.{IsListed, IsEarlier, IsListing}
-use Rattle.listing_model.specs.Worked.{stated, worked_records, WorkedListing, UnansweredMayRepeat}
+use Rattle.session_model.specs.OneNode.{NodeState, IsSoundMail}
+use Rattle.session_model.specs.OneMessage.{small_mail, small_text, texting}
+use Rattle.listing_model.specs.Listed.{IsListed, IsEarlier}
+use Rattle.listing_model.specs.Worked.{worked_records, WorkedListing, UnansweredMayRepeat}
 use Rattle.listing_model.proofs.Saying.{NoneGone, here_by}
 use Rattle.listing_model.proofs.Rising.{some_same}
 use Rattle.listing_model.proofs.Items.{copy_same}

@@ -1,16 +1,19 @@
 -- What holds of listings.
-use Rattle.std.specs.Prelude.{◌≡◌, ℕ, Bool, List, [], ◌∷◌, ◌++◌, Some, ◌↔◌}
+use Rattle.std.specs.Prelude.{◌≡◌, ℕ, Bool, List, [], ◌∷◌, ◌++◌, length, All, Some, ◌↔◌}
+use Rattle.mail_model.specs.Grammar.{IsRecord}
 use Rattle.mail_model.specs.Identity.{Key, State}
+use Rattle.mail_model.specs.Identity.Key.{Message}
 use Rattle.mail_model.specs.Plan.{Plan}
 use Rattle.mail_model.specs.PopReplies.{Item}
-use Rattle.mail_model.specs.Record.{Record, IsAmongRecords}
+use Rattle.mail_model.specs.Record.{Record, IsAmongRecords, SaysHere, HoldsOctets}
 use Rattle.mail_model.specs.Record.Record.{Stated}
 use Rattle.mail_model.specs.Listing.{listing_of}
 use Rattle.session_model.specs.Calls.Call.{Login}
 use Rattle.session_model.specs.Calls.Answer.{Listed}
-use Rattle.session_model.specs.OneNode.{NodeState, Served, Serves, ServesAll, AreSoundMails, first_node}
+use Rattle.session_model.specs.OneNode.{NodeState, Served, ServesAll, AreSoundMails, first_node}
+use Rattle.object_model.specs.Lists.{Among}
 use Rattle.listing_model.specs.Listed.{AreListed, IsListing}
-use Rattle.listing_model.specs.Stamps.{KnowsStamps, ServesKnowing, AreAnswered}
+use Rattle.listing_model.specs.Stamps.{ServesKnowing, AreAnswered}
 
 -- Whatever calls a node of one served, answered or not, its listing has exactly what its records say is here, each once.
 abbrev pub ListingHasSaid : Type 0
@@ -42,3 +45,8 @@ WrittenTwiceIsOne = (key : Key) (state : State) (records : List Record) → IsAm
 -- a user has one listing
 abbrev pub OneListing : Type 0
 OneListing = (user : List ℕ) (records : List Record) (items others : List Item) → IsListing user records items → IsListing user records others → items ≡ others
+
+-- A listing is a view of what single records say: an item is in it exactly where they say that the copy is here and hold so many octets under its id.
+abbrev pub ListedStands : Type 0
+ListedStands = (user : List ℕ) (records : List Record) (items : List Item) → All IsRecord records → IsListing user records items → (item : Item)
+    → Among item items ↔ (SaysHere (Message user item.id) records × ((octets : List ℕ) × HoldsOctets item.id octets records × (item.size ≡ length octets)))

@@ -1,9 +1,8 @@
--- A worked listing, and a run without which stamps could be left out of the definition of a node that knows them.
-use Rattle.std.specs.Prelude.{◌≡◌, ℕ, true, List, [], ◌∷◌, ◌++◌, length, Some, None, codes}
-use Rattle.mail_model.specs.Identity.{Key, Value, State}
+-- A worked listing, and a run whose stamps repeat.
+use Rattle.std.specs.Prelude.{ℕ, true, List, [], ◌∷◌, codes}
+use Rattle.mail_model.specs.Identity.{Value}
 use Rattle.mail_model.specs.Identity.Key.{Message}
 use Rattle.mail_model.specs.Identity.Value.{Here, Gone}
-use Rattle.mail_model.specs.PopReplies.{Item}
 use Rattle.mail_model.specs.Record.{Record}
 use Rattle.mail_model.specs.Record.Record.{Boot, Octets, Stated}
 use Rattle.mail_model.specs.Listing.{listing_of}

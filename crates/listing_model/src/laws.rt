@@ -1,5 +1,5 @@
 // What a listing has to do with what a disk says.
-ghost use Rattle.listing_model.specs.Laws.{AnsweredKnowStamps, ListingHasSaid, ListingIsSaid, LoginLists, OneListing, WrittenTwiceIsOne};
+ghost use Rattle.listing_model.specs.Laws.{AnsweredKnowStamps, ListedStands, ListingHasSaid, ListingIsSaid, LoginLists, OneListing, WrittenTwiceIsOne};
 ghost use Rattle.listing_model.specs.Worked.{UnansweredMayRepeat, WorkedListing};
 
 /// A listing has exactly the copies that the records say are here, each once.
@@ -20,6 +20,11 @@ pub fn answered_know_stamps()
 /// A login is answered with the listing by what the records say.
 pub fn login_lists()
     ensures { LoginLists }
+{}
+
+/// A copy is listed exactly where single records say that it is here, and have its octets.
+pub fn listed_stands()
+    ensures { ListedStands }
 {}
 
 /// A state that is written twice is still one copy.
