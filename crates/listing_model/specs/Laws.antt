@@ -20,24 +20,24 @@ abbrev pub ListingHasSaid : Type 0
 ListingHasSaid = (plan : Plan) (tells : Bool) (served : List Served) (last : NodeState) → AreSoundMails served → ServesAll plan tells first_node served last
     → (user : List ℕ) → AreListed user last.records (listing_of user last.records)
 
--- where it knew the stamps on its disk as it began each call, in rising stamp
+-- Where the node knew the stamps on its disk as it began each call, its listing is the user's by what its records say: it comes in rising stamp, too.
 abbrev pub ListingIsSaid : Type 0
 ListingIsSaid = (plan : Plan) (tells : Bool) (served : List Served) (last : NodeState) → AreSoundMails served → ServesKnowing plan tells first_node served last
     → (user : List ℕ) → IsListing user last.records (listing_of user last.records)
 
--- it knew them where each call but the last was answered
+-- A node knew the stamps on its disk as it began each call where each call but the last was answered.
 abbrev pub AnsweredKnowStamps : Type 0
 AnsweredKnowStamps = (plan : Plan) (tells : Bool) (served : List Served) (last : NodeState) → AreAnswered served → ServesAll plan tells first_node served last
     → ServesKnowing plan tells first_node served last
 
--- so what a login is answered with, after calls that were all answered, is the user's listing by what the records say
+-- After calls that were all answered, a login is answered with the user's listing by what the records say.
 abbrev pub LoginLists : Type 0
 LoginLists = (plan : Plan) (tells : Bool) (served : List Served) (session : ℕ) (user secret : List ℕ) (items : List Item) (last : NodeState)
     → AreSoundMails served → AreAnswered (served ++ record { session = session; call = Login user secret; answer = Some (Listed items) } ∷ [])
     → ServesAll plan tells first_node (served ++ record { session = session; call = Login user secret; answer = Some (Listed items) } ∷ []) last
     → IsListing user last.records items
 
--- a state that is written twice is still one copy
+-- A state that is written twice is still one copy: a list is the user's listing with the second record exactly where it is without it.
 abbrev pub WrittenTwiceIsOne : Type 0
 WrittenTwiceIsOne = (key : Key) (state : State) (records : List Record) → IsAmongRecords (Stated key state) records
     → (user : List ℕ) (items : List Item) → IsListing user records items ↔ IsListing user (records ++ Stated key state ∷ []) items

@@ -22,7 +22,7 @@ abbrev pub HasAnswer : Option Answer → Type 0
 HasAnswer None = ⊥
 HasAnswer (Some answer) = ⊤
 
--- each call but the last has its answer: a node whose disk or memory failed in a call is down, and begins no other
+-- each call but the last has its answer: a node that could not finish a call is down, and begins no other
 abbrev pub AreAnswered : List Served → Type 0
 AreAnswered [] = ⊤
 AreAnswered (one ∷ []) = ⊤

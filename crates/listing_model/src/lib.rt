@@ -21,8 +21,8 @@
 //! - Whatever calls a cluster of one node served, its listing has exactly the copies that its records
 //!   say are here, each once (`listing_has_said`). Where it knew the stamps on its disk as it began
 //!   each call, they come in rising stamp (`listing_is_said`). It knew them where each call but the
-//!   last was answered (`answered_know_stamps`). So a login after such calls is answered with the
-//!   user's listing (`login_lists`).
+//!   last was answered (`answered_know_stamps`). So a login after calls that were all answered is
+//!   answered with the user's listing (`login_lists`).
 //! - A state that is written twice is still one copy (`written_twice_is_one`), and a user has one
 //!   listing (`one_listing`).
 //! - A copy is listed exactly where single records say that it is here and have its octets
@@ -31,8 +31,8 @@
 //!   listing is the one that was worked by hand (`worked_listing`).
 //!
 //! A call that has no answer leaves any count of stamps, by the definition of what a node serves. A
-//! node that went on after it could draw a stamp twice (`unanswered_may_repeat`). A node does not go
-//! on: it is down once its disk or memory failed in a call.
+//! node that went on after it could draw a stamp twice (`unanswered_may_repeat`). The node of
+//! `cluster_world` does not go on: where a call left some of its records and no answer, it is down.
 //!
 //! STANDS ON
 //!
