@@ -1,4 +1,4 @@
--- What a node of one lists, by the calls that it served.
+-- What the node of a cluster of one lists, by the calls that it served.
 use Rattle.std.proofs.Common.{◌≡◌, inl, inr, ⊎_elim, ◌+◌, ◌<◌, ◌≤◌, ℕ, suc, List, [], ◌∷◌, ◌++◌, length, Option, Some, None, Bool, refl, sym, ap, ◌∙◌, subst, arith, append-nil}
 use Rattle.mail_model.specs.Identity.{Id, Stamp, Key, State}
 use Rattle.mail_model.specs.Identity.Key.{Message}

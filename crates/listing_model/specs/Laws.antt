@@ -15,7 +15,7 @@ use Rattle.object_model.specs.Lists.{Among}
 use Rattle.listing_model.specs.Listed.{AreListed, IsListing}
 use Rattle.listing_model.specs.Stamps.{ServesKnowing, AreAnswered}
 
--- Whatever calls a node of one served, answered or not, its listing has exactly what its records say is here, each once.
+-- Whatever calls the node of a cluster of one served, answered or not, its listing has exactly what its records say is here, each once.
 abbrev pub ListingHasSaid : Type 0
 ListingHasSaid = (plan : Plan) (tells : Bool) (served : List Served) (last : NodeState) → AreSoundMails served → ServesAll plan tells first_node served last
     → (user : List ℕ) → AreListed user last.records (listing_of user last.records)

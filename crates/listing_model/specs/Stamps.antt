@@ -7,7 +7,7 @@ use Rattle.mail_model.specs.Record.Record.{Stated}
 use Rattle.session_model.specs.Calls.{Answer}
 use Rattle.session_model.specs.OneNode.{NodeState, Served, Serves}
 
--- its count of stamps is that of each state on its disk, or above it
+-- The count of stamps of the node is not below that of any state on its disk.
 abbrev pub KnowsStamps : NodeState → Type 0
 KnowsStamps node = (key : Key) (state : State) → IsAmongRecords (Stated key state) node.records → state.stamp.count ≤ node.stamps
 
