@@ -1,0 +1,4 @@
+pub mod Listed
+pub mod Stamps
+pub mod Laws
+pub mod Worked
