@@ -19,7 +19,7 @@ use Rattle.session_model.specs.Calls.{Call}
 use Rattle.session_model.specs.Calls.Call.{Deliver}
 use Rattle.session_model.specs.Calls.Answer.{Stored}
 use Rattle.session_model.specs.OneNode.{NodeState, IsSoundMail}
-use Rattle.session_model.specs.OneMessage.{small_mail, small_text, texting}
+use Rattle.worked_sessions.specs.OneMessage.{small_mail, small_text, texting}
 use Rattle.listing_model.specs.Listed.{IsListed, IsEarlier}
 use Rattle.listing_model.specs.Worked.{worked_records, WorkedListing, UnansweredMayRepeat}
 use Rattle.listing_model.proofs.Saying.{NoneGone, here_by}

@@ -8,7 +8,7 @@ use Rattle.mail_model.specs.Record.Record.{Boot, Octets, Stated}
 use Rattle.mail_model.specs.Listing.{listing_of}
 use Rattle.mail_model.specs.Site.{nth_id, nth_stamp}
 use Rattle.session_model.specs.OneNode.{NodeState, Served, ServesAll, AreSoundMails, first_node}
-use Rattle.session_model.specs.OneMessage.{small_plan}
+use Rattle.worked_sessions.specs.OneMessage.{small_plan}
 use Rattle.listing_model.specs.Listed.{IsListing}
 
 -- a state of a copy of the n-th message, with the m-th stamp

@@ -10,8 +10,6 @@ ghost use Rattle.session_model.specs.Kept.{OwedIsKept};
 ghost use Rattle.session_model.specs.Alone.{OneNodePromises};
 ghost use Rattle.session_model.specs.Readings.{OneReadingOfSession};
 ghost use Rattle.session_model.specs.OneNode.{OneNodeOwes, OneNodeStores};
-ghost use Rattle.session_model.specs.OneMessage.{OneMessageKept};
-ghost use Rattle.session_model.specs.OneDeletion.{OneDeletionAsked};
 ghost use Rattle.session_model.specs.Promises.{TrueAnswersDelete, TrueAnswersShow, TrueListingsShow};
 
 /// A session that was opened has said nothing but its greeting.
@@ -155,14 +153,4 @@ pub fn driven_writes_lines()
 /// After a line each unit that a session has reached has its reply.
 pub fn driven_answers_units()
     ensures { DrivenAnswersUnits }
-{}
-
-/// All premises of the promises can be met: the tape of one message meets them.
-pub fn one_message_kept()
-    ensures { OneMessageKept }
-{}
-
-/// So can those of a deletion: a session with one mark meets them.
-pub fn one_deletion_asked()
-    ensures { OneDeletionAsked }
 {}

@@ -12,7 +12,7 @@ use Rattle.session_model.specs.Calls.Answer.{Listed, Dropped}
 use Rattle.session_model.specs.Talk.{Exchange, IsTalk}
 use Rattle.session_model.specs.Talk.Standing.{EndedByQuit}
 use Rattle.session_model.specs.Reading.{QuitsMarked}
-use Rattle.session_model.specs.OneMessage.{small_plan, at_once}
+use Rattle.worked_sessions.specs.OneMessage.{small_plan, at_once}
 
 -- the one message of the listing
 abbrev pub small_items : List Item

@@ -44,7 +44,7 @@ use Rattle.session_model.specs.Run.{IsHandled, IsDriven, refusal}
 use Rattle.session_model.specs.Run.Stop.{BehindLine, SinkFailed}
 use Rattle.session_model.specs.Books.{IsBookOf}
 use Rattle.session_model.specs.OneNode.{NodeState, ServesAll, first_node, asked_of, answered_of}
-use Rattle.session_model.specs.OneMessage.{OneMessageKept, small_plan, greeted, sending, addressed, texting, small_text, small_mail, small_octets, at_once, waiting, fed_with, heard_with, at_open, at_helo, at_mail, at_rcpt, at_data, at_subject, at_gap, at_hello, at_wait, at_stored, at_quit, said_once, small_lines, small_acts, small_made, small_entries, small_served, small_records, small_store, small_book}
+use Rattle.worked_sessions.specs.OneMessage.{OneMessageKept, small_plan, greeted, sending, addressed, texting, small_text, small_mail, small_octets, at_once, waiting, fed_with, heard_with, at_open, at_helo, at_mail, at_rcpt, at_data, at_subject, at_gap, at_hello, at_wait, at_stored, at_quit, said_once, small_lines, small_acts, small_made, small_entries, small_served, small_records, small_store, small_book}
 use Rattle.session_model.proofs.Alone.{one_node_promises}
 
 -- lines without a CR
