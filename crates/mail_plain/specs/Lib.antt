@@ -1,0 +1,3 @@
+pub mod SeenSmtp
+pub mod SeenPop
+pub mod Digits
