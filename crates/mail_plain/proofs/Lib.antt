@@ -3,3 +3,4 @@ pub mod Paths
 pub mod Values
 pub mod Shorts
 pub mod Counts
+pub mod Strips

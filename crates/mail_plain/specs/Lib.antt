@@ -1,3 +1,5 @@
 pub mod SeenSmtp
 pub mod SeenPop
 pub mod Digits
+pub mod SeenTape
+pub mod SeenRecords

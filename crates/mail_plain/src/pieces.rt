@@ -3,7 +3,7 @@ ghost use Rattle.std.specs.Prelude.{◌≡◌, ◌≤◌, IfOk, length, nat_eq};
 ghost use Rattle.std.specs.List.{position_or_len};
 ghost use Rattle.mail_model.specs.Names.{begins_with};
 ghost use Rattle.mail_model.specs.Smtp.{is_blank, trimmed, verb_of, rest_of, is_word, unspaced};
-ghost use Rattle.mail_model.specs.Tape.{behind_word, has_space};
+ghost use Rattle.mail_model.specs.Tape.{behind_word, first_word, has_space};
 
 use std::alloc::{AllocError, Global};
 
@@ -39,6 +39,13 @@ pub(crate) fn cut_at_space(line: &[u8]) -> (&[u8], &[u8])
     ensures rest { result.1.now ≡ rest_of line.now }
 {
     line.split_at(len_to_space(line))
+}
+
+/// The octets before the first space; all where there is none.
+pub(crate) fn before_space(line: &[u8]) -> &[u8]
+    ensures { result.now ≡ first_word line.now }
+{
+    &line[..len_to_space(line)]
 }
 
 /// The octets after the first space; none where there is none.
