@@ -3,3 +3,4 @@ pub mod SeenPop
 pub mod Digits
 pub mod SeenTape
 pub mod SeenRecords
+pub mod SeenEntries

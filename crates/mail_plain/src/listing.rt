@@ -38,10 +38,10 @@ fn is_gone(fate: &Fate) -> bool
 }
 
 // The octets that the record holds of this id, if it does.
-fn octets_of<'a>(id: &Id, record: &Record<'a>) -> Option<&'a [u8]>
-    ensures { (more : List spelt.Record) → octets_in id.now (record_seen record.now ∷ more) ≡ or_else (option_copied result) (octets_in id.now more) }
+fn octets_of<'a>(id: &Id, written: &Record<'a>) -> Option<&'a [u8]>
+    ensures { (more : List spelt.Record) → octets_in id.now (record_seen written.now ∷ more) ≡ or_else (option_copied result) (octets_in id.now more) }
 {
-    match record {
+    match written {
         Record::Octets { id: other, octets } if is_same(other, id) => Some(octets),
         Record::Octets { .. }
         | Record::Boot { .. }
@@ -56,18 +56,18 @@ fn octets_of<'a>(id: &Id, record: &Record<'a>) -> Option<&'a [u8]>
 fn octets_in<'a>(id: &Id, records: &[Record<'a>]) -> Option<&'a [u8]>
     ensures { option_copied result ≡ octets_in id.now (records_seen records.now) }
 {
-    for record in records {
-        if let Some(octets) = octets_of(id, record) {
+    for written in records {
+        if let Some(octets) = octets_of(id, written) {
             return Some(octets);
         }
     }
     None
 }
 
-fn says_gone(user: &[u8], id: &Id, record: &Record<'_>) -> bool
-    ensures { (more : List spelt.Record) → has_gone user.now id.now (record_seen record.now ∷ more) ≡ (result || has_gone user.now id.now more) }
+fn says_gone(user: &[u8], id: &Id, written: &Record<'_>) -> bool
+    ensures { (more : List spelt.Record) → has_gone user.now id.now (record_seen written.now ∷ more) ≡ (result || has_gone user.now id.now more) }
 {
-    match record {
+    match written {
         Record::Copy {
             user: name,
             id: other,
@@ -86,8 +86,8 @@ fn says_gone(user: &[u8], id: &Id, record: &Record<'_>) -> bool
 fn has_gone(user: &[u8], id: &Id, records: &[Record<'_>]) -> bool
     ensures { result ≡ has_gone user.now id.now (records_seen records.now) }
 {
-    for record in records {
-        if says_gone(user, id, record) {
+    for written in records {
+        if says_gone(user, id, written) {
             return true;
         }
     }
@@ -113,10 +113,10 @@ fn item_of(id: &Id, all: &[Record<'_>]) -> Option<Item>
 }
 
 // The message that the record lists, if it does.
-fn item_in(user: &[u8], record: &Record<'_>, all: &[Record<'_>]) -> Option<Item>
-    ensures { (more : List spelt.Record) → items_in user.now (records_seen all.now) (record_seen record.now ∷ more) ≡ listed result ++ items_in user.now (records_seen all.now) more }
+fn item_in(user: &[u8], written: &Record<'_>, all: &[Record<'_>]) -> Option<Item>
+    ensures { (more : List spelt.Record) → items_in user.now (records_seen all.now) (record_seen written.now ∷ more) ≡ listed result ++ items_in user.now (records_seen all.now) more }
 {
-    match record {
+    match written {
         Record::Copy {
             user: name,
             id,
@@ -144,8 +144,8 @@ pub fn messages(alloc: Global, user: &[u8], records: &[Record<'_>]) -> Result<Ve
     ensures { IfOk result (λ items. items.items ≡ listing_of user.now (records_seen records.now)) }
 {
     let mut items = Vec::new(alloc);
-    for record in records {
-        if let Some(item) = item_in(user, record, records) {
+    for written in records {
+        if let Some(item) = item_in(user, written, records) {
             items.push(item)?;
         }
     }

@@ -4,5 +4,5 @@ use Rattle.mail_plain.specs.SeenRecords.{records_seen}
 use Rattle.mail_plain.proofs.listing.has_gone.Given as goal
 
 -- the records that are left say what all of them say
-abbrev pub invariant-loop-record : goal.invariant-loop-record
-invariant-loop-record l = has_gone l.user l.id (records_seen (drop l.record-index l.records)) ≡ has_gone l.user l.id (records_seen l.records)
+abbrev pub invariant-loop-written : goal.invariant-loop-written
+invariant-loop-written l = has_gone l.user l.id (records_seen (drop l.written-index l.records)) ≡ has_gone l.user l.id (records_seen l.records)

@@ -4,5 +4,5 @@ use Rattle.mail_plain.specs.SeenRecords.{records_seen}
 use Rattle.mail_plain.proofs.listing.octets_in.Given as goal
 
 -- the records that are left hold what all of them hold
-abbrev pub invariant-loop-record : goal.invariant-loop-record
-invariant-loop-record l = octets_in l.id (records_seen (drop l.record-index l.records)) ≡ octets_in l.id (records_seen l.records)
+abbrev pub invariant-loop-written : goal.invariant-loop-written
+invariant-loop-written l = octets_in l.id (records_seen (drop l.written-index l.records)) ≡ octets_in l.id (records_seen l.records)
