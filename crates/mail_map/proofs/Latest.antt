@@ -1,6 +1,5 @@
 -- That the latest row stands, and that members are named as in the machine.
 use Rattle.std.proofs.Common.{◌≡◌, ◌⊎◌, inl, inr, ⊎_elim, ◌≤◌, ◌<◌, refl, sym, ap, subst, ◌∙◌, cond, ℕ, Bool, true, false, true≢false, ◌&&◌, ◌||◌, nat_eq, nat_lt, List, [], ◌∷◌, ◌++◌, append_assoc, append-nil, Option, Some, None, arith}
-use Rattle.std.proofs.lemmas.Bool.{and_parts}
 use Rattle.std.proofs.lemmas.Bool.Decides.{nat_tests}
 use Rattle.std.specs.List.{filter, list_any}
 use Rattle.std.specs.Cmp.Lexicographic.{pointwise, texts_ties}
@@ -9,7 +8,7 @@ use Rattle.object_model.specs.Letters.{Row, Member}
 use Rattle.maps_model.specs.Cluster.{Node, is_full}
 use Rattle.maps_model.specs.Laws.{named}
 use Rattle.mail_map.specs.Rows.{Rows, is_older, told_row, is_named}
-use Rattle.mail_map.specs.Laws.{told_all, no_rows, is_of, IsLatest, IsLatestRow}
+use Rattle.mail_map.specs.Laws.{told_all, no_rows, is_of, IsLatest}
 use Rattle.mail_map.proofs.OneUser.{same_user}
 
 among_either : (row : Row) (xs ys : List Row) → Among row (xs ++ ys) → Among row xs ⊎ Among row ys

@@ -1,16 +1,13 @@
 -- Which rows an install keeps.
-use Rattle.std.specs.Prelude.{ℕ, Bool, false, ◌&&◌, nat_eq, List, length, slice_get, Option, Some, None, if◌then◌else◌}
+use Rattle.std.specs.Prelude.{ℕ, Bool, false, ◌&&◌, nat_eq, List, Option, Some, None, if◌then◌else◌}
 use Rattle.mail_model.specs.Identity.{EpochId}
 use Rattle.object_model.specs.Keys.{is_same_epoch}
 use Rattle.object_model.specs.Letters.{Member, MapRow}
-use Rattle.mail_base.specs.Buckets.{bucket_at}
-use Rattle.maps_model.specs.Cluster.{manager_in, is_that_node, member_of}
+use Rattle.maps_model.specs.Cluster.{member_of}
+use Rattle.user_map.specs.Managers.{is_managed_by}
 use Rattle.mail_map.specs.Rows.{Rows}
 
--- whether the node manages the user by this map
-abbrev pub is_managed_by : List MapRow → ℕ → List ℕ → Bool
-is_managed_by map node user = is_that_node (manager_in (slice_get map (bucket_at user (length map)))) node
-
+-- whether the node managed the user by the map that it had, if any
 abbrev pub was_managed_by : Option (List MapRow) → ℕ → List ℕ → Bool
 was_managed_by None node user = false
 was_managed_by (Some map) node user = is_managed_by map node user

@@ -1,12 +1,14 @@
 -- What stands of rows, whatever was told, and that members are named and rows kept as in the machine of membership.
-use Rattle.std.specs.Prelude.{◌≡◌, ◌≤◌, ◌<◌, ◌&&◌, nat_eq, ℕ, Bool, List, [], ◌∷◌, ◌++◌, Option, Some, None}
+use Rattle.std.specs.Prelude.{◌≡◌, ◌↔◌, ◌≤◌, ◌<◌, ◌&&◌, nat_eq, ℕ, Bool, IsTrue, List, [], ◌∷◌, ◌++◌, Option, Some, None}
 use Rattle.std.specs.List.{filter, list_any}
 use Rattle.std.specs.Cmp.Lexicographic.{pointwise}
 use Rattle.object_model.specs.Lists.{Among}
-use Rattle.object_model.specs.Letters.{Row, Member}
-use Rattle.maps_model.specs.Cluster.{Node}
+use Rattle.object_model.specs.Letters.{Row, Member, MapRow, Membership}
+use Rattle.maps_model.specs.Cluster.{Node, Disk, epoch_of, NamesNode, manager_of}
 use Rattle.maps_model.specs.Laws.{named}
+use Rattle.maps_model.specs.Rules.{IsRowKept, IsRowDue, RowAt}
 use Rattle.mail_map.specs.Rows.{Rows, told_row, is_named}
+use Rattle.mail_map.specs.Installs.{stays, kept}
 
 -- the rows once these were told, one after another
 abbrev pub told_all : List Row → Rows → Rows
@@ -40,3 +42,19 @@ LatestStands = (rows : List Row) (n boot : ℕ) (user : List ℕ) → IsLatest (
 -- those are named whom the machine names
 abbrev pub NamesAsMachine : Type 0
 NamesAsMachine = (node : Node) (user : List ℕ) (members : List Member) (n : ℕ) → is_named node.rows user members n ≡ list_any (nat_eq n) (named node user members)
+
+-- the map that a node has, if it has installed one
+abbrev pub map_in : Option Membership → Option (List MapRow)
+map_in None = None
+map_in (Some membership) = Some membership.map
+
+-- an install keeps just the rows that the machine keeps
+abbrev pub KeepsAsMachine : Type 0
+KeepsAsMachine = (own : ℕ) (node : Node) (membership : Membership) (n boot : ℕ) (user : List ℕ)
+    → IsTrue (stays own (map_in node.installed) membership.map (epoch_of node) membership.members n boot user) ↔ IsRowKept own node membership n boot user
+
+-- What it leaves is what the machine leaves, but for the row that the node then tells anew as the user's manager.
+abbrev pub InstallsAsMachine : Type 0
+InstallsAsMachine = (own : ℕ) (node : Node) (disk : Disk) (membership : Membership) → NamesNode membership own node.boot → (n boot : ℕ) (user : List ℕ)
+    → (n ≡ own → boot ≡ node.boot → manager_of membership user ≡ Some own → IsRowDue node disk membership user → ⊥)
+    → RowAt own node disk membership n boot user (kept own (map_in node.installed) membership.map (epoch_of node) membership.members node.rows n boot user)

@@ -3,25 +3,13 @@ ghost use Rattle.std.specs.Prelude.{◌≡◌, ◌&&◌, true, cond, ℕ, Some, 
 ghost use Rattle.std.specs.Option.{option_copied};
 ghost use Rattle.std.specs.BTreeMap as tree;
 ghost use Rattle.mail_map.specs.Rows.{row_at};
-ghost use Rattle.mail_map.specs.Installs.{is_managed_by, was_managed_by, comes, stays};
+ghost use Rattle.user_map.specs.Managers.{is_managed_by};
+ghost use Rattle.mail_map.specs.Installs.{was_managed_by, comes, stays};
 
 use crate::teller::Teller;
-use mail_base::{EpochId, Member, Name, NodeNo, Row, UserMap, bucket_of};
+use mail_base::{EpochId, Member, Name, NodeNo, Row, UserMap};
 use std::collections::BTreeMap;
-
-// Whether the node manages the user by this map.
-fn manages(map: &UserMap, node: NodeNo, user: &Name) -> bool
-    ensures { result ≡ is_managed_by map.now node user.now }
-{
-    let buckets = map.buckets();
-    if buckets == 0 {
-        return false;
-    }
-    match map.manager_of(bucket_of(user, buckets)) {
-        Some(manager) => manager == node,
-        None => false,
-    }
-}
+use user_map::manages;
 
 // Whether the node managed the user by the map that it had, if any.
 fn managed(map: Option<&UserMap>, node: NodeNo, user: &Name) -> bool

@@ -17,12 +17,13 @@
 //! rows, since a node that came from elsewhere reports anew.
 //!
 //! Contracts see a row for each node, boot and user, as the machine of `maps_model` does. The laws say that
-//! the row that stands is the one of greatest version, the later told among equals, and that the members
-//! named are those whom that machine names.
+//! the row that stands is the one of greatest version, the later told among equals, that the members
+//! named are those whom that machine names, and that an install keeps just the rows that it keeps.
 //!
 //! STANDS ON
 //!
-//! `mail_base` for rows, members and maps of users, `maps_model` for who manages a user and what is kept.
+//! `mail_base` for rows, members and maps of users, `user_map` for who manages a user, `maps_model` for what
+//! is kept.
 //!
 //! WHAT IT DOES NOT DO
 //!
@@ -39,5 +40,7 @@ mod teller;
 #[cfg(test)]
 mod tests;
 
-pub use laws::{names_as_the_machine, the_latest_row_stands};
+pub use laws::{
+    installs_as_the_machine, keeps_as_the_machine, names_as_the_machine, the_latest_row_stands,
+};
 pub use map::MailMap;

@@ -1,2 +1,3 @@
 pub mod Users
 pub mod Rows
+pub mod Laws

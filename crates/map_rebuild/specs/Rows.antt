@@ -1,5 +1,5 @@
 -- What a node remembers of its rows: versions, marks, and how many marks the last install made.
-use Rattle.std.specs.Prelude.{◌≡◌, ℕ, ◌+◌, ◌-◌, ◌^◌, min, Bool, List, length, take, Option, Some, None, if◌then◌else◌}
+use Rattle.std.specs.Prelude.{◌≡◌, ℕ, ◌+◌, ◌-◌, ◌^◌, min, Bool, false, ◌&&◌, ◌||◌, nat_eq, List, length, take, Option, Some, None, if◌then◌else◌}
 use Rattle.std.specs.Ordering.{nat_cmp}
 use Rattle.std.specs.Cmp.Lexicographic.{slice_cmp}
 use Rattle.std.specs.List.{filter}
@@ -7,7 +7,9 @@ use Rattle.std.specs.BTreeMap as tree
 use Rattle.mail_model.specs.Identity.{EpochId}
 use Rattle.object_model.specs.Keys.{is_same_epoch}
 use Rattle.object_model.specs.Letters.{MapRow}
-use Rattle.map_rebuild.specs.Users.{has_user, is_managed_by}
+use Rattle.maps_model.specs.Rules.{set_at}
+use Rattle.user_map.specs.Managers.{is_managed_by}
+use Rattle.map_rebuild.specs.Users.{has_user}
 use Rattle.map_rebuild.specs.declared.reports.Reports.{Reports}
 
 abbrev pub version_at : Option ℕ → ℕ
@@ -42,6 +44,26 @@ pub record HasSameReports (old new : Reports) : Type 0 where
 -- the versions are as they were
 abbrev pub KeepsVersions : Reports → Reports → Type 0
 KeepsVersions old new = (user : List ℕ) → version_of new user ≡ version_of old user
+
+-- the user's version is this, and those of others are as they were
+abbrev pub SetsVersion : Reports → Reports → List ℕ → ℕ → Type 0
+SetsVersion old new user version = (other : List ℕ) → version_of new other ≡ set_at (version_of old) user version other
+
+-- the user is marked, or is not, and the marks of others are as they were
+abbrev pub SetsMark : Reports → Reports → List ℕ → Bool → Type 0
+SetsMark old new user marked = (other : List ℕ) → is_marked new other ≡ set_at (is_marked old) user marked other
+
+-- the user's mark is cleared, or all marks are as they were
+abbrev pub ClearsMark : Bool → Reports → Reports → List ℕ → Type 0
+ClearsMark cleared old new user = (other : List ℕ) → is_marked new other ≡ (if cleared then set_at (is_marked old) user false other else is_marked old other)
+
+-- these users are marked beside those who were
+abbrev pub MarksUsers : Reports → Reports → List (List ℕ) → Type 0
+MarksUsers old new users = (user : List ℕ) → is_marked new user ≡ (is_marked old user || has_user users user)
+
+-- whether the user is marked and its row is of that version
+abbrev pub is_due_at : Reports → List ℕ → ℕ → Bool
+is_due_at reports user version = is_marked reports user && nat_eq (version_of reports user) version
 
 -- the count of the last install is as it was
 abbrev pub KeepsCount : Reports → Reports → Type 0

@@ -18,21 +18,29 @@
 //! stay, and versions stay. `Reports::marked_at_install` counts the marks that the last install made. A
 //! user who was marked before is not counted.
 //!
-//! Contracts ask of each user for the version and the mark, as the machine of `maps_model` does.
+//! Contracts ask of each user for the version and the mark, as the machine of `maps_model` does. The laws
+//! say that a change, an acknowledgement, a report and an install are to versions and marks what they are
+//! to that machine, and that an install counts at most as many marks as users are named to it.
 //!
 //! STANDS ON
 //!
-//! `mail_base` for names, epochs and maps of users, `maps_model` for who manages a user.
+//! `mail_base` for names, epochs and maps of users, `user_map` for who manages a user, `maps_model` for what
+//! a node does with marks.
 //!
 //! WHAT IT DOES NOT DO
 //!
 //! It keeps no rows and sends nothing. Which users an install has to mark says who calls `mark_bucket`.
 #![tactic(auto)]
 
+mod laws;
 mod marks;
 mod reports;
 #[cfg(test)]
 mod tests;
 mod versions;
 
+pub use laws::{
+    acknowledges_as_the_machine, changes_as_the_machine, installs_as_the_machine,
+    installs_count_at_most, reports_as_the_machine, tells_as_the_machine,
+};
 pub use reports::Reports;

@@ -1,15 +1,17 @@
 // The users that are marked.
-ghost use Rattle.std.specs.Prelude.{◌≡◌, ◌≤◌, ◌||◌, ◌&&◌, true, false, not, List, ℕ, length, take, IfOk, OnOk, OnErr};
+ghost use Rattle.std.specs.Prelude.{◌≡◌, ◌≤◌, ◌+◌, ◌||◌, ◌&&◌, true, false, not, List, ℕ, length, take, IfOk, OnOk, OnErr};
 ghost use Rattle.std.specs.Ordering.{nat_cmp};
 ghost use Rattle.std.specs.Cmp.Lexicographic.{slice_cmp};
 ghost use Rattle.std.specs.List.{filter};
 ghost use Rattle.std.specs.List.Sorted.{IsStrictlySortedBy};
 ghost use Rattle.maps_model.specs.Rules.{set_at};
-ghost use Rattle.map_rebuild.specs.Users.{has_user, AreSame, is_managed_by};
+ghost use Rattle.user_map.specs.Managers.{is_managed_by};
+ghost use Rattle.map_rebuild.specs.Users.{has_user};
 
-use mail_base::{Name, Names, NodeNo, UserMap, bucket_of};
+use mail_base::{Name, Names, NodeNo, UserMap};
 use std::alloc::{AllocError, Global};
 use std::collections::BTreeSet;
+use user_map::manages;
 
 pub(crate) fn has(marked: &BTreeSet<Name>, user: &Name) -> bool
     ensures { result ≡ has_user marked.now.keys user.now }
@@ -22,6 +24,7 @@ pub(crate) fn put(marked: &mut BTreeSet<Name>, user: &Name) -> Result<bool, Allo
     ensures fresh { IfOk result (λ fresh. fresh ≡ not (has_user marked.old.keys user.now)) }
     ensures ok { OnOk result ((other : List ℕ) → has_user marked.new.keys other ≡ set_at (has_user marked.old.keys) user.now true other) }
     ensures more { length marked.old.keys ≤ length marked.new.keys }
+    ensures few { length marked.new.keys ≤ length marked.old.keys + 1 }
     ensures err { OnErr result (marked.new.keys ≡ marked.old.keys) }
 {
     Ok(marked.insert(user.copy()?)?)
@@ -36,7 +39,8 @@ pub(crate) fn take_out(marked: &mut BTreeSet<Name>, user: &Name)
 
 // Those of the users that are not marked.
 fn unmarked(alloc: Global, marked: &BTreeSet<Name>, users: &[Name]) -> Result<Vec<Name>, AllocError>
-    ensures { IfOk result (λ fresh. fresh.items ≡ filter (λ user. not (has_user marked.now.keys user)) users.now) }
+    ensures those { IfOk result (λ fresh. fresh.items ≡ filter (λ user. not (has_user marked.now.keys user)) users.now) }
+    ensures few { IfOk result (λ fresh. length fresh.items ≤ length users.now) }
 {
     let mut fresh = Vec::new(alloc);
     for user in users {
@@ -51,6 +55,7 @@ fn unmarked(alloc: Global, marked: &BTreeSet<Name>, users: &[Name]) -> Result<Ve
 fn put_each(marked: &mut BTreeSet<Name>, users: &[Name]) -> Result<(), AllocError>
     ensures all { OnOk result ((user : List ℕ) → has_user marked.new.keys user ≡ (has_user marked.old.keys user || has_user users.now user)) }
     ensures more { length marked.old.keys ≤ length marked.new.keys }
+    ensures few { length marked.new.keys ≤ length marked.old.keys + length users.now }
     ensures others { (user : List ℕ) → has_user users.now user ≡ false → has_user marked.new.keys user ≡ has_user marked.old.keys user }
 {
     for user in users {
@@ -76,6 +81,7 @@ pub(crate) fn put_all(
 ) -> Result<(), AllocError>
     ensures all { OnOk result ((user : List ℕ) → has_user marked.new.keys user ≡ (has_user marked.old.keys user || has_user users.now user)) }
     ensures more { OnOk result (length marked.old.keys ≤ length marked.new.keys) }
+    ensures few { OnOk result (length marked.new.keys ≤ length marked.old.keys + length users.now) }
     ensures err { OnErr result ((user : List ℕ) → has_user marked.new.keys user ≡ has_user marked.old.keys user) }
 {
     let fresh = unmarked(alloc, marked, users)?;
@@ -85,20 +91,6 @@ pub(crate) fn put_all(
             take_each(marked, &fresh);
             Err(refused)
         }
-    }
-}
-
-// Whether the node manages the user by this map.
-fn manages(map: &UserMap, node: NodeNo, user: &Name) -> bool
-    ensures { result ≡ is_managed_by map.now node user.now }
-{
-    let buckets = map.buckets();
-    if buckets == 0 {
-        return false;
-    }
-    match map.manager_of(bucket_of(user, buckets)) {
-        Some(manager) => manager == node,
-        None => false,
     }
 }
 

@@ -1,12 +1,10 @@
 // Versions and marks of a node's rows.
-ghost use Rattle.std.specs.Prelude.{◌≡◌, ◌↔◌, ◌+◌, ◌-◌, ◌<◌, ◌^◌, ◌||◌, ◌&&◌, List, [], ℕ, true, false, nat_eq, if◌then◌else◌, IsTrue, IfOk, OnOk, OnErr};
+ghost use Rattle.std.specs.Prelude.{◌≡◌, ◌↔◌, ◌≤◌, ◌+◌, ◌-◌, ◌<◌, ◌^◌, length, List, [], ℕ, true, false, IsTrue, IfOk, OnOk, OnErr};
 ghost use Rattle.std.specs.Ordering.{nat_cmp};
 ghost use Rattle.std.specs.Cmp.Lexicographic.{slice_cmp};
 ghost use Rattle.std.specs.List.Sorted.{IsStrictlySortedBy};
 ghost use Rattle.mail_model.specs.Identity.{no_epoch};
-ghost use Rattle.maps_model.specs.Rules.{set_at};
-ghost use Rattle.map_rebuild.specs.Users.{has_user};
-ghost use Rattle.map_rebuild.specs.Rows.{version_of, is_marked, marked_users, install_epoch, marks_of_install, HasSameReports, KeepsVersions, KeepsCount, counted_after, due_users};
+ghost use Rattle.map_rebuild.specs.Rows.{version_of, is_marked, marked_users, install_epoch, marks_of_install, HasSameReports, KeepsVersions, SetsVersion, SetsMark, ClearsMark, MarksUsers, is_due_at, KeepsCount, counted_before, counted_after, due_users};
 
 use crate::marks::{due_in, has, put, put_all, take_out};
 use crate::versions::{set_version, version_in};
@@ -50,8 +48,8 @@ impl Reports {
     pub fn mark_user(&mut self, user: &Name) -> Result<u64, AllocError>
         requires { version_of self.old user.now + 1 < 2 ^ 64 }
         ensures answer { IfOk result (λ version. version ≡ version_of self.old user.now + 1) }
-        ensures versions { OnOk result ((other : List ℕ) → version_of self.new other ≡ set_at (version_of self.old) user.now (version_of self.old user.now + 1) other) }
-        ensures marks { OnOk result ((other : List ℕ) → is_marked self.new other ≡ set_at (is_marked self.old) user.now true other) }
+        ensures versions { OnOk result (SetsVersion self.old self.new user.now (version_of self.old user.now + 1)) }
+        ensures marks { OnOk result (SetsMark self.old self.new user.now true) }
         ensures count { KeepsCount self.old self.new }
         ensures err { OnErr result (HasSameReports self.old self.new) }
     {
@@ -71,7 +69,7 @@ impl Reports {
     /// Takes the user's mark away, where one stands: the node manages the user itself and has told its row. Versions stay.
     /// It takes no memory.
     pub fn told(&mut self, user: &Name)
-        ensures marks { (other : List ℕ) → is_marked self.new other ≡ set_at (is_marked self.old) user.now false other }
+        ensures marks { SetsMark self.old self.new user.now false }
         ensures versions { KeepsVersions self.old self.new }
         ensures count { KeepsCount self.old self.new }
     {
@@ -86,10 +84,11 @@ impl Reports {
     ///
     /// Only out of memory; all is then as before.
     pub fn mark_bucket(&mut self, users: &[Name], epoch: EpochId) -> Result<(), AllocError>
-        ensures marks { OnOk result ((user : List ℕ) → is_marked self.new user ≡ (is_marked self.old user || has_user users.now user)) }
+        ensures marks { OnOk result (MarksUsers self.old self.new users.now) }
         ensures versions { KeepsVersions self.old self.new }
         ensures epoch { OnOk result (install_epoch self.new ≡ epoch) }
         ensures count { OnOk result (marks_of_install self.new ≡ counted_after epoch self.old self.new) }
+        ensures bound { OnOk result (marks_of_install self.new ≤ counted_before epoch self.old + length users.now) }
         ensures err { OnErr result (HasSameReports self.old self.new) }
     {
         let before = self.marked.len();
@@ -128,8 +127,8 @@ impl Reports {
     /// The manager has the user's row of this version: the mark is cleared. False, with nothing changed, exactly where no
     /// mark of the user stands or the row's version is another. It takes no memory.
     pub fn report_acknowledged(&mut self, user: &Name, version: u64) -> bool
-        ensures answer { result ≡ (is_marked self.old user.now && nat_eq (version_of self.old user.now) version) }
-        ensures marks { (other : List ℕ) → is_marked self.new other ≡ (if result then set_at (is_marked self.old) user.now false other else is_marked self.old other) }
+        ensures answer { result ≡ is_due_at self.old user.now version }
+        ensures marks { ClearsMark result self.old self.new user.now }
         ensures versions { KeepsVersions self.old self.new }
         ensures count { KeepsCount self.old self.new }
     {

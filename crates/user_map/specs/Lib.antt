@@ -1,3 +1,4 @@
 pub mod Plain
 pub mod Laws
 pub mod Loads
+pub mod Managers

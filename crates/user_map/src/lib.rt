@@ -16,6 +16,8 @@
 //! that assign the same claims, members and buckets have the same map. `specs/Plain.antt` has a plain
 //! program of it, and `some_map` says that there always is a map.
 //!
+//! `manages` says whether a node manages a user's bucket by a map.
+//!
 //! The time grows with the buckets and the claims, and each step looks at each member once.
 //!
 //! STANDS ON
@@ -31,8 +33,10 @@ mod assignment;
 mod cells;
 pub mod laws;
 mod loads;
+mod managers;
 #[cfg(test)]
 mod tests;
 
 pub use assignment::assign;
 pub use mail_base::{Claim, MapRow, Member, UserMap};
+pub use managers::manages;

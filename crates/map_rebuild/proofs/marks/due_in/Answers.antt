@@ -1,7 +1,7 @@
 use Rattle.std.proofs.Common.{◌≡◌, ◌<◌, ◌++◌, ◌∷◌, [], List, ℕ, length, length-append, sym, ap, ◌∙◌, arith, ◌+◌}
 use Rattle.std.proofs.lemmas.Map.Iter.{rest_more}
 use Rattle.std.specs.Map.Iter.{deref}
-use Rattle.map_rebuild.specs.Users.{is_managed_by}
+use Rattle.user_map.specs.Managers.{is_managed_by}
 use Rattle.map_rebuild.proofs.Sets.{due_more}
 use Rattle.map_rebuild.proofs.marks.due_in.Goals as goal
 

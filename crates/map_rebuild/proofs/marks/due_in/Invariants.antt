@@ -1,6 +1,6 @@
 use Rattle.std.proofs.Common.{◌≡◌, ◌≤◌, ◌-◌, ◌++◌, take, length}
 use Rattle.std.specs.List.{filter}
-use Rattle.map_rebuild.specs.Users.{is_managed_by}
+use Rattle.user_map.specs.Managers.{is_managed_by}
 use Rattle.map_rebuild.proofs.marks.due_in.Given as goal
 
 abbrev pub invariant-loop-user : goal.invariant-loop-user

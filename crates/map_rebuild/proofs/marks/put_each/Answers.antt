@@ -12,4 +12,5 @@ loop-user-preserved c = record {
   all = put_next (has_user c.loop-user.marked.keys) (has_user c.put.new.marked.keys) (drop c.loop-user.user-index c.args.users.now) (drop (c.loop-user.user-index + 1) c.args.users.now) c.user-item.result
       (λ q. has_user c.args.marked.now.keys q || has_user c.args.users.now q) (at_item c.args.users.now c.loop-user.user-index c.user-item.result c.loop-user-test.true c.user-item.is) c.in_ok-put.ensures.ok c.loop-user.invariant.all;
   more = omega (arith, c.loop-user.invariant.more, c.put.ensures.more);
+  few = omega (arith, c.loop-user.invariant.few, c.put.ensures.few);
 }
