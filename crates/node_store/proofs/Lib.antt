@@ -1,0 +1,12 @@
+pub mod Short
+pub mod Journals
+pub mod Objects
+pub mod Placed
+pub mod Taking
+pub mod Works
+pub mod Grown
+pub mod Silent
+pub mod Lists
+pub mod Stored
+pub mod Widened
+pub mod Sized

@@ -1,0 +1,12 @@
+use Rattle.std.proofs.Common.{take}
+use Rattle.cluster_model.specs.Store.{take_all, here_updates}
+use Rattle.node_store.specs.Disks.{view_of}
+use Rattle.node_store.specs.Writes.{Done}
+use Rattle.node_store.proofs.store.NodeStore.take_here.Given as goal
+
+-- those so far are taken
+abbrev pub invariant-loop-user : goal.invariant-loop-user
+invariant-loop-user g l = record {
+  done : Done (view_of g.D.Disk.seen g.D.Disk.faults g.D.Disk.clock) (take_all l.initial.self.own (here_updates l.id l.stamp l.targets (take l.user-index l.users))) l.initial.self l.initial.disk l.self l.disk;
+  settled : g.D.Disk.settled l.initial.disk → g.D.Disk.settled l.disk;
+}
