@@ -3,13 +3,10 @@ use Rattle.std.proofs.Common.{◌≡◌, ◌+◌, ◌<◌, ℕ, Bool, true, fals
 use Rattle.std.specs.Prelude.{slice_index, All, codes, Result, Ok, Err, OnOk}
 use Rattle.std.specs.List.{list_all}
 use Rattle.std.specs.Fmt.{decimal}
-use Rattle.std.proofs.lemmas.List.{append-nil}
 use Rattle.std.proofs.lemmas.List.Elements.{All-cons, All-nil, All-append, All-get_or}
-use Rattle.std.proofs.lemmas.List.Concat.{flat_map-append}
 use Rattle.mail_model.specs.Lines.{HasNoLf, HasNoCrlf, sent_line}
 use Rattle.mail_model.specs.PopReplies.{octets_text, dotted_line, last_line}
 use Rattle.mail_model.proofs.OneLine.{IsNoLf, by_test, decimal_no_lf}
-use Rattle.session_model.specs.Calls.{ShowsPart}
 use Rattle.dot_text.specs.Dots.{Dots, AreLines, dotted}
 use Rattle.pop_session.specs.Messages.{ShowsPartIn}
 

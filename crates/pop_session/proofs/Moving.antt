@@ -1,7 +1,7 @@
 -- What a move does, in all that is said of it.
-use Rattle.std.proofs.Common.{◌≡◌, ◌<◌, ◌≤◌, ◌+◌, ℕ, Bool, true, false, List, [], ◌∷◌, ◌++◌, length, take, drop, flat_map, map, refl, sym, ap, subst, ◌∙◌, arith}
-use Rattle.std.specs.Prelude.{All, Option, Some, None, Result, Ok, Err, IfOk, MatchOption, slice_get, codes}
-use Rattle.std.proofs.lemmas.List.{length-drop, append-nil}
+use Rattle.std.proofs.Common.{◌≡◌, ◌<◌, ◌≤◌, ◌+◌, ℕ, List, [], ◌++◌, length, flat_map, map, refl, sym, ap, subst, ◌∙◌, arith}
+use Rattle.std.specs.Prelude.{All, Option, Some, None, Result, Ok, Err, IfOk, MatchOption, slice_get}
+use Rattle.std.proofs.lemmas.List.{length-drop}
 use Rattle.mail_model.specs.Lines.{HasNoCrlf, sent_line}
 use Rattle.mail_model.specs.Plan.{Plan}
 use Rattle.mail_model.specs.PopReplies.{one_line, ready_text}
@@ -15,10 +15,10 @@ use Rattle.call_tickets.specs.Moves as moves
 use Rattle.call_tickets.specs.Moves.{IsBusy}
 use Rattle.call_tickets.specs.Moves.Due.{Nothing, Reply}
 use Rattle.call_tickets.specs.declared.step.Move.{Move}
-use Rattle.call_tickets.specs.declared.step.Move.TheVariants.{Said, Begin, Wait, Idle, End}
+use Rattle.call_tickets.specs.declared.step.Move.TheVariants.{Said, Idle}
 use Rattle.mail_base.specs.declared.item.Item.{Item}
 use Rattle.call_tickets.specs.declared.answer.Answer.{Answer}
-use Rattle.dot_text.specs.Shown.{Shown, Pending, Finds, FindsNone, IsLine, behind_line, line_length}
+use Rattle.dot_text.specs.Shown.{Shown, Finds, FindsNone, IsLine, behind_line, line_length}
 use Rattle.dot_text.specs.declared.cutter.Line.{Line as Found}
 use Rattle.pop_session.specs.declared.session.PopSession.{PopSession}
 use Rattle.pop_session.specs.declared.session.Turn.{Turn}
@@ -35,7 +35,7 @@ use Rattle.pop_session.specs.declared.due.Text.{Text}
 use Rattle.pop_session.specs.Slots.{items_of_slots, listed_slot}
 use Rattle.pop_session.specs.Shown.{login_in, listed_in, name_in, slots_in, state_of, reply_in, IsOwn, HearsLine}
 use Rattle.pop_session.specs.Dues.{text_of, IsAsked, Says, items_told}
-use Rattle.pop_session.specs.Follows.{Follows, Goes, Moved, LeadsTurn, IsOwnMove, due_count, left, held, told_login, told_items, login_of, items_of}
+use Rattle.pop_session.specs.Follows.{Follows, Goes, Moved, LeadsTurn, IsOwnMove, due_count, left, told_login, told_items, login_of, items_of}
 use Rattle.pop_session.proofs.Units.{session, hears_none, hears_line}
 use Rattle.pop_session.proofs.Replying.{greets, says_on, says_last, shows, enters}
 use Rattle.pop_session.proofs.Marks.{listed_items}

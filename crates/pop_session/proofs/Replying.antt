@@ -1,26 +1,25 @@
 -- What a session says before it hears on, and what feeding and falling leave.
-use Rattle.std.proofs.Common.{◌≡◌, ◌<◌, ◌≤◌, ◌+◌, ℕ, Bool, true, false, List, [], ◌∷◌, ◌++◌, length, flat_map, map, refl, sym, ap, subst, ◌∙◌, arith}
+use Rattle.std.proofs.Common.{◌≡◌, ℕ, List, [], ◌∷◌, ◌++◌, flat_map, map, refl, sym, ap, subst, ◌∙◌}
 use Rattle.std.specs.Prelude.{All, Option, Some, None, codes}
 use Rattle.std.proofs.lemmas.List.{append-nil}
 use Rattle.std.proofs.lemmas.List.Elements.{All-cons, All-nil}
 use Rattle.mail_model.specs.Lines.{HasNoCrlf, sent_line}
 use Rattle.mail_model.specs.Plan.{Plan}
 use Rattle.mail_model.specs.Tape.{Protocol, or_else}
-use Rattle.mail_model.specs.PopReplies.{ListingSlot, one_line, ready_text, down_text, listed_slots}
+use Rattle.mail_model.specs.PopReplies.{one_line, ready_text, down_text, listed_slots}
 use Rattle.mail_model.specs.Identity.{Id}
 use Rattle.mail_model.specs.Maildrop.{entered_text}
 use Rattle.session_model.specs.Calls as calls
 use Rattle.session_model.specs.Calls.{IsReply, ShowsPart}
 use Rattle.session_model.specs.Talk.{TalkState, Exchange, Standing, IsOn, answered, let_in, entered_as, down_line}
 use Rattle.session_model.specs.Talk.TalkState.{Entering, Reading}
-use Rattle.session_model.specs.Talk.Standing.{Hearing, Waiting, EndedByQuit, EndedDown}
+use Rattle.session_model.specs.Talk.Standing.{Hearing, EndedByQuit, EndedDown}
 use Rattle.session_model.specs.Moves.{with_answer}
 use Rattle.session_model.specs.Sessions.{Session, exchanges_of}
 use Rattle.call_tickets.specs.Moves as moves
 use Rattle.call_tickets.specs.Moves.{Moves, Fed, Fell, Replied}
 use Rattle.call_tickets.specs.Moves.Due.{Nothing, Greeting}
 use Rattle.call_tickets.specs.declared.step.Move.TheVariants.{Said}
-use Rattle.mail_base.specs.declared.item.Item.{Item}
 use Rattle.call_tickets.specs.declared.answer.Answer.{Answer}
 use Rattle.mail_base.specs.Items.{item_seen}
 use Rattle.dot_text.specs.Shown.{Shown, Pending}
@@ -34,11 +33,10 @@ use Rattle.pop_session.specs.declared.due.Due.{Due}
 use Rattle.pop_session.specs.declared.due.Due.TheVariants as dues
 use Rattle.pop_session.specs.declared.due.Text.{Text}
 use Rattle.pop_session.specs.declared.due.Text.TheVariants.{Wrong, Later, Gone, Bye, Remaining}
-use Rattle.pop_session.specs.Slots.{slots_seen, listed_slot}
+use Rattle.pop_session.specs.Slots.{listed_slot}
 use Rattle.pop_session.specs.Shown.{state_of, login_in}
-use Rattle.pop_session.specs.Dues.{text_of, Says, SaysLine, items_told}
-use Rattle.pop_session.specs.Messages.{ShowsPartIn}
-use Rattle.pop_session.specs.Follows.{Follows, WaitsFor, Stands, Goes, user_of_login, opening_line}
+use Rattle.pop_session.specs.Dues.{text_of, Says, items_told}
+use Rattle.pop_session.specs.Follows.{Follows, WaitsFor, Stands, Goes, user_of_login}
 use Rattle.pop_session.proofs.Messages.{text}
 use Rattle.pop_session.proofs.Tables.{ready_none, down_none}
 use Rattle.pop_session.proofs.Marks.{listed_alike}

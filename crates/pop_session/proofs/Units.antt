@@ -1,9 +1,8 @@
 -- What a session follows after a line, and after what it had to say.
-use Rattle.std.proofs.Common.{◌≡◌, ◌<◌, ◌≤◌, ◌+◌, ℕ, Bool, true, false, List, [], ◌∷◌, ◌++◌, length, take, drop, flat_map, map, refl, sym, ap, subst, ◌∙◌, arith, append_assoc}
-use Rattle.std.specs.Prelude.{All, Option, Some, None, MatchBool, codes}
-use Rattle.std.specs.Option.{option_map}
-use Rattle.std.proofs.lemmas.List.{append-nil, length-append, length-drop}
-use Rattle.std.proofs.lemmas.List.Elements.{All-cons, All-nil}
+use Rattle.std.proofs.Common.{◌≡◌, ◌<◌, ◌≤◌, ℕ, Bool, true, false, List, [], ◌∷◌, ◌++◌, length, flat_map, refl, sym, ap, subst, ◌∙◌, arith}
+use Rattle.std.specs.Prelude.{All, Option, Some, None, codes}
+use Rattle.std.proofs.lemmas.List.{length-append}
+use Rattle.std.proofs.lemmas.List.Elements.{All-nil}
 use Rattle.std.proofs.lemmas.Bool.{lt-ltb, le-ltb}
 use Rattle.mail_model.specs.Lines.{HasNoCrlf, sent_line}
 use Rattle.mail_model.specs.Plan.{Plan}
@@ -12,7 +11,7 @@ use Rattle.mail_model.specs.PopReplies as replies
 use Rattle.mail_model.specs.PopReplies.{one_line, ready_text, listed_slots}
 use Rattle.mail_model.specs.Session.{is_long_line}
 use Rattle.mail_model.specs.Session.Unit.{Line, Text}
-use Rattle.mail_model.specs.Told.{IsUnit, HasNoUnit, unit_octets}
+use Rattle.mail_model.specs.Told.{IsUnit, HasNoUnit}
 use Rattle.mail_model.specs.Maildrop as drops
 use Rattle.mail_model.specs.Maildrop.{LineOutcome, line_outcome, after_line, named_in, deleted_in, entered_text}
 use Rattle.mail_model.specs.Pop.{pop_command_of}
@@ -22,20 +21,15 @@ use Rattle.session_model.specs.Talk as talks
 use Rattle.session_model.specs.Talk.{TalkState, Lead, Exchange, Standing, IsNext, IsLed, in_text, lead_of, line_lead, heard, answered, stands, stands_by, let_in, entered_as}
 use Rattle.session_model.specs.Talk.TalkState.{Entering, Reading}
 use Rattle.session_model.specs.Talk.Standing.{Hearing, Waiting, EndedByQuit, EndedDown}
-use Rattle.session_model.specs.Moves.{with_answer}
 use Rattle.session_model.specs.Sessions.{Session}
 use Rattle.call_tickets.specs.Seen.{ids_in}
 use Rattle.call_tickets.specs.Moves as moves
 use Rattle.call_tickets.specs.Moves.{Moves, HearsNothing}
 use Rattle.call_tickets.specs.Moves.Due.{Nothing, Greeting}
 use Rattle.call_tickets.specs.declared.step.Move.{Move}
-use Rattle.call_tickets.specs.declared.step.Move.TheVariants.{Said, Begin, Wait, Idle, End}
-use Rattle.call_tickets.specs.declared.call.Call.TheVariants as tickets
-use Rattle.mail_base.specs.declared.proof.Proof.TheVariants.{Pass}
-use Rattle.mail_base.specs.Items.{item_seen}
-use Rattle.dot_text.specs.Shown.{Shown, Pending, Finds, FindsNone, IsLine, behind_line, line_length}
+use Rattle.call_tickets.specs.declared.step.Move.TheVariants.{Idle}
+use Rattle.dot_text.specs.Shown.{Shown, Pending, Finds, FindsNone, IsLine, behind_line}
 use Rattle.dot_text.specs.declared.cutter.Line.{Line as Found}
-use Rattle.dot_text.specs.declared.cutter.Line.TheVariants.{Whole, Long}
 use Rattle.pop_session.specs.declared.session.PopSession.{PopSession}
 use Rattle.pop_session.specs.declared.session.Turn.{Turn}
 use Rattle.pop_session.specs.declared.session.Turn.TheVariants as turn
@@ -44,17 +38,10 @@ use Rattle.pop_session.specs.declared.stage.Stage.{Stage}
 use Rattle.pop_session.specs.declared.stage.Stage.TheVariants.{Authorization, Transaction}
 use Rattle.pop_session.specs.declared.stage.Heard.{Heard}
 use Rattle.pop_session.specs.declared.stage.Heard.TheVariants as hears
-use Rattle.pop_session.specs.declared.due.Due.{Due}
-use Rattle.pop_session.specs.declared.due.Due.TheVariants as dues
-use Rattle.pop_session.specs.declared.due.Asked.TheVariants as asked
-use Rattle.pop_session.specs.Slots.{slots_seen, listed_slot}
-use Rattle.pop_session.specs.Shown.{stage_of, state_of, login_in, listed_in, outcome_of_heard, reply_in, name_in, slots_in, told_long, IsOwn, HearsLine}
-use Rattle.pop_session.specs.Dues.{text_of, IsAsked, Says}
-use Rattle.pop_session.specs.Messages.{ShowsPartIn}
-use Rattle.pop_session.specs.Follows.{Follows, WaitsFor, Stands, Goes, LeadsTurn, user_of_login, opening_line, stage_behind}
-use Rattle.pop_session.proofs.Messages.{text}
-use Rattle.pop_session.proofs.Tables.{AreLines, outcome_lines, ready_none, down_none}
-use Rattle.pop_session.proofs.Marks.{listed_alike}
+use Rattle.pop_session.specs.Slots.{slots_seen}
+use Rattle.pop_session.specs.Shown.{stage_of, state_of, login_in, listed_in, reply_in, name_in, told_long, HearsLine}
+use Rattle.pop_session.specs.Follows.{Follows, Stands, Goes, LeadsTurn, user_of_login, opening_line}
+use Rattle.pop_session.proofs.Tables.{AreLines, outcome_lines}
 use Rattle.pop_session.proofs.Logins.{asks_at}
 
 abbrev pub session : ℕ → ℕ → ℕ → ℕ → Turn → Stage → Shown → PopSession

@@ -15,14 +15,11 @@ use Rattle.call_tickets.specs.declared.step.Move.TheVariants.{Begin, Idle}
 use Rattle.call_tickets.specs.declared.call.Call.{Call}
 use Rattle.call_tickets.specs.declared.call.Call.TheVariants as tickets
 use Rattle.call_tickets.specs.declared.answer.Answer.{Answer}
-use Rattle.call_tickets.specs.declared.answer.Answer.TheVariants as answers
 use Rattle.mail_base.specs.declared.item.Item.{Item}
 use Rattle.dot_text.specs.Shown.{Pending}
 use Rattle.pop_session.specs.declared.session.PopSession.{PopSession}
 use Rattle.pop_session.specs.declared.session.Turn.{Turn}
 use Rattle.pop_session.specs.declared.session.Turn.TheVariants.{Greets, Hears, Waits, Replies, Ended}
-use Rattle.pop_session.specs.declared.due.Asked.{Asked}
-use Rattle.pop_session.specs.declared.due.Due.{Due}
 use Rattle.pop_session.specs.declared.due.Due.TheVariants.{Entered, Shown, Said, Last}
 use Rattle.pop_session.specs.declared.stage.Login.{Login}
 use Rattle.pop_session.specs.declared.stage.Stage.{Stage}
@@ -33,7 +30,7 @@ use Rattle.pop_session.specs.declared.listing.Slot.{Slot}
 use Rattle.pop_session.specs.declared.due.Asked.TheVariants as asked
 use Rattle.mail_base.specs.declared.proof.Proof.TheVariants.{Pass}
 use Rattle.call_tickets.specs.declared.step.Move.TheVariants as move
-use Rattle.pop_session.specs.Slots.{items_of_slots, marked_items}
+use Rattle.pop_session.specs.Slots.{marked_items}
 use Rattle.pop_session.specs.Shown.{state_of, login_in, listed_in, slots_in}
 use Rattle.pop_session.specs.Dues.{IsAsked, Says, due_login, due_items, taken_login, taken_items}
 

@@ -70,7 +70,10 @@ fn files(
 ) -> Result<(), Fail> {
     let mut client = asked(rt, alloc)?;
     feed_all(&mut client, octets, size)?;
-    let text = client.filed.as_ref().map(|deliver| deliver.text.as_slice());
+    let text = match &client.filed {
+        Some(deliver) => Some(deliver.text.as_slice()),
+        None => None,
+    };
     assert!(rt; text == wanted, "{octets:?}, in pieces of {size}");
     Ok(())
 }

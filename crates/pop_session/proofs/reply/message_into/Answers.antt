@@ -1,4 +1,4 @@
-use Rattle.std.proofs.Common.{List, ℕ, ap, sym, ◌∙◌, ◌++◌}
+use Rattle.std.proofs.Common.{List, ℕ, ap, ◌∙◌, ◌++◌}
 use Rattle.mail_model.specs.Lines.{sent_line}
 use Rattle.pop_session.proofs.Messages.{part_done}
 use Rattle.pop_session.proofs.reply.message_into.Goals as goal
