@@ -1,5 +1,5 @@
 -- A node that notes a mishap or ends a ticket acts as the invariant asks.
-use Rattle.std.proofs.Common.{◌≡◌, ◌≢◌, ◌⊎◌, inl, ⊎_elim, ℕ, ◌+◌, Bool, true, false, List, [], map, Option, Some, None, refl, sym, ap, ◌∙◌, subst, true≢false, if◌then◌else◌, le_refl, arith}
+use Rattle.std.proofs.Common.{◌≡◌, ◌≢◌, ◌⊎◌, ◌≤◌, inl, ⊎_elim, ℕ, ◌+◌, Bool, true, false, List, [], map, Option, Some, None, refl, sym, ap, ◌∙◌, subst, true≢false, if◌then◌else◌, le_refl, arith}
 use Rattle.std.specs.FinMap as fin
 use Rattle.std.specs.Cmp.{nat_cmp_total}
 use Rattle.std.proofs.lemmas.Map.Lookups.{exact_unsigned}
@@ -7,17 +7,18 @@ use Rattle.mail_model.specs.Record.{Record}
 use Rattle.object_model.specs.Sets.{has, with_node, without_node}
 use Rattle.object_model.specs.Lists.{Among}
 use Rattle.object_model.specs.Letters.{Number, Letter}
+use Rattle.cluster_model.specs.Reads.{Found}
 use Rattle.cluster_model.specs.Cluster.{AskedOfNodes, Want, Ticket, Node, Life, CallKind}
 use Rattle.cluster_model.specs.Cluster.Life.{Up}
 use Rattle.cluster_model.specs.Claims.{Wants, LifeWaits, Covers, Covered}
 use Rattle.cluster_model.specs.Moves.{IsCallDone, IsReady}
-use Rattle.cluster_model.specs.Rules.{Reaction, idle, with_ticket, end_ticket, refuse, failed_want, failed_at, mishap}
+use Rattle.cluster_model.specs.Rules.{Reaction, idle, with_ticket, end_ticket, refuse, begin_read, failed_want, failed_at, mishap}
 use Rattle.object_model.proofs.SetLaws.{left_in}
 use Rattle.object_model.proofs.MapLaws.{found, left_found}
 use Rattle.cluster_model.specs.Deeds.{act_of, slot_up}
 use Rattle.cluster_model.proofs.Tickets.{Came, Begins, numbered, tickets_react, rewanted, as_it_was}
 use Rattle.cluster_model.proofs.HearTold.{still_acts}
-use Rattle.object_model.specs.Mishaps.{MishapKind, Mishaps, counted}
+use Rattle.object_model.specs.Mishaps.{MishapKind, Mishaps, no_mishaps, counted}
 
 -- what becomes of a want at which a node fails
 record Failed (at : ℕ) (old new : Want) : Type 0 where
@@ -63,16 +64,24 @@ module _ (own : ℕ) (node : Node) (disk : List Record) (ready : IsReady own (sl
   pub mishap_acts : (kind : MishapKind) (seq at : ℕ) → IsCallDone (act_of own node disk (mishap kind seq at node disk) None None [])
   mishap_acts kind seq at = failed_acts kind seq at (fin.get node.tickets seq) refl
 
-  pub refuse_acts : (kind : CallKind) (mishaps : Mishaps) (drawn : ℕ) → IsCallDone (act_of own node disk (refuse kind mishaps drawn node disk) None None [])
-  refuse_acts kind mishaps drawn = still_acts own node disk None after refl refl (omega arith) ready (tickets_react own node disk (refuse kind mishaps drawn node disk) None None [] refl
+  -- a ticket that asks nothing of nodes stands from here on
+  asks_nothing : (drawn : ℕ) (ticket : Ticket) → node.drawn ≤ drawn → ticket.wants ≡ []
+      → IsCallDone (act_of own node disk (record { node = record node { drawn = drawn; calls = node.calls + 1; tickets = fin.insert node.tickets (node.calls + 1) ticket }; disk = disk; out = [] }) None None [])
+  asks_nothing drawn ticket rises none = still_acts own node disk None did.node refl refl rises ready (tickets_react own node disk did None None [] refl
       (λ s want w. inl (⊎_elim
-      (λ (at, is). absurd (subst (λ (t : Ticket). Among want t.wants) is w.inside))
-      (λ (apart, old). as_it_was (act_of own node disk (refuse kind mishaps drawn node disk) None None []) s want (record { ticket = w.ticket; here = old; inside = w.inside }))
-      (found nat_cmp_total exact_unsigned node.tickets (node.calls + 1) (record { kind = kind; wants = []; mishaps = mishaps }) s w.ticket w.here)))
-      (unheard [] (Up after)))
+      (λ (at, is). absurd (subst (Among want) none (subst (λ (t : Ticket). Among want t.wants) is w.inside)))
+      (λ (apart, old). as_it_was (act_of own node disk did None None []) s want (record { ticket = w.ticket; here = old; inside = w.inside }))
+      (found nat_cmp_total exact_unsigned node.tickets (node.calls + 1) ticket s w.ticket w.here)))
+      (unheard [] (Up did.node)))
     where
-      after : Node
-      after = record node { drawn = node.drawn + drawn; calls = node.calls + 1; tickets = fin.insert node.tickets (node.calls + 1) (record { kind = kind; wants = []; mishaps = mishaps }) }
+      did : Reaction
+      did = record { node = record node { drawn = drawn; calls = node.calls + 1; tickets = fin.insert node.tickets (node.calls + 1) ticket }; disk = disk; out = [] }
+
+  pub refuse_acts : (kind : CallKind) (mishaps : Mishaps) (drawn : ℕ) → IsCallDone (act_of own node disk (refuse kind mishaps drawn node disk) None None [])
+  refuse_acts kind mishaps drawn = asks_nothing (node.drawn + drawn) (record { kind = kind; wants = []; mishaps = mishaps; found = None }) (omega arith) refl
+
+  pub read_acts : (kind : CallKind) (found : Found) → IsCallDone (act_of own node disk (begin_read kind found node disk) None None [])
+  read_acts kind found = asks_nothing node.drawn (record { kind = kind; wants = []; mishaps = no_mishaps; found = Some found }) (le_refl node.drawn) refl
 
   pub end_acts : (seq : ℕ) → IsCallDone (act_of own node disk (end_ticket seq node disk) None None [])
   end_acts seq = still_acts own node disk None after refl refl (le_refl node.drawn) ready (tickets_react own node disk (end_ticket seq node disk) None None [] refl

@@ -2,7 +2,7 @@
 use Rattle.std.proofs.Common.{◌≡◌, inl, inr, ⊎_elim, ℕ, List, [], ◌∷◌, ◌++◌, true, ◌≤◌, subst, sym, ap, ◌∙◌}
 use Rattle.mail_model.specs.Identity.{Id}
 use Rattle.mail_model.specs.Book.{Acked, BookEntry}
-use Rattle.mail_model.specs.Book.BookEntry.{Acknowledged, Struck, Dropped, WentDown}
+use Rattle.mail_model.specs.Book.BookEntry.{Acknowledged, Struck, Dropped, WentDown, CameUp, WasLost}
 use Rattle.object_model.specs.Sets.{has, count_in}
 use Rattle.object_model.specs.Lists.{Among}
 use Rattle.cluster_model.specs.Cluster.{Slot, NodeFiling}
@@ -85,6 +85,8 @@ module _ (confirm : ℕ) (slots : List Slot) (flying : List Letter) (book : List
       } in
       subst (FactStands slots m) e (p.nodes m (IsGone user id) (record { node = node; slot = slot; here = here; claims = inl claim }))
   claimed_new (WentDown node) may_ m fact claim = absurd claim
+  claimed_new (CameUp node boot) may_ m fact claim = absurd claim
+  claimed_new (WasLost node) may_ m fact claim = absurd claim
 
   pub claims_entered : Claims slots flying (book ++ entry ∷ [])
   claims_entered = record {

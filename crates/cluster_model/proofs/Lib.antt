@@ -42,3 +42,4 @@ pub mod Playing
 pub mod Worked
 pub mod Counting
 pub mod Fairness
+pub mod Listings

@@ -1,15 +1,16 @@
 -- Each step of a world is a list of moves, and so lists of steps keep a world sound.
-use Rattle.std.proofs.Common.{◌≡◌, ◌⊎◌, inl, inr, ⊎_elim, ℕ, false, List, [], ◌∷◌, ◌++◌, Some, None, refl, sym, ap, subst}
+use Rattle.std.proofs.Common.{◌≡◌, ◌⊎◌, inl, ◌≢◌, inr, ⊎_elim, ℕ, Bool, false, List, [], ◌∷◌, ◌++◌, append-nil, Some, None, refl, sym, ap, ◌∙◌, subst}
 use Rattle.mail_model.specs.Identity.{Id, Key}
 use Rattle.mail_model.specs.Identity.Key.{Message}
 use Rattle.mail_model.specs.Plan.{Plan}
 use Rattle.mail_model.specs.Record.{Record}
-use Rattle.mail_model.specs.Book.BookEntry.{WentDown}
+use Rattle.mail_model.specs.Book.{BookEntry}
+use Rattle.mail_model.specs.Book.BookEntry.{WentDown, CameUp, WasLost}
 use Rattle.object_model.specs.Letters.{Number}
 use Rattle.object_model.specs.Mishaps.MishapKind.{Dropped}
-use Rattle.cluster_model.specs.Cluster.{Node, Life, Cluster, slot_at, with_slot}
-use Rattle.cluster_model.specs.Cluster.Life.{Down, Lost}
-use Rattle.cluster_model.specs.Moves.{NodeAct, IsReady, IsAct, Move, MayMoves, after_move, after_moves}
+use Rattle.cluster_model.specs.Cluster.{Node, Life, Slot, Cluster, slot_at, with_slot, pending_of}
+use Rattle.cluster_model.specs.Cluster.Life.{Up, Down, Lost}
+use Rattle.cluster_model.specs.Moves.{NodeAct, IsReady, IsAct, Move, MayEnter, MayMoves, after_move, after_moves}
 use Rattle.cluster_model.specs.Moves.Move.{Acted, Taken, Entered}
 use Rattle.cluster_model.specs.Parts.{IsHeldSomewhere, Sound}
 use Rattle.cluster_model.specs.Rules.{push, widen, end_ticket}
@@ -22,22 +23,22 @@ use Rattle.cluster_model.specs.World.{World, Leads, letters_of, cluster_of}
 use Rattle.cluster_model.specs.Steps.{Step, Said, StepOutcome}
 use Rattle.cluster_model.specs.Steps.Step.{Begin, AskFor, GiveUp, Post, DropLetter, PushTo, Widen, Crash, Start, Lose, Tick}
 use Rattle.cluster_model.specs.Steps.StepOutcome.{Says, Refused, NoMemory}
-use Rattle.cluster_model.specs.Makes.{IsUp, NodeGoesDown, BeginsCall, AnswersAsk, Pushes, Widens, StartsUp, NodeFalls, DoesStep, RunsShort, MadeStep, MakesStep, MakesAll}
-use Rattle.cluster_model.specs.Makes.BeginsCall.{FailsAtOnce, Goes, FailsInIt}
+use Rattle.cluster_model.specs.Makes.{IsUp, NodeGoesDown, BeginsCall, AnswersAsk, Pushes, Widens, StartsUp, NodeFalls, LosesNode, DoesStep, RunsShort, MadeStep, MakesStep, MakesAll}
+use Rattle.cluster_model.specs.Makes.BeginsCall.{FailsAtOnce, Goes, FailsInIt, Reads, FailsReading, Leaves}
 use Rattle.cluster_model.specs.Makes.AnswersAsk.{Waits, Ends}
 use Rattle.cluster_model.specs.Makes.Pushes.{Sends, FailsPushing}
 use Rattle.cluster_model.specs.Makes.Widens.{Adds, FailsWidening}
 use Rattle.cluster_model.specs.Makes.StartsUp.{Comes, FailsStarting}
 use Rattle.cluster_model.specs.Makes.RunsShort.{Beginning, Hearing, Widening, Starting}
 use Rattle.cluster_model.specs.WorldLaws.{InPlan, MayBring}
-use Rattle.cluster_model.proofs.Slots.{read_after}
+use Rattle.cluster_model.proofs.Slots.{at_same, read_after}
 use Rattle.cluster_model.proofs.Kept.{all_kept}
 use Rattle.cluster_model.proofs.Closing.{end_acts}
 use Rattle.cluster_model.proofs.Pushes.{push_acts, widen_acts}
 use Rattle.cluster_model.proofs.Lives.{drop_acts}
 use Rattle.cluster_model.proofs.Starting.{start_acts, stop_acts}
 use Rattle.cluster_model.proofs.Leading.{no_move, led_on}
-use Rattle.cluster_model.proofs.Stepping.{unheard_leads, quiet_leads, books_down, letter_lost, down_leads}
+use Rattle.cluster_model.proofs.Stepping.{slot_again, unheard_leads, quiet_leads, books_one, cut_nothing, letter_lost, down_leads}
 use Rattle.cluster_model.proofs.Asking.{ends_lead}
 use Rattle.cluster_model.proofs.Calling.{begins_lead, fails_lead}
 use Rattle.cluster_model.proofs.Posting.{posts_lead, failing_leads}
@@ -51,20 +52,16 @@ in_plan nodes confirm (Acted act ∷ moves) c may p = in_plan nodes confirm move
 in_plan nodes confirm (Taken letter left ∷ moves) c may p = in_plan nodes confirm moves (after_move (Taken letter left) c) may.1 p
 in_plan nodes confirm (Entered entry ∷ moves) c may p = in_plan nodes confirm moves (after_move (Entered entry) c) may.1 p
 
-behind_nothing : (disk : List Record) → disk ≡ disk ++ (([] ++ []) ++ [])
-behind_nothing [] = refl
-behind_nothing (x ∷ disk) = ap (λ (l : List Record). x ∷ l) (behind_nothing disk)
-
 module _ (confirm : ℕ) (May : Id → List ℕ → Type 0) (old : World) where
   abbrev To : World → Type 0
   To new = Leads confirm May (cluster_of old) (cluster_of new)
 
-  -- an act that sends nothing, and then the book has that the node is down
-  goes_down : (act : NodeAct) → act.out ≡ [] → act.heard ≡ None → act.files ≡ None → act.strikes ≡ [] → slot_at old.slots act.node ≡ Some act.before → (IsReady act.node act.before None → IsAct act)
-      → To (record old { slots = with_slot old.slots act.node act.after; book = old.book ++ WentDown act.node ∷ [] })
-  goes_down act a b c d here acts = led_on confirm May (cluster_of old) (cluster_of (record old { slots = with_slot old.slots act.node act.after })) _
+  -- an act that sends nothing, and then the book has what became of the node
+  changes_life : (entry : BookEntry) → ((slots : List Slot) → MayEnter confirm entry slots) → (act : NodeAct) → act.out ≡ [] → act.heard ≡ None → act.files ≡ None → act.strikes ≡ [] → slot_at old.slots act.node ≡ Some act.before → (IsReady act.node act.before None → IsAct act)
+      → To (record old { slots = with_slot old.slots act.node act.after; book = old.book ++ entry ∷ [] })
+  changes_life entry may act a b c d here acts = led_on confirm May (cluster_of old) (cluster_of (record old { slots = with_slot old.slots act.node act.after })) _
       (quiet_leads confirm May old act a b c d here acts)
-      (books_down confirm May (cluster_of (record old { slots = with_slot old.slots act.node act.after })) act.node)
+      (books_one confirm May (cluster_of (record old { slots = with_slot old.slots act.node act.after })) entry (may (with_slot old.slots act.node act.after)))
 
   answers_lead : (plan : Plan) → plan.confirm ≡ confirm → (number : Number) (said : Said) (new : World) → AnswersAsk plan old number said new → To new
   answers_lead plan same number said new (Waits node disk ticket up found got wanted e is new_world) = no_move confirm May (cluster_of old) (cluster_of new) (ap cluster_of new_world)
@@ -78,7 +75,7 @@ module _ (confirm : ℕ) (May : Id → List ℕ → Type 0) (old : World) where
   pushes_lead own to said new (FailsPushing node disk up is new_world) =
       down_leads confirm May old new own node disk (push own to (keys_pushed old.flying own to node disk) node disk) None None [] up
       (λ ready. push_acts own node disk ready to (keys_pushed old.flying own to node disk)) (λ letter e. absurd (cc e)) (λ user id m. absurd m) (λ content e. absurd (cc e))
-      (record { front = []; pending = []; cut = record { missing = []; is = behind_nothing disk }; is = new_world })
+      (record { front = []; pending = []; cut = cut_nothing disk; is = new_world })
 
   widening_leads : (own to : ℕ) (key : Key) (node : Node) (disk : List Record) (new : World) → IsUp old own node disk → NodeGoesDown old own disk (widen own to key node disk).disk new → To new
   widening_leads own to key node disk new up g = down_leads confirm May old new own node disk (widen own to key node disk) None None [] up
@@ -92,25 +89,66 @@ module _ (confirm : ℕ) (May : Id → List ℕ → Type 0) (old : World) where
   stops_lead : (n : ℕ) (disk pending next records : List Record) (new : World) → slot_at old.slots n ≡ Some (record { life = Down pending; disk = disk }) → StopsStart disk pending next records
       → new ≡ record old { slots = with_slot old.slots n (record { life = Down next; disk = records }); book = old.book ++ WentDown n ∷ [] } → To new
   stops_lead n disk pending next records new here stops new_world = subst To (sym new_world)
-      (goes_down (stop_act n disk pending next records) refl refl refl refl here (λ ready. stop_acts n disk pending next records stops ready))
+      (changes_life (WentDown n) (λ slots. tt) (stop_act n disk pending next records) refl refl refl refl here (λ ready. stop_acts n disk pending next records stops ready))
 
   starts_lead : (plan : Plan) (n : ℕ) (said : Said) (new : World) → StartsUp plan old n said new → To new
-  starts_lead plan n said new (Comes disk pending node records here starts is new_world) = subst To (sym new_world)
-      (quiet_leads confirm May old (start_act n disk pending node records) refl refl refl refl here (λ ready. start_acts n plan.nodes disk pending records node starts ready))
+  starts_lead plan n said new (Comes disk pending node records here starts below is new_world) = subst To (sym new_world)
+      (changes_life (CameUp n node.boot) (λ slots. tt) (start_act n disk pending node records) refl refl refl refl here (λ ready. start_acts n plan.nodes disk pending records node starts ready))
   starts_lead plan n said new (FailsStarting disk pending next records here stops is new_world) = stops_lead n disk pending next records new here stops new_world
 
-  falls_lead : (n : ℕ) (life : Life) (said : Said) (new : World) → (life ≡ Down []) ⊎ (life ≡ Lost) → NodeFalls old n life said new → To new
-  falls_lead n life said new ends f = subst To (sym f.new_world)
-      (goes_down (drop_act n f.slot life) refl refl refl refl f.here (λ ready. drop_acts n f.slot life f.was ends ready))
+  falls_lead : (n : ℕ) (life : Life) (entry : BookEntry) (said : Said) (new : World) → ((slots : List Slot) → MayEnter confirm entry slots) → (life ≡ Down []) ⊎ (life ≡ Lost)
+      → NodeFalls old n life entry said new → To new
+  falls_lead n life entry said new may ends f = subst To (sym f.new_world)
+      (changes_life entry may (drop_act n f.slot life) refl refl refl refl f.here (λ ready. drop_acts n f.slot life f.was ends ready))
 
-module _ (plan : Plan) (old new : World) (p : InPlan plan.nodes old.slots) (s : Sound plan.confirm (cluster_of old)) where
-  does_lead : (step : Step) (said : Said) → DoesStep plan old step said new → Leads plan.confirm (MayBring old step) (cluster_of old) (cluster_of new)
-  does_lead (Begin node call) said d = begins_lead plan old node (numbered d) call said new d
+-- a node is lost: what was pending is kept or lost first, and then it is dropped
+module _ (confirm : ℕ) (May : Id → List ℕ → Type 0) (old : World) (n : ℕ) where
+  abbrev lost_world : List Record → World
+  lost_world disk = record old { slots = with_slot old.slots n (record { life = Lost; disk = disk }); book = old.book ++ WasLost n ∷ [] }
+
+  drops_lead : (slot : Slot) → slot_at old.slots n ≡ Some slot → slot.life ≢ Lost → Leads confirm May (cluster_of old) (cluster_of (lost_world slot.disk))
+  drops_lead slot here was = changes_life confirm May old (WasLost n) (λ slots. tt) (drop_act n slot Lost) refl refl refl refl here (λ ready. drop_acts n slot Lost was (inr refl) ready)
+
+  module _ (disk pending : List Record) (here : slot_at old.slots n ≡ Some (record { life = Down pending; disk = disk })) where
+    abbrev kept_slot : Slot
+    kept_slot = record { life = Down []; disk = disk ++ pending }
+
+    abbrev kept_world : World
+    kept_world = record old { slots = with_slot old.slots n kept_slot }
+
+    keeps_stop : StopsStart disk pending [] (disk ++ pending)
+    keeps_stop = record { kept = pending; pending_is = inr refl; records = refl; next_is = inl refl }
+
+    kept_lead : Leads confirm May (cluster_of old) (cluster_of (lost_world (disk ++ pending)))
+    kept_lead = led_on confirm May (cluster_of old) (cluster_of kept_world) (cluster_of (lost_world (disk ++ pending)))
+        (quiet_leads confirm May old (stop_act n disk pending [] (disk ++ pending)) refl refl refl refl here (λ ready. stop_acts n disk pending [] (disk ++ pending) keeps_stop ready))
+        (subst (λ slots. Leads confirm May (cluster_of kept_world) (record { slots = slots; flying = letters_of old.flying; book = old.book ++ WasLost n ∷ [] }))
+        (slot_again old.slots n kept_slot (record { life = Lost; disk = disk ++ pending }))
+        (changes_life confirm May kept_world (WasLost n) (λ slots. tt) (drop_act n kept_slot Lost) refl refl refl refl
+        (at_same old.slots n (record { life = Down pending; disk = disk }) kept_slot here) (λ ready. drop_acts n kept_slot Lost (λ e. cc e) (inr refl) ready)))
+
+  keeping_leads : (slot : Slot) (life : Life) → slot.life ≡ life → slot_at old.slots n ≡ Some slot → slot.life ≢ Lost → Leads confirm May (cluster_of old) (cluster_of (lost_world (slot.disk ++ pending_of life)))
+  keeping_leads slot (Up node) is here was = subst (λ disk. Leads confirm May (cluster_of old) (cluster_of (lost_world disk))) (sym (append-nil slot.disk)) (drops_lead slot here was)
+  keeping_leads slot (Down pending) is here was = kept_lead slot.disk pending (here ∙ ap (λ l. Some (record { life = l; disk = slot.disk })) is)
+  keeping_leads slot Lost is here was = absurd (was is)
+
+  loses_lead : (said : Said) (new : World) → LosesNode old n said new → Leads confirm May (cluster_of old) (cluster_of new)
+  loses_lead said new l = subst (λ w. Leads confirm May (cluster_of old) (cluster_of w)) (sym l.new_world) (⊎_elim
+      (λ none. subst (λ disk. Leads confirm May (cluster_of old) (cluster_of (lost_world disk))) (sym (append-nil l.slot.disk) ∙ ap (λ k. l.slot.disk ++ k) (sym none)) (drops_lead l.slot l.here l.was))
+      (λ all. subst (λ k. Leads confirm May (cluster_of old) (cluster_of (lost_world (l.slot.disk ++ k)))) (sym all) (keeping_leads l.slot l.slot.life refl l.here l.was))
+      l.pending_is)
+
+module _ (plan : Plan) (tells : Bool) (old new : World) (p : InPlan plan.nodes old.slots) (s : Sound plan.confirm (cluster_of old)) where
+  does_lead : (step : Step) (said : Said) → DoesStep plan tells old step said new → Leads plan.confirm (MayBring old step) (cluster_of old) (cluster_of new)
+  does_lead (Begin node call) said d = begins_lead plan tells old node (numbered d) call said new d
     where
-      numbered : BeginsCall plan old node call said new → IsOfPlan node plan.nodes
-      numbered (FailsAtOnce own disk up fails is e) = p node (slot_up own disk) up
+      numbered : BeginsCall plan tells old node call said new → IsOfPlan node plan.nodes
+      numbered (FailsAtOnce own disk kind up of_kind fails is e) = p node (slot_up own disk) up
       numbered (Goes own disk octets up fails filed is e) = p node (slot_up own disk) up
       numbered (FailsInIt own disk octets up filed is g) = p node (slot_up own disk) up
+      numbered (Reads own disk kind what up one of_kind finds is e) = p node (slot_up own disk) up
+      numbered (FailsReading own disk user id from most up one reads is e) = p node (slot_up own disk) up
+      numbered (Leaves own disk user up one leaves is e) = p node (slot_up own disk) up
   does_lead (AskFor ticket) said d = answers_lead plan.confirm (λ id o. ⊥) old plan refl ticket said new d
   does_lead (GiveUp ticket) said d = subst (λ (w : World). Leads plan.confirm (λ id o. ⊥) (cluster_of old) (cluster_of w)) (sym d.new_world)
       (unheard_leads plan.confirm (λ id o. ⊥) old ticket.node d.node d.disk (end_ticket ticket.seq d.node d.disk) None [] d.up (λ ready. end_acts ticket.node d.node d.disk ready ticket.seq) (λ user id m. absurd m) (λ content e. absurd (cc e)))
@@ -118,15 +156,15 @@ module _ (plan : Plan) (old new : World) (p : InPlan plan.nodes old.slots) (s : 
   does_lead (DropLetter letter) said d = subst (λ (w : World). Leads plan.confirm (λ id o. ⊥) (cluster_of old) (cluster_of w)) (sym d.new_world) (letter_lost plan.confirm (λ id o. ⊥) old Dropped letter d.flies false)
   does_lead (PushTo from to) said d = pushes_lead plan.confirm (λ id o. ⊥) old from to said new d
   does_lead (Widen at user id to) said d = widens_lead plan.confirm (λ id o. ⊥) old at to (Message user id) said new d
-  does_lead (Crash node) said d = falls_lead plan.confirm (λ id o. ⊥) old node (Down []) said new (inl refl) d
+  does_lead (Crash node) said d = falls_lead plan.confirm (λ id o. ⊥) old node (Down []) (WentDown node) said new (λ slots. tt) (inl refl) d
   does_lead (Start node) said d = starts_lead plan.confirm (λ id o. ⊥) old plan node said new d
-  does_lead (Lose node) said d = falls_lead plan.confirm (λ id o. ⊥) old node Lost said new (inr refl) d
+  does_lead (Lose node) said d = loses_lead plan.confirm (λ id o. ⊥) old node said new d
   does_lead (Tick seconds) said d = no_move plan.confirm (λ id o. ⊥) (cluster_of old) (cluster_of new) (ap cluster_of d.1)
 
   -- memory runs out in the midst of a step
   short_leads : (step : Step) (n : ℕ) → RunsShort plan old step n new → Leads plan.confirm (MayBring old step) (cluster_of old) (cluster_of new)
   short_leads step n (Beginning call node disk octets is up filed g) = subst (λ (st : Step). Leads plan.confirm (MayBring old st) (cluster_of old) (cluster_of new)) (sym is)
-      (fails_lead plan old n (p n (slot_up node disk) up) call node disk octets new up filed g)
+      (fails_lead plan tells old n (p n (slot_up node disk) up) call node disk octets new up filed g)
   short_leads step n (Hearing number keep flies node disk is at up g) = subst (λ (st : Step). Leads plan.confirm (MayBring old st) (cluster_of old) (cluster_of new)) (sym is)
       (failing_leads plan (λ id o. ⊥) old p s number flies node disk (subst (λ k. IsUp old k node disk) (sym at) up) new (subst (λ k. NodeGoesDown old k disk (hear k plan.nodes node disk flies.letter).disk new) (sym at) g))
   short_leads step n (Widening user id to node disk is up g) = subst (λ (st : Step). Leads plan.confirm (MayBring old st) (cluster_of old) (cluster_of new)) (sym is)
@@ -134,21 +172,21 @@ module _ (plan : Plan) (old new : World) (p : InPlan plan.nodes old.slots) (s : 
   short_leads step n (Starting disk pending next records is here stops new_world) = subst (λ (st : Step). Leads plan.confirm (MayBring old st) (cluster_of old) (cluster_of new)) (sym is)
       (stops_lead plan.confirm (λ id o. ⊥) old n disk pending next records new here stops new_world)
 
-  pub leads : (step : Step) (outcome : StepOutcome) → MakesStep plan old step outcome new → Leads plan.confirm (MayBring old step) (cluster_of old) (cluster_of new)
+  pub leads : (step : Step) (outcome : StepOutcome) → MakesStep plan tells old step outcome new → Leads plan.confirm (MayBring old step) (cluster_of old) (cluster_of new)
   leads step (Says said) m = does_lead step said m.1
   leads step (Refused fault) m = no_move plan.confirm (MayBring old step) (cluster_of old) (cluster_of new) (ap cluster_of m.1)
   leads step (NoMemory None) m = no_move plan.confirm (MayBring old step) (cluster_of old) (cluster_of new) (ap cluster_of m)
   leads step (NoMemory (Some n)) m = short_leads step n m
 
-pub steps_sound : (plan : Plan) (old new : World) (steps : List MadeStep) → MakesAll plan old steps new → InPlan plan.nodes old.slots → Sound plan.confirm (cluster_of old)
+pub steps_sound : (plan : Plan) (tells : Bool) (old new : World) (steps : List MadeStep) → MakesAll plan tells old steps new → InPlan plan.nodes old.slots → Sound plan.confirm (cluster_of old)
     → InPlan plan.nodes new.slots × Sound plan.confirm (cluster_of new)
-steps_sound plan old new [] is p s = (subst (λ (w : World). InPlan plan.nodes w.slots) (sym is) p, subst (λ (w : World). Sound plan.confirm (cluster_of w)) (sym is) s)
-steps_sound plan old new (made ∷ steps) (mid, first, others) p s =
-    let l = leads plan old mid p s made.step made.outcome first in
-    steps_sound plan mid new steps others
+steps_sound plan tells old new [] is p s = (subst (λ (w : World). InPlan plan.nodes w.slots) (sym is) p, subst (λ (w : World). Sound plan.confirm (cluster_of w)) (sym is) s)
+steps_sound plan tells old new (made ∷ steps) (mid, first, others) p s =
+    let l = leads plan tells old mid p s made.step made.outcome first in
+    steps_sound plan tells mid new steps others
     (subst (λ (c : Cluster). InPlan plan.nodes c.slots) (sym l.is) (in_plan plan.nodes plan.confirm l.moves (cluster_of old) l.may p))
     (subst (Sound plan.confirm) (sym l.is) (all_kept plan.confirm (cluster_of old) l.moves l.may s))
 
-pub steps_bring : (plan : Plan) (old new : World) (step : Step) (outcome : StepOutcome) → MakesStep plan old step outcome new → InPlan plan.nodes old.slots → Sound plan.confirm (cluster_of old) → (id : Id) (octets : List ℕ)
+pub steps_bring : (plan : Plan) (tells : Bool) (old new : World) (step : Step) (outcome : StepOutcome) → MakesStep plan tells old step outcome new → InPlan plan.nodes old.slots → Sound plan.confirm (cluster_of old) → (id : Id) (octets : List ℕ)
     → IsHeldSomewhere new.slots (letters_of new.flying) id octets → IsHeldSomewhere old.slots (letters_of old.flying) id octets ⊎ MayBring old step id octets
-steps_bring plan old new step outcome made p s = (leads plan old new p s step outcome made).brings s
+steps_bring plan tells old new step outcome made p s = (leads plan tells old new p s step outcome made).brings s

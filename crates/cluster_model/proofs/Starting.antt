@@ -177,7 +177,10 @@ module _ (n : ℕ) (disk pending next new : List Record) (stops : StopsStart dis
       (among_either one disk stops.kept (subst (Among one) stops.records inside)))
       (λ behind. ⊎_elim
       (λ none. absurd (subst (Among one) none behind))
-      (λ is. ⊎_elim (λ e. inr e) (λ none. absurd none) (subst (Among one) is behind)) stops.next_is)
+      (λ other. ⊎_elim
+      (λ is. ⊎_elim (λ e. inr e) (λ none. absurd none) (subst (Among one) is behind))
+      (λ (none, is). inl (among_behind one disk pending (subst (Among one) is behind)))
+      other) stops.next_is)
       (among_either one new next m)
 
   boot_not_less : IsReady n before None → boot_of disk ≤ boot_of new
@@ -186,12 +189,16 @@ module _ (n : ℕ) (disk pending next new : List Record) (stops : StopsStart dis
       (λ all. subst (λ k. boot_of disk ≤ boot_of (disk ++ k)) (sym all) ready.order.rises)
       stops.pending_is)
 
-  rises : boot_of new ≤ boot_of (new ++ next)
-  rises = ⊎_elim
+  rises : IsReady n before None → boot_of new ≤ boot_of (new ++ next)
+  rises ready = ⊎_elim
       (λ none. subst (λ k. boot_of new ≤ boot_of (new ++ k)) (sym none) (le_of_eq (sym (ap boot_of (nothing_behind new)))))
+      (λ other. ⊎_elim
       (λ is. subst (λ k. boot_of new ≤ boot_of (new ++ k)) (sym is)
       (above (boot_of new) (boot_of (disk ++ stops.kept)) (boot_of (new ++ Boot (boot_of (disk ++ stops.kept) + 1) ∷ [])) (ap boot_of stops.records)
       (boot_both 0 new (Boot (boot_of (disk ++ stops.kept) + 1) ∷ []))))
+      (λ (none, is). subst (λ k. boot_of new ≤ boot_of (new ++ k)) (sym is)
+      (subst (λ l. boot_of l ≤ boot_of (l ++ pending)) (sym (stops.records ∙ ap (λ k. disk ++ k) none ∙ nothing_behind disk)) ready.order.rises))
+      other)
       stops.next_is
     where
       above : (a b c : ℕ) → a ≡ b → c ≡ b + 1 → a ≤ c
@@ -204,7 +211,7 @@ module _ (n : ℕ) (disk pending next new : List Record) (stops : StopsStart dis
     bootless = λ other up. absurd (cc up);
     order = record {
       booted = λ other up. absurd (cc up);
-      rises = rises;
+      rises = rises ready;
       logged = λ other up. absurd (cc up);
       owed = λ other up. absurd (cc up);
     };

@@ -54,6 +54,14 @@ same_rest (x ∷ xs) ys zs e = same_rest xs ys zs (tails e)
     tails : x ∷ (xs ++ ys) ≡ x ∷ (xs ++ zs) → xs ++ ys ≡ xs ++ zs
     tails e = cc
 
+-- a cut in which nothing was written
+pub cut_nothing : (disk : List Record) → IsWorkCut disk disk [] []
+cut_nothing disk = record { missing = []; is = behind disk }
+  where
+    behind : (xs : List Record) → xs ≡ xs ++ []
+    behind [] = refl
+    behind (x ∷ xs) = ap (λ (l : List Record). x ∷ l) (behind xs)
+
 module _ (confirm : ℕ) (May : Id → List ℕ → Type 0) where
   -- a node that hears nothing acts, and what it sends is put in flight
   pub unheard_leads : (w : World) (own : ℕ) (node : Node) (disk : List Record) (did : Reaction) (files : Option Content) (strikes : List (List ℕ × Id)) → slot_at w.slots own ≡ Some (slot_up node disk)
@@ -85,9 +93,9 @@ module _ (confirm : ℕ) (May : Id → List ℕ → Type 0) where
       clash_content : (content : Content) → None ≡ Some content → ⊥
       clash_content content e = cc
 
-  -- entries of which each may be added
-  pub books_down : (c : Cluster) (n : ℕ) → Leads confirm May c (record c { book = c.book ++ WentDown n ∷ [] })
-  books_down c n = entered_leads confirm May (WentDown n ∷ []) c (λ entry m. ⊎_elim (λ e. subst (λ (x : BookEntry). MayEnter confirm x c.slots) e tt) (λ none. absurd none) m)
+  -- one entry more
+  pub books_one : (c : Cluster) (one : BookEntry) → MayEnter confirm one c.slots → Leads confirm May c (record c { book = c.book ++ one ∷ [] })
+  books_one c one may = entered_leads confirm May (one ∷ []) c (λ entry m. ⊎_elim (λ e. subst (λ (x : BookEntry). MayEnter confirm x c.slots) e may) (λ none. absurd none) m)
 
   -- a letter that is lost, and kept or not
   pub letter_lost : (w : World) (kind : MishapKind) (number : ℕ) (flies : Flies w number) (keep : Bool) → Leads confirm May (cluster_of w) (cluster_of (lost_letter kind w number flies keep))
@@ -173,7 +181,7 @@ module _ (confirm : ℕ) (May : Id → List ℕ → Type 0) where
         (led_on confirm May (cluster_of w) (record (cluster_of down) { flying = letters_of w.flying ++ [] }) (cluster_of down)
         (acted_leads confirm May (cluster_of w) (cut_act own node disk heard files strikes front pending) here acts flown struck allowed)
         (no_move confirm May (record (cluster_of down) { flying = letters_of w.flying ++ [] }) (cluster_of down) (ap (λ (f : List Letter). record (cluster_of down) { flying = f }) (sym (nothing_letters (letters_of w.flying))))))
-        (books_down (cluster_of down) own)
+        (books_one (cluster_of down) (WentDown own) tt)
 
   pub down_leads : (w new : World) (own : ℕ) (node : Node) (disk : List Record) (did : Reaction) (heard : Option Letter) (files : Option Content) (strikes : List (List ℕ × Id))
       → slot_at w.slots own ≡ Some (slot_up node disk) → (IsReady own (slot_up node disk) heard → IsCallDone (act_of own node disk did heard files strikes))

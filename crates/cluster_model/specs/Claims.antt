@@ -8,7 +8,7 @@ use Rattle.mail_model.specs.Identity.Value.{Gone}
 use Rattle.mail_model.specs.Record.{Record}
 use Rattle.mail_model.specs.Record.Record.{Boot, Octets, Stated, Promise, Retired}
 use Rattle.mail_model.specs.Book.{BookEntry}
-use Rattle.mail_model.specs.Book.BookEntry.{Acknowledged, Struck, Dropped, WentDown}
+use Rattle.mail_model.specs.Book.BookEntry.{Acknowledged, Struck, Dropped, WentDown, CameUp, WasLost}
 use Rattle.object_model.specs.Sets.{has}
 use Rattle.object_model.specs.Lists.{Among}
 use Rattle.object_model.specs.Said.{said, CoversAtLeast}
@@ -127,6 +127,8 @@ EntryClaims (Acknowledged copy) m fact = (has copy.confirmers m ≡ true) × (Ha
 EntryClaims (Struck user id) m fact = ⊥
 EntryClaims (Dropped user id confirmers) m fact = (has confirmers m ≡ true) × (IsGone user id ≡ fact)
 EntryClaims (WentDown node) m fact = ⊥
+EntryClaims (CameUp node boot) m fact = ⊥
+EntryClaims (WasLost node) m fact = ⊥
 
 -- the letter files the message for these users
 pub record IsFile (letter : Letter) (id : Id) (users : List (List ℕ)) : Type 0 where

@@ -1,3 +1,4 @@
+pub mod Reads
 pub mod Cluster
 pub mod Store
 pub mod Claims
@@ -20,3 +21,4 @@ pub mod RuleLaws
 pub mod Plain
 pub mod Rows
 pub mod TicketLaws
+pub mod ReadLaws

@@ -1,22 +1,25 @@
 -- What each step makes of a world, by what it answers.
-use Rattle.std.specs.Prelude.{◌≡◌, ◌≢◌, ℕ, ◌+◌, Bool, true, false, List, [], ◌∷◌, ◌++◌, length, map, Some, None}
+use Rattle.std.specs.Prelude.{◌≡◌, ◌≢◌, ◌⊎◌, ◌≤◌, ℕ, ◌+◌, Bool, true, false, List, [], ◌∷◌, ◌++◌, length, map, Option, Some, None}
 use Rattle.mail_model.specs.Identity.{Id, Key}
 use Rattle.mail_model.specs.Identity.Key.{Message}
 use Rattle.mail_model.specs.Lines.{ends_in_crlf}
-use Rattle.mail_model.specs.Plan.{Plan}
+use Rattle.mail_model.specs.Plan.{Plan, opens}
 use Rattle.mail_model.specs.Record.{Record}
 use Rattle.mail_model.specs.Mail.{IsStored}
 use Rattle.mail_model.specs.Book.{BookEntry}
-use Rattle.mail_model.specs.Book.BookEntry.{Struck as StruckEntry, WentDown}
+use Rattle.mail_model.specs.Book.BookEntry.{Struck as StruckEntry, WentDown, CameUp, WasLost}
 use Rattle.object_model.specs.Sets.{nodes_in}
 use Rattle.object_model.specs.Said.{said as said_of}
 use Rattle.object_model.specs.Letters.{Number}
 use Rattle.object_model.specs.Mishaps.{MishapKind}
 use Rattle.object_model.specs.Mishaps.MishapKind.{Dropped, Stale as StaleKind, Down as DownKind, Disk}
-use Rattle.cluster_model.specs.Cluster.{CallKind, Ticket, Node, Life, Slot, slot_at, with_slot, members_of}
-use Rattle.cluster_model.specs.Cluster.CallKind.{Delivering, Striking}
+use Rattle.cluster_model.specs.Reads.{ListedCopy, Found, IsListing, IsPart, is_here_held, has_copy}
+use Rattle.cluster_model.specs.Reads.Found.{Listed, WrongSecret, PartOf, NotThere}
+use Rattle.cluster_model.specs.Cluster.{CallKind, Ticket, Node, Life, Slot, slot_at, with_slot, pending_of, members_of}
+use Rattle.cluster_model.specs.Cluster.CallKind.{Delivering, LoggingIn, Fetching, Striking}
 use Rattle.cluster_model.specs.Cluster.Life.{Down, Lost}
-use Rattle.cluster_model.specs.Rules.{Reaction, ticket_at, push, can_widen, widen, begin_deliver, begin_strike, end_ticket, refuse, new_number}
+use Rattle.cluster_model.specs.Claims.{boot_of}
+use Rattle.cluster_model.specs.Rules.{Reaction, idle, ticket_at, push, can_widen, widen, begin_deliver, begin_strike, begin_read, end_ticket, refuse, new_number}
 use Rattle.cluster_model.specs.Targets.{deliver_targets, strike_asks}
 use Rattle.cluster_model.specs.Starts.{StartsNode, StopsStart}
 use Rattle.cluster_model.specs.Thrown.{thrown_by}
@@ -26,10 +29,11 @@ use Rattle.cluster_model.specs.Progress.Ask.{Pending, Done}
 use Rattle.cluster_model.specs.Deeds.{slot_up, hear}
 use Rattle.cluster_model.specs.Room.{has_room, keys_pushed}
 use Rattle.cluster_model.specs.World.{World, missed, put, Flies, flies_on}
-use Rattle.cluster_model.specs.Steps.{Struck, NodeCall, Step, Said, StepOutcome, mishaps_of_call, fails_at_once, ids_drawn, step_fault}
-use Rattle.cluster_model.specs.Steps.NodeCall.{Deliver, Strike}
+use Rattle.cluster_model.specs.Steps.{Struck, NodeCall, Step, Said, StepOutcome, mishaps_of_call, fails_at_once, ids_drawn, greatest_boot, step_fault}
+use Rattle.cluster_model.specs.Steps.NodeCall.{Deliver, Login, Fetch, Strike, Leave}
 use Rattle.cluster_model.specs.Steps.Step.{Begin, AskFor, GiveUp, Post, DropLetter, PushTo, Widen, Crash, Start, Lose, Tick}
-use Rattle.cluster_model.specs.Steps.Said.{Begun, Asked, Heard, Thrown, Sent, Widened, NodeUp, Finished, Faulted}
+use Rattle.cluster_model.specs.Steps.Said.{Begun, Noted, Asked, Heard, Thrown, Sent, Widened, NodeUp, Finished, Faulted}
+use Rattle.cluster_model.specs.Steps.StepFault.{Worn}
 use Rattle.cluster_model.specs.Steps.StepOutcome.{Says, Refused, NoMemory}
 
 -- node `own` is up, with this soft state and this disk
@@ -45,12 +49,16 @@ abbrev pub struck_entries : List ℕ → List Struck → List BookEntry
 struck_entries user items = map (λ item. StruckEntry user item.id) items
 
 abbrev pub with_struck : World → NodeCall → World
-with_struck w (Deliver mail) = w
 with_struck w (Strike user items) = record w { book = w.book ++ struck_entries user items }
+with_struck w call = w
 
-abbrev pub kind_of_call : NodeCall → CallKind
-kind_of_call (Deliver mail) = Delivering
-kind_of_call (Strike user items) = Striking
+-- the kind of the ticket of a call, which a Leave does not have
+abbrev pub kind_of_call : NodeCall → Option CallKind
+kind_of_call (Deliver mail) = Some Delivering
+kind_of_call (Login user secret) = Some LoggingIn
+kind_of_call (Fetch user id from most) = Some Fetching
+kind_of_call (Strike user items) = Some Striking
+kind_of_call (Leave user) = None
 
 -- the nodes that a delivery asks, and of each item of a deletion those that it asks
 abbrev pub targets_for : Plan → ℕ → Node → ℕ
@@ -59,16 +67,31 @@ targets_for plan own node = deliver_targets plan.copies own (node.drawn + 1) (no
 abbrev pub asked_for : Plan → ℕ → Node → List Struck → List (Id × ℕ)
 asked_for plan own node items = map (λ item. (item.id, strike_asks plan.confirm own item.targets (nodes_in (members_of node) plan.nodes))) items
 
--- The octets that a call files: those of its message under the next id of the node, at the seconds of the world. A Strike files none.
+-- The octets that a call files: those of its message under the next id of the node, at the seconds of the world. A Strike files none, and the other calls begin otherwise.
 abbrev pub IsFiled : World → ℕ → Node → NodeCall → List ℕ → Type 0
 IsFiled w own node (Deliver mail) octets =
     IsStored mail (record { node = own; boot = node.boot; seq = node.drawn + 1 }) w.seconds octets × (ends_in_crlf octets ≡ true)
 IsFiled w own node (Strike user items) octets = octets ≡ []
+IsFiled w own node call octets = ⊥
 
 -- what the node does as a call begins that does not fail at once
 abbrev pub begun_by : Plan → World → ℕ → Node → List Record → NodeCall → List ℕ → Reaction
 begun_by plan w own node disk (Deliver mail) octets = begin_deliver own plan.nodes w.seconds node disk mail.mailboxes octets (targets_for plan own node)
 begun_by plan w own node disk (Strike user items) octets = begin_strike own plan.nodes node disk user (asked_for plan own node items)
+begun_by plan w own node disk call octets = idle node disk
+
+-- What a Fetch finds: a part of the message where the user's copy is here with its octets, and else that it is not there.
+pub data IsFetched (tells : Bool) (user : List ℕ) (id : Id) (from most : ℕ) (disk : List Record) (found : Found) : Type 0 where
+  HasPart : (octets : List ℕ) (whole : ℕ) → is_here_held (said_of (Message user id) disk) ≡ true → IsPart tells id from most disk octets whole → found ≡ PartOf octets whole
+      → IsFetched tells user id from most disk found
+  HasNone : has_copy user id disk ≡ false → found ≡ NotThere → IsFetched tells user id from most disk found
+
+-- What a call that reads finds on the disk of its node. A Login with a secret that is not the user's finds that alone.
+abbrev pub IsFound : Plan → Bool → List Record → NodeCall → Found → Type 0
+IsFound plan tells disk (Login user secret) found = ((opens plan user secret ≡ false) × (found ≡ WrongSecret))
+    ⊎ ((opens plan user secret ≡ true) × ((items : List ListedCopy) × IsListing user disk items × (found ≡ Listed items)))
+IsFound plan tells disk (Fetch user id from most) found = IsFetched tells user id from most disk found
+IsFound plan tells disk call found = ⊥
 
 -- The disk of a node fails in its work: a prefix of its records stands, and the next may.
 pub record IsWorkCut (disk whole : List Record) (front pending : List Record) : Type 0 where
@@ -86,18 +109,29 @@ pub record NodeGoesDown (w : World) (n : ℕ) (disk whole : List Record) (new : 
   pub cut : IsWorkCut disk whole front pending
   pub is : new ≡ cut_world w n disk front pending
 
--- A call begins. The book has at once what a Strike is to delete, also where the disk then fails.
-pub data BeginsCall (plan : Plan) (old : World) (own : ℕ) (call : NodeCall) (said : Said) (new : World) : Type 0 where
+-- A call begins. The book has at once what a Strike is to delete, also where the disk then fails. Whether the disk tells its octets is `tells`. The calls that read, and a Leave,
+-- have a rule in a plan of one node alone: in a plan of several they are never begun.
+pub data BeginsCall (plan : Plan) (tells : Bool) (old : World) (own : ℕ) (call : NodeCall) (said : Said) (new : World) : Type 0 where
   -- it fails at once: its ticket has its mishaps
-  FailsAtOnce : (node : Node) (disk : List Record) → IsUp old own node disk → fails_at_once plan old.seconds node call ≡ true → said ≡ Begun (new_number own node)
-      → new ≡ after (with_struck old call) own (refuse (kind_of_call call) (mishaps_of_call plan old.seconds node call) (ids_drawn call) node disk)
-      → BeginsCall plan old own call said new
+  FailsAtOnce : (node : Node) (disk : List Record) (kind : CallKind) → IsUp old own node disk → kind_of_call call ≡ Some kind → fails_at_once plan old.seconds node call ≡ true
+      → said ≡ Begun (new_number own node)
+      → new ≡ after (with_struck old call) own (refuse kind (mishaps_of_call plan old.seconds node call) (ids_drawn call) node disk)
+      → BeginsCall plan tells old own call said new
   Goes : (node : Node) (disk : List Record) (octets : List ℕ) → IsUp old own node disk → fails_at_once plan old.seconds node call ≡ false → IsFiled old own node call octets
       → said ≡ Begun (new_number own node) → new ≡ after (with_struck old call) own (begun_by plan old own node disk call octets)
-      → BeginsCall plan old own call said new
+      → BeginsCall plan tells old own call said new
   FailsInIt : (node : Node) (disk : List Record) (octets : List ℕ) → IsUp old own node disk → IsFiled old own node call octets
       → said ≡ Faulted own → NodeGoesDown (with_struck old call) own disk (begun_by plan old own node disk call octets).disk new
-      → BeginsCall plan old own call said new
+      → BeginsCall plan tells old own call said new
+  Reads : (node : Node) (disk : List Record) (kind : CallKind) (found : Found) → IsUp old own node disk → plan.nodes ≡ 1 → kind_of_call call ≡ Some kind
+      → IsFound plan tells disk call found → said ≡ Begun (new_number own node) → new ≡ after old own (begin_read kind found node disk)
+      → BeginsCall plan tells old own call said new
+  -- a Fetch reads octets, and its disk fails in it
+  FailsReading : (node : Node) (disk : List Record) (user : List ℕ) (id : Id) (from most : ℕ) → IsUp old own node disk → plan.nodes ≡ 1 → call ≡ Fetch user id from most
+      → said ≡ Faulted own → new ≡ cut_world old own disk [] []
+      → BeginsCall plan tells old own call said new
+  Leaves : (node : Node) (disk : List Record) (user : List ℕ) → IsUp old own node disk → plan.nodes ≡ 1 → call ≡ Leave user → said ≡ Noted → new ≡ old
+      → BeginsCall plan tells old own call said new
 
 -- A ticket is asked. While it is pending nothing changes. A ticket that is done ends, and the book has what was confirmed.
 pub data AnswersAsk (plan : Plan) (old : World) (number : Number) (said : Said) (new : World) : Type 0 where
@@ -161,37 +195,48 @@ pub data Widens (old : World) (own to : ℕ) (key : Key) (said : Said) (new : Wo
   Adds : (node : Node) (disk : List Record) → IsUp old own node disk → said ≡ Widened (can_widen to (said_of key disk)) → new ≡ after old own (widen own to key node disk) → Widens old own to key said new
   FailsWidening : (node : Node) (disk : List Record) → IsUp old own node disk → said ≡ Faulted own → NodeGoesDown old own disk (widen own to key node disk).disk new → Widens old own to key said new
 
--- A node that is down starts. Where its disk fails it stays down.
+-- A node that is down starts, and the book has it. Where its disk fails it stays down.
 pub data StartsUp (plan : Plan) (old : World) (n : ℕ) (said : Said) (new : World) : Type 0 where
   Comes : (disk pending : List Record) (node : Node) (records : List Record) → slot_at old.slots n ≡ Some (record { life = Down pending; disk = disk })
-      → StartsNode n plan.nodes disk pending node records → said ≡ NodeUp node.boot → new ≡ record old { slots = with_slot old.slots n (slot_up node records) }
+      → StartsNode n plan.nodes disk pending node records → node.boot ≤ greatest_boot → said ≡ NodeUp node.boot
+      → new ≡ record old { slots = with_slot old.slots n (slot_up node records); book = old.book ++ CameUp n node.boot ∷ [] }
       → StartsUp plan old n said new
   FailsStarting : (disk pending next records : List Record) → slot_at old.slots n ≡ Some (record { life = Down pending; disk = disk })
       → StopsStart disk pending next records → said ≡ Faulted n
       → new ≡ record old { slots = with_slot old.slots n (record { life = Down next; disk = records }); book = old.book ++ WentDown n ∷ [] }
       → StartsUp plan old n said new
 
--- A node goes down, or is lost. The book has it.
-pub record NodeFalls (old : World) (n : ℕ) (life : Life) (said : Said) (new : World) : Type 0 where
+-- A node goes down, and the book has this entry.
+pub record NodeFalls (old : World) (n : ℕ) (life : Life) (entry : BookEntry) (said : Said) (new : World) : Type 0 where
   pub slot : Slot
   pub here : slot_at old.slots n ≡ Some slot
   pub was : slot.life ≢ Lost
   pub said_is : said ≡ Finished
-  pub new_world : new ≡ record old { slots = with_slot old.slots n (record slot { life = life }); book = old.book ++ WentDown n ∷ [] }
+  pub new_world : new ≡ record old { slots = with_slot old.slots n (record slot { life = life }); book = old.book ++ entry ∷ [] }
+
+-- A node is lost for good. What was pending on its disk was kept or lost before, and nobody reads it any more.
+pub record LosesNode (old : World) (n : ℕ) (said : Said) (new : World) : Type 0 where
+  pub slot : Slot
+  pub here : slot_at old.slots n ≡ Some slot
+  pub was : slot.life ≢ Lost
+  pub kept : List Record
+  pub pending_is : (kept ≡ []) ⊎ (kept ≡ pending_of slot.life)
+  pub said_is : said ≡ Finished
+  pub new_world : new ≡ record old { slots = with_slot old.slots n (record { life = Lost; disk = slot.disk ++ kept }); book = old.book ++ WasLost n ∷ [] }
 
 -- what each step does that is not refused, by what it says
-abbrev pub DoesStep : Plan → World → Step → Said → World → Type 0
-DoesStep plan old (Begin node call) said new = BeginsCall plan old node call said new
-DoesStep plan old (AskFor ticket) said new = AnswersAsk plan old ticket said new
-DoesStep plan old (GiveUp ticket) said new = IsGivenUp old ticket said new
-DoesStep plan old (Post letter keep) said new = Posts plan old letter keep said new
-DoesStep plan old (DropLetter letter) said new = Drops old letter said new
-DoesStep plan old (PushTo from to) said new = Pushes old from to said new
-DoesStep plan old (Widen at user id to) said new = Widens old at to (Message user id) said new
-DoesStep plan old (Crash node) said new = NodeFalls old node (Down []) said new
-DoesStep plan old (Start node) said new = StartsUp plan old node said new
-DoesStep plan old (Lose node) said new = NodeFalls old node Lost said new
-DoesStep plan old (Tick seconds) said new = (said ≡ Finished) × (new ≡ record old { seconds = seconds })
+abbrev pub DoesStep : Plan → Bool → World → Step → Said → World → Type 0
+DoesStep plan tells old (Begin node call) said new = BeginsCall plan tells old node call said new
+DoesStep plan tells old (AskFor ticket) said new = AnswersAsk plan old ticket said new
+DoesStep plan tells old (GiveUp ticket) said new = IsGivenUp old ticket said new
+DoesStep plan tells old (Post letter keep) said new = Posts plan old letter keep said new
+DoesStep plan tells old (DropLetter letter) said new = Drops old letter said new
+DoesStep plan tells old (PushTo from to) said new = Pushes old from to said new
+DoesStep plan tells old (Widen at user id to) said new = Widens old at to (Message user id) said new
+DoesStep plan tells old (Crash node) said new = NodeFalls old node (Down []) (WentDown node) said new
+DoesStep plan tells old (Start node) said new = StartsUp plan old node said new
+DoesStep plan tells old (Lose node) said new = LosesNode old node said new
+DoesStep plan tells old (Tick seconds) said new = (said ≡ Finished) × (new ≡ record old { seconds = seconds })
 
 -- Memory ran out in a step that had begun its work on a disk: some records are written, and the node is down. A letter that was posted stays in flight.
 pub data RunsShort (plan : Plan) (old : World) (step : Step) (n : ℕ) (new : World) : Type 0 where
@@ -209,18 +254,32 @@ pub data RunsShort (plan : Plan) (old : World) (step : Step) (n : ℕ) (new : Wo
       → new ≡ record old { slots = with_slot old.slots n (record { life = Down next; disk = records }); book = old.book ++ WentDown n ∷ [] }
       → RunsShort plan old step n new
 
--- A step is refused exactly where it has a fault, and then changes nothing. Out of memory has no cause that is told.
-abbrev pub MakesStep : Plan → World → Step → StepOutcome → World → Type 0
-MakesStep plan old step (Says said) new = (step_fault plan step old ≡ None) × DoesStep plan old step said new
-MakesStep plan old step (Refused fault) new = (step_fault plan step old ≡ Some fault) × (new ≡ old)
-MakesStep plan old step (NoMemory None) new = new ≡ old
-MakesStep plan old step (NoMemory (Some n)) new = RunsShort plan old step n new
+-- A start finds that the node has used up its boots: what was pending is kept or lost, and the last boot stands.
+pub record IsLastBoot (old : World) (n : ℕ) : Type 0 where
+  pub disk : List Record
+  pub pending : List Record
+  pub here : slot_at old.slots n ≡ Some (record { life = Down pending; disk = disk })
+  pub kept : List Record
+  pub pending_is : (kept ≡ []) ⊎ (kept ≡ pending)
+  pub last : greatest_boot ≤ boot_of (disk ++ kept)
+
+abbrev pub StartIsWorn : World → Step → Type 0
+StartIsWorn old (Start n) = IsLastBoot old n
+StartIsWorn old step = ⊥
+
+-- A step is refused where it has a fault, and where a start is worn, and then changes nothing. Out of memory has no cause that is told.
+abbrev pub MakesStep : Plan → Bool → World → Step → StepOutcome → World → Type 0
+MakesStep plan tells old step (Says said) new = (step_fault plan step old ≡ None) × DoesStep plan tells old step said new
+MakesStep plan tells old step (Refused fault) new =
+    ((step_fault plan step old ≡ Some fault) ⊎ ((step_fault plan step old ≡ None) × (fault ≡ Worn) × StartIsWorn old step)) × (new ≡ old)
+MakesStep plan tells old step (NoMemory None) new = new ≡ old
+MakesStep plan tells old step (NoMemory (Some n)) new = RunsShort plan old step n new
 
 -- a step and what came of it
 pub record MadeStep : Type 0 where
   pub step : Step
   pub outcome : StepOutcome
 
-abbrev pub MakesAll : Plan → World → List MadeStep → World → Type 0
-MakesAll plan old [] new = new ≡ old
-MakesAll plan old (made ∷ others) new = (mid : World) × MakesStep plan old made.step made.outcome mid × MakesAll plan mid others new
+abbrev pub MakesAll : Plan → Bool → World → List MadeStep → World → Type 0
+MakesAll plan tells old [] new = new ≡ old
+MakesAll plan tells old (made ∷ others) new = (mid : World) × MakesStep plan tells old made.step made.outcome mid × MakesAll plan tells mid others new

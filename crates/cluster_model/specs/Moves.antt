@@ -6,7 +6,7 @@ use Rattle.mail_model.specs.Lines.{ends_in_crlf}
 use Rattle.mail_model.specs.Record.{Record}
 use Rattle.mail_model.specs.Record.Record.{Boot, Stated}
 use Rattle.mail_model.specs.Book.{BookEntry}
-use Rattle.mail_model.specs.Book.BookEntry.{Acknowledged, Struck, Dropped, WentDown}
+use Rattle.mail_model.specs.Book.BookEntry.{Acknowledged, Struck, Dropped, WentDown, CameUp, WasLost}
 use Rattle.object_model.specs.Sets.{has, count_in}
 use Rattle.object_model.specs.Lists.{Among}
 use Rattle.mail_model.specs.Grammar.{IsOfKind}
@@ -188,6 +188,8 @@ MayEnter confirm (Struck user id) slots = Unit {0}
 MayEnter confirm (Dropped user id confirmers) slots = (node : ℕ) × (slot : Slot) × (seq : ℕ) × (want : Want)
     × (slot_at slots node ≡ Some slot) × Wants slot.life seq want × (want.asked ≡ Deletion user id) × (confirmers ≡ want.confirmed) × (confirm ≤ count_in want.confirmed)
 MayEnter confirm (WentDown node) slots = Unit {0}
+MayEnter confirm (CameUp node boot) slots = Unit {0}
+MayEnter confirm (WasLost node) slots = Unit {0}
 
 -- where a move may be made; F is `confirm`
 abbrev pub MayMove : ℕ → Move → Cluster → Type 0

@@ -1,4 +1,5 @@
--- A plain program of the rules: what each step makes of a world and what it says, where no disk fails and memory is ample. It is slow, and made to be read and to compute.
+-- A plain program of the rules: what each step makes of a world and what it says, where no disk fails and memory is ample. It is slow, and made to be read and to compute. It does
+-- without the calls that read.
 use Rattle.std.specs.Prelude.{◌≡◌, ℕ, ◌+◌, Bool, true, false, nat_eq, nat_lt, List, [], ◌∷◌, ◌++◌, length, map, Option, Some, None, if◌then◌else◌}
 use Rattle.std.specs.List.{filter}
 use Rattle.mail_model.specs.Identity.{Key, State}
@@ -6,11 +7,13 @@ use Rattle.mail_model.specs.Identity.Key.{Message}
 use Rattle.mail_model.specs.Plan.{Plan}
 use Rattle.mail_model.specs.Record.{Record}
 use Rattle.mail_model.specs.Record.Record.{Boot}
-use Rattle.mail_model.specs.Book.BookEntry.{WentDown}
+use Rattle.mail_model.specs.Book.{BookEntry}
+use Rattle.mail_model.specs.Book.BookEntry.{WentDown, CameUp, WasLost}
 use Rattle.object_model.specs.Said.{said as said_of}
 use Rattle.object_model.specs.Letters.{Number, Letter}
 use Rattle.object_model.specs.Mishaps.MishapKind.{Dropped, Stale as StaleKind, Down as DownKind}
-use Rattle.cluster_model.specs.Cluster.{Ticket, Node, Life, Slot, slot_at, with_slot}
+use Rattle.cluster_model.specs.Cluster.{CallKind, Ticket, Node, Life, Slot, slot_at, with_slot}
+use Rattle.cluster_model.specs.Cluster.CallKind.{Delivering, Striking}
 use Rattle.cluster_model.specs.Cluster.Life.{Up, Down, Lost}
 use Rattle.cluster_model.specs.Claims.{boot_of}
 use Rattle.cluster_model.specs.Rules.{ticket_at, push, can_widen, widen, end_ticket, refuse, new_number}
@@ -22,12 +25,13 @@ use Rattle.cluster_model.specs.Progress.Ask.{Pending, Done}
 use Rattle.cluster_model.specs.Deeds.{slot_up, hear}
 use Rattle.cluster_model.specs.Room.{Flight, keys_pushed}
 use Rattle.cluster_model.specs.World.{World, missed}
-use Rattle.cluster_model.specs.Steps.{NodeCall, Step, Said, StepFault, StepOutcome, mishaps_of_call, fails_at_once, ids_drawn, letter_at, step_fault}
+use Rattle.cluster_model.specs.Steps.{NodeCall, Step, Said, StepFault, StepOutcome, mishaps_of_call, fails_at_once, ids_drawn, letter_at, greatest_boot, step_fault}
+use Rattle.cluster_model.specs.Steps.NodeCall.{Deliver, Login, Fetch, Strike, Leave}
 use Rattle.cluster_model.specs.Steps.Step.{Begin, AskFor, GiveUp, Post, DropLetter, PushTo, Widen, Crash, Start, Lose, Tick}
-use Rattle.cluster_model.specs.Steps.Said.{Begun, Asked, Heard, Thrown, Sent, Widened, NodeUp, Finished}
-use Rattle.cluster_model.specs.Steps.StepFault.{NoSuchNode, NodeDown, NoSuchLetter, NoSuchTicket}
-use Rattle.cluster_model.specs.Steps.StepOutcome.{Says, Refused}
-use Rattle.cluster_model.specs.Makes.{after, with_struck, kind_of_call, begun_by}
+use Rattle.cluster_model.specs.Steps.Said.{Begun, Noted, Asked, Heard, Thrown, Sent, Widened, NodeUp, Finished}
+use Rattle.cluster_model.specs.Steps.StepFault.{NoSuchNode, NodeDown, NoSuchLetter, NoSuchTicket, Worn}
+use Rattle.cluster_model.specs.Steps.StepOutcome.{Says, Refused, NoMemory}
+use Rattle.cluster_model.specs.Makes.{after, with_struck, begun_by}
 
 -- what a step comes to, and the world after it
 pub record StepRan : Type 0 where
@@ -54,12 +58,23 @@ in_slot w act (Some slot) = in_life w slot.disk act slot.life
 abbrev pub at_node : World → ℕ → (Node → List Record → StepRan) → StepRan
 at_node w own act = in_slot w act (slot_at w.slots own)
 
--- a call begins, with the octets that it files
-abbrev pub begins : Plan → List ℕ → World → ℕ → NodeCall → Node → List Record → StepRan
-begins plan octets w own call node disk =
+-- memory runs out before anything is done
+abbrev pub runs_short : World → StepRan
+runs_short w = record { outcome = NoMemory None; world = w }
+
+-- a call begins that has a ticket of this kind, with the octets that it files
+abbrev pub begins_as : CallKind → Plan → List ℕ → World → ℕ → NodeCall → Node → List Record → StepRan
+begins_as kind plan octets w own call node disk =
     if fails_at_once plan w.seconds node call
-    then says (Begun (new_number own node)) (after (with_struck w call) own (refuse (kind_of_call call) (mishaps_of_call plan w.seconds node call) (ids_drawn call) node disk))
+    then says (Begun (new_number own node)) (after (with_struck w call) own (refuse kind (mishaps_of_call plan w.seconds node call) (ids_drawn call) node disk))
     else says (Begun (new_number own node)) (after (with_struck w call) own (begun_by plan w own node disk call octets))
+
+abbrev pub begins : Plan → List ℕ → World → ℕ → NodeCall → Node → List Record → StepRan
+begins plan octets w own (Deliver mail) node disk = begins_as Delivering plan octets w own (Deliver mail) node disk
+begins plan octets w own (Strike user items) node disk = begins_as Striking plan octets w own (Strike user items) node disk
+begins plan octets w own (Leave user) node disk = says Noted w
+begins plan octets w own (Login user secret) node disk = runs_short w
+begins plan octets w own (Fetch user id from most) node disk = runs_short w
 
 -- a ticket is asked
 abbrev pub answered_ticket : World → Number → Node → List Record → Ticket → Ask → StepRan
@@ -116,9 +131,9 @@ pushes w own to node disk =
     says (Sent (length did.out)) (after w own did)
 
 -- a node goes down or is lost
-abbrev pub falls : World → ℕ → Life → Option Slot → StepRan
-falls w n life None = refuses NoSuchNode w
-falls w n life (Some slot) = says Finished (record w { slots = with_slot w.slots n (record slot { life = life }); book = w.book ++ WentDown n ∷ [] })
+abbrev pub falls : World → ℕ → Life → BookEntry → Option Slot → StepRan
+falls w n life entry None = refuses NoSuchNode w
+falls w n life entry (Some slot) = says Finished (record w { slots = with_slot w.slots n (record slot { life = life }); book = w.book ++ entry ∷ [] })
 
 -- a node starts, and nothing was pending
 abbrev pub starts : Plan → World → ℕ → Option Slot → StepRan
@@ -126,7 +141,8 @@ starts plan w n None = refuses NoSuchNode w
 starts plan w n (Some slot) =
     let boot = boot_of slot.disk + 1 in
     let records = slot.disk ++ Boot boot ∷ [] in
-    says (NodeUp boot) (record w { slots = with_slot w.slots n (slot_up (started n plan.nodes boot records) records) })
+    if nat_lt greatest_boot boot then refuses Worn w
+    else says (NodeUp boot) (record w { slots = with_slot w.slots n (slot_up (started n plan.nodes boot records) records); book = w.book ++ CameUp n boot ∷ [] })
 
 -- what a step does that is not refused
 abbrev pub does : Plan → List ℕ → World → Step → StepRan
@@ -138,9 +154,9 @@ does plan octets w (DropLetter number) = drops w number (letter_at number w.flyi
 does plan octets w (PushTo from to) = at_node w from (pushes w from to)
 does plan octets w (Widen at user id to) =
     at_node w at (λ node disk. says (Widened (can_widen to (said_of (Message user id) disk))) (after w at (widen at to (Message user id) node disk)))
-does plan octets w (Crash node) = falls w node (Down []) (slot_at w.slots node)
+does plan octets w (Crash node) = falls w node (Down []) (WentDown node) (slot_at w.slots node)
 does plan octets w (Start node) = starts plan w node (slot_at w.slots node)
-does plan octets w (Lose node) = falls w node Lost (slot_at w.slots node)
+does plan octets w (Lose node) = falls w node Lost (WasLost node) (slot_at w.slots node)
 does plan octets w (Tick seconds) = says Finished (record w { seconds = seconds })
 
 abbrev pub unless_refused : Plan → List ℕ → World → Step → Option StepFault → StepRan

@@ -86,9 +86,9 @@ pub record StartsNode (own nodes : ℕ) (disk pending : List Record) (node : Nod
   pub records : new ≡ (disk ++ kept) ++ Boot (boot_of (disk ++ kept) + 1) ∷ []
   pub is : node ≡ started own nodes (boot_of (disk ++ kept) + 1) new
 
--- A start that its disk cuts: what was pending is kept or lost, and the record of the boot may be pending, or nothing.
+-- A start that its disk cuts: what was pending is kept or lost, and the record of the boot may be pending, or nothing. Where not even the disk started, all is as it was.
 pub record StopsStart (disk pending : List Record) (next new : List Record) : Type 0 where
   pub kept : List Record
   pub pending_is : (kept ≡ []) ⊎ (kept ≡ pending)
   pub records : new ≡ disk ++ kept
-  pub next_is : (next ≡ []) ⊎ (next ≡ Boot (boot_of (disk ++ kept) + 1) ∷ [])
+  pub next_is : (next ≡ []) ⊎ (next ≡ Boot (boot_of (disk ++ kept) + 1) ∷ []) ⊎ ((kept ≡ []) × (next ≡ pending))

@@ -10,7 +10,6 @@ use Rattle.object_model.specs.Mishaps.{Mishaps, no_mishaps, counted, mishaps_of}
 use Rattle.object_model.specs.Mishaps.MishapKind.{FewMembers, Year}
 use Rattle.cluster_model.specs.Cluster.{Node, Life, Slot, slot_at, members_of}
 use Rattle.cluster_model.specs.Cluster.Life.{Up, Down, Lost}
-use Rattle.cluster_model.specs.Claims.{all_records, boot_of}
 use Rattle.cluster_model.specs.Rules.{ticket_at}
 use Rattle.cluster_model.specs.Thrown.{Why}
 use Rattle.cluster_model.specs.Progress.{Ask}
@@ -22,10 +21,14 @@ pub record Struck : Type 0 where
   pub id : Id
   pub targets : ℕ
 
--- the calls that have a rule here: that a message be stored, and that copies of a user be deleted
+-- The calls that have a rule here: that a message be stored, that a user's mailbox be listed, that a part of a message be read, that copies of a user be deleted, and that a
+-- login end. A part is of the octets from one on, and at most so many.
 pub data NodeCall : Type 0 where
   Deliver : (mail : Mail) → NodeCall
+  Login : (user secret : List ℕ) → NodeCall
+  Fetch : (user : List ℕ) (id : Id) (from most : ℕ) → NodeCall
   Strike : (user : List ℕ) (items : List Struck) → NodeCall
+  Leave : (user : List ℕ) → NodeCall
 
 pub data Step : Type 0 where
   Begin : (node : ℕ) (call : NodeCall) → Step
@@ -44,6 +47,8 @@ pub data Step : Type 0 where
 -- what a step answers
 pub data Said : Type 0 where
   Begun : (ticket : Number) → Said
+  -- a Leave was heard, which has no ticket
+  Noted : Said
   Asked : (ask : Ask) → Said
   Heard : Said
   Thrown : (why : Why) → Said
@@ -149,13 +154,14 @@ has_few_members plan node = nat_lt (length (nodes_in (members_of node) plan.node
 abbrev pub end_of_dates : ℕ
 end_of_dates = 253402300800
 
--- what makes a call fail at once: a Deliver or a Strike with too few members, and a Deliver that has no date
+-- What makes a call fail at once: a Deliver or a Strike with too few members, and a Deliver that has no date. The others have rules in a plan of one node alone, and do not.
 abbrev pub few_mishaps : Plan → Node → Mishaps
 few_mishaps plan node = if has_few_members plan node then counted FewMembers no_mishaps else no_mishaps
 
 abbrev pub mishaps_of_call : Plan → ℕ → Node → NodeCall → Mishaps
 mishaps_of_call plan seconds node (Deliver mail) = if nat_le end_of_dates seconds then counted Year (few_mishaps plan node) else few_mishaps plan node
 mishaps_of_call plan seconds node (Strike user items) = few_mishaps plan node
+mishaps_of_call plan seconds node call = no_mishaps
 
 abbrev pub fails_at_once : Plan → ℕ → Node → NodeCall → Bool
 fails_at_once plan seconds node call = nat_lt 0 (mishaps_of (mishaps_of_call plan seconds node call))
@@ -174,19 +180,24 @@ letters_end = 2 ^ 64 - 2 ^ 32
 abbrev pub stamps_drawn : NodeCall → ℕ
 stamps_drawn (Deliver mail) = 1
 stamps_drawn (Strike user items) = length items
+stamps_drawn call = 0
 
 abbrev pub ids_drawn : NodeCall → ℕ
 ids_drawn (Deliver mail) = 1
-ids_drawn (Strike user items) = 0
+ids_drawn call = 0
 
--- whether the call would draw a number above the greatest; one that fails at once draws no stamp
+-- and of tickets: a Leave has none
+abbrev pub tickets_drawn : NodeCall → ℕ
+tickets_drawn (Leave user) = 0
+tickets_drawn call = 1
+
+-- Whether the call would draw a number above the greatest. One that fails at once draws no stamp. Which boot a start would be it finds only on the disk.
 abbrev pub is_worn_for : Plan → ℕ → Node → NodeCall → Bool
 is_worn_for plan seconds node call =
-    nat_lt greatest (node.calls + 1) || nat_lt greatest (node.drawn + ids_drawn call) || (not (fails_at_once plan seconds node call) && nat_lt greatest (node.count + stamps_drawn call))
+    nat_lt greatest (node.calls + tickets_drawn call) || nat_lt greatest (node.drawn + ids_drawn call) || (not (fails_at_once plan seconds node call) && nat_lt greatest (node.count + stamps_drawn call))
 
 abbrev pub is_worn_slot : Plan → ℕ → Step → Slot → Life → Bool
 is_worn_slot plan seconds (Begin node call) slot (Up state) = is_worn_for plan seconds state call
-is_worn_slot plan seconds (Start node) slot life = nat_le greatest_boot (boot_of (all_records slot))
 is_worn_slot plan seconds step slot life = false
 
 abbrev pub is_worn_at : Plan → ℕ → Step → Option Slot → Bool

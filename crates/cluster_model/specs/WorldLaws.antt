@@ -1,5 +1,5 @@
 -- What holds of worlds, whatever steps are made.
-use Rattle.std.specs.Prelude.{◌≡◌, ◌⊎◌, ◌≤◌, ◌+◌, ℕ, zero, suc, List, [], ◌∷◌, Some}
+use Rattle.std.specs.Prelude.{◌≡◌, ◌⊎◌, ◌≤◌, ◌+◌, ℕ, Bool, zero, suc, List, [], ◌∷◌, Some}
 use Rattle.std.specs.FinMap as fin
 use Rattle.mail_model.specs.Identity.{Id}
 use Rattle.mail_model.specs.Plan.{Plan}
@@ -24,7 +24,7 @@ InPlan nodes slots = (n : ℕ) (slot : Slot) → slot_at slots n ≡ Some slot �
 
 -- whatever steps are made and whatever comes of them, a sound world stays sound
 abbrev pub StepsKeepSound : Type 0
-StepsKeepSound = (plan : Plan) (old new : World) (steps : List MadeStep) → MakesAll plan old steps new
+StepsKeepSound = (plan : Plan) (tells : Bool) (old new : World) (steps : List MadeStep) → MakesAll plan tells old steps new
     → InPlan plan.nodes old.slots → Sound plan.confirm (cluster_of old) → InPlan plan.nodes new.slots × Sound plan.confirm (cluster_of new)
 
 -- where a cluster opens over empty disks: each node in its first boot, which is on its disk, and in the first epoch
@@ -60,6 +60,6 @@ MayBring old step id octets = ⊥
 
 -- Whatever octets a sound world holds after a step it held before, or the step is the Deliver of that message.
 abbrev pub StepsBring : Type 0
-StepsBring = (plan : Plan) (old new : World) (step : Step) (outcome : StepOutcome) → MakesStep plan old step outcome new
+StepsBring = (plan : Plan) (tells : Bool) (old new : World) (step : Step) (outcome : StepOutcome) → MakesStep plan tells old step outcome new
     → InPlan plan.nodes old.slots → Sound plan.confirm (cluster_of old) → (id : Id) (octets : List ℕ) → IsHeldSomewhere new.slots (letters_of new.flying) id octets
     → IsHeldSomewhere old.slots (letters_of old.flying) id octets ⊎ MayBring old step id octets

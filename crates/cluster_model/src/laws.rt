@@ -3,8 +3,9 @@ ghost use Rattle.cluster_model.specs.Laws.{MovesKeepSound, AcknowledgedStand, Ac
 ghost use Rattle.cluster_model.specs.RuleLaws.{ConfirmsAfterRecords, ConfirmsAfterGone, DiskSaysMerge, TakesNothingTwice, CountsOnce, TargetsStay, StoredAtF, LeavesLogAtLast, AnswersSender, SendsInOrder, IdsAreNew, FetchedAsFiled};
 ghost use Rattle.cluster_model.specs.Rows.{TwoOfThree, HeardTwiceCountsOnce, TargetsMoveOn, PushedThreeTimes, LateHereChangesNothing, GoneBeforeItCame};
 ghost use Rattle.cluster_model.specs.TicketLaws.{TargetsAreEnough, TicketsBeginFair, TicketsStayFair, FailedHasCause, AllHeardIsDone};
+ghost use Rattle.cluster_model.specs.ReadLaws.{ListedOnce, ListedNamed, OneListing};
 ghost use Rattle.cluster_model.specs.WorldLaws.{StepsKeepSound, StepsBring, OpeningIsSound};
-ghost use Rattle.cluster_model.specs.NodeLaws.{NodesHear, NodesDeliver, NodesStrike, NodesPush, NodesWiden, NodesEnd, NodesRefuse, NodesNote, NodesFault, NodesFall, NodesStart, NodesStopStart, StartsOwe, NodesLearn, TakesJoin, TakesOnly};
+ghost use Rattle.cluster_model.specs.NodeLaws.{NodesHear, NodesDeliver, NodesStrike, NodesPush, NodesWiden, NodesEnd, NodesRefuse, NodesRead, NodesNote, NodesFault, NodesFall, NodesStart, NodesStopStart, StartsOwe, NodesLearn, TakesJoin, TakesOnly};
 
 /// Whatever moves are made, a sound cluster stays sound.
 pub fn moves_keep_sound()
@@ -54,6 +55,11 @@ pub fn nodes_end()
 /// refuses a call at once,
 pub fn nodes_refuse()
     ensures { NodesRefuse }
+{}
+
+/// begins a call that reads,
+pub fn nodes_read()
+    ensures { NodesRead }
 {}
 
 /// and notes a mishap.
@@ -235,4 +241,19 @@ pub fn failed_has_cause()
 /// A call of which all answers were heard, with no mishap, is done and has not failed.
 pub fn all_heard_is_done()
     ensures { AllHeardIsDone }
+{}
+
+/// A listing has each id once.
+pub fn listed_once()
+    ensures { ListedOnce }
+{}
+
+/// Where a journal can spell the records of the disk, it can spell the ids of a listing.
+pub fn listed_named()
+    ensures { ListedNamed }
+{}
+
+/// A user has one listing at most.
+pub fn one_listing()
+    ensures { OneListing }
 {}

@@ -12,10 +12,12 @@
 //!
 //! The definitions, by module:
 //!
+//! - `Reads`: what a call that reads finds: the listing of a mailbox, or a part of a message.
 //! - `Cluster`: nodes with their soft state, their lives and disks, letters in flight, the book.
 //! - `Store`: how a node takes a state: joined, recorded and noted.
 //! - `Rules`: what a node does with the letters File, Filed, Strike, StrikeTold, Push, PushAck and
-//!   Retired, with a mishap, and as it begins a delivery or a deletion, pushes or widens.
+//!   Retired, with a mishap, and as it begins a delivery, a deletion or a call that reads, pushes or
+//!   widens.
 //! - `Targets`: which nodes a delivery and a deletion ask.
 //! - `Thrown`: which letters are thrown and why, and the stamps that a node learns of a letter.
 //! - `Starts`: what a node finds on its disk as it starts.
@@ -27,14 +29,15 @@
 //! - `Deeds`: what a node does as an act of the machine.
 //! - `World`, `Steps`, `Makes`: a world with numbered letters and seconds; its steps, what they
 //!   answer, and what is refused in which order; what each step makes of the world.
-//! - `Laws`, `NodeLaws`, `RuleLaws`, `TicketLaws`, `WorldLaws`, `Rows`: what is proved of these.
+//! - `Laws`, `NodeLaws`, `RuleLaws`, `TicketLaws`, `ReadLaws`, `WorldLaws`, `Rows`: what is proved of
+//!   these.
 //!
 //! The laws are functions that do nothing, and their contracts hold of the definitions alone.
 //!
 //! Of a cluster: `moves_keep_sound`, `acknowledged_stand`, `acknowledged_kept`, `dropped_are_gone`.
 //! Of a world: `steps_keep_sound`, `steps_bring`, `opening_is_sound`. Of the rules of a node, that
 //! each is an act that keeps the invariant: `nodes_hear`, `nodes_learn`, `nodes_deliver`,
-//! `nodes_strike`, `nodes_push`, `nodes_widen`, `nodes_end`, `nodes_refuse`, `nodes_note`,
+//! `nodes_strike`, `nodes_push`, `nodes_widen`, `nodes_end`, `nodes_refuse`, `nodes_read`, `nodes_note`,
 //! `nodes_fault`, `nodes_fall`, `nodes_start`, `nodes_stop_start`. And that a state that is taken is
 //! joined and changes nothing else: `takes_join`, `takes_only`; and that a start owes what is not
 //! retired: `starts_owe`.
@@ -45,6 +48,8 @@
 //!
 //! Of a ticket from its beginning to its answer: `targets_are_enough`, `tickets_begin_fair`,
 //! `tickets_stay_fair`, `failed_has_cause`, `all_heard_is_done`.
+//!
+//! Of listings: `listed_once`, `listed_named`, `one_listing`.
 //!
 //! `Plain` is a plain program of the rules: what each step makes of a world, where no disk fails.
 //! `Rows` has worked cases of it, letter by letter, with values that were worked by hand: `two_of_three`,
@@ -58,8 +63,9 @@
 //!
 //! WHAT IT DOES NOT DO
 //!
-//! It has no code of a node. Membership, mail maps, logins and fetches have no rule here: their
-//! letters are heard and do nothing, and every node that is up has the first epoch.
+//! It has no code of a node. Logins, fetches and leaves have a rule in a plan of one node alone, which
+//! reads its own disk. Membership and mail maps have none here, nor have the letters of logins and
+//! fetches: these are heard and do nothing, and every node that is up has the first epoch.
 #![tactic(auto)]
 
 mod laws;
@@ -68,10 +74,10 @@ pub use laws::{
     acknowledged_kept, acknowledged_stand, all_heard_is_done, answers_sender, confirms_after_gone,
     confirms_after_records, counts_once, disk_says_merge, dropped_are_gone, failed_has_cause,
     fetched_as_filed, gone_before_it_came, heard_twice_counts_once, ids_are_new,
-    late_here_changes_nothing, leaves_log_at_last, moves_keep_sound, nodes_deliver, nodes_end,
-    nodes_fall, nodes_fault, nodes_hear, nodes_learn, nodes_note, nodes_push, nodes_refuse,
-    nodes_start, nodes_stop_start, nodes_strike, nodes_widen, opening_is_sound, pushed_three_times,
-    sends_in_order, starts_owe, steps_bring, steps_keep_sound, stored_at_f, takes_join,
-    takes_nothing_twice, takes_only, targets_are_enough, targets_move_on, targets_stay,
-    tickets_begin_fair, tickets_stay_fair, two_of_three,
+    late_here_changes_nothing, leaves_log_at_last, listed_named, listed_once, moves_keep_sound,
+    nodes_deliver, nodes_end, nodes_fall, nodes_fault, nodes_hear, nodes_learn, nodes_note,
+    nodes_push, nodes_read, nodes_refuse, nodes_start, nodes_stop_start, nodes_strike, nodes_widen,
+    opening_is_sound, pushed_three_times, sends_in_order, starts_owe, steps_bring,
+    steps_keep_sound, stored_at_f, takes_join, takes_nothing_twice, takes_only, targets_are_enough,
+    targets_move_on, targets_stay, tickets_begin_fair, tickets_stay_fair, two_of_three,
 };

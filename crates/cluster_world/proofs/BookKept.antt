@@ -5,7 +5,7 @@ use Rattle.mail_model.specs.Identity.{Id}
 use Rattle.mail_model.specs.Mail.{IsStored}
 use Rattle.mail_model.specs.Stored.{Ack}
 use Rattle.mail_model.specs.Book.{Acked, BookEntry, AreCopies, acked_in, struck_in, dropped_in, copies_acked}
-use Rattle.mail_model.specs.Book.BookEntry.{Acknowledged, Struck as Noted, Dropped as WasDropped, WentDown}
+use Rattle.mail_model.specs.Book.BookEntry.{Acknowledged, Struck as Noted, Dropped as WasDropped, WentDown, CameUp, WasLost}
 use Rattle.mail_model.specs.Site.{nth_id, struck_entries, dropped_entries}
 use Rattle.mail_model.specs.Told.{Mail}
 use Rattle.session_model.specs.Calls.{Call, Answer}
@@ -120,6 +120,8 @@ by_one_both (Acknowledged copy ∷ book) more a b = (a.0, by_one_both book more 
 by_one_both (Noted user id ∷ book) more a b = by_one_both book more a b
 by_one_both (WasDropped user id confirmers ∷ book) more a b = (a.0, by_one_both book more a.1 b)
 by_one_both (WentDown node ∷ book) more a b = by_one_both book more a b
+by_one_both (CameUp node boot ∷ book) more a b = by_one_both book more a b
+by_one_both (WasLost node ∷ book) more a b = by_one_both book more a b
 
 pub by_one_struck : (user : List ℕ) (ids : List Id) → AreByOne (struck_entries user ids)
 by_one_struck user [] = tt

@@ -4,7 +4,7 @@ use Rattle.sha2.specs.Sha256.{sha256}
 use Rattle.mail_model.specs.Identity.{Id}
 use Rattle.mail_model.specs.Stored.{Ack}
 use Rattle.mail_model.specs.Book.{Acked, BookEntry, AreCopies, AreCopiesOf, acked_in, struck_in, dropped_in, copies_acked}
-use Rattle.mail_model.specs.Book.BookEntry.{Acknowledged, Struck, Dropped, WentDown}
+use Rattle.mail_model.specs.Book.BookEntry.{Acknowledged, Struck, Dropped, WentDown, CameUp, WasLost}
 use Rattle.mail_model.specs.Site.{nth_id, struck_entries, dropped_entries}
 use Rattle.cluster_world.specs.Steps.{entries_for, nth_filing}
 
@@ -14,6 +14,8 @@ acked_both (Acknowledged copy ∷ book) more = ap (λ (l : List Acked). copy ∷
 acked_both (Struck user id ∷ book) more = acked_both book more
 acked_both (Dropped user id confirmers ∷ book) more = acked_both book more
 acked_both (WentDown node ∷ book) more = acked_both book more
+acked_both (CameUp node boot ∷ book) more = acked_both book more
+acked_both (WasLost node ∷ book) more = acked_both book more
 
 pub struck_both : (book more : List BookEntry) → struck_in (book ++ more) ≡ struck_in book ++ struck_in more
 struck_both [] more = refl
@@ -21,6 +23,8 @@ struck_both (Acknowledged copy ∷ book) more = struck_both book more
 struck_both (Struck user id ∷ book) more = ap (λ (l : List (List ℕ × Id)). (user, id) ∷ l) (struck_both book more)
 struck_both (Dropped user id confirmers ∷ book) more = struck_both book more
 struck_both (WentDown node ∷ book) more = struck_both book more
+struck_both (CameUp node boot ∷ book) more = struck_both book more
+struck_both (WasLost node ∷ book) more = struck_both book more
 
 pub dropped_both : (book more : List BookEntry) → dropped_in (book ++ more) ≡ dropped_in book ++ dropped_in more
 dropped_both [] more = refl
@@ -28,6 +32,8 @@ dropped_both (Acknowledged copy ∷ book) more = dropped_both book more
 dropped_both (Struck user id ∷ book) more = dropped_both book more
 dropped_both (Dropped user id confirmers ∷ book) more = ap (λ (l : List (List ℕ × Id)). (user, id) ∷ l) (dropped_both book more)
 dropped_both (WentDown node ∷ book) more = dropped_both book more
+dropped_both (CameUp node boot ∷ book) more = dropped_both book more
+dropped_both (WasLost node ∷ book) more = dropped_both book more
 
 -- entries that are to be deleted
 pub struck_begun : (user : List ℕ) (ids : List Id) → struck_in (struck_entries user ids) ≡ map (λ id. (user, id)) ids

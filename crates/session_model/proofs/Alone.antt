@@ -13,7 +13,7 @@ use Rattle.mail_model.specs.Told.{Mail}
 use Rattle.mail_model.specs.Stored.{opened, opened_at, kind_at, AreRising}
 use Rattle.mail_model.specs.Record.{Record}
 use Rattle.mail_model.specs.Book.{BookEntry, dropped_in}
-use Rattle.mail_model.specs.Book.BookEntry.{Acknowledged, Struck, Dropped, WentDown}
+use Rattle.mail_model.specs.Book.BookEntry.{Acknowledged, Struck, Dropped, WentDown, CameUp, WasLost}
 use Rattle.mail_model.specs.Deleted.{IsCopyOf}
 use Rattle.mail_model.specs.Listing.{octets_in}
 use Rattle.mail_model.specs.Site.{TapeFault}
@@ -161,6 +161,8 @@ confirmed_by_one plan (Acknowledged copy ∷ book) one sure by_one =
 confirmed_by_one plan (Dropped user id confirmers ∷ book) one sure by_one = confirmed_by_one plan book one sure by_one.1
 confirmed_by_one plan (Struck user id ∷ book) one sure by_one = confirmed_by_one plan book one sure by_one
 confirmed_by_one plan (WentDown node ∷ book) one sure by_one = confirmed_by_one plan book one sure by_one
+confirmed_by_one plan (CameUp node boot ∷ book) one sure by_one = confirmed_by_one plan book one sure by_one
+confirmed_by_one plan (WasLost node ∷ book) one sure by_one = confirmed_by_one plan book one sure by_one
 
 -- a copy whose deletion was confirmed is that of an answer
 pub dropped_answered : (user : List ℕ) (id : Id) (answered : List Answered) → IsCopyOf user id (flat_map (λ one. dropped_by one.call one.answer) answered)
@@ -196,6 +198,8 @@ dropped_gone plan entries disks [] one sure gone by_one = tt
 dropped_gone plan entries disks (Acknowledged copy ∷ book) one sure gone by_one = dropped_gone plan entries disks book one sure gone by_one.1
 dropped_gone plan entries disks (Struck user id ∷ book) one sure gone by_one = dropped_gone plan entries disks book one sure gone by_one
 dropped_gone plan entries disks (WentDown node ∷ book) one sure gone by_one = dropped_gone plan entries disks book one sure gone by_one
+dropped_gone plan entries disks (CameUp node boot ∷ book) one sure gone by_one = dropped_gone plan entries disks book one sure gone by_one
+dropped_gone plan entries disks (WasLost node ∷ book) one sure gone by_one = dropped_gone plan entries disks book one sure gone by_one
 dropped_gone plan entries disks (Dropped user id confirmers ∷ book) one sure gone by_one =
     let first = gone user id (inl refl) in
     let enough = first.1.enough in

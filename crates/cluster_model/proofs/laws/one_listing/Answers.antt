@@ -1,0 +1,5 @@
+use Rattle.cluster_model.proofs.Listings.{one_listing}
+use Rattle.cluster_model.proofs.laws.one_listing.Goals as goal
+
+pub returns : goal.returns
+returns c = one_listing
