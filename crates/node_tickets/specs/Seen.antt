@@ -1,14 +1,17 @@
 -- The code's tickets, answers and mishaps as the machine's.
-use Rattle.std.specs.Prelude.{Option, Some, None}
+use Rattle.std.specs.Prelude.{IsTrue, ⊤, map, Option, Some, None, is_some}
 use Rattle.mail_base.specs.declared.filing.Filing.{Filing}
 use Rattle.mail_base.specs.declared.filing.CallKind.{CallKind}
+use Rattle.mail_base.specs.declared.item.Item.{Item}
 use Rattle.mail_base.specs.declared.filing.CallKind.TheVariants as kind
 use Rattle.call_tickets.specs.declared.answer.Mishaps.{Mishaps}
 use Rattle.call_tickets.specs.declared.answer.Answer.{Answer}
-use Rattle.call_tickets.specs.declared.answer.Answer.TheVariants.{Stored, Dropped, Failed}
+use Rattle.call_tickets.specs.declared.answer.Answer.TheVariants.{Stored, Listed, Wrong, Part, GoneAlready, Dropped, Failed}
 use Rattle.call_tickets.specs.declared.answer.Ask.{Ask}
 use Rattle.call_tickets.specs.declared.answer.Ask.TheVariants.{Pending, Done}
 use Rattle.object_model.specs.Mishaps as object
+use Rattle.cluster_model.specs.Reads.{ListedCopy, Found}
+use Rattle.cluster_model.specs.Reads.Found.{WrongSecret, PartOf, NotThere}
 use Rattle.cluster_model.specs.Cluster as plain
 use Rattle.cluster_model.specs.Progress as progress
 use Rattle.node_tickets.specs.declared.want.Asked.{Asked}
@@ -41,17 +44,40 @@ kind_of_mishap befell.Crowded = object.MishapKind.Crowded
 abbrev pub mishaps_seen : Mishaps → object.Mishaps
 mishaps_seen m = record { few_members = m.few_members; year = m.year; dropped = m.dropped; stale = m.stale; down = m.down; disk = m.disk; crowded = m.crowded }
 
--- an answer to a delivery or a deletion; the other answers have no rule in the machine yet
-abbrev pub progress_seen : Answer → Option progress.NodeAnswer
-progress_seen (Stored id confirmers) = Some (progress.NodeAnswer.Stored id confirmers)
-progress_seen (Dropped confirmers) = Some (progress.NodeAnswer.Dropped confirmers.items)
-progress_seen (Failed mishaps) = Some (progress.NodeAnswer.Failed (mishaps_seen mishaps))
-progress_seen answer = None
+-- a message of a listing, with the stamp and the targets of the copy
+abbrev pub copy_seen : Item → ListedCopy
+copy_seen item = record { id = item.id; stamp = item.stamp; targets = item.targets; size = item.length }
 
-abbrev pub done_seen : Option progress.NodeAnswer → Option progress.Ask
-done_seen None = None
-done_seen (Some answer) = Some (progress.Ask.Done answer)
+-- what an answer says that a call found, if it answers a call that reads
+abbrev pub found_in : Answer → Option Found
+found_in (Listed login manager asked items) = Some (Found.Listed (map copy_seen items))
+found_in (Wrong stamp) = Some WrongSecret
+found_in (Part octets whole) = Some (PartOf octets whole)
+found_in GoneAlready = Some NotThere
+found_in answer = None
 
-abbrev pub ask_seen : Ask → Option progress.Ask
-ask_seen (Pending got wanted) = Some (progress.Ask.Pending got wanted)
-ask_seen (Done answer) = done_seen (progress_seen answer)
+abbrev pub progress_seen : Answer → progress.NodeAnswer
+progress_seen (Stored id confirmers) = progress.NodeAnswer.Stored id confirmers
+progress_seen (Listed login manager asked items) = progress.NodeAnswer.Read (Found.Listed (map copy_seen items))
+progress_seen (Wrong stamp) = progress.NodeAnswer.Read WrongSecret
+progress_seen (Part octets whole) = progress.NodeAnswer.Read (PartOf octets whole)
+progress_seen GoneAlready = progress.NodeAnswer.Read NotThere
+progress_seen (Dropped confirmers) = progress.NodeAnswer.Dropped confirmers.items
+progress_seen (Failed mishaps) = progress.NodeAnswer.Failed (mishaps_seen mishaps)
+
+abbrev pub ask_seen : Ask → progress.Ask
+ask_seen (Pending got wanted) = progress.Ask.Pending got wanted
+ask_seen (Done answer) = progress.Ask.Done (progress_seen answer)
+
+-- what a ticket holds that a call found
+abbrev pub found_seen : Option Answer → Option Found
+found_seen None = None
+found_seen (Some answer) = found_in answer
+
+-- the answer says what a call found
+abbrev pub IsRead : Answer → Type 0
+IsRead answer = IsTrue (is_some (found_in answer))
+
+abbrev pub IsReadIfAny : Option Answer → Type 0
+IsReadIfAny None = ⊤
+IsReadIfAny (Some answer) = IsRead answer

@@ -62,11 +62,11 @@ ticket_taken_out seq None tickets = tickets
 ticket_taken_out seq (Some ticket) tickets = fin.remove tickets seq
 
 -- what an ask gives
-abbrev pub asks_at : ℕ → Option plain.Ticket → Option (Option Ask)
+abbrev pub asks_at : ℕ → Option plain.Ticket → Option Ask
 asks_at confirm None = None
-asks_at confirm (Some ticket) = Some (Some (ask_of confirm ticket))
+asks_at confirm (Some ticket) = Some (ask_of confirm ticket)
 
-abbrev pub asks_seen : Option code.Ask → Option (Option Ask)
+abbrev pub asks_seen : Option code.Ask → Option Ask
 asks_seen None = None
 asks_seen (Some ask) = Some (ask_seen ask)
 
@@ -99,7 +99,7 @@ wants_at (Some ticket) = ticket.wants
 
 -- the ticket of a deletion of a user's messages, each with the nodes that are asked for it
 abbrev pub ticket_of_deletion : ℕ → List ℕ → List (Id × ℕ) → plain.Ticket
-ticket_of_deletion own user asks = record { kind = plain.CallKind.Striking; wants = map (λ item. new_want own (plain.AskedOfNodes.Deletion user item.0) item.1) asks; mishaps = no_mishaps }
+ticket_of_deletion own user asks = record { kind = plain.CallKind.Striking; wants = map (λ item. new_want own (plain.AskedOfNodes.Deletion user item.0) item.1) asks; mishaps = no_mishaps; found = None }
 
 -- what a delivery filed
 abbrev pub filed_seen : Option Filing → Option plain.NodeFiling

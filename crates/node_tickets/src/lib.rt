@@ -10,12 +10,13 @@
 //!
 //! `Tickets` changes its tickets in place: a confirmation that is heard and a mishap that is noted take no memory. A contract
 //! sees the finite map from numbers to tickets of the machine of `cluster_model`, and each call does to it what the machine's
-//! rule does: `open_delivery`, `open_deletion` and `open_failed` insert the ticket with which a call begins, `told` and
+//! rule does: `open_delivery`, `open_deletion`, `open_failed` and `open_found` insert the ticket with which a call begins, `told` and
 //! `mishap` put the ticket that was told in its place, `ask` gives what the machine's ask gives, and takes a ticket out that is
 //! done. The answers themselves are those of `call_tickets`.
 //!
 //! A delivery asks its targets for copies of one message, and a deletion asks for each of its items the nodes that are to
-//! delete it. A call that fails at once asks nothing.
+//! delete it. A call that fails at once asks nothing. A call that reads asks nothing either: its ticket has the answer, which an
+//! ask hands out.
 //!
 //! STANDS ON
 //!
@@ -24,7 +25,7 @@
 //!
 //! WHAT IT DOES NOT DO
 //!
-//! It sends no letters and knows no disk. Logins and fetches have no tickets here yet.
+//! It sends no letters and knows no disk. The tickets of logins and fetches that ask other nodes are not here yet.
 #![tactic(auto)]
 
 mod mishap;

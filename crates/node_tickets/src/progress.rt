@@ -1,27 +1,31 @@
 //! How far a call has come.
-ghost use Rattle.std.specs.Prelude.{◌≡◌, ◌≤◌, ◌-◌, ℕ, [], ◌∷◌, length, map, not, true, false, Some, IfOk, vec_len, vec_capacity};
+ghost use Rattle.std.specs.Prelude.{◌≡◌, ◌≤◌, ◌-◌, ℕ, [], ◌∷◌, length, map, not, true, false, Some, None, IfOk, vec_len, vec_capacity};
 ghost use Rattle.std.specs.Option.{option_copied};
 ghost use Rattle.std.specs.List.{list_any, list_all, filter};
 ghost use Rattle.object_model.specs.Sets.{has};
-ghost use Rattle.object_model.specs.Mishaps.{counted};
+ghost use Rattle.object_model.specs.Mishaps.{no_mishaps, counted};
 ghost use Rattle.mail_base.specs.Bodies.{body_seen};
 ghost use Rattle.cluster_model.specs.Rules.{told_want, failed_want, told_ticket};
-ghost use Rattle.cluster_model.specs.Progress.{is_confirmed, can_be_confirmed, has_failed, answer_once_confirmed, ask_of};
-ghost use Rattle.node_tickets.specs.Seen.{kind_of_mishap, kind_seen, mishaps_seen, ask_seen, done_seen, progress_seen};
+ghost use Rattle.cluster_model.specs.Progress.{is_confirmed, can_be_confirmed, has_failed, answer_once_confirmed, ask_of_wants, ask_of};
+ghost use Rattle.cluster_model.specs.Progress.Ask.{Done};
+ghost use Rattle.node_tickets.specs.Seen.{kind_of_mishap, kind_seen, mishaps_seen, found_in, IsRead, ask_seen, progress_seen};
 ghost use Rattle.node_tickets.specs.Standing.{is_done, failed_ticket, filed_seen, filing_wanted};
 
-use crate::mishap::{MishapKind, count};
+use crate::mishap::{MishapKind, count, none};
 use crate::want::{Asked, Want};
 use call_tickets::{Answer, Ask, Mishaps};
 use mail_base::{Body, CallKind, Filing, NodeNo, NodeSet};
+use std::alloc::Global;
 use std::marker::Model;
 
-/// A ticket: the kind of its call, what it wants, and what befell it. A contract sees the machine's ticket.
+/// A ticket: the kind of its call, what it wants, what befell it, and what it found. A contract sees the machine's ticket.
 #[derive(Drop)]
 pub(crate) struct Progress {
     kind: CallKind,
     wants: Vec<Want>,
     mishaps: Mishaps,
+    // the answer to a call that reads, which has it as it begins
+    found: Option<Answer>,
     // room for the confirmers of each want, so that the answer to a deletion takes no memory
     room: Vec<NodeSet>,
 }
@@ -29,13 +33,13 @@ pub(crate) struct Progress {
 impl Model for Progress {
     ghost use Rattle.std.specs.Prelude.{◌≡◌, ◌≤◌, ◌-◌, [], length, vec_len, vec_capacity};
     ghost use Rattle.cluster_model.specs.Cluster as plain;
-    ghost use Rattle.node_tickets.specs.Seen.{kind_seen, mishaps_seen};
+    ghost use Rattle.node_tickets.specs.Seen.{kind_seen, mishaps_seen, found_seen, IsReadIfAny};
 
     ghost Value = { plain.Ticket };
 
-    ghost view = { λ p. record { kind = kind_seen p.kind; wants = p.wants.items; mishaps = mishaps_seen p.mishaps } };
+    ghost view = { λ p. record { kind = kind_seen p.kind; wants = p.wants.items; mishaps = mishaps_seen p.mishaps; found = found_seen p.found } };
 
-    ghost invariant = { λ p. (p.room.items ≡ []) × (length p.wants.items ≤ vec_capacity p.room - vec_len p.room) };
+    ghost invariant = { λ p. (p.room.items ≡ []) × (length p.wants.items ≤ vec_capacity p.room - vec_len p.room) × IsReadIfAny p.found };
 }
 
 fn tell_all(wants: &mut Vec<Want>, body: &Body, from: NodeNo)
@@ -101,7 +105,7 @@ fn confirmers_of(wants: &[Want], room: Vec<NodeSet>) -> Vec<NodeSet>
 fn confirmed_answer(wants: &[Want], want: &Want, room: Vec<NodeSet>) -> Answer
     requires empty { room.items ≡ [] }
     requires spare { length wants.now ≤ vec_capacity room - vec_len room }
-    ensures { progress_seen result ≡ Some (answer_once_confirmed wants.now want.now want.now.asked) }
+    ensures { progress_seen result ≡ answer_once_confirmed wants.now want.now want.now.asked }
 {
     match want.asked() {
         Asked::Copies(filing) => Answer::Stored {
@@ -111,6 +115,22 @@ fn confirmed_answer(wants: &[Want], want: &Want, room: Vec<NodeSet>) -> Answer
         Asked::Deletion { .. } => Answer::Dropped {
             confirmers: confirmers_of(wants, room),
         },
+    }
+}
+
+// The answer to a call that asked nodes and is done.
+fn answer_of(wants: &[Want], mishaps: Mishaps, room: Vec<NodeSet>, confirm: u8) -> Answer
+    requires empty { room.items ≡ [] }
+    requires spare { length wants.now ≤ vec_capacity room - vec_len room }
+    requires done { is_done (ask_of_wants confirm (mishaps_seen mishaps) wants.now) ≡ true }
+    ensures { Done (progress_seen result) ≡ ask_of_wants confirm (mishaps_seen mishaps) wants.now }
+{
+    if !all_confirmed(wants, confirm) {
+        return Answer::Failed(mishaps);
+    }
+    match wants.first() {
+        Some(want) => confirmed_answer(wants, want, room),
+        None => Answer::Failed(mishaps),
     }
 }
 
@@ -124,13 +144,28 @@ impl Progress {
     ) -> Progress
         requires empty { room.items ≡ [] }
         requires spare { length wants.items ≤ vec_capacity room - vec_len room }
-        ensures { result ≡ record { kind = kind_seen kind; wants = wants.items; mishaps = mishaps_seen mishaps } }
+        ensures { result ≡ record { kind = kind_seen kind; wants = wants.items; mishaps = mishaps_seen mishaps; found = None } }
     {
         Progress {
             kind,
             wants,
             mishaps,
+            found: None,
             room,
+        }
+    }
+
+    /// The ticket of a call that reads, with its answer.
+    pub(crate) fn read(alloc: Global, kind: CallKind, answer: Answer) -> Progress
+        requires { IsRead answer }
+        ensures { result ≡ record { kind = kind_seen kind; wants = []; mishaps = no_mishaps; found = found_in answer } }
+    {
+        Progress {
+            kind,
+            wants: Vec::new(alloc),
+            mishaps: none(),
+            found: Some(answer),
+            room: Vec::new(alloc),
         }
     }
 
@@ -192,13 +227,15 @@ impl Progress {
     pub(crate) fn is_done(&self, confirm: u8) -> bool
         ensures { result ≡ is_done (ask_of confirm self.now) }
     {
-        all_confirmed(&self.wants, confirm) || some_failed(&self.wants, confirm)
+        self.found.is_some()
+            || all_confirmed(&self.wants, confirm)
+            || some_failed(&self.wants, confirm)
     }
 
     /// How far a call has come that is not done.
     pub(crate) fn pending(&self, confirm: u8) -> Ask
         requires { is_done (ask_of confirm self.now) ≡ false }
-        ensures { ask_seen result ≡ Some (ask_of confirm self.now) }
+        ensures { ask_seen result ≡ ask_of confirm self.now }
     {
         match self.wants.first() {
             Some(want) => match want.asked() {
@@ -218,20 +255,18 @@ impl Progress {
     /// The answer to a call that is done. It takes no memory.
     pub(crate) fn into_answer(self, confirm: u8) -> Answer
         requires { is_done (ask_of confirm self) ≡ true }
-        ensures { done_seen (progress_seen result) ≡ Some (ask_of confirm self) }
+        ensures { Done (progress_seen result) ≡ ask_of confirm self }
     {
-        if !all_confirmed(&self.wants, confirm) {
-            return Answer::Failed(self.mishaps);
-        }
         let Progress {
             kind: _,
             wants,
             mishaps,
+            found,
             room,
         } = self;
-        match wants.first() {
-            Some(want) => confirmed_answer(&wants, want, room),
-            None => Answer::Failed(mishaps),
+        match found {
+            Some(answer) => answer,
+            None => answer_of(&wants, mishaps, room, confirm),
         }
     }
 }

@@ -1,7 +1,7 @@
 // Tickets by hand: what node 1 hears, and what an ask then answers.
 use crate::{MishapKind, Tickets};
 use call_tickets::{Answer, Ask, Mishaps};
-use mail_base::{Body, CallKind, Filing, Ids, MsgId, Name, Names, NodeNo, NodeSet, Ticket};
+use mail_base::{Body, CallKind, Filing, Ids, MsgId, Name, Names, NodeNo, NodeSet, Stamp, Ticket};
 use std::alloc::Global;
 use std::process::Abort;
 use std::test::Fail;
@@ -165,5 +165,30 @@ fn fails_at_once(rt: HostRuntime) -> Result<(), Fail> {
     assert!(rt; !tickets.give_up(ticket));
     assert!(rt; tickets.give_up(Ticket::new(node(&rt, 1), 1, 1)));
     assert!(rt; tickets.ask(Ticket::new(node(&rt, 1), 1, 1)).is_none());
+    Ok(())
+}
+
+#[test]
+fn reads_at_once(rt: HostRuntime) -> Result<(), Fail> {
+    let login = Ticket::new(node(&rt, 1), 1, 1);
+    let fetch = Ticket::new(node(&rt, 1), 1, 2);
+    let stamp = Stamp::new(0, 0, 0);
+    let mut tickets = Tickets::new(rt.alloc(), node(&rt, 1), 1, 2);
+    assert!(rt;
+        tickets
+            .open_found(rt.alloc(), 1, CallKind::Login, Answer::Wrong { stamp })
+            .is_ok()
+    );
+    assert!(rt;
+        tickets
+            .open_found(rt.alloc(), 2, CallKind::Fetch, Answer::GoneAlready)
+            .is_ok()
+    );
+    assert!(rt; tickets.kind(fetch) == Some(CallKind::Fetch));
+    assert!(rt; tickets.is_done(fetch) && tickets.wants(fetch).is_empty());
+    assert!(rt; tickets.mishap(fetch, MishapKind::Down, node(&rt, 1)));
+    assert!(rt; matches!(tickets.ask(fetch), Some(Ask::Done(Answer::GoneAlready))));
+    assert!(rt; tickets.ask(fetch).is_none());
+    assert!(rt; matches!(tickets.ask(login), Some(Ask::Done(Answer::Wrong { .. }))));
     Ok(())
 }
