@@ -6,7 +6,7 @@ use Rattle.std.proofs.lemmas.List.Concat.{flat_map-append}
 use Rattle.std.proofs.lemmas.Grind.{common_steps}
 use Rattle.std.proofs.lemmas.Nat.{from_be_bytes-to_be_bytes_4}
 use Rattle.mail_model.specs.Record.{journal_of, header_of, framed, AreShort}
-use Rattle.disk_journal.specs.Reading.{AreAt, IsNoJournal, IsOpened, IsClosedAt, IsRecordAt, IsCutAt, LiesAtPlace, FoundAt, JournalOpened}
+use Rattle.disk_journal.specs.Reading.{LieInRow, AreAt, IsNoJournal, IsOpened, IsClosedAt, IsRecordAt, IsCutAt, LiesAtPlace, FoundAt, JournalOpened}
 use Rattle.disk_journal.specs.declared.fault.JournalFault.{JournalFault}
 use Rattle.disk_journal.specs.declared.fault.JournalFault.TheVariants.{DiskFault, NotAJournal, TooLarge, NoMemory}
 use Rattle.disk_journal.specs.declared.place.Place.{Place}
@@ -107,6 +107,16 @@ are_more at (other ∷ places) (first ∷ payloads) place payload are begins siz
   are.1,
   are_more (at + 5 + length first) places payloads place payload are.2 (omega (arith, begins, length-append (framed first) (flat_map framed payloads), length-framed first)) size,
 )
+
+pub row_more : (at : ℕ) (places : List Place) (place : Place) (end : ℕ) → LieInRow at places end → place.at ≡ end + 5 → LieInRow at (places ++ place ∷ []) (place.at + place.length)
+row_more at [] place end row begins = (omega (arith, row, begins), omega (arith, row, begins))
+row_more at (first ∷ places) place end row begins = (row.0, row_more (at + 5 + first.length) places place end row.1 begins)
+
+pub row_first : (places : List Place) → places ≡ [] → LieInRow 16 places 16
+row_first places none = rw none refl
+
+pub row_next : (places more : List Place) (place : Place) (end : ℕ) → LieInRow 16 places end → more ≡ places ++ place ∷ [] → place.at ≡ end + 5 → LieInRow 16 more (place.at + place.length)
+row_next places more place end row are begins = rw are (row_more 16 places place end row begins)
 
 -- one record more
 pub record_read : (node : ℕ) (held : List ℕ) (end : ℕ) (places : List Place) (place : Place) → HasRead node held end places → IsRecordAt held end place

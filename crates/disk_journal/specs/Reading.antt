@@ -16,6 +16,11 @@ AreAt at [] (payload ∷ payloads) = ⊥
 AreAt at (place ∷ places) [] = ⊥
 AreAt at (place ∷ places) (payload ∷ payloads) = (place.at ≡ at + 5) × (place.length ≡ length payload) × AreAt (at + 5 + length payload) places payloads
 
+-- the places lie one after another from this octet on, each behind a gate and a length, and the last of them ends here
+abbrev pub LieInRow : ℕ → List Place → ℕ → Type 0
+LieInRow at [] end = end ≡ at
+LieInRow at (place ∷ places) end = (place.at ≡ at + 5) × LieInRow (at + 5 + place.length) places end
+
 -- the octets are no journal of the node: the header is another's, or the file ends before its first closed gate
 abbrev pub IsNoJournal : ℕ → List ℕ → Type 0
 IsNoJournal node held = (payloads : List (List ℕ)) → IsJournal node held payloads → ⊥

@@ -4,7 +4,7 @@ ghost use Rattle.io_edge.specs.Moments.{Tears, Keeps};
 ghost use Rattle.io_edge.specs.Octets.{IsToldAlike};
 ghost use Rattle.disk_journal.specs.Images.{Adds, AddsAll};
 ghost use Rattle.disk_journal.specs.Journal.{end_of, HasGate, TellsJournal, Appended, Created, Refuses};
-ghost use Rattle.disk_journal.specs.Reading.{HasRead, JournalOpened};
+ghost use Rattle.disk_journal.specs.Reading.{HasRead, JournalOpened, LieInRow};
 
 use crate::fault::JournalFault;
 use crate::place::Place;
@@ -62,6 +62,7 @@ impl Journal {
         node: NodeNo,
     ) -> Result<(Journal, Vec<Place>), JournalFault>
         ensures opened { JournalOpened result node (D.seen disk.old) (D.faults disk.old) (D.faults disk.new) }
+        ensures placed { IfOk result (λ opened. LieInRow 16 opened.1.items (end_of opened.0)) }
         ensures seen { D.seen disk.new ≡ D.seen disk.old }
         ensures images { Keeps D.clock disk.old disk.new }
         ensures settled { D.settled disk.old → D.settled disk.new }

@@ -2,6 +2,7 @@ pub mod Short
 pub mod Journals
 pub mod Objects
 pub mod Placed
+pub mod Logged
 pub mod Taking
 pub mod Works
 pub mod Grown
@@ -10,3 +11,7 @@ pub mod Lists
 pub mod Stored
 pub mod Widened
 pub mod Sized
+pub mod Snocs
+pub mod Lying
+pub mod Again
+pub mod Fetched

@@ -1,5 +1,5 @@
 -- States that a record can spell, and their joins.
-use Rattle.std.proofs.Common.{◌≡◌, ⊎_elim, Bool, true, false, cond, Option, Some, None, refl, sym, subst, ◌∙◌, arith}
+use Rattle.std.proofs.Common.{◌≡◌, ⊎_elim, Bool, true, false, cond, Option, Some, None, refl, sym, ap, subst, ◌∙◌, arith}
 use Rattle.std.specs.FinMap as fin
 use Rattle.std.proofs.lemmas.Nat.{or_lt, le_or_r}
 use Rattle.mail_model.specs.Identity.{Key, State}
@@ -36,7 +36,7 @@ joined_object key a b x y = record {
   kind = later_is (IsOfKind key) a b x.kind y.kind;
 }
 
-join_object : (key : Key) (held : Option State) (state : State) → ((h : State) → held ≡ Some h → IsObject key h) → IsObject key state → IsObject key (join_with held state)
+pub join_object : (key : Key) (held : Option State) (state : State) → ((h : State) → held ≡ Some h → IsObject key h) → IsObject key state → IsObject key (join_with held state)
 join_object key None state x y = y
 join_object key (Some h) state x y = joined_object key h state (x h refl) y
 
@@ -57,3 +57,16 @@ taken_objects key state table all one other found is = ⊎_elim
     subst (λ (k : Key). IsObject k found) (sym same) (subst (IsObject key) joins (join_object key (fin.get table key) state (λ h held. all key h held) one)))
     (λ apart. all other found (sym (kept_other key_total key_exact table key (join_with (fin.get table key) state) other apart) ∙ is))
     (same_or other key)
+
+-- what stands after a table took the state is its join with what stood
+pub join_stands : (key : Key) (state joined : State) (table new : Table) → new ≡ taken key state table → Some joined ≡ fin.get new key → joined ≡ join_with (fin.get table key) state
+join_stands key state joined table new is here =
+    same_some joined (join_with (fin.get table key) state)
+    (here ∙ ap (λ (t : Table). fin.get t key) is ∙ written key_total key_exact table key (join_with (fin.get table key) state))
+
+pub nothing_stands : (key : Key) (state : State) (table new : Table) → new ≡ taken key state table → None ≡ fin.get new key → ⊥
+nothing_stands key state table new is none =
+    clash (join_with (fin.get table key) state) (none ∙ ap (λ (t : Table). fin.get t key) is ∙ written key_total key_exact table key (join_with (fin.get table key) state))
+  where
+    clash : (s : State) → None ≡ Some s → ⊥
+    clash s e = cc

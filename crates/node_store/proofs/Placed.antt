@@ -10,7 +10,7 @@ use Rattle.replica_push.specs.Rules.{records_of}
 use Rattle.node_store.specs.Places.{Span, span_at, first, span_in}
 use Rattle.node_store.proofs.Journals.{frames_of}
 
-first_none : (a : Option Span) → first a None ≡ a
+pub first_none : (a : Option Span) → first a None ≡ a
 first_none None = refl
 first_none (Some span) = refl
 

@@ -19,7 +19,7 @@ use Rattle.replica_push.specs.Rules.{TableTells}
 use Rattle.node_store.specs.Disks.{View}
 use Rattle.node_store.specs.Appends.{AppendsRecords, StopsWithin}
 use Rattle.node_store.specs.Places.{span_of}
-use Rattle.node_store.specs.Keeps.{KeepsRecords, seen_with, HoldsObjects, CanGoOn}
+use Rattle.node_store.specs.Keeps.{KeepsRecords, seen_with, HoldsObjects, HoldsLogged, CanGoOn}
 use Rattle.node_store.specs.Changes.{IsNew, with_boot, retired_where, is_emptied, acked_by}
 use Rattle.update_log.specs.Answers.{answer_at}
 use Rattle.update_log.specs.declared.logged.Acked.{Acked}
@@ -44,10 +44,10 @@ module _ {D : Type 0} (on : View D) (f : Store → Store) (added : List Record) 
   pub silent_done : (new : NodeStore)
       → ((records : List Record) → KeepsRecords records old → (f (seen_with old records)).disk ≡ records ++ added)
       → ((records : List Record) → KeepsRecords records old → (f (seen_with old records)).log ≡ new.log)
-      → StatesNone added → HasNone added → All IsRecord added → CanGoOn (on.seen before) old
+      → StatesNone added → HasNone added → All IsRecord added → HoldsLogged new.log → CanGoOn (on.seen before) old
       → new.own ≡ old.own → new.messages ≡ old.messages → new.objects ≡ old.objects
       → AppendsRecords on before after (end_of old.journal) (end_of new.journal) added → Done on f old before new after
-  silent_done new whole log states none fit sound own messages objects appends = record {
+  silent_done new whole log states none fit logged sound own messages objects appends = record {
     added = added;
     whole = whole;
     log = log;
@@ -59,7 +59,7 @@ module _ {D : Type 0} (on : View D) (f : Store → Store) (added : List Record) 
       fit = All-append IsRecord records added k.fit fit;
     };
     own = own;
-    sound = record { gate = appends.gate; objects = subst HoldsObjects (sym objects) sound.objects };
+    sound = record { gate = appends.gate; objects = subst HoldsObjects (sym objects) sound.objects; logged = logged };
     appends = appends;
   }
 
@@ -88,7 +88,7 @@ pub boot_done : {D : Type 0} (on : View D) (boot : ℕ) (old new : NodeStore) (b
     → AppendsRecords on before after (end_of old.journal) (end_of new.journal) (Boot boot ∷ []) → Done on (with_boot boot) old before new after
 boot_done on boot old new before after fits sound own messages objects log appends =
     silent_done on (with_boot boot) (Boot boot ∷ []) old before after new (λ records k. refl) (λ records k. sym log) (λ key held. refl) (λ id at. refl)
-    (All-cons IsRecord (Boot boot) [] fits (All-nil IsRecord)) sound own messages objects appends
+    (All-cons IsRecord (Boot boot) [] fits (All-nil IsRecord)) (subst HoldsLogged (sym log) sound.logged) sound own messages objects appends
 
 pub boot_stopped : {D : Type 0} (on : View D) (boot : ℕ) (old : NodeStore) (before after : D) → StopsWithin on before after (end_of old.journal) (Boot boot ∷ []) → IsCutShort on (with_boot boot) old before after
 boot_stopped on boot old before after s = silent_stopped on (with_boot boot) (Boot boot ∷ []) old before after (λ records k. refl) s
@@ -129,10 +129,10 @@ retired_placed key state false id at = refl
 module _ {D : Type 0} (on : View D) (key : Key) (state : State) (f : Store → Store) (b : Bool) (old : NodeStore) (before after : D)
     (adds : (records : List Record) → KeepsRecords records old → (f (seen_with old records)).disk ≡ records ++ retired_where key state b) where
   pub retired_done : (new : NodeStore) → ((records : List Record) → KeepsRecords records old → (f (seen_with old records)).log ≡ new.log)
-      → IsObject key state → CanGoOn (on.seen before) old → new.own ≡ old.own → new.messages ≡ old.messages → new.objects ≡ old.objects
+      → IsObject key state → HoldsLogged new.log → CanGoOn (on.seen before) old → new.own ≡ old.own → new.messages ≡ old.messages → new.objects ≡ old.objects
       → AppendsRecords on before after (end_of old.journal) (end_of new.journal) (retired_where key state b) → Done on f old before new after
-  retired_done new log one sound own messages objects a =
-      silent_done on f (retired_where key state b) old before after new adds log (retired_silent key state b) (retired_placed key state b) (retired_fit key state b one) sound own messages objects a
+  retired_done new log one logged sound own messages objects a =
+      silent_done on f (retired_where key state b) old before after new adds log (retired_silent key state b) (retired_placed key state b) (retired_fit key state b one) logged sound own messages objects a
 
   pub retired_stopped : StopsWithin on before after (end_of old.journal) (retired_where key state b) → IsCutShort on f old before after
   retired_stopped s = silent_stopped on f (retired_where key state b) old before after adds s

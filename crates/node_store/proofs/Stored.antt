@@ -1,13 +1,13 @@
 -- A store that stores octets does what the machine's node does.
-use Rattle.std.proofs.Common.{◌≡◌, ℕ, ◌+◌, List, [], ◌∷◌, ◌++◌, length, Bool, true, false, cond, not, ◌&&◌, Option, Some, None, refl, sym, ap, subst, ◌∙◌, arith, append-nil, true≢false, if◌then◌else◌}
-use Rattle.std.specs.Prelude.{All, option_map, is_some}
+use Rattle.std.proofs.Common.{◌≡◌, ℕ, ◌+◌, List, [], ◌∷◌, ◌++◌, length, Bool, true, false, not, ◌&&◌, Option, Some, None, refl, sym, ap, subst, ◌∙◌, arith, append-nil, true≢false, if◌then◌else◌}
+use Rattle.std.specs.Prelude.{option_map, is_some}
 use Rattle.std.specs.List.{list_any}
 use Rattle.std.specs.FinMap as fin
 use Rattle.std.specs.Ordering.{eq_by_cmp}
 use Rattle.std.specs.Cmp.{tied_itself, Equal-is}
 use Rattle.std.proofs.lemmas.List.{length-append}
 use Rattle.std.proofs.lemmas.List.Elements.{All-nil, All-cons, All-append}
-use Rattle.mail_model.specs.Identity.{Id, Key, State}
+use Rattle.mail_model.specs.Identity.{Id}
 use Rattle.mail_model.specs.Identity.Key.{Message}
 use Rattle.mail_model.specs.Grammar.{IsRecord, IsId}
 use Rattle.mail_model.specs.Listing.{is_same_id, octets_in}
@@ -20,15 +20,14 @@ use Rattle.mail_base.specs.Orders.{id_cmp, id_total}
 use Rattle.object_table.specs.Tables.{Table}
 use Rattle.replica_push.specs.Rules.{TableTells}
 use Rattle.cluster_model.specs.Store.{Store, is_wanted, with_octets}
-use Rattle.cluster_model.specs.Makes.{IsWorkCut}
 use Rattle.disk_journal.specs.Journal.{end_of}
 use Rattle.disk_journal.specs.declared.place.Place.{Place}
 use Rattle.message_store.specs.Places.{place_of, first_of}
 use Rattle.message_store.specs.Files.{Notes}
 use Rattle.node_store.specs.Disks.{View}
-use Rattle.node_store.specs.Appends.{AppendsRecords, StopsAfter, StopsWithin}
-use Rattle.node_store.specs.Places.{Span, span_of, span_at, first, span_in}
-use Rattle.node_store.specs.Keeps.{KeepsRecords, seen_with, HoldsObjects, CanGoOn}
+use Rattle.node_store.specs.Appends.{AppendsRecords, StopsWithin}
+use Rattle.node_store.specs.Places.{Span, span_of, first, span_in}
+use Rattle.node_store.specs.Keeps.{KeepsRecords, HoldsObjects, HoldsLogged, CanGoOn}
 use Rattle.node_store.specs.Changes.{with_stored}
 use Rattle.node_store.specs.Wanted.{wants_octets}
 use Rattle.node_store.specs.Writes.{Done, IsCutShort}
@@ -184,6 +183,6 @@ module _ {D : Type 0} (on : View D) (id : Id) (users : List (List ℕ)) (octets 
       fit = All-append IsRecord records (Octets id octets ∷ []) k.fit (All-cons IsRecord (Octets id octets) [] fits (All-nil IsRecord));
     };
     own = own;
-    sound = record { gate = a.gate; objects = subst HoldsObjects (sym objects) sound.objects };
+    sound = record { gate = a.gate; objects = subst HoldsObjects (sym objects) sound.objects; logged = subst HoldsLogged (sym log) sound.logged };
     appends = a;
   }

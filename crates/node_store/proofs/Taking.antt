@@ -20,11 +20,12 @@ use Rattle.replica_push.specs.Rules.{TableTells, records_of, settled, IsTakenByR
 use Rattle.replica_push.proofs.Follows.{pushes_follow}
 use Rattle.node_store.specs.Disks.{View}
 use Rattle.node_store.specs.Appends.{AppendsRecords, StopsWithin}
-use Rattle.node_store.specs.Keeps.{KeepsRecords, seen_with, HoldsObjects, CanGoOn}
+use Rattle.node_store.specs.Keeps.{KeepsRecords, seen_with, HoldsObjects, HoldsLogged, CanGoOn}
 use Rattle.node_store.specs.Writes.{Done, IsCutShort}
 use Rattle.node_store.specs.declared.store.NodeStore.{NodeStore}
 use Rattle.node_store.proofs.Journals.{frames_of, length-frames-append}
 use Rattle.node_store.proofs.Objects.{news_object, taken_objects}
+use Rattle.node_store.proofs.Logged.{noted_logged}
 use Rattle.node_store.proofs.Placed.{still_placed, states_have_none}
 
 -- the journal ends after what it held and what was added
@@ -69,7 +70,11 @@ module _ {D : Type 0} (on : View D) (key : Key) (state : State) (old : NodeStore
       fit = All-append IsRecord records (records_of old.own key news) k.fit (fit_records old.own key news (λ next is. news_object key state next old.objects sound.objects object is));
     };
     own = same_own;
-    sound = record { gate = appends.gate; objects = subst HoldsObjects (sym objects) (taken_objects key state old.objects sound.objects object) };
+    sound = record {
+      gate = appends.gate;
+      objects = subst HoldsObjects (sym objects) (taken_objects key state old.objects sound.objects object);
+      logged = subst HoldsLogged (sym log) (noted_logged old.own key news old.log sound.logged (λ next is. news_object key state next old.objects sound.objects object is));
+    };
     appends = appends;
   }
 

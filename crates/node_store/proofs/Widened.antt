@@ -1,15 +1,14 @@
 -- A copy that gets a target more, as the machine's node does it.
-use Rattle.std.proofs.Common.{◌≡◌, ℕ, List, ◌<◌, ◌≤◌, ◌^◌, Bool, true, false, not, ◌&&◌, cond, Option, Some, None, refl, sym, ap, subst, ◌∙◌, arith}
+use Rattle.std.proofs.Common.{◌≡◌, ℕ, List, ◌<◌, ◌^◌, Bool, true, false, not, ◌&&◌, cond, Option, Some, None, refl, sym, ap, subst, ◌∙◌, arith}
 use Rattle.std.specs.FinMap as fin
 use Rattle.std.proofs.lemmas.Nat.{le_or_l}
 use Rattle.mail_model.specs.Identity.{Key, State}
 use Rattle.mail_model.specs.Grammar.{IsObject}
 use Rattle.mail_model.specs.Listing.{is_here}
 use Rattle.mail_model.specs.Record.{Record}
-use Rattle.object_model.specs.Said.{said}
 use Rattle.object_model.specs.Sets.{has, with_node, one_node}
 use Rattle.object_table.specs.Tables.{Table}
-use Rattle.cluster_model.specs.Store.{Store, take_one}
+use Rattle.cluster_model.specs.Store.{take_one}
 use Rattle.replica_push.specs.Pushes.{wider, wider_of}
 use Rattle.node_store.specs.Disks.{View}
 use Rattle.node_store.specs.Keeps.{KeepsRecords, seen_with, HoldsObjects, CanGoOn}

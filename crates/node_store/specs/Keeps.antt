@@ -5,6 +5,7 @@ use Rattle.mail_model.specs.Identity.{Id, Key, State}
 use Rattle.mail_model.specs.Grammar.{IsRecord, IsObject}
 use Rattle.mail_model.specs.Record.{Record, journal_of, payloads_of}
 use Rattle.cluster_model.specs.Store.{Store}
+use Rattle.object_model.specs.UpdateLog.{Logged, Log}
 use Rattle.disk_journal.specs.Journal.{end_of, HasGate}
 use Rattle.message_store.specs.Places.{place_of}
 use Rattle.object_table.specs.Tables.{Table}
@@ -27,7 +28,12 @@ seen_with store records = record { log = store.log; disk = records }
 abbrev pub HoldsObjects : Table → Type 0
 HoldsObjects table = (key : Key) (state : State) → fin.get table key ≡ Some state → IsObject key state
 
+-- so it can of each entry of a log
+abbrev pub HoldsLogged : Log → Type 0
+HoldsLogged log = (key : Key) (entry : Logged) → fin.get log key ≡ Some entry → IsObject key entry.state
+
 -- What holds of each store that is up: it can go on, whatever its records are.
 pub record CanGoOn (seen : Option (List ℕ)) (store : NodeStore) : Type 0 where
   pub gate : HasGate seen (end_of store.journal)
   pub objects : HoldsObjects store.objects
+  pub logged : HoldsLogged store.log

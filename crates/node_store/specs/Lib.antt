@@ -5,3 +5,7 @@ pub mod Keeps
 pub mod Writes
 pub mod Changes
 pub mod Wanted
+pub mod Recovers
+pub mod Reopens
+pub mod Reads
+pub mod Rereads

@@ -26,7 +26,7 @@ use std::alloc::{AllocError, Global};
 use update_log::UpdateLog;
 
 /// Whether no other node is a target.
-fn is_alone(state: &ObjState, own: NodeNo) -> bool
+pub(crate) fn is_alone(state: &ObjState, own: NodeNo) -> bool
     ensures { result ≡ nat_eq (without_node state.now.targets own) 0 }
 {
     state.targets.without(own) == NodeSet::empty()

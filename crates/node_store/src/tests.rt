@@ -1,4 +1,6 @@
 // A store over a disk in memory: what each call records and tells.
+mod opening;
+
 use crate::NodeStore;
 use io_edge::PlainDisk;
 use mail_base::{Key, MsgId, Name, NodeNo, NodeSet, ObjState, Stamp, StrikeMark, Value};

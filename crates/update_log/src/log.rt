@@ -177,8 +177,9 @@ impl UpdateLog {
         }
     }
 
-    // Takes the entry of the object out.
-    fn forget(&mut self, key: &Key)
+    /// Takes the entry of the object out, whatever its state. It takes no memory, and time logarithmic in the number of
+    /// entries.
+    pub fn forget(&mut self, key: &Key)
         ensures { self.new ≡ fin.remove self.old (key_seen key.now) }
     {
         take_out(&mut self.entries, key);

@@ -1,12 +1,13 @@
 use Rattle.std.proofs.Common.{ℕ, ◌≡◌, List, length, Option, IfSome, subst, sym, ◌∙◌}
 use Rattle.std.proofs.lemmas.Result.{err_from_is_err_and}
 use Rattle.io_edge.proofs.Passing.{then_kept}
-use Rattle.disk_journal.proofs.Frames.{told_header, told_more, told_end, open_fails}
+use Rattle.disk_journal.proofs.Frames.{row_first, row_next, told_header, told_more, told_end, open_fails}
 use Rattle.disk_journal.proofs.journal.Journal.open.Goals as goal
 
 pub loop-places-init : goal.loop-places-init
 loop-places-init g c = record {
   read = told_header _ _ c.args.node _ c.len.ensures.seen c.new-places.ensures.items c.in_ok-read_header.ensures.header.0;
+  row = row_first _ c.new-places.ensures.items;
   size = c.in_ok-total.ensures.length;
   within = c.in_ok-read_header.ensures.long;
   seen = c.read_header.ensures.seen ∙ c.len.ensures.seen;
@@ -33,9 +34,11 @@ pub loop-places-preserved : goal.loop-places-preserved
 loop-places-preserved g c =
     let inv = c.loop-places.invariant in
     let found = rw c.in-Some.is at c.in_ok-place.ensures.found in
+    let begins = rw c.in-Some.is at c.in_ok-place.ensures.begins in
     let within = rw c.in-Some.is at c.in_ok-place.ensures.within in
     record {
       read = told_more _ _ c.args.node _ _ _ c.in-Some.place inv.seen c.in-Ok.ensures.items inv.read found.0;
+      row = row_next _ _ c.in-Some.place _ inv.row c.in-Ok.ensures.items begins;
       size = inv.size;
       within = within;
       seen = c.record_at.ensures.seen ∙ inv.seen;

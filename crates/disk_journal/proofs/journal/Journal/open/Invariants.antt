@@ -1,5 +1,6 @@
 use Rattle.std.proofs.Common.{◌≡◌, ◌≤◌, ◌-◌, IfSome, length}
 use Rattle.io_edge.specs.Moments.{Keeps}
+use Rattle.disk_journal.specs.Reading.{LieInRow}
 use Rattle.disk_journal.proofs.Frames.{HasRead}
 use Rattle.disk_journal.proofs.journal.Journal.open.Given as goal
 
@@ -7,6 +8,7 @@ use Rattle.disk_journal.proofs.journal.Journal.open.Given as goal
 abbrev pub invariant-loop-places : goal.invariant-loop-places
 invariant-loop-places g l = record {
   read : IfSome (g.D.Disk.seen l.fn.disk) (λ held. HasRead l.fn.node held l.end l.places.items);
+  row : LieInRow 16 l.places.items l.end;
   size : IfSome (g.D.Disk.seen l.fn.disk) (λ held. l.total ≡ length held);
   within : l.end ≤ l.total;
   seen : g.D.Disk.seen l.disk ≡ g.D.Disk.seen l.fn.disk;

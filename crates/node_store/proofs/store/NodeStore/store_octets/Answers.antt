@@ -1,6 +1,5 @@
-use Rattle.std.proofs.Common.{◌≡◌, ◌∙◌, ℕ, ◌+◌, List, ◌++◌, false, true, sym, ap, refl, arith, length}
+use Rattle.std.proofs.Common.{◌≡◌, ◌∙◌, ℕ, List, ◌++◌, false, true, sym, ap, refl, arith, length}
 use Rattle.std.proofs.lemmas.Result.{err_from_is_err_and}
-use Rattle.mail_model.specs.Record.{payload_of}
 use Rattle.mail_model.specs.Record.Record.{Octets}
 use Rattle.message_store.specs.Places.{place_of}
 use Rattle.disk_journal.specs.Journal.{end_of}

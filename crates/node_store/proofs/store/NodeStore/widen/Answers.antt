@@ -1,8 +1,6 @@
-use Rattle.std.proofs.Common.{◌∙◌, sym}
-use Rattle.std.proofs.lemmas.Result.{err_from_is_err_and}
 use Rattle.mail_base.specs.Seen.{key_seen}
 use Rattle.node_store.specs.Disks.{view_of}
-use Rattle.node_store.proofs.Widened.{wider_object, none_wider, wider_done, wider_stopped}
+use Rattle.node_store.proofs.Widened.{wider_object, none_wider}
 use Rattle.node_store.proofs.store.NodeStore.widen.Goals as goal
 
 pub take-requires-clause-object : goal.take-requires-clause-object
