@@ -13,8 +13,8 @@ use Rattle.session_model.specs.Acts.{Act, Acted}
 use Rattle.session_model.specs.Logs.{Asked, asked_by, answered_by}
 use Rattle.session_model.specs.Turns as turns
 use Rattle.session_model.specs.Turns.{Turn, Next}
-use Rattle.session_model.specs.Run.{Made, Stop, made_by, failed_by, failed_in, MayHaveAsked}
-use Rattle.session_model.specs.Run.Stop.{SinkFailed, OutOfMemory, BehindLine}
+use Rattle.session_model.specs.Run.{Made, Stop, made_by, MayHaveAsked}
+use Rattle.session_model.specs.Run.Stop.{SinkFailed, OutOfMemory, BehindLine, Denied}
 use Rattle.cluster_world.specs.Outcomes.{Outcome, made_of, asked_by_outcome, answered_by_outcome}
 use Rattle.drive_tape.specs.declared.entry.WriteStop.{WriteStop}
 use Rattle.drive_tape.specs.Entries.{WritesEntries}
@@ -54,7 +54,7 @@ work_none plan p = record {
   goes = (refl, refl);
   linked = record { made = refl; asked = refl; answered = refl };
   came = sym (append-nil p.outcomes);
-  failed = sym (append-nil p.down);
+  been = sym (append-nil p.been);
   gave = appends_none p.held;
 }
 
@@ -67,8 +67,7 @@ work_more plan p q r one two = record {
   goes = goes_more plan _ _ one.acts one.outputs _ _ two.acts two.outputs _ _ one.goes two.goes;
   linked = linked_more one.acts two.acts one.outcomes two.outcomes [] [] one.linked two.linked;
   came = two.came ∙ ap (λ l. l ++ two.outcomes) one.came ∙ append_assoc p.outcomes one.outcomes two.outcomes;
-  failed = two.failed ∙ ap (λ l. l ++ failed_in two.acts) one.failed ∙ append_assoc p.down (failed_in one.acts) (failed_in two.acts)
-      ∙ ap (λ l. p.down ++ l) (sym (flat_map-append failed_by one.acts two.acts));
+  been = two.been ∙ ap (λ l. l ++ two.acts) one.been ∙ append_assoc p.been one.acts two.acts;
   gave = subst (Appends p.held r.held) (sym (ap written_of (all_more one.outputs two.outputs) ∙ written_more (all_of one.outputs) (all_of two.outputs))) (appends_more _ _ _ _ _ one.gave two.gave);
 }
 
@@ -129,15 +128,15 @@ cut_none plan p = record {
 
 -- all of it is written
 pub work_act : (plan : Plan) (p q : Point) (act : Act) (entries : List Entry) (outcomes : List Outcome) → OneAct plan p act entries outcomes q.turn q.sessions
-    → q.outcomes ≡ p.outcomes ++ outcomes → q.down ≡ p.down ++ failed_by act → Appends p.held q.held (written_of entries) → Work plan p q
-work_act plan p q act entries outcomes one came failed gave = record {
+    → q.outcomes ≡ p.outcomes ++ outcomes → q.been ≡ p.been ++ act ∷ [] → Appends p.held q.held (written_of entries) → Work plan p q
+work_act plan p q act entries outcomes one came been gave = record {
   acts = act ∷ [];
   outputs = entries ∷ [];
   outcomes = outcomes;
   goes = (q.turn, q.sessions, one.next, one.acted, (refl, refl));
   linked = one.linked;
   came = came;
-  failed = failed ∙ ap (λ l. p.down ++ l) (sym (append-nil (failed_by act)));
+  been = been;
   gave = subst (λ es. Appends p.held q.held (written_of es)) (sym (append-nil entries)) gave;
 }
 
@@ -171,3 +170,4 @@ cut_act plan p act entries outcomes turn sessions stop held front missing cut on
     nothing_more OutOfMemory t ss = inl refl
     nothing_more SinkFailed t ss = refl
     nothing_more BehindLine t ss = refl
+    nothing_more Denied t ss = refl

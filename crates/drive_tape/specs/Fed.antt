@@ -1,15 +1,36 @@
 -- What the first act of a line needs.
-use Rattle.std.specs.Prelude.{◌≡◌, ◌⊎◌, ◌+◌, ◌<◌, ◌≤◌, ℕ, List, ⊤, length, slice_get, Option, Some, None, Result, Ok, Err}
+use Rattle.std.specs.Prelude.{◌≡◌, ◌≢◌, false, not, nat_le, ◌⊎◌, ◌+◌, ◌<◌, ◌≤◌, ℕ, List, [], ◌∷◌, ◌++◌, ⊤, length, slice_get, Option, Some, None, Result, Ok, Err}
+use Rattle.object_model.specs.Letters.{Number}
 use Rattle.mail_model.specs.Lines.{sent_line}
 use Rattle.mail_model.specs.Plan.{Plan}
+use Rattle.mail_model.specs.Site as site
 use Rattle.mail_model.specs.Tape as tape
 use Rattle.mail_model.specs.Tape.{Order, tape_order}
-use Rattle.mail_model.specs.Tape.Order.{Open, Say, Feed}
-use Rattle.session_model.specs.Talk.{IsOn}
+use Rattle.mail_model.specs.Tape.Order.{Open, Say, Feed, Close, GiveUp, Moves}
+use Rattle.session_model.specs.Calls as calls
+use Rattle.session_model.specs.Talk.{Exchange, TalkState, IsOn}
+use Rattle.session_model.specs.Talk.Standing.{Waiting}
+use Rattle.session_model.specs.Events.{IsEventOf, failed_by_event}
+use Rattle.session_model.specs.Events.NodeLife.{Up}
+use Rattle.session_model.specs.Acts.{Act}
+use Rattle.session_model.specs.Acts.Act.{Abandons, Makes}
+use Rattle.session_model.specs.Lives.{life_after, failed_in}
 use Rattle.session_model.specs.Sessions.{Session}
-use Rattle.session_model.specs.Run.{refusal}
+use Rattle.session_model.specs.Turns.{Waits}
+use Rattle.session_model.specs.Run.{refusal, cluster_refusal, work_fault, can_serve, fault_if, is_no_node, count_on}
+use Rattle.node_store.specs.Disks.{View}
+use Rattle.cluster_world.specs.Outcomes.{Outcome, Awaited, StepMade, left_after, without_session}
+use Rattle.cluster_world.specs.Outcomes.Outcome.{GaveUp, Abandoned, Moved}
+use Rattle.cluster_world.specs.Worlds.{life_of}
+use Rattle.cluster_world.specs.declared.world.World.{World}
+use Rattle.drive_tape.specs.declared.cluster.Cluster.{Cluster}
+use Rattle.drive_tape.specs.declared.event.ClusterEvent.{ClusterEvent}
 use Rattle.drive_tape.specs.Faults.{tape_fault_seen}
-use Rattle.drive_tape.specs.Points.{Point}
+use Rattle.drive_tape.specs.Happenings.{event_seen, fallen_by}
+use Rattle.drive_tape.specs.Moved.{Happened}
+use Rattle.drive_tape.specs.Points.{Point, IsAtPoint}
+use Rattle.drive_tape.specs.Talks.{Converse, HasOwnTicket, StandsOnNode, EachSession, nodes_of}
+use Rattle.drive_tape.specs.Worlds.{WorldIsAt, AreLives, HasCauses}
 use Rattle.drive_tape.specs.declared.drove.TapeFault.{TapeFault}
 
 -- the order gives session k these octets
@@ -25,7 +46,69 @@ pub record IsFeedingAt (p : Point) (line : List ℕ) (place : ℕ) (octets : Lis
   pub here : slice_get p.sessions place ≡ Some plain
   pub on : IsOn plain.standing
 
--- whether a session may be opened at this node
-abbrev pub Admits : Plan → Point → tape.Protocol → ℕ → Result ℕ TapeFault → ℕ → Type 0
-Admits plan p protocol node (Ok only) standing = (only ≡ 1) × (node ≡ 1) × (standing < 256) × (refusal plan p.down p.sessions (Open protocol node) ≡ None)
-Admits plan p protocol node (Err fault) standing = refusal plan p.down p.sessions (Open protocol node) ≡ Some (tape_fault_seen fault)
+-- why a session may not be opened, the first that applies
+abbrev pub opening_fault : {D : Type 0} → Plan → Cluster D → tape.Protocol → ℕ → Option site.TapeFault
+opening_fault plan cluster protocol number =
+    tape.or_else (fault_if (not (can_serve plan protocol)) site.TapeFault.BadLine)
+    (tape.or_else (fault_if (is_no_node plan number) site.TapeFault.NoSuchNode)
+    (tape.or_else (work_fault (life_of cluster.world number)) (fault_if (nat_le 256 cluster.sessions.standing) site.TapeFault.TooManySessions)))
+
+-- whether a session may be opened at the node of this number: the node, in this boot; or why not
+abbrev pub AdmitsSession : {D : Type 0} → Plan → Cluster D → tape.Protocol → ℕ → Result (ℕ × ℕ) TapeFault → Type 0
+AdmitsSession plan cluster protocol number (Ok found) =
+    (found.0 ≡ number) × (life_of cluster.world number ≡ Up found.1) × (cluster.sessions.standing < 256) × (is_no_node plan number ≡ false)
+    × (opening_fault plan cluster protocol number ≡ None)
+AdmitsSession plan cluster protocol number (Err fault) = opening_fault plan cluster protocol number ≡ Some (tape_fault_seen fault)
+
+-- The session at this place has no call in progress, as the program sees it; the others are as they were at the point.
+pub record IsFreed {D : Type 0} (on : View D) (start : World D) (plan : Plan) (p : Point) (place : ℕ) (been : List Act) (outcomes : List Outcome) (awaited : List Awaited) (cluster : Cluster D) : Type 0 where
+  pub plain : Session
+  pub here : slice_get p.sessions place ≡ Some plain
+  pub on_still : IsOn plain.standing
+  pub at : WorldIsAt on start (p.outcomes ++ outcomes) awaited cluster.world
+  pub talks : Converse cluster.sessions.talkers.items p.sessions
+  pub nodes : cluster.sessions.nodes.items ≡ nodes_of p.sessions
+  pub others : (i : ℕ) (session : Session) → slice_get p.sessions i ≡ Some session → i ≢ place → HasOwnTicket cluster.sessions.calls.items awaited i session
+  pub none : slice_get cluster.sessions.calls.items place ≡ Some None
+  pub count : cluster.sessions.standing ≡ count_on p.sessions
+  pub lives : AreLives plan (p.been ++ been) cluster.world
+  pub up : EachSession (λ i session. StandsOnNode plan (p.been ++ been) session) p.sessions
+  pub causes : HasCauses on start (failed_in (p.been ++ been)) cluster.world
+
+-- nothing was done yet for the session; or its call was given up
+abbrev pub IsGivenUpFirst : Point → ℕ → Session → List Act → List Outcome → List Awaited → Type 0
+IsGivenUpFirst p place plain been outcomes awaited =
+    ((been ≡ []) × (outcomes ≡ []) × (awaited ≡ p.awaited) × (Waits (Some plain) → ⊥))
+    ⊎ ((been ≡ Abandons (place + 1) ∷ []) × Waits (Some plain) × (awaited ≡ without_session (place + 1) p.awaited)
+    × ((asked : calls.Call) × (ticket : Number) × (outcomes ≡ Abandoned (place + 1) asked ticket ∷ [])))
+
+-- a line closes the session at this place, whose call is not in progress any more
+pub record IsClosingAt {D : Type 0} (on : View D) (start : World D) (plan : Plan) (p : Point) (line : List ℕ) (place : ℕ) (cluster : Cluster D) : Type 0 where
+  pub spelled : tape_order line ≡ Some (Close (place + 1))
+  pub been : List Act
+  pub outcomes : List Outcome
+  pub awaited : List Awaited
+  pub freed : IsFreed on start plan p place been outcomes awaited cluster
+  pub first : IsGivenUpFirst p place freed.plain been outcomes awaited
+
+-- a line gave up the call of the session at this place, which is not told so yet
+pub record IsGivingUpAt {D : Type 0} (on : View D) (start : World D) (plan : Plan) (p : Point) (line : List ℕ) (place : ℕ) (cluster : Cluster D) : Type 0 where
+  pub spelled : tape_order line ≡ Some (GiveUp (place + 1))
+  pub call : calls.Call
+  pub ticket : Number
+  pub freed : IsFreed on start plan p place [] (GaveUp (place + 1) call ticket ∷ []) (without_session (place + 1) p.awaited) cluster
+  pub state : TalkState
+  pub waits : freed.plain.standing ≡ Waiting state call
+  pub before : List Exchange
+  pub last : Exchange
+  pub heard : freed.plain.whole ≡ before ++ last ∷ []
+
+-- The steps of a line that moves the cluster were made, and this came of them; nothing was written yet, and no session has fallen.
+pub record Happens {D : Type 0} (on : View D) (start : World D) (plan : Plan) (p : Point) (line : List ℕ) (event : ClusterEvent) (cluster : Cluster D) : Type 0 where
+  pub old : Cluster D
+  pub order : tape.ClusterOrder
+  pub spelled : tape_order line ≡ Some (Moves order)
+  pub accepted : refusal plan p.been p.sessions (Moves order) ≡ None
+  pub shows : IsAtPoint on start plan old p
+  pub sessions : cluster.sessions ≡ old.sessions
+  pub happened : Happened on start p.outcomes p.awaited p.been old.world order event cluster.world

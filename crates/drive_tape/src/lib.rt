@@ -94,10 +94,15 @@
 
 mod calls;
 mod cluster;
+mod denial;
 mod driver;
 mod drove;
 mod entry;
+mod event;
 mod lines;
+mod moved;
+mod open_call;
+mod orders;
 mod plan_head;
 mod reader;
 mod reply;

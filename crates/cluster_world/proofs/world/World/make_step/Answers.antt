@@ -1,24 +1,56 @@
-use Rattle.cluster_world.proofs.Completes.{answers, begins}
-use Rattle.cluster_world.proofs.Quiet.{quiet_begun, quiet_asked}
-use Rattle.cluster_world.proofs.Shown.{shown_begun, shown_asked}
+use Rattle.std.proofs.Common.{◌≡◌, Err, Ok, refl, sym, ◌∙◌, subst}
+use Rattle.node_store.specs.Disks.{view_of}
+use Rattle.cluster_world.specs.Worlds.{state_of, state_with}
+use Rattle.cluster_world.specs.Steps.{StepDid}
+use Rattle.cluster_world.specs.declared.step.Said.TheVariants.{Done}
+use Rattle.cluster_world.proofs.Same.{none_done}
+use Rattle.cluster_world.proofs.Refused.{refused_did}
 use Rattle.cluster_world.proofs.world.World.make_step.Goals as goal
 
-pub returns-in-Begin-clause-gate : goal.returns-in-Begin-clause-gate
-returns-in-Begin-clause-gate g c = shown_begun g.D.Disk.seen g.D.Disk.faults _ _ c.requires.gate _ _ _ c.begin.ensures.did
+pub returns-in-Some-clause-did : goal.returns-in-Some-clause-did
+returns-in-Some-clause-did g c =
+    let w = c.args.self.now in
+    refused_did (view_of g.D.Disk.seen g.D.Disk.faults g.D.Disk.clock) (state_of w) (w.nodes.disk_each ∙ sym w.nodes.all) w.nodes.all c.args.step c.in-Some.fault (sym c.in-Some.ensures)
 
-pub returns-in-Ask-clause-gate : goal.returns-in-Ask-clause-gate
-returns-in-Ask-clause-gate g c = shown_asked g.D.Disk.seen g.D.Disk.faults _ _ c.requires.gate _ _ c.ask.ensures.did
+pub returns-in-Ask-clause-did : goal.returns-in-Ask-clause-did
+returns-in-Ask-clause-did g c =
+    subst (λ s. StepDid (view_of g.D.Disk.seen g.D.Disk.faults g.D.Disk.clock) c.ask_for.result s (state_of c.args.self.now) (state_with c.ask_for.new.nodes c.args.self.now.flying c.args.self.now.seconds c.ask_for.new.book))
+    (sym c.in-Ask.is) (c.ask_for.ensures.did c.args.self.now.flying c.args.self.now.seconds)
 
-pub returns-in-Begin-clause-completes : goal.returns-in-Begin-clause-completes
-returns-in-Begin-clause-completes g c =
-    rw c.in-Begin.is (begins g.D.Disk.seen g.D.Disk.faults _ _ _ _ _ c.begin.ensures.did)
+pub returns-in-GiveUp-clause-did : goal.returns-in-GiveUp-clause-did
+returns-in-GiveUp-clause-did g c =
+    subst (λ s. StepDid (view_of g.D.Disk.seen g.D.Disk.faults g.D.Disk.clock) c.give_up_call.result s (state_of c.args.self.now) (state_with c.give_up_call.new.nodes c.args.self.now.flying c.args.self.now.seconds c.args.self.now.book))
+    (sym c.in-GiveUp.is) (c.give_up_call.ensures.did c.args.self.now.seconds c.args.self.now.book)
 
-pub returns-in-Ask-clause-completes : goal.returns-in-Ask-clause-completes
-returns-in-Ask-clause-completes g c =
-    rw c.in-Ask.is (answers g.D.Disk.seen g.D.Disk.faults _ _ _ _ c.ask.ensures.did)
+pub returns-in-Start-clause-did : goal.returns-in-Start-clause-did
+returns-in-Start-clause-did g c =
+    subst (λ s. StepDid (view_of g.D.Disk.seen g.D.Disk.faults g.D.Disk.clock) c.start_node.result s (state_of c.args.self.now) (state_with c.start_node.new.nodes c.args.self.now.flying c.args.self.now.seconds c.start_node.new.book))
+    (sym c.in-Start.is) (c.start_node.ensures.did c.args.self.now.seconds)
 
-pub returns-in-Begin-clause-quiet : goal.returns-in-Begin-clause-quiet
-returns-in-Begin-clause-quiet g c = quiet_begun g.D.Disk.seen g.D.Disk.faults _ _ _ _ _ c.begin.ensures.did
+pub returns-in-Drop-clause-did : goal.returns-in-Drop-clause-did
+returns-in-Drop-clause-did g c =
+    subst (λ s. StepDid (view_of g.D.Disk.seen g.D.Disk.faults g.D.Disk.clock) c.drop_letter.result s (state_of c.args.self.now) (state_with c.drop_letter.new.nodes c.drop_letter.new.flying c.args.self.now.seconds c.args.self.now.book))
+    (sym c.in-Drop.is) (c.drop_letter.ensures.did c.args.self.now.seconds c.args.self.now.book)
 
-pub returns-in-Ask-clause-quiet : goal.returns-in-Ask-clause-quiet
-returns-in-Ask-clause-quiet g c = λ up. quiet_asked g.D.Disk.seen g.D.Disk.faults _ _ _ _ c.ask.ensures.did
+pub returns-in-Crash-clause-did : goal.returns-in-Crash-clause-did
+returns-in-Crash-clause-did g c =
+    subst (λ s. StepDid (view_of g.D.Disk.seen g.D.Disk.faults g.D.Disk.clock) (Ok Done) s (state_of c.args.self.now) (state_with c.crash_node.new.nodes c.args.self.now.flying c.args.self.now.seconds c.crash_node.new.book))
+    (sym c.in-Crash.is) (c.crash_node.ensures.did c.args.self.now.flying c.args.self.now.seconds)
+
+pub returns-in-Lose-clause-did : goal.returns-in-Lose-clause-did
+returns-in-Lose-clause-did g c =
+    subst (λ s. StepDid (view_of g.D.Disk.seen g.D.Disk.faults g.D.Disk.clock) (Ok Done) s (state_of c.args.self.now) (state_with c.lose_node.new.nodes c.args.self.now.flying c.args.self.now.seconds c.lose_node.new.book))
+    (sym c.in-Lose.is) (c.lose_node.ensures.did c.args.self.now.flying c.args.self.now.seconds)
+
+pub returns-in-GiveUp-clause-did : goal.returns-in-GiveUp-clause-did
+returns-in-GiveUp-clause-did g c =
+    subst (λ s. StepDid (view_of g.D.Disk.seen g.D.Disk.faults g.D.Disk.clock) c.give_up_call.result s (state_of c.args.self.now) (state_with c.give_up_call.new.nodes c.args.self.now.flying c.args.self.now.seconds c.args.self.now.book))
+    (sym c.in-GiveUp.is) (c.give_up_call.ensures.did c.args.self.now.seconds c.args.self.now.book)
+
+pub returns-in-Start-clause-did : goal.returns-in-Start-clause-did
+returns-in-Start-clause-did g c =
+    subst (λ s. StepDid (view_of g.D.Disk.seen g.D.Disk.faults g.D.Disk.clock) c.start_node.result s (state_of c.args.self.now) (state_with c.start_node.new.nodes c.args.self.now.flying c.args.self.now.seconds c.start_node.new.book))
+    (sym c.in-Start.is) (c.start_node.ensures.did c.args.self.now.seconds)
+
+pub returns : goal.returns
+returns g c = record { ready = c.requires.ready; did = none_done _ _ c.args.step; settled = λ s. s; steps = refl }

@@ -1,0 +1,15 @@
+pub mod Lists
+pub mod Fitting
+pub mod Doing
+pub mod Sending
+pub mod Acking
+pub mod Everyone
+pub mod Heard
+pub mod Strikes
+pub mod StrikesBegun
+pub mod Parts
+pub mod Rooms
+pub mod Delivery
+pub mod Begun
+pub mod Restarting
+pub mod Widening

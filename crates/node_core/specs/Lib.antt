@@ -1,0 +1,16 @@
+pub mod Striking
+pub mod Reading
+pub mod Delivering
+pub mod Failing
+pub mod Weights
+pub mod Filed
+pub mod Answering
+pub mod Naming
+pub mod Standing
+pub mod Nodes
+pub mod Spelling
+pub mod Works
+pub mod Hearing
+pub mod Beginning
+pub mod Pushing
+pub mod Starting
