@@ -27,6 +27,8 @@ fn fed_by(alloc: Global, wanted: u64, order: &Order<'_>) -> Result<Vec<u8>, Allo
         | Order::Feed { .. }
         | Order::Open { .. }
         | Order::Close { .. }
+        | Order::GiveUp { .. }
+        | Order::Moves(_)
         | Order::End => Ok(Vec::new(alloc)),
     }
 }

@@ -43,10 +43,12 @@
 //! that are retired; a profile that is retired cannot be written down.
 #![tactic(auto)]
 
+mod cluster_line;
 mod fed;
 mod item;
 mod listing;
 mod marks;
+mod names;
 mod numbers;
 mod pieces;
 mod pop;

@@ -1,9 +1,10 @@
 // Parts of a command line, of either protocol.
 ghost use Rattle.std.specs.Prelude.{◌≡◌, ◌≤◌, IfOk, length, nat_eq};
 ghost use Rattle.std.specs.List.{position_or_len};
+ghost use Rattle.std.specs.Option.{option_copied};
 ghost use Rattle.mail_model.specs.Names.{begins_with};
 ghost use Rattle.mail_model.specs.Smtp.{is_blank, trimmed, verb_of, rest_of, is_word, unspaced};
-ghost use Rattle.mail_model.specs.Tape.{behind_word, first_word, has_space};
+ghost use Rattle.mail_model.specs.Tape.{before_period, behind_period, behind_word, first_word, has_space, strip};
 
 use std::alloc::{AllocError, Global};
 
@@ -23,13 +24,20 @@ pub(crate) fn trimmed(line: &[u8]) -> &[u8]
     }
 }
 
-// How many octets stand before the first space; all where there is none.
+/// What follows the word at the head of the line; nothing where the line does not begin with the word.
+pub(crate) fn strip<'a>(word: &[u8], line: &'a [u8]) -> Option<&'a [u8]>
+    ensures { option_copied result ≡ strip word.now line.now }
+{
+    line.strip_prefix(word)
+}
+
+// How many octets stand before the first of this kind; all where there is none.
 #[tactic(auto, using(crate::proofs::Counts::counts))]
-fn len_to_space(line: &[u8]) -> usize
-    ensures len { result ≡ position_or_len (λ x. nat_eq x 32) line.now }
+fn len_to(stop: u8, line: &[u8]) -> usize
+    ensures len { result ≡ position_or_len (λ x. nat_eq x stop) line.now }
     ensures within { result ≤ length line.now }
 {
-    line.iter().take_while(|x| **x != b' ').count()
+    line.iter().take_while(|x| **x != stop).count()
 }
 
 /// The octets before the first space, and those from it on.
@@ -38,21 +46,40 @@ pub(crate) fn cut_at_space(line: &[u8]) -> (&[u8], &[u8])
     ensures verb { result.0.now ≡ verb_of line.now }
     ensures rest { result.1.now ≡ rest_of line.now }
 {
-    line.split_at(len_to_space(line))
+    line.split_at(len_to(b' ', line))
 }
 
 /// The octets before the first space; all where there is none.
 pub(crate) fn before_space(line: &[u8]) -> &[u8]
     ensures { result.now ≡ first_word line.now }
 {
-    &line[..len_to_space(line)]
+    &line[..len_to(b' ', line)]
 }
 
 /// The octets after the first space; none where there is none.
 pub(crate) fn after_space(line: &[u8]) -> &[u8]
     ensures { result.now ≡ behind_word line.now }
 {
-    let len = len_to_space(line);
+    let len = len_to(b' ', line);
+    if len < line.len() {
+        &line[len + 1..]
+    } else {
+        &line[len..]
+    }
+}
+
+/// The octets before the first period; all where there is none.
+pub(crate) fn before_period(line: &[u8]) -> &[u8]
+    ensures { result.now ≡ before_period line.now }
+{
+    &line[..len_to(b'.', line)]
+}
+
+/// The octets after the first period; none where there is none.
+pub(crate) fn after_period(line: &[u8]) -> &[u8]
+    ensures { result.now ≡ behind_period line.now }
+{
+    let len = len_to(b'.', line);
     if len < line.len() {
         &line[len + 1..]
     } else {

@@ -1,15 +1,12 @@
 // The command lines of POP3, read by the table of their grammar (RFC 1939, sections 3 to 7).
 ghost use Rattle.std.specs.Prelude.{◌≡◌, IfOk};
-ghost use Rattle.std.specs.List.{list_any};
-ghost use Rattle.mail_model.specs.Names.{is_name, is_no_name_octet};
 ghost use Rattle.mail_model.specs.Pop as pop;
 ghost use Rattle.mail_model.specs.Pop.{alone, mapped, maybe_number_in, number_in, pass_of, pop_command_of, user_command};
 ghost use Rattle.mail_plain.specs.SeenPop.{command_seen, faults_seen, seen};
 
+use crate::names::is_name;
 use crate::numbers::short_number;
-use crate::pieces::{
-    after_space, begins_with, cut_at_space, has_space, is_word, trimmed, unspaced,
-};
+use crate::pieces::{after_space, cut_at_space, has_space, is_word, trimmed, unspaced};
 use std::alloc::{AllocError, Global};
 
 /// A command, whose words are parts of its line.
@@ -42,27 +39,6 @@ pub enum Fault {
     BadArgument,
     /// One word follows where a number should, and it is none.
     BadNumber,
-}
-
-fn is_no_name_octet(x: u8) -> bool
-    ensures { result ≡ is_no_name_octet x }
-{
-    x < 0x21 || 0x7E < x || x == b'<' || x == b'>'
-}
-
-fn has_other_octet(octets: &[u8]) -> bool
-    ensures { result ≡ list_any is_no_name_octet octets.now }
-{
-    octets.iter().any(|x| is_no_name_octet(*x))
-}
-
-// 1 to 64 visible octets, none of them a bracket, and no `@` first.
-fn is_name(octets: &[u8]) -> bool
-    ensures { result ≡ is_name octets.now }
-{
-    !octets.is_empty()
-        && octets.len() <= 64
-        && !(begins_with(b'@', octets) || has_other_octet(octets))
 }
 
 fn user(rest: &[u8]) -> Result<Command<'_>, Fault>

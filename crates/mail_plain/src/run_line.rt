@@ -1,13 +1,14 @@
 // The run lines of a tape, read by the table of their forms.
 ghost use Rattle.std.specs.Prelude.{◌≡◌, codes, option_and_then, IfOk};
-ghost use Rattle.std.specs.Option.{option_copied, option_map};
+ghost use Rattle.std.specs.Option.{option_map};
 ghost use Rattle.mail_model.specs.Lines.{without_cr};
 ghost use Rattle.mail_model.specs.Tape as tape;
-ghost use Rattle.mail_model.specs.Tape.{close_line, end_line, feed_line, first_word, hex_octets, open_line, order_of, say_line, strip, tape_order};
+ghost use Rattle.mail_model.specs.Tape.{close_line, cluster_order_of, end_line, feed_line, first_word, giveup_line, hex_octets, open_line, order_of, say_line, strip, tape_order};
 ghost use Rattle.mail_plain.specs.SeenTape.{order_seen, protocol_seen};
 
+use crate::cluster_line::{ClusterOrder, cluster_order};
 use crate::numbers::number;
-use crate::pieces::{after_space, before_space};
+use crate::pieces::{after_space, before_space, strip};
 use hex::FromHexError;
 use std::alloc::{AllocError, Global};
 
@@ -21,7 +22,7 @@ pub(crate) enum Protocol {
 }
 
 /// A run line.
-#[derive(Debug, Drop, PartialEq, Eq)]
+#[derive(Debug, Drop)]
 pub(crate) enum Order<'a> {
     /// A session is opened at a node.
     Open { protocol: Protocol, node: u64 },
@@ -31,14 +32,12 @@ pub(crate) enum Order<'a> {
     Feed { session: u64, octets: Vec<u8> },
     /// A session is closed.
     Close { session: u64 },
+    /// The call that a session waits for is given up.
+    GiveUp { session: u64 },
+    /// The cluster itself is moved.
+    Moves(ClusterOrder),
     /// The tape ends.
     End,
-}
-
-fn strip<'a>(word: &[u8], line: &'a [u8]) -> Option<&'a [u8]>
-    ensures { option_copied result ≡ strip word.now line.now }
-{
-    line.strip_prefix(word)
 }
 
 fn without_cr(line: &[u8]) -> &[u8]
@@ -118,6 +117,24 @@ fn close(line: &[u8]) -> Option<Order<'_>>
     Some(Order::Close { session })
 }
 
+// `giveup K`
+fn give_up(line: &[u8]) -> Option<Order<'_>>
+    ensures { option_map order_seen result ≡ option_and_then giveup_line (strip (codes "giveup ") line.now) }
+{
+    let session = number(strip(b"giveup ", line)?)?;
+    Some(Order::GiveUp { session })
+}
+
+// A line that moves the cluster
+fn moves(alloc: Global, line: &[u8]) -> Result<Option<Order<'_>>, AllocError>
+    ensures { IfOk result (λ order. option_map order_seen order ≡ cluster_order_of line.now) }
+{
+    match cluster_order(alloc, line)? {
+        Some(order) => Ok(Some(Order::Moves(order))),
+        None => Ok(None),
+    }
+}
+
 // `end`
 fn end(line: &[u8]) -> Option<Order<'_>>
     ensures { option_map order_seen result ≡ option_and_then end_line (strip (codes "end") line.now) }
@@ -145,6 +162,12 @@ fn order_of(alloc: Global, line: &[u8]) -> Result<Option<Order<'_>>, AllocError>
         return Ok(Some(order));
     }
     if let Some(order) = close(line) {
+        return Ok(Some(order));
+    }
+    if let Some(order) = give_up(line) {
+        return Ok(Some(order));
+    }
+    if let Some(order) = moves(alloc, line)? {
         return Ok(Some(order));
     }
     Ok(end(line))

@@ -146,7 +146,7 @@ fn sends_what_a_tape_says(rt: HostRuntime) -> Result<(), Fail> {
     assert!(rt; sent(rt.alloc(), 2, &tape)?.is_empty());
     let fed = cut(
         rt.alloc(),
-        b"open smtp 1\nsay 1 DATA\r\nfeed 1 2e2e0d0a2e610d0a780a2e0a790d0a2e0d0a\nfeed 1 2\nfeed 2 41\nsay 2  b\nclose 2\nsay x",
+        b"open smtp 1\nsay 1 DATA\r\nfeed 1 2e2e0d0a2e610d0a780a2e0a790d0a2e0d0a\nfeed 1 2\nfeed 2 41\ngiveup 2\nwiden 1 alice 1.1.1 2\nsay 2  b\ncrash 1\nstart 1\nlose 2\npost 2\nagain 2\ndrop 2\nflow\npush 1\nclose 2\nsay x",
     )?;
     assert!(rt;
         sent(rt.alloc(), 1, &fed)?.as_slice() == b"DATA\r\n..\r\n.a\r\nx\n.\ny\r\n.\r\n".as_slice()

@@ -1,2 +1,3 @@
 pub mod Strips
 pub mod Lines
+pub mod Counts

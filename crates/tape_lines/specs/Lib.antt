@@ -1,4 +1,5 @@
 pub mod Words
+pub mod ClusterOrders
 pub mod Orders
 pub mod PlanLines
 pub mod Drafts

@@ -1,17 +1,20 @@
 //! tape_lines: the lines of a tape.
 //!
 //! Reads the plan lines of a tape up to `go`, and the run lines up to `end`, as values. It stands on
-//! `line_words` for words and numbers, on `mail_base` for names, secrets and the plan, and on `hex` for
+//! `line_words` for words and numbers, on `mail_base` for names, ids, secrets and the plan, and on `hex` for
 //! the octets of `feed`. Each call answers exactly what the definitions of `mail_model` say of the line.
 //!
 //! A line is given without its LF; a CR at its end is dropped, and a line of more than 65,535 octets is
 //! refused. Words stand after one space each. Numbers have 1 to 20 decimal digits and are below 2^64.
-//! Octets are pairs of hexadecimal digits of either case, one pair at least.
+//! Octets are pairs of hexadecimal digits of either case, one pair at least. An id is its node, boot and
+//! number in decimal, joined by periods, each above 0 and in the range of its type.
 //! It reads no source and writes no transcript.
 #![tactic(auto)]
 
+mod cluster_order;
 mod copy_count;
 mod draft;
+mod id_word;
 mod order;
 mod plan_line;
 mod protocol;
@@ -19,6 +22,7 @@ mod protocol;
 mod tests;
 mod words;
 
+pub use cluster_order::ClusterOrder;
 pub use copy_count::CopyCount;
 pub use draft::Draft;
 pub use order::{Order, read_order};

@@ -2,10 +2,11 @@
 ghost use Rattle.std.specs.Prelude.{◌≡◌, codes, option_and_then, IfOk};
 ghost use Rattle.std.specs.Option.{option_map};
 ghost use Rattle.mail_model.specs.Tape as tape;
-ghost use Rattle.mail_model.specs.Tape.{strip, open_line, say_line, hex_octets, feed_line, close_line, end_line, order_of, tape_order};
+ghost use Rattle.mail_model.specs.Tape.{strip, open_line, say_line, hex_octets, feed_line, close_line, giveup_line, end_line, cluster_order_of, order_of, tape_order};
 ghost use Rattle.tape_lines.specs.Orders.{protocol_seen, order_seen};
 
-use crate::Protocol;
+use crate::cluster_order::{ClusterOrder, cluster_order};
+use crate::protocol::Protocol;
 use crate::words::{strip, tape_line};
 use hex::FromHexError;
 use line_words::{behind_word, first_word, number};
@@ -23,6 +24,10 @@ pub enum Order<'a> {
     Feed { session: u64, octets: Vec<u8> },
     /// A session is closed.
     Close { session: u64 },
+    /// The call that a session waits for is given up.
+    GiveUp { session: u64 },
+    /// The cluster itself is moved.
+    Moves(ClusterOrder),
     /// The tape ends.
     End,
 }
@@ -83,6 +88,14 @@ fn close_at(rest: &[u8]) -> Option<Order<'_>>
     })
 }
 
+fn give_up_at(rest: &[u8]) -> Option<Order<'_>>
+    ensures { option_map order_seen result ≡ giveup_line rest.now }
+{
+    Some(Order::GiveUp {
+        session: number(rest)?,
+    })
+}
+
 fn end_at(rest: &[u8]) -> Option<Order<'_>>
     ensures { option_map order_seen result ≡ end_line rest.now }
 {
@@ -125,6 +138,21 @@ fn closes(line: &[u8]) -> Option<Order<'_>>
     close_at(strip(b"close ", line)?)
 }
 
+fn gives_up(line: &[u8]) -> Option<Order<'_>>
+    ensures { option_map order_seen result ≡ option_and_then giveup_line (strip (codes "giveup ") line.now) }
+{
+    give_up_at(strip(b"giveup ", line)?)
+}
+
+fn moves(alloc: Global, line: &[u8]) -> Result<Option<Order<'_>>, AllocError>
+    ensures { IfOk result (λ order. option_map order_seen order ≡ cluster_order_of line.now) }
+{
+    match cluster_order(alloc, line)? {
+        Some(order) => Ok(Some(Order::Moves(order))),
+        None => Ok(None),
+    }
+}
+
 fn ends(line: &[u8]) -> Option<Order<'_>>
     ensures { option_map order_seen result ≡ option_and_then end_line (strip (codes "end") line.now) }
 {
@@ -149,15 +177,21 @@ fn spelt_order(alloc: Global, line: &[u8]) -> Result<Option<Order<'_>>, AllocErr
     if let Some(order) = closes(line) {
         return Ok(Some(order));
     }
+    if let Some(order) = gives_up(line) {
+        return Ok(Some(order));
+    }
+    if let Some(order) = moves(alloc, line)? {
+        return Ok(Some(order));
+    }
     Ok(ends(line))
 }
 
-/// The run line that stands on the tape, given without its LF; nothing where it is no run line. Only `feed` takes
-/// memory, an octet for two digits.
+/// The run line that stands on the tape, given without its LF; nothing where it is no run line. Only `feed` and `widen`
+/// take memory: an octet for two digits, and a name.
 ///
 /// # Errors
 ///
-/// Out of memory alone, for the octets of `feed`.
+/// Out of memory alone, for the octets of `feed` and the name of `widen`.
 pub fn read_order(alloc: Global, raw: &[u8]) -> Result<Option<Order<'_>>, AllocError>
     ensures { IfOk result (λ order. option_map order_seen order ≡ tape_order raw.now) }
 {

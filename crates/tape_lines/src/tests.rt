@@ -1,7 +1,10 @@
 // Lines of the tape's format, and each public call once.
 use crate::{
-    CopyCount, Draft, Order, Protocol, read_order, read_plan_line, strip, tape_line, without_cr,
+    ClusterOrder, CopyCount, Draft, Order, Protocol, read_order, read_plan_line, strip, tape_line,
+    without_cr,
 };
+use mail_base::{MsgId, Name, NodeNo};
+use std::alloc::{AllocError, Global};
 use std::test::Fail;
 
 #[test]
@@ -143,6 +146,117 @@ fn refuses_feeds(rt: HostRuntime) -> Result<(), Fail> {
         b"feed 000000000000000000001 41",
         b"Feed 1 41",
         b"feed 1 41\r\r",
+    ];
+    for (at, line) in lines.iter().enumerate() {
+        assert!(rt; read_order(rt.alloc(), line)?.is_none(), "at {at}");
+    }
+    Ok(())
+}
+
+#[test]
+fn reads_moves(rt: HostRuntime) -> Result<(), Fail> {
+    let cases: [(&[u8], ClusterOrder); 10] = [
+        (b"crash 1", ClusterOrder::Crash { node: 1 }),
+        (b"crash 0\r", ClusterOrder::Crash { node: 0 }),
+        (b"start 16", ClusterOrder::Start { node: 16 }),
+        (b"lose 00000000000000000003", ClusterOrder::Lose { node: 3 }),
+        (b"post 7", ClusterOrder::Post { letter: 7 }),
+        (
+            b"again 18446744073709551615",
+            ClusterOrder::Again { letter: u64::MAX },
+        ),
+        (b"drop 0", ClusterOrder::Drop { letter: 0 }),
+        (b"flow", ClusterOrder::Flow),
+        (b"flow\r", ClusterOrder::Flow),
+        (b"push 2", ClusterOrder::Push { node: 2 }),
+    ];
+    for (at, (line, wanted)) in cases.iter().enumerate() {
+        let Some(Order::Moves(found)) = read_order(rt.alloc(), line)? else {
+            panic!(rt; "none at {at}");
+        };
+        assert!(rt; found == *wanted, "at {at}");
+    }
+    let Some(Order::GiveUp { session }) = read_order(rt.alloc(), b"giveup 12\r")? else {
+        panic!(rt; "no giveup");
+    };
+    assert!(rt; session == 12);
+    Ok(())
+}
+
+// The order that the text of a line `widen` should be.
+fn widened(alloc: Global, at: u64, id: MsgId, to: u64) -> Result<ClusterOrder, AllocError> {
+    let Some(user) = Name::spelt(alloc, b"alice")? else {
+        return Err(AllocError);
+    };
+    Ok(ClusterOrder::Widen { at, user, id, to })
+}
+
+#[test]
+fn reads_widens(rt: HostRuntime) -> Result<(), Fail> {
+    let cases: [(&[u8], u64, (u8, u32, u64), u64); 4] = [
+        (b"widen 1 alice 2.3.4 5", 1, (2, 3, 4), 5),
+        (
+            b"widen 17 ALICE 016.04294967295.18446744073709551615 0\r",
+            17,
+            (16, u32::MAX, u64::MAX),
+            0,
+        ),
+        (
+            b"widen 0 Alice 1.1.1 18446744073709551615",
+            0,
+            (1, 1, 1),
+            u64::MAX,
+        ),
+        (b"widen 01 alice 01.01.01 01", 1, (1, 1, 1), 1),
+    ];
+    for (at, (line, node, (drew, boot, seq), to)) in cases.iter().enumerate() {
+        let Some(drew) = NodeNo::new(*drew) else {
+            panic!(rt; "no node at {at}");
+        };
+        let Some(id) = MsgId::new(drew, *boot, *seq) else {
+            panic!(rt; "no id at {at}");
+        };
+        let Some(Order::Moves(found)) = read_order(rt.alloc(), line)? else {
+            panic!(rt; "none at {at}");
+        };
+        assert!(rt; found == widened(rt.alloc(), *node, id, *to)?, "at {at}");
+    }
+    Ok(())
+}
+
+#[test]
+fn refuses_moves(rt: HostRuntime) -> Result<(), Fail> {
+    let lines: [&[u8]; 30] = [
+        b"crash",
+        b"crash ",
+        b"crash  1",
+        b"crash 1 ",
+        b"crash x",
+        b"CRASH 1",
+        b"start 1 2",
+        b"lose 18446744073709551616",
+        b"lose 000000000000000000001",
+        b"post -1",
+        b"posts 1",
+        b"again",
+        b"drop 1x",
+        b"flow ",
+        b"flow 1",
+        b"flows",
+        b"push",
+        b"giveup",
+        b"giveup x",
+        b"give up 1",
+        b"widen 1 alice 1.1.1",
+        b"widen 1 alice 1.1.1 ",
+        b"widen 1 alice 1.1 2",
+        b"widen 1 alice 1.1.1.1 2",
+        b"widen 1 alice 0.1.1 2",
+        b"widen 1 alice 17.1.1 2",
+        b"widen 1 alice 1.0.1 2",
+        b"widen 1 alice 1.4294967296.1 2",
+        b"widen 1 alice 1.1.0 2",
+        b"widen 1 @lice 1.1.1 2",
     ];
     for (at, line) in lines.iter().enumerate() {
         assert!(rt; read_order(rt.alloc(), line)?.is_none(), "at {at}");

@@ -1,0 +1,20 @@
+-- A run line that moves the cluster itself, as the definitions see it.
+use Rattle.tape_lines.specs.declared.cluster_order.ClusterOrder.{ClusterOrder}
+use Rattle.tape_lines.specs.declared.cluster_order.ClusterOrder.TheVariants.{Crash, Start, Lose, Post, Again, Drop, Flow, Push, Widen}
+use Rattle.mail_model.specs.Tape as tape
+
+-- what it does to the cluster
+abbrev pub cluster_order_seen : ClusterOrder → tape.ClusterOrder
+cluster_order_seen (Crash node) = tape.ClusterOrder.Crash node
+cluster_order_seen (Start node) = tape.ClusterOrder.Start node
+cluster_order_seen (Lose node) = tape.ClusterOrder.Lose node
+cluster_order_seen (Post letter) = tape.ClusterOrder.Post letter
+cluster_order_seen (Again letter) = tape.ClusterOrder.Again letter
+cluster_order_seen (Drop letter) = tape.ClusterOrder.Drop letter
+cluster_order_seen Flow = tape.ClusterOrder.Flow
+cluster_order_seen (Push node) = tape.ClusterOrder.Push node
+cluster_order_seen (Widen at user id to) = tape.ClusterOrder.Widen at user id to
+
+-- as one of all run lines
+abbrev pub moves_seen : ClusterOrder → tape.Order
+moves_seen order = tape.Order.Moves (cluster_order_seen order)
