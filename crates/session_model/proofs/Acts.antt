@@ -16,9 +16,10 @@ use Rattle.session_model.specs.Talk.{Standing}
 use Rattle.session_model.specs.Talk.Standing.{Hearing, Waiting, EndedByQuit, EndedDown, EndedClosed}
 use Rattle.session_model.specs.Sessions.{Session, session_at}
 use Rattle.session_model.specs.Acts.{Act, Deed, Acted, ActedAll, opened_session, replace, closing, opened_by, fed_by_act}
-use Rattle.session_model.specs.Acts.Act.{Opens, Does, Faults, StillWaits, Leaves}
-use Rattle.session_model.specs.Acts.Deed.{IsFed, Hears, IsAnswered, Falls, Closes}
+use Rattle.session_model.specs.Acts.Act.{Opens, Does, Faults, StillWaits, Leaves, Makes, Abandons}
+use Rattle.session_model.specs.Acts.Deed.{IsFed, Hears, IsAnswered, IsGivenUp, Falls, Closes}
 use Rattle.session_model.proofs.Moves.{begins}
+use Rattle.session_model.proofs.Events.{event_says_none}
 use Rattle.session_model.proofs.Did.{Speaks, did_speaks, did_kind, did_feed}
 
 -- sessions by their numbers
@@ -86,6 +87,11 @@ closing_is k (IsAnswered asks answer reply) (Waiting told call) = inl refl
 closing_is k (IsAnswered asks answer reply) EndedByQuit = inr refl
 closing_is k (IsAnswered asks answer reply) EndedDown = inr refl
 closing_is k (IsAnswered asks answer reply) EndedClosed = inl refl
+closing_is k (IsGivenUp asks reply) (Hearing state) = inl refl
+closing_is k (IsGivenUp asks reply) (Waiting told call) = inl refl
+closing_is k (IsGivenUp asks reply) EndedByQuit = inr refl
+closing_is k (IsGivenUp asks reply) EndedDown = inr refl
+closing_is k (IsGivenUp asks reply) EndedClosed = inl refl
 closing_is k Falls (Hearing state) = inl refl
 closing_is k Falls (Waiting told call) = inl refl
 closing_is k Falls EndedByQuit = inr refl
@@ -110,6 +116,7 @@ pub feed_other : (k j : ℕ) (deed : Deed) → j ≢ k → fed_by_act j (Does k 
 feed_other k j (IsFed octets) other = fed_other k j octets other
 feed_other k j (Hears one) other = refl
 feed_other k j (IsAnswered call answer reply) other = refl
+feed_other k j (IsGivenUp call reply) other = refl
 feed_other k j Falls other = refl
 feed_other k j Closes other = refl
 
@@ -193,6 +200,8 @@ module _ (plan : Plan) (acts : List Act) (entries : List Entry) (old : List Sess
   acted_keeps (Faults node) more new (says, is) = keeps_all (Faults node) more new refl (λ j. refl) (λ j. ap (lines_to j) says) is
   acted_keeps (StillWaits k) more new (says, is) = keeps_all (StillWaits k) more new refl (λ j. refl) (λ j. ap (lines_to j) says) is
   acted_keeps (Leaves k user) more new (says, is) = keeps_all (Leaves k user) more new refl (λ j. refl) (λ j. ap (lines_to j) says) is
+  acted_keeps (Makes order event) more new (says, is) = keeps_all (Makes order event) more new refl (λ j. refl) (λ j. ap (lines_to j) says ∙ event_says_none j event) is
+  acted_keeps (Abandons k) more new (says, is) = keeps_all (Abandons k) more new refl (λ j. refl) (λ j. ap (lines_to j) says) is
   acted_keeps (Does k deed) more new (before, behind, said, at, did, says, is) = record {
     kinds = act_push opened_by acts (Does k deed) ∙ append-nil (flat_map opened_by acts) ∙ kept.kinds
         ∙ sym (map_replaced old kind_of k before behind at (ap₂ (λ (p : Protocol) (n : ℕ). (p, n)) kind.0 kind.1)) ∙ ap (map kind_of) (sym is);

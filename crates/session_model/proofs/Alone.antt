@@ -1,13 +1,13 @@
 -- The promises of a cluster of one node.
-use Rattle.std.proofs.Common.{◌≡◌, inl, inr, ⊎_elim, ◌≤◌, ℕ, zero, suc, Bool, true, false, ◌||◌, List, [], ◌∷◌, ◌++◌, length, flat_map, Option, Some, None, refl, sym, ap, ap₂, ◌∙◌, subst, arith, append-nil, nat_eq, nat_lt, slice_get, if◌then◌else◌, All}
+use Rattle.std.proofs.Common.{◌≡◌, inl, inr, ⊎_elim, ◌≤◌, ℕ, zero, suc, Bool, true, false, ◌||◌, not, List, [], ◌∷◌, ◌++◌, length, flat_map, Option, Some, None, refl, sym, ap, ap₂, ◌∙◌, subst, arith, append-nil, nat_eq, nat_lt, slice_get, All}
 use Rattle.std.proofs.lemmas.List.Concat.{flat_map-append}
 use Rattle.std.proofs.lemmas.Bool.{eqb-false, ltb-false}
 use Rattle.std.proofs.lemmas.Option.{none-some}
 use Rattle.std.proofs.lemmas.List.Elements.{All-nil, All-cons, All-head, All-tail, All-append}
 use Rattle.mail_model.specs.Identity.{Id}
 use Rattle.mail_model.specs.Plan.{Plan}
-use Rattle.mail_model.specs.Tape.{Protocol, Order, tape_order}
-use Rattle.mail_model.specs.Tape.Order.{Open, Say, Feed, Close, End}
+use Rattle.mail_model.specs.Tape.{Protocol, Order, tape_order, or_else}
+use Rattle.mail_model.specs.Tape.Order.{Open, Say, Feed, Close, GiveUp, Moves, End}
 use Rattle.mail_model.specs.Transcript.{Entry}
 use Rattle.mail_model.specs.Told.{Mail}
 use Rattle.mail_model.specs.Stored.{opened, opened_at, kind_at, AreRising}
@@ -17,7 +17,7 @@ use Rattle.mail_model.specs.Book.BookEntry.{Acknowledged, Struck, Dropped, WentD
 use Rattle.mail_model.specs.Deleted.{IsCopyOf}
 use Rattle.mail_model.specs.Listing.{octets_in}
 use Rattle.mail_model.specs.Site.{TapeFault}
-use Rattle.mail_model.specs.Site.TapeFault.{NoSuchNode}
+use Rattle.mail_model.specs.Site.TapeFault.{BadLine, NoSuchNode}
 use Rattle.mail_model.proofs.GoneCopies.{copies_by, copy_either}
 use Rattle.mail_model.proofs.Sessions.{by_number}
 use Rattle.session_model.specs.Calls.{Call, Answer}
@@ -29,7 +29,8 @@ use Rattle.session_model.specs.Facts.{IsIn}
 use Rattle.session_model.specs.Acts.{Act}
 use Rattle.session_model.specs.Logs.{Answered, asked_by, asked_in}
 use Rattle.session_model.specs.Turns.{Turn}
-use Rattle.session_model.specs.Run.{Stop, Made, IsBegun, AreHandled, IsLeftOff, IsDriven, refusal}
+use Rattle.session_model.specs.Run.{Stop, Made, IsBegun, AreHandled, IsLeftOff, IsDriven, refusal, fault_if, is_no_node, can_serve}
+use Rattle.session_model.specs.Losses.{IsLostIn}
 use Rattle.session_model.specs.Runs.{Shows}
 use Rattle.session_model.specs.Books.{Among, AmongAnswers, AreConfirmed, dropped_by}
 use Rattle.session_model.specs.Owes.{Owes, OwesDeletions, OwesParts}
@@ -41,35 +42,46 @@ use Rattle.session_model.proofs.Owed.{logged}
 use Rattle.session_model.proofs.OneNode.{one_node_owes}
 use Rattle.session_model.proofs.NodeStores.{one_node_stores}
 use Rattle.session_model.proofs.Asking.{asks_as_told}
-use Rattle.session_model.proofs.Driven.{driven_is_shown}
+use Rattle.session_model.proofs.Driven.{first_none, driven_is_shown}
 use Rattle.session_model.proofs.Kept.{begun_asked, owed_is_kept}
 
 -- sessions are opened at nodes of the plan
 
 -- an order that was accepted opens its session at node 1
-accepted_at_1 : (plan : Plan) (down : List ℕ) (sessions : List Session) (protocol : Protocol) (node : ℕ) → plan.nodes ≡ 1 → refusal plan down sessions (Open protocol node) ≡ None → node ≡ 1
-accepted_at_1 plan down sessions protocol node one accepted = by_test (nat_eq node 0) (nat_lt plan.nodes node) _ refl refl accepted
+accepted_at_1 : (plan : Plan) (been : List Act) (sessions : List Session) (protocol : Protocol) (node : ℕ) → plan.nodes ≡ 1 → refusal plan been sessions (Open protocol node) ≡ None → node ≡ 1
+accepted_at_1 plan been sessions protocol node one accepted = by_test (nat_eq node 0) (nat_lt plan.nodes node) refl refl
+    (before_none (fault_if (is_no_node plan node) NoSuchNode) _ (later_none (fault_if (not (can_serve plan protocol)) BadLine) _ accepted))
   where
-    by_test : (b c : Bool) (other : Option TapeFault) → nat_eq node 0 ≡ b → nat_lt plan.nodes node ≡ c → (if b || c then Some NoSuchNode else other) ≡ None → node ≡ 1
-    by_test false false other some within e =
+    before_none : (a b : Option TapeFault) → or_else a b ≡ None → a ≡ None
+    before_none None b e = refl
+    before_none (Some fault) b e = absurd (none-some fault (sym e))
+
+    later_none : (a b : Option TapeFault) → or_else a b ≡ None → b ≡ None
+    later_none None b e = e
+    later_none (Some fault) b e = absurd (none-some fault (sym e))
+
+    by_test : (b c : Bool) → nat_eq node 0 ≡ b → nat_lt plan.nodes node ≡ c → fault_if (b || c) NoSuchNode ≡ None → node ≡ 1
+    by_test false false some within e =
         let above = eqb-false node 0 some in
         let below = ltb-false plan.nodes node within in
         omega (arith, one, above, below)
-    by_test true c other some within e = cc
-    by_test false true other some within e = cc
+    by_test true c some within e = absurd (none-some NoSuchNode (sym e))
+    by_test false true some within e = absurd (none-some NoSuchNode (sym e))
 
 -- the sessions of a line
-line_at_1 : (plan : Plan) (down : List ℕ) (old new : List Session) (line : List ℕ) (acts : List Act) (outputs : List (List Entry)) (turn : Turn) → plan.nodes ≡ 1
-    → IsBegun plan down old line acts outputs turn new → All (λ (kind : Protocol × ℕ). kind.1 ≡ 1) (opened (line ∷ []))
-line_at_1 plan down old new line acts outputs turn one begun =
+line_at_1 : (plan : Plan) (been : List Act) (old new : List Session) (line : List ℕ) (acts : List Act) (outputs : List (List Entry)) (turn : Turn) → plan.nodes ≡ 1
+    → IsBegun plan been old line acts outputs turn new → All (λ (kind : Protocol × ℕ). kind.1 ≡ 1) (opened (line ∷ []))
+line_at_1 plan been old new line acts outputs turn one begun =
     subst (All (λ (kind : Protocol × ℕ). kind.1 ≡ 1)) (sym (append-nil (opened_at (tape_order line)) ∙ ap opened_at begun.spelled)) (by_order begun.order begun.accepted)
   where
-    by_order : (order : Order) → refusal plan down old order ≡ None → All (λ (kind : Protocol × ℕ). kind.1 ≡ 1) (opened_at (Some order))
+    by_order : (order : Order) → refusal plan been old order ≡ None → All (λ (kind : Protocol × ℕ). kind.1 ≡ 1) (opened_at (Some order))
     by_order (Open protocol node) accepted =
-        All-cons (λ (kind : Protocol × ℕ). kind.1 ≡ 1) (protocol, node) [] (accepted_at_1 plan down old protocol node one accepted) (All-nil (λ (kind : Protocol × ℕ). kind.1 ≡ 1))
+        All-cons (λ (kind : Protocol × ℕ). kind.1 ≡ 1) (protocol, node) [] (accepted_at_1 plan been old protocol node one accepted) (All-nil (λ (kind : Protocol × ℕ). kind.1 ≡ 1))
     by_order (Say k text) accepted = All-nil (λ (kind : Protocol × ℕ). kind.1 ≡ 1)
     by_order (Feed k octets) accepted = All-nil (λ (kind : Protocol × ℕ). kind.1 ≡ 1)
     by_order (Close k) accepted = All-nil (λ (kind : Protocol × ℕ). kind.1 ≡ 1)
+    by_order (GiveUp k) accepted = All-nil (λ (kind : Protocol × ℕ). kind.1 ≡ 1)
+    by_order (Moves order) accepted = All-nil (λ (kind : Protocol × ℕ). kind.1 ≡ 1)
     by_order End accepted = All-nil (λ (kind : Protocol × ℕ). kind.1 ≡ 1)
 
 -- and of others after it
@@ -79,18 +91,21 @@ both_at_1 lines more first later =
     subst (All (λ (kind : Protocol × ℕ). kind.1 ≡ 1)) (sym (flat_map-append (λ line. opened_at (tape_order line)) lines more))
     (All-append (λ (kind : Protocol × ℕ). kind.1 ≡ 1) (opened lines) (opened more) first later)
 
-handled_at_1 : (plan : Plan) (down : List ℕ) (old new : List Session) (lines : List (List ℕ)) (by_line : List (List Act)) (outputs : List (List (List Entry))) → plan.nodes ≡ 1
-    → AreHandled plan down old lines by_line outputs new → All (λ (kind : Protocol × ℕ). kind.1 ≡ 1) (opened lines)
-handled_at_1 plan down old new [] [] [] one is = All-nil (λ (kind : Protocol × ℕ). kind.1 ≡ 1)
-handled_at_1 plan down old new (line ∷ lines) (acts ∷ by_line) (says ∷ outputs) one (mid, first, more) =
-    both_at_1 (line ∷ []) lines (line_at_1 plan down old mid line acts says first.last one first.begun) (handled_at_1 plan _ mid new lines by_line outputs one more)
-handled_at_1 plan down old new lines by_line outputs one h = absurd h
+handled_at_1 : (plan : Plan) (been : List Act) (old new : List Session) (lines : List (List ℕ)) (by_line : List (List Act)) (outputs : List (List (List Entry))) → plan.nodes ≡ 1
+    → AreHandled plan been old lines by_line outputs new → All (λ (kind : Protocol × ℕ). kind.1 ≡ 1) (opened lines)
+handled_at_1 plan been old new [] [] [] one is = All-nil (λ (kind : Protocol × ℕ). kind.1 ≡ 1)
+handled_at_1 plan been old new (line ∷ lines) (acts ∷ by_line) (says ∷ outputs) one (mid, first, more) =
+    both_at_1 (line ∷ []) lines (line_at_1 plan been old mid line acts says first.last one first.begun) (handled_at_1 plan _ mid new lines by_line outputs one more)
+handled_at_1 plan been old new lines by_line outputs one h = absurd h
 
-left_at_1 : (plan : Plan) (down : List ℕ) (stop : Stop) (old new : List Session) (left : List (List ℕ)) (by_line : List (List Act)) (tail : List Entry) (extra : List Made) → plan.nodes ≡ 1
-    → IsLeftOff plan down stop old left by_line tail extra new → All (λ (kind : Protocol × ℕ). kind.1 ≡ 1) (opened left)
-left_at_1 plan down stop old new [] [] tail extra one off = All-nil (λ (kind : Protocol × ℕ). kind.1 ≡ 1)
-left_at_1 plan down stop old new (line ∷ []) (acts ∷ []) tail extra one (turn, cut, asked) = line_at_1 plan down old new line acts (cut.before ++ cut.says ∷ []) turn one cut.begun
-left_at_1 plan down stop old new left by_line tail extra one off = absurd off
+left_at_1 : (plan : Plan) (been : List Act) (stop : Stop) (old new : List Session) (left : List (List ℕ)) (by_line : List (List Act)) (tail : List Entry) (extra : List Made) → plan.nodes ≡ 1
+    → IsLeftOff plan been stop old left by_line tail extra new → All (λ (kind : Protocol × ℕ). kind.1 ≡ 1) (opened left)
+left_at_1 plan been stop old new [] [] tail extra one off = All-nil (λ (kind : Protocol × ℕ). kind.1 ≡ 1)
+left_at_1 plan been stop old new (line ∷ []) ([] ∷ []) tail extra one (tried, is) =
+    subst (All (λ (kind : Protocol × ℕ). kind.1 ≡ 1)) (sym (append-nil (opened_at (tape_order line)) ∙ ap opened_at tried.spelled ∙ (first_none tried.order old tried.step tried.first).0))
+    (All-nil (λ (kind : Protocol × ℕ). kind.1 ≡ 1))
+left_at_1 plan been stop old new (line ∷ []) ((act ∷ acts) ∷ []) tail extra one (turn, cut, asked) = line_at_1 plan been old new line (act ∷ acts) (cut.before ++ cut.says ∷ []) turn one cut.begun
+left_at_1 plan been stop old new left by_line tail extra one off = absurd off
 
 -- each of them
 at_place : (kinds : List (Protocol × ℕ)) (n : ℕ) (kind : Protocol × ℕ) → All (λ (k : Protocol × ℕ). k.1 ≡ 1) kinds → slice_get kinds n ≡ Some kind → kind.1 ≡ 1
@@ -191,28 +206,31 @@ dropped_answered user id (one ∷ answered) copy = ⊎_elim
     by_call call given is says c = absurd c
 
 -- so it is gone
-pub dropped_gone : (plan : Plan) (entries : List Entry) (disks : List (List Record)) (book : List BookEntry) → plan.nodes ≡ 1 → plan.confirm ≡ 1
-    → ((user : List ℕ) (id : Id) → IsCopyOf user id (dropped_in book) → (nodes : List ℕ) × AreGoneOn plan entries disks user id nodes) → AreByOne book
-    → DroppedAreGone plan entries disks book
-dropped_gone plan entries disks [] one sure gone by_one = tt
-dropped_gone plan entries disks (Acknowledged copy ∷ book) one sure gone by_one = dropped_gone plan entries disks book one sure gone by_one.1
-dropped_gone plan entries disks (Struck user id ∷ book) one sure gone by_one = dropped_gone plan entries disks book one sure gone by_one
-dropped_gone plan entries disks (WentDown node ∷ book) one sure gone by_one = dropped_gone plan entries disks book one sure gone by_one
-dropped_gone plan entries disks (CameUp node boot ∷ book) one sure gone by_one = dropped_gone plan entries disks book one sure gone by_one
-dropped_gone plan entries disks (WasLost node ∷ book) one sure gone by_one = dropped_gone plan entries disks book one sure gone by_one
-dropped_gone plan entries disks (Dropped user id confirmers ∷ book) one sure gone by_one =
+pub dropped_gone : (plan : Plan) (lost : ℕ → Type 0) (disks : List (List Record)) (book : List BookEntry) → plan.nodes ≡ 1 → plan.confirm ≡ 1
+    → ((user : List ℕ) (id : Id) → IsCopyOf user id (dropped_in book) → (nodes : List ℕ) × AreGoneOn plan lost disks user id nodes) → AreByOne book
+    → DroppedAreGone plan lost disks book
+dropped_gone plan lost disks [] one sure gone by_one = tt
+dropped_gone plan lost disks (Acknowledged copy ∷ book) one sure gone by_one = dropped_gone plan lost disks book one sure gone by_one.1
+dropped_gone plan lost disks (Struck user id ∷ book) one sure gone by_one = dropped_gone plan lost disks book one sure gone by_one
+dropped_gone plan lost disks (WentDown node ∷ book) one sure gone by_one = dropped_gone plan lost disks book one sure gone by_one
+dropped_gone plan lost disks (CameUp node boot ∷ book) one sure gone by_one = dropped_gone plan lost disks book one sure gone by_one
+dropped_gone plan lost disks (WasLost node ∷ book) one sure gone by_one = dropped_gone plan lost disks book one sure gone by_one
+dropped_gone plan lost disks (Dropped user id confirmers ∷ book) one sure gone by_one =
     let first = gone user id (inl refl) in
     let enough = first.1.enough in
     let alone = rising_one first.0 (subst (AreRising 0 first.0) one first.1.rising) (omega (arith, enough, sure)) in
-    ((1 ∷ [], by_one.0, subst (AreGoneOn plan entries disks user id) alone first.1), dropped_gone plan entries disks book one sure (λ name other copy. gone name other (inr copy)) by_one.1)
+    ((1 ∷ [], by_one.0, subst (AreGoneOn plan lost disks user id) alone first.1), dropped_gone plan lost disks book one sure (λ name other copy. gone name other (inr copy)) by_one.1)
 
 pub one_node_promises : OneNodePromises
 one_node_promises plan tells stop handled left acts others made entries ending sessions served last store book one sure driven ends serves records holds were answered is_book by_one =
     owed_is_kept plan tells stop handled left acts others made entries ending sessions (store ∷ []) (last.records ∷ []) (λ id. octets_in id last.records) (asked_of served) book driven ends were
-    (subst (λ (l : List Answered). Owes plan tells lines (entries ++ ending) (store ∷ []) (last.records ∷ []) (λ id. octets_in id last.records) (asked_of served) l book) answered owes)
+    (subst (λ (l : List Answered). Owes plan tells lines lost (store ∷ []) (last.records ∷ []) (λ id. octets_in id last.records) (asked_of served) l book) answered owes)
   where
     lines : List (List ℕ)
     lines = handled ++ left
+
+    lost : ℕ → Type 0
+    lost = IsLostIn stop lines (entries ++ ending)
 
     done : List Act
     done = flat_map (λ a. a) (acts ++ others)
@@ -224,19 +242,19 @@ one_node_promises plan tells stop handled left acts others made entries ending s
     sound = served_sound lines served (λ k call among. call_asked plan lines entries done shown.0 shown.1 (driven_at_1 plan stop handled left acts others made entries sessions one driven) k call
         (begun_asked stop (flat_map asked_by done) (asked_of served) were (record { session = k; call = call }) among))
 
-    node : OwesDeletions plan (entries ++ ending) (last.records ∷ []) (asked_of served) (answered_of served) × (tells ≡ true → OwesParts (λ id. octets_in id last.records) (answered_of served))
-    node = one_node_owes plan tells (entries ++ ending) served last one sure sound.0 serves records
+    node : OwesDeletions plan lost (last.records ∷ []) (asked_of served) (answered_of served) × (tells ≡ true → OwesParts (λ id. octets_in id last.records) (answered_of served))
+    node = one_node_owes plan tells stop lines (entries ++ ending) served last one sure sound.0 serves records
 
-    owes : Owes plan tells lines (entries ++ ending) (store ∷ []) (last.records ∷ []) (λ id. octets_in id last.records) (asked_of served) (answered_of served) book
+    owes : Owes plan tells lines lost (store ∷ []) (last.records ∷ []) (λ id. octets_in id last.records) (asked_of served) (answered_of served) book
     owes = record {
       holds = (records, holds, tt);
-      stored = one_node_stores plan tells lines (entries ++ ending) served last one sure sound.1 serves;
+      stored = one_node_stores plan tells stop lines (entries ++ ending) served last one sure sound.1 serves;
       deletions = node.0;
       parts = node.1;
       books = record {
         is_book = is_book;
         confirmed = confirmed_by_one plan book one sure by_one;
-        dropped = dropped_gone plan (entries ++ ending) (last.records ∷ []) book one sure (λ user id copy.
+        dropped = dropped_gone plan lost (last.records ∷ []) book one sure (λ user id copy.
             let found = dropped_answered user id (answered_of served) (subst (IsCopyOf user id) is_book.dropped copy) in node.0.gone found.0 user found.1 id found.2 found.3) by_one;
       };
     }

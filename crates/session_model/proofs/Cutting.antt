@@ -15,7 +15,8 @@ use Rattle.session_model.specs.Calls.{Call, Answer}
 use Rattle.session_model.specs.Logs.{IsLogged, calls_of, answers_of, asked_by, answered_by, asked_in, answered_in}
 use Rattle.session_model.specs.Runs.{ActsAreShown}
 use Rattle.session_model.proofs.Logs.{Logged, AreLogged, all_logged, acted_logged, none_logged, logged_whole}
-use Rattle.session_model.specs.Acts.Act.{Opens, Does, Faults, StillWaits, Leaves}
+use Rattle.session_model.specs.Acts.Act.{Opens, Does, Faults, StillWaits, Leaves, Makes, Abandons}
+use Rattle.session_model.proofs.Events.{event_says_none}
 use Rattle.session_model.proofs.Did.{IsShown, whole_shown, unparted, did_cut, did_kind, did_feed}
 use Rattle.session_model.proofs.Acts.{Spoken, Kept, kind_of, at_first, act_push, acted_keeps, opened_now, replaced, replaced_other, map_replaced, pushed, pushed_other, none_behind, does_own, does_other, feed_other}
 
@@ -105,6 +106,8 @@ module _ (plan : Plan) (acts : List Act) (entries : List Entry) (old : List Sess
   acted_cut (Faults node) more new (says, is) cut = all_alone (Faults node) more new (says, is) cut (λ j. refl) (λ j. ap (lines_to j) says) is
   acted_cut (StillWaits k) more new (says, is) cut = all_alone (StillWaits k) more new (says, is) cut (λ j. refl) (λ j. ap (lines_to j) says) is
   acted_cut (Leaves k user) more new (says, is) cut = all_alone (Leaves k user) more new (says, is) cut (λ j. refl) (λ j. ap (lines_to j) says) is
+  acted_cut (Makes order event) more new (says, is) cut = all_alone (Makes order event) more new (says, is) cut (λ j. refl) (λ j. ap (lines_to j) says ∙ event_says_none j event) is
+  acted_cut (Abandons k) more new (says, is) cut = all_alone (Abandons k) more new (says, is) cut (λ j. refl) (λ j. ap (lines_to j) says) is
   acted_cut (Does k deed) more new (before, behind, said, at, did, says, is) cut = record {
     sessions = replace old k session;
     kinds = act_push opened_by acts (Does k deed) ∙ append-nil (flat_map opened_by acts) ∙ kept.kinds

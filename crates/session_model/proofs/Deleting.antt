@@ -82,7 +82,7 @@ module _ (plan : Plan) (lines : List (List ℕ)) (entries : List Entry) (k : ℕ
       bye_is user ids one.answer one.reply (awaits (lead_of plan session.node at.state one.unit) one (Strike user ids) at.next.led call) bye
 
 pub true_answers_delete : TrueAnswersDelete
-true_answers_delete plan lines entries disks sessions are facts = record {
+true_answers_delete plan stop lines entries disks sessions are facts = record {
   only = λ node user id gone.
       let (k, session, ids, one, at, strikes, among) = facts.asked node user id gone in
       let is = are.each k session at in

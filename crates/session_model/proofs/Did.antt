@@ -5,16 +5,16 @@ use Rattle.mail_model.specs.Plan.{Plan}
 use Rattle.mail_model.specs.Tape.{Protocol}
 use Rattle.session_model.specs.Calls.{Call, Answer}
 use Rattle.session_model.specs.Calls.Call.{Deliver, Login, Fetch, Strike}
-use Rattle.session_model.specs.Calls.Answer.{Listed}
+use Rattle.session_model.specs.Calls.Answer.{Listed, Failed}
 use Rattle.session_model.specs.Talk.{TalkState, Exchange, Standing, Lead, IsLed, Awaits, IsOn, IsTalk, Breaks, TalkGoes, opening_state, stands, lead_of, heard, standing_asked, answered, farewell, replies}
 use Rattle.session_model.specs.Talk.Lead.{Says, Ends, Asks}
 use Rattle.session_model.specs.Talk.Standing.{Hearing, Waiting, EndedByQuit, EndedDown, EndedClosed}
 use Rattle.session_model.specs.Moves.{with_answer}
 use Rattle.session_model.specs.Sessions.{Session, Gets, IsCut}
-use Rattle.session_model.specs.Acts.{Deed, Did, IsParted, fed_by_act}
+use Rattle.session_model.specs.Acts.{Deed, Did, WasAnswered, IsParted, fed_by_act}
 use Rattle.session_model.specs.Acts.Act.{Does}
 use Rattle.mail_model.proofs.Sessions.{fed_there}
-use Rattle.session_model.specs.Acts.Deed.{IsFed, Hears, IsAnswered, Falls, Closes}
+use Rattle.session_model.specs.Acts.Deed.{IsFed, Hears, IsAnswered, IsGivenUp, Falls, Closes}
 use Rattle.session_model.proofs.Chains.{goes_at}
 use Rattle.session_model.proofs.Moves.{is_fed, hears_next, is_answered, falls_down, is_closed}
 
@@ -102,6 +102,19 @@ waits_before plan said session before one told call speaks cut waits =
 as_is : (plan : Plan) (said : List (List ℕ)) (new session : Session) → new ≡ session → Speaks plan said session → Speaks plan said new
 as_is plan said new session is speaks = subst (Speaks plan said) (sym is) speaks
 
+-- one that was answered, or whose call was given up
+answered_speaks : (plan : Plan) (said lines : List (List ℕ)) (old new : Session) (call : Call) (answer : Answer) (reply : List (List ℕ)) → Speaks plan said old
+    → WasAnswered old call answer reply lines new → Speaks plan (said ++ lines) new
+answered_speaks plan said lines old new call answer reply speaks (before, one, state, cut, waits, replies_so, says, is) = as_is plan (said ++ lines) new _ is (record {
+  talk = is_answered plan old.node old.protocol old.octets old.rest before state call one answer reply
+      (subst (λ (l : List Exchange). IsTalk plan old.node old.protocol old.octets l (Waiting state call) old.rest) cut
+      (subst (λ (s : Standing). IsTalk plan old.node old.protocol old.octets old.whole s old.rest) waits speaks.talk)) replies_so;
+  none = speaks.none;
+  lines = ap₂ ◌++◌ (waits_before plan said old before one state call speaks cut waits) says ∙ sym (replies_push before (with_answer one answer reply))
+      ∙ sym (append-nil (replies (before ++ with_answer one answer reply ∷ [])))
+      ∙ ap (λ (l : List (List ℕ)). replies (before ++ with_answer one answer reply ∷ []) ++ l) (sym (answered_quiet old.protocol old.node state call answer));
+})
+
 -- whatever a session does
 pub did_speaks : (plan : Plan) (said lines : List (List ℕ)) (old new : Session) (deed : Deed) → Speaks plan said old → Did plan old deed lines new → Speaks plan (said ++ lines) new
 did_speaks plan said lines old new (IsFed more) speaks (on, none, is) = as_is plan (said ++ lines) new _ is (record {
@@ -117,15 +130,8 @@ did_speaks plan said lines old new (Hears one) speaks (state, left, hears, next,
       ∙ sym (append-nil (replies (old.whole ++ one ∷ [])))
       ∙ ap (λ (l : List (List ℕ)). replies (old.whole ++ one ∷ []) ++ l) (sym (stands_quiet old.protocol old.node plan state one (lead_of plan old.node state one.unit)));
 })
-did_speaks plan said lines old new (IsAnswered call answer reply) speaks (before, one, state, cut, waits, replies_so, says, is) = as_is plan (said ++ lines) new _ is (record {
-  talk = is_answered plan old.node old.protocol old.octets old.rest before state call one answer reply
-      (subst (λ (l : List Exchange). IsTalk plan old.node old.protocol old.octets l (Waiting state call) old.rest) cut
-      (subst (λ (s : Standing). IsTalk plan old.node old.protocol old.octets old.whole s old.rest) waits speaks.talk)) replies_so;
-  none = speaks.none;
-  lines = ap₂ ◌++◌ (waits_before plan said old before one state call speaks cut waits) says ∙ sym (replies_push before (with_answer one answer reply))
-      ∙ sym (append-nil (replies (before ++ with_answer one answer reply ∷ [])))
-      ∙ ap (λ (l : List (List ℕ)). replies (before ++ with_answer one answer reply ∷ []) ++ l) (sym (answered_quiet old.protocol old.node state call answer));
-})
+did_speaks plan said lines old new (IsAnswered call answer reply) speaks did = answered_speaks plan said lines old new call answer reply speaks did
+did_speaks plan said lines old new (IsGivenUp call reply) speaks did = answered_speaks plan said lines old new call Failed reply speaks did
 did_speaks plan said lines old new Falls speaks (on, says, is) = as_is plan (said ++ lines) new _ is (record {
   talk = falls_down plan old.node old.protocol old.octets old.rest old.whole old.standing speaks.talk on;
   none = speaks.none;
@@ -182,6 +188,14 @@ part_last plan said part m ms new before one whole none talk says cut = (
   },
 )
 
+-- a reply to an answer is parted so
+answered_cut : (plan : Plan) (said lines part : List (List ℕ)) (m : List ℕ) (ms : List (List ℕ)) (old new : Session) (call : Call) (answer : Answer) (reply : List (List ℕ)) → Speaks plan said old
+    → WasAnswered old call answer reply lines new → lines ≡ part ++ m ∷ ms → (session : Session) × IsParted new session × IsShown plan (said ++ part) session
+answered_cut plan said lines part m ms old new call answer reply speaks did cut =
+    let now = answered_speaks plan said lines old new call answer reply speaks did in
+    part_last plan said part m ms new did.0 (with_answer did.1 answer reply) (ap (λ (s : Session). s.whole) did.7) now.none now.talk
+    (waits_before plan said old did.0 did.1 did.2 call speaks did.3 did.4) (sym did.6 ∙ cut)
+
 -- whatever a session does, and whatever prefix of its lines is written
 pub did_cut : (plan : Plan) (said lines part missing : List (List ℕ)) (old new : Session) (deed : Deed) → Speaks plan said old → Did plan old deed lines new → lines ≡ part ++ missing
     → (session : Session) × IsParted new session × IsShown plan (said ++ part) session
@@ -196,10 +210,8 @@ did_cut plan said lines part (m ∷ ms) old new (Hears one) speaks did cut =
     let now = did_speaks plan said lines old new (Hears one) speaks did in
     part_last plan said part m ms new old.whole one (ap (λ (s : Session). s.whole) did.5) now.none now.talk
     (no_farewell plan said old speaks (ap (farewell old.protocol old.node) did.2)) (sym did.4 ∙ cut)
-did_cut plan said lines part (m ∷ ms) old new (IsAnswered call answer reply) speaks did cut =
-    let now = did_speaks plan said lines old new (IsAnswered call answer reply) speaks did in
-    part_last plan said part m ms new did.0 (with_answer did.1 answer reply) (ap (λ (s : Session). s.whole) did.7) now.none now.talk
-    (waits_before plan said old did.0 did.1 did.2 call speaks did.3 did.4) (sym did.6 ∙ cut)
+did_cut plan said lines part (m ∷ ms) old new (IsAnswered call answer reply) speaks did cut = answered_cut plan said lines part m ms old new call answer reply speaks did cut
+did_cut plan said lines part (m ∷ ms) old new (IsGivenUp call reply) speaks did cut = answered_cut plan said lines part m ms old new call Failed reply speaks did cut
 did_cut plan said lines part (m ∷ ms) old new Falls speaks did cut =
     let now = did_speaks plan said lines old new Falls speaks did in
     let whole : IsShown plan (said ++ lines) new = whole_shown plan (said ++ lines) new now in
@@ -224,6 +236,7 @@ pub did_kind : (plan : Plan) (lines : List (List ℕ)) (old new : Session) (deed
 did_kind plan lines old new (IsFed more) did = (ap (λ (s : Session). s.protocol) did.2, ap (λ (s : Session). s.node) did.2)
 did_kind plan lines old new (Hears one) did = (ap (λ (s : Session). s.protocol) did.5, ap (λ (s : Session). s.node) did.5)
 did_kind plan lines old new (IsAnswered call answer reply) did = (ap (λ (s : Session). s.protocol) did.7, ap (λ (s : Session). s.node) did.7)
+did_kind plan lines old new (IsGivenUp call reply) did = (ap (λ (s : Session). s.protocol) did.7, ap (λ (s : Session). s.node) did.7)
 did_kind plan lines old new Falls did = (ap (λ (s : Session). s.protocol) did.2, ap (λ (s : Session). s.node) did.2)
 did_kind plan lines old new Closes did = (ap (λ (s : Session). s.protocol) did.2, ap (λ (s : Session). s.node) did.2)
 
@@ -233,5 +246,6 @@ pub did_feed : (plan : Plan) (lines : List (List ℕ)) (old new : Session) (deed
 did_feed plan lines old new (IsFed more) did k = ap (λ (s : Session). s.octets) did.2 ∙ ap (λ (l : List ℕ). old.octets ++ l) (sym (fed_there k more))
 did_feed plan lines old new (Hears one) did k = ap (λ (s : Session). s.octets) did.5 ∙ sym (append-nil old.octets)
 did_feed plan lines old new (IsAnswered call answer reply) did k = ap (λ (s : Session). s.octets) did.7 ∙ sym (append-nil old.octets)
+did_feed plan lines old new (IsGivenUp call reply) did k = ap (λ (s : Session). s.octets) did.7 ∙ sym (append-nil old.octets)
 did_feed plan lines old new Falls did k = ap (λ (s : Session). s.octets) did.2 ∙ sym (append-nil old.octets)
 did_feed plan lines old new Closes did k = ap (λ (s : Session). s.octets) did.2 ∙ sym (append-nil old.octets)

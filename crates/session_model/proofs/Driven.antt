@@ -7,7 +7,7 @@ use Rattle.mail_model.specs.Plan.{Plan}
 use Rattle.mail_model.specs.Smtp.{stored_text}
 use Rattle.mail_model.specs.Tape.{Protocol, Order, tape_order}
 use Rattle.mail_model.specs.Tape.Protocol.{Smtp, Pop}
-use Rattle.mail_model.specs.Tape.Order.{Open, Say, Feed, Close, End}
+use Rattle.mail_model.specs.Tape.Order.{Open, Say, Feed, Close, GiveUp, Moves, End}
 use Rattle.mail_model.specs.Transcript.{Entry}
 use Rattle.mail_model.specs.Transcript.{all_of}
 use Rattle.mail_model.specs.Shown.{lines_to}
@@ -19,9 +19,9 @@ use Rattle.session_model.specs.Acts.Act.{Does, Faults, StillWaits, Leaves}
 use Rattle.session_model.specs.Acts.Deed.{Hears, IsAnswered, Falls, Closes}
 use Rattle.session_model.specs.Logs.{IsLogged, asked_by, answered_by, asked_in, answered_in}
 use Rattle.session_model.specs.Turns.{Turn, Next, ActsGo, Starts}
-use Rattle.session_model.specs.Turns.Turn.{Hearing, Beginning, Falling, Asking}
-use Rattle.session_model.specs.Run.{Stop, Made, MayMiss, IsBegun, AreHandled, IsLeftOff, IsDriven}
-use Rattle.session_model.specs.Run.Stop.{BehindLine, SinkFailed, OutOfMemory}
+use Rattle.session_model.specs.Turns.Turn.{Hearing, Beginning, Closing, Falling, Asking}
+use Rattle.session_model.specs.Run.{Stop, Made, MayMiss, FirstStep, IsTried, IsBegun, AreHandled, IsLeftOff, IsDriven}
+use Rattle.session_model.specs.Run.Stop.{BehindLine, Denied, SinkFailed, OutOfMemory}
 use Rattle.session_model.specs.Runs.{Shows, DrivenIsShown}
 use Rattle.session_model.specs.Books.{MayBeUnwritten}
 use Rattle.session_model.proofs.Acts.{Kept, Spoken, at_first}
@@ -45,6 +45,7 @@ next_quiet turn next sessions (Faults node) is = record { opens = refl; feeds = 
 next_quiet turn next sessions (StillWaits k) is = record { opens = refl; feeds = λ k. refl; greeted = tt }
 next_quiet turn next sessions (Leaves k user) is = record { opens = refl; feeds = λ k. refl; greeted = tt }
 next_quiet (Hearing k onward) next sessions act is = absurd is
+next_quiet (Closing k onward) next sessions act is = absurd is
 next_quiet (Beginning k onward) next sessions act is = absurd is
 next_quiet (Falling k node onward) next sessions act is = absurd is
 next_quiet (Asking k) next sessions act is = absurd is
@@ -70,53 +71,52 @@ goes_made plan turn last old new (act ∷ acts) (entries ∷ outputs) (next, mid
 goes_made plan turn last old new [] (entries ∷ outputs) goes = absurd goes
 goes_made plan turn last old new (act ∷ acts) [] goes = absurd goes
 
--- the first act of a line opens what the line does
-starts_opens : (order : Order) (sessions : List Session) (act : Act) (turn : Turn) → Starts order sessions act turn → opened_at (Some order) ≡ opened_by act
-starts_opens (Open protocol node) sessions act turn (is, next) = sym (ap opened_by is)
-starts_opens (Say k text) sessions act turn (is, next) = sym (ap opened_by is)
-starts_opens (Feed k octets) sessions act turn (is, next) = sym (ap opened_by is)
-starts_opens (Close k) sessions act turn (is, idle, next) = sym (ap opened_by is)
-starts_opens End sessions act turn starts = absurd starts
+-- The first act of a line opens what the line does and feeds it, and its greeting is no `250 stored`.
+record IsOfOrder (order : Order) (act : Act) : Type 0 where
+  pub opens : opened_at (Some order) ≡ opened_by act
+  pub feeds : (j : ℕ) → told.fed_by j (Some order) ≡ fed_by_act j act
+  pub greeted : IsGreeted act
 
--- and feeds it
-starts_feeds : (j : ℕ) (order : Order) (sessions : List Session) (act : Act) (turn : Turn) → Starts order sessions act turn → told.fed_by j (Some order) ≡ fed_by_act j act
-starts_feeds j (Open protocol node) sessions act turn (is, next) = sym (ap (fed_by_act j) is)
-starts_feeds j (Say k text) sessions act turn (is, next) = sym (ap (fed_by_act j) is)
-starts_feeds j (Feed k octets) sessions act turn (is, next) = sym (ap (fed_by_act j) is)
-starts_feeds j (Close k) sessions act turn (is, idle, next) = sym (ap (fed_by_act j) is)
-starts_feeds j End sessions act turn starts = absurd starts
+-- an act is another
+is_of : (order : Order) (act other : Act) → act ≡ other → IsOfOrder order other → IsOfOrder order act
+is_of order act other is of = subst (IsOfOrder order) (sym is) of
 
--- and its greeting is no `250 stored`
-starts_greets : (order : Order) (sessions : List Session) (act : Act) (turn : Turn) → Starts order sessions act turn → IsGreeted act
-starts_greets (Open protocol node) sessions act turn (is, next) = subst IsGreeted (sym is) (by_protocol protocol)
-  where
-    by_protocol : (speaks : Protocol) → pointwise nat_eq (greeting_of speaks node 1 (length sessions + 1) 0) stored_text ≡ false
-    by_protocol Smtp = refl
-    by_protocol Pop = refl
-starts_greets (Say k text) sessions act turn (is, next) = subst IsGreeted (sym is) tt
-starts_greets (Feed k octets) sessions act turn (is, next) = subst IsGreeted (sym is) tt
-starts_greets (Close k) sessions act turn (is, idle, next) = subst IsGreeted (sym is) tt
-starts_greets End sessions act turn starts = absurd starts
+greets : (protocol : Protocol) (node boot number seconds : ℕ) → pointwise nat_eq (greeting_of protocol node boot number seconds) stored_text ≡ false
+greets Smtp node boot number seconds = refl
+greets Pop node boot number seconds = refl
+
+starts_of : (plan : Plan) (been : List Act) (order : Order) (sessions : List Session) (act : Act) (turn : Turn) → Starts plan been order sessions act turn → IsOfOrder order act
+starts_of plan been (Open protocol node) sessions act turn (boot, up, is, next) =
+    is_of (Open protocol node) act _ is (record { opens = refl; feeds = λ j. refl; greeted = greets protocol node boot (length sessions + 1) 0 })
+starts_of plan been (Say k text) sessions act turn (is, next) = is_of (Say k text) act _ is (record { opens = refl; feeds = λ j. refl; greeted = tt })
+starts_of plan been (Feed k octets) sessions act turn (is, next) = is_of (Feed k octets) act _ is (record { opens = refl; feeds = λ j. refl; greeted = tt })
+starts_of plan been (Close k) sessions act turn starts = ⊎_elim
+    (λ now. is_of (Close k) act _ now.0 (record { opens = refl; feeds = λ j. refl; greeted = tt }))
+    (λ first. is_of (Close k) act _ first.0 (record { opens = refl; feeds = λ j. refl; greeted = tt })) starts
+starts_of plan been (GiveUp k) sessions act turn (call, reply, is, next) = is_of (GiveUp k) act _ is (record { opens = refl; feeds = λ j. refl; greeted = tt })
+starts_of plan been (Moves order) sessions act turn (event, may, is, next) = is_of (Moves order) act _ is (record { opens = refl; feeds = λ j. refl; greeted = tt })
+starts_of plan been End sessions act turn starts = absurd starts
 
 -- What the acts of lines made: they were done one after another, and open and feed what the lines do.
-record AreMade (plan : Plan) (old : List Session) (lines : List (List ℕ)) (acts : List Act) (outputs : List (List Entry)) (new : List Session) : Type 0 where
+pub record AreMade (plan : Plan) (old : List Session) (lines : List (List ℕ)) (acts : List Act) (outputs : List (List Entry)) (new : List Session) : Type 0 where
   pub done : ActedAll plan old acts outputs new
   pub acts_of : AreActsOf lines acts
   pub greeted : All IsGreeted acts
 
 -- a line that was begun
-begun_made : (plan : Plan) (down : List ℕ) (old new : List Session) (line : List ℕ) (acts : List Act) (outputs : List (List Entry)) (turn : Turn)
-    → IsBegun plan down old line acts outputs turn new → AreMade plan old (line ∷ []) acts outputs new
-begun_made plan down old new line acts outputs turn begun =
+pub begun_made : (plan : Plan) (so_far : List Act) (old new : List Session) (line : List ℕ) (acts : List Act) (outputs : List (List Entry)) (turn : Turn)
+    → IsBegun plan so_far old line acts outputs turn new → AreMade plan old (line ∷ []) acts outputs new
+begun_made plan so_far old new line acts outputs turn begun =
+    let of = starts_of plan so_far begun.order old begun.first begun.next begun.starts in
     let later = goes_made plan begun.next turn begun.mid new begun.more begun.others begun.goes in
     subst (λ (a : List Act). AreMade plan old (line ∷ []) a outputs new) (sym begun.acts_are)
     (subst (λ (o : List (List Entry)). AreMade plan old (line ∷ []) (begun.first ∷ begun.more) o new) (sym begun.outputs_are) (record {
       done = (begun.mid, begun.acted, later.done);
-      greeted = All-cons IsGreeted begun.first begun.more (starts_greets begun.order old begun.first begun.next begun.starts) later.greeted;
+      greeted = All-cons IsGreeted begun.first begun.more of.greeted later.greeted;
       acts_of = record {
-        opens = append-nil (opened_at (tape_order line)) ∙ ap opened_at begun.spelled ∙ starts_opens begun.order old begun.first begun.next begun.starts
+        opens = append-nil (opened_at (tape_order line)) ∙ ap opened_at begun.spelled ∙ of.opens
             ∙ sym (append-nil (opened_by begun.first)) ∙ ap (λ l. opened_by begun.first ++ l) (sym later.opens);
-        feeds = λ k. append-nil (told.fed_by k (tape_order line)) ∙ ap (told.fed_by k) begun.spelled ∙ starts_feeds k begun.order old begun.first begun.next begun.starts
+        feeds = λ k. append-nil (told.fed_by k (tape_order line)) ∙ ap (told.fed_by k) begun.spelled ∙ of.feeds k
             ∙ sym (append-nil (fed_by_act k begun.first)) ∙ ap (λ l. fed_by_act k begun.first ++ l) (sym (later.feeds k));
       };
     }))
@@ -149,16 +149,16 @@ none_made : (plan : Plan) (old new : List Session) → new ≡ old → AreMade p
 none_made plan old new is = record { done = is; acts_of = record { opens = refl; feeds = λ k. refl }; greeted = All-nil IsGreeted }
 
 -- all lines that were handled
-handled_made : (plan : Plan) (down : List ℕ) (old new : List Session) (lines : List (List ℕ)) (by_line : List (List Act)) (outputs : List (List (List Entry)))
-    → AreHandled plan down old lines by_line outputs new → AreMade plan old lines (flat_map (λ a. a) by_line) (flat_map (λ o. o) outputs) new
-handled_made plan down old new [] [] [] is = none_made plan old new is
-handled_made plan down old new (line ∷ lines) (acts ∷ by_line) (says ∷ outputs) (mid, one, more) =
-    made_both plan old mid new (line ∷ []) lines acts (flat_map (λ a. a) by_line) says (flat_map (λ o. o) outputs) (begun_made plan down old mid line acts says one.last one.begun)
+pub handled_made : (plan : Plan) (so_far : List Act) (old new : List Session) (lines : List (List ℕ)) (by_line : List (List Act)) (outputs : List (List (List Entry)))
+    → AreHandled plan so_far old lines by_line outputs new → AreMade plan old lines (flat_map (λ a. a) by_line) (flat_map (λ o. o) outputs) new
+handled_made plan so_far old new [] [] [] is = none_made plan old new is
+handled_made plan so_far old new (line ∷ lines) (acts ∷ by_line) (says ∷ outputs) (mid, one, more) =
+    made_both plan old mid new (line ∷ []) lines acts (flat_map (λ a. a) by_line) says (flat_map (λ o. o) outputs) (begun_made plan so_far old mid line acts says one.last one.begun)
     (handled_made plan _ mid new lines by_line outputs more)
-handled_made plan down old new lines by_line outputs h = absurd h
+handled_made plan so_far old new lines by_line outputs h = absurd h
 
 -- what was written of all lines
-all_written : (outputs : List (List (List Entry))) → flat_map all_of outputs ≡ all_of (flat_map (λ o. o) outputs)
+pub all_written : (outputs : List (List (List Entry))) → flat_map all_of outputs ≡ all_of (flat_map (λ o. o) outputs)
 all_written [] = refl
 all_written (says ∷ outputs) = ap (λ (l : List Entry). all_of says ++ l) (all_written outputs) ∙ sym (flat_map-append (λ (e : List Entry). e) says (flat_map (λ o. o) outputs))
 
@@ -171,7 +171,7 @@ pub record IsLast (plan : Plan) (old : List Session) (acts : List Act) (before :
   pub done : ActedAll plan old been before mid
   pub acted : Acted plan mid act says new
 
-last_of : (plan : Plan) (old new : List Session) (acts : List Act) (before : List (List Entry)) (says : List Entry) → ActedAll plan old acts (before ++ says ∷ []) new
+pub last_of : (plan : Plan) (old new : List Session) (acts : List Act) (before : List (List Entry)) (says : List Entry) → ActedAll plan old acts (before ++ says ∷ []) new
     → IsLast plan old acts before says new
 last_of plan old new (act ∷ []) [] says (mid, acted, is) =
     record { been = []; act = act; mid = old; are = refl; done = refl; acted = subst (λ (s : List Session). Acted plan old act says s) (sym is) acted }
@@ -225,19 +225,22 @@ pub record WrotePart (plan : Plan) (acts : List Act) (entries : List Entry) (las
   pub cut : says ≡ front ++ missing
   pub written : entries ≡ all_of before ++ front
 
--- after a line it is all
+-- between two lines it is all
 abbrev pub Wrote : Plan → Stop → List Act → List Entry → List Session → Type 0
 Wrote plan BehindLine acts entries last = WroteAll plan acts entries last
+Wrote plan Denied acts entries last = WroteAll plan acts entries last
 Wrote plan stop acts entries last = WroteAll plan acts entries last ⊎ WrotePart plan acts entries last
 
 all_wrote : (plan : Plan) (stop : Stop) (acts : List Act) (entries : List Entry) (last : List Session) → WroteAll plan acts entries last → Wrote plan stop acts entries last
 all_wrote plan BehindLine acts entries last wrote = wrote
+all_wrote plan Denied acts entries last wrote = wrote
 all_wrote plan SinkFailed acts entries last wrote = inl wrote
 all_wrote plan OutOfMemory acts entries last wrote = inl wrote
 
 part_wrote : (plan : Plan) (stop : Stop) (acts : List Act) (entries missing : List Entry) (last : List Session) → MayMiss stop missing → WrotePart plan acts entries last
     → Wrote plan stop acts entries last
 part_wrote plan BehindLine acts entries missing last may wrote = absurd may
+part_wrote plan Denied acts entries missing last may wrote = absurd may
 part_wrote plan SinkFailed acts entries missing last may wrote = inr wrote
 part_wrote plan OutOfMemory acts entries missing last may wrote = inr wrote
 
@@ -247,12 +250,35 @@ pub record IsWritten (plan : Plan) (stop : Stop) (lines : List (List ℕ)) (acts
   pub greeted : All IsGreeted acts
   pub wrote : Wrote plan stop acts entries last
 
+-- a line whose first step came to nothing opens and feeds nothing
+pub first_none : (order : Order) (sessions : List Session) (step : Made) → FirstStep order sessions step → (opened_at (Some order) ≡ []) × ((j : ℕ) → told.fed_by j (Some order) ≡ [])
+first_none (Close k) sessions step first = (refl, λ j. refl)
+first_none (GiveUp k) sessions step first = (refl, λ j. refl)
+first_none (Moves order) sessions step first = (refl, λ j. refl)
+first_none (Open protocol node) sessions step first = absurd first
+first_none (Say k text) sessions step first = absurd first
+first_none (Feed k octets) sessions step first = absurd first
+first_none End sessions step first = absurd first
+
+tried_made : (plan : Plan) (so_far : List Act) (stop : Stop) (old new : List Session) (line : List ℕ) (entries : List Entry) (extra : List Made) → IsTried plan so_far stop old line entries extra
+    → new ≡ old → AreMade plan old (line ∷ []) [] [] new
+tried_made plan so_far stop old new line entries extra tried is =
+    let none = first_none tried.order old tried.step tried.first in
+    record {
+      done = is;
+      acts_of = record {
+        opens = append-nil (opened_at (tape_order line)) ∙ ap opened_at tried.spelled ∙ none.0;
+        feeds = λ k. append-nil (told.fed_by k (tape_order line)) ∙ ap (told.fed_by k) tried.spelled ∙ none.1 k;
+      };
+      greeted = All-nil IsGreeted;
+    }
+
 -- Lines that were handled, and after them none, or one that was left off.
-module _ (plan : Plan) (stop : Stop) (down : List ℕ) (lines : List (List ℕ)) (mid last : List Session) (acts : List Act) (outputs : List (List Entry))
+module _ (plan : Plan) (stop : Stop) (so_far : List Act) (lines : List (List ℕ)) (mid last : List Session) (acts : List Act) (outputs : List (List Entry))
     (made : AreMade plan [] lines acts outputs mid) where
-  off_written : (left : List (List ℕ)) (others : List (List Act)) (tail : List Entry) (extra : List Made) → IsLeftOff plan down stop mid left others tail extra last
+  off_written : (left : List (List ℕ)) (others : List (List Act)) (tail : List Entry) (extra : List Made) → IsLeftOff plan so_far stop mid left others tail extra last
       → IsWritten plan stop (lines ++ left) (acts ++ flat_map (λ a. a) others) (all_of outputs ++ tail) last
-  off_written [] [] tail extra (none, no_step, is, whole) =
+  off_written [] [] tail extra (none, no_step, is, no_fault, no_denial) =
       subst (λ (l : List (List ℕ)). IsWritten plan stop l (acts ++ []) (all_of outputs ++ tail) last) (sym (append-nil lines))
       (subst (λ (a : List Act). IsWritten plan stop lines a (all_of outputs ++ tail) last) (sym (append-nil acts)) (record {
         acts_of = made.acts_of;
@@ -263,8 +289,20 @@ module _ (plan : Plan) (stop : Stop) (down : List ℕ) (lines : List (List ℕ))
           written = ap (λ (l : List Entry). all_of outputs ++ l) none ∙ append-nil (all_of outputs);
         });
       }))
-  off_written (line ∷ []) (more ∷ []) tail extra (turn, cut, asked) =
-      let one = begun_made plan down mid last line more (cut.before ++ cut.says ∷ []) turn cut.begun in
+  off_written (line ∷ []) ([] ∷ []) tail extra (tried, is) =
+      let both = made_both plan [] mid last lines (line ∷ []) acts [] outputs [] made (tried_made plan so_far stop mid last line tail extra tried is) in
+      record {
+        acts_of = both.acts_of;
+        greeted = both.greeted;
+        wrote = all_wrote plan stop (acts ++ []) (all_of outputs ++ tail) last (record {
+          outputs = outputs ++ [];
+          done = both.done;
+          written = ap₂ (λ (o : List (List Entry)) (t : List Entry). all_of o ++ t) (sym (append-nil outputs)) tried.none ∙ append-nil (all_of (outputs ++ []));
+        });
+      }
+  off_written (line ∷ []) ((act ∷ acts_of_line) ∷ []) tail extra (turn, cut, asked) =
+      let more : List Act = act ∷ acts_of_line in
+      let one = begun_made plan so_far mid last line more (cut.before ++ cut.says ∷ []) turn cut.begun in
       let both = made_both plan [] mid last lines (line ∷ []) acts more outputs (cut.before ++ cut.says ∷ []) made one in
       let end = last_of plan [] last (acts ++ more) (outputs ++ cut.before) cut.says
       (subst (λ (o : List (List Entry)). ActedAll plan [] (acts ++ more) o last) (sym (append_assoc outputs cut.before (cut.says ∷ []))) both.done) in
@@ -312,6 +350,7 @@ module _ (plan : Plan) (lines : List (List ℕ)) (acts : List Act) (entries : Li
 
   pub wrote_shown : (stop : Stop) → Wrote plan stop acts entries last → (sessions : List Session) × Shows plan lines entries acts sessions
   wrote_shown BehindLine wrote = all_shown wrote
+  wrote_shown Denied wrote = all_shown wrote
   wrote_shown SinkFailed wrote = ⊎_elim all_shown part_shown wrote
   wrote_shown OutOfMemory wrote = ⊎_elim all_shown part_shown wrote
 
@@ -348,5 +387,6 @@ module _ (plan : Plan) (kinds : List (Protocol × ℕ)) (acts : List Act) (entri
 
   pub wrote_acked : (stop : Stop) → Wrote plan stop acts entries last → (unwritten : List Ack) × MayBeUnwritten stop unwritten × AreAcked kinds acts entries unwritten
   wrote_acked BehindLine wrote = ([], refl, all_acked wrote)
+  wrote_acked Denied wrote = ([], refl, all_acked wrote)
   wrote_acked SinkFailed wrote = ⊎_elim (λ all. ([], inl refl, all_acked all)) (λ part. let acked = part_acked part in (acked.0, acked.1.few, acked.1)) wrote
   wrote_acked OutOfMemory wrote = ⊎_elim (λ all. ([], inl refl, all_acked all)) (λ part. let acked = part_acked part in (acked.0, acked.1.few, acked.1)) wrote

@@ -24,17 +24,18 @@ use Rattle.mail_model.proofs.ShownLists as shown
 use Rattle.mail_model.proofs.ShownCuts.{no_part, front_of_one}
 use Rattle.session_model.specs.Calls.{Call, Answer}
 use Rattle.session_model.specs.Calls.Call.{Deliver, Login, Fetch, Strike}
-use Rattle.session_model.specs.Calls.Answer.{Stored}
+use Rattle.session_model.specs.Calls.Answer.{Stored, Failed}
 use Rattle.session_model.specs.Talk.{Exchange, TalkGoes, opening_state, replies, farewell}
 use Rattle.session_model.specs.Talk.Standing.{Hearing}
 use Rattle.session_model.specs.Mailing.{StoredMail, filing_of, filings, stored_lines}
 use Rattle.session_model.specs.Sessions.{Session, session_at}
 use Rattle.session_model.specs.Facts.{ack_of}
 use Rattle.session_model.specs.Acts.{Act, Deed, Did, Acted, ActedAll, closing, opened_by, fed_by_act}
-use Rattle.session_model.specs.Acts.Act.{Opens, Does, Faults, StillWaits, Leaves}
-use Rattle.session_model.specs.Acts.Deed.{IsFed, Hears, IsAnswered, Falls, Closes}
+use Rattle.session_model.specs.Acts.Act.{Opens, Does, Faults, StillWaits, Leaves, Makes, Abandons}
+use Rattle.session_model.specs.Acts.Deed.{IsFed, Hears, IsAnswered, IsGivenUp, Falls, Closes}
 use Rattle.session_model.specs.Logs.{answered_by, answered_in, answers_of}
 use Rattle.session_model.specs.Books.{AtMostOne, acks_by}
+use Rattle.session_model.proofs.Events.{event_says_none, event_stores_none}
 use Rattle.session_model.proofs.Did.{Speaks, did_speaks, did_kind}
 use Rattle.session_model.proofs.Acts.{Kept, Spoken, kind_of, at_first, act_push, acted_keeps, closing_is, does_other}
 use Rattle.session_model.proofs.Logs.{did_grows, own_answered}
@@ -103,6 +104,9 @@ acks_own : (k : ℕ) (deed : Deed) → flat_map acks_by (answered_by (Does k dee
 acks_own k (IsAnswered call answer reply) =
     append-nil (map (ack_of k) (filing_of (Some call) (Some answer)))
     ∙ ap (map (ack_of k)) (sym (append-nil (filing_of (Some call) (Some answer))) ∙ sym (ap filed_by (own_answered k call answer)))
+acks_own k (IsGivenUp call reply) =
+    append-nil (map (ack_of k) (filing_of (Some call) (Some Failed)))
+    ∙ ap (map (ack_of k)) (sym (append-nil (filing_of (Some call) (Some Failed))) ∙ sym (ap filed_by (own_answered k call Failed)))
 acks_own k (IsFed octets) = refl
 acks_own k (Hears one) = refl
 acks_own k Falls = refl
@@ -196,6 +200,8 @@ module _ (plan : Plan) (kinds : List (Protocol × ℕ)) (acts : List Act) (entri
   acted_order (Faults node) more new others greeted (says, is) all = sym (ap (stored_sessions kinds) says)
   acted_order (StillWaits k) more new others greeted (says, is) all = sym (ap (stored_sessions kinds) says)
   acted_order (Leaves k user) more new others greeted (says, is) all = sym (ap (stored_sessions kinds) says)
+  acted_order (Makes order event) more new others greeted (says, is) all = sym (ap (stored_sessions kinds) says ∙ event_stores_none kinds event)
+  acted_order (Abandons k) more new others greeted (says, is) all = sym (ap (stored_sessions kinds) says)
   acted_order (Does k deed) more new others greeted (before, behind, said, at, did, says, is) all =
       let kind = kind_there kinds others old k before (all ∙ ap (λ (l : List (Protocol × ℕ)). l ++ others) kept.kinds) at in
       deed_order k deed before behind said at did kind (did_kind plan said before behind deed did).0
@@ -233,6 +239,8 @@ module _ (plan : Plan) (acts : List Act) (entries : List Entry) (old : List Sess
       by_act (Faults node) greets (says, is) none = subst (λ (e : List Entry). Greeted (lines_to k e)) (sym says) tt
       by_act (StillWaits j) greets (says, is) none = subst (λ (e : List Entry). Greeted (lines_to k e)) (sym says) tt
       by_act (Leaves j user) greets (says, is) none = subst (λ (e : List Entry). Greeted (lines_to k e)) (sym says) tt
+      by_act (Makes order event) greets (says, is) none = subst Greeted (sym (ap (lines_to k) says ∙ event_says_none k event)) tt
+      by_act (Abandons j) greets (says, is) none = subst (λ (e : List Entry). Greeted (lines_to k e)) (sym says) tt
       by_act (Does j deed) greets (first, behind, said, at, did, says, is) none = ⊎_elim
           (λ same.
           let was : Spoken plan (flat_map (fed_by_act k) acts) (lines_to k entries) (Some first) = subst (Spoken plan (flat_map (fed_by_act k) acts) (lines_to k entries)) (ap (session_at old) same ∙ at) (kept.each k) in
@@ -306,6 +314,7 @@ one_filing k (Strike user ids) answer = inl refl
 one_acked : (act : Act) → AtMostOne (flat_map acks_by (answered_by act))
 one_acked (Does k (IsAnswered call answer reply)) =
     subst AtMostOne (sym (append-nil (map (ack_of k) (filing_of (Some call) (Some answer))))) (one_filing k call answer)
+one_acked (Does k (IsGivenUp call reply)) = subst AtMostOne (sym (append-nil (map (ack_of k) (filing_of (Some call) (Some Failed))))) (one_filing k call Failed)
 one_acked (Does k (IsFed octets)) = inl refl
 one_acked (Does k (Hears one)) = inl refl
 one_acked (Does k Falls) = inl refl
@@ -314,6 +323,8 @@ one_acked (Opens protocol node greeting) = inl refl
 one_acked (Faults node) = inl refl
 one_acked (StillWaits k) = inl refl
 one_acked (Leaves k user) = inl refl
+one_acked (Makes order event) = inl refl
+one_acked (Abandons k) = inl refl
 
 -- what the last act writes is cut
 pub cut_acked : (plan : Plan) (kinds others : List (Protocol × ℕ)) (acts : List Act) (entries says front missing : List Entry) (old new : List Session) (act : Act)

@@ -27,12 +27,13 @@ use Rattle.session_model.specs.Sessions.{Session, Gets, session_at, exchanges_of
 use Rattle.session_model.specs.Acts.{Act}
 use Rattle.session_model.specs.Logs.{Asked, calls_of, asked_by, answered_by, asked_in}
 use Rattle.session_model.specs.Run.{Stop}
-use Rattle.session_model.specs.Run.Stop.{BehindLine, SinkFailed, OutOfMemory}
+use Rattle.session_model.specs.Run.Stop.{BehindLine, Denied, SinkFailed, OutOfMemory}
 use Rattle.session_model.specs.Runs.{Shows}
 use Rattle.session_model.specs.Promises.{Deletes, IsTold}
 use Rattle.session_model.specs.Copies.{EachStands}
 use Rattle.session_model.specs.Facts.{DroppedAreTrue}
 use Rattle.session_model.specs.Books.{Among, AreBegun, IsBookOf, MayBeUnwritten, StruckAsMarked}
+use Rattle.session_model.specs.Losses.{IsLostIn}
 use Rattle.session_model.specs.Owes.{OwesDeletions}
 use Rattle.session_model.specs.Kept.{OwedIsKept, IsEnding}
 use Rattle.session_model.proofs.Acts.{kind_of}
@@ -162,10 +163,10 @@ ids_front : (acks more : List Ack) → HaveOtherIds (acks ++ more) → HaveOther
 ids_front [] more have = tt
 ids_front (ack ∷ acks) more have = (other_front ack.id acks more have.0, ids_front acks more have.1)
 
-stand_front : (plan : Plan) (lines : List (List ℕ)) (entries : List Entry) (disks : List (List Record)) (acks more : List Ack) → EachStands plan lines entries disks (acks ++ more)
-    → EachStands plan lines entries disks acks
-stand_front plan lines entries disks [] more stand = tt
-stand_front plan lines entries disks (ack ∷ acks) more stand = (stand.0, stand.1, stand.2, stand_front plan lines entries disks acks more stand.3)
+stand_front : (plan : Plan) (lines : List (List ℕ)) (lost : ℕ → Type 0) (disks : List (List Record)) (acks more : List Ack) → EachStands plan lines lost disks (acks ++ more)
+    → EachStands plan lines lost disks acks
+stand_front plan lines lost disks [] more stand = tt
+stand_front plan lines lost disks (ack ∷ acks) more stand = (stand.0, stand.1, stand.2, stand_front plan lines lost disks acks more stand.3)
 
 module _ (plan : Plan) (lines : List (List ℕ)) (entries : List Entry) (acts : List Act) (sessions : List Session) (shows : Shows plan lines entries acts sessions) where
   -- the messages of a session
@@ -202,7 +203,7 @@ module _ (plan : Plan) (lines : List (List ℕ)) (entries : List Entry) (acts : 
       front = same_front (mails_in k acked.acks) (mails_in k unwritten) (mails (filings session.whole)) (mails (filings session.others)) whole long
 
   -- The book has the deletions that clients marked.
-  struck : (stop : Stop) (disks : List (List Record)) (begun : List Asked) (book : List BookEntry) (facts : DroppedAreTrue plan entries disks sessions)
+  struck : (stop : Stop) (disks : List (List Record)) (begun : List Asked) (book : List BookEntry) (facts : DroppedAreTrue plan (IsLostIn stop lines entries) disks sessions)
       → AreBegun stop (flat_map asked_by acts) begun → IsBookOf lines begun (flat_map answered_by acts) book
       → StruckAsMarked stop entries sessions (flat_map asked_by acts) begun (flat_map answered_by acts) book
   struck stop disks begun book facts were is_book = record {
@@ -254,6 +255,7 @@ front_asked (other ∷ begun) more one is = ⊎_elim (λ same. inl same) (λ lat
 
 pub begun_asked : (stop : Stop) (asked begun : List Asked) → AreBegun stop asked begun → (one : Asked) → Among one begun → Among one asked
 begun_asked BehindLine asked begun were one is = subst (Among one) were is
+begun_asked Denied asked begun were one is = subst (Among one) were is
 begun_asked SinkFailed asked begun were one is = subst (Among one) were is
 begun_asked OutOfMemory asked begun were one is = ⊎_elim
     (λ same. subst (Among one) same is)
@@ -270,12 +272,12 @@ owed_is_kept plan tells stop handled left acts others made entries ending last s
     lines_of = acked.lines_of;
     told = told_of plan lines (entries ++ ending) done sessions shows all.0 acked;
     other_ids = ids_front acked.acks all.0 (subst HaveOtherIds (sym acked.are) owes.stored.other_ids);
-    stands = stand_front plan lines (entries ++ ending) disks acked.acks all.0 (subst (EachStands plan lines (entries ++ ending) disks) (sym acked.are) owes.stored.stand);
+    stands = stand_front plan lines lost disks acked.acks all.0 (subst (EachStands plan lines lost disks) (sym acked.are) owes.stored.stand);
   };
-  deleted_by_quit = true_answers_delete plan lines (entries ++ ending) disks sessions shows.are facts;
+  deleted_by_quit = true_answers_delete plan stop lines (entries ++ ending) disks sessions shows.are facts;
   shown_as_filed = λ told. true_answers_show plan lines (entries ++ ending) filed sessions shows.are
       (owed_parts_are_true plan lines (entries ++ ending) filed done sessions shows (owes.parts told));
-  shown_once = true_listings_show plan lines (entries ++ ending) sessions shows.are (owed_listings_are_true plan lines (entries ++ ending) disks done sessions shows owed);
+  shown_once = true_listings_show plan lines (entries ++ ending) sessions shows.are (owed_listings_are_true plan stop lines (entries ++ ending) disks done sessions shows owed);
   acknowledged_as_told = record {
     may = all.1;
     copies = subst (λ (a : List Ack). AreCopies lines a (acked_in book)) (sym acked.are) owes.books.is_book.acked;
@@ -289,6 +291,9 @@ owed_is_kept plan tells stop handled left acts others made entries ending last s
   where
     lines : List (List ℕ)
     lines = handled ++ left
+
+    lost : ℕ → Type 0
+    lost = IsLostIn stop lines (entries ++ ending)
 
     done : List Act
     done = flat_map (λ a. a) (acts ++ others)
@@ -320,7 +325,7 @@ owed_is_kept plan tells stop handled left acts others made entries ending last s
     }
 
     -- what is owed of what was begun is owed of what was asked
-    owed : OwesDeletions plan (entries ++ ending) disks (flat_map asked_by done) (flat_map answered_by done)
+    owed : OwesDeletions plan lost disks (flat_map asked_by done) (flat_map answered_by done)
     owed = record {
       asks = λ n user id gone. let found = owes.deletions.asks n user id gone in
           (found.0, found.1, begun_asked stop (flat_map asked_by done) begun were (record { session = found.0; call = Strike user found.1 }) found.2, found.3);
@@ -329,5 +334,5 @@ owed_is_kept plan tells stop handled left acts others made entries ending last s
       named = owes.deletions.named;
     }
 
-    facts : DroppedAreTrue plan (entries ++ ending) disks sessions
-    facts = owed_deletions_are_true plan lines (entries ++ ending) disks done sessions shows owed
+    facts : DroppedAreTrue plan lost disks sessions
+    facts = owed_deletions_are_true plan stop lines (entries ++ ending) disks done sessions shows owed

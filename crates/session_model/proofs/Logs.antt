@@ -8,14 +8,15 @@ use Rattle.mail_model.specs.Transcript.{all_of}
 use Rattle.mail_model.proofs.Choices.{split_if}
 use Rattle.mail_model.proofs.Sessions.{by_number}
 use Rattle.session_model.specs.Calls.{Call, Answer}
+use Rattle.session_model.specs.Calls.Answer.{Failed}
 use Rattle.session_model.specs.Talk.{TalkState, Exchange, Standing, Lead, IsLed, Breaks, TalkGoes, opening_state, stands, standing_asked, heard, lead_of}
 use Rattle.session_model.specs.Talk.Lead.{Says, Ends, Asks}
 use Rattle.session_model.specs.Talk.Standing.{Hearing, Waiting}
 use Rattle.session_model.specs.Moves.{with_answer}
 use Rattle.session_model.specs.Sessions.{Session, session_at, exchanges_of}
-use Rattle.session_model.specs.Acts.{Act, Deed, Did, Acted, ActedAll, opened_session}
-use Rattle.session_model.specs.Acts.Act.{Opens, Does, Faults, StillWaits, Leaves}
-use Rattle.session_model.specs.Acts.Deed.{IsFed, Hears, IsAnswered, Falls, Closes}
+use Rattle.session_model.specs.Acts.{Act, Deed, Did, WasAnswered, Acted, ActedAll, opened_session}
+use Rattle.session_model.specs.Acts.Act.{Opens, Does, Faults, StillWaits, Leaves, Makes, Abandons}
+use Rattle.session_model.specs.Acts.Deed.{IsFed, Hears, IsAnswered, IsGivenUp, Falls, Closes}
 use Rattle.session_model.specs.Logs.{Asked, Answered, IsLogged, call_in, answer_in, calls_of, answers_of, asked_by, answered_by, asked_in, answered_in}
 use Rattle.session_model.proofs.Chains.{goes_at}
 use Rattle.session_model.proofs.Did.{Speaks, never_waits}
@@ -52,11 +53,13 @@ asked_other : (j k : ℕ) (deed : Deed) → j ≢ k → asked_in j (asked_by (Do
 asked_other j k (Hears one) other = other_asked j k one.call other
 asked_other j k (IsFed octets) other = refl
 asked_other j k (IsAnswered call answer reply) other = refl
+asked_other j k (IsGivenUp call reply) other = refl
 asked_other j k Falls other = refl
 asked_other j k Closes other = refl
 
 answered_other : (j k : ℕ) (deed : Deed) → j ≢ k → answered_in j (answered_by (Does k deed)) ≡ []
 answered_other j k (IsAnswered call answer reply) other = other_answered j k call answer other
+answered_other j k (IsGivenUp call reply) other = other_answered j k call Failed other
 answered_other j k (IsFed octets) other = refl
 answered_other j k (Hears one) other = refl
 answered_other j k Falls other = refl
@@ -116,6 +119,24 @@ still k deed old new same no_call no_answer = record {
   answers = ap answers_of same ∙ sym (append-nil (answers_of old.whole)) ∙ ap (λ (l : List (Call × Answer)). answers_of old.whole ++ l) (sym no_answer);
 }
 
+-- a call that was answered, or given up
+answer_grows : (plan : Plan) (k : ℕ) (said lines : List (List ℕ)) (old new : Session) (deed : Deed) (call : Call) (answer : Answer) (reply : List (List ℕ)) → Speaks plan said old
+    → WasAnswered old call answer reply lines new → asked_by (Does k deed) ≡ [] → answered_by (Does k deed) ≡ record { session = k; call = call; answer = answer } ∷ [] → Grows k deed old new
+answer_grows plan k said lines old new deed call answer reply speaks did no_call is_answer =
+    let before : List Exchange = did.0 in
+    let one : Exchange = did.1 in
+    let waits = waiting_in plan said old before one did.2 call speaks did.3 did.4 in
+    let whole : new.whole ≡ before ++ with_answer one answer reply ∷ [] = ap (λ (s : Session). s.whole) did.7 in
+    record {
+      asks = ap calls_of whole ∙ calls_push before (with_answer one answer reply) ∙ sym (calls_push before one) ∙ ap calls_of (sym did.3) ∙ sym (append-nil (calls_of old.whole))
+          ∙ ap (λ (l : List Asked). calls_of old.whole ++ asked_in k l) (sym no_call);
+      answers = ap answers_of whole ∙ answers_push before (with_answer one answer reply)
+          ∙ ap₂ ◌++◌
+          (sym (append-nil (answers_of before)) ∙ ap (λ (l : List (Call × Answer)). answers_of before ++ l) (sym (ap (answer_in one.call) waits.0 ∙ none_answered one.call))
+          ∙ sym (answers_push before one) ∙ ap answers_of (sym did.3))
+          (ap (λ (c : Option Call). answer_in c (Some answer)) waits.1 ∙ sym (own_answered k call answer) ∙ ap (answered_in k) (sym is_answer));
+    }
+
 pub did_grows : (plan : Plan) (k : ℕ) (said lines : List (List ℕ)) (old new : Session) (deed : Deed) → Speaks plan said old → Did plan old deed lines new → Grows k deed old new
 did_grows plan k said lines old new (IsFed more) speaks did = still k (IsFed more) old new (ap (λ (s : Session). s.whole) did.2) refl refl
 did_grows plan k said lines old new Falls speaks did = still k Falls old new (ap (λ (s : Session). s.whole) did.2) refl refl
@@ -127,19 +148,8 @@ did_grows plan k said lines old new (Hears one) speaks did =
       answers = ap answers_of whole ∙ answers_push old.whole one
           ∙ ap (λ (l : List (Call × Answer)). answers_of old.whole ++ l) (ap (answer_in one.call) did.6 ∙ none_answered one.call);
     }
-did_grows plan k said lines old new (IsAnswered call answer reply) speaks did =
-    let before : List Exchange = did.0 in
-    let one : Exchange = did.1 in
-    let waits = waiting_in plan said old before one did.2 call speaks did.3 did.4 in
-    let whole : new.whole ≡ before ++ with_answer one answer reply ∷ [] = ap (λ (s : Session). s.whole) did.7 in
-    record {
-      asks = ap calls_of whole ∙ calls_push before (with_answer one answer reply) ∙ sym (calls_push before one) ∙ ap calls_of (sym did.3) ∙ sym (append-nil (calls_of old.whole));
-      answers = ap answers_of whole ∙ answers_push before (with_answer one answer reply)
-          ∙ ap₂ ◌++◌
-          (sym (append-nil (answers_of before)) ∙ ap (λ (l : List (Call × Answer)). answers_of before ++ l) (sym (ap (answer_in one.call) waits.0 ∙ none_answered one.call))
-          ∙ sym (answers_push before one) ∙ ap answers_of (sym did.3))
-          (ap (λ (c : Option Call). answer_in c (Some answer)) waits.1 ∙ sym (own_answered k call answer));
-    }
+did_grows plan k said lines old new (IsAnswered call answer reply) speaks did = answer_grows plan k said lines old new (IsAnswered call answer reply) call answer reply speaks did refl refl
+did_grows plan k said lines old new (IsGivenUp call reply) speaks did = answer_grows plan k said lines old new (IsGivenUp call reply) call Failed reply speaks did refl refl
 
 -- all sessions
 
@@ -180,6 +190,8 @@ module _ (plan : Plan) (acts : List Act) (entries : List Entry) (old : List Sess
   acted_logged (Faults node) more new (says, is) j = log_alone (Faults node) new j refl refl (ap (λ (l : List Session). session_at l j) is)
   acted_logged (StillWaits k) more new (says, is) j = log_alone (StillWaits k) new j refl refl (ap (λ (l : List Session). session_at l j) is)
   acted_logged (Leaves k user) more new (says, is) j = log_alone (Leaves k user) new j refl refl (ap (λ (l : List Session). session_at l j) is)
+  acted_logged (Makes order event) more new (says, is) j = log_alone (Makes order event) new j refl refl (ap (λ (l : List Session). session_at l j) is)
+  acted_logged (Abandons k) more new (says, is) j = log_alone (Abandons k) new j refl refl (ap (λ (l : List Session). session_at l j) is)
   acted_logged (Opens protocol node greeting) more new (says, is) j = ⊎_elim
       (λ same.
       let before : Logged (asked_in j (flat_map asked_by acts)) (answered_in j (flat_map answered_by acts)) None =

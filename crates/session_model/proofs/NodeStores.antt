@@ -12,6 +12,7 @@ use Rattle.session_model.specs.Calls.{Call, Answer}
 use Rattle.session_model.specs.Calls.Call.{Deliver, Login, Fetch, Strike}
 use Rattle.session_model.specs.Calls.Answer.{Stored, Listed, Wrong, Part, GoneAlready, Dropped}
 use Rattle.session_model.specs.Books.{acks_by}
+use Rattle.session_model.specs.Losses.{IsLostIn}
 use Rattle.session_model.specs.OneNode.{NodeState, Served, LeavesSome, Serves, ServesAll, IsTaken, AreCallsTaken, OneNodeStores, first_node, told_of, answered_of}
 use Rattle.std.proofs.lemmas.List.Concat.{flat_map-append}
 
@@ -100,9 +101,9 @@ module _ (plan : Plan) (tells : Bool) (lines : List (List ℕ)) where
       (all_keep mid last (acks ++ acks_of one.session one.call one.answer) served (serves_keeps one.session old mid one.call one.answer acks keeps taken.0 serves) taken.1 rest)
 
 pub one_node_stores : OneNodeStores
-one_node_stores plan tells lines entries served last one sure taken serves =
+one_node_stores plan tells stop lines entries served last one sure taken serves =
     let keeps = all_keep plan tells lines first_node last [] served (record { ours = (tt, tt); stand = omega arith }) taken serves in
     record {
-      stand = each_stands plan one sure last.drawn last.records lines entries 0 (flat_map acks_by (answered_of served)) keeps.stand;
+      stand = each_stands plan one sure last.drawn last.records lines (IsLostIn stop lines entries) 0 (flat_map acks_by (answered_of served)) keeps.stand;
       other_ids = other_ids 0 last.drawn (opened lines) last.records (flat_map acks_by (answered_of served)) keeps.stand;
     }

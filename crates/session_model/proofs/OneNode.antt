@@ -25,6 +25,7 @@ use Rattle.session_model.proofs.OnNode.{on_one}
 use Rattle.mail_model.proofs.ShownReplies as shown
 use Rattle.mail_model.proofs.ShownReplies.{items_for, item_for}
 use Rattle.mail_model.proofs.ShownFiled.{AreClosed, AreHeld, held_more, listing_listed, message_closed, gone_closed, held_closed, stored_ends}
+use Rattle.session_model.specs.Losses.{IsLostIn}
 use Rattle.session_model.specs.Calls.{Call, Answer}
 use Rattle.session_model.specs.Calls.Call.{Deliver, Login, Fetch, Strike}
 use Rattle.session_model.specs.Calls.Answer.{Stored, Listed, Wrong, Part, GoneAlready, Dropped}
@@ -333,13 +334,13 @@ held_named id (Octets other there ∷ records) octets all held = by_test (is_sam
     by_test false differ later held = later held
 
 pub one_node_owes : OneNodeOwes
-one_node_owes plan tells entries served last one sure mails serves grammar =
+one_node_owes plan tells stop lines entries served last one sure mails serves grammar =
     let all = serves_all plan tells first_node last [] served first_sound mails serves in (
       record {
         asks = λ n user id gone. struck_asked user id served (all.sound.gone user id (gone_here n user id gone));
         gone = λ k user ids id among within. (
           1 ∷ [],
-          on_one plan entries last.records one sure (SaysGone (Message user id))
+          on_one plan (IsLostIn stop lines entries) last.records one sure (SaysGone (Message user id))
               (answer_is tells last.records served all.true_of k (Strike user ids) Dropped among id within),
         );
         once = λ k user secret items among. (answer_is tells last.records served all.true_of k (Login user secret) (Listed items) among).0;

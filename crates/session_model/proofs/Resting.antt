@@ -5,7 +5,7 @@ use Rattle.std.proofs.lemmas.Bool.{cases_eq}
 use Rattle.mail_model.specs.Plan.{Plan}
 use Rattle.mail_model.specs.Tape.{Protocol, Order}
 use Rattle.mail_model.specs.Tape.Protocol.{Smtp, Pop}
-use Rattle.mail_model.specs.Tape.Order.{Open, Say, Feed, Close, End}
+use Rattle.mail_model.specs.Tape.Order.{Open, Say, Feed, Close, GiveUp, Moves, End}
 use Rattle.mail_model.specs.Lines.{sent_line}
 use Rattle.mail_model.specs.Session.Unit.{Line, Text}
 use Rattle.mail_model.specs.Told.{HasNoUnit}
@@ -19,20 +19,21 @@ use Rattle.session_model.specs.Talk.Standing.{EndedByQuit, EndedDown, EndedClose
 use Rattle.session_model.specs.Talk.Standing.{Hearing as Hears_on, Waiting}
 use Rattle.session_model.specs.Sessions.{Session, IsSession, session_at, exchanges_of}
 use Rattle.session_model.specs.Acts.{Act, Deed, Acted, replace, greeting_of, opened_session, fed_by_act}
-use Rattle.session_model.specs.Acts.Act.{Opens, Does, Faults, StillWaits, Leaves}
-use Rattle.session_model.specs.Acts.Deed.{IsFed, Hears, IsAnswered, Falls, Closes}
+use Rattle.session_model.specs.Acts.Act.{Opens, Does, Faults, StillWaits, Leaves, Makes, Abandons}
+use Rattle.session_model.specs.Acts.Deed.{IsFed, Hears, IsAnswered, IsGivenUp, Falls, Closes}
 use Rattle.session_model.specs.Turns.{Turn, Next, ActsGo, Starts, IsReadyToAsk, IsAtRest, turn_after_unit, to_leave}
-use Rattle.session_model.specs.Turns.Turn.{Hearing, Beginning, Falling, Asking}
-use Rattle.session_model.specs.Run.{Made, IsHandled, AreHandled, IsLeftOff}
-use Rattle.session_model.specs.Run.Stop.{BehindLine}
+use Rattle.session_model.specs.Turns.Turn.{Hearing, Beginning, Closing, Falling, Asking}
+use Rattle.session_model.specs.Run.{Stop, Made, MayMiss, IsCutShort, IsHandled, AreHandled, IsLeftOff}
+use Rattle.session_model.specs.Run.Stop.{BehindLine, Denied, SinkFailed, OutOfMemory}
 use Rattle.session_model.specs.Runs.{DrivenAnswersUnits}
 use Rattle.session_model.proofs.Acts.{Spoken, at_first, acts_keep, replaced, replaced_other, pushed, pushed_other}
-use Rattle.session_model.proofs.Driven.{WroteAll, IsWritten, driven_written, whole_shows}
+use Rattle.session_model.proofs.Driven.{Wrote, WroteAll, IsWritten, driven_written, whole_shows}
 
 -- the session whose turn it is to hear
 abbrev HearsNow : Turn → ℕ → Type 0
 HearsNow (Hearing k onward) j = j ≡ k
 HearsNow (Beginning k onward) j = ⊥
+HearsNow (Closing k onward) j = ⊥
 HearsNow (Falling k node onward) j = ⊥
 HearsNow (Asking k) j = ⊥
 
@@ -45,6 +46,7 @@ ready_rests : (turn : Turn) (sessions : List Session) (from : ℕ) → IsReadyTo
 ready_rests (Hearing k onward) sessions from ready rest j =
     ⊎_elim (λ is. is) (λ same. subst (λ (n : ℕ). IsAtRest (session_at sessions n)) (sym same) ready.1) (rest j)
 ready_rests (Beginning k onward) sessions from ready rest j = ⊎_elim (λ is. is) (λ none. absurd none) (rest j)
+ready_rests (Closing k onward) sessions from ready rest j = absurd ready
 ready_rests (Falling k node onward) sessions from ready rest j = ⊎_elim (λ is. is) (λ none. absurd none) (rest j)
 ready_rests (Asking k) sessions from ready rest j = ⊎_elim (λ is. is) (λ none. absurd none) (rest j)
 
@@ -113,6 +115,9 @@ module _ (plan : Plan) (old new : List Session) where
       subst (λ (t : Turn). OthersRest t new) (sym then)
       (changes j before behind (Falling k node onward) (Falling (j + 1) node onward) at is rest
       (inl (subst (λ (s : Session). IsIdle s.standing s.rest) (sym did.2) tt)) (λ i other none. absurd none))
+  next_rests (Closing k onward) next (Does j Closes) entries (same, then) (before, behind, said, at, did, says, is) rest =
+      subst (λ (t : Turn). OthersRest t new) (sym then)
+      (changes j before behind (Closing k onward) (Hearing k onward) at is rest (inr same) (λ i other none. absurd none))
   next_rests turn next (StillWaits j) entries (from, ready, first, then) (says, is) rest =
       subst (λ (t : Turn). OthersRest t new) (sym then) (same_rest (Asking (j + 1)) is (ready_rests turn old from ready rest))
   next_rests turn next (Does j (IsAnswered call answer reply)) entries (from, ready, first, then) (before, behind, said, at, did, says, is) rest =
@@ -120,33 +125,43 @@ module _ (plan : Plan) (old new : List Session) where
       (changes j before behind (Asking 0) (Hearing j j) at is (λ i. inl (ready_rests turn old from ready rest i)) (inr refl) (λ i other none. absurd none))
   next_rests (Hearing k onward) next act entries nexts acted rest = absurd nexts
   next_rests (Beginning k onward) next act entries nexts acted rest = absurd nexts
+  next_rests (Closing k onward) next act entries nexts acted rest = absurd nexts
   next_rests (Falling k node onward) next act entries nexts acted rest = absurd nexts
   next_rests (Asking k) next act entries nexts acted rest = absurd nexts
 
-  -- a session is fed, or closed
+  -- a session is fed, told that its call is given up, or closed
   deed_rest : (k : ℕ) (deed : Deed) (entries : List Entry) (turn : Turn) → Acted plan old (Does k deed) entries new → turn ≡ Hearing k 1 → ((j : ℕ) → IsAtRest (session_at old j))
       → OthersRest turn new
   deed_rest k deed entries turn (before, behind, said, at, did, says, is) is_turn rest =
       subst (λ (t : Turn). OthersRest t new) (sym is_turn) (changes k before behind (Asking 0) (Hearing k 1) at is (λ j. inl (rest j)) (inr refl) (λ j other none. absurd none))
 
   -- the first act of a line
-  starts_rest : (order : Order) (act : Act) (turn : Turn) (entries : List Entry) → Starts order old act turn → Acted plan old act entries new → ((j : ℕ) → IsAtRest (session_at old j))
+  starts_rest : (been : List Act) (order : Order) (act : Act) (turn : Turn) (entries : List Entry) → Starts plan been order old act turn → Acted plan old act entries new → ((j : ℕ) → IsAtRest (session_at old j))
       → OthersRest turn new
-  starts_rest (Open protocol node) act turn entries (is_act, is_turn) acted rest = λ j. ⊎_elim
+  starts_rest been (Open protocol node) act turn entries (boot, up, is_act, is_turn) acted rest = λ j. ⊎_elim
       (λ same. inl (subst IsAtRest (sym (ap (λ (l : List Session). session_at l j) opened.1 ∙ ap (session_at (old ++ opened_session protocol node ∷ [])) same ∙ pushed old (opened_session protocol node)))
       (opened_rests protocol)))
       (λ other. inl (subst IsAtRest (sym (ap (λ (l : List Session). session_at l j) opened.1 ∙ pushed_other old (opened_session protocol node) j other)) (rest j)))
       (cases_eq j (length old + 1))
     where
-      opened : Acted plan old (Opens protocol node (greeting_of protocol node 1 (length old + 1) 0)) entries new
+      opened : Acted plan old (Opens protocol node (greeting_of protocol node boot (length old + 1) 0)) entries new
       opened = subst (λ (a : Act). Acted plan old a entries new) is_act acted
-  starts_rest (Say k text) act turn entries (is_act, is_turn) acted rest =
+  starts_rest been (Say k text) act turn entries (is_act, is_turn) acted rest =
       deed_rest k (IsFed (sent_line text)) entries turn (subst (λ (a : Act). Acted plan old a entries new) is_act acted) is_turn rest
-  starts_rest (Feed k octets) act turn entries (is_act, is_turn) acted rest =
+  starts_rest been (Feed k octets) act turn entries (is_act, is_turn) acted rest =
       deed_rest k (IsFed octets) entries turn (subst (λ (a : Act). Acted plan old a entries new) is_act acted) is_turn rest
-  starts_rest (Close k) act turn entries (is_act, idle, is_turn) acted rest =
-      deed_rest k Closes entries turn (subst (λ (a : Act). Acted plan old a entries new) is_act acted) is_turn rest
-  starts_rest End act turn entries starts acted rest = absurd starts
+  starts_rest been (Close k) act turn entries starts acted rest = ⊎_elim
+      (λ now. deed_rest k Closes entries turn (subst (λ (a : Act). Acted plan old a entries new) now.0 acted) now.2 rest)
+      (λ first.
+      let abandons : Acted plan old (Abandons k) entries new = subst (λ (a : Act). Acted plan old a entries new) first.0 acted in
+      same_rest turn abandons.1 rest)
+      starts
+  starts_rest been (GiveUp k) act turn entries (call, reply, is_act, is_turn) acted rest =
+      deed_rest k (IsGivenUp call reply) entries turn (subst (λ (a : Act). Acted plan old a entries new) is_act acted) is_turn rest
+  starts_rest been (Moves order) act turn entries (event, may, is_act, is_turn) acted rest =
+      let makes : Acted plan old (Makes order event) entries new = subst (λ (a : Act). Acted plan old a entries new) is_act acted in
+      same_rest turn makes.1 rest
+  starts_rest been End act turn entries starts acted rest = absurd starts
 
 -- acts, one after another
 goes_rest : (plan : Plan) (turn last : Turn) (old new : List Session) (acts : List Act) (outputs : List (List Entry)) → ActsGo plan turn old acts outputs last new → OthersRest turn old
@@ -158,39 +173,54 @@ goes_rest plan turn last old new [] (entries ∷ outputs) goes rest = absurd goe
 goes_rest plan turn last old new (act ∷ acts) [] goes rest = absurd goes
 
 -- a line that was handled
-line_rests : (plan : Plan) (down : List ℕ) (old new : List Session) (line : List ℕ) (acts : List Act) (outputs : List (List Entry)) → IsHandled plan down old line acts outputs new
+line_rests : (plan : Plan) (been : List Act) (old new : List Session) (line : List ℕ) (acts : List Act) (outputs : List (List Entry)) → IsHandled plan been old line acts outputs new
     → ((j : ℕ) → IsAtRest (session_at old j)) → (j : ℕ) → IsAtRest (session_at new j)
-line_rests plan down old new line acts outputs handled rest =
+line_rests plan been old new line acts outputs handled rest =
     let begun = handled.begun in
     ready_rests handled.last new handled.done.0 handled.done.1
     (goes_rest plan begun.next handled.last begun.mid new begun.more begun.others begun.goes
-    (starts_rest plan old begun.mid begun.order begun.first begun.next begun.said begun.starts begun.acted rest))
+    (starts_rest plan old begun.mid been begun.order begun.first begun.next begun.said begun.starts begun.acted rest))
 
 -- all lines
-lines_rest : (plan : Plan) (down : List ℕ) (old new : List Session) (lines : List (List ℕ)) (by_line : List (List Act)) (outputs : List (List (List Entry)))
-    → AreHandled plan down old lines by_line outputs new → ((j : ℕ) → IsAtRest (session_at old j)) → (j : ℕ) → IsAtRest (session_at new j)
-lines_rest plan down old new [] [] [] is rest = λ j. subst (λ (l : List Session). IsAtRest (session_at l j)) (sym is) (rest j)
-lines_rest plan down old new (line ∷ lines) (acts ∷ by_line) (says ∷ outputs) (mid, one, more) rest =
-    lines_rest plan _ mid new lines by_line outputs more (line_rests plan down old mid line acts says one rest)
-lines_rest plan down old new lines by_line outputs h rest = absurd h
+lines_rest : (plan : Plan) (been : List Act) (old new : List Session) (lines : List (List ℕ)) (by_line : List (List Act)) (outputs : List (List (List Entry)))
+    → AreHandled plan been old lines by_line outputs new → ((j : ℕ) → IsAtRest (session_at old j)) → (j : ℕ) → IsAtRest (session_at new j)
+lines_rest plan been old new [] [] [] is rest = λ j. subst (λ (l : List Session). IsAtRest (session_at l j)) (sym is) (rest j)
+lines_rest plan been old new (line ∷ lines) (acts ∷ by_line) (says ∷ outputs) (mid, one, more) rest =
+    lines_rest plan _ mid new lines by_line outputs more (line_rests plan been old mid line acts says one rest)
+lines_rest plan been old new lines by_line outputs h rest = absurd h
 
 -- where no session was opened
 none_rest : (j : ℕ) → IsAtRest (session_at [] j)
 none_rest zero = tt
 none_rest (suc n) = subst IsAtRest (sym (by_number [] n)) tt
 
--- the work stopped after a line
-behind_rest : (plan : Plan) (down : List ℕ) (old new : List Session) (left : List (List ℕ)) (by_line : List (List Act)) (tail : List Entry) (extra : List Made)
-    → IsLeftOff plan down BehindLine old left by_line tail extra new → ((j : ℕ) → IsAtRest (session_at old j)) → (j : ℕ) → IsAtRest (session_at new j)
-behind_rest plan down old new [] [] tail extra (none, no_step, is, whole) rest = λ j. subst (λ (l : List Session). IsAtRest (session_at l j)) (sym is) (rest j)
-behind_rest plan down old new (line ∷ []) (acts ∷ []) tail extra (turn, cut, more) rest = absurd cut.may
-behind_rest plan down old new left by_line tail extra off rest = absurd off
+-- nothing of a line is missing
+pub none_cut : (stop : Stop) (missing : List Entry) → (IsCutShort stop → ⊥) → MayMiss stop missing → ⊥
+none_cut BehindLine missing whole may = may
+none_cut Denied missing whole may = may
+none_cut SinkFailed missing whole may = whole tt
+none_cut OutOfMemory missing whole may = whole tt
+
+-- the work stopped between two lines
+behind_rest : (plan : Plan) (been : List Act) (stop : Stop) (old new : List Session) (left : List (List ℕ)) (by_line : List (List Act)) (tail : List Entry) (extra : List Made)
+    → (IsCutShort stop → ⊥) → IsLeftOff plan been stop old left by_line tail extra new → ((j : ℕ) → IsAtRest (session_at old j)) → (j : ℕ) → IsAtRest (session_at new j)
+behind_rest plan been stop old new [] [] tail extra whole (none, no_step, is, no_fault, no_denial) rest = λ j. subst (λ (l : List Session). IsAtRest (session_at l j)) (sym is) (rest j)
+behind_rest plan been stop old new (line ∷ []) ([] ∷ []) tail extra whole (tried, is) rest = λ j. subst (λ (l : List Session). IsAtRest (session_at l j)) (sym is) (rest j)
+behind_rest plan been stop old new (line ∷ []) ((act ∷ acts) ∷ []) tail extra whole (turn, cut, more) rest = absurd (none_cut stop cut.missing whole cut.may)
+behind_rest plan been stop old new left by_line tail extra whole off rest = absurd off
+
+-- all was written
+wrote_whole : (plan : Plan) (stop : Stop) (acts : List Act) (entries : List Entry) (last : List Session) → (IsCutShort stop → ⊥) → Wrote plan stop acts entries last → WroteAll plan acts entries last
+wrote_whole plan BehindLine acts entries last whole wrote = wrote
+wrote_whole plan Denied acts entries last whole wrote = wrote
+wrote_whole plan SinkFailed acts entries last whole wrote = absurd (whole tt)
+wrote_whole plan OutOfMemory acts entries last whole wrote = absurd (whole tt)
 
 pub driven_answers_units : DrivenAnswersUnits
-driven_answers_units plan handled left acts others made entries last driven k session at = (
+driven_answers_units plan stop handled left acts others made entries last driven whole k session at = (
   subst (λ (e : List Entry). IsSession plan lines e k session) (sym wrote.written) ((whole_shows plan lines done wrote.outputs last wrote.done written.acts_of).are.each k session at),
   spoken.3.none,
-  subst IsAtRest at (behind_rest plan _ driven.mid last left others driven.tail driven.extra driven.off
+  subst IsAtRest at (behind_rest plan _ stop driven.mid last left others driven.tail driven.extra whole driven.off
       (lines_rest plan [] [] driven.mid handled acts driven.outputs driven.are none_rest) k),
 )
   where
@@ -200,11 +230,11 @@ driven_answers_units plan handled left acts others made entries last driven k se
     done : List Act
     done = flat_map (λ a. a) (acts ++ others)
 
-    written : IsWritten plan BehindLine lines done entries last
-    written = driven_written plan BehindLine handled left acts others made entries last driven
+    written : IsWritten plan stop lines done entries last
+    written = driven_written plan stop handled left acts others made entries last driven
 
     wrote : WroteAll plan done entries last
-    wrote = written.wrote
+    wrote = wrote_whole plan stop done entries last whole written.wrote
 
     spoken : Spoken plan (flat_map (fed_by_act k) done) (lines_to k (all_of wrote.outputs)) (Some session)
     spoken = subst (Spoken plan (flat_map (fed_by_act k) done) (lines_to k (all_of wrote.outputs))) at ((acts_keep plan [] done [] [] last wrote.outputs (at_first plan) wrote.done).each k)

@@ -1,18 +1,21 @@
 -- Each entry that acts write is one line of the transcript: no octet of it is an LF.
-use Rattle.std.proofs.Common.{⊎_elim, ℕ, List, [], ◌∷◌, ◌++◌, map, flat_map, All, refl, sym, subst, codes}
+use Rattle.std.proofs.Common.{⊎_elim, ℕ, true, false, List, [], ◌∷◌, ◌++◌, map, flat_map, All, refl, sym, subst, codes}
 use Rattle.std.proofs.lemmas.List.{map-append}
 use Rattle.std.proofs.lemmas.List.Elements.{All-nil, All-cons, All-head, All-tail, All-append}
 use Rattle.std.specs.Fmt.{decimal}
 use Rattle.mail_model.specs.Lines.{HasNoLf}
 use Rattle.mail_model.specs.Plan.{Plan}
-use Rattle.mail_model.specs.Transcript.{Entry, entry_line, said_lines, closed_event, all_of}
-use Rattle.mail_model.specs.Transcript.Entry.{Said}
+use Rattle.mail_model.specs.Transcript.{Entry, Why, why_word, entry_line, said_lines, closed_event, all_of}
+use Rattle.mail_model.specs.Transcript.Entry.{Said, Event}
+use Rattle.mail_model.specs.Transcript.Why.{WhileDown, Stale, Old, NotPromised, NotMember, Late}
 use Rattle.mail_model.proofs.OneLine.{IsNoLf, by_test, decimal_no_lf, said_line, event_line, closed_line}
 use Rattle.session_model.specs.Sessions.{Session}
-use Rattle.session_model.specs.Acts.{Act, Acted, ActedAll, closing, fault_event}
-use Rattle.session_model.specs.Acts.Act.{Opens, Does, Faults, StillWaits, Leaves}
+use Rattle.session_model.specs.Acts.{Act, Acted, ActedAll, closing}
+use Rattle.session_model.specs.Events.{ClusterEvent, event_entries, fault_event}
+use Rattle.session_model.specs.Events.ClusterEvent.{WentDown, CameUp, WasLost, WasHeard, WasThrown, WasDropped, HasFlowed, HasSent, HasWidened, HasFaulted}
+use Rattle.session_model.specs.Acts.Act.{Opens, Does, Faults, StillWaits, Leaves, Makes, Abandons}
 use Rattle.session_model.specs.Run.{Stop}
-use Rattle.session_model.specs.Run.Stop.{BehindLine, SinkFailed, OutOfMemory}
+use Rattle.session_model.specs.Run.Stop.{BehindLine, Denied, SinkFailed, OutOfMemory}
 use Rattle.session_model.specs.Runs.{DrivenWritesLines}
 use Rattle.session_model.proofs.Acts.{closing_is}
 use Rattle.session_model.proofs.Driven.{Wrote, WroteAll, WrotePart, driven_written}
@@ -41,14 +44,55 @@ reply_lines : (k : ℕ) (lines : List (List ℕ)) → AreLines (said_lines k lin
 reply_lines k [] = no_lines
 reply_lines k (line ∷ lines) = one_more (Said k line) (said_lines k lines) (said_line k line) (reply_lines k lines)
 
+-- an event of one text
+event_of : (text : List ℕ) → HasNoLf text → AreLines (Event text ∷ [])
+event_of text has = one_more (Event text) [] (event_line text has) no_lines
+
+-- a word before a number, or behind it
+before_number : (word : List ℕ) (n : ℕ) → HasNoLf word → HasNoLf (word ++ decimal n)
+before_number word n has = All-append IsNoLf word (decimal n) has (decimal_no_lf n)
+
+behind_number : (n : ℕ) (word : List ℕ) → HasNoLf word → HasNoLf (decimal n ++ word)
+behind_number n word has = All-append IsNoLf (decimal n) word (decimal_no_lf n) has
+
+-- what there is of a node
+of_node : (n : ℕ) (word : List ℕ) → HasNoLf word → HasNoLf (codes "node " ++ decimal n ++ word)
+of_node n word has = All-append IsNoLf (codes "node " ++ decimal n) word (before_number (codes "node ") n (by_test (codes "node ") refl)) has
+
+faulted : (node : ℕ) → AreLines (fault_event node ∷ [])
+faulted node = event_of (codes "fault " ++ decimal node) (before_number (codes "fault ") node (by_test (codes "fault ") refl))
+
+words : (why : Why) → HasNoLf (why_word why)
+words WhileDown = by_test (codes "down") refl
+words Stale = by_test (codes "stale") refl
+words Old = by_test (codes "old") refl
+words NotPromised = by_test (codes "not-promised") refl
+words NotMember = by_test (codes "not-member") refl
+words Late = by_test (codes "late") refl
+
+event_lines : (event : ClusterEvent) → AreLines (event_entries event)
+event_lines (WentDown node) = event_of _ (of_node node (codes " down") (by_test (codes " down") refl))
+event_lines (CameUp node boot) = event_of _ (All-append IsNoLf (codes "node " ++ decimal node ++ codes " up ") (decimal boot) (of_node node (codes " up ") (by_test (codes " up ") refl)) (decimal_no_lf boot))
+event_lines (WasLost node) = event_of _ (of_node node (codes " lost") (by_test (codes " lost") refl))
+event_lines (WasHeard letter) = event_of _ (behind_number letter (codes " heard") (by_test (codes " heard") refl))
+event_lines (WasThrown letter why) =
+    event_of _ (All-append IsNoLf (decimal letter ++ codes " thrown ") (why_word why) (behind_number letter (codes " thrown ") (by_test (codes " thrown ") refl)) (words why))
+event_lines (WasDropped letter) = no_lines
+event_lines HasFlowed = event_of (codes "flowed") (by_test (codes "flowed") refl)
+event_lines (HasSent count) = event_of _ (before_number (codes "sent ") count (by_test (codes "sent ") refl))
+event_lines (HasWidened true) = event_of (codes "widened") (by_test (codes "widened") refl)
+event_lines (HasWidened false) = event_of (codes "not widened") (by_test (codes "not widened") refl)
+event_lines (HasFaulted node) = faulted node
+
 -- one act
 acted_lines : (plan : Plan) (old new : List Session) (act : Act) (entries : List Entry) → Acted plan old act entries new → AreLines entries
 acted_lines plan old new (Opens protocol node greeting) entries (says, is) = subst AreLines (sym says) (reply_lines _ (greeting ∷ []))
 acted_lines plan old new (Faults node) entries (says, is) =
-    subst AreLines (sym says) (one_more (fault_event node) [] (event_line (codes "fault " ++ decimal node)
-    (All-append IsNoLf (codes "fault ") (decimal node) (by_test (codes "fault ") refl) (decimal_no_lf node))) no_lines)
+    subst AreLines (sym says) (faulted node)
 acted_lines plan old new (StillWaits k) entries (says, is) = subst AreLines (sym says) no_lines
 acted_lines plan old new (Leaves k user) entries (says, is) = subst AreLines (sym says) no_lines
+acted_lines plan old new (Makes order event) entries (says, is) = subst AreLines (sym says) (event_lines event)
+acted_lines plan old new (Abandons k) entries (says, is) = subst AreLines (sym says) no_lines
 acted_lines plan old new (Does k deed) entries (before, behind, said, at, did, says, is) =
     subst AreLines (sym says) (both (said_lines k said) (closing k deed behind.standing) (reply_lines k said) (⊎_elim
     (λ none. subst AreLines (sym none) no_lines)
@@ -72,6 +116,7 @@ module _ (plan : Plan) (acts : List Act) (entries : List Entry) (last : List Ses
 
   wrote_lines : (stop : Stop) → Wrote plan stop acts entries last → AreLines entries
   wrote_lines BehindLine wrote = whole_lines wrote
+  wrote_lines Denied wrote = whole_lines wrote
   wrote_lines SinkFailed wrote = ⊎_elim whole_lines part_lines wrote
   wrote_lines OutOfMemory wrote = ⊎_elim whole_lines part_lines wrote
 

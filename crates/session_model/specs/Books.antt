@@ -21,7 +21,7 @@ use Rattle.session_model.specs.Facts.{ack_of}
 use Rattle.session_model.specs.Promises.{Deletes}
 use Rattle.session_model.specs.Logs.{Asked, Answered}
 use Rattle.session_model.specs.Run.{Stop}
-use Rattle.session_model.specs.Run.Stop.{BehindLine, OutOfMemory}
+use Rattle.session_model.specs.Run.Stop.{BehindLine, Denied, OutOfMemory}
 
 -- the copies that a call asks to be deleted
 abbrev pub struck_by : Call → List (List ℕ × Id)
@@ -68,6 +68,7 @@ AtMostOne acks = (acks ≡ []) ⊎ ((ack : Ack) × (acks ≡ ack ∷ []))
 -- after a line all was written
 abbrev pub MayBeUnwritten : Stop → List Ack → Type 0
 MayBeUnwritten BehindLine unwritten = unwritten ≡ []
+MayBeUnwritten Denied unwritten = unwritten ≡ []
 MayBeUnwritten stop unwritten = AtMostOne unwritten
 
 -- The copies of the book are those of the messages that were answered `250 stored`, in the order of these lines, and after them those of one message at most whose

@@ -16,8 +16,10 @@ use Rattle.session_model.specs.Runs.{Shows}
 use Rattle.session_model.specs.Promises.{StoredStands, DeletedByQuit, ShownAsFiled, ShownOnce}
 use Rattle.session_model.specs.Books.{AcknowledgedAsTold, StruckAsMarked, AreBegun}
 use Rattle.session_model.specs.Owes.{Owes}
+use Rattle.session_model.specs.Losses.{IsLostIn}
 
--- All promises, over the run lines that were handled, the entries of the transcript, what the stores given back hold, the records of the nodes, and the book.
+-- All promises, over the run lines that were handled, the entries of the transcript, what the stores given back hold, the records of the nodes, and the book. A node
+-- that is lost for good owes nothing; which nodes are, tape and transcript tell.
 pub record KeepsPromises (plan : Plan) (tells : Bool) (stop : Stop) (lines : List (List ℕ)) (entries : List Entry) (stores : List (Option (List ℕ))) (disks : List (List Record))
     (filed : Id → Option (List ℕ)) (book : List BookEntry) (acts : List Act) (begun : List Asked) : Type 0 where
   -- the records of the nodes are what their stores hold, where these tell it
@@ -28,13 +30,13 @@ pub record KeepsPromises (plan : Plan) (tells : Bool) (stop : Stop) (lines : Lis
   -- the messages that were answered `250 stored`, and one at most whose line was not written
   pub acks : List Ack
   pub unwritten : List Ack
-  pub stored_stands : StoredStands plan lines entries disks sessions acks
-  pub deleted_by_quit : DeletedByQuit plan entries disks sessions
+  pub stored_stands : StoredStands plan lines entries (IsLostIn stop lines entries) disks sessions acks
+  pub deleted_by_quit : DeletedByQuit plan entries (IsLostIn stop lines entries) disks sessions
   pub shown_as_filed : tells ≡ true → ShownAsFiled filed sessions
   pub shown_once : ShownOnce sessions
   pub acknowledged_as_told : AcknowledgedAsTold plan stop lines sessions acks unwritten book
   pub struck_as_marked : StruckAsMarked stop entries sessions (flat_map asked_by acts) begun (flat_map answered_by acts) book
-  pub dropped_are_gone : DroppedAreGone plan entries disks book
+  pub dropped_are_gone : DroppedAreGone plan (IsLostIn stop lines entries) disks book
 
 -- at most one line that says why the program ended
 abbrev pub IsEnding : List Entry → Type 0
@@ -50,6 +52,6 @@ OwedIsKept = (plan : Plan) (tells : Bool) (stop : Stop) (handled left : List (Li
     (stores : List (Option (List ℕ))) (disks : List (List Record)) (filed : Id → Option (List ℕ)) (begun : List Asked) (book : List BookEntry)
     → IsDriven plan stop handled left acts others made entries last → IsEnding ending
     → AreBegun stop (flat_map asked_by (flat_map (λ a. a) (acts ++ others))) begun
-    → Owes plan tells (handled ++ left) (entries ++ ending) stores disks filed begun
+    → Owes plan tells (handled ++ left) (IsLostIn stop (handled ++ left) (entries ++ ending)) stores disks filed begun
     (flat_map answered_by (flat_map (λ a. a) (acts ++ others))) book
     → KeepsPromises plan tells stop (handled ++ left) (entries ++ ending) stores disks filed book (flat_map (λ a. a) (acts ++ others)) begun

@@ -4,8 +4,9 @@ use Rattle.session_model.specs.Calls.{Call, Answer}
 use Rattle.session_model.specs.Talk.{Exchange}
 use Rattle.session_model.specs.Sessions.{Session, session_at, exchanges_of}
 use Rattle.session_model.specs.Acts.{Act}
-use Rattle.session_model.specs.Acts.Act.{Opens, Does, Faults, StillWaits, Leaves}
-use Rattle.session_model.specs.Acts.Deed.{Hears, IsAnswered}
+use Rattle.session_model.specs.Calls.Answer.{Failed}
+use Rattle.session_model.specs.Acts.Act.{Opens, Does, Faults, StillWaits, Leaves, Makes, Abandons}
+use Rattle.session_model.specs.Acts.Deed.{Hears, IsAnswered, IsGivenUp}
 
 -- a call that session k asked
 pub record Asked : Type 0 where
@@ -44,15 +45,20 @@ asked_by (Does k deed) = []
 asked_by (Faults node) = []
 asked_by (StillWaits session) = []
 asked_by (Leaves session user) = []
+asked_by (Makes order event) = []
+asked_by (Abandons session) = []
 
--- and what it answers
+-- and what it answers; a call that is given up is answered as one that failed
 abbrev pub answered_by : Act → List Answered
 answered_by (Opens protocol node greeting) = []
 answered_by (Does k (IsAnswered call answer reply)) = record { session = k; call = call; answer = answer } ∷ []
+answered_by (Does k (IsGivenUp call reply)) = record { session = k; call = call; answer = Failed } ∷ []
 answered_by (Does k deed) = []
 answered_by (Faults node) = []
 answered_by (StillWaits session) = []
 answered_by (Leaves session user) = []
+answered_by (Makes order event) = []
+answered_by (Abandons session) = []
 
 -- those of session k
 abbrev pub asked_in : ℕ → List Asked → List Call

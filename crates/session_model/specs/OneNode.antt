@@ -16,6 +16,8 @@ use Rattle.session_model.specs.Calls.{Call, Answer}
 use Rattle.session_model.specs.Calls.Call.{Deliver, Login, Fetch, Strike}
 use Rattle.session_model.specs.Calls.Answer.{Stored, Listed, Wrong, Part, GoneAlready, Dropped}
 use Rattle.session_model.specs.Logs.{Asked, Answered}
+use Rattle.session_model.specs.Run.{Stop}
+use Rattle.session_model.specs.Losses.{IsLostIn}
 use Rattle.session_model.specs.Owes.{OwesStored, OwesDeletions, OwesParts}
 
 -- the numbers that it drew, and its records
@@ -101,9 +103,9 @@ answered_of served = flat_map (λ one. told_of one.session one.call one.answer) 
 
 -- One node gives what a cluster owes.
 abbrev pub OneNodeOwes : Type 0
-OneNodeOwes = (plan : Plan) (tells : Bool) (entries : List Entry) (served : List Served) (last : NodeState) → plan.nodes ≡ 1 → plan.confirm ≡ 1
+OneNodeOwes = (plan : Plan) (tells : Bool) (stop : Stop) (lines : List (List ℕ)) (entries : List Entry) (served : List Served) (last : NodeState) → plan.nodes ≡ 1 → plan.confirm ≡ 1
     → AreSoundMails served → ServesAll plan tells first_node served last → All IsRecord last.records
-    → OwesDeletions plan entries (last.records ∷ []) (asked_of served) (answered_of served)
+    → OwesDeletions plan (IsLostIn stop lines entries) (last.records ∷ []) (asked_of served) (answered_of served)
     × (tells ≡ true → OwesParts (λ id. octets_in id last.records) (answered_of served))
 
 -- a session of the node that takes mail asked for each message
@@ -118,6 +120,6 @@ AreCallsTaken lines [] = ⊤
 AreCallsTaken lines (one ∷ more) = IsTaken lines one.session one.call × AreCallsTaken lines more
 
 abbrev pub OneNodeStores : Type 0
-OneNodeStores = (plan : Plan) (tells : Bool) (lines : List (List ℕ)) (entries : List Entry) (served : List Served) (last : NodeState) → plan.nodes ≡ 1 → plan.confirm ≡ 1
+OneNodeStores = (plan : Plan) (tells : Bool) (stop : Stop) (lines : List (List ℕ)) (entries : List Entry) (served : List Served) (last : NodeState) → plan.nodes ≡ 1 → plan.confirm ≡ 1
     → AreCallsTaken lines served → ServesAll plan tells first_node served last
-    → OwesStored plan lines entries (last.records ∷ []) (answered_of served)
+    → OwesStored plan lines (IsLostIn stop lines entries) (last.records ∷ []) (answered_of served)

@@ -17,21 +17,23 @@ use Rattle.session_model.specs.Facts.{IsIn, IsGoneIn, DroppedAreTrue, ListingsAr
 use Rattle.session_model.specs.Acts.{Act}
 use Rattle.session_model.specs.Logs.{Asked, Answered, asked_by, answered_by}
 use Rattle.session_model.specs.Books.{Among, AmongAnswers, IsBookOf, AreConfirmed, acks_by}
+use Rattle.session_model.specs.Run.{Stop}
+use Rattle.session_model.specs.Losses.{IsLostIn}
 use Rattle.session_model.specs.Runs.{Shows}
 
 -- what is gone was asked for, what was answered `Dropped` is gone, and a listing has each id once, and only ids that a journal can spell
-pub record OwesDeletions (plan : Plan) (entries : List Entry) (disks : List (List Record)) (begun : List Asked) (answered : List Answered) : Type 0 where
+pub record OwesDeletions (plan : Plan) (lost : ℕ → Type 0) (disks : List (List Record)) (begun : List Asked) (answered : List Answered) : Type 0 where
   pub asks : (n : ℕ) (user : List ℕ) (id : Id) → IsGoneIn disks n user id → (k : ℕ) × (ids : List Id) × Among (record { session = k; call = Strike user ids }) begun × IsIn id ids
   pub gone : (k : ℕ) (user : List ℕ) (ids : List Id) (id : Id) → AmongAnswers (record { session = k; call = Strike user ids; answer = Dropped }) answered → IsIn id ids
-      → (nodes : List ℕ) × AreGoneOn plan entries disks user id nodes
+      → (nodes : List ℕ) × AreGoneOn plan lost disks user id nodes
   pub once : (k : ℕ) (user secret : List ℕ) (items : List Item) → AmongAnswers (record { session = k; call = Login user secret; answer = Listed items }) answered
       → AllPairs (λ (a b : Id). a ≢ b) (map (λ (item : Item). item.id) items)
   pub named : (k : ℕ) (user secret : List ℕ) (items : List Item) → AmongAnswers (record { session = k; call = Login user secret; answer = Listed items }) answered
       → (i : ℕ) (item : Item) → slice_get items i ≡ Some item → IsId item.id
 
 -- each message that was answered `Stored` stands, under an id of its own and of the node of its session
-pub record OwesStored (plan : Plan) (lines : List (List ℕ)) (entries : List Entry) (disks : List (List Record)) (answered : List Answered) : Type 0 where
-  pub stand : EachStands plan lines entries disks (flat_map acks_by answered)
+pub record OwesStored (plan : Plan) (lines : List (List ℕ)) (lost : ℕ → Type 0) (disks : List (List Record)) (answered : List Answered) : Type 0 where
+  pub stand : EachStands plan lines lost disks (flat_map acks_by answered)
   pub other_ids : HaveOtherIds (flat_map acks_by answered)
 
 -- listings and parts are as it is filed
@@ -43,30 +45,31 @@ pub record OwesParts (filed : Id → Option (List ℕ)) (answered : List Answere
 
 -- Its entries are those of the calls that were begun and that were answered, in their order, and no others; they are confirmed by enough nodes, and each copy whose
 -- deletion was confirmed is gone.
-pub record OwesBook (plan : Plan) (lines : List (List ℕ)) (entries : List Entry) (disks : List (List Record)) (begun : List Asked) (answered : List Answered) (book : List BookEntry) : Type 0 where
+pub record OwesBook (plan : Plan) (lines : List (List ℕ)) (lost : ℕ → Type 0) (disks : List (List Record)) (begun : List Asked) (answered : List Answered) (book : List BookEntry) : Type 0 where
   pub is_book : IsBookOf lines begun answered book
   pub confirmed : AreConfirmed plan book
-  pub dropped : DroppedAreGone plan entries disks book
+  pub dropped : DroppedAreGone plan lost disks book
 
--- All that a cluster owes of the calls that it began and that it answered. The octets of a message are told by `filed` where the disks tell theirs.
-pub record Owes (plan : Plan) (tells : Bool) (lines : List (List ℕ)) (entries : List Entry) (stores : List (Option (List ℕ))) (disks : List (List Record)) (filed : Id → Option (List ℕ))
+-- All that a cluster owes of the calls that it began and that it answered, where these of its nodes are lost for good. The octets of a message are told by
+-- `filed` where the disks tell theirs.
+pub record Owes (plan : Plan) (tells : Bool) (lines : List (List ℕ)) (lost : ℕ → Type 0) (stores : List (Option (List ℕ))) (disks : List (List Record)) (filed : Id → Option (List ℕ))
     (begun : List Asked) (answered : List Answered) (book : List BookEntry) : Type 0 where
   -- the stores hold the records of the nodes
   pub holds : AreDisks 1 stores disks
-  pub stored : OwesStored plan lines entries disks answered
-  pub deletions : OwesDeletions plan entries disks begun answered
+  pub stored : OwesStored plan lines lost disks answered
+  pub deletions : OwesDeletions plan lost disks begun answered
   pub parts : tells ≡ true → OwesParts filed answered
-  pub books : OwesBook plan lines entries disks begun answered book
+  pub books : OwesBook plan lines lost disks begun answered book
 
 -- what is owed of the calls is true in the sessions
 abbrev pub OwedDeletionsAreTrue : Type 0
-OwedDeletionsAreTrue = (plan : Plan) (lines : List (List ℕ)) (entries : List Entry) (disks : List (List Record)) (acts : List Act) (sessions : List Session)
-    → Shows plan lines entries acts sessions → OwesDeletions plan entries disks (flat_map asked_by acts) (flat_map answered_by acts)
-    → DroppedAreTrue plan entries disks sessions
+OwedDeletionsAreTrue = (plan : Plan) (stop : Stop) (lines : List (List ℕ)) (entries : List Entry) (disks : List (List Record)) (acts : List Act) (sessions : List Session)
+    → Shows plan lines entries acts sessions → OwesDeletions plan (IsLostIn stop lines entries) disks (flat_map asked_by acts) (flat_map answered_by acts)
+    → DroppedAreTrue plan (IsLostIn stop lines entries) disks sessions
 
 abbrev pub OwedListingsAreTrue : Type 0
-OwedListingsAreTrue = (plan : Plan) (lines : List (List ℕ)) (entries : List Entry) (disks : List (List Record)) (acts : List Act) (sessions : List Session)
-    → Shows plan lines entries acts sessions → OwesDeletions plan entries disks (flat_map asked_by acts) (flat_map answered_by acts) → ListingsAreTrue sessions
+OwedListingsAreTrue = (plan : Plan) (stop : Stop) (lines : List (List ℕ)) (entries : List Entry) (disks : List (List Record)) (acts : List Act) (sessions : List Session)
+    → Shows plan lines entries acts sessions → OwesDeletions plan (IsLostIn stop lines entries) disks (flat_map asked_by acts) (flat_map answered_by acts) → ListingsAreTrue sessions
 
 abbrev pub OwedPartsAreTrue : Type 0
 OwedPartsAreTrue = (plan : Plan) (lines : List (List ℕ)) (entries : List Entry) (filed : Id → Option (List ℕ)) (acts : List Act) (sessions : List Session)

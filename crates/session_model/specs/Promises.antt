@@ -18,6 +18,8 @@ use Rattle.session_model.specs.Copies.{EachStands, AreGoneOn}
 use Rattle.session_model.specs.Mailing.{pairs}
 use Rattle.session_model.specs.Reading.{QuitsMarked, IsQuitUnit, all_seen, seen_exchange}
 use Rattle.session_model.specs.Sessions.{Session, AreSessions, session_at, exchanges_of}
+use Rattle.session_model.specs.Run.{Stop}
+use Rattle.session_model.specs.Losses.{IsLostIn}
 use Rattle.session_model.specs.Facts.{IsGoneIn, IsIn, DroppedAreTrue, ListingsAreTrue, PartsAreTrue}
 
 -- What the client of session k was told: the units that it sent, each with its reply, and the messages that these tell, which are those of its lines `250 stored`.
@@ -29,11 +31,11 @@ pub record IsTold (plan : Plan) (acks : List Ack) (k : ℕ) (session : Session) 
 
 -- Each line `250 stored` of a session that takes mail, in the order in which they were written, answers the message that it should, the first of a session the
 -- first, and so on; and this stands under an id of its own.
-pub record StoredStands (plan : Plan) (lines : List (List ℕ)) (entries : List Entry) (disks : List (List Record)) (sessions : List Session) (acks : List Ack) : Type 0 where
+pub record StoredStands (plan : Plan) (lines : List (List ℕ)) (entries : List Entry) (lost : ℕ → Type 0) (disks : List (List Record)) (sessions : List Session) (acks : List Ack) : Type 0 where
   pub lines_of : map (λ ack. ack.session) acks ≡ stored_sessions (opened lines) entries
   pub told : (k : ℕ) (session : Session) → session_at sessions k ≡ Some session → session.protocol ≡ Smtp → IsTold plan acks k session
   pub other_ids : HaveOtherIds acks
-  pub stands : EachStands plan lines entries disks acks
+  pub stands : EachStands plan lines lost disks acks
 
 -- The client of session k said QUIT, as this user, after exchanges whose replies it got whole, in which it marked the messages of these ids.
 pub record Deletes (entries : List Entry) (k : ℕ) (session : Session) (user : List ℕ) (ids : List Id) (quit : Exchange) : Type 0 where
@@ -44,7 +46,7 @@ pub record Deletes (entries : List Entry) (k : ℕ) (session : Session) (user : 
   pub marked : QuitsMarked before quit user ids
 
 -- Only a QUIT deletes, and one that was answered `+OK bye` has deleted.
-pub record DeletedByQuit (plan : Plan) (entries : List Entry) (disks : List (List Record)) (sessions : List Session) : Type 0 where
+pub record DeletedByQuit (plan : Plan) (entries : List Entry) (lost : ℕ → Type 0) (disks : List (List Record)) (sessions : List Session) : Type 0 where
   -- a copy that is gone was marked by its owner, whose QUIT was reached
   pub only : (n : ℕ) (user : List ℕ) (id : Id) → IsGoneIn disks n user id
       → (k : ℕ) × (session : Session) × (ids : List Id) × (quit : Exchange) × (session_at sessions k ≡ Some session) × (session.protocol ≡ Pop)
@@ -53,7 +55,7 @@ pub record DeletedByQuit (plan : Plan) (entries : List Entry) (disks : List (Lis
   pub bye : (k : ℕ) (session : Session) (before : List Exchange) (quit : Exchange) (n : ℕ) → session_at sessions k ≡ Some session → session.protocol ≡ Pop
       → session.whole ≡ before ++ quit ∷ [] → IsQuitUnit quit.unit → quit.reply ≡ one_line bye_text → IsMarked n (all_seen before)
       → (user : List ℕ) × (ids : List Id) × Deletes entries k session user ids quit
-      × ((id : Id) → IsIn id ids → (nodes : List ℕ) × AreGoneOn plan entries disks user id nodes)
+      × ((id : Id) → IsIn id ids → (nodes : List ℕ) × AreGoneOn plan lost disks user id nodes)
 
 -- the octets that are filed under the id of this text
 abbrev pub AreFiled : (Id → Option (List ℕ)) → List ℕ → List ℕ → Type 0
@@ -75,8 +77,9 @@ ShownOnce sessions = (k : ℕ) (session : Session) → session_at sessions k ≡
 
 -- The promises follow for every tape and every status from the sessions and from facts about answers.
 abbrev pub TrueAnswersDelete : Type 0
-TrueAnswersDelete = (plan : Plan) (lines : List (List ℕ)) (entries : List Entry) (disks : List (List Record)) (sessions : List Session)
-    → AreSessions plan lines entries sessions → DroppedAreTrue plan entries disks sessions → DeletedByQuit plan entries disks sessions
+TrueAnswersDelete = (plan : Plan) (stop : Stop) (lines : List (List ℕ)) (entries : List Entry) (disks : List (List Record)) (sessions : List Session)
+    → AreSessions plan lines entries sessions → DroppedAreTrue plan (IsLostIn stop lines entries) disks sessions
+    → DeletedByQuit plan entries (IsLostIn stop lines entries) disks sessions
 
 abbrev pub TrueAnswersShow : Type 0
 TrueAnswersShow = (plan : Plan) (lines : List (List ℕ)) (entries : List Entry) (filed : Id → Option (List ℕ)) (sessions : List Session)

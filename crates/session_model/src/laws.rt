@@ -4,7 +4,8 @@ ghost use Rattle.session_model.specs.Moves.{Begins, IsFed, HearsNext, IsAnswered
 ghost use Rattle.session_model.specs.Mailing.{StoredAsTold, AsksAsTold};
 ghost use Rattle.session_model.specs.Reading.{StrikesAtQuit, QuitStrikes};
 ghost use Rattle.session_model.specs.Showing.{ShownAsListed};
-ghost use Rattle.session_model.specs.Runs.{ActsAreShown, DrivenIsShown, DrivenWritesLines, DrivenAnswersUnits};
+ghost use Rattle.session_model.specs.Runs.{ActsAreShown, DrivenIsShown, DrivenWritesLines, DrivenAnswersUnits, StandingAreUp};
+ghost use Rattle.session_model.specs.Losses.{LostIsShown};
 ghost use Rattle.session_model.specs.Owes.{OwedDeletionsAreTrue, OwedListingsAreTrue, OwedPartsAreTrue};
 ghost use Rattle.session_model.specs.Kept.{OwedIsKept};
 ghost use Rattle.session_model.specs.Alone.{OneNodePromises};
@@ -150,7 +151,17 @@ pub fn driven_writes_lines()
     ensures { DrivenWritesLines }
 {}
 
-/// After a line each unit that a session has reached has its reply.
+/// Between two lines each unit that a session has reached has its reply.
 pub fn driven_answers_units()
     ensures { DrivenAnswersUnits }
+{}
+
+/// However a tape is driven, tape and transcript tell which nodes are lost for good.
+pub fn lost_is_shown()
+    ensures { LostIsShown }
+{}
+
+/// Between two lines each session that has not ended is at a node that is up.
+pub fn standing_are_up()
+    ensures { StandingAreUp }
 {}

@@ -6,6 +6,39 @@
 //! A session is spoken of by the octets that it was fed and the answers that its node gave it. It
 //! knows no disk. A cluster is spoken of by what it was asked and what it answered. It knows no
 //! session.
+//!
+//! DESCRIPTION
+//!
+//! The definitions, by subject:
+//!
+//! - One session: `Calls` (what it asks, and what is replied to each answer), `Talk` (its units, and
+//!   what each leads to), `Moves` (what can befall it), `Mailing`, `Reading` and `Showing` (what its
+//!   client was told), `Readings` (that this has one reading).
+//! - The run of a tape: `Acts` (what is done, and what each act writes), `Events` and `Lives` (run
+//!   lines that move the cluster itself, and how its nodes then are), `Turns` (which act comes
+//!   next), `Run` (which lines are refused, which are handled, and where the work stopped), `Logs`
+//!   (what was asked and answered), `Runs` and `Losses` (what tape and transcript tell of a run).
+//! - What is promised: `Sessions` (the sessions as tape and transcript show them), `Copies`,
+//!   `Facts`, `Promises`, `Books` and `Kept`.
+//! - What a cluster owes for that: `Owes`; and that one node gives it: `OneNode`, `Alone`.
+//!
+//! A cluster has 1 to 16 nodes. They go down, come up in another boot, and are lost for good; as a
+//! node goes down all its sessions end, those that wait too (`standing_are_up`). A node that is
+//! lost owes nothing, and is one only where tape and transcript say so (`lost_is_shown`).
+//!
+//! The laws are functions that do nothing, and their contracts hold of the definitions alone. The
+//! one that joins all is `owed_is_kept`: however a tape is driven, and wherever the work stops, the
+//! promises are kept where the cluster gives what it owes of the calls.
+//!
+//! STANDS ON
+//!
+//! `mail_model`, for tapes, transcripts, records and the book.
+//!
+//! WHAT IT DOES NOT DO
+//!
+//! It has no code. It does not say which letters nodes send, nor what a node does with a call: of
+//! these it asks only what a cluster owes. Mail is read in a plan of one node alone, and the
+//! seconds of every message are 0.
 #![tactic(auto)]
 
 pub mod laws;

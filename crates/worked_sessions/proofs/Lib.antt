@@ -1,2 +1,5 @@
+pub mod Lines
 pub mod OneMessage
 pub mod OneDeletion
+pub mod ThreeNodes
+pub mod CrashedNode

@@ -18,7 +18,7 @@ use Rattle.session_model.specs.Talk.Standing.{Hearing, EndedByQuit}
 use Rattle.session_model.specs.Reading.{Each, ListsOnce}
 use Rattle.worked_sessions.specs.OneMessage.{small_plan}
 use Rattle.worked_sessions.specs.OneDeletion.{OneDeletionAsked, small_items, before_quit, last_quit, deleting_octets}
-use Rattle.worked_sessions.proofs.OneMessage.{whole_line, has_alice}
+use Rattle.worked_sessions.proofs.Lines.{whole_line, has_alice}
 use Rattle.session_model.proofs.Striking.{strikes_at_quit}
 
 -- PASS asks for the login, since the plan has the user

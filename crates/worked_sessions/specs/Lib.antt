@@ -1,2 +1,4 @@
 pub mod OneMessage
 pub mod OneDeletion
+pub mod ThreeNodes
+pub mod CrashedNode

@@ -35,9 +35,12 @@ use Rattle.session_model.specs.Run.Stop.{BehindLine}
 use Rattle.session_model.specs.OneNode.{Served, asked_of}
 use Rattle.session_model.specs.Kept.{KeepsPromises}
 
--- one node, and one user
+-- so many nodes, each of which has a copy and confirms it, and one user
+abbrev pub plan_of : ℕ → Plan
+plan_of n = record { nodes = n; copies = n; confirm = n; buckets = 1; users = map.insert map.empty (codes "alice") (codes "tanstaaf"); postmaster = codes "alice" }
+
 abbrev pub small_plan : Plan
-small_plan = record { nodes = 1; copies = 1; confirm = 1; buckets = 1; users = map.insert map.empty (codes "alice") (codes "tanstaaf"); postmaster = codes "alice" }
+small_plan = plan_of 1
 
 -- what the session was told, unit by unit
 abbrev pub greeted : Told
@@ -113,18 +116,21 @@ at_stored = record at_wait { whole = at_data.whole ++ with_answer waiting (Store
 abbrev pub at_quit : Session
 at_quit = record (fed_with at_stored (codes "QUIT")) { whole = at_stored.whole ++ at_once (codes "QUIT") (closing_text 1) ∷ []; standing = EndedByQuit; rest = [] }
 
--- the run lines
+-- the run lines that tell the message, and all of them
+abbrev pub told_lines : List (List ℕ)
+told_lines = codes "open smtp 1" ∷ codes "say 1 HELO c.example" ∷ codes "say 1 MAIL FROM:<bob@b.example>" ∷ codes "say 1 RCPT TO:<alice>" ∷ codes "say 1 DATA"
+    ∷ codes "say 1 Subject: hi" ∷ codes "say 1" ∷ codes "say 1 hello" ∷ codes "say 1 ." ∷ []
+
 abbrev pub small_lines : List (List ℕ)
-small_lines = codes "open smtp 1" ∷ codes "say 1 HELO c.example" ∷ codes "say 1 MAIL FROM:<bob@b.example>" ∷ codes "say 1 RCPT TO:<alice>" ∷ codes "say 1 DATA"
-    ∷ codes "say 1 Subject: hi" ∷ codes "say 1" ∷ codes "say 1 hello" ∷ codes "say 1 ." ∷ codes "say 1 QUIT" ∷ []
+small_lines = told_lines ++ codes "say 1 QUIT" ∷ []
 
 -- a line that is fed, and the exchange that it then is
 abbrev pub said_once : List ℕ → List ℕ → List Act
 said_once line reply = Does 1 (IsFed (sent_line line)) ∷ Does 1 (Hears (at_once line reply)) ∷ []
 
--- the acts of each
-abbrev pub small_acts : List (List Act)
-small_acts =
+-- the acts of each line before the period
+abbrev pub text_acts : List (List Act)
+text_acts =
     (Opens Smtp 1 (greeting_text 1) ∷ [])
     ∷ said_once (codes "HELO c.example") (helo_text 1)
     ∷ said_once (codes "MAIL FROM:<bob@b.example>") (codes "250 sender ok")
@@ -133,18 +139,27 @@ small_acts =
     ∷ (Does 1 (IsFed (sent_line (codes "Subject: hi"))) ∷ [])
     ∷ (Does 1 (IsFed (sent_line [])) ∷ [])
     ∷ (Does 1 (IsFed (sent_line (codes "hello"))) ∷ [])
-    ∷ (Does 1 (IsFed (sent_line (codes "."))) ∷ Does 1 (Hears waiting) ∷ Does 1 (IsAnswered (Deliver small_mail) (Stored (nth_id 1)) (one_line stored_text)) ∷ [])
-    ∷ said_once (codes "QUIT") (closing_text 1)
     ∷ []
+
+-- the session is told that the message is stored
+abbrev pub tells_stored : Act
+tells_stored = Does 1 (IsAnswered (Deliver small_mail) (Stored (nth_id 1)) (one_line stored_text))
+
+-- the acts of all lines
+abbrev pub small_acts : List (List Act)
+small_acts = text_acts ++ (Does 1 (IsFed (sent_line (codes "."))) ∷ Does 1 (Hears waiting) ∷ tells_stored ∷ []) ∷ said_once (codes "QUIT") (closing_text 1) ∷ []
 
 -- the steps of the cluster
 abbrev pub small_made : List Made
 small_made = Begins 1 (Deliver small_mail) ∷ Asks 1 ∷ []
 
--- what is written
+-- what is written before the period, and in all
+abbrev pub text_entries : List Entry
+text_entries = Said 1 (greeting_text 1) ∷ Said 1 (helo_text 1) ∷ Said 1 (codes "250 sender ok") ∷ Said 1 (codes "250 recipient ok")
+    ∷ Said 1 (codes "354 end with a line that is a single period") ∷ []
+
 abbrev pub small_entries : List Entry
-small_entries = Said 1 (greeting_text 1) ∷ Said 1 (helo_text 1) ∷ Said 1 (codes "250 sender ok") ∷ Said 1 (codes "250 recipient ok")
-    ∷ Said 1 (codes "354 end with a line that is a single period") ∷ Said 1 stored_text ∷ Said 1 (closing_text 1) ∷ closed_event 1 ∷ []
+small_entries = text_entries ++ Said 1 stored_text ∷ Said 1 (closing_text 1) ∷ closed_event 1 ∷ []
 
 -- the node's one call
 abbrev pub small_served : List Served

@@ -1,6 +1,8 @@
 //! Laws about runs that were worked by hand.
 ghost use Rattle.worked_sessions.specs.OneMessage.{OneMessageKept};
 ghost use Rattle.worked_sessions.specs.OneDeletion.{OneDeletionAsked};
+ghost use Rattle.worked_sessions.specs.ThreeNodes.{ThreeNodesKept};
+ghost use Rattle.worked_sessions.specs.CrashedNode.{CrashedNodeDriven};
 
 /// All premises of the promises can be met: the tape of one message meets them.
 pub fn one_message_kept()
@@ -10,4 +12,15 @@ pub fn one_message_kept()
 /// The premises of a deletion can be met: a session with one mark meets them.
 pub fn one_deletion_asked()
     ensures { OneDeletionAsked }
+{}
+
+/// All premises can be met in a cluster of three nodes: a tape on which letters are heard twice and out of
+/// their order meets them.
+pub fn three_nodes_kept()
+    ensures { ThreeNodesKept }
+{}
+
+/// A node can stop while a session of it waits, start again, and be lost as the sink fails.
+pub fn crashed_node_driven()
+    ensures { CrashedNodeDriven }
 {}

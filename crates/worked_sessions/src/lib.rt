@@ -3,7 +3,9 @@
 //! SUMMARY
 //!
 //! A promise whose premises nothing can meet promises nothing. Here one tape of one message meets them
-//! all, and so does one session with one deletion.
+//! all, and so does a tape of three nodes, whose letters are heard twice and out of their order. One
+//! session meets the premises of a deletion. On one more tape a node stops while a session of it waits,
+//! starts again, and is lost as the sink fails.
 //!
 //! STANDS ON
 //!

@@ -1,0 +1,105 @@
+-- What comes of a run line that moves the cluster itself, what the transcript says of it, and how it leaves the nodes.
+use Rattle.std.specs.Prelude.{◌≡◌, ℕ, ◌<◌, ◌≤◌, Bool, true, false, nat_eq, List, [], ◌∷◌, ◌++◌, ⊤, if◌then◌else◌, codes}
+use Rattle.std.specs.Fmt.{decimal}
+use Rattle.mail_model.specs.Plan.{Plan}
+use Rattle.mail_model.specs.Tape.{ClusterOrder}
+use Rattle.mail_model.specs.Tape.ClusterOrder.{Crash, Start, Lose, Post, Again, Drop, Flow, Push, Widen}
+use Rattle.mail_model.specs.Transcript.{Entry, Why, why_word}
+use Rattle.mail_model.specs.Transcript.Entry.{Event}
+
+-- A node went down, came up in this boot, or is lost for good; a letter was heard, thrown, or dropped; all letters were posted; a node sent so many letters; a
+-- copy got a target more, or did not; or the disk of a node failed.
+pub data ClusterEvent : Type 0 where
+  WentDown : (node : ℕ) → ClusterEvent
+  CameUp : (node boot : ℕ) → ClusterEvent
+  WasLost : (node : ℕ) → ClusterEvent
+  WasHeard : (letter : ℕ) → ClusterEvent
+  WasThrown : (letter : ℕ) (why : Why) → ClusterEvent
+  WasDropped : (letter : ℕ) → ClusterEvent
+  HasFlowed : ClusterEvent
+  HasSent : (count : ℕ) → ClusterEvent
+  HasWidened : (did : Bool) → ClusterEvent
+  HasFaulted : (node : ℕ) → ClusterEvent
+
+-- that the disk of a node failed
+abbrev pub fault_event : ℕ → Entry
+fault_event node = Event (codes "fault " ++ decimal node)
+
+-- that a node is lost for good
+abbrev pub lost_event : ℕ → Entry
+lost_event node = Event (codes "node " ++ decimal node ++ codes " lost")
+
+-- whether a copy got a target more
+abbrev pub widened_text : Bool → List ℕ
+widened_text true = codes "widened"
+widened_text false = codes "not widened"
+
+-- the line that the transcript has for it
+abbrev pub event_entries : ClusterEvent → List Entry
+event_entries (WentDown node) = Event (codes "node " ++ decimal node ++ codes " down") ∷ []
+event_entries (CameUp node boot) = Event (codes "node " ++ decimal node ++ codes " up " ++ decimal boot) ∷ []
+event_entries (WasLost node) = lost_event node ∷ []
+event_entries (WasHeard letter) = Event (decimal letter ++ codes " heard") ∷ []
+event_entries (WasThrown letter why) = Event (decimal letter ++ codes " thrown " ++ why_word why) ∷ []
+event_entries (WasDropped letter) = []
+event_entries HasFlowed = Event (codes "flowed") ∷ []
+event_entries (HasSent count) = Event (codes "sent " ++ decimal count) ∷ []
+event_entries (HasWidened did) = Event (widened_text did) ∷ []
+event_entries (HasFaulted node) = fault_event node ∷ []
+
+-- How a node is: up in this boot, down, or lost for good.
+pub data NodeLife : Type 0 where
+  Up : (boot : ℕ) → NodeLife
+  Down : NodeLife
+  Lost : NodeLife
+
+-- the life of a node, where this one of a node is another now
+abbrev pub turned : ℕ → NodeLife → ℕ → NodeLife → NodeLife
+turned node now n life = if nat_eq node n then now else life
+
+-- what an event makes of the life of node n
+abbrev pub life_by_event : ClusterEvent → ℕ → NodeLife → NodeLife
+life_by_event (WentDown node) n life = turned node Down n life
+life_by_event (CameUp node boot) n life = turned node (Up boot) n life
+life_by_event (WasLost node) n life = turned node Lost n life
+life_by_event (HasFaulted node) n life = turned node Down n life
+life_by_event event n life = life
+
+-- the nodes whose disk failed
+abbrev pub failed_by_event : ClusterEvent → List ℕ
+failed_by_event (HasFaulted node) = node ∷ []
+failed_by_event event = []
+
+-- a node that is up
+abbrev pub IsUp : NodeLife → Type 0
+IsUp (Up boot) = ⊤
+IsUp Down = ⊥
+IsUp Lost = ⊥
+
+-- A node of the plan that is up: no other does any work in which its disk could fail.
+pub record MayFault (plan : Plan) (lives : ℕ → NodeLife) (node : ℕ) : Type 0 where
+  pub above : 0 < node
+  pub within : node ≤ plan.nodes
+  pub up : IsUp (lives node)
+
+-- What can come of an order to nodes that are so. A letter may be heard or thrown, and the disk of its receiver may fail in that; a node that is not up sends
+-- nothing; and a node that starts, pushes or widens may itself fail.
+abbrev pub IsEventOf : Plan → (ℕ → NodeLife) → ClusterOrder → ClusterEvent → Type 0
+IsEventOf plan lives (Crash node) (WentDown n) = n ≡ node
+IsEventOf plan lives (Start node) (CameUp n boot) = n ≡ node
+IsEventOf plan lives (Start node) (HasFaulted n) = n ≡ node
+IsEventOf plan lives (Lose node) (WasLost n) = n ≡ node
+IsEventOf plan lives (Post letter) (WasHeard i) = i ≡ letter
+IsEventOf plan lives (Post letter) (WasThrown i why) = i ≡ letter
+IsEventOf plan lives (Post letter) (HasFaulted n) = MayFault plan lives n
+IsEventOf plan lives (Again letter) (WasHeard i) = i ≡ letter
+IsEventOf plan lives (Again letter) (WasThrown i why) = i ≡ letter
+IsEventOf plan lives (Again letter) (HasFaulted n) = MayFault plan lives n
+IsEventOf plan lives (Drop letter) (WasDropped i) = i ≡ letter
+IsEventOf plan lives Flow HasFlowed = ⊤
+IsEventOf plan lives Flow (HasFaulted n) = MayFault plan lives n
+IsEventOf plan lives (Push node) (HasSent count) = (IsUp (lives node) → ⊥) → count ≡ 0
+IsEventOf plan lives (Push node) (HasFaulted n) = (n ≡ node) × IsUp (lives node)
+IsEventOf plan lives (Widen node user id to) (HasWidened did) = ⊤
+IsEventOf plan lives (Widen node user id to) (HasFaulted n) = n ≡ node
+IsEventOf plan lives order event = ⊥
