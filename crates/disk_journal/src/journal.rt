@@ -43,6 +43,7 @@ impl Journal {
         ensures settled { OnOk result (D.settled disk.new) }
         ensures images { Tears D.clock disk.old disk.new 0 17 }
         ensures told { IsToldAlike (D.seen disk.old) (D.seen disk.new) }
+        ensures later { D.faults disk.old ≤ D.faults disk.new }
     {
         let octets = opening(alloc, node)?;
         disk.reserve(17)?;

@@ -15,3 +15,4 @@ pub mod Snocs
 pub mod Lying
 pub mod Again
 pub mod Fetched
+pub mod Mailboxes

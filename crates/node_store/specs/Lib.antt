@@ -9,3 +9,4 @@ pub mod Recovers
 pub mod Reopens
 pub mod Reads
 pub mod Rereads
+pub mod Mailboxes

@@ -32,8 +32,8 @@
 //! greatest number that a record names for a message of this node. Of a disk that tells nothing it is known that the store
 //! keeps some records.
 //!
-//! `state`, `entry`, `due`, `owes` and `length` tell what the records say, and ask nothing of the disk. `fetch` reads octets
-//! of a message into a slice; `octets` and `octets_part` give them as a vector.
+//! `state`, `ids`, `entry`, `due`, `owes` and `length` tell what the records say, and ask nothing of the disk. `fetch` reads
+//! octets of a message into a slice; `octets` and `octets_part` give them as a vector.
 //!
 //! DIAGNOSTICS
 //!
@@ -71,6 +71,7 @@ mod copies;
 mod entry;
 mod fault;
 mod laws;
+mod mailbox;
 mod news;
 mod octets;
 mod payload;

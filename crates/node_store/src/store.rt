@@ -1,5 +1,6 @@
 //! The store of one node.
-ghost use Rattle.std.specs.Prelude.{◌≡◌, ◌<◌, [], IfSome, OnOk};
+ghost use Rattle.std.specs.Prelude.{◌≡◌, ◌<◌, ◌≤◌, [], IfSome, OnOk};
+ghost use Rattle.io_edge.specs.Octets.{IsToldAlike};
 ghost use Rattle.io_edge.specs.Moments.{Tears};
 ghost use Rattle.mail_model.specs.Grammar.{IsObject};
 ghost use Rattle.cluster_model.specs.Store.{take_one};
@@ -35,6 +36,8 @@ fn new_journal<D: Disk>(alloc: Global, disk: &mut D, own: NodeNo) -> Result<Jour
     ensures created { HasJournal result own (D.seen disk.old) (D.seen disk.new) (D.faults disk.old) (D.faults disk.new) }
     ensures settled { OnOk result (D.settled disk.new) }
     ensures images { Tears D.clock disk.old disk.new 0 17 }
+    ensures told { IsToldAlike (D.seen disk.old) (D.seen disk.new) }
+    ensures later { D.faults disk.old ≤ D.faults disk.new }
 {
     match Journal::create(alloc, disk, own) {
         Ok(journal) => Ok(journal),
@@ -53,6 +56,8 @@ impl NodeStore {
         ensures created { StoreCreated result own (D.seen disk.old) (D.seen disk.new) (D.faults disk.old) (D.faults disk.new) }
         ensures settled { OnOk result (D.settled disk.new) }
         ensures images { Tears D.clock disk.old disk.new 0 17 }
+        ensures told { IsToldAlike (D.seen disk.old) (D.seen disk.new) }
+        ensures later { D.faults disk.old ≤ D.faults disk.new }
     {
         let journal = new_journal(alloc, disk, own)?;
         Ok(NodeStore {

@@ -3,3 +3,4 @@ pub mod News
 pub mod Writes
 pub mod Indexed
 pub mod Unchanged
+pub mod Mailboxes

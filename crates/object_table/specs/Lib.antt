@@ -3,3 +3,4 @@ pub mod Tables
 pub mod Outcomes
 pub mod Users
 pub mod Laws
+pub mod Mailboxes

@@ -4,11 +4,15 @@
 //! then the greater stamp counts, then the greater secret; the targets are those of both. An `ObjectTable` holds for
 //! each object the join of all states that were taken, so it does not matter in which order they came, nor how often.
 //!
+//! `state`, `profile`, `users` and `ids` tell what stands. `ids` lists the messages of one user that are here, and looks at the
+//! objects of that user alone.
+//!
 //! It knows nothing of disks or letters. A contract sees the table as a finite map from keys to states.
 #![tactic(auto)]
 
 mod joins;
 mod laws;
+mod mailbox;
 mod states;
 mod table;
 #[cfg(test)]

@@ -17,7 +17,7 @@ use std::marker::Model;
 /// A state for each key. A contract sees the finite map.
 #[derive(Drop)]
 pub(crate) struct States {
-    held: BTreeMap<Key, ObjState>,
+    pub(crate) held: BTreeMap<Key, ObjState>,
 }
 
 impl Model for States {

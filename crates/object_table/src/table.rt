@@ -31,7 +31,7 @@ pub enum Taken {
 /// Each state is of its key's kind: a profile has a secret, and a message is here or gone.
 #[derive(Drop)]
 pub struct ObjectTable {
-    states: States,
+    pub(crate) states: States,
     users: UserKeys,
 }
 
