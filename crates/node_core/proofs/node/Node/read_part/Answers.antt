@@ -1,0 +1,32 @@
+use Rattle.std.proofs.Common.{◌≡◌, ℕ, List, Option, Some, sym, ap, subst, ◌∙◌, refl}
+use Rattle.std.specs.Prelude.{Vec, Err}
+use Rattle.std.specs.declared.alloc.Global.{Global}
+use Rattle.mail_model.specs.Record.{Record}
+use Rattle.node_store.specs.Disks.{view_of}
+use Rattle.node_store.specs.Reads.{part_in, given_octets, GivesWanted, ReadsWanted}
+use Rattle.node_store.specs.declared.fault.ReadFault.{ReadFault}
+use Rattle.node_core.specs.Nodes.{Keeps}
+use Rattle.node_core.specs.Reading.{copy_size}
+use Rattle.node_core.proofs.Parts.{some_read, read_other}
+use Rattle.node_core.proofs.node.Node.read_part.Goals as goal
+
+pub returns-in-Ok-Some-clause-read : goal.returns-in-Ok-Some-clause-read
+returns-in-Ok-Some-clause-read g c =
+    let on = view_of g.D.Disk.seen g.D.Disk.faults g.D.Disk.clock in
+    let node = c.args.self.now in
+    let before = c.args.disk.now in
+    let wanted = part_in c.args.id c.args.from c.args.most in
+    let given = subst (λ (octets : List ℕ). GivesWanted (on.seen before) node.store wanted (Some octets)) (sym c.from_vec.ensures)
+    (subst (λ (o : Option (Vec ℕ Global)). GivesWanted (on.seen before) node.store wanted (given_octets o)) c.in-Ok-Some.field-0-is c.in-Ok-Some.ensures.read.0) in
+    some_read on c.args.user.now c.args.id c.args.from c.args.most node before c.octets_part.new.disk (record { seen = c.octets_part.ensures.seen; images = c.octets_part.ensures.images })
+    c.in-Ok-Some.ensures.read.1 c.from_vec.result c.in-Some.whole (λ records k. sym c.in-Some.is ∙ c.in_ok-whole.ensures records k) given _ refl
+
+pub returns-in-Err-NotAJournal-clause-read : goal.returns-in-Err-NotAJournal-clause-read
+returns-in-Err-NotAJournal-clause-read g c =
+    let on = view_of g.D.Disk.seen g.D.Disk.faults g.D.Disk.clock in
+    let node = c.args.self.now in
+    let before = c.args.disk.now in
+    let after = c.octets_part.new.disk in
+    let failed = subst (λ (f : ReadFault). ReadsWanted (Err f) node.store (part_in c.args.id c.args.from c.args.most) (on.seen before) (on.faults before) (on.faults after)) c.in-Err-NotAJournal.field-0-is
+    c.in-Err-NotAJournal.ensures.read in
+    read_other on c.args.user.now c.args.id c.args.from c.args.most node before after (record { seen = c.octets_part.ensures.seen; images = c.octets_part.ensures.images }) failed.1 failed.0

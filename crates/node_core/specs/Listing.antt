@@ -1,0 +1,53 @@
+-- What a Login finds: the listing of a mailbox.
+use Rattle.std.specs.Prelude.{◌≡◌, ℕ, Bool, true, false, List, [], ◌∷◌, length, map, Option, Some, None, if◌then◌else◌}
+use Rattle.std.specs.Ordering.{is_lt}
+use Rattle.std.specs.List.Sorted.{IsSortedBy}
+use Rattle.mail_model.specs.Identity.{Id, State}
+use Rattle.mail_model.specs.Identity.Key.{Message}
+use Rattle.mail_model.specs.Listing.{is_here, octets_in}
+use Rattle.mail_model.specs.Plan.{Plan, Users}
+use Rattle.mail_model.specs.Record.{Record}
+use Rattle.object_model.specs.Said.{said}
+use Rattle.mail_base.specs.declared.item.Item.{Item}
+use Rattle.call_tickets.specs.declared.answer.Answer.{Answer}
+use Rattle.cluster_model.specs.Reads.{ListedCopy, Found, copy_cmp}
+use Rattle.cluster_model.specs.Steps.NodeCall.{Login}
+use Rattle.cluster_model.specs.Makes.{IsFound}
+use Rattle.node_tickets.specs.Seen.{copy_seen, found_in}
+use Rattle.node_core.specs.Nodes.{Keeps}
+use Rattle.node_core.specs.declared.node.Node.{Node}
+
+-- a message of a listing, where this state says that the user's copy is here
+abbrev pub copy_by : Id → State → ℕ → Option ListedCopy
+copy_by id state size = if is_here state.value then Some (record { id = id; stamp = state.stamp; targets = state.targets; size = size }) else None
+
+abbrev pub copy_if : Id → Option State → Option (List ℕ) → Option ListedCopy
+copy_if id None octets = None
+copy_if id (Some state) None = None
+copy_if id (Some state) (Some octets) = copy_by id state (length octets)
+
+-- the user's copy of a message, where the records say that it is here and have its octets
+abbrev pub copy_of : List ℕ → List Record → Id → Option ListedCopy
+copy_of user records id = copy_if id (said (Message user id) records) (octets_in id records)
+
+abbrev pub with_copy : Option ListedCopy → List ListedCopy → List ListedCopy
+with_copy None copies = copies
+with_copy (Some copy) copies = copy ∷ copies
+
+-- the copies of these messages that are here with their octets
+abbrev pub copies_for : List ℕ → List Record → List Id → List ListedCopy
+copies_for user records [] = []
+copies_for user records (id ∷ ids) = with_copy (copy_of user records id) (copies_for user records ids)
+
+-- which of two messages of a listing comes first
+abbrev pub comes_first : Item → Item → Bool
+comes_first item other = is_lt (copy_cmp (copy_seen item) (copy_seen other))
+
+abbrev pub AreInOrder : List Item → Type 0
+AreInOrder items = IsSortedBy comes_first items
+
+-- What a Login finds, whatever the records of the disk are.
+pub record MailboxFound (users : Users) (user secret : List ℕ) (node : Node) (answer : Answer) : Type 0 where
+  pub found : Found
+  pub is : found_in answer ≡ Some found
+  pub those : (plan : Plan) → users ≡ plan.users → (tells : Bool) (records : List Record) → Keeps records node → IsFound plan tells records (Login user secret) found

@@ -1,0 +1,90 @@
+//! node_core: one node of a cluster.
+//!
+//! SUMMARY
+//!
+//! A `Node` is a node's store with its numbers and the tickets of its calls. `start` begins one over its disk, `begin` takes a
+//! call of a client, and `hear` takes a letter of another node. Each answers the letters that are to be sent.
+//!
+//! DESCRIPTION
+//!
+//! Each call does what the rules of the cluster (`cluster_model`) have a node do, for all records that its disk may have:
+//!
+//! | Call | What is done |
+//! |---|---|
+//! | `create` | the journal is made on an empty disk |
+//! | `first` | the journal is made on an empty disk, and the record of the first boot is appended |
+//! | `start` | the disk is started again, the journal is read, and the record of the next boot is appended |
+//! | `begin` | a call gets its ticket; what it files or marks is recorded, and its letters are answered; what it reads is found |
+//! | `hear` | the stamps are learned, and the letter does its work: File, Filed, Strike, StrikeTold, Push, PushAck, Retired |
+//! | `ask` | an answer of a ticket is taken, as far as it is told |
+//! | `give_up` | a ticket goes |
+//! | `push` | the first due updates are sent to a node again |
+//! | `widen` | a copy that is here gets one target more |
+//! | `mishap` | the driver's mishap is counted in a ticket |
+//!
+//! `hear` throws a letter that carries another epoch than the installed one, and one that answers a ticket that is not there;
+//! the outbox tells why, and nothing was changed.
+//!
+//! A letter is heard by reference: where it is refused for want of memory it can be heard again. Octets are moved into the
+//! journal's write, and are not copied for each user.
+//!
+//! `state`, `ids`, `is_settled`, `kind`, `wants`, `waiting`, `filing`, `is_done`, `own`, `boot` and `epoch` tell what the node has,
+//! and change nothing.
+//!
+//! DIAGNOSTICS
+//!
+//! `Disk` comes only where the disk's count of faults rose in the call, or where its octets are not those that the node wrote.
+//! The node then has to go down. `NoMemory` tells with `down` whether it has to: where it need not, nothing was changed.
+//! `Worn` comes where a number is at its greatest, and then nothing was changed.
+//!
+//! After a fault that takes the node down, the first of the records that the rule adds stand on the disk, and one more may.
+//!
+//! COSTS
+//!
+//! The costs are those of the store. A letter costs one pass over its users or its marks, and one over the nodes.
+//!
+//! A login asks the disk nothing. It looks through the user's own objects, those that are gone among them, with a few look-ups
+//! for each that take time logarithmic in the number of all, and sorts what it lists. It takes memory for three lists of the
+//! user's messages, and none for those of other users. `is_settled` is a pass over the update log for each member.
+//!
+//! STANDS ON
+//!
+//! `node_store`, `node_tickets`, `mail_base`, `call_tickets`, `trace_lines` and `sha2`; the rules are those of `cluster_model`.
+//!
+//! WHAT IT DOES NOT DO
+//!
+//! It sends nothing and knows no time but the seconds of a delivery. The bodies of logins, of members and of maps do nothing
+//! yet: the epoch is that of the plan.
+#![tactic(auto)]
+
+mod begin;
+mod calls;
+mod deliver;
+mod failing;
+mod fault;
+mod filing;
+mod first;
+mod hear;
+mod letters;
+mod login;
+mod members;
+mod node;
+mod nodes;
+mod numbers;
+mod outbox;
+mod push;
+mod pushes;
+mod reading;
+mod reads;
+mod shape;
+mod spelling;
+mod strike;
+mod targets;
+mod throwing;
+
+pub use fault::NodeFault;
+pub use node::Node;
+pub use outbox::{Outbox, Why};
+
+#[cfg(test)]
+mod tests;

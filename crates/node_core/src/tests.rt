@@ -1,0 +1,348 @@
+//! One node by hand: what it answers to calls and letters, and what its disk then says.
+//!
+//! A table is a text. Each line begins with what the node is to do, and goes on behind ` > ` with what it answers. Letters that are
+//! heard and letters that are sent are written alike, in 18 columns:
+//!
+//! ```text
+//! P 2 111 21 3 h 1 1
+//! | | |   |  | | | the epoch
+//! | | |   |  | | the ticket of node 1 in its first boot
+//! | | |   |  | what the kind of letter has more
+//! | | |   |  the targets, as a mask
+//! | | |   the count of the stamp, and its node
+//! | | the node, the boot and the number of the message
+//! | the other node: the sender, or the receiver
+//! the kind: File, f for Filed, Strike, s for StrikeTold, Push, A for PushAck, Retired, Unlock
+//! ```
+//!
+//! A File has the number of its users more, a Strike that of its deletions, and the others that have a state its value: here, with
+//! its octets in a Push, n where a Push has none, gone, or x for the secret of a profile.
+mod calls;
+mod falls;
+mod letters;
+mod lines;
+mod logins;
+mod says;
+mod starts;
+
+ghost use Rattle.std.specs.Prelude.{◌≡◌, ℕ, List, Option, IfOk};
+ghost use Rattle.node_core.specs.Beginning.{IsTextEnded, call_seen};
+ghost use Rattle.node_core.specs.Nodes.{CanWork, IsWhole};
+ghost use Rattle.node_core.specs.Spelling.{CanBeTaken};
+ghost use Rattle.node_core.specs.Works.{LeavesUp};
+
+use crate::{Node, NodeFault};
+use call_tickets::Call;
+use io_edge::Disk;
+use lines::{
+    at, deletion_at, deliver_at, digit, fetch_at, id_at, letter_at, lines_of, login_at, named,
+    node_at, room_at, secret_of, ticket_at,
+};
+use mail_base::{Letter, MsgId, Name, NodeNo, Plan, Users};
+use node_disk::MemoryDisk;
+use node_tickets::MishapKind;
+use says::{one, say_ask, say_ids, say_outbox, say_state, say_ticket, say_whether};
+use std::alloc::{AllocError, Global};
+use std::process::Abort;
+use std::test::Fail;
+
+fn begins<D: Disk>(
+    alloc: Global,
+    disk: &mut D,
+    node: &mut Node,
+    users: &Users,
+    call: Call,
+    seconds: u64,
+    out: &mut Vec<u8>,
+) -> Result<(), NodeFault>
+    requires works { CanWork (D.seen disk.old) node.old }
+    requires ended { IsTextEnded (call_seen call) }
+    ensures { LeavesUp result → CanWork (D.seen disk.new) node.new }
+{
+    let begun = node.begin(alloc, disk, users, call, seconds)?;
+    say_outbox(out, &begun.1)?;
+    Ok(())
+}
+
+fn hears<D: Disk>(
+    alloc: Global,
+    disk: &mut D,
+    node: &mut Node,
+    letter: &Letter,
+    out: &mut Vec<u8>,
+) -> Result<(), NodeFault>
+    requires works { CanWork (D.seen disk.old) node.old }
+    requires spelt { CanBeTaken letter.now.body }
+    ensures { LeavesUp result → CanWork (D.seen disk.new) node.new }
+{
+    let outbox = node.hear(alloc, disk, letter)?;
+    say_outbox(out, &outbox)?;
+    Ok(())
+}
+
+fn pushes<D: Disk>(
+    alloc: Global,
+    disk: &mut D,
+    node: &mut Node,
+    to: NodeNo,
+    most: usize,
+    room: u64,
+    out: &mut Vec<u8>,
+) -> Result<(), NodeFault>
+    requires works { CanWork (D.seen disk.old) node.old }
+    ensures { LeavesUp result → CanWork (D.seen disk.new) node.new }
+{
+    let outbox = node.push(alloc, disk, to, most, room)?;
+    say_outbox(out, &outbox)?;
+    Ok(())
+}
+
+fn widens<D: Disk>(
+    alloc: Global,
+    disk: &mut D,
+    node: &mut Node,
+    user: &Name,
+    id: MsgId,
+    to: NodeNo,
+    out: &mut Vec<u8>,
+) -> Result<(), NodeFault>
+    requires works { CanWork (D.seen disk.old) node.old }
+    ensures { LeavesUp result → CanWork (D.seen disk.new) node.new }
+{
+    let did = node.widen(alloc, disk, user, id, to)?;
+    say_whether(out, did)?;
+    Ok(())
+}
+
+/// The node starts again. Any fault is told as one that takes it down.
+fn restarts<D: Disk>(
+    alloc: Global,
+    disk: &mut D,
+    node: &mut Node,
+    out: &mut Vec<u8>,
+) -> Result<(), NodeFault>
+    ensures { LeavesUp result → CanWork (D.seen disk.new) node.new }
+{
+    match started(alloc, disk, node.own()) {
+        Ok(again) => {
+            *node = again;
+            out.extend_from_slice(&[b' ', one(u64::from(node.boot()))])?;
+            Ok(())
+        }
+        Err(_) => Err(NodeFault::Disk),
+    }
+}
+
+/// What is asked of the tickets alone.
+fn tells(alloc: Global, node: &mut Node, line: &[u8], out: &mut Vec<u8>) -> Result<(), AllocError>
+    requires whole { IsWhole node.old }
+    ensures works { (seen : Option (List ℕ)) → CanWork seen node.old → CanWork seen node.new }
+{
+    match at(line, 0) {
+        b'a' => say_ask(out, &node.ask(ticket_at(line))),
+        b'g' => say_whether(out, node.give_up(ticket_at(line))),
+        b'm' => {
+            let noted = node.mishap(ticket_at(line), MishapKind::Down, node_at(line, 2));
+            say_whether(out, noted)
+        }
+        b'o' => say_whether(out, node.is_due(node_at(line, 2))),
+        b'i' => say_ticket(node, ticket_at(line), out),
+        b'l' => say_ids(alloc, node, out),
+        b'q' => say_whether(out, node.is_settled()),
+        b'c' => {
+            let (most, room) = room_at(line);
+            let crowded = node.is_crowded(alloc, node_at(line, 2), most, room)?;
+            say_whether(out, crowded)
+        }
+        _ => say_state(alloc, node, line, out),
+    }
+}
+
+fn delivers<D: Disk>(
+    alloc: Global,
+    disk: &mut D,
+    node: &mut Node,
+    line: &[u8],
+    seconds: u64,
+    out: &mut Vec<u8>,
+) -> Result<(), NodeFault>
+    requires works { CanWork (D.seen disk.old) node.old }
+    ensures { LeavesUp result → CanWork (D.seen disk.new) node.new }
+{
+    let call = deliver_at(alloc, line)?;
+    begins(alloc, disk, node, &Users::new(alloc), call, seconds, out)
+}
+
+/// A login over a plan with ann alone.
+fn logs_in<D: Disk>(
+    alloc: Global,
+    disk: &mut D,
+    node: &mut Node,
+    line: &[u8],
+    out: &mut Vec<u8>,
+) -> Result<(), NodeFault>
+    requires works { CanWork (D.seen disk.old) node.old }
+    ensures { LeavesUp result → CanWork (D.seen disk.new) node.new }
+{
+    let call = login_at(alloc, line)?;
+    let mut users = Users::new(alloc);
+    users.insert(named(alloc, b"ann")?, secret_of(alloc)?)?;
+    begins(alloc, disk, node, &users, call, 0, out)
+}
+
+fn fetches<D: Disk>(
+    alloc: Global,
+    disk: &mut D,
+    node: &mut Node,
+    line: &[u8],
+    out: &mut Vec<u8>,
+) -> Result<(), NodeFault>
+    requires works { CanWork (D.seen disk.old) node.old }
+    ensures { LeavesUp result → CanWork (D.seen disk.new) node.new }
+{
+    let call = fetch_at(alloc, line)?;
+    begins(alloc, disk, node, &Users::new(alloc), call, 0, out)
+}
+
+/// What the node does by the line. A Push finds room for as many letters as the line says, and for the octets of so many that
+/// carry no message.
+fn acts<D: Disk>(
+    alloc: Global,
+    disk: &mut D,
+    node: &mut Node,
+    line: &[u8],
+    out: &mut Vec<u8>,
+) -> Result<(), NodeFault>
+    requires works { CanWork (D.seen disk.old) node.old }
+    ensures { LeavesUp result → CanWork (D.seen disk.new) node.new }
+{
+    match at(line, 0) {
+        b'd' => delivers(alloc, disk, node, line, 0, out),
+        b'y' => delivers(alloc, disk, node, line, 253_402_300_800, out),
+        b'k' => {
+            let call = deletion_at(alloc, line)?;
+            begins(alloc, disk, node, &Users::new(alloc), call, 0, out)
+        }
+        b'L' => logs_in(alloc, disk, node, line, out),
+        b'e' => fetches(alloc, disk, node, line, out),
+        b'p' => {
+            let (most, room) = room_at(line);
+            pushes(alloc, disk, node, node_at(line, 2), most, room, out)
+        }
+        b'w' => {
+            let ann = named(alloc, b"ann")?;
+            widens(alloc, disk, node, &ann, id_at(line), node_at(line, 2), out)
+        }
+        b'r' => restarts(alloc, disk, node, out),
+        b'F' | b'f' | b'S' | b's' | b'P' | b'A' | b'R' | b'U' => {
+            let letter = letter_at(alloc, line, node.own())?;
+            hears(alloc, disk, node, &letter, out)
+        }
+        _ => {
+            tells(alloc, node, line, out)?;
+            Ok(())
+        }
+    }
+}
+
+/// A plan of three nodes with two copies, of which two confirm.
+fn plan_of(alloc: Global) -> Result<Plan, AllocError>
+    ensures nodes { IfOk result (λ plan. plan.nodes ≡ 3) }
+    ensures copies { IfOk result (λ plan. plan.copies ≡ 2) }
+{
+    Ok(Plan {
+        nodes: 3,
+        copies: 2,
+        confirm: 2,
+        buckets: 1,
+        users: Users::new(alloc),
+        postmaster: named(alloc, b"ann")?,
+    })
+}
+
+/// A node of that plan that starts over its journal.
+fn started<D: Disk>(alloc: Global, disk: &mut D, number: NodeNo) -> Result<Node, NodeFault>
+    ensures works { IfOk result (λ node. CanWork (D.seen disk.new) node) }
+{
+    if number.number() > 3 {
+        return Err(NodeFault::Disk);
+    }
+    let plan = plan_of(alloc)?;
+    Node::start(alloc, disk, &plan, number)
+}
+
+/// What the line says that the node is to do.
+fn asked(line: &[u8]) -> &[u8] {
+    &line[..line.len().min(18)]
+}
+
+/// Plays the line, and gives what comes in its place; nothing where it comes as it is written.
+fn plays_line<D: Disk>(
+    alloc: Global,
+    disk: &mut D,
+    node: &mut Node,
+    line: &[u8],
+) -> Result<Vec<u8>, NodeFault>
+    requires works { CanWork (D.seen disk.old) node.old }
+    ensures { LeavesUp result → CanWork (D.seen disk.new) node.new }
+{
+    let mut out = Vec::from_slice(alloc, asked(line))?;
+    out.extend_from_slice(b" >")?;
+    acts(alloc, disk, node, line, &mut out)?;
+    if out.as_slice() == line {
+        return Ok(Vec::new(alloc));
+    }
+    Ok(out)
+}
+
+/// Plays the lines, and gives what comes in place of the first that does not come as it is written.
+fn plays_lines<D: Disk>(
+    alloc: Global,
+    disk: &mut D,
+    node: &mut Node,
+    lines: &[&[u8]],
+) -> Result<Vec<u8>, NodeFault>
+    requires works { CanWork (D.seen disk.old) node.old }
+    ensures { LeavesUp result → CanWork (D.seen disk.new) node.new }
+{
+    let Some((line, others)) = lines.split_first() else {
+        return Ok(Vec::new(alloc));
+    };
+    let wrong = plays_line(alloc, disk, node, line)?;
+    if !wrong.is_empty() {
+        return Ok(wrong);
+    }
+    plays_lines(alloc, disk, node, others)
+}
+
+/// Plays the table, and gives what comes in place of the first line that does not come as it is written.
+fn plays<D: Disk>(
+    alloc: Global,
+    disk: &mut D,
+    node: &mut Node,
+    table: &[u8],
+) -> Result<Vec<u8>, NodeFault>
+    requires works { CanWork (D.seen disk.old) node.old }
+    ensures { LeavesUp result → CanWork (D.seen disk.new) node.new }
+{
+    let lines = lines_of(alloc, table)?;
+    plays_lines(alloc, disk, node, &lines)
+}
+
+/// Plays the table at the node of this number, which begins over an empty disk.
+fn begins_with(alloc: Global, number: u8, table: &[u8]) -> Result<Vec<u8>, NodeFault> {
+    let mut disk = MemoryDisk::new(alloc);
+    let own = node_at(&[number], 0);
+    Node::create(alloc, &mut disk, own)?;
+    let mut node = started(alloc, &mut disk, own)?;
+    plays(alloc, &mut disk, &mut node, table)
+}
+
+/// Each line of the table comes as it is written.
+fn stands(rt: &impl Abort, alloc: Global, number: u8, table: &[u8]) -> Result<(), Fail> {
+    let Ok(wrong) = begins_with(alloc, number, table) else {
+        panic!(rt; "the node fell");
+    };
+    assert_eq!(rt; str::from_utf8(&wrong)?, "");
+    Ok(())
+}
