@@ -1,239 +1,118 @@
--- A call that has begun was served: what it leaves in the world is what the definitions of one node say, and its answer is ready.
-use Rattle.std.proofs.Common.{◌≡◌, inl, ℕ, ◌+◌, ◌≤◌, true, false, Bool, List, [], ◌∷◌, ◌++◌, length, map, take, drop, Option, Some, None, IfSome, is_some, refl, sym, ap, ◌∙◌, subst, append_assoc, append-nil, arith, length-drop}
-use Rattle.std.specs.Prelude.{All, IsTrue}
-use Rattle.std.proofs.lemmas.List.Elements.{All-append}
-use Rattle.mail_model.specs.Names.{IsLowerName}
-use Rattle.mail_model.specs.Grammar.{IsId, IsRecord}
-use Rattle.session_model.specs.Alone.{AreByOne}
-use Rattle.std.proofs.lemmas.List.{map-append, take-append-drop}
-use Rattle.std.proofs.lemmas.List.Concat.{flat_map-append}
-use Rattle.mail_model.specs.Identity.{Id}
-use Rattle.mail_model.specs.Plan.{Plan, opens}
-use Rattle.mail_model.specs.Told.{Mail}
+-- A call begins at a node that is up: how the machine begins it.
+use Rattle.std.proofs.Common.{◌≡◌, ◌⊎◌, inl, inr, ⊎_elim, ℕ, zero, suc, ◌+◌, ◌-◌, ◌<◌, ◌≤◌, nat_le, Bool, true, false, IsTrue, nat_eq, ◌&&◌, ◌||◌, List, [], ◌∷◌, ◌++◌, append-nil, append_assoc, length, Option, Some, None, refl, sym, ap, ◌∙◌, subst, arith, if◌then◌else◌}
+use Rattle.std.specs.Prelude.{slice_index_or, slice_get}
+use Rattle.std.specs.List.{list_all}
+use Rattle.mail_model.specs.Lines.{ends_in_crlf}
+use Rattle.mail_model.specs.Plan.{Plan}
 use Rattle.mail_model.specs.Record.{Record}
-use Rattle.mail_model.specs.Stored.{Ack, HaveOtherIds}
-use Rattle.mail_model.specs.Book.{BookEntry}
-use Rattle.mail_model.specs.Site.{nth_id, nth_stamp, message_records, gone_records, struck_entries}
-use Rattle.session_model.specs.Calls.{Call, Answer}
-use Rattle.session_model.specs.Calls.Call.{Deliver, Login, Fetch, Strike}
-use Rattle.session_model.specs.Calls.Answer.{Stored, Dropped}
-use Rattle.session_model.specs.Logs.{Asked, Answered}
-use Rattle.session_model.specs.Books.{AmongAnswers, IsBookOf, acks_by}
-use Rattle.session_model.specs.OneNode.{Served, Serves, IsSoundMail, first_node, told_of, answered_of}
-use Rattle.mail_base.specs.declared.proof.Proof.{Proof}
-use Rattle.mail_model.proofs.Disk.{through_rises}
-use Rattle.call_tickets.specs.Seen.{answer_seen, secret_given}
-use Rattle.call_tickets.specs.declared.answer.Answer.{Answer as WorldAnswer}
-use Rattle.call_tickets.specs.declared.answer.Answer.TheVariants as own
-use Rattle.cluster_world.specs.World.{plan_of, is_up, drawn_of, stamps_of, tickets_drawn, disk_of, book_of, standing_of, MemoryFits, WorldHolds}
-use Rattle.cluster_world.specs.Steps.{BeginsDelivery, BeginsReading, BeginsDeletion, call_of, nth_filing, nth_ticket}
-use Rattle.cluster_world.specs.Found.{FindsLogin, FindsPart}
-use Rattle.cluster_world.specs.Outcomes.{Awaited, AreWithin}
-use Rattle.cluster_world.specs.declared.world.World.{World}
-use Rattle.cluster_world.specs.declared.step.Pending.{Pending}
-use Rattle.cluster_world.specs.declared.step.Pending.TheVariants.{Filed, Found, Struck}
-use Rattle.cluster_world.specs.declared.step.Standing.{Standing}
-use Rattle.cluster_world.proofs.Booked.{struck_begun, acked_begun, dropped_begun}
-use Rattle.cluster_world.proofs.BookKept.{book_begun, by_one_both, by_one_struck}
-use Rattle.cluster_world.proofs.Spelt.{message_records_are, gone_records_are}
-use Rattle.cluster_world.proofs.Others.{AreBelow, have_pushed, below_pushed, below_later}
-use Rattle.cluster_world.proofs.Awaiting.{InProgress, IsDue, awaited_by, standing_by, due_by, AreRising, due_both, due_more, rising_push}
-use Rattle.cluster_world.proofs.Serving.{IsServing, acks_in, node_of, serves_push, among_front, among_behind}
+use Rattle.mail_model.specs.Book.BookEntry.{WentDown}
+use Rattle.object_model.specs.Letters.{Number}
+use Rattle.cluster_model.specs.Cluster as plain
+use Rattle.cluster_model.specs.Cluster.{Slot, slot_at, with_slot}
+use Rattle.cluster_model.specs.Cluster.Life.{Up, Down}
+use Rattle.cluster_model.specs.World.{World}
+use Rattle.cluster_model.specs.Steps.{NodeCall, StepFault, is_node, slot_fault, life_fault, letters_end, is_worn_for, is_worn_at, step_fault}
+use Rattle.cluster_model.specs.Steps.NodeCall.{Deliver, Login, Fetch, Strike, Leave}
+use Rattle.cluster_model.specs.Steps.Step.{Begin}
+use Rattle.cluster_model.specs.Steps.StepFault.{NoSuchNode, Worn}
+use Rattle.cluster_model.specs.Makes.{IsFiled, begun_by, with_struck, cut_world, kind_of_call}
+use Rattle.node_core.specs.Beginning.{at_second, call_seen}
+use Rattle.call_tickets.specs.declared.call.Call.{Call}
+use Rattle.call_tickets.specs.declared.call.Call.TheVariants as kind
+use Rattle.cluster_world.specs.Begins.{struck_by, said_of_begin}
+use Rattle.cluster_world.specs.Steps.{BeginsSo}
+use Rattle.cluster_world.specs.declared.step.Said.TheVariants as said
+use Rattle.cluster_world.proofs.Refusing.{none_at_all, fifth_fault, named_well}
 
-no_length : (l : List ℕ) → length l ≡ 0 → l ≡ []
-no_length [] e = refl
-no_length (x ∷ l) e = absurd (omega (arith, e))
+-- the last two octets are CRLF
+pub crlf_at : (xs : List ℕ) (k : ℕ) → suc (suc k) ≡ length xs → slice_index_or xs k 0 ≡ 13 → slice_index_or xs (suc k) 0 ≡ 10 → ends_in_crlf xs ≡ true
+crlf_at [] k e a b = absurd (omega (arith, e))
+crlf_at (x ∷ []) k e a b = absurd (omega (arith, e))
+crlf_at (x ∷ y ∷ []) zero e a b = rw (a, b) refl
+crlf_at (x ∷ y ∷ []) (suc k) e a b = absurd (omega (arith, e))
+crlf_at (x ∷ y ∷ z ∷ zs) zero e a b = absurd (omega (arith, e))
+crlf_at (x ∷ y ∷ z ∷ zs) (suc k) e a b = crlf_at (y ∷ z ∷ zs) k (omega (arith, e)) a b
 
--- as many as there are at most are all
-take_all : (n : ℕ) (l : List ℕ) → length l ≤ n → take n l ≡ l
-take_all n l le =
-    let none : drop n l ≡ [] = no_length (drop n l) (omega (arith, length-drop n l, le)) in
-    sym (append-nil (take n l)) ∙ ap (λ (r : List ℕ). take n l ++ r) (sym none) ∙ take-append-drop n l
+-- a world whose book has what the call is to delete
+abbrev pub struck_world : World → NodeCall → World
+struck_world w call = record w { book = w.book ++ struck_by call }
 
--- the answers of one call more
-ready_more : (served : List Served) (one : Served) (answered : Answered) → told_of one.session one.call one.answer ≡ answered ∷ []
-    → ((other : Answered) → AmongAnswers other (answered_of served) → AmongAnswers other (answered_of (served ++ one ∷ []))) × AmongAnswers answered (answered_of (served ++ one ∷ []))
-ready_more served one answered is =
-    let whole : answered_of (served ++ one ∷ []) ≡ answered_of served ++ answered ∷ [] =
-    flat_map-append (λ (s : Served). told_of s.session s.call s.answer) served (one ∷ []) ∙ ap (λ (l : List Answered). answered_of served ++ (l ++ [])) is in (
-      λ other among. rw whole (among_front other (answered_of served) (answered ∷ []) among),
-      rw whole (among_behind answered (answered_of served) (answered ∷ []) (inl refl)),
-    )
+pub with_struck_is : (w : World) (call : NodeCall) → with_struck w call ≡ struck_world w call
+with_struck_is w (Deliver mail) = ap (λ b. record w { book = b }) (sym (append-nil w.book))
+with_struck_is w (Login user secret) = ap (λ b. record w { book = b }) (sym (append-nil w.book))
+with_struck_is w (Fetch user id from most) = ap (λ b. record w { book = b }) (sym (append-nil w.book))
+with_struck_is w (Strike user items) = refl
+with_struck_is w (Leave user) = ap (λ b. record w { book = b }) (sym (append-nil w.book))
 
-module _ {D : Type 0} (seen : D → Option (List ℕ)) (faults : D → ℕ) (plan : Plan) (lines : List (List ℕ)) (tells : Bool) (asked : List Asked) (answered : List Answered) (awaited : List Awaited) (old new : World D)
-    (is : IsServing seen plan lines tells asked answered awaited old) (k number : ℕ) where
-  -- the messages that were acknowledged, and those that will be
-  abbrev all_acks : List Ack
-  all_acks = acks_in answered ++ acks_in (map due_by is.calls)
+-- a call that has a kind of its own and is no Strike is to delete nothing
+pub fetch_strikes_none : (w : World) (call : NodeCall) (user : List ℕ) (id : _) (from most : ℕ) → call ≡ Fetch user id from most → w ≡ struck_world w call
+fetch_strikes_none w call user id from most e = subst (λ c. w ≡ struck_world w c) (sym e) (ap (λ b. record w { book = b }) (sym (append-nil w.book)))
 
-  -- what a call that has begun leaves, of whatever kind
-  record HasBegun (call : Call) (pending : Pending) (answer : Answer) (records : List Record) : Type 0 where
-    pub plan_is : plan_of new ≡ plan_of old
-    pub up : IsTrue (is_up new)
-    pub told : is_some (seen (disk_of new)) ≡ is_some (seen (disk_of old))
-    pub fits : MemoryFits records new
-    pub holds : WorldHolds seen records new
-    pub serves : Serves plan tells (node_of old is.records) call (Some answer) (node_of new records)
-    pub number_is : number ≡ tickets_drawn old + 1
-    pub tickets : tickets_drawn new ≡ tickets_drawn old + 1
-    pub standing : standing_of new ≡ standing_of old ++ call_of (nth_ticket number) pending ∷ []
-    pub due : IsDue call pending answer
-    pub sound : IsSoundMail call
-    pub others : HaveOtherIds (all_acks ++ acks_by (record { session = k; call = call; answer = answer }))
-    pub below : AreBelow (drawn_of new) (all_acks ++ acks_by (record { session = k; call = call; answer = answer }))
-    pub book_is : IsBookOf lines (asked ++ record { session = k; call = call } ∷ []) answered (book_of new)
-    pub by_one : AreByOne (book_of new)
-    pub in_grammar : All IsRecord records
+-- what a call does depends on the seconds of the world alone
+pub filed_in : (w : World) (own : ℕ) (node : plain.Node) (call : NodeCall) (octets : List ℕ) → IsFiled (at_second w.seconds) own node call octets → IsFiled w own node call octets
+filed_in w own node (Deliver mail) octets filed = filed
+filed_in w own node (Login user secret) octets filed = filed
+filed_in w own node (Fetch user id from most) octets filed = filed
+filed_in w own node (Strike user items) octets filed = filed
+filed_in w own node (Leave user) octets filed = filed
 
-  goes_on : (call : Call) (pending : Pending) (answer : Answer) (records : List Record) → HasBegun call pending answer records
-      → IsServing seen plan lines tells (asked ++ record { session = k; call = call } ∷ []) answered (awaited ++ record { number = number; session = k; call = call } ∷ []) new
-  goes_on call pending answer records begun =
-      let one : InProgress = record { number = number; session = k; call = call; pending = pending; answer = answer } in
-      let served_one : Served = record { session = k; call = call; answer = Some answer } in
-      let ready = ready_more is.served served_one (due_by one) refl in
-      let acks : all_acks ++ acks_by (due_by one) ≡ acks_in answered ++ acks_in (map due_by (is.calls ++ one ∷ [])) =
-      append_assoc (acks_in answered) (acks_in (map due_by is.calls)) (acks_by (due_by one))
-      ∙ ap (λ (l : List Ack). acks_in answered ++ l) (sym (
-      ap acks_in (map-append due_by is.calls (one ∷ []))
-      ∙ flat_map-append acks_by (map due_by is.calls) (due_by one ∷ [])
-      ∙ ap (λ (l : List Ack). acks_in (map due_by is.calls) ++ l) (append-nil (acks_by (due_by one)))
-      )) in
-      record {
-        plan_is = begun.plan_is ∙ is.plan_is;
-        up = begun.up;
-        told = begun.told ∙ is.told;
-        records = records;
-        fits = begun.fits;
-        holds = begun.holds;
-        served = is.served ++ served_one ∷ [];
-        serves = serves_push plan tells first_node (node_of old is.records) (node_of new records) is.served served_one is.serves begun.serves;
-        asked_are = map-append (λ (s : Served). record { session = s.session; call = s.call }) is.served (served_one ∷ []) ∙ ap (λ (l : List Asked). l ++ record { session = k; call = call } ∷ []) is.asked_are;
-        within = λ other among. ready.0 other (is.within other among);
-        calls = is.calls ++ one ∷ [];
-        awaited_are = map-append awaited_by is.calls (one ∷ []) ∙ ap (λ (l : List Awaited). l ++ awaited_by one ∷ []) is.awaited_are;
-        standing_are = map-append standing_by is.calls (one ∷ []) ∙ ap (λ (l : List Standing). l ++ standing_by one ∷ []) is.standing_are ∙ sym begun.standing;
-        rising = subst (λ (n : ℕ). AreRising 0 n (is.calls ++ one ∷ [])) (sym begun.tickets) (rising_push 0 (tickets_drawn old) is.calls one begun.number_is is.rising);
-        due = due_both (answered_of (is.served ++ served_one ∷ [])) is.calls (one ∷ []) (due_more (answered_of is.served) (answered_of (is.served ++ served_one ∷ [])) is.calls ready.0 is.due)
-            ((begun.due, begun.sound, ready.1), tt);
-        others = subst HaveOtherIds acks begun.others;
-        below = subst (AreBelow (drawn_of new)) acks begun.below;
-        book_is = begun.book_is;
-        by_one = begun.by_one;
-        in_grammar = begun.in_grammar;
-      }
+pub begun_in : (plan : Plan) (w : World) (own : ℕ) (node : plain.Node) (disk : List Record) (call : NodeCall) (octets : List ℕ)
+    → begun_by plan w own node disk call octets ≡ begun_by plan (at_second w.seconds) own node disk call octets
+begun_in plan w own node disk (Deliver mail) octets = refl
+begun_in plan w own node disk (Login user secret) octets = refl
+begun_in plan w own node disk (Fetch user id from most) octets = refl
+begun_in plan w own node disk (Strike user items) octets = refl
+begun_in plan w own node disk (Leave user) octets = refl
 
-  -- a delivery
-  pub delivery_began : (mail : Mail) → BeginsDelivery seen faults mail (nth_ticket number) old new → is_some (seen (disk_of new)) ≡ is_some (seen (disk_of old)) → IsSoundMail (Deliver mail)
-      → All IsLowerName mail.mailboxes → AreWithin new
-      → IsServing seen plan lines tells (asked ++ record { session = k; call = Deliver mail } ∷ []) answered (awaited ++ record { number = number; session = k; call = Deliver mail } ∷ []) new
-  delivery_began mail takes told sound names within =
-      let added : List Record = message_records (nth_id (drawn_of old + 1)) (nth_stamp (stamps_of old + 1)) takes.octets mail.mailboxes in
-      let ack : Ack = record { session = k; mail = mail; id = nth_id (drawn_of old + 1); seconds = 0 } in
-      goes_on (Deliver mail) (Filed (nth_filing (drawn_of old + 1) takes.octets mail.mailboxes)) (Stored (nth_id (drawn_of old + 1))) (is.records ++ added) (record {
-        plan_is = takes.plan;
-        up = takes.up;
-        told = told;
-        fits = takes.fits is.records is.fits;
-        holds = takes.holds is.records is.holds;
-        serves = (takes.octets, refl, takes.stored, λ i. record { drawn = takes.drawn i; stamps = takes.stamps i; records = is.records ++ added });
-        number_is = ap (λ t. t.seq) takes.ticket_is;
-        tickets = takes.tickets;
-        standing = takes.standing;
-        due = (drawn_of old + 1, takes.octets, refl, refl, takes.stored);
-        sound = sound;
-        others = have_pushed (drawn_of old) all_acks ack refl is.below is.others;
-        below = subst (λ (n : ℕ). AreBelow n (all_acks ++ ack ∷ [])) (sym takes.drawn) (below_pushed (drawn_of old) all_acks ack refl is.below);
-        book_is = subst (λ (b : List BookEntry). IsBookOf lines (asked ++ record { session = k; call = Deliver mail } ∷ []) answered b) (append-nil (book_of old) ∙ sym takes.book)
-            (book_begun lines asked answered (book_of old) [] (record { session = k; call = Deliver mail }) refl refl refl is.book_is);
-        by_one = subst AreByOne (sym takes.book) is.by_one;
-        in_grammar = All-append IsRecord is.records added is.in_grammar
-            (message_records_are (drawn_of old) (stamps_of old) takes.octets mail.mailboxes (omega (arith, takes.drawn, within.0)) (omega (arith, takes.stamps, within.1)) names);
-      })
+-- a call that files has a kind
+pub filed_kind : (w : World) (own : ℕ) (node : plain.Node) (call : NodeCall) (octets : List ℕ) → IsFiled w own node call octets → kind_of_call call ≡ None → ⊥
+filed_kind w own node (Deliver mail) octets filed e = let never : Some plain.CallKind.Delivering ≡ None = e in cc
+filed_kind w own node (Login user secret) octets filed e = filed
+filed_kind w own node (Fetch user id from most) octets filed e = filed
+filed_kind w own node (Strike user items) octets filed e = let never : Some plain.CallKind.Striking ≡ None = e in cc
+filed_kind w own node (Leave user) octets filed e = filed
 
-  -- what was found, and where it was found nothing has changed
-  found_began : (call : Call) (found : WorldAnswer) → BeginsReading seen faults (nth_ticket number) found old new → is_some (seen (disk_of new)) ≡ is_some (seen (disk_of old))
-      → IsDue call (Found found) (answer_seen found) → IsSoundMail call → acks_by (record { session = k; call = call; answer = answer_seen found }) ≡ []
-      → IsBookOf lines (asked ++ record { session = k; call = call } ∷ []) answered (book_of old ++ [])
-      → (node_of new is.records ≡ node_of old is.records → Serves plan tells (node_of old is.records) call (Some (answer_seen found)) (node_of new is.records))
-      → IsServing seen plan lines tells (asked ++ record { session = k; call = call } ∷ []) answered (awaited ++ record { number = number; session = k; call = call } ∷ []) new
-  found_began call found finds told due sound none booked serves =
-      goes_on call (Found found) (answer_seen found) is.records (record {
-        plan_is = finds.plan;
-        up = finds.up;
-        told = told;
-        fits = finds.fits is.records is.fits;
-        holds = rw (finds.octets, finds.gate) is.holds;
-        serves = serves (λ i. record { drawn = finds.drawn i; stamps = finds.stamps i; records = is.records });
-        number_is = ap (λ t. t.seq) finds.ticket_is;
-        tickets = finds.tickets;
-        standing = finds.standing;
-        due = due;
-        sound = sound;
-        others = subst HaveOtherIds (sym (ap (λ (l : List Ack). all_acks ++ l) none ∙ append-nil all_acks)) is.others;
-        below = subst (λ (n : ℕ). AreBelow n (all_acks ++ acks_by (record { session = k; call = call; answer = answer_seen found }))) (sym finds.drawn)
-            (subst (AreBelow (drawn_of old)) (sym (ap (λ (l : List Ack). all_acks ++ l) none ∙ append-nil all_acks)) is.below);
-        book_is = subst (λ (b : List BookEntry). IsBookOf lines (asked ++ record { session = k; call = call } ∷ []) answered b) (append-nil (book_of old) ∙ sym finds.book) booked;
-        by_one = subst AreByOne (sym finds.book) is.by_one;
-        in_grammar = is.in_grammar;
-      })
+-- what a call says that has a ticket of its node, or none
+pub begun_so : (call : Call) (own : ℕ) (ticket : Number) → ticket.node ≡ own → (kind_of_call (call_seen call) ≡ None → ⊥) → BeginsSo call own (said.Begun ticket 0)
+begun_so (kind.Deliver deliver) own ticket e some = (e, refl)
+begun_so (kind.Login user proof) own ticket e some = (e, refl)
+begun_so (kind.Fetch user id holders from most) own ticket e some = (e, refl)
+begun_so (kind.Strike user items) own ticket e some = (e, refl)
+begun_so (kind.Leave user login manager) own ticket e some = some refl
 
-  -- a login
-  pub login_began : (user : List ℕ) (proof : Proof) (found : WorldAnswer) → BeginsReading seen faults (nth_ticket number) found old new → is_some (seen (disk_of new)) ≡ is_some (seen (disk_of old))
-      → FindsLogin found user proof (nth_ticket number) old
-      → IsServing seen plan lines tells (asked ++ record { session = k; call = Login user (secret_given proof) } ∷ []) answered (awaited ++ record { number = number; session = k; call = Login user (secret_given proof) } ∷ []) new
-  login_began user proof (own.Listed login manager nodes items) finds told finds_login =
-      found_began (Login user (secret_given proof)) (own.Listed login manager nodes items) finds told refl tt refl
-      (book_begun lines asked answered (book_of old) [] (record { session = k; call = Login user (secret_given proof) }) refl refl refl is.book_is)
-      (λ same. (ap (λ (p : Plan). opens p user (secret_given proof)) (sym is.plan_is) ∙ finds_login.0, finds_login.1.are is.records is.fits, same))
-  login_began user proof (own.Wrong stamp) finds told finds_login =
-      found_began (Login user (secret_given proof)) (own.Wrong stamp) finds told refl tt refl
-      (book_begun lines asked answered (book_of old) [] (record { session = k; call = Login user (secret_given proof) }) refl refl refl is.book_is)
-      (λ same. (ap (λ (p : Plan). opens p user (secret_given proof)) (sym is.plan_is) ∙ finds_login.0, same))
-  login_began user proof found finds told finds_login = absurd finds_login
+pub noted_so : (call : Call) (own : ℕ) (user : List ℕ) → call_seen call ≡ Leave user → BeginsSo call own said.Noted
+noted_so (kind.Deliver deliver) own user e = let never : Deliver (Rattle.mail_base.specs.Delivers.mail_in deliver) ≡ Leave user = e in cc
+noted_so (kind.Login name proof) own user e = let never : Login name (Rattle.node_core.specs.Beginning.secret_in proof) ≡ Leave user = e in cc
+noted_so (kind.Fetch name id holders from most) own user e = let never : Fetch name id from most ≡ Leave user = e in cc
+noted_so (kind.Strike name items) own user e = let never : Strike name (Rattle.node_core.specs.Beginning.struck_of items) ≡ Leave user = e in cc
+noted_so (kind.Leave name login manager) own user e = tt
 
-  -- the reading of a whole message
-  pub fetch_began : (user : List ℕ) (id : Id) (found : WorldAnswer) → BeginsReading seen faults (nth_ticket number) found old new → is_some (seen (disk_of new)) ≡ is_some (seen (disk_of old))
-      → FindsPart seen found user id 0 18446744073709551615 old
-      → IsServing seen plan lines tells (asked ++ record { session = k; call = Fetch user id } ∷ []) answered (awaited ++ record { number = number; session = k; call = Fetch user id } ∷ []) new
-  fetch_began user id (own.Part octets whole) finds told finds_part =
-      let part = finds_part is.records is.fits in
-      found_began (Fetch user id) (own.Part octets whole) finds told refl tt refl
-      (book_begun lines asked answered (book_of old) [] (record { session = k; call = Fetch user id }) refl refl refl is.book_is)
-      (λ same. (λ tell. part.known ∙ ap (λ (l : List ℕ). Some l) (sym (all_of (seen (disk_of old)) octets part.all (is.told ∙ tell) part.within (part.part is.holds))), same))
-    where
-      all_of : (told : Option (List ℕ)) (octets all : List ℕ) → is_some told ≡ true → length all ≤ 18446744073709551615 → IfSome told (λ _. octets ≡ take 18446744073709551615 (drop 0 all)) → octets ≡ all
-      all_of None octets all tell le part = absurd (let never : ◌≡◌ {A = Bool} false true = tell in cc)
-      all_of (Some held) octets all tell le part = part ∙ take_all 18446744073709551615 all le
-  fetch_began user id own.GoneAlready finds told finds_part =
-      found_began (Fetch user id) own.GoneAlready finds told refl tt refl
-      (book_begun lines asked answered (book_of old) [] (record { session = k; call = Fetch user id }) refl refl refl is.book_is)
-      (λ same. (finds_part is.records is.fits, same))
-  fetch_began user id found finds told finds_part = absurd finds_part
+pub fault_so : (call : Call) (own : ℕ) → (kind_of_call (call_seen call) ≡ None → ⊥) → BeginsSo call own (said.Faulted own)
+fault_so (kind.Deliver deliver) own some = refl
+fault_so (kind.Login user proof) own some = refl
+fault_so (kind.Fetch user id holders from most) own some = refl
+fault_so (kind.Strike user items) own some = refl
+fault_so (kind.Leave user login manager) own some = some refl
 
-  -- a deletion
-  pub strike_began : (user : List ℕ) (ids : List Id) → BeginsDeletion seen faults user ids (nth_ticket number) old new → is_some (seen (disk_of new)) ≡ is_some (seen (disk_of old))
-      → IsLowerName user → All IsId ids → AreWithin new
-      → IsServing seen plan lines tells (asked ++ record { session = k; call = Strike user ids } ∷ []) answered (awaited ++ record { number = number; session = k; call = Strike user ids } ∷ []) new
-  strike_began user ids strikes told name are_ids within =
-      let added : List Record = gone_records user (stamps_of old) ids in
-      goes_on (Strike user ids) (Struck user ids) Dropped (is.records ++ added) (record {
-        plan_is = strikes.plan;
-        up = strikes.up;
-        told = told;
-        fits = strikes.fits is.records is.fits;
-        holds = strikes.holds is.records is.holds;
-        serves = λ i. record { drawn = strikes.drawn i; stamps = strikes.stamps i; records = is.records ++ added };
-        number_is = ap (λ t. t.seq) strikes.ticket_is;
-        tickets = strikes.tickets;
-        standing = strikes.standing;
-        due = (refl, refl);
-        sound = tt;
-        others = subst HaveOtherIds (sym (append-nil all_acks)) is.others;
-        below = subst (AreBelow (drawn_of new)) (sym (append-nil all_acks))
-            (below_later (drawn_of old) (drawn_of new) all_acks (let rises = through_rises (drawn_of old) ids in omega (arith, rises, strikes.drawn)) is.below);
-        book_is = subst (λ (b : List BookEntry). IsBookOf lines (asked ++ record { session = k; call = Strike user ids } ∷ []) answered b) (sym strikes.book)
-            (book_begun lines asked answered (book_of old) (struck_entries user ids) (record { session = k; call = Strike user ids })
-            (struck_begun user ids) (dropped_begun user ids) (acked_begun user ids) is.book_is);
-        by_one = subst AreByOne (sym strikes.book) (by_one_both (book_of old) (struck_entries user ids) is.by_one (by_one_struck user ids));
-        in_grammar = All-append IsRecord is.records added is.in_grammar (gone_records_are user (stamps_of old) ids (omega (arith, strikes.stamps, within.1)) name are_ids);
-      })
+-- what the machine refuses of a call at a node that is up
+module _ (plan : Plan) (w : World) (n : ℕ) (call : NodeCall) (slot : Slot) (node : plain.Node) (named : list_all (is_node plan) (n ∷ []) ≡ true) (here : slot_at w.slots n ≡ Some slot)
+    (up : slot.life ≡ Up node) where
+  acts : slot_fault (Begin n call) (slot_at w.slots n) ≡ None
+  acts = ap (slot_fault (Begin n call)) here ∙ ap (life_fault (Begin n call)) up
+
+  worn_by : (late worn : Bool) → nat_le letters_end w.sent ≡ late → is_worn_for plan w.seconds node call ≡ worn
+      → (if nat_le letters_end w.sent || is_worn_at plan w.seconds (Begin n call) (slot_at w.slots n) then Some Worn else None) ≡ (if late || worn then Some Worn else None)
+  worn_by late worn e f =
+      ap (λ b. if b || is_worn_at plan w.seconds (Begin n call) (slot_at w.slots n) then Some Worn else None) e
+      ∙ ap (λ o. if late || is_worn_at plan w.seconds (Begin n call) o then Some Worn else None) here
+      ∙ ap (λ l. if late || Rattle.cluster_model.specs.Steps.is_worn_slot plan w.seconds (Begin n call) slot l then Some Worn else None) up
+      ∙ ap (λ b. if late || b then Some Worn else None) f
+
+  pub begin_goes : nat_le letters_end w.sent ≡ false → is_worn_for plan w.seconds node call ≡ false → step_fault plan (Begin n call) w ≡ None
+  begin_goes early fresh = none_at_all _ _ _ _ _ _ (named_well plan w n slot named here) acts refl refl (worn_by false false early fresh) refl
+
+  pub begin_is_late : nat_le letters_end w.sent ≡ true → step_fault plan (Begin n call) w ≡ Some Worn
+  begin_is_late late = fifth_fault _ _ _ _ _ _ Worn (named_well plan w n slot named here) acts refl refl (worn_by true (is_worn_for plan w.seconds node call) late refl)
+
+  pub begin_is_worn : nat_le letters_end w.sent ≡ false → is_worn_for plan w.seconds node call ≡ true → step_fault plan (Begin n call) w ≡ Some Worn
+  begin_is_worn early worn = fifth_fault _ _ _ _ _ _ Worn (named_well plan w n slot named here) acts refl refl (worn_by false true early worn)

@@ -1,155 +1,114 @@
--- A call in which the node went down was served in part, and has no answer.
-use Rattle.std.proofs.Common.{◌≡◌, inl, inr, ℕ, ◌+◌, true, false, Bool, List, [], ◌∷◌, ◌++◌, map, Option, Some, None, IfSome, is_some, Result, Ok, Err, refl, sym, ap, ◌∙◌, subst, append-nil, arith}
-use Rattle.mail_model.specs.Names.{IsLowerName}
-use Rattle.mail_model.specs.Grammar.{IsId, IsRecord}
-use Rattle.session_model.specs.Alone.{AreByOne}
-use Rattle.std.proofs.lemmas.List.Elements.{All-append}
-use Rattle.std.specs.Prelude.{All, IsFalse, if◌then◌else◌}
-use Rattle.std.proofs.lemmas.List.{map-append}
-use Rattle.std.proofs.lemmas.List.Concat.{flat_map-append}
-use Rattle.std.proofs.lemmas.Bool.Decides.{nat_tests}
-use Rattle.mail_model.specs.Identity.{Id}
-use Rattle.mail_model.specs.Plan.{Plan}
-use Rattle.mail_model.specs.Told.{Mail}
-use Rattle.mail_model.specs.Book.{BookEntry}
-use Rattle.mail_model.specs.Book.BookEntry.{WentDown}
-use Rattle.mail_model.specs.Site.{HoldsRecords, struck_entries}
-use Rattle.mail_base.specs.Delivers.{mail_in}
-use Rattle.session_model.specs.Calls.{Call}
-use Rattle.session_model.specs.Calls.Call.{Deliver, Fetch, Strike}
-use Rattle.session_model.specs.Logs.{Asked, Answered}
-use Rattle.session_model.specs.Books.{IsBookOf}
-use Rattle.session_model.specs.OneNode.{NodeState, Served, Serves, first_node, told_of, answered_of}
-use Rattle.call_tickets.specs.Seen.{call_seen, ids_in, asks_whole}
-use Rattle.call_tickets.specs.declared.call.Call.{Call as WorldCall}
-use Rattle.call_tickets.specs.declared.call.Call.TheVariants as call
-use Rattle.cluster_world.specs.World.{is_up, drawn_of, stamps_of, disk_of, book_of, gate_of}
-use Rattle.cluster_world.specs.Steps.{BeginDid, HasFallen, HasBrokenOff, GoesDownFiling, StopsReading, StopsDeleting}
-use Rattle.cluster_world.specs.Outcomes.{Awaited, IsFall, HasNames, AreWithin}
-use Rattle.cluster_world.specs.declared.step.Step.TheVariants.{Begin}
-use Rattle.cluster_world.specs.declared.world.World.{World}
-use Rattle.cluster_world.specs.declared.step.Said.{Said}
-use Rattle.cluster_world.specs.declared.step.Said.TheVariants.{Begun, Noted, Asked as AskedFor, Faulted}
-use Rattle.cluster_world.specs.declared.step.StepFault.{StepFault}
-use Rattle.cluster_world.specs.declared.step.StepFault.TheVariants.{NoSuchNode, NodeDown, NoSuchTicket, Worn, NoMemory}
-use Rattle.cluster_world.proofs.Booked.{struck_begun, acked_begun, dropped_begun}
-use Rattle.cluster_world.proofs.BookKept.{book_begun, book_down, by_one_both, by_one_struck}
-use Rattle.cluster_world.proofs.Spelt.{message_records_are, gone_records_are, front_is}
-use Rattle.cluster_world.proofs.Others.{have_front}
-use Rattle.cluster_world.proofs.Awaiting.{due_by}
-use Rattle.cluster_world.proofs.Serving.{IsServing, HasServed, acks_in, node_of, serves_push, holds_journal}
+-- A node that stops, or is lost.
+use Rattle.std.proofs.Common.{◌≡◌, ◌≢◌, ◌⊎◌, inl, inr, ⊎_elim, ℕ, suc, ◌+◌, ◌≤◌, true, List, [], ◌∷◌, ◌++◌, append-nil, All, Option, Some, None, Ok, refl, sym, ap, ◌∙◌, subst, arith}
+use Rattle.std.specs.Prelude.{IfSome, flat_map, is_some}
+use Rattle.std.specs.List.{list_all}
+use Rattle.mail_model.specs.Record.{Record, IsJournal, payloads_of}
+use Rattle.mail_model.specs.Grammar.{IsRecord}
+use Rattle.mail_model.specs.Book.{BookEntry as entry}
+use Rattle.session_model.specs.Events.{NodeLife, NodeLife as life, turned}
+use Rattle.cluster_model.specs.Cluster as plain
+use Rattle.cluster_model.specs.Cluster.{Slot, slot_at, with_slot}
+use Rattle.cluster_model.specs.World as machine
+use Rattle.cluster_model.specs.Steps as steps
+use Rattle.cluster_model.specs.Makes.{NodeFalls}
+use Rattle.io_edge.specs.Octets.{IsToldAlike}
+use Rattle.node_store.specs.Disks.{View}
+use Rattle.node_core.specs.Starting.{MayHold}
+use Rattle.node_core.specs.Nodes.{CanWork, IsNodeOf}
+use Rattle.node_core.specs.declared.node.Node.{Node}
+use Rattle.world_book.specs.Books.{entries_of, spare_of}
+use Rattle.world_book.specs.declared.book.Book.{Book}
+use Rattle.world_book.specs.declared.entry.Entry.{Entry}
+use Rattle.world_book.specs.declared.entry.Entry.TheVariants as written
+use Rattle.cluster_world.specs.Books.{entries_seen, booked_by}
+use Rattle.cluster_world.specs.Flights.{InFlight}
+use Rattle.cluster_world.specs.Lives.{life_seen, of_node, falls_left, all_falls_left, CanWorkOn}
+use Rattle.cluster_world.specs.Stands.{SlotStands}
+use Rattle.cluster_world.specs.Worlds.{seen_life, life_among, state_with, Stands}
+use Rattle.cluster_world.specs.Changes.{ChangesNode, IsTurnedTo}
+use Rattle.cluster_world.specs.Turns.{life_refusal, node_refusal}
+use Rattle.cluster_world.specs.Moments.{StopsKeep}
+use Rattle.cluster_world.specs.Steps.{StepDid, AreSettled, LeadsTo}
+use Rattle.cluster_world.specs.declared.life.Life.{Life}
+use Rattle.cluster_world.specs.declared.life.Life.TheVariants.{Up, Down, Lost}
+use Rattle.cluster_world.specs.declared.nodes.Nodes.{Nodes}
+use Rattle.cluster_world.specs.declared.step.Step.{Step}
+use Rattle.cluster_world.specs.declared.step.Step.TheVariants as step
+use Rattle.cluster_world.specs.declared.step.Said.TheVariants.{Done}
+use Rattle.cluster_world.specs.declared.fault.StepFault.TheVariants as fault
+use Rattle.cluster_world.proofs.Still.{some_same, if_some, images_stop}
+use Rattle.cluster_world.proofs.Turned.{slot_of, slots_stand, stops_kept, lives_turned, as_many, told_by, quiet_by, settled_by, still_ready, falls_now}
+use Rattle.cluster_world.proofs.Refusing.{fit_of, crash_goes, lose_goes}
 
--- the call that a session knows it as
-pub some_is : {A : Type 0} (a b : A) → Some a ≡ Some b → a ≡ b
-some_is {A} a b e = let is : ◌≡◌ {A = Option A} (Some a) (Some b) = e in cc
+-- the entries of the book one after another
+pub entries_more : (xs ys : List Entry) → entries_seen (xs ++ ys) ≡ entries_seen xs ++ entries_seen ys
+entries_more [] ys = refl
+entries_more (x ∷ xs) ys = ap (λ zs. Rattle.cluster_world.specs.Books.entry_seen x ++ zs) (entries_more xs ys) ∙ sym (Rattle.std.proofs.Common.append_assoc (Rattle.cluster_world.specs.Books.entry_seen x) (entries_seen xs) (entries_seen ys))
 
-pub not_none : {P : Type 0} {A : Type 0} (a : A) → None ≡ Some a → P
-not_none {P} {A} a e = absurd (let is : ◌≡◌ {A = Option A} None (Some a) = e in cc)
+-- a life that is up in the definitions' words is up
+pub up_life : (l : Life) (boot : ℕ) → life_seen l ≡ life.Up boot → (node : Node) × (l ≡ Up node)
+up_life (Up node) boot e = (node, refl)
+up_life Down boot e = absurd (let never : life.Down ≡ life.Up boot = e in cc)
+up_life Lost boot e = absurd (let never : life.Lost ≡ life.Up boot = e in cc)
 
-from_first : (start most : ℕ) → asks_whole start most ≡ true → start ≡ 0
-from_first start most is = grind (arith, nat_tests)
+-- a node that may crash is up, and one that may be lost is not lost
+pub crash_up : (n : ℕ) (l : Life) → life_refusal (step.Crash n) (life_seen l) ≡ None → (node : Node) × (l ≡ Up node)
+crash_up n (Up node) e = (node, refl)
+crash_up n Down e = absurd (let never : Some fault.NodeDown ≡ None = e in cc)
+crash_up n Lost e = absurd (let never : Some fault.NodeLost ≡ None = e in cc)
 
-to_last : (start most : ℕ) → asks_whole start most ≡ true → most ≡ 18446744073709551615
-to_last start most is = grind (arith, nat_tests)
+pub lose_here : (n : ℕ) (l : Life) → life_refusal (step.Lose n) (life_seen l) ≡ None → ((node : Node) × (l ≡ Up node)) ⊎ (l ≡ Down)
+lose_here n (Up node) e = inl (node, refl)
+lose_here n Down e = inr refl
+lose_here n Lost e = absurd (let never : Some fault.NodeLost ≡ None = e in cc)
 
--- a call that a session knows fetches whole
-pub fetched_whole : (user : List ℕ) (id : Id) (start most : ℕ) (asked : Call) → (if asks_whole start most then Some (Fetch user id) else None) ≡ Some asked
-    → (start ≡ 0) × (most ≡ 18446744073709551615) × (Fetch user id ≡ asked)
-fetched_whole user id start most asked e = by (asks_whole start most) refl e
-  where
-    by : (b : Bool) → asks_whole start most ≡ b → (if b then Some (Fetch user id) else None) ≡ Some asked → (start ≡ 0) × (most ≡ 18446744073709551615) × (Fetch user id ≡ asked)
-    by true is e = (from_first start most is, to_last start most is, some_is (Fetch user id) asked e)
-    by false is e = not_none asked e
+module _ {D : Type 0} (on : View D) (own : ℕ) (disk : D) (slot : Slot) where
+  -- the slot of a node that was up, as it falls
+  pub fallen : (node : Node) → SlotStands on own (Up node) disk slot
+      → ((seen : plain.Node) × (slot.life ≡ plain.Life.Up seen)) × All IsRecord (slot.disk ++ []) × IfSome (on.seen disk) (λ _. MayHold on disk own slot.disk [])
+  fallen node (seen, is, st) =
+      let fit : All IsRecord (slot.disk ++ []) = subst (λ xs. All IsRecord xs) (sym (append-nil slot.disk)) st.keeps.fit in
+      ((seen, is), fit, if_some (on.seen disk) _ _ (λ _ images. record { images = λ c image. inl (images c image).journal; fit = fit }) st.images)
 
-module _ {D : Type 0} (seen : D → Option (List ℕ)) (faults : D → ℕ) (plan : Plan) (lines : List (List ℕ)) (tells : Bool) (asked : List Asked) (answered : List Answered) (awaited : List Awaited) (old new : World D)
-    (is : IsServing seen plan lines tells asked answered awaited old) (k : ℕ) (told : is_some (seen (disk_of new)) ≡ is_some (seen (disk_of old))) where
-  -- what such a call leaves
-  stops : (one : Call) (node : NodeState) → All IsRecord node.records → AreByOne (book_of new) → Serves plan tells (node_of old is.records) one None node → IfSome (seen (disk_of new)) (HoldsRecords node.records)
-      → IsBookOf lines (asked ++ record { session = k; call = one } ∷ []) answered (book_of new)
-      → HasServed plan lines tells (seen (disk_of new)) (asked ++ record { session = k; call = one } ∷ []) answered (book_of new)
-  stops one node in_grammar by_one serves holds book =
-      let last : Served = record { session = k; call = one; answer = None } in
-      let same : answered_of (is.served ++ last ∷ []) ≡ answered_of is.served = flat_map-append (λ (s : Served). told_of s.session s.call s.answer) is.served (last ∷ []) ∙ append-nil (answered_of is.served) in
-      record {
-        served = is.served ++ last ∷ [];
-        node = node;
-        serves = serves_push plan tells first_node (node_of old is.records) node is.served last is.serves serves;
-        asked_are = map-append (λ (s : Served). record { session = s.session; call = s.call }) is.served (last ∷ []) ∙ ap (λ (l : List Asked). l ++ record { session = k; call = one } ∷ []) is.asked_are;
-        within = λ other among. rw same (is.within other among);
-        others = have_front (acks_in answered) (acks_in (map due_by is.calls)) is.others;
-        told = told ∙ is.told;
-        holds = holds;
-        book_is = book;
-        by_one = by_one;
-        in_grammar = in_grammar;
-      }
+  -- what a stop leaves of it, whatever its life is now that has nothing pending
+  pub falls_kept : (l : Life) (now : plain.Life) → plain.pending_of now ≡ [] → slot.life ≢ plain.Life.Lost → SlotStands on own l disk slot → StopsKeep on own disk disk slot (record slot { life = now })
+  falls_kept l now none here stands = record {
+    kept = [];
+    pending_is = inl refl;
+    added = [];
+    grew = ap (λ xs. slot.disk ++ xs) none ∙ sym (append-nil (slot.disk ++ []));
+    stops = if_some (on.seen disk) _ _ (λ _ images. record { later = omega arith; since = λ t c le was. inl was; now = images }) (images_stop on own l disk slot [] here stands);
+  }
 
-  -- the book, where the call adds none to it
-  quiet_book : (one : Asked) → book_of new ≡ book_of old ++ WentDown 1 ∷ [] → IsBookOf lines (asked ++ one ∷ []) answered (book_of old ++ [])
-      → IsBookOf lines (asked ++ one ∷ []) answered (book_of new)
-  quiet_book one added booked =
-      subst (λ (b : List BookEntry). IsBookOf lines (asked ++ one ∷ []) answered b) (sym added)
-      (book_down lines (asked ++ one ∷ []) answered (book_of old) (subst (λ (b : List BookEntry). IsBookOf lines (asked ++ one ∷ []) answered b) (append-nil (book_of old)) booked))
+module _ {D : Type 0} (on : View D) (n : ℕ) (now : Life) (plain_now : plain.Life) (none : plain.pending_of plain_now ≡ []) (old new : Nodes D) (ch : ChangesNode n (IsTurnedTo now) old new)
+    (flying : InFlight) (seconds : ℕ) (book book' : Book) where
+  same_disk : ch.disk' ≡ ch.disk
+  same_disk = ch.does.1
 
-  message_fell : (mail : Mail) → All IsLowerName mail.mailboxes → AreWithin new → GoesDownFiling seen faults mail old new → HasServed plan lines tells (seen (disk_of new)) (asked ++ record { session = k; call = Deliver mail } ∷ []) answered (book_of new)
-  message_fell mail names within down =
-      let some = down.falls.holds is.records is.holds in
-      stops (Deliver mail) (record { drawn = drawn_of old + 1; stamps = stamps_of new; records = is.records ++ some.front.added })
-      (All-append IsRecord is.records some.front.added is.in_grammar (front_is some.front.added some.front.missing (subst (All IsRecord) some.front.front
-      (message_records_are (drawn_of old) (stamps_of old) some.octets mail.mailboxes (omega (arith, down.drawn, within.0)) (omega (arith, down.stamps, within.1)) names))))
-      (subst AreByOne (sym down.book) (by_one_both (book_of old) (WentDown 1 ∷ []) is.by_one tt))
-      (inr (some.front.added, stamps_of new, (some.octets, some.front.missing, some.stored, some.front.front), refl))
-      some.front.holds
-      (quiet_book (record { session = k; call = Deliver mail }) down.book (book_begun lines asked answered (book_of old) [] (record { session = k; call = Deliver mail }) refl refl refl is.book_is))
+  pub fall_told : (seen : D → Option (List ℕ)) → IsToldAlike (seen ch.disk) (seen ch.disk')
+  fall_told seen = ap (λ d. is_some (seen d)) same_disk
 
-  reading_fell : (user : List ℕ) (id : Id) → StopsReading seen faults old new → HasServed plan lines tells (seen (disk_of new)) (asked ++ record { session = k; call = Fetch user id } ∷ []) answered (book_of new)
-  reading_fell user id down =
-      stops (Fetch user id) (node_of old is.records) is.in_grammar (subst AreByOne (sym down.book) (by_one_both (book_of old) (WentDown 1 ∷ []) is.by_one tt)) (inl refl)
-      (rw down.octets (holds_journal (seen (disk_of old)) is.records (gate_of old) is.holds))
-      (quiet_book (record { session = k; call = Fetch user id }) down.book (book_begun lines asked answered (book_of old) [] (record { session = k; call = Fetch user id }) refl refl refl is.book_is))
-
-  strike_fell : (user : List ℕ) (ids : List Id) → IsLowerName user → All IsId ids → AreWithin new → StopsDeleting seen faults user ids old new
-      → HasServed plan lines tells (seen (disk_of new)) (asked ++ record { session = k; call = Strike user ids } ∷ []) answered (book_of new)
-  strike_fell user ids name own within down =
-      let some = down.holds is.records is.holds in
-      let one : Asked = record { session = k; call = Strike user ids } in
-      stops (Strike user ids) (record { drawn = drawn_of new; stamps = stamps_of new; records = is.records ++ some.added })
-      (All-append IsRecord is.records some.added is.in_grammar (front_is some.added some.missing (subst (All IsRecord) some.front
-      (gone_records_are user (stamps_of old) ids (omega (arith, down.stamps, within.1)) name own))))
-      (subst AreByOne (sym down.book) (by_one_both (book_of old ++ struck_entries user ids) (WentDown 1 ∷ []) (by_one_both (book_of old) (struck_entries user ids) is.by_one (by_one_struck user ids)) tt))
-      (inr (some.added, stamps_of new, (some.missing, some.front), λ i. record { drawn = down.drawn i; stamps = stamps_of new; records = is.records ++ some.added }))
-      some.holds
-      (subst (λ (b : List BookEntry). IsBookOf lines (asked ++ one ∷ []) answered b) (sym down.book)
-      (book_down lines (asked ++ one ∷ []) answered (book_of old ++ struck_entries user ids)
-      (book_begun lines asked answered (book_of old) (struck_entries user ids) one (struck_begun user ids) (dropped_begun user ids) (acked_begun user ids) is.book_is)))
-
-  -- the call of the world as a session knows it
-  abbrev Done : Call → Type 0
-  Done one = HasServed plan lines tells (seen (disk_of new)) (asked ++ record { session = k; call = one } ∷ []) answered (book_of new) × IsFalse (is_up new)
-
-  by_fall : (begun : WorldCall) (one : Call) → call_seen begun ≡ Some one → HasNames (Begin 1 begun) → AreWithin new → HasFallen seen faults begun old new → Done one
-  by_fall (call.Deliver deliver) one e names within fell = subst Done (some_is (Deliver (mail_in deliver)) one e) (message_fell (mail_in deliver) names within fell, fell.down)
-  by_fall (call.Login user proof) one e names within fell = absurd fell
-  by_fall (call.Fetch user id holders start most) one e names within fell = subst Done (fetched_whole user id start most one e).2 (reading_fell user id fell, fell.down)
-  by_fall (call.Strike user items) one e names within fell = subst Done (some_is (Strike user (ids_in items)) one e) (strike_fell user (ids_in items) names.0 names.1 within fell, fell.down)
-  by_fall (call.Leave user login manager) one e names within fell = absurd fell
-
-  by_break : (begun : WorldCall) (one : Call) → call_seen begun ≡ Some one → HasNames (Begin 1 begun) → AreWithin new → HasBrokenOff seen faults begun old new → Done one
-  by_break (call.Deliver deliver) one e names within fell = subst Done (some_is (Deliver (mail_in deliver)) one e) (message_fell (mail_in deliver) names within fell, fell.down)
-  by_break (call.Login user proof) one e names within fell = absurd fell
-  by_break (call.Fetch user id holders start most) one e names within fell = absurd fell
-  by_break (call.Strike user items) one e names within fell = subst Done (some_is (Strike user (ids_in items)) one e) (strike_fell user (ids_in items) names.0 names.1 within fell, fell.down)
-  by_break (call.Leave user login manager) one e names within fell = absurd fell
-
-  -- the node went down in the call
-  pub fell_in : (result : Result Said StepFault) (begun : WorldCall) (one : Call) → call_seen begun ≡ Some one → HasNames (Begin 1 begun) → AreWithin new → IsFall result → BeginDid seen faults result 1 begun old new → Done one
-  fell_in (Ok (Faulted failed)) begun one e names within fall did = by_fall begun one e names within did.3
-  fell_in (Ok (Begun ticket stirs)) begun one e names within fall did = absurd fall
-  fell_in (Ok Noted) begun one e names within fall did = absurd fall
-  fell_in (Ok (AskedFor ask)) begun one e names within fall did = absurd fall
-  fell_in (Err (NoMemory (Some failed))) begun one e names within fall did = by_break begun one e names within did.2
-  fell_in (Err (NoMemory None)) begun one e names within fall did = absurd fall
-  fell_in (Err NoSuchNode) begun one e names within fall did = absurd fall
-  fell_in (Err NodeDown) begun one e names within fall did = absurd fall
-  fell_in (Err NoSuchTicket) begun one e names within fall did = absurd fall
-  fell_in (Err Worn) begun one e names within fall did = absurd fall
+  -- the slots of the machine, once it fell
+  pub fall_leads : (said : steps.Said) (s : Step) (entry : Entry) → entries_of book' ≡ entries_of book ++ entry ∷ [] → (w : machine.World) → Stands on (state_with old flying seconds book) w
+      → (slot : Slot) → slot_at w.slots n ≡ Some slot → slot.life ≢ plain.Life.Lost → SlotStands on n ch.life ch.disk slot → SlotStands on n now ch.disk (record slot { life = plain_now })
+      → ((next : machine.World) × Stands on (state_with new flying seconds book') next
+      × (next ≡ record w { slots = with_slot w.slots n (record slot { life = plain_now }); book = w.book ++ entries_seen (entry ∷ []) })
+      × Rattle.cluster_world.specs.Steps.EveryStopKeeps on (state_with old flying seconds book) (state_with new flying seconds book') w.slots next.slots)
+  fall_leads said s entry wrote w st slot here alive stood falls =
+      let turned_slot : Slot = record slot { life = plain_now } in
+      let life_is : now ≡ ch.life' = sym ch.does.0 in
+      let stands' : SlotStands on n ch.life' ch.disk' turned_slot =
+      subst (λ d. SlotStands on n ch.life' d turned_slot) (sym same_disk) (subst (λ l. SlotStands on n l ch.disk turned_slot) life_is falls) in
+      let kept : StopsKeep on n ch.disk ch.disk' slot turned_slot =
+      subst (λ d. StopsKeep on n ch.disk d slot turned_slot) (sym same_disk) (falls_kept on n ch.disk slot ch.life plain_now none alive stood) in (
+        record w { slots = with_slot w.slots n turned_slot; book = w.book ++ entries_seen (entry ∷ []) },
+        record {
+          slots = slots_stand n (IsTurnedTo now) old new ch on w.slots turned_slot st.slots stands';
+          flying = st.flying;
+          sent = st.sent;
+          seconds = st.seconds;
+          book = ap entries_seen wrote ∙ entries_more (entries_of book) (entry ∷ []) ∙ ap (λ b. b ++ entries_seen (entry ∷ [])) st.book;
+        },
+        refl,
+        record { each = stops_kept n (IsTurnedTo now) old new ch on w.slots slot turned_slot st.slots here (λ _. kept) },
+      )

@@ -1,25 +1,31 @@
 -- The entries of the program's book as those of the definitions.
-use Rattle.std.specs.Prelude.{ℕ, ◌-◌, List, map, vec_len, vec_capacity}
+use Rattle.std.specs.Prelude.{ℕ, List, [], ◌∷◌, flat_map}
 use Rattle.mail_model.specs.Book.{BookEntry}
-use Rattle.mail_model.specs.Book.BookEntry.{Acknowledged, Struck, Dropped, WentDown}
-use Rattle.cluster_world.specs.declared.book.Book.{Book}
-use Rattle.cluster_world.specs.declared.book.Entry.{Entry}
-use Rattle.cluster_world.specs.declared.book.Entry.TheVariants as entry
+use Rattle.mail_model.specs.Book.{BookEntry as plain}
+use Rattle.cluster_model.specs.Cluster.{NodeFiling}
+use Rattle.world_book.specs.Books.{entries_of}
+use Rattle.world_book.specs.declared.book.Book.{Book}
+use Rattle.world_book.specs.declared.entry.Entry.{Entry}
+use Rattle.world_book.specs.declared.entry.Entry.TheVariants.{Acked, Struck, Dropped, Installed, Down, Up, Lost}
 
--- the entries, in order
-abbrev pub entries_of : Book → List Entry
-entries_of book = book.entries.items
+-- an entry; that an epoch was installed is none of the definitions' entries
+abbrev pub entry_seen : Entry → List BookEntry
+entry_seen (Acked user id seconds length digest confirmers) =
+    plain.Acknowledged (record { user = user; id = id; seconds = seconds; size = length; digest = digest; confirmers = confirmers }) ∷ []
+entry_seen (Struck user id) = plain.Struck user id ∷ []
+entry_seen (Dropped user id confirmers) = plain.Dropped user id confirmers ∷ []
+entry_seen (Installed node boot epoch) = []
+entry_seen (Down node) = plain.WentDown node ∷ []
+entry_seen (Up node boot) = plain.CameUp node boot ∷ []
+entry_seen (Lost node) = plain.WasLost node ∷ []
 
--- for how many more there is room
-abbrev pub spare_of : Book → ℕ
-spare_of book = vec_capacity book.entries - vec_len book.entries
-
-abbrev pub entry_of : Entry → BookEntry
-entry_of (entry.Acked user id seconds length digest confirmers) =
-    Acknowledged (record { user = user; id = id; seconds = seconds; size = length; digest = digest; confirmers = confirmers })
-entry_of (entry.Struck user id) = Struck user id
-entry_of (entry.Dropped user id confirmers) = Dropped user id confirmers
-entry_of (entry.Down node) = WentDown node
+abbrev pub entries_seen : List Entry → List BookEntry
+entries_seen entries = flat_map entry_seen entries
 
 abbrev pub booked_by : Book → List BookEntry
-booked_by book = map entry_of (entries_of book)
+booked_by book = entries_seen (entries_of book)
+
+-- the entry of one user's copy of a message that is confirmed
+abbrev pub acked_entry : NodeFiling → ℕ → List ℕ → BookEntry
+acked_entry filing confirmers user =
+    plain.Acknowledged (record { user = user; id = filing.id; seconds = filing.seconds; size = filing.size; digest = filing.digest; confirmers = confirmers })

@@ -1,203 +1,198 @@
--- The steps that sessions lead to in a world of one node, one after another, and what came of each. Of them what a cluster owes is read off: what it was
--- asked, and what it answered.
-use Rattle.std.specs.Prelude.{◌≡◌, ◌⊎◌, ℕ, ◌-◌, ◌^◌, ◌<◌, ◌≤◌, min, length, All, IsTrue, List, [], ◌∷◌, ◌++◌, flat_map, ⊤, is_some, Option, Some, None, Result, Ok, Err}
-use Rattle.io_edge.specs.Causes.{Rose}
-use Rattle.mail_model.specs.Names.{IsLowerName}
-use Rattle.mail_model.specs.Grammar.{IsId}
-use Rattle.mail_model.specs.Plan.{Plan}
-use Rattle.mail_model.specs.Transcript.{Entry}
-use Rattle.mail_model.specs.Record.{Record}
-use Rattle.mail_model.specs.Listing.{octets_in}
+-- The steps that the lines of a tape lead to in a world, one after another, and what came of each. Of them what a cluster owes is read off: what it was asked, and
+-- what it answered.
+use Rattle.std.specs.Prelude.{◌≡◌, ℕ, true, false, not, nat_eq, List, [], ◌∷◌, ◌++◌, filter, All, ⊤, Option, Some, None, Result, Ok, Err}
+use Rattle.mail_model.specs.Tape.{ClusterOrder}
+use Rattle.mail_model.specs.Tape.{ClusterOrder as order}
+use Rattle.object_model.specs.Letters.{Number}
 use Rattle.session_model.specs.Calls.{Call, Answer, IsAnswerTo}
-use Rattle.session_model.specs.Calls.Call.{Deliver, Login, Fetch, Strike}
+use Rattle.session_model.specs.Calls.Answer.{Failed}
 use Rattle.session_model.specs.Logs.{Asked, Answered}
 use Rattle.session_model.specs.Run.{Made}
-use Rattle.session_model.specs.Owes.{Owes}
-use Rattle.session_model.specs.Books.{Among}
-use Rattle.session_model.specs.OneNode.{IsSoundMail, IsTaken}
-use Rattle.io_edge.specs.Octets.{IsToldAlike}
-use Rattle.cluster_world.specs.World.{plan_of, is_up, drawn_of, stamps_of, standing_of, disk_of, book_of, steps_of, with_step_counted, one_more, IsAtBeginning}
-use Rattle.call_tickets.specs.Seen.{call_seen, answer_seen, ids_in}
-use Rattle.cluster_world.specs.Steps.{Stepped, IsSound, call_of, nth_ticket}
-use Rattle.cluster_world.specs.declared.world.World.{World}
+use Rattle.object_model.specs.Lists.{Among}
+use Rattle.call_tickets.specs.Seen.{call_seen, answer_seen}
 use Rattle.call_tickets.specs.declared.call.Call.{Call as WorldCall}
-use Rattle.call_tickets.specs.declared.call.Call.TheVariants as call
+use Rattle.call_tickets.specs.declared.call.Call.TheVariants.{Leave}
 use Rattle.call_tickets.specs.declared.answer.Answer.{Answer as WorldAnswer}
-use Rattle.call_tickets.specs.declared.answer.Ask.TheVariants.{Done}
-use Rattle.cluster_world.specs.declared.step.Pending.{Pending}
-use Rattle.cluster_world.specs.declared.step.Pending.TheVariants.{Filed, Found, Struck}
+use Rattle.call_tickets.specs.declared.answer.Ask.TheVariants as ask
+use Rattle.node_store.specs.Disks.{View}
+use Rattle.cluster_world.specs.Steps.{IsStep}
+use Rattle.cluster_world.specs.declared.world.World.{World}
 use Rattle.cluster_world.specs.declared.step.Step.{Step}
-use Rattle.cluster_world.specs.declared.step.Step.TheVariants.{Begin, Ask}
+use Rattle.cluster_world.specs.declared.step.Step.TheVariants as step
 use Rattle.cluster_world.specs.declared.step.Said.{Said}
-use Rattle.cluster_world.specs.declared.step.Said.TheVariants.{Begun, Noted, Faulted}
 use Rattle.cluster_world.specs.declared.step.Said.TheVariants as said
-use Rattle.cluster_world.specs.declared.step.StepFault.{StepFault}
-use Rattle.cluster_world.specs.declared.step.StepFault.TheVariants.{NoMemory}
+use Rattle.cluster_world.specs.declared.fault.StepFault.{StepFault}
+use Rattle.cluster_world.specs.declared.fault.StepFault.TheVariants as fault
+
+-- a step, and what it answered
+pub record StepMade : Type 0 where
+  pub step : Step
+  pub result : Result Said StepFault
+
+-- the world made these steps, one after another, and no others
+abbrev pub MakesSteps : {D : Type 0} → View D → List StepMade → World D → World D → Type 0
+MakesSteps on [] old new = new ≡ old
+MakesSteps {D} on (one ∷ more) old new = (mid : World D) × IsStep on one.result one.step old mid × MakesSteps on more mid new
 
 -- the call of the world is the user's leave
 abbrev pub IsLeave : List ℕ → WorldCall → Type 0
-IsLeave user (call.Leave name login manager) = name ≡ user
+IsLeave user (Leave name login manager) = name ≡ user
 IsLeave user begun = ⊥
 
--- What came of a step that session k led to.
+-- What came of a step that session k led to, or of a run line that moves the cluster.
 pub data Outcome : Type 0 where
-  -- its call has begun, and the ticket has this number
-  Began : (k : ℕ) (asked : Call) (number : ℕ) → Outcome
+  -- its call has begun at this node, and has this ticket
+  Began : (k node : ℕ) (asked : Call) (ticket : Number) → Outcome
   -- its call was refused, or memory ran out before anything was done
-  Refused : (k : ℕ) (asked : Call) → Outcome
-  -- the node went down in its call, as the disk failed or memory ran out
-  Fell : (k : ℕ) (asked : Call) → Outcome
-  -- its ticket of this number was asked for, and the call was answered so
-  Answers : (k : ℕ) (asked : Call) (number : ℕ) (given : Answer) → Outcome
-  -- its ticket was asked for in vain: memory ran out, or the node is down
-  Unanswered : (k number : ℕ) → Outcome
-  -- it has left, or was refused
-  Left : (k : ℕ) (user : List ℕ) → Outcome
+  Refused : (k node : ℕ) (asked : Call) → Outcome
+  -- the disk of the node failed in its call, and the node went down
+  Fell : (k node : ℕ) (asked : Call) → Outcome
+  -- the node went down in its call as memory ran out
+  Broke : (k node : ℕ) (asked : Call) → Outcome
+  -- its ticket was asked for, and the call was answered so
+  Answers : (k : ℕ) (asked : Call) (ticket : Number) (given : Answer) → Outcome
+  -- its ticket was asked for, and it still waits
+  StillPending : (k : ℕ) (ticket : Number) → Outcome
+  -- its ticket was asked for in vain: memory ran out
+  Unanswered : (k : ℕ) (asked : Call) (ticket : Number) → Outcome
+  -- its call was given up, and it is told so; or it is closed
+  GaveUp : (k : ℕ) (asked : Call) (ticket : Number) → Outcome
+  Abandoned : (k : ℕ) (asked : Call) (ticket : Number) → Outcome
+  -- its call was to be given up, and that was refused
+  KeptUp : (k : ℕ) (ticket : Number) (why : StepFault) → Outcome
+  -- it has left its node, or was refused
+  Left : (k node : ℕ) (user : List ℕ) → Outcome
+  -- these steps were made for a run line
+  Moved : (order : ClusterOrder) (steps : List StepMade) → Outcome
 
--- the step
+-- what was made of the cluster
 abbrev pub made_of : Outcome → Made
-made_of (Began k asked number) = Made.Begins k asked
-made_of (Refused k asked) = Made.Begins k asked
-made_of (Fell k asked) = Made.Begins k asked
-made_of (Answers k asked number given) = Made.Asks k
-made_of (Unanswered k number) = Made.Asks k
-made_of (Left k user) = Made.Leaves k user
+made_of (Began k node asked ticket) = Made.Begins k asked
+made_of (Refused k node asked) = Made.Begins k asked
+made_of (Fell k node asked) = Made.Begins k asked
+made_of (Broke k node asked) = Made.Begins k asked
+made_of (Answers k asked ticket given) = Made.Asks k
+made_of (StillPending k ticket) = Made.Asks k
+made_of (Unanswered k asked ticket) = Made.Asks k
+made_of (GaveUp k asked ticket) = Made.GivesUp k
+made_of (Abandoned k asked ticket) = Made.GivesUp k
+made_of (KeptUp k ticket why) = Made.GivesUp k
+made_of (Left k node user) = Made.Leaves k user
+made_of (Moved order steps) = Made.Moves order
 
 -- What it was asked. A call that was refused is none: nothing came of it.
 abbrev pub asked_by_outcome : Outcome → List Asked
-asked_by_outcome (Began k asked number) = record { session = k; call = asked } ∷ []
-asked_by_outcome (Fell k asked) = record { session = k; call = asked } ∷ []
+asked_by_outcome (Began k node asked ticket) = record { session = k; call = asked } ∷ []
+asked_by_outcome (Fell k node asked) = record { session = k; call = asked } ∷ []
+asked_by_outcome (Broke k node asked) = record { session = k; call = asked } ∷ []
 asked_by_outcome outcome = []
 
--- and what it answered
+-- and what it answered; a call that was given up has failed
 abbrev pub answered_by_outcome : Outcome → List Answered
-answered_by_outcome (Answers k asked number given) = record { session = k; call = asked; answer = given } ∷ []
+answered_by_outcome (Answers k asked ticket given) = record { session = k; call = asked; answer = given } ∷ []
+answered_by_outcome (GaveUp k asked ticket) = record { session = k; call = asked; answer = Failed } ∷ []
 answered_by_outcome outcome = []
 
--- a call that has begun and was not answered yet: the number of its ticket, and whose it is
+-- a call that has begun and was not answered yet: its ticket, and whose it is
 pub record Awaited : Type 0 where
-  pub number : ℕ
+  pub ticket : Number
   pub session : ℕ
   pub call : Call
 
--- the step was refused, and nothing was done
-abbrev pub IsRefusal : Result Said StepFault → Type 0
-IsRefusal (Ok said) = ⊥
-IsRefusal (Err (NoMemory (Some failed))) = ⊥
-IsRefusal (Err fault) = ⊤
+-- those of other sessions than this
+abbrev pub without_session : ℕ → List Awaited → List Awaited
+without_session k awaited = filter (λ one. not (nat_eq one.session k)) awaited
 
--- the node went down in the step
-abbrev pub IsFall : Result Said StepFault → Type 0
-IsFall (Ok (Faulted failed)) = ⊤
-IsFall (Err (NoMemory (Some failed))) = ⊤
-IsFall result = ⊥
+-- those at other nodes than this
+abbrev pub without_node : ℕ → List Awaited → List Awaited
+without_node n awaited = filter (λ one. not (nat_eq one.ticket.node n)) awaited
 
--- the names of a call are in lower case, and its ids are ids
-abbrev pub HasNames : Step → Type 0
-HasNames (Begin node (call.Deliver deliver)) = All IsLowerName deliver.users
-HasNames (Begin node (call.Strike user items)) = IsLowerName user × All IsId (ids_in items)
-HasNames step = ⊤
+-- the node that goes down in a step, or is lost
+abbrev pub fallen_in : Step → Result Said StepFault → Option ℕ
+fallen_in step (Ok (said.Faulted node)) = Some node
+fallen_in (step.Crash node) (Ok said.Done) = Some node
+fallen_in (step.Lose node) (Ok said.Done) = Some node
+fallen_in step (Err (fault.NoMemory (Some node))) = Some node
+fallen_in step result = None
 
--- 64 bits hold the numbers that were drawn
-abbrev pub AreWithin : {D : Type 0} → World D → Type 0
-AreWithin world = (drawn_of world < 2 ^ 64) × (stamps_of world < 2 ^ 64)
+-- what is still awaited once a node went down, if one did
+abbrev pub left_after : Option ℕ → List Awaited → List Awaited
+left_after None awaited = awaited
+left_after (Some node) awaited = without_node node awaited
 
--- What is known of a step: what it did, that it was counted, that whether the disk tells its octets has not changed, and what the types of names and numbers
--- say.
-pub record IsStep {D : Type 0} (seen : D → Option (List ℕ)) (faults : D → ℕ) (result : Result Said StepFault) (step : Step) (old new : World D) : Type 0 where
-  pub did : Stepped seen faults result step (with_step_counted old) new
-  pub count : steps_of new ≡ one_more (steps_of old)
-  pub told : IsToldAlike (seen (disk_of old)) (seen (disk_of new))
-  pub names : HasNames step
-  pub numbers : AreWithin new
+-- and after some steps
+abbrev pub left_after_all : List StepMade → List Awaited → List Awaited
+left_after_all [] awaited = awaited
+left_after_all (one ∷ more) awaited = left_after_all more (left_after (fallen_in one.step one.result) awaited)
+
+-- the step posts a letter that does not stay in flight
+abbrev pub IsPost : StepMade → Type 0
+IsPost one = (letter : ℕ) × (one.step ≡ step.Post letter false)
+
+-- the step pushes from this node
+abbrev pub IsPushOf : ℕ → StepMade → Type 0
+IsPushOf node one = (to : ℕ) × (one.step ≡ step.Push node to)
+
+-- the steps are this one
+abbrev pub AreOne : Step → List StepMade → Type 0
+AreOne step steps = (result : Result Said StepFault) × (steps ≡ record { step = step; result = result } ∷ [])
+
+-- the steps that a run line asks for
+abbrev pub AreStepsOf : ClusterOrder → List StepMade → Type 0
+AreStepsOf (order.Crash node) steps = AreOne (step.Crash node) steps
+AreStepsOf (order.Start node) steps = AreOne (step.Start node) steps
+AreStepsOf (order.Lose node) steps = AreOne (step.Lose node) steps
+AreStepsOf (order.Post letter) steps = AreOne (step.Post letter false) steps
+AreStepsOf (order.Again letter) steps = AreOne (step.Post letter true) steps
+AreStepsOf (order.Drop letter) steps = AreOne (step.Drop letter) steps
+AreStepsOf order.Flow steps = All IsPost steps
+AreStepsOf (order.Push node) steps = All (IsPushOf node) steps
+AreStepsOf (order.Widen at user id to) steps = AreOne (step.Widen at user id to) steps
+
+-- a refusal after which the world is as it was
+abbrev pub IsRefusal : StepFault → Type 0
+IsRefusal (fault.NoMemory (Some failed)) = ⊥
+IsRefusal why = ⊤
+
+-- what an ask said that leaves the session with no answer: none that fits its call
+abbrev pub IsUntold : Call → Result Said StepFault → Type 0
+IsUntold asked (Ok (said.Asked (ask.Done own))) = IsAnswerTo asked (answer_seen own) → ⊥
+IsUntold asked (Ok (said.Asked (ask.Pending got wanted))) = ⊥
+IsUntold asked result = ⊤
 
 -- the world made a step of which this came, and these calls are then awaited
-abbrev pub Came : {D : Type 0} → (D → Option (List ℕ)) → (D → ℕ) → Outcome → List Awaited → World D → List Awaited → World D → Type 0
-Came seen faults (Began k asked number) awaited old left new =
-    (begun : WorldCall) × (stirs : ℕ) × (call_seen begun ≡ Some asked) × IsStep seen faults (Ok (Begun (nth_ticket number) stirs)) (Begin 1 begun) old new
-    × (left ≡ awaited ++ record { number = number; session = k; call = asked } ∷ [])
-Came seen faults (Refused k asked) awaited old left new =
-    (begun : WorldCall) × (result : Result Said StepFault) × (call_seen begun ≡ Some asked) × IsRefusal result × IsStep seen faults result (Begin 1 begun) old new × (left ≡ awaited)
-Came seen faults (Fell k asked) awaited old left new =
-    (begun : WorldCall) × (result : Result Said StepFault) × (call_seen begun ≡ Some asked) × IsFall result × IsStep seen faults result (Begin 1 begun) old new × (left ≡ awaited)
-Came seen faults (Answers k asked number given) awaited old left new =
-    (own : WorldAnswer) × (before : List Awaited) × (behind : List Awaited) × (given ≡ answer_seen own)
-    × (awaited ≡ before ++ record { number = number; session = k; call = asked } ∷ behind) × (left ≡ before ++ behind)
-    × IsStep seen faults (Ok (said.Asked (Done own))) (Ask (nth_ticket number)) old new
-Came seen faults (Unanswered k number) awaited old left new =
-    (fault : StepFault) × IsStep seen faults (Err fault) (Ask (nth_ticket number)) old new × (left ≡ awaited)
-Came seen faults (Left k user) awaited old left new =
-    (begun : WorldCall) × (result : Result Said StepFault) × IsLeave user begun × IsStep seen faults result (Begin 1 begun) old new × (left ≡ awaited)
+abbrev pub Came : {D : Type 0} → View D → Outcome → List Awaited → World D → List Awaited → World D → Type 0
+Came on (Began k node asked ticket) awaited old left new =
+    (begun : WorldCall) × (stirs : ℕ) × (call_seen begun ≡ Some asked) × IsStep on (Ok (said.Begun ticket stirs)) (step.Begin node begun) old new
+    × (left ≡ awaited ++ record { ticket = ticket; session = k; call = asked } ∷ [])
+Came on (Refused k node asked) awaited old left new =
+    (begun : WorldCall) × (why : StepFault) × (call_seen begun ≡ Some asked) × IsRefusal why × IsStep on (Err why) (step.Begin node begun) old new × (left ≡ awaited)
+Came on (Fell k node asked) awaited old left new =
+    (begun : WorldCall) × (call_seen begun ≡ Some asked) × IsStep on (Ok (said.Faulted node)) (step.Begin node begun) old new × (left ≡ without_node node awaited)
+Came on (Broke k node asked) awaited old left new =
+    (begun : WorldCall) × (failed : ℕ) × (call_seen begun ≡ Some asked) × IsStep on (Err (fault.NoMemory (Some failed))) (step.Begin node begun) old new
+    × (left ≡ without_node failed awaited)
+Came on (Answers k asked ticket given) awaited old left new =
+    (own : WorldAnswer) × (given ≡ answer_seen own) × Among (record { ticket = ticket; session = k; call = asked }) awaited
+    × IsStep on (Ok (said.Asked (ask.Done own))) (step.Ask ticket) old new × (left ≡ without_session k awaited)
+Came on (StillPending k ticket) awaited old left new =
+    (got : ℕ) × (wanted : ℕ) × IsStep on (Ok (said.Asked (ask.Pending got wanted))) (step.Ask ticket) old new × (left ≡ awaited)
+Came on (Unanswered k asked ticket) awaited old left new =
+    (result : Result Said StepFault) × Among (record { ticket = ticket; session = k; call = asked }) awaited × IsUntold asked result
+    × IsStep on result (step.Ask ticket) old new × (left ≡ left_after (fallen_in (step.Ask ticket) result) awaited)
+Came on (GaveUp k asked ticket) awaited old left new =
+    Among (record { ticket = ticket; session = k; call = asked }) awaited × IsStep on (Ok said.Done) (step.GiveUp ticket) old new × (left ≡ without_session k awaited)
+Came on (Abandoned k asked ticket) awaited old left new =
+    Among (record { ticket = ticket; session = k; call = asked }) awaited × IsStep on (Ok said.Done) (step.GiveUp ticket) old new × (left ≡ without_session k awaited)
+Came on (KeptUp k ticket why) awaited old left new =
+    IsStep on (Err why) (step.GiveUp ticket) old new × (left ≡ left_after (fallen_in (step.GiveUp ticket) (Err why)) awaited)
+Came on (Left k node user) awaited old left new =
+    (begun : WorldCall) × (result : Result Said StepFault) × IsLeave user begun × IsStep on result (step.Begin node begun) old new
+    × (left ≡ left_after (fallen_in (step.Begin node begun) result) awaited)
+Came on (Moved order steps) awaited old left new = AreStepsOf order steps × MakesSteps on steps old new × (left ≡ left_after_all steps awaited)
 
 -- the world made these steps, one after another, and no others
-abbrev pub Makes : {D : Type 0} → (D → Option (List ℕ)) → (D → ℕ) → List Outcome → List Awaited → World D → List Awaited → World D → Type 0
-Makes seen faults [] awaited old left new = (left ≡ awaited) × (new ≡ old)
-Makes {D} seen faults (outcome ∷ more) awaited old left new =
-    (between : List Awaited) × (mid : World D) × Came seen faults outcome awaited old between mid × Makes seen faults more between mid left new
-
--- what is pending will be answered by an answer of the call's kind
-abbrev pub WillAnswer : Call → Pending → Type 0
-WillAnswer (Deliver mail) (Filed filing) = ⊤
-WillAnswer (Login user secret) (Found found) = IsAnswerTo (Login user secret) (answer_seen found)
-WillAnswer (Fetch user id) (Found found) = IsAnswerTo (Fetch user id) (answer_seen found)
-WillAnswer (Strike user ids) (Struck name struck) = ⊤
-WillAnswer asked pending = ⊥
-
--- no call is in progress, or the one that is awaited
-abbrev pub IsAwaited : {D : Type 0} → List Awaited → World D → Type 0
-IsAwaited [] world = standing_of world ≡ []
-IsAwaited (one ∷ []) world =
-    IsTrue (is_up world) × ((pending : Pending) × (standing_of world ≡ call_of (nth_ticket one.number) pending ∷ []) × WillAnswer one.call pending)
-IsAwaited (one ∷ other ∷ more) world = ⊥
-
--- a call that was asked for at once is answered by an answer of its kind, and none is then in progress; or memory ran out
-abbrev pub AtOnce : {D : Type 0} → Result Said StepFault → Call → World D → Type 0
-AtOnce (Ok (said.Asked (Done given))) asked new = IsAnswerTo asked (answer_seen given) × (standing_of new ≡ [])
-AtOnce (Err (NoMemory None)) asked new = ⊤
-AtOnce result asked new = ⊥
-
--- A call that is asked for at once, where no other is in progress, is answered so.
-abbrev pub AskedAtOnce : {D : Type 0} → (D → Option (List ℕ)) → (D → ℕ) → Type 0
-AskedAtOnce {D} seen faults = (begun : WorldCall) (asked : Call) (number stirs : ℕ) (result : Result Said StepFault) (old mid new : World D)
-    → (plan_of old).nodes ≡ 1 → standing_of old ≡ [] → call_seen begun ≡ Some asked → IsStep seen faults (Ok (Begun (nth_ticket number) stirs)) (Begin 1 begun) old mid
-    → IsStep seen faults result (Ask (nth_ticket number)) mid new → AtOnce result asked new
-
--- Steps and one more are steps.
-abbrev pub MakesMore : {D : Type 0} → (D → Option (List ℕ)) → (D → ℕ) → Type 0
-MakesMore {D} seen faults = (outcomes : List Outcome) (outcome : Outcome) (awaited between left : List Awaited) (old mid new : World D)
-    → Makes seen faults outcomes awaited old between mid → Came seen faults outcome between mid left new → Makes seen faults (outcomes ++ outcome ∷ []) awaited old left new
-
--- A world that was opened has on its disk and in memory what some records say, as long as its node is up.
-abbrev pub SoundAfter : {D : Type 0} → (D → Option (List ℕ)) → (D → ℕ) → Type 0
-SoundAfter {D} seen faults = (plan : Plan) (outcomes : List Outcome) (left : List Awaited) (start last : World D)
-    → IsAtBeginning seen plan start → Makes seen faults outcomes [] start left last → IsTrue (is_up last) → IsSound seen last
-
--- The count of faults of its disk never falls.
-abbrev pub LaterAfter : {D : Type 0} → (D → Option (List ℕ)) → (D → ℕ) → Type 0
-LaterAfter {D} seen faults = (outcomes : List Outcome) (awaited left : List Awaited) (old new : World D) → Makes seen faults outcomes awaited old left new → faults (disk_of old) ≤ faults (disk_of new)
-
--- the call reads a message
-abbrev pub IsFetch : Call → Type 0
-IsFetch (Fetch user id) = ⊤
-IsFetch asked = ⊥
-
--- A step that says that the node's disk failed has its cause: the disk's count rose in it, or the disk does not tell what it holds, and the call reads a message.
-abbrev pub FallHasCause : {D : Type 0} → (D → Option (List ℕ)) → (D → ℕ) → Type 0
-FallHasCause {D} seen faults = (begun : WorldCall) (asked : Call) (failed : ℕ) (old new : World D) → call_seen begun ≡ Some asked → IsSound seen old
-    → IsStep seen faults (Ok (Faulted failed)) (Begin 1 begun) old new → Rose (faults (disk_of old)) (faults (disk_of new)) ⊎ ((seen (disk_of old) ≡ None) × IsFetch asked)
-
--- each call is one that a session of node 1 makes
-abbrev pub AreOfSessions : List (List ℕ) → List Asked → Type 0
-AreOfSessions lines asked = (k : ℕ) (call : Call) → Among (record { session = k; call = call }) asked → IsSoundMail call × IsTaken lines k call
-
--- Whatever steps a world of one node makes, in whatever order its calls begin and are asked for: it owes that, and has it.
-abbrev pub WorldOwes : {D : Type 0} → (D → Option (List ℕ)) → (D → ℕ) → Type 0
-WorldOwes {D} seen faults = (plan : Plan) (lines : List (List ℕ)) (entries : List Entry) (outcomes : List Outcome) (left : List Awaited) (start last : World D)
-    → plan.nodes ≡ 1 → plan.confirm ≡ 1 → IsAtBeginning seen plan start → Makes seen faults outcomes [] start left last → AreOfSessions lines (flat_map asked_by_outcome outcomes)
-    → (records : List Record) × Owes plan (is_some (seen (disk_of start))) lines entries (seen (disk_of last) ∷ []) (records ∷ []) (λ id. octets_in id records)
-    (flat_map asked_by_outcome outcomes) (flat_map answered_by_outcome outcomes) (book_of last)
-
--- Each of them was counted, up to the end of the count, and nothing else was.
-abbrev pub StepsAreCounted : {D : Type 0} → (D → Option (List ℕ)) → (D → ℕ) → Type 0
-StepsAreCounted {D} seen faults = (plan : Plan) (outcomes : List Outcome) (left : List Awaited) (start last : World D)
-    → IsAtBeginning seen plan start → Makes seen faults outcomes [] start left last → steps_of last ≡ min (length outcomes) (2 ^ 64 - 1)
+abbrev pub Makes : {D : Type 0} → View D → List Outcome → List Awaited → World D → List Awaited → World D → Type 0
+Makes on [] awaited old left new = (left ≡ awaited) × (new ≡ old)
+Makes {D} on (outcome ∷ more) awaited old left new =
+    (between : List Awaited) × (mid : World D) × Came on outcome awaited old between mid × Makes on more between mid left new

@@ -1,111 +1,110 @@
-//! cluster_world: one node with its disk, which makes steps, and keeps a book of what it acknowledged.
+//! cluster_world: the nodes of a cluster with their disks, the letters between them, and the book.
 //!
 //! SUMMARY
 //!
-//! `World::open` takes a plan and the empty disks of its nodes, of which there is one, and writes a journal
-//! whose first record is the node's first boot. `World::step` makes one step at a time. `World::close`
-//! hands the disks back. What the world acknowledged, and whether its node went down, stands in its `Book`.
+//! A `World` is all that a cluster holds: the nodes of a plan, each with its disk, the letters in flight, and a `Book` of what
+//! was acknowledged. `open` makes one over empty disks, one for each node, in order. `step` makes one step, `run` several, and
+//! `flow` posts letters until none is in flight. `close` hands the disks back. `plan`, `book`, `is_up`, `is_lost`, `boot`,
+//! `members`, `kind`, `filing`, `flying` and `seconds` tell what the world has, take no memory, and change nothing.
 //!
 //! DESCRIPTION
 //!
-//! `Begin` begins a call at the node, and says its ticket. A call does its work as it begins. `Deliver` puts
-//! a message on the disk: its octets, which are its trace lines and its text, and then one state for each of
-//! its mailboxes. `Login` tries a proof, and lists the maildrop where it is right. `Fetch` reads a part of a
-//! message, where the maildrop has it. `Strike` deletes the user's copies of messages: it puts one state for
-//! each on the disk, which says that the copy is gone. `Leave` ends a login: it is only noted, and has no
-//! ticket.
+//! Whoever drives a world orders its steps: nothing happens between two of them, and each letter arrives when it is posted.
 //!
-//! `Ask` asks what became of the call of a ticket, which is done; the ticket stands no more. Of a delivery
-//! it says that the message is stored, under which id and on which nodes, and the book has one entry more
-//! for each of the message's mailboxes, with the number and the SHA-256 of the message's octets. Of a login
-//! or a fetch it hands out what was found. Of a deletion it says that all its copies are gone, and the book
-//! has one entry more for each. Calls may be asked for in another order than they began in.
+//! | Step | What is done |
+//! |---|---|
+//! | `Begin` | a call begins at a node: what it files or deletes is recorded, its letters are sent, and it has a ticket |
+//! | `Ask` | it is asked what became of a call; one that is done ends, and the book has what was confirmed |
+//! | `GiveUp` | a call is given up: its ticket stands no more |
+//! | `Post` | a letter is handed to its receiver, and leaves, or is kept in flight to be posted again |
+//! | `Drop` | a letter is taken out of flight |
+//! | `Push` | a node sends what it owes to another: the first 64 states, as far as there is room |
+//! | `Widen` | a copy that is on a node's disk gets a target more |
+//! | `Crash` | a node stops; what is on its disk stays |
+//! | `Start` | a node that is down starts over its disk, in its next boot |
+//! | `Lose` | a node loses its disk for good |
 //!
-//! Every step is counted, one that is refused or changes nothing as well. So whoever drives a world can be
-//! held to have made these steps and no others.
+//! A letter gets the next number as it is sent, from 1. At most 65,536 letters are in flight, of 536,870,912 octets together,
+//! where a letter counts for 64 octets and those of the message that it carries. One that finds no room is not sent: that is a
+//! mishap of its ticket, as it is where a letter is dropped, is posted to a node that is not up or has another epoch, or takes
+//! its receiver down. A mishap is counted at the ticket, where that stands.
 //!
-//! Ids, stamps and tickets have numbers of their own, which begin at 1. An id's number rises by one with
-//! each message of which anything was written; one that is refused before that draws none. A deletion may
-//! name any id, whether there is a message or not, and no id that it named is drawn later, so a copy that is
-//! gone stays gone. A stamp's number rises by one with each such message, all of whose states have one
-//! stamp, and by one with each copy that is deleted. A ticket's rises by one with each call that began.
+//! The book has an entry for each user's copy that was acknowledged, for each that is to be deleted and for each whose deletion
+//! was confirmed, and one wherever a node went down, came up or was lost. It only grows.
+//!
+//! Every step is counted, one that is refused as well. So whoever drives a world can be held to have made these steps and no
+//! others.
 //!
 //! PROMISES
 //!
-//! `specs/Outcomes` has the chain of steps that sessions lead to (`Makes`). Of every such chain, whatever the
-//! order of its calls, the law `world_owes` says what a cluster owes of the calls that it was asked and of
-//! those that it answered: each message that was answered stored stands under an id of its own, what is gone
-//! was asked for and what was answered dropped is gone, listings and parts are as filed, and the book is that
-//! of these calls. It speaks of the two lists alone, and of no session; a cluster of several nodes will owe
-//! the same.
+//! `IsStep` in `specs/Steps.antt` says what each step does, whatever comes of it. A world stands for one of the machine of
+//! `cluster_model`, and a step leads to a world that stands for the machine's next (`LeadsTo`), where the disks tell what they
+//! hold or the step reads none. At each moment of it a stop of the machine leaves of each disk the records that stood, and the
+//! first of those that were added (`EveryStopKeeps`). A disk that was settled stays so as long as its node is up.
 //!
-//! `Begun` is said of a delivery only after the last sync of its message, and of a deletion after that of its
-//! last state: what the disk then gives stands, whatever happens. A disk that was settled before a step is
-//! settled after it, as long as the node is up. A step that leaves the node up leaves the disk's count of
-//! faults as it was.
+//! `specs/Outcomes.antt` has the chain of steps that sessions lead to (`Makes`). Of every such chain from an opening on,
+//! whatever the order of its calls and whatever becomes of letters and nodes, the law `world_owes` says what the cluster owes of
+//! the calls that it was asked and of those that it answered, and that it has it.
 //!
-//! What the node has in memory is said over the records on its disk: for each user the listing that they
-//! give, and for each message the place in the journal where its octets lie (`Fits`). A login costs in
-//! proportion to the user's own messages and asks the disk nothing; a delivery adds one entry for each of its
-//! users. A message is found by its id in a map of the user's own, so a fetch costs the same in a mailbox of a
-//! hundred and of a hundred thousand, and reads the octets that it gives and no others. A deletion takes each of
-//! its ids out of that map, goes through the user's own messages once, however many ids it has, and reads no
-//! octets. Over a disk that tells its octets, those that a fetch gives are the octets that were filed. A disk
-//! that tells nothing may give any.
+//! DIAGNOSTICS
 //!
-//! FAULTS AND REFUSALS
+//! A step that is refused says the first of these that applies:
 //!
-//! Where the disk fails in a step, the step says `Faulted`: the node is down, its tickets stand no more, the
-//! book says that it went down, and of a message that was being filed, or of a deletion, a prefix of its
-//! records may be on the disk. A read that comes to the disk's end before the place's end is such a failure
-//! too; a disk that tells its octets has no such end. Where memory runs out, the step is refused: nothing has
-//! changed, or some of its records were written, and the node is down as if its disk had failed. Room in the
-//! index is made before anything is written, for one entry a user; so only a message that names a user twice
-//! may find no memory after its last record. Room in the book is made before anything is written too.
-//! Other refusals change nothing. The book only grows, and an entry of it is never changed.
+//! - `NoSuchNode`: the plan has no node of a number that the step names. The node in an id is not meant.
+//! - `NodeLost`, `NodeDown`, `NodeUp`: the node that is to act, to stop, to start or to be lost is not as the step needs it.
+//! - `NoSuchLetter`: the letter is not in flight.
+//! - `NoSuchTicket`: the ticket does not stand.
+//! - `Worn`: a number that the step needs is used up. No letter is sent from the number 2^64 - 2^32 on.
+//! - `NoRoom`: letters are due, and not even the first finds room.
+//! - `NoMemory`: memory ran out. It may come before a refusal is found.
+//!
+//! All but `NoMemory` leave the world as it was. `NoMemory` does too where it names no node. A node that it names is down, with
+//! some of the step's records on its disk, and the book has that; a letter that was posted stays in flight.
+//!
+//! `Said::Faulted` says that the disk of a node failed in the step: its count of faults rose, or octets that were read are not
+//! those of the node's records, over a disk that does not tell what it holds. The node is down, and the book has that.
+//!
+//! A refused `run` or `flow` leaves what its earlier steps did.
 //!
 //! COSTS
 //!
-//! Each record is one append to the journal of `disk_journal`, which costs four disk calls: the record and its sync, the
-//! gate and its sync. So to begin a delivery costs four for the octets and four for each mailbox; to begin a deletion costs
-//! four for each copy; to begin a fetch costs as many reads as the disk needs to give its octets, and none for no octets; to
-//! begin any other call and to ask costs none; and opening costs six: two for the journal, and four for the record of the
-//! boot. Room on the disk is asked for before the first call of each append, and is not counted here. The calls in progress,
-//! the index and the entries stay in memory, and an ask goes through the calls in progress.
+//! The costs on a disk are those of the node's calls in `node_core`; a step touches the disk of one node at most. A letter is
+//! found by its number in a time that grows with the logarithm of how many are in flight, and one that leaves from the middle
+//! moves those on its shorter side. Room in the book is made before the entries that need it, for all nodes that may still go
+//! down or be lost, so `Crash`, `Lose` and `Drop` take no memory.
 //!
 //! STANDS ON
 //!
-//! The journal of `disk_journal`, the spelling of its records of `record_form`, the disk of `io_edge`, the words of
-//! `mail_base`, the calls of `call_tickets`, and the definitions of `mail_model` and `session_model`. Its tests use the
-//! disk in memory of `node_disk`.
+//! `node_core` for what a node does, `node_tickets` and `call_tickets` for tickets and answers, `world_book` for the book,
+//! `io_edge` for disks, `mail_base` for plans, letters and ids; the machine is that of `cluster_model`, and what a cluster owes
+//! is said in `cluster_owes` and `session_model`.
 //!
 //! WHAT IT DOES NOT DO
 //!
-//! It opens no journal that is there already, and knows one node, one boot and the second 0. The octets of a
-//! message stay on the disk when its copies are gone, and no login shuts others out. The book and the index
-//! are in memory alone, and are gone with the world.
+//! It knows no time: the seconds of a world are 0 so far. It sends nothing by itself, tries nothing again, and starts no node
+//! that is down. All nodes of the plan are the members, in the one epoch of a plan. In a plan of several nodes the calls of a
+//! POP3 session are not begun yet.
 #![tactic(auto)]
 
-mod append;
-mod book;
-mod calls;
-mod emptied;
-mod filing;
-mod index;
-pub mod laws;
-mod payload;
-mod places;
-mod reading;
-mod row;
-mod spelling;
+mod entries;
+mod fault;
+mod flight;
+mod flying;
+mod laws;
+mod life;
+mod mishaps;
+mod nodes;
+mod opening;
+mod refusal;
+mod running;
+mod sending;
 mod step;
-mod striking;
-#[cfg(test)]
-mod tests;
-mod trace;
+mod steps;
+mod telling;
+mod working;
 mod world;
 
-pub use book::{Book, Entry};
-pub use step::{Filing, Pending, Said, Standing, Step, StepFault};
-pub use trace::{Trace, TraceFault, trace_into};
-pub use world::{OpenFault, World};
+pub use fault::{OpenFault, StepFault};
+pub use laws::{later_after, makes_more, none_pending, plan_stays, steps_are_counted, world_owes};
+pub use step::{Said, Step};
+pub use world::World;

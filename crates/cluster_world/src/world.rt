@@ -1,429 +1,301 @@
-//! A world of one node.
-ghost use Rattle.std.specs.Prelude.{◌≡◌, ◌+◌, ◌≤◌, ◌<◌, ◌++◌, ◌∷◌, [], ◌&&◌, List, ℕ, length, nat_eq, vec_len, vec_capacity, slice_get, ◌-◌, ◌^◌, IfOk, IfErr, OnOk, is_ok, IfSome, None, IsTrue, IsFalse, ◌↔◌, All, map};
-ghost use Rattle.mail_model.specs.Site.{copies_of, nth_id, nth_stamp};
-ghost use Rattle.mail_model.specs.Book.BookEntry.{WentDown};
-ghost use Rattle.mail_base.specs.Delivers.{mail_in, IsMessageWithinLimits};
-ghost use Rattle.cluster_world.specs.Appends.{Wrote};
-ghost use Rattle.cluster_world.specs.Opens.{Begun};
-ghost use Rattle.cluster_world.specs.Index.{kept_in, added_for};
-ghost use Rattle.io_edge.specs.Octets.{IsToldAlike};
-ghost use Rattle.cluster_world.specs.World.{plan_of, is_up, drawn_of, stamps_of, tickets_drawn, kept_of, disk_of, gate_of, book_of, standing_of, ShowsGate, Opened, Refused, with_step_counted, one_more, steps_of};
-ghost use Rattle.cluster_world.specs.Books.{entry_of, booked_by, spare_of};
-ghost use Rattle.cluster_world.specs.Steps.{BeginDid, AskDid, Stepped, StandsNot, HasNumbers, SettlesCall, entries_for, entries_in, prepared_for, struck_ids};
-ghost use Rattle.cluster_world.specs.Outcomes.{AreWithin, HasNames};
-ghost use Rattle.cluster_world.specs.Completes.{Completes, FetchedAsFiled, SettledBy, SettledByDelivery};
+//! A world: nodes with their disks, letters in flight, and the book.
+ghost use Rattle.std.specs.Prelude.{◌≡◌, ◌≤◌, ◌*◌, [], length};
+ghost use Rattle.world_book.specs.Books.{spare_of};
+ghost use Rattle.cluster_world.specs.Lives.{all_falls_left};
 
-use crate::append::first_node;
-use crate::book::{Book, Entry, dropped};
-use crate::emptied::{Emptied, take_only};
-use crate::index::Index;
-use crate::payload::boot_payload;
-use crate::spelling::{has_names, is_within};
-use crate::step::{Filing, Pending, Said, Standing, Step, StepFault};
-use call_tickets::{Answer, Ask, Call};
-use disk_journal::{Journal, JournalFault};
+use crate::fault::{OpenFault, StepFault};
+use crate::flying::Flying;
+use crate::life::Life;
+use crate::nodes::Nodes;
+use crate::opening::{open_all, roomy_book};
+use crate::step::{Said, Step};
+use crate::steps::ask::ask_for;
+use crate::steps::begin::begin_call;
+use crate::steps::crash::crash_node;
+use crate::steps::drop::drop_letter;
+use crate::steps::give_up::give_up_call;
+use crate::steps::lose::lose_node;
+use crate::steps::post::post_letter;
+use crate::steps::push::push_states;
+use crate::steps::start::start_node;
+use crate::steps::widen::widen_copy;
+use call_tickets::Call;
 use io_edge::Disk;
-use mail_base::{MsgId, NodeNo, NodeSet, Plan, Ticket};
-use std::alloc::{AllocError, Global};
+use mail_base::{NodeNo, Plan};
+use std::alloc::Global;
+use world_book::Book;
 
-/// Why a world was not opened.
-#[derive(Clone, Copy, Debug, PartialEq, Eq)]
-pub enum OpenFault {
-    /// The disk of this node failed.
-    DiskFault(NodeNo),
-    /// Out of memory.
-    NoMemory,
-}
-
-impl From<AllocError> for OpenFault {
-    ghost use Rattle.std.specs.Prelude.{◌≡◌};
-    ghost use Rattle.cluster_world.specs.declared.world.OpenFault.TheVariants as fault;
-
-    ghost from_gives = { λ _ e. e ≡ fault.NoMemory };
-
-    fn from(_: AllocError) -> OpenFault {
-        OpenFault::NoMemory
-    }
-}
-
-impl From<JournalFault> for OpenFault {
-    ghost use Rattle.std.specs.Prelude.{◌≡◌};
-    ghost use Rattle.cluster_world.specs.Opens.{open_fault_of};
-
-    ghost from_gives = { λ fault e. e ≡ open_fault_of fault };
-
-    fn from(fault: JournalFault) -> OpenFault {
-        match fault {
-            JournalFault::DiskFault => OpenFault::DiskFault(first_node()),
-            // A new journal is never refused as another's, nor the record of a boot as too large.
-            JournalFault::NotAJournal | JournalFault::TooLarge | JournalFault::NoMemory => {
-                OpenFault::NoMemory
-            }
-        }
-    }
-}
-
-/// A new journal with the record of the node's first boot.
-fn begin<D: Disk>(alloc: Global, disk: &mut D) -> Result<Journal, OpenFault>
-    requires { IfSome (D.seen disk.old) (λ held. held ≡ []) }
-    ensures begun { Begun result (D.seen disk.new) (D.faults disk.old) (D.faults disk.new) }
-    ensures settled { OnOk result (D.settled disk.new) }
-    ensures told { IsToldAlike (D.seen disk.old) (D.seen disk.new) }
-{
-    let boot = boot_payload(alloc)?;
-    let mut journal = Journal::create(alloc, disk, first_node())?;
-    journal.append(alloc, disk, &boot, &[])?;
-    Ok(journal)
-}
-
-/// Puts an entry for each user of the filing into the book, and says what was stored.
-fn acknowledge(book: &mut Book, filing: Filing, confirmers: NodeSet) -> Answer
-    requires { length filing.users ≤ spare_of book.old }
-    ensures book { booked_by book.new ≡ booked_by book.old ++ entries_for filing confirmers }
-    ensures answer { result ≡ Answer.Stored filing.id confirmers }
-{
-    let Filing {
-        id,
-        users,
-        seconds,
-        length,
-        digest,
-    } = filing;
-    for user in users.into_vec() {
-        book.add(Entry::Acked {
-            user,
-            id,
-            seconds,
-            length,
-            digest,
-            confirmers,
-        });
-    }
-    Answer::Stored { id, confirmers }
-}
-
-/// How many entries the call adds to the book once it is asked for.
-fn entries_of(pending: &Pending) -> usize
-    ensures { result ≡ entries_in pending.now }
-{
-    match pending {
-        Pending::Filed(filing) => filing.users.len(),
-        Pending::Found(_) => 0,
-        Pending::Struck { user: _, ids } => ids.len(),
-    }
-}
-
-/// The entries that a deletion becomes once it is answered, since they take memory; and none of another call.
-fn prepared(alloc: Global, pending: &Pending) -> Result<Vec<Entry>, AllocError>
-    ensures { IfOk result (λ entries. map entry_of entries.items ≡ prepared_for pending.now) }
-{
-    match pending {
-        Pending::Filed(_) => Ok(Vec::new(alloc)),
-        Pending::Found(_) => Ok(Vec::new(alloc)),
-        Pending::Struck { user, ids } => dropped(alloc, user, ids.as_slice()),
-    }
-}
-
-/// That node 1 confirmed the deletion of each of these, since that takes memory.
-fn confirmed(alloc: Global, ids: &[MsgId]) -> Result<Vec<NodeSet>, AllocError>
-    ensures { IfOk result (λ confirmers. confirmers.items ≡ map (λ _. 1) ids.now) }
-{
-    let mut confirmers = Vec::new(alloc);
-    for _id in ids {
-        confirmers.push(NodeSet::from_mask(1))?;
-    }
-    Ok(confirmers)
-}
-
-/// Who confirmed a deletion; and nobody of another call.
-fn confirmers_of(alloc: Global, pending: &Pending) -> Result<Vec<NodeSet>, AllocError>
-    ensures { IfOk result (λ confirmers. confirmers.items ≡ map (λ _. 1) (struck_ids pending.now)) }
-{
-    match pending {
-        Pending::Filed(_) => Ok(Vec::new(alloc)),
-        Pending::Found(_) => Ok(Vec::new(alloc)),
-        Pending::Struck { user: _, ids } => confirmed(alloc, ids.as_slice()),
-    }
-}
-
-/// What the call is answered; a delivery goes into the book, and the entries that were prepared for a deletion.
-fn settle(
-    book: &mut Book,
-    pending: Pending,
-    entries: Vec<Entry>,
-    confirmers: Vec<NodeSet>,
-) -> Answer
-    requires room { entries_in pending ≤ spare_of book.old }
-    requires prepared { map entry_of entries.items ≡ prepared_for pending }
-    requires confirmed { confirmers.items ≡ map (λ _. 1) (struck_ids pending) }
-    ensures { SettlesCall pending result (booked_by book.old) (booked_by book.new) }
-{
-    match pending {
-        Pending::Filed(filing) => acknowledge(book, filing, NodeSet::from_mask(1)),
-        Pending::Found(answer) => answer,
-        Pending::Struck { .. } => {
-            book.add_all(entries);
-            Answer::Dropped { confirmers }
-        }
-    }
-}
-
-/// One node with its disk, its calls in progress, its index and its book.
+/// The nodes of a cluster with their disks, the letters between them, and the book.
 #[derive(Drop)]
 pub struct World<D> {
-    pub(crate) plan: Plan,
-    pub(crate) disk: D,
-    pub(crate) journal: Journal,
-    pub(crate) up: bool,
-    // the numbers that were drawn for ids of messages, or that an id has which a record names
-    pub(crate) drawn: u64,
-    // the stamps that were drawn
-    pub(crate) stamps: u64,
-    // the tickets that were drawn
-    pub(crate) tickets: u64,
-    // the steps that it was asked for; the count stays at its type's end
-    pub(crate) steps: u64,
-    // where the messages lie
-    pub(crate) index: Index,
-    pub(crate) standing: Vec<Standing>,
+    pub(crate) nodes: Nodes<D>,
+    pub(crate) flying: Flying,
     pub(crate) book: Book,
-    // the list in which the disk was handed over, and will be handed back
-    pub(crate) emptied: Emptied<D>,
+    // since 1970
+    pub(crate) seconds: u64,
+    // how many steps it was asked for; the count stays at its type's end
+    pub(crate) steps: u64,
+    // whoever goes down or is lost finds room in the book
+    ghost room_for_falls: { all_falls_left nodes.lives.items ≤ spare_of book },
+}
+
+#[tactic(auto, using(crate::proofs::Turned::most_falls))]
+/// A world of these nodes, in which nothing has been done.
+fn opened<D>(alloc: Global, plan: Plan, lives: Vec<Life>, disks: Vec<D>, book: Book) -> World<D>
+    requires few { plan.nodes ≤ 16 }
+    requires copied { 1 ≤ plan.copies }
+    requires all { length lives.items ≡ plan.nodes }
+    requires disk_each { length disks.items ≡ plan.nodes }
+    requires room { 2 * plan.nodes ≤ spare_of book }
+    ensures plan { result.nodes.plan ≡ plan }
+    ensures lives { result.nodes.lives.items ≡ lives.items }
+    ensures disks { result.nodes.disks.items ≡ disks.items }
+    ensures flights { result.flying.flights ≡ [] }
+    ensures sent { result.flying.sent ≡ 0 }
+    ensures book { result.book ≡ book }
+    ensures seconds { result.seconds ≡ 0 }
+    ensures steps { result.steps ≡ 0 }
+{
+    let flying = Flying::new(alloc);
+    let nodes = Nodes { plan, lives, disks };
+    World {
+        nodes,
+        flying,
+        book,
+        seconds: 0,
+        steps: 0,
+    }
 }
 
 impl<D: Disk> World<D> {
-    /// A new world of the plan's one node, on the one disk, which is empty: a journal with the record of the node's
-    /// first boot. It costs six disk calls. A refusal hands the disks back.
+    ghost use Rattle.std.specs.Prelude.{◌≡◌, length, Option, None, IfOk, IfErr};
+    ghost use Rattle.node_store.specs.Disks.{view_of};
+    ghost use Rattle.cluster_world.specs.Worlds.{state_of, life_of, plan_of, disks_of, book_of, IsReady};
+    ghost use Rattle.cluster_world.specs.Books.{booked_by};
+    ghost use Rattle.cluster_world.specs.Steps.{IsStep, StepDid, AreSettled};
+    ghost use Rattle.cluster_world.specs.Sure.{IsSurelyDone};
+    ghost use Rattle.cluster_world.specs.declared.fault.StepFault.{StepFault as AFault};
+    ghost use Rattle.cluster_world.specs.Turns.{node_refusal};
+    ghost use Rattle.cluster_world.specs.Lives.{is_up_life, is_lost_life, boot_in_life};
+    ghost use Rattle.cluster_world.specs.Flows.{HasFlowed};
+    ghost use Rattle.cluster_world.specs.Turns.{node_refusal};
+    ghost use Rattle.cluster_world.specs.declared.step.Step.TheVariants.{Begin};
+    ghost use Rattle.cluster_world.specs.Opens.{IsFit, AreEmpty, Opened, Refused};
+
+    /// A new world on empty disks, one for each node of the plan, in order: a journal each, and the record of each node's
+    /// first boot. A refusal hands the disks back.
     pub fn open(alloc: Global, plan: Plan, disks: Vec<D>) -> Result<World<D>, (OpenFault, Vec<D>)>
-        requires one { vec_len disks ≡ 1 }
-        requires empty { (disk : D) → disks.items ≡ disk ∷ [] → IfSome (D.seen disk) (λ held. held ≡ []) }
-        ensures opened { (disk : D) → disks.items ≡ disk ∷ [] → IfOk result (λ world. Opened D.seen D.faults D.settled plan disk world) }
-        ensures refused { (disk : D) → disks.items ≡ disk ∷ [] → IfErr result (λ refused. Refused D.seen D.faults refused.0 disk (refused.1).items) }
+        requires fit { IsFit plan }
+        requires one_each { length disks.items ≡ plan.nodes }
+        requires empty { AreEmpty D.seen disks.items }
+        ensures opened { IfOk result (λ world. Opened (view_of D.seen D.faults D.clock) D.settled plan disks.items world) }
+        ensures refused { IfErr result (λ refused. Refused (view_of D.seen D.faults D.clock) refused.0 disks.items (refused.1).items) }
     {
-        let (mut disk, emptied) = take_only(disks);
-        match begin(alloc, &mut disk) {
-            Ok(journal) => Ok(World {
-                plan,
-                disk,
-                journal,
-                up: true,
-                drawn: 0,
-                stamps: 0,
-                tickets: 0,
-                steps: 0,
-                index: Index::new(alloc),
-                standing: Vec::new(alloc),
-                book: Book::new(alloc),
-                emptied,
-            }),
-            Err(fault) => Err((fault, emptied.refilled(disk))),
+        let mut held = disks;
+        let Ok(book) = roomy_book(alloc, held.len()) else {
+            return Err((OpenFault::NoMemory, held));
+        };
+        let mut lives = Vec::new(alloc);
+        match open_all(alloc, &plan, &mut held, &mut lives) {
+            Ok(()) => Ok(opened(alloc, plan, lives, held, book)),
+            Err(fault) => Err((fault, held)),
         }
     }
 
-    /// The disks of a world that is done with, in the list in which they were handed over. It takes no memory.
+    /// The disks of a world that is done with, in order of node, in the list in which they were handed over. It takes no
+    /// memory.
     pub fn close(self) -> Vec<D>
-        ensures { result.items ≡ disk_of self ∷ [] }
+        ensures { result.items ≡ disks_of self }
     {
-        let World { disk, emptied, .. } = self;
-        emptied.refilled(disk)
+        let World { nodes, .. } = self;
+        nodes.into_disks()
     }
 
     /// The plan of the cluster.
     pub fn plan(&self) -> &Plan
         ensures { result.now ≡ plan_of self.now }
     {
-        &self.plan
+        self.nodes.plan()
     }
 
-    /// What was acknowledged so far, and whether the node went down.
+    /// What was acknowledged, deleted and dropped so far, and which nodes went down, came up and were lost.
     pub fn book(&self) -> &Book
         ensures { booked_by result.now ≡ book_of self.now }
     {
         &self.book
     }
 
-    /// Whether the node is up.
-    pub fn is_up(&self, node: NodeNo) -> bool
-        ensures { result ≡ (nat_eq node 1 && is_up self.now) }
+    // A step that begins no call.
+    fn make_other(&mut self, alloc: Global, step: &Step) -> Result<Said, StepFault>
+        requires fit { node_refusal (plan_of self.old) (life_of self.old) step.now ≡ None }
+        requires ready { IsReady D.seen self.old }
+        ensures ready { IsReady D.seen self.new }
+        ensures did { StepDid (view_of D.seen D.faults D.clock) result step.now (state_of self.old) (state_of self.new) }
+        ensures settled { AreSettled D.settled (state_of self.old) → AreSettled D.settled (state_of self.new) }
+        ensures steps { self.new.steps ≡ self.old.steps }
+        ensures sure { (refusal : Option AFault) → IsSurelyDone step.now result refusal }
     {
-        node.number() == 1 && self.up
-    }
-}
-
-impl<D: Disk> World<D> {
-    // Whether the node has no number left for the call.
-    fn is_worn(&self, call: &Call) -> bool
-        ensures worn { IsTrue result → HasNumbers call.now self.now → ⊥ }
-        ensures fresh { IsFalse result → HasNumbers call.now self.now }
-    {
-        match call {
-            Call::Deliver(_) => {
-                self.drawn == u64::MAX || self.stamps == u64::MAX || self.tickets == u64::MAX
+        match step {
+            Step::Ask { ticket } => ask_for(alloc, &mut self.nodes, &mut self.book, ticket),
+            Step::GiveUp { ticket } => give_up_call(&mut self.nodes, &self.flying, ticket),
+            Step::Start { node } => {
+                start_node(alloc, &mut self.nodes, &self.flying, &mut self.book, *node)
             }
-            Call::Login { .. } => self.tickets == u64::MAX,
-            Call::Fetch { .. } => self.tickets == u64::MAX,
-            Call::Strike { user: _, items } => {
-                items.len() as u64 > u64::MAX - self.stamps || self.tickets == u64::MAX
+            Step::Drop { letter } => drop_letter(&mut self.nodes, &mut self.flying, *letter),
+            Step::Crash { node } => {
+                crash_node(&mut self.nodes, &mut self.book, *node);
+                Ok(Said::Done)
             }
-            Call::Leave { .. } => false,
-        }
-    }
-
-    // Does what the call asks, where the node is up and has the numbers for it.
-    fn make(&mut self, alloc: Global, call: Call) -> Result<Said, StepFault>
-        requires up { IsTrue (is_up self.old) }
-        requires gate { ShowsGate D.seen self.old }
-        requires numbers { HasNumbers call self.old }
-        ensures steps { steps_of self.new ≡ steps_of self.old }
-        ensures did { (node : ℕ) → node ≤ (plan_of self.old).nodes → BeginDid D.seen D.faults result node call self.old self.new }
-        ensures settled { (node : ℕ) → IfOk result (λ said. SettledBy D.settled (Step.Begin node call) said self.old self.new) }
-        ensures settled_while_up { IsTrue (is_up self.new) → D.settled (disk_of self.old) → D.settled (disk_of self.new) }
-        ensures told { IsToldAlike (D.seen (disk_of self.old)) (D.seen (disk_of self.new)) }
-    {
-        match call {
-            Call::Deliver(deliver) => self.take(alloc, deliver),
-            Call::Login { user, proof } => self.log_in(alloc, user, proof),
-            Call::Fetch {
+            Step::Lose { node } => {
+                lose_node(&mut self.nodes, &mut self.book, *node);
+                Ok(Said::Done)
+            }
+            Step::Post { letter, keep } => post_letter(
+                alloc,
+                &mut self.nodes,
+                &mut self.flying,
+                &mut self.book,
+                *letter,
+                *keep,
+            ),
+            Step::Push { from, to } => push_states(
+                alloc,
+                &mut self.nodes,
+                &mut self.flying,
+                &mut self.book,
+                *from,
+                *to,
+            ),
+            Step::Widen { at, user, id, to } => widen_copy(
+                alloc,
+                &mut self.nodes,
+                &self.flying,
+                &mut self.book,
+                *at,
                 user,
-                id,
-                holders,
-                from,
-                most,
-            } => self.fetch(alloc, user, id, holders, from, most),
-            Call::Strike { user, items } => self.strike(alloc, user, items),
-            // There is no lock that would be let go.
-            Call::Leave { .. } => Ok(Said::Noted),
+                *id,
+                *to,
+            ),
+            // `make_fit` takes the beginning of a call.
+            Step::Begin { .. } => Err(StepFault::NoMemory { down: None }),
         }
     }
 
-    // Begins a call at the node.
+    // A call begins.
     fn begin(&mut self, alloc: Global, node: NodeNo, call: Call) -> Result<Said, StepFault>
-        requires gate { IsTrue (is_up self.old) → ShowsGate D.seen self.old }
-        ensures steps { steps_of self.new ≡ steps_of self.old }
-        ensures did { BeginDid D.seen D.faults result node call self.old self.new }
-        ensures settled { IfOk result (λ said. SettledBy D.settled (Step.Begin node call) said self.old self.new) }
-        ensures settled_while_up { IsTrue (is_up self.new) → D.settled (disk_of self.old) → D.settled (disk_of self.new) }
-        ensures told { IsToldAlike (D.seen (disk_of self.old)) (D.seen (disk_of self.new)) }
+        requires fit { node_refusal (plan_of self.old) (life_of self.old) (Begin node call) ≡ None }
+        requires ready { IsReady D.seen self.old }
+        ensures ready { IsReady D.seen self.new }
+        ensures did { StepDid (view_of D.seen D.faults D.clock) result (Begin node call) (state_of self.old) (state_of self.new) }
+        ensures settled { AreSettled D.settled (state_of self.old) → AreSettled D.settled (state_of self.new) }
+        ensures steps { self.new.steps ≡ self.old.steps }
     {
-        if node.number() > self.plan.nodes {
-            return Err(StepFault::NoSuchNode);
-        }
-        if !self.up {
-            return Err(StepFault::NodeDown);
-        }
-        if self.is_worn(&call) {
-            return Err(StepFault::Worn);
-        }
-        self.make(alloc, call)
+        begin_call(
+            alloc,
+            &mut self.nodes,
+            &mut self.flying,
+            &mut self.book,
+            node,
+            call,
+            self.seconds,
+        )
     }
 
-    // Where the ticket stands.
-    fn place_of(&self, ticket: Ticket) -> Option<usize>
-        ensures some { IfSome result (λ place. IfSome (slice_get (standing_of self.now) place) (λ standing. standing.ticket ≡ ticket)) }
-        ensures within { IfSome result (λ place. place < vec_len self.now.standing) }
-        ensures none { result ≡ None → StandsNot ticket self.now }
-    {
-        self.standing
-            .iter()
-            .position(|standing| standing.ticket == ticket)
-    }
-
-    // Asks for a call: it is done, and a message goes into the book.
-    fn ask(&mut self, alloc: Global, ticket: Ticket) -> Result<Said, StepFault>
-        ensures steps { steps_of self.new ≡ steps_of self.old }
-        ensures did { AskDid D.seen D.faults result ticket self.old self.new }
-        ensures disk { disk_of self.new ≡ disk_of self.old }
-    {
-        if ticket.node.number() > self.plan.nodes {
-            return Err(StepFault::NoSuchNode);
-        }
-        if !self.up {
-            return Err(StepFault::NodeDown);
-        }
-        let Some(place) = self.place_of(ticket) else {
-            return Err(StepFault::NoSuchTicket);
-        };
-        let entries = prepared(alloc, &self.standing[place].pending)?;
-        let confirmers = confirmers_of(alloc, &self.standing[place].pending)?;
-        self.book
-            .reserve(entries_of(&self.standing[place].pending))?;
-        let standing = self.standing.remove(place);
-        let answer = settle(&mut self.book, standing.pending, entries, confirmers);
-        Ok(Said::Asked(Ask::Done(answer)))
-    }
-
-    // Makes a step that was counted.
-    fn make_step(&mut self, alloc: Global, step: Step) -> Result<Said, StepFault>
-        requires gate { IsTrue (is_up self.old) → ShowsGate D.seen self.old }
-        ensures stepped { Stepped D.seen D.faults result step self.old self.new }
-        ensures steps { steps_of self.new ≡ steps_of self.old }
-        ensures gate { IsTrue (is_up self.new) → ShowsGate D.seen self.new }
-        ensures fetched_as_filed { FetchedAsFiled D.seen result step self.old self.new }
-        ensures completes { Completes D.seen D.faults result step self.old self.new }
-        ensures settled { IfOk result (λ said. SettledBy D.settled step said self.old self.new) }
-        ensures quiet { IsTrue (is_up self.new) → D.faults (disk_of self.new) ≡ D.faults (disk_of self.old) }
-        ensures settled_while_up { IsTrue (is_up self.new) → D.settled (disk_of self.old) → D.settled (disk_of self.new) }
-        ensures told { IsToldAlike (D.seen (disk_of self.old)) (D.seen (disk_of self.new)) }
+    // A step that is not refused for the sake of a node.
+    fn make_fit(&mut self, alloc: Global, step: Step) -> Result<Said, StepFault>
+        requires fit { node_refusal (plan_of self.old) (life_of self.old) step ≡ None }
+        requires ready { IsReady D.seen self.old }
+        ensures ready { IsReady D.seen self.new }
+        ensures did { StepDid (view_of D.seen D.faults D.clock) result step (state_of self.old) (state_of self.new) }
+        ensures settled { AreSettled D.settled (state_of self.old) → AreSettled D.settled (state_of self.new) }
+        ensures steps { self.new.steps ≡ self.old.steps }
+        ensures sure { (refusal : Option AFault) → IsSurelyDone step result refusal }
     {
         match step {
             Step::Begin { node, call } => self.begin(alloc, node, call),
-            Step::Ask { ticket } => self.ask(alloc, ticket),
+            other => self.make_other(alloc, &other),
         }
     }
 
-    // Counts one step more.
-    fn count(&mut self)
-        ensures { self.new ≡ with_step_counted self.old }
+    /// The step, which is not counted here.
+    fn make_step(&mut self, alloc: Global, step: Step) -> Result<Said, StepFault>
+        requires ready { IsReady D.seen self.old }
+        ensures ready { IsReady D.seen self.new }
+        ensures did { StepDid (view_of D.seen D.faults D.clock) result step (state_of self.old) (state_of self.new) }
+        ensures settled { AreSettled D.settled (state_of self.old) → AreSettled D.settled (state_of self.new) }
+        ensures steps { self.new.steps ≡ self.old.steps }
+        ensures sure { IsSurelyDone step result (node_refusal (plan_of self.old) (life_of self.old) step) }
     {
-        self.steps = self.steps.saturating_add(1);
+        if let Some(fault) = self.nodes.refuses(&step) {
+            return Err(fault);
+        }
+        self.make_fit(alloc, step)
     }
 
-    /// Makes one step: begins a call at a node, or asks for one and ends it.
-    ///
-    /// Each call but `Leave` draws the node's next ticket, and does its work as it begins:
-    ///
-    /// - A delivery puts the message on the disk: its octets, and then a state for each of its users, in order. That
-    ///   costs four disk calls for the octets and four for each user. Its id is of the node's next number for messages.
-    /// - A login looks at the user's own messages in memory, and asks the disk nothing. Its answer is the listing exactly
-    ///   where the proof is right.
-    /// - A fetch reads the octets that it is to give, and no others. Its answer is `GoneAlready` exactly where the user's
-    ///   listing does not have the id.
-    /// - A deletion puts the state that the user's copy is gone on the disk for each of its ids, in order, each with a stamp
-    ///   of its own. That costs four disk calls for each. The user's listings then have none of these messages, and no
-    ///   fetch of the user's finds them; other users' copies stay. The book has an entry for each as the call begins, also
-    ///   where the disk fails in it, or memory runs out after the first that was written.
-    /// - A `Leave` changes nothing, and is `Noted`.
-    ///
-    /// `Faulted` comes only where the disk failed, or ended before a message's octets do, which a disk that tells its
-    /// octets never does; then the node is down and its calls are gone.
-    ///
-    /// An ask for a call that stands ends it, and the ticket stands no more: the book has an entry for each user of a
-    /// delivery, or for each message that was deleted, in order, and what a login or a fetch found is handed out. It makes
-    /// no disk call.
+    /// Makes one step.
+    pub fn step(&mut self, alloc: Global, step: Step) -> Result<Said, StepFault>
+        requires ready { IsReady D.seen self.old }
+        ensures ready { IsReady D.seen self.new }
+        ensures is { IsStep (view_of D.seen D.faults D.clock) result step self.old self.new }
+        ensures settled { AreSettled D.settled (state_of self.old) → AreSettled D.settled (state_of self.new) }
+        ensures sure { IsSurelyDone step result (node_refusal (plan_of self.old) (life_of self.old) step) }
+    {
+        self.steps = self.steps.saturating_add(1);
+        self.make_step(alloc, step)
+    }
+
+    /// Whether the node is up.
+    pub fn is_up(&self, node: NodeNo) -> bool
+        ensures { result ≡ is_up_life (life_of self.now node) }
+    {
+        match self.nodes.life(node) {
+            Some(life) => life.is_up(),
+            None => false,
+        }
+    }
+
+    /// Whether the node is lost for good; and whether the plan has no such node.
+    pub fn is_lost(&self, node: NodeNo) -> bool
+        ensures { result ≡ is_lost_life (life_of self.now node) }
+    {
+        match self.nodes.life(node) {
+            Some(life) => life.is_lost(),
+            None => true,
+        }
+    }
+
+    /// The boot of a node that is up.
+    pub fn boot(&self, node: NodeNo) -> Option<u32>
+        ensures { result ≡ boot_in_life (life_of self.now node) }
+    {
+        match self.nodes.life(node) {
+            Some(life) => life.boot(),
+            None => None,
+        }
+    }
+
+    /// Posts the letter of the lowest number, and the next, until none is in flight. It stops with the node whose disk
+    /// failed.
     ///
     /// # Errors
     ///
-    /// The first that applies of `NoSuchNode`, `NodeDown`, `NoSuchTicket` and `Worn`, exactly where they say, and nothing is
-    /// changed; or `NoMemory`: nothing is changed, or the node is down with a prefix of the call's records on its disk.
-    pub fn step(&mut self, alloc: Global, step: Step) -> Result<Said, StepFault>
-        requires gate { IsTrue (is_up self.old) → ShowsGate D.seen self.old }
-        ensures stepped { Stepped D.seen D.faults result step (with_step_counted self.old) self.new }
-        ensures counted { steps_of self.new ≡ one_more (steps_of self.old) }
-        ensures gate { IsTrue (is_up self.new) → ShowsGate D.seen self.new }
-        ensures fetched_as_filed { FetchedAsFiled D.seen result step (with_step_counted self.old) self.new }
-        ensures completes { Completes D.seen D.faults result step (with_step_counted self.old) self.new }
-        ensures settled { IfOk result (λ said. SettledBy D.settled step said (with_step_counted self.old) self.new) }
-        ensures settled_while_up { IsTrue (is_up self.new) → D.settled (disk_of self.old) → D.settled (disk_of self.new) }
-        ensures names { HasNames step }
-        ensures numbers { AreWithin self.new }
-        ensures told { IsToldAlike (D.seen (disk_of self.old)) (D.seen (disk_of self.new)) }
-        ensures quiet { IsTrue (is_up self.new) → D.faults (disk_of self.new) ≡ D.faults (disk_of self.old) }
+    /// `Worn` and `NoMemory`; what was posted before stays posted.
+    pub fn flow(&mut self, alloc: Global) -> Result<Option<NodeNo>, StepFault>
+        requires ready { IsReady D.seen self.old }
+        ensures ready { IsReady D.seen self.new }
+        ensures flowed { HasFlowed (view_of D.seen D.faults D.clock) result self.old self.new }
+        ensures settled { AreSettled D.settled (state_of self.old) → AreSettled D.settled (state_of self.new) }
     {
-        self.count();
-        has_names(&step);
-        let said = self.make_step(alloc, step);
-        is_within(self.drawn);
-        is_within(self.stamps);
-        said
+        while let Some(letter) = self.flying.first() {
+            let step = Step::Post {
+                letter,
+                keep: false,
+            };
+            match self.step(alloc, step)? {
+                Said::Faulted(node) => return Ok(Some(node)),
+                _ => {}
+            }
+        }
+        Ok(None)
     }
 }

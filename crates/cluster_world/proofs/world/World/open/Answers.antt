@@ -1,30 +1,12 @@
-use Rattle.std.proofs.Common.{◌≡◌, refl, ap, map, sym, subst, ℕ, [], ◌∷◌}
-use Rattle.mail_model.specs.Record.Record.{Boot}
-use Rattle.cluster_world.specs.Books.{entry_of}
-use Rattle.cluster_world.specs.Index.{kept_in}
-use Rattle.cluster_world.specs.Fits.{Recalls}
-use Rattle.cluster_world.proofs.Recalled.{recalls_boot}
+use Rattle.std.proofs.Common.{ap, ◌∙◌}
+use Rattle.node_store.specs.Disks.{view_of}
+use Rattle.world_book.specs.Books.{entries_of}
+use Rattle.cluster_world.proofs.FirstBoots.{opened_world}
 use Rattle.cluster_world.proofs.world.World.open.Goals as goal
 
-pub returns-in-Ok-clause-opened : goal.returns-in-Ok-clause-opened
-returns-in-Ok-clause-opened g c = λ disk are.
-    let begun = c.in-Ok.ensures.begun in
-    let same : c.take_only-disk.result.0 ≡ disk = cc in
-    record {
-      begins = record {
-        plan_is = refl;
-        up = refl;
-        drawn = refl;
-        stamps = refl;
-        tickets = refl;
-        steps = refl;
-        standing = c.new-in-Ok.ensures.items;
-        book = ap (map entry_of) c.new-in-Ok-2.ensures;
-        gate = begun.1;
-        holds = begun.0;
-        fits = subst (λ (n : ℕ). Recalls (Boot 1 ∷ []) n 0 (λ user. kept_in user c.new.result)) (sym begun.3) (recalls_boot (λ user. kept_in user c.new.result) c.new.ensures);
-      };
-      told = rw (sym same) c.in-Ok.ensures.told;
-      quiet = rw (sym same) begun.2;
-      settled = c.in-Ok.ensures.settled;
-    }
+pub returns-in-Ok-open_all-clause-opened : goal.returns-in-Ok-open_all-clause-opened
+returns-in-Ok-open_all-clause-opened g c =
+    let all = c.in-Ok-open_all.ensures in
+    let o = c.opened.ensures in
+    opened_world (view_of g.D.Disk.seen g.D.Disk.faults g.D.Disk.clock) g.D.Disk.settled g.met.D.Disk.settled_is_only c.args.plan c.open_all.new.lives.items c.args.disks.items c.open_all.new.disks.items all.0 all.1
+    c.opened.result o.plan o.lives o.disks o.flights o.sent (ap entries_of o.book ∙ c.in-Ok.ensures.none) o.seconds o.steps (all.1 ∙ c.requires.one_each)

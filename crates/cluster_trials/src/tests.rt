@@ -1,0 +1,236 @@
+// Clusters of three nodes over disks in memory: what each step answers, and what the disk of each node then holds.
+ghost use Rattle.std.specs.Prelude.{◌≡◌, ◌≤◌, IfOk};
+ghost use Rattle.cluster_world.specs.Worlds.{IsReady};
+ghost use Rattle.cluster_world.specs.Opens.{IsFit};
+ghost use Rattle.cluster_trials.specs.Disks.{told_by};
+
+mod faults;
+mod journals;
+mod orders;
+mod steps;
+mod telling;
+
+use crate::open_fresh;
+use call_tickets::{Answer, Ask, Call};
+use cluster_world::{OpenFault, Said, Step, StepFault, World};
+use io_edge::Disk;
+use mail_base::{Deliver, MsgId, Name, Names, NodeNo, Octets, Plan, Secret, Ticket, Users};
+use node_core::Why;
+use node_disk::MemoryDisk;
+use std::alloc::{AllocError, Global};
+
+/// The node of this number, and node 1 where there is none.
+fn node(number: u8) -> NodeNo {
+    match NodeNo::new(number) {
+        Some(node) => node,
+        None => NodeNo::new(1).unwrap(),
+    }
+}
+
+fn ann(alloc: Global) -> Result<Name, AllocError> {
+    match Name::spelt(alloc, b"ann")? {
+        Some(name) => Ok(name),
+        None => Err(AllocError),
+    }
+}
+
+/// A plan of three nodes, with the one user ann. Two nodes have to confirm a message.
+fn plan(alloc: Global, copies: u8) -> Result<Plan, AllocError>
+    requires some { 2 ≤ copies }
+    requires most { copies ≤ 3 }
+    ensures fit { IfOk result (λ plan. IsFit plan) }
+    ensures nodes { IfOk result (λ plan. plan.nodes ≡ 3) }
+{
+    let mut users = Users::new(alloc);
+    users.insert(ann(alloc)?, Secret::read(alloc, b"open sesame")?.unwrap())?;
+    Ok(Plan {
+        nodes: 3,
+        copies,
+        confirm: 2,
+        buckets: 1,
+        users,
+        postmaster: ann(alloc)?,
+    })
+}
+
+/// A cluster of that plan over empty disks in memory. Of the disk of the node `weak` this call fails.
+fn opened_over(
+    alloc: Global,
+    copies: u8,
+    weak: u8,
+    call: u64,
+) -> Result<World<MemoryDisk>, OpenFault>
+    requires some { 2 ≤ copies }
+    requires most { copies ≤ 3 }
+    ensures { IfOk result (λ world. IsReady told_by world) }
+{
+    open_fresh(alloc, plan(alloc, copies)?, weak, call)
+}
+
+/// The same, where none fails.
+fn opened(alloc: Global, copies: u8) -> Result<World<MemoryDisk>, OpenFault>
+    requires some { 2 ≤ copies }
+    requires most { copies ≤ 3 }
+    ensures { IfOk result (λ world. IsReady told_by world) }
+{
+    opened_over(alloc, copies, 0, 0)
+}
+
+/// A message to ann.
+fn hello(alloc: Global) -> Result<Deliver, AllocError> {
+    let mut users = Names::new(alloc);
+    users.push(ann(alloc)?)?;
+    Ok(Deliver {
+        users,
+        sender: Octets::from_vec(b"bob@b.example".to_vec(alloc)?),
+        helo: Octets::from_vec(b"c.example".to_vec(alloc)?),
+        extended: false,
+        text: Octets::from_vec(b"Hi\r\n".to_vec(alloc)?),
+    })
+}
+
+/// The first message of node 1.
+fn first_id() -> MsgId {
+    MsgId::new(NodeNo::new(1).unwrap(), 1, 1).unwrap()
+}
+
+/// What a digit counts, where `a` follows 9.
+fn count(digit: u8) -> u8 {
+    match digit {
+        b'0'..=b'9' => digit - b'0',
+        b'a'..=b'z' => digit - b'a' + 10,
+        _ => 0,
+    }
+}
+
+/// The digit of a count, and `+` of one that has none.
+fn digit(count: u64) -> u8 {
+    if count < 10 {
+        return b'0' + count as u8;
+    }
+    if count < 36 {
+        return b'a' + (count as u8 - 10);
+    }
+    b'+'
+}
+
+/// The step that three letters tell: what is done, and with which nodes, ticket or letter.
+fn step_of(alloc: Global, what: u8, first: u8, second: u8) -> Result<Step, AllocError> {
+    let one = node(count(first));
+    let two = node(count(second));
+    let letter = u64::from(count(first));
+    let seq = u64::from(count(second));
+    Ok(match what {
+        b'D' => Step::Begin {
+            node: one,
+            call: Call::Deliver(hello(alloc)?),
+        },
+        b'A' => Step::Ask {
+            ticket: Ticket::new(one, 1, seq),
+        },
+        b'G' => Step::GiveUp {
+            ticket: Ticket::new(one, 1, seq),
+        },
+        b'P' => Step::Post {
+            letter,
+            keep: false,
+        },
+        b'K' => Step::Post { letter, keep: true },
+        b'X' => Step::Drop { letter },
+        b'>' => Step::Push { from: one, to: two },
+        b'W' => Step::Widen {
+            at: one,
+            user: ann(alloc)?,
+            id: first_id(),
+            to: two,
+        },
+        b'C' => Step::Crash { node: one },
+        b'S' => Step::Start { node: one },
+        _ => Step::Lose { node: one },
+    })
+}
+
+fn told_answer(answer: &Answer) -> [u8; 2] {
+    match answer {
+        Answer::Stored { id, confirmers } => {
+            if *id == first_id() {
+                [b'S', digit(u64::from(confirmers.mask()))]
+            } else {
+                [b's', digit(u64::from(confirmers.mask()))]
+            }
+        }
+        Answer::Failed(_) => *b"F.",
+        Answer::Listed { .. }
+        | Answer::Wrong { .. }
+        | Answer::Part { .. }
+        | Answer::GoneAlready
+        | Answer::Dropped { .. } => *b"??",
+    }
+}
+
+fn told_ask(ask: &Ask) -> [u8; 2] {
+    match ask {
+        Ask::Pending { got, .. } => [b'P', digit(*got)],
+        Ask::Done(answer) => told_answer(answer),
+    }
+}
+
+fn told_why(why: Why) -> [u8; 2] {
+    match why {
+        Why::Down => *b"Td",
+        Why::Late => *b"Tl",
+        Why::Stale | Why::Old | Why::NotPromised | Why::NotMember => *b"T?",
+    }
+}
+
+fn told_said(said: &Said) -> [u8; 2] {
+    match said {
+        Said::Begun { ticket, .. } => [b'B', digit(ticket.seq)],
+        Said::Noted => *b"N.",
+        Said::Asked(ask) => told_ask(ask),
+        Said::Heard => *b"H.",
+        Said::Thrown(why) => told_why(*why),
+        Said::Sent { letters } => [b'L', digit(*letters)],
+        Said::Widened(did) => { if *did { *b"Wy" } else { *b"Wn" } }
+        Said::NodeUp { boot } => [b'U', digit(u64::from(*boot))],
+        Said::Done => *b"..",
+        Said::Faulted(node) => [b'!', digit(u64::from(node.number()))],
+    }
+}
+
+fn told_fault(fault: StepFault) -> [u8; 2] {
+    match fault {
+        StepFault::NoSuchNode => *b"n?",
+        StepFault::NodeLost => *b"lo",
+        StepFault::NodeDown => *b"do",
+        StepFault::NodeUp => *b"up",
+        StepFault::NoSuchLetter => *b"l?",
+        StepFault::NoSuchTicket => *b"t?",
+        StepFault::Worn => *b"wo",
+        StepFault::NoRoom => *b"ro",
+        StepFault::NoMemory { .. } => *b"me",
+    }
+}
+
+/// What came of a step, in two letters.
+fn told(came: &Result<Said, StepFault>) -> [u8; 2] {
+    match came {
+        Ok(said) => told_said(said),
+        Err(fault) => told_fault(*fault),
+    }
+}
+
+/// Makes the step that three letters tell, and tells what came of it.
+fn make<D: Disk>(
+    alloc: Global,
+    world: &mut World<D>,
+    what: u8,
+    first: u8,
+    second: u8,
+) -> Result<[u8; 2], AllocError>
+    requires { IsReady D.seen world.old }
+    ensures { IsReady D.seen world.new }
+{
+    let step = step_of(alloc, what, first, second)?;
+    Ok(told(&world.step(alloc, step)))
+}

@@ -1,0 +1,116 @@
+-- A chain of steps of a world, as the machine makes them: each step once, marked with the session that led to it.
+use Rattle.std.proofs.Common.{◌≡◌, ⊎_elim, ◌⊎◌, inl, inr, ℕ, Bool, true, false, List, [], ◌∷◌, ◌++◌, append-nil, append_assoc, Option, Some, None, refl, sym, ap, ◌∙◌, subst}
+use Rattle.std.specs.Prelude.{⊤, flat_map, Result, Ok, Err}
+use Rattle.std.proofs.lemmas.Grind.{flat_map-append}
+use Rattle.mail_model.specs.Plan.{Plan}
+use Rattle.object_model.specs.Lists.{Among}
+use Rattle.object_model.proofs.Lists.{among_front, among_behind, among_either}
+use Rattle.session_model.specs.Logs.{Asked, Answered}
+use Rattle.cluster_model.specs.World as machine
+use Rattle.cluster_model.specs.Makes.{MakesStep}
+use Rattle.cluster_owes.specs.Outcomes as owes
+use Rattle.node_store.specs.Disks.{View}
+use Rattle.cluster_world.specs.Worlds.{plan_of, tells, state_of, Stands, StandsFor}
+use Rattle.cluster_world.specs.Seen.{step_seen, outcome_seen}
+use Rattle.cluster_world.specs.Ended.{IsEnded}
+use Rattle.cluster_world.specs.Steps.{IsBlind, IsStep, LeadsTo}
+use Rattle.cluster_world.specs.Outcomes.{Outcome, Awaited, asked_by_outcome, answered_by_outcome}
+use Rattle.cluster_world.specs.Owing.{IsOfSession, AreOfSessions}
+use Rattle.cluster_world.specs.declared.world.World.{World}
+use Rattle.cluster_world.specs.declared.step.Step.{Step}
+use Rattle.cluster_world.specs.declared.step.Said.{Said}
+use Rattle.cluster_world.specs.declared.fault.StepFault.{StepFault}
+
+abbrev pub begun_of : Awaited → owes.BegunCall
+begun_of one = record { ticket = one.ticket; session = one.session; call = one.call }
+
+-- what is awaited has begun
+abbrev pub HaveBegun : List Awaited → List owes.BegunCall → Type 0
+HaveBegun awaited begun = (one : Awaited) → Among one awaited → Among (begun_of one) begun
+
+abbrev pub begun_with : List owes.BegunCall → List owes.Outcome → List owes.BegunCall
+begun_with begun outs = begun ++ flat_map owes.begun_by_outcome outs
+
+-- what the machine makes of these outcomes
+pub record Mirrored {D : Type 0} (on : View D) (plan : Plan) (tells : Bool) (outcomes : List Outcome) (left : List Awaited) (begun : List owes.BegunCall) (w : machine.World) (new : World D) : Type 0 where
+  pub outs : List owes.Outcome
+  pub next : machine.World
+  pub makes : owes.Makes plan tells outs begun w next
+  pub stands : StandsFor on new next
+  pub asked : flat_map owes.asked_by_outcome outs ≡ flat_map asked_by_outcome outcomes
+  pub answered : flat_map owes.answered_by_outcome outs ≡ flat_map answered_by_outcome outcomes
+  pub within : HaveBegun left (begun_with begun outs)
+  pub sessions : (lines : List (List ℕ)) → AreOfSessions lines outcomes → owes.AreOfSessions lines outs
+
+-- what the machine makes of one step
+pub record Led {D : Type 0} (on : View D) (plan : Plan) (tells : Bool) (result : Result Said StepFault) (step : Step) (w : machine.World) (new : World D) : Type 0 where
+  pub next : machine.World
+  pub stands : StandsFor on new next
+  pub made : MakesStep plan tells w (step_seen step) (outcome_seen result) next
+
+module _ {D : Type 0} (on : View D) (plan : Plan) (told : Bool) where
+  -- the world is of this plan, and its disks tell so
+  pub record IsOf (world : World D) : Type 0 where
+    pub plan_is : plan_of world ≡ plan
+    pub told_is : tells on.seen world ≡ told
+
+  pub led : (result : Result Said StepFault) (step : Step) (old new : World D) → IsOf old → (told ≡ true) ⊎ IsBlind plan.nodes step → IsEnded step → IsStep on result step old new
+      → (w : machine.World) → StandsFor on old w → Led on plan told result step w new
+  led result step old new of known ended is w stands =
+      let l = is.did.leads (⊎_elim (λ t. inl (of.told_is ∙ t)) (λ b. inr (subst (λ (p : Plan). IsBlind p.nodes step) (sym of.plan_is) b)) known) ended w stands in
+      record {
+        next = l.next;
+        stands = l.stands;
+        made = subst (λ t. MakesStep plan t w (step_seen step) (outcome_seen result) l.next) of.told_is
+            (subst (λ (p : Plan). MakesStep p (tells on.seen old) w (step_seen step) (outcome_seen result) l.next) of.plan_is l.made);
+      }
+
+  -- one step of which no session hears
+  pub quiet_one : (outcomes : List Outcome) (awaited left : List Awaited) (begun : List owes.BegunCall) (w : machine.World) (new : World D) (result : Result Said StepFault) (step : Step)
+      → Led on plan told result step w new → owes.IsOther (step_seen step) (outcome_seen result) → flat_map asked_by_outcome outcomes ≡ [] → flat_map answered_by_outcome outcomes ≡ []
+      → HaveBegun awaited begun → ((one : Awaited) → Among one left → Among one awaited) → Mirrored on plan told outcomes left begun w new
+  quiet_one outcomes awaited left begun w new result step l other no_asked no_answer within fewer = record {
+    outs = owes.Outcome.Other (step_seen step) (outcome_seen result) ∷ [];
+    next = l.next;
+    makes = (l.next, (other, l.made), refl);
+    stands = l.stands;
+    asked = sym no_asked;
+    answered = sym no_answer;
+    within = λ one m. among_front (begun_of one) begun [] (within one (fewer one m));
+    sessions = λ lines of. (tt, tt);
+  }
+
+  -- the machine makes both, one after the other
+  pub makes_both : (xs ys : List owes.Outcome) (begun : List owes.BegunCall) (u v w : machine.World) → owes.Makes plan told xs begun u v → owes.Makes plan told ys (begun_with begun xs) v w
+      → owes.Makes plan told (xs ++ ys) begun u w
+  makes_both [] ys begun u v w is more = subst (λ s. owes.Makes plan told ys begun s w) is (subst (λ b. owes.Makes plan told ys b v w) (append-nil begun) more)
+  makes_both (x ∷ xs) ys begun u v w (mid, came, makes) more = (
+    mid,
+    came,
+    makes_both xs ys (begun ++ owes.begun_by_outcome x) mid v w makes
+        (subst (λ b. owes.Makes plan told ys b v w) (sym (append_assoc begun (owes.begun_by_outcome x) (flat_map owes.begun_by_outcome xs))) more),
+  )
+
+  pub sessions_both : (lines : List (List ℕ)) (xs ys : List owes.Outcome) → owes.AreOfSessions lines xs → owes.AreOfSessions lines ys → owes.AreOfSessions lines (xs ++ ys)
+  sessions_both lines [] ys p q = q
+  sessions_both lines (x ∷ xs) ys (one, p) q = (one, sessions_both lines xs ys p q)
+
+  both_flat : {X : Type 0} (f : owes.Outcome → List X) (g : Outcome → List X) (xs ys : List owes.Outcome) (outcomes more : List Outcome)
+      → flat_map f xs ≡ flat_map g outcomes → flat_map f ys ≡ flat_map g more → flat_map f (xs ++ ys) ≡ flat_map g (outcomes ++ more)
+  both_flat f g xs ys outcomes more p q = flat_map-append f xs ys ∙ rw (p, q) refl ∙ sym (flat_map-append g outcomes more)
+
+  pub joined : (outcomes more : List Outcome) (between left : List Awaited) (begun : List owes.BegunCall) (w : machine.World) (mid new : World D)
+      → (a : Mirrored on plan told outcomes between begun w mid) → Mirrored on plan told more left (begun_with begun a.outs) a.next new → Mirrored on plan told (outcomes ++ more) left begun w new
+  joined outcomes more between left begun w mid new a b = record {
+    outs = a.outs ++ b.outs;
+    next = b.next;
+    makes = makes_both a.outs b.outs begun w a.next b.next a.makes b.makes;
+    stands = b.stands;
+    asked = both_flat owes.asked_by_outcome asked_by_outcome a.outs b.outs outcomes more a.asked b.asked;
+    answered = both_flat owes.answered_by_outcome answered_by_outcome a.outs b.outs outcomes more a.answered b.answered;
+    within = λ one m. subst (Among (begun_of one)) (append_assoc begun (flat_map owes.begun_by_outcome a.outs) (flat_map owes.begun_by_outcome b.outs)
+        ∙ ap (λ (l : List owes.BegunCall). begun ++ l) (sym (flat_map-append owes.begun_by_outcome a.outs b.outs))) (b.within one m);
+    sessions = λ lines of. sessions_both lines a.outs b.outs
+        (a.sessions lines (λ outcome m. of outcome (among_front outcome outcomes more m)))
+        (b.sessions lines (λ outcome m. of outcome (among_behind outcome outcomes more m)));
+  }

@@ -1,0 +1,110 @@
+-- Steps that no session hears of: a call that is refused, a ticket that still waits, and what moves the cluster.
+use Rattle.std.proofs.Common.{◌≡◌, ⊎_elim, ◌⊎◌, inl, inr, ℕ, true, false, List, [], ◌∷◌, Option, Some, None, refl, sym, ap, ◌∙◌, subst}
+use Rattle.std.specs.Prelude.{⊤, All, Result, Ok, Err, slice_get}
+use Rattle.std.proofs.lemmas.List.Elements.{All-head, All-tail}
+use Rattle.mail_model.specs.Tape.{ClusterOrder}
+use Rattle.mail_model.specs.Tape.{ClusterOrder as order}
+use Rattle.object_model.specs.Letters.{Number}
+use Rattle.session_model.specs.Calls as model
+use Rattle.session_model.specs.Calls.{IsAnswerTo}
+use Rattle.call_tickets.specs.Seen.{answer_seen}
+use Rattle.call_tickets.specs.declared.answer.Answer.{Answer}
+use Rattle.call_tickets.specs.declared.answer.Ask.TheVariants as ask
+use Rattle.cluster_model.specs.Steps as machine
+use Rattle.cluster_owes.specs.Outcomes.{IsOther}
+use Rattle.cluster_world.specs.Seen.{step_seen, outcome_seen}
+use Rattle.cluster_world.specs.Ended.{IsEnded}
+use Rattle.cluster_world.specs.Outcomes.{StepMade, IsPost, IsPushOf, AreOne, AreStepsOf, IsRefusal, IsUntold}
+use Rattle.cluster_world.specs.declared.step.Step.{Step}
+use Rattle.cluster_world.specs.declared.step.Step.TheVariants as step
+use Rattle.cluster_world.specs.declared.step.Said.{Said}
+use Rattle.cluster_world.specs.declared.step.Said.TheVariants as said
+use Rattle.cluster_world.specs.declared.fault.StepFault.{StepFault}
+use Rattle.cluster_world.specs.declared.fault.StepFault.TheVariants as fault
+
+-- whatever comes of the step, no session hears of it; and it hands no message in
+abbrev pub IsQuietStep : Step → Type 0
+IsQuietStep step = ((outcome : machine.StepOutcome) → IsOther (step_seen step) outcome) × IsEnded step
+
+pub refused_begins : (node : ℕ) (call : machine.NodeCall) (fault : machine.StepFault) → IsOther (machine.Step.Begin node call) (machine.StepOutcome.Refused fault)
+refused_begins node (machine.NodeCall.Deliver mail) fault = tt
+refused_begins node (machine.NodeCall.Login user secret) fault = tt
+refused_begins node (machine.NodeCall.Fetch user id from most) fault = tt
+refused_begins node (machine.NodeCall.Strike user items) fault = tt
+refused_begins node (machine.NodeCall.Leave user) fault = tt
+
+short_begins : (node : ℕ) (call : machine.NodeCall) → IsOther (machine.Step.Begin node call) (machine.StepOutcome.NoMemory None)
+short_begins node (machine.NodeCall.Deliver mail) = tt
+short_begins node (machine.NodeCall.Login user secret) = tt
+short_begins node (machine.NodeCall.Fetch user id from most) = tt
+short_begins node (machine.NodeCall.Strike user items) = tt
+short_begins node (machine.NodeCall.Leave user) = tt
+
+-- a call is refused
+pub refusal_quiet : (node : ℕ) (call : machine.NodeCall) (why : StepFault) → IsRefusal why → IsOther (machine.Step.Begin node call) (outcome_seen (Err why))
+refusal_quiet node call fault.NoSuchNode is = refused_begins node call machine.StepFault.NoSuchNode
+refusal_quiet node call fault.NodeLost is = refused_begins node call machine.StepFault.NodeLost
+refusal_quiet node call fault.NodeDown is = refused_begins node call machine.StepFault.NodeDown
+refusal_quiet node call fault.NodeUp is = refused_begins node call machine.StepFault.NodeIsUp
+refusal_quiet node call fault.NoSuchLetter is = refused_begins node call machine.StepFault.NoSuchLetter
+refusal_quiet node call fault.NoSuchTicket is = refused_begins node call machine.StepFault.NoSuchTicket
+refusal_quiet node call fault.Worn is = refused_begins node call machine.StepFault.Worn
+refusal_quiet node call fault.NoRoom is = refused_begins node call machine.StepFault.NoRoom
+refusal_quiet node call (fault.NoMemory None) is = short_begins node call
+refusal_quiet node call (fault.NoMemory (Some failed)) is = absurd is
+
+-- an ask is refused
+refused_asks : (ticket : Number) (why : StepFault) → IsOther (machine.Step.AskFor ticket) (outcome_seen (Err why))
+refused_asks ticket fault.NoSuchNode = tt
+refused_asks ticket fault.NodeLost = tt
+refused_asks ticket fault.NodeDown = tt
+refused_asks ticket fault.NodeUp = tt
+refused_asks ticket fault.NoSuchLetter = tt
+refused_asks ticket fault.NoSuchTicket = tt
+refused_asks ticket fault.Worn = tt
+refused_asks ticket fault.NoRoom = tt
+refused_asks ticket (fault.NoMemory down) = tt
+
+-- an answer that does not fit the call
+pub record AnswersAmiss (asked : model.Call) (result : Result Said StepFault) : Type 0 where
+  pub own : Answer
+  pub is : result ≡ Ok (said.Asked (ask.Done own))
+  pub amiss : IsAnswerTo asked (answer_seen own) → ⊥
+
+-- an ask tells the session nothing, or gives an answer that does not fit
+pub untold_quiet : (asked : model.Call) (ticket : Number) (result : Result Said StepFault) → IsUntold asked result → IsOther (machine.Step.AskFor ticket) (outcome_seen result) ⊎ AnswersAmiss asked result
+untold_quiet asked ticket (Ok (said.Begun number stirs)) is = inl tt
+untold_quiet asked ticket (Ok said.Noted) is = inl tt
+untold_quiet asked ticket (Ok (said.Asked (ask.Pending got wanted))) is = absurd is
+untold_quiet asked ticket (Ok (said.Asked (ask.Done own))) is = inr (record { own = own; is = refl; amiss = is })
+untold_quiet asked ticket (Ok said.Heard) is = inl tt
+untold_quiet asked ticket (Ok (said.Thrown why)) is = inl tt
+untold_quiet asked ticket (Ok (said.Sent letters)) is = inl tt
+untold_quiet asked ticket (Ok (said.Widened did)) is = inl tt
+untold_quiet asked ticket (Ok (said.NodeUp boot)) is = inl tt
+untold_quiet asked ticket (Ok said.Done) is = inl tt
+untold_quiet asked ticket (Ok (said.Faulted node)) is = inl tt
+untold_quiet asked ticket (Err why) is = inl (refused_asks ticket why)
+
+-- the steps of a run line
+abbrev pub AreQuiet : List StepMade → Type 0
+AreQuiet [] = ⊤
+AreQuiet (one ∷ more) = IsQuietStep one.step × AreQuiet more
+
+one_quiet : (made : Step) (steps : List StepMade) → IsQuietStep made → AreOne made steps → AreQuiet steps
+one_quiet made steps quiet (result, are) = subst AreQuiet (sym are) (quiet, tt)
+
+all_quiet : (P : StepMade → Type 0) → ((one : StepMade) → P one → IsQuietStep one.step) → (steps : List StepMade) → All P steps → AreQuiet steps
+all_quiet P each [] all = tt
+all_quiet P each (one ∷ more) all = (each one (All-head P one more all), all_quiet P each more (All-tail P one more all))
+
+pub moves_quiet : (order : ClusterOrder) (steps : List StepMade) → AreStepsOf order steps → AreQuiet steps
+moves_quiet (order.Crash node) steps are = one_quiet (step.Crash node) steps (λ outcome. tt, tt) are
+moves_quiet (order.Start node) steps are = one_quiet (step.Start node) steps (λ outcome. tt, tt) are
+moves_quiet (order.Lose node) steps are = one_quiet (step.Lose node) steps (λ outcome. tt, tt) are
+moves_quiet (order.Post letter) steps are = one_quiet (step.Post letter false) steps (λ outcome. tt, tt) are
+moves_quiet (order.Again letter) steps are = one_quiet (step.Post letter true) steps (λ outcome. tt, tt) are
+moves_quiet (order.Drop letter) steps are = one_quiet (step.Drop letter) steps (λ outcome. tt, tt) are
+moves_quiet order.Flow steps are = all_quiet IsPost (λ one is. subst IsQuietStep (sym is.1) (λ outcome. tt, tt)) steps are
+moves_quiet (order.Push node) steps are = all_quiet (IsPushOf node) (λ one is. subst IsQuietStep (sym is.1) (λ outcome. tt, tt)) steps are
+moves_quiet (order.Widen at user id to) steps are = one_quiet (step.Widen at user id to) steps (λ outcome. tt, tt) are

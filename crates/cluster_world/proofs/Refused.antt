@@ -1,0 +1,135 @@
+-- A step that is refused for the sake of a node changes nothing.
+use Rattle.std.proofs.Common.{◌≡◌, inl, ℕ, Bool, true, false, length, List, Option, Some, None, Err, refl, sym, ap, ◌∙◌, subst, if◌then◌else◌}
+use Rattle.std.specs.Prelude.{⊤}
+use Rattle.std.specs.List.{list_all}
+use Rattle.session_model.specs.Events.{NodeLife, NodeLife as life}
+use Rattle.cluster_model.specs.World as machine
+use Rattle.cluster_model.specs.Steps as steps
+use Rattle.cluster_model.specs.Steps.{nodes_named, actor_of, is_node}
+use Rattle.cluster_model.specs.Makes.{MakesStep}
+use Rattle.node_store.specs.Disks.{View}
+use Rattle.cluster_world.specs.Seen.{step_seen, fault_seen}
+use Rattle.cluster_world.specs.Turns.{life_refusal, actor_refusal, node_refusal}
+use Rattle.cluster_world.specs.Worlds.{State, life_in, tells_in, Stands}
+use Rattle.cluster_world.specs.Steps.{StepDid}
+use Rattle.cluster_world.specs.declared.step.Step.{Step}
+use Rattle.cluster_world.specs.declared.step.Step.TheVariants.{Begin, Ask, GiveUp, Post, Drop, Push, Widen, Crash, Start, Lose}
+use Rattle.cluster_world.specs.declared.fault.StepFault.{StepFault}
+use Rattle.cluster_world.specs.declared.fault.StepFault.TheVariants as fault
+use Rattle.cluster_world.proofs.Still.{some_same}
+use Rattle.cluster_world.proofs.Same.{same_stops, same_told, same_quiet}
+use Rattle.cluster_world.proofs.Refusals.{named_fault}
+
+-- it is a fault for the sake of a node
+abbrev pub IsOfNode : StepFault → Type 0
+IsOfNode fault.NoSuchNode = ⊤
+IsOfNode fault.NodeLost = ⊤
+IsOfNode fault.NodeDown = ⊤
+IsOfNode fault.NodeUp = ⊤
+IsOfNode other = ⊥
+
+abbrev OfNode : Option StepFault → Type 0
+OfNode None = ⊤
+OfNode (Some f) = IsOfNode f
+
+life_of_node : (step : Step) (one : NodeLife) → OfNode (life_refusal step one)
+life_of_node step life.Lost = tt
+life_of_node (Begin node call) (life.Up boot) = tt
+life_of_node (Ask ticket) (life.Up boot) = tt
+life_of_node (GiveUp ticket) (life.Up boot) = tt
+life_of_node (Post letter keep) (life.Up boot) = tt
+life_of_node (Drop letter) (life.Up boot) = tt
+life_of_node (Push from to) (life.Up boot) = tt
+life_of_node (Widen at user id to) (life.Up boot) = tt
+life_of_node (Crash node) (life.Up boot) = tt
+life_of_node (Start node) (life.Up boot) = tt
+life_of_node (Lose node) (life.Up boot) = tt
+life_of_node (Begin node call) life.Down = tt
+life_of_node (Ask ticket) life.Down = tt
+life_of_node (GiveUp ticket) life.Down = tt
+life_of_node (Post letter keep) life.Down = tt
+life_of_node (Drop letter) life.Down = tt
+life_of_node (Push from to) life.Down = tt
+life_of_node (Widen at user id to) life.Down = tt
+life_of_node (Crash node) life.Down = tt
+life_of_node (Start node) life.Down = tt
+life_of_node (Lose node) life.Down = tt
+
+actor_of_node : (step : Step) (lives : ℕ → NodeLife) (actor : Option ℕ) → OfNode (actor_refusal step lives actor)
+actor_of_node step lives None = tt
+actor_of_node step lives (Some n) = life_of_node step (lives n)
+
+refusal_of_node : (plan : _) (lives : ℕ → NodeLife) (step : Step) → OfNode (node_refusal plan lives step)
+refusal_of_node plan lives step = by (list_all (is_node plan) (nodes_named (step_seen step)))
+  where
+    by : (b : Bool) → OfNode (if b then actor_refusal step lives (actor_of (step_seen step)) else Some fault.NoSuchNode)
+    by true = actor_of_node step lives (actor_of (step_seen step))
+    by false = tt
+
+module _ {D : Type 0} (on : View D) (state : State D) (even : length state.disks ≡ length state.lives) (within : length state.lives ≡ state.plan.nodes) (step : Step) where
+  made_refused : (f : StepFault) (w : machine.World) → Stands on state w → node_refusal state.plan (life_in state) step ≡ Some f → MakesStep state.plan (tells_in on.seen state) w (step_seen step) (fault_seen f) w
+  made_refused f w s e =
+      let (g, is, first) = named_fault on state.plan state w even s within step _ f e in
+      subst (λ o. MakesStep state.plan (tells_in on.seen state) w (step_seen step) o w) (sym is) (inl first, refl)
+
+  did_so : (f : StepFault) → IsOfNode f → node_refusal state.plan (life_in state) step ≡ Some f → StepDid on (Err f) step state state
+  did_so fault.NoSuchNode of e = record {
+    plan = refl;
+    handed = refl;
+    lighter = tt;
+    refused = sym e;
+    kind = tt;
+    falls = tt;
+    lives = λ n. refl;
+    told = same_told on state;
+    quiet = same_quiet on state;
+    leads = λ known ended w s. record { next = w; stands = s; made = made_refused fault.NoSuchNode w s e; stops = same_stops on state w s };
+    cause = λ w s. tt;
+  }
+  did_so fault.NodeLost of e = record {
+    plan = refl;
+    handed = refl;
+    lighter = tt;
+    refused = sym e;
+    kind = tt;
+    falls = tt;
+    lives = λ n. refl;
+    told = same_told on state;
+    quiet = same_quiet on state;
+    leads = λ known ended w s. record { next = w; stands = s; made = made_refused fault.NodeLost w s e; stops = same_stops on state w s };
+    cause = λ w s. tt;
+  }
+  did_so fault.NodeDown of e = record {
+    plan = refl;
+    handed = refl;
+    lighter = tt;
+    refused = sym e;
+    kind = tt;
+    falls = tt;
+    lives = λ n. refl;
+    told = same_told on state;
+    quiet = same_quiet on state;
+    leads = λ known ended w s. record { next = w; stands = s; made = made_refused fault.NodeDown w s e; stops = same_stops on state w s };
+    cause = λ w s. tt;
+  }
+  did_so fault.NodeUp of e = record {
+    plan = refl;
+    handed = refl;
+    lighter = tt;
+    refused = sym e;
+    kind = tt;
+    falls = tt;
+    lives = λ n. refl;
+    told = same_told on state;
+    quiet = same_quiet on state;
+    leads = λ known ended w s. record { next = w; stands = s; made = made_refused fault.NodeUp w s e; stops = same_stops on state w s };
+    cause = λ w s. tt;
+  }
+  did_so fault.NoSuchLetter of e = absurd of
+  did_so fault.NoSuchTicket of e = absurd of
+  did_so fault.Worn of e = absurd of
+  did_so fault.NoRoom of e = absurd of
+  did_so (fault.NoMemory down) of e = absurd of
+
+  pub refused_did : (f : StepFault) → node_refusal state.plan (life_in state) step ≡ Some f → StepDid on (Err f) step state state
+  refused_did f e = did_so f (subst OfNode e (refusal_of_node state.plan (life_in state) step)) e

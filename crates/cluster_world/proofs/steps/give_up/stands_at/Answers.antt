@@ -1,0 +1,13 @@
+use Rattle.std.proofs.Common.{◌≡◌, ◌∙◌, ap, is_some, subst}
+use Rattle.node_core.specs.Standing.{ticket_standing}
+use Rattle.cluster_world.proofs.Given.{kind_tells}
+use Rattle.cluster_world.proofs.steps.give_up.stands_at.Goals as goal
+
+pub returns-in-Up : goal.returns-in-Up
+returns-in-Up c =
+    let node = c.in-Up.node in
+    record {
+      node = node;
+      up = c.in-Up.is;
+      is = c.is_some.ensures ∙ kind_tells c.kind.result (ticket_standing node c.ticket_of.result) c.kind.ensures ∙ ap (λ t. is_some (ticket_standing node t)) c.ticket_of.ensures;
+    }

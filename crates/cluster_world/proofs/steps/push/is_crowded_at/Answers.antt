@@ -1,0 +1,10 @@
+use Rattle.std.proofs.Common.{Bool, Result, Ok, Err}
+use Rattle.std.specs.Prelude.{IfOk}
+use Rattle.cluster_world.specs.Pushes.{IsCrowdedAt}
+use Rattle.cluster_world.specs.declared.life.Life.{Life}
+use Rattle.cluster_world.specs.declared.life.Life.TheVariants.{Up}
+use Rattle.cluster_world.proofs.Pushing.{crowded_at}
+use Rattle.cluster_world.proofs.steps.push.is_crowded_at.Goals as goal
+
+pub returns-in-Up : goal.returns-in-Up
+returns-in-Up c = crowded_at c.args.to c.args.most c.args.room c.args.life.now c.in-Up.node c.in-Up.is c.is_crowded.result c.is_crowded.ensures

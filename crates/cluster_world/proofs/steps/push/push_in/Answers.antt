@@ -1,0 +1,41 @@
+use Rattle.std.proofs.Common.{◌≡◌, ℕ, List, [], ◌∷◌, Result, refl}
+use Rattle.std.specs.List.{list_all}
+use Rattle.cluster_model.specs.Steps.{is_node}
+use Rattle.node_store.specs.Disks.{view_of}
+use Rattle.node_core.specs.Pushing.{PushesOut}
+use Rattle.node_core.specs.declared.fault.NodeFault.{NodeFault}
+use Rattle.node_core.specs.declared.outbox.Outbox.{Outbox}
+use Rattle.cluster_world.specs.Worlds.{life_among}
+use Rattle.cluster_world.specs.Turns.{life_refusal}
+use Rattle.cluster_world.specs.Pushes.{PushesAt}
+use Rattle.cluster_world.specs.declared.step.Step.TheVariants as step
+use Rattle.cluster_world.proofs.Changing.{changed_at}
+use Rattle.cluster_world.proofs.Refusing.{fit_of}
+use Rattle.cluster_world.proofs.AfterWidening.{turns_at, life_at, disk_at, plan_node_at, up_there}
+use Rattle.cluster_world.proofs.steps.push.push_in.Goals as goal
+
+pub push_at-requires : goal.push_at-requires
+push_at-requires g c =
+    let nodes = c.args.nodes.now in
+    let s = step.Push c.args.from c.args.to in
+    let f = fit_of (list_all (is_node nodes.plan) (c.args.from ∷ c.args.to ∷ [])) (life_refusal s (life_among nodes c.args.from)) c.requires.fit in
+    record { up = up_there g.D.Disk.seen s c.args.from c.args.to c.place_of-place.result nodes f.0 f.1 tt c.requires.works c.place_of-place.ensures _ _ _ _ c.index_mut.ensures.value c.index_mut-2.ensures.value }
+
+pub returns : goal.returns
+returns g c =
+    let nodes = c.args.nodes.now in
+    let on = view_of g.D.Disk.seen g.D.Disk.faults g.D.Disk.clock in
+    let s = step.Push c.args.from c.args.to in
+    let f = fit_of (list_all (is_node nodes.plan) (c.args.from ∷ c.args.to ∷ [])) (life_refusal s (life_among nodes c.args.from)) c.requires.fit in
+    let k = c.place_of-place.result in
+    let was = c.index_mut.ensures.value in
+    let held = c.index_mut-2.ensures.value in
+    changed_at c.args.from k (PushesAt on g.D.Disk.settled c.args.from c.args.to c.args.most c.args.room c.push_at.result) nodes _ c.index_mut.result.now c.push_at.new.life c.index_mut-2.result.now c.push_at.new.disk
+    c.place_of-place.ensures
+    (life_at g.D.Disk.seen s c.args.from c.args.to k nodes f.0 f.1 tt c.requires.works c.place_of-place.ensures _ _ _ _ was held)
+    (disk_at g.D.Disk.seen s c.args.from c.args.to k nodes f.0 f.1 tt c.requires.works c.place_of-place.ensures _ _ _ _ was held)
+    refl refl refl (
+      turns_at (λ own (r : Result Outbox NodeFault) old before new after. PushesOut on own c.args.to c.args.most c.args.room old before new after r) nodes.plan c.args.from c.push_at.result _ _ _ _
+          (λ node up. (plan_node_at g.D.Disk.seen s c.args.from c.args.to k nodes f.0 f.1 tt c.requires.works c.place_of-place.ensures _ _ _ _ was held node up).0) c.push_at.ensures.turns,
+      c.push_at.ensures.settled,
+    )

@@ -1,0 +1,11 @@
+use Rattle.std.proofs.Common.{refl}
+use Rattle.cluster_world.proofs.working.push_at.Goals as goal
+
+pub returns-clause-turns : goal.returns-clause-turns
+returns-clause-turns g c = record {
+  old = c.in-Up.node;
+  new = c.push-done.new.self;
+  was = c.in-Up.is;
+  did = c.push-done.ensures.pushes;
+  is = c.settle.ensures _ refl;
+}

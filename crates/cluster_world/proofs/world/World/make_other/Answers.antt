@@ -1,0 +1,55 @@
+use Rattle.std.proofs.Common.{◌≡◌, Err, Ok, refl, sym, ◌∙◌, subst}
+use Rattle.node_store.specs.Disks.{view_of}
+use Rattle.cluster_world.specs.Worlds.{state_of, state_with}
+use Rattle.cluster_world.specs.Steps.{StepDid}
+use Rattle.cluster_world.specs.declared.step.Said.TheVariants.{Done}
+use Rattle.cluster_world.proofs.Same.{none_done}
+use Rattle.cluster_world.proofs.world.World.make_other.Goals as goal
+
+pub returns-in-Ask-clause-did : goal.returns-in-Ask-clause-did
+returns-in-Ask-clause-did g c =
+    subst (λ s. StepDid (view_of g.D.Disk.seen g.D.Disk.faults g.D.Disk.clock) c.ask_for.result s (state_of c.args.self.now) (state_with c.ask_for.new.nodes c.args.self.now.flying c.args.self.now.seconds c.ask_for.new.book))
+    (sym c.in-Ask.is) (c.ask_for.ensures.did c.args.self.now.flying c.args.self.now.seconds)
+
+pub returns-in-GiveUp-clause-did : goal.returns-in-GiveUp-clause-did
+returns-in-GiveUp-clause-did g c =
+    subst (λ s. StepDid (view_of g.D.Disk.seen g.D.Disk.faults g.D.Disk.clock) c.give_up_call.result s (state_of c.args.self.now) (state_with c.give_up_call.new.nodes c.args.self.now.flying c.args.self.now.seconds c.args.self.now.book))
+    (sym c.in-GiveUp.is) (c.give_up_call.ensures.did c.args.self.now.seconds c.args.self.now.book)
+
+pub returns-in-Start-clause-did : goal.returns-in-Start-clause-did
+returns-in-Start-clause-did g c =
+    subst (λ s. StepDid (view_of g.D.Disk.seen g.D.Disk.faults g.D.Disk.clock) c.start_node.result s (state_of c.args.self.now) (state_with c.start_node.new.nodes c.args.self.now.flying c.args.self.now.seconds c.start_node.new.book))
+    (sym c.in-Start.is) (c.start_node.ensures.did c.args.self.now.seconds)
+
+pub returns-in-Drop-clause-did : goal.returns-in-Drop-clause-did
+returns-in-Drop-clause-did g c =
+    subst (λ s. StepDid (view_of g.D.Disk.seen g.D.Disk.faults g.D.Disk.clock) c.drop_letter.result s (state_of c.args.self.now) (state_with c.drop_letter.new.nodes c.drop_letter.new.flying c.args.self.now.seconds c.args.self.now.book))
+    (sym c.in-Drop.is) (c.drop_letter.ensures.did c.args.self.now.seconds c.args.self.now.book)
+
+pub returns-in-Crash-clause-did : goal.returns-in-Crash-clause-did
+returns-in-Crash-clause-did g c =
+    subst (λ s. StepDid (view_of g.D.Disk.seen g.D.Disk.faults g.D.Disk.clock) (Ok Done) s (state_of c.args.self.now) (state_with c.crash_node.new.nodes c.args.self.now.flying c.args.self.now.seconds c.crash_node.new.book))
+    (sym c.in-Crash.is) (c.crash_node.ensures.did c.args.self.now.flying c.args.self.now.seconds)
+
+pub returns-in-Lose-clause-did : goal.returns-in-Lose-clause-did
+returns-in-Lose-clause-did g c =
+    subst (λ s. StepDid (view_of g.D.Disk.seen g.D.Disk.faults g.D.Disk.clock) (Ok Done) s (state_of c.args.self.now) (state_with c.lose_node.new.nodes c.args.self.now.flying c.args.self.now.seconds c.lose_node.new.book))
+    (sym c.in-Lose.is) (c.lose_node.ensures.did c.args.self.now.flying c.args.self.now.seconds)
+
+pub returns-in-Begin-clause-did : goal.returns-in-Begin-clause-did
+returns-in-Begin-clause-did g c = none_done _ _ c.args.step.now
+
+pub returns-in-Post-clause-did : goal.returns-in-Post-clause-did
+returns-in-Post-clause-did g c =
+    subst (λ s. StepDid (view_of g.D.Disk.seen g.D.Disk.faults g.D.Disk.clock) c.post_letter.result s (state_of c.args.self.now) (state_with c.post_letter.new.nodes c.post_letter.new.flying c.args.self.now.seconds c.post_letter.new.book))
+    (sym c.in-Post.is) (c.post_letter.ensures.did c.args.self.now.seconds)
+
+pub returns-in-Push-clause-did : goal.returns-in-Push-clause-did
+returns-in-Push-clause-did g c =
+    subst (λ s. StepDid (view_of g.D.Disk.seen g.D.Disk.faults g.D.Disk.clock) c.push_states.result s (state_of c.args.self.now) (state_with c.push_states.new.nodes c.push_states.new.flying c.args.self.now.seconds c.push_states.new.book))
+    (sym c.in-Push.is) (c.push_states.ensures.did c.args.self.now.seconds)
+
+pub returns-in-Widen-clause-did : goal.returns-in-Widen-clause-did
+returns-in-Widen-clause-did g c =
+    subst (λ s. StepDid (view_of g.D.Disk.seen g.D.Disk.faults g.D.Disk.clock) c.widen_copy.result s (state_of c.args.self.now) (state_with c.widen_copy.new.nodes c.args.self.now.flying c.args.self.now.seconds c.widen_copy.new.book))
+    (sym c.in-Widen.is) (c.widen_copy.ensures.did c.args.self.now.seconds)

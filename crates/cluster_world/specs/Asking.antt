@@ -1,0 +1,71 @@
+-- What is known of a ticket that is asked at a node.
+use Rattle.std.specs.Prelude.{◌≡◌, Bool, true, false, List, [], Option, is_some}
+use Rattle.object_model.specs.Letters.{Number}
+use Rattle.cluster_model.specs.Cluster as plain
+use Rattle.cluster_model.specs.Progress.{Ask, wants_entries}
+use Rattle.cluster_model.specs.Progress.Ask.{Pending, Done}
+use Rattle.cluster_model.specs.Progress.NodeAnswer.{Stored, Dropped, Read, Failed}
+use Rattle.call_tickets.specs.declared.answer.Ask as code
+use Rattle.node_tickets.specs.Standing.{asks_seen, asks_at, asked_out, done_at, wants_at, ticket_taken_out}
+use Rattle.node_core.specs.Nodes.{node_seen, IsWhole, ChangesTickets}
+use Rattle.node_core.specs.Standing.{ticket_standing}
+use Rattle.node_core.specs.declared.node.Node.{Node}
+use Rattle.world_book.specs.declared.entry.Entry.{Entry}
+use Rattle.cluster_world.specs.Books.{entries_seen}
+use Rattle.cluster_world.specs.declared.life.Life.{Life}
+use Rattle.cluster_world.specs.declared.life.Life.TheVariants.{Up, Down, Lost}
+
+-- a node that is up, with its tickets as they have to be
+pub record IsUpWhole (life : Life) : Type 0 where
+  pub node : Node
+  pub up : life ≡ Up node
+  pub whole : IsWhole node
+
+-- the answer says that what was wanted is confirmed
+abbrev pub confirms : Ask → Bool
+confirms (Pending got wanted) = false
+confirms (Done (Stored id confirmers)) = true
+confirms (Done (Dropped confirmers)) = true
+confirms (Done (Read found)) = false
+confirms (Done (Failed mishaps)) = false
+
+-- the entries of what the ticket wants, where it is done
+abbrev pub AreForTicket : Number → Life → List Entry → Type 0
+AreForTicket ticket (Up node) entries =
+    done_at node.shape.confirm (ticket_standing node ticket) ≡ true → entries_seen entries ≡ wants_entries (wants_at (ticket_standing node ticket))
+AreForTicket ticket Down entries = entries ≡ []
+AreForTicket ticket Lost entries = entries ≡ []
+
+-- the node was asked
+pub record IsAsked (ticket : Number) (result : Option code.Ask) (life life' : Life) : Type 0 where
+  pub old : Node
+  pub new : Node
+  pub was : life ≡ Up old
+  pub is : life' ≡ Up new
+  pub answer : asks_seen result ≡ asks_at old.shape.confirm (ticket_standing old ticket)
+  pub tickets : ChangesTickets (asked_out old.shape.confirm ticket.seq (ticket_standing old ticket) (node_seen old).tickets) old new
+
+-- and its disk was not touched
+abbrev pub IsAskedOn : {D : Type 0} → Number → Option code.Ask → Life → D → Life → D → Type 0
+IsAskedOn ticket result life disk life' disk' = IsAsked ticket result life life' × (disk' ≡ disk)
+
+-- A node that is up has these tickets in place of its own, and nothing else is changed.
+pub record IsRetold (left_of : Node → plain.Tickets) (life life' : Life) : Type 0 where
+  pub old : Node
+  pub new : Node
+  pub was : life ≡ Up old
+  pub is : life' ≡ Up new
+  pub tickets : ChangesTickets (left_of old) old new
+
+abbrev pub IsRetoldOn : {D : Type 0} → (Node → plain.Tickets) → Life → D → Life → D → Type 0
+IsRetoldOn left_of life disk life' disk' = IsRetold left_of life life' × (disk' ≡ disk)
+
+-- what is left of its tickets once one is given up, where it stands
+abbrev pub left_without : Number → Node → plain.Tickets
+left_without ticket node = ticket_taken_out ticket.seq (ticket_standing node ticket) (node_seen node).tickets
+
+-- whether a ticket stands at a node that is up
+pub record StandsAt (ticket : Number) (stands : Bool) (life : Life) : Type 0 where
+  pub node : Node
+  pub up : life ≡ Up node
+  pub is : stands ≡ is_some (ticket_standing node ticket)

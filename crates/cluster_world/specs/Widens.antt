@@ -1,0 +1,43 @@
+-- A copy that gets a target more at a node of the world.
+use Rattle.std.specs.Prelude.{ℕ, List, [], ◌∷◌, Bool, true, false, Some, None, Result, Ok, Err}
+use Rattle.mail_model.specs.Identity.{Key}
+use Rattle.node_store.specs.Disks.{View}
+use Rattle.node_core.specs.Pushing.{WidensCopy}
+use Rattle.node_core.specs.Works.{LeavesUp}
+use Rattle.node_core.specs.declared.fault.NodeFault.{NodeFault}
+use Rattle.node_core.specs.declared.fault.NodeFault.TheVariants.{Disk, Worn, NoMemory}
+use Rattle.world_book.specs.declared.entry.Entry.{Entry}
+use Rattle.world_book.specs.declared.entry.Entry.TheVariants as entry
+use Rattle.cluster_world.specs.Turning.{TurnsBy}
+use Rattle.cluster_world.specs.declared.life.Life.{Life}
+use Rattle.cluster_world.specs.declared.step.Said.{Said}
+use Rattle.cluster_world.specs.declared.step.Said.TheVariants.{Widened, Faulted}
+use Rattle.cluster_world.specs.declared.fault.StepFault.{StepFault}
+use Rattle.cluster_world.specs.declared.fault.StepFault.TheVariants as fault
+
+-- what is said where node n did not do its work
+abbrev pub said_of_fault : ℕ → NodeFault → Result Said StepFault
+said_of_fault n Disk = Ok (Faulted n)
+said_of_fault n Worn = Err fault.Worn
+said_of_fault n (NoMemory true) = Err (fault.NoMemory (Some n))
+said_of_fault n (NoMemory false) = Err (fault.NoMemory None)
+
+-- and what the book has of it: that the node went down, where it did
+abbrev pub entries_of_fault : ℕ → NodeFault → List Entry
+entries_of_fault n Disk = entry.Down n ∷ []
+entries_of_fault n Worn = []
+entries_of_fault n (NoMemory true) = entry.Down n ∷ []
+entries_of_fault n (NoMemory false) = []
+
+abbrev pub said_of_widening : ℕ → Result Bool NodeFault → Result Said StepFault
+said_of_widening n (Ok did) = Ok (Widened did)
+said_of_widening n (Err why) = said_of_fault n why
+
+abbrev pub entries_of_widening : ℕ → Result Bool NodeFault → List Entry
+entries_of_widening n (Ok did) = []
+entries_of_widening n (Err why) = entries_of_fault n why
+
+-- node n, which is up, gave the copy the target
+abbrev pub WidensAt : {D : Type 0} → View D → (D → Type 0) → ℕ → ℕ → Key → Result Bool NodeFault → Life → D → Life → D → Type 0
+WidensAt on is_settled n to key result life disk life' disk' =
+    TurnsBy (λ result old before new after. WidensCopy on n to key old before new after result) result life disk life' disk' × (LeavesUp result → is_settled disk → is_settled disk')

@@ -1,0 +1,248 @@
+//! The letters in flight, in order of number.
+ghost use Rattle.std.specs.Prelude.{nat_le, ◌≡◌, ◌+◌, ◌≤◌, ◌<◌, ◌++◌, ◌∷◌, [], IfOk, IfSome, OnErr, MatchOption, None, Some, length, ◌^◌, vec_len, vec_capacity};
+ghost use Rattle.std.specs.Option.{option_copied};
+ghost use Rattle.std.specs.VecDeque.{deque_len, deque_capacity};
+ghost use Rattle.cluster_model.specs.Room.{fits, octets_flying, octets_of};
+ghost use Rattle.cluster_model.specs.Steps.{letter_at, letters_end};
+ghost use Rattle.cluster_model.specs.Plain.{without_letter};
+ghost use Rattle.node_core.specs.Spelling.{CanBeTaken, AllCanBeTaken};
+ghost use Rattle.cluster_world.specs.Flights.{AreRising, IsCounted, put_one, put_all, put_down, left_without, taken_out, HasAt, first_number};
+
+use crate::flight::{Flight, octets_of};
+use mail_base::Letter;
+use std::alloc::{AllocError, Global};
+use std::collections::VecDeque;
+use std::marker::Model;
+
+/// How many letters may be in flight.
+const MOST_LETTERS: usize = 65_536;
+/// How many octets they may have together.
+const MOST_OCTETS: u128 = 536_870_912;
+
+/// The letters in flight, in order of number. A contract sees their list and the number of the last letter that was sent.
+#[derive(Drop)]
+pub(crate) struct Flying {
+    flights: VecDeque<Flight>,
+    // the octets of all of them
+    octets: u64,
+    sent: u64,
+}
+
+impl Model for Flying {
+    ghost use Rattle.cluster_world.specs.Flights.{InFlight, IsCounted};
+
+    ghost Value = { InFlight };
+
+    ghost view = { λ f. record { flights = f.flights.items; sent = f.sent } };
+
+    ghost invariant = { λ f. IsCounted f.octets f.sent f.flights.items };
+}
+
+/// Whether no letter is sent any more once this was the last number.
+pub(crate) fn is_worn(sent: u64) -> bool
+    ensures { result ≡ nat_le letters_end sent }
+{
+    sent >= 18_446_744_069_414_584_320
+}
+
+/// Where the letter of this number is.
+fn place_in(flights: &VecDeque<Flight>, number: u64) -> Option<usize>
+    requires rising { AreRising flights.now.items }
+    ensures place { MatchOption result (letter_at number flights.now.items ≡ None) (λ k. HasAt flights.now.items number k) }
+{
+    flights
+        .binary_search_by_key(&number, |flight| flight.number())
+        .ok()
+}
+
+/// Whether a letter finds room beside so many letters of so many octets.
+fn finds_room(letters: usize, octets: u64, letter: &Letter) -> bool
+    ensures { result ≡ fits letters octets (octets_of letter.now) }
+{
+    letters < MOST_LETTERS && u128::from(octets) + octets_of(letter) <= MOST_OCTETS
+}
+
+/// Takes out the letter of this number, if it is in flight, and says how many octets it had.
+fn take_out(flights: &mut VecDeque<Flight>, number: u64) -> u64
+    requires rising { AreRising flights.old.items }
+    requires few { octets_flying flights.old.items < 2 ^ 30 }
+    ensures items { flights.new.items ≡ without_letter number flights.old.items }
+    ensures octets { result + octets_flying flights.new.items ≡ octets_flying flights.old.items }
+    ensures len { deque_len flights.new ≤ deque_len flights.old }
+    ensures capacity { deque_capacity flights.new ≡ deque_capacity flights.old }
+{
+    let Some(place) = place_in(flights, number) else {
+        return 0;
+    };
+    let Some(flight) = flights.remove(place) else {
+        return 0;
+    };
+    octets_of(flight.letter()) as u64
+}
+
+/// The same of a letter that may be named.
+fn take_out_named(flights: &mut VecDeque<Flight>, posted: Option<u64>) -> u64
+    requires rising { AreRising flights.old.items }
+    requires few { octets_flying flights.old.items < 2 ^ 30 }
+    ensures items { flights.new.items ≡ left_without posted flights.old.items }
+    ensures octets { result + octets_flying flights.new.items ≡ octets_flying flights.old.items }
+    ensures len { deque_len flights.new ≤ deque_len flights.old }
+    ensures capacity { deque_capacity flights.new ≡ deque_capacity flights.old }
+{
+    match posted {
+        Some(number) => take_out(flights, number),
+        None => 0,
+    }
+}
+
+/// Puts a letter behind the others, into room that was made before.
+fn push(flights: &mut VecDeque<Flight>, flight: Flight)
+    requires { deque_len flights.old < deque_capacity flights.old }
+    ensures items { flights.new.items ≡ flights.old.items ++ flight ∷ [] }
+    ensures len { deque_len flights.new ≡ deque_len flights.old + 1 }
+    ensures capacity { deque_capacity flights.new ≡ deque_capacity flights.old }
+{
+    let _ = flights.push_back(flight);
+}
+
+/// Puts a letter in flight under the next number, or among those that are left where it finds no room. There is room in
+/// memory for both.
+fn put_one(
+    flights: &mut VecDeque<Flight>,
+    octets: &mut u64,
+    sent: &mut u64,
+    letter: Letter,
+    left: &mut Vec<Letter>,
+)
+    requires counted { IsCounted octets.old sent.old flights.old.items }
+    requires numbers { sent.old + 1 < 2 ^ 64 }
+    requires room { deque_len flights.old < deque_capacity flights.old }
+    requires spare { vec_len left.old < vec_capacity left.old }
+    requires heard { CanBeTaken letter.body }
+    ensures counted { IsCounted octets.new sent.new flights.new.items }
+    ensures put { (record { flying = record { flights = flights.new.items; sent = sent.new }; left = left.new.items }) ≡ put_one letter (record { flying = record { flights = flights.old.items; sent = sent.old }; left = left.old.items }) }
+    ensures len { deque_len flights.new ≤ deque_len flights.old + 1 }
+    ensures capacity { deque_capacity flights.new ≡ deque_capacity flights.old }
+    ensures left_len { vec_len left.new ≤ vec_len left.old + 1 }
+    ensures left_capacity { vec_capacity left.new ≡ vec_capacity left.old }
+    ensures number { sent.new ≤ sent.old + 1 }
+{
+    if finds_room(flights.len(), *octets, &letter) {
+        *octets += octets_of(&letter) as u64;
+        *sent += 1;
+        push(flights, Flight::new(*sent, letter));
+    } else {
+        left.push_reserved(letter);
+    }
+}
+
+/// Puts letters in flight, one by one. There is room in memory for each.
+fn put_all(
+    flights: &mut VecDeque<Flight>,
+    octets: &mut u64,
+    sent: &mut u64,
+    letters: Vec<Letter>,
+    left: &mut Vec<Letter>,
+)
+    requires counted { IsCounted octets.old sent.old flights.old.items }
+    requires numbers { sent.old + length letters.items < 2 ^ 64 }
+    requires room { deque_len flights.old + length letters.items ≤ deque_capacity flights.old }
+    requires spare { vec_len left.old + length letters.items ≤ vec_capacity left.old }
+    requires heard { AllCanBeTaken letters.items }
+    ensures counted { IsCounted octets.new sent.new flights.new.items }
+    ensures put { (record { flying = record { flights = flights.new.items; sent = sent.new }; left = left.new.items }) ≡ put_all letters.items (record { flying = record { flights = flights.old.items; sent = sent.old }; left = left.old.items }) }
+{
+    for letter in letters {
+        put_one(flights, octets, sent, letter, left);
+    }
+}
+
+impl Flying {
+    /// No letters, and none was sent. It takes no memory.
+    pub(crate) fn new(alloc: Global) -> Flying
+        ensures { result ≡ record { flights = []; sent = 0 } }
+    {
+        Flying {
+            flights: VecDeque::new(alloc),
+            octets: 0,
+            sent: 0,
+        }
+    }
+
+    /// The number of the last letter that was sent.
+    pub(crate) fn sent(&self) -> u64
+        ensures { result ≡ self.now.sent }
+    {
+        self.sent
+    }
+
+    /// How many letters are in flight.
+    pub(crate) fn count(&self) -> usize
+        ensures { result ≡ length self.now.flights }
+    {
+        self.flights.len()
+    }
+
+    /// How many octets they have together.
+    pub(crate) fn octets(&self) -> u64
+        ensures { result ≡ octets_flying self.now.flights }
+    {
+        self.octets
+    }
+
+    /// The lowest number of a letter in flight.
+    pub(crate) fn first(&self) -> Option<u64>
+        ensures { result ≡ first_number self.now.flights }
+    {
+        self.flights.front().map(|flight| flight.number())
+    }
+
+    /// The letter of this number, if it is in flight.
+    pub(crate) fn letter(&self, number: u64) -> Option<&Letter>
+        ensures is { option_copied result ≡ letter_at number self.now.flights }
+        ensures heard { IfSome result (λ letter. CanBeTaken letter.now.body) }
+    {
+        let place = place_in(&self.flights, number)?;
+        let flight = self.flights.get(place)?;
+        Some(flight.letter())
+    }
+
+    /// Takes out the letter of this number, which is in flight. It takes no memory.
+    pub(crate) fn take(&mut self, number: u64)
+        ensures { self.new ≡ taken_out (Some number) self.old }
+    {
+        self.octets -= take_out(&mut self.flights, number);
+    }
+
+    /// Takes a letter out of flight, if one is named, and puts these in flight: it gives those that find no room.
+    ///
+    /// # Errors
+    ///
+    /// Out of memory alone, and nothing has changed.
+    pub(crate) fn put(
+        &mut self,
+        alloc: Global,
+        letters: Vec<Letter>,
+        posted: Option<u64>,
+    ) -> Result<Vec<Letter>, AllocError>
+        requires heard { AllCanBeTaken letters.items }
+        ensures ok { IfOk result (λ left. put_down letters.items (taken_out posted self.old) ≡ record { flying = self.new; left = left.items }) }
+        ensures err { OnErr result (self.new ≡ self.old) }
+    {
+        // No machine has memory for so many letters that their numbers would be used up.
+        let Some(_) = self.sent.checked_add(letters.len() as u64) else {
+            return Err(AllocError);
+        };
+        self.flights.reserve(letters.len())?;
+        let mut left = Vec::with_capacity(alloc, letters.len())?;
+        self.octets -= take_out_named(&mut self.flights, posted);
+        put_all(
+            &mut self.flights,
+            &mut self.octets,
+            &mut self.sent,
+            letters,
+            &mut left,
+        );
+        Ok(left)
+    }
+}

@@ -1,0 +1,68 @@
+//! A call is given up.
+ghost use Rattle.std.specs.Prelude.{◌≡◌, ◌≤◌, ℕ, None};
+ghost use Rattle.node_store.specs.Disks.{view_of};
+ghost use Rattle.world_book.specs.declared.book.Book.{Book as ABook};
+ghost use Rattle.world_book.specs.Books.{spare_of};
+ghost use Rattle.cluster_world.specs.Lives.{all_falls_left, CanWorkOn};
+ghost use Rattle.cluster_world.specs.Worlds.{state_with, life_among};
+ghost use Rattle.cluster_world.specs.Turns.{node_refusal};
+ghost use Rattle.cluster_world.specs.Asking.{IsUpWhole, IsRetold, StandsAt, left_without};
+ghost use Rattle.cluster_world.specs.Steps.{StepDid, AreSettled};
+ghost use Rattle.cluster_world.specs.declared.step.Step.TheVariants as step;
+
+use crate::fault::StepFault;
+use crate::flying::Flying;
+use crate::life::Life;
+use crate::nodes::Nodes;
+use crate::step::Said;
+use crate::steps::ask::{node_of, ticket_of};
+use crate::steps::start::is_late;
+use io_edge::Disk;
+use mail_base::Ticket;
+
+/// Whether the ticket stands at a node that is up.
+fn stands_at(life: &Life, ticket: &Ticket) -> bool
+    requires up { IsUpWhole life.now }
+    ensures { StandsAt ticket.now result life.now }
+{
+    match life {
+        Life::Up(node) => node.kind(ticket_of(ticket)).is_some(),
+        Life::Down | Life::Lost => false,
+    }
+}
+
+/// Gives a ticket up at a node that is up.
+pub(crate) fn give_up_at(life: &mut Life, ticket: &Ticket)
+    requires up { IsUpWhole life.old }
+    ensures { IsRetold (left_without ticket.now) life.old life.new }
+{
+    match life {
+        Life::Up(node) => {
+            node.give_up(ticket_of(ticket));
+        }
+        Life::Down | Life::Lost => {}
+    }
+}
+
+/// Gives a call up: its ticket stands no more. It takes no memory.
+pub(crate) fn give_up_call<D: Disk>(
+    nodes: &mut Nodes<D>,
+    flying: &Flying,
+    ticket: &Ticket,
+) -> Result<Said, StepFault>
+    requires fit { node_refusal nodes.old.plan (life_among nodes.old) (step.GiveUp ticket.now) ≡ None }
+    requires ready { CanWorkOn D.seen nodes.old.plan nodes.old.lives.items nodes.old.disks.items }
+    ensures did { (seconds : ℕ) (book : ABook) → StepDid (view_of D.seen D.faults D.clock) result (step.GiveUp ticket.now) (state_with nodes.old flying.now seconds book) (state_with nodes.new flying.now seconds book) }
+    ensures ready { CanWorkOn D.seen nodes.new.plan nodes.new.lives.items nodes.new.disks.items }
+    ensures settled { (seconds : ℕ) (book : ABook) → AreSettled D.settled (state_with nodes.old flying.now seconds book) → AreSettled D.settled (state_with nodes.new flying.now seconds book) }
+    ensures falls { all_falls_left nodes.new.lives.items ≡ all_falls_left nodes.old.lives.items }
+{
+    if !stands_at(nodes.at(node_of(ticket)), ticket) {
+        return Err(StepFault::NoSuchTicket);
+    }
+    if is_late(flying) {
+        return Err(StepFault::Worn);
+    }
+    nodes.give_up(ticket);
+    Ok(Said::Done)
+}

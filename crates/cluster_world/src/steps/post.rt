@@ -1,0 +1,269 @@
+//! A letter is handed to its receiver.
+ghost use Rattle.std.specs.Prelude.{◌≡◌, ◌≤◌, ◌<◌, ℕ, true, Some, IfOk};
+ghost use Rattle.node_store.specs.Disks.{view_of};
+ghost use Rattle.node_core.specs.Spelling.{CanBeTaken, AllCanBeTaken};
+ghost use Rattle.node_core.specs.Weights.{weight_of, weight_of_all};
+ghost use Rattle.world_book.specs.Books.{spare_of};
+ghost use Rattle.cluster_world.specs.Flights.{taken_out};
+ghost use Rattle.cluster_world.specs.Lives.{is_up_life, all_falls_left, CanWorkOn};
+ghost use Rattle.cluster_world.specs.Worlds.{life_among, state_with};
+ghost use Rattle.cluster_world.specs.Changes.{ChangesNode, IsTurnedTo};
+ghost use Rattle.cluster_world.specs.Posts.{out_of, HearsAt, mishap_of_thrown, mishap_of, IsEntered, IsNotedIf, AnswersSent, EndsHeard, EndsStopped, EndsPost};
+ghost use Rattle.cluster_world.specs.Steps.{StepDid, AreSettled};
+ghost use Rattle.cluster_world.specs.declared.life.Life.TheVariants as lives;
+ghost use Rattle.cluster_world.specs.declared.step.Step.TheVariants as step;
+ghost use Rattle.cluster_world.specs.declared.fault.StepFault.TheVariants as fault;
+
+use crate::fault::StepFault;
+use crate::flying::{Flying, is_worn};
+use crate::life::Life;
+use crate::mishaps::note_in;
+use crate::nodes::{Nodes, place_of};
+use crate::sending::send;
+use crate::step::Said;
+use crate::working::hear_at;
+use io_edge::Disk;
+use mail_base::{Letter, NodeNo};
+use node_core::{NodeFault, Outbox, Why};
+use node_tickets::MishapKind;
+use std::alloc::{AllocError, Global};
+use world_book::{Book, Entry};
+
+/// To whom a letter goes.
+fn receiver_of(letter: &Letter) -> NodeNo
+    ensures { result ≡ letter.now.to }
+{
+    letter.to
+}
+
+/// Whether the node is up.
+fn has_up<D>(nodes: &Nodes<D>, node: NodeNo) -> bool
+    ensures { result ≡ is_up_life (life_among nodes.now node) }
+{
+    match nodes.life(node) {
+        Some(life) => life.is_up(),
+        None => false,
+    }
+}
+
+/// The letter that is to leave, if it is not kept.
+fn out_of(number: u64, keep: bool) -> Option<u64>
+    ensures { result ≡ out_of number keep }
+{
+    if keep { None } else { Some(number) }
+}
+
+/// The letter leaves, if one is named. It takes no memory.
+fn leave(flying: &mut Flying, posted: Option<u64>)
+    ensures { flying.new ≡ taken_out posted flying.old }
+{
+    if let Some(number) = posted {
+        flying.take(number);
+    }
+}
+
+/// The book has that the node went down. It takes no memory.
+fn enter_fall(book: &mut Book, node: NodeNo)
+    requires room { 0 < spare_of book.old }
+    ensures { IsEntered node book.old book.new }
+{
+    book.add(Entry::Down { node });
+}
+
+/// The receiver, which is up, hears the letter.
+fn hear_in<D: Disk>(
+    alloc: Global,
+    nodes: &mut Nodes<D>,
+    letter: &Letter,
+) -> Result<Outbox, NodeFault>
+    requires up { is_up_life (life_among nodes.old letter.now.to) ≡ true }
+    requires works { CanWorkOn D.seen nodes.old.plan nodes.old.lives.items nodes.old.disks.items }
+    requires spelt { CanBeTaken letter.now.body }
+    ensures hears { ChangesNode letter.now.to (HearsAt (view_of D.seen D.faults D.clock) D.settled nodes.old.plan letter.now.to letter.now result) nodes.old nodes.new }
+    ensures light { IfOk result (λ outbox. weight_of_all outbox.letters < weight_of letter.now) }
+{
+    let place = place_of(receiver_of(letter));
+    hear_at(
+        alloc,
+        &mut nodes.lives[place],
+        &mut nodes.disks[place],
+        letter,
+    )
+}
+
+/// Notes the mishap of a letter that was thrown, if it has one. It takes no memory.
+fn note_thrown<D: Disk>(nodes: &mut Nodes<D>, letter: &Letter, thrown: &Option<Why>)
+    requires works { CanWorkOn D.seen nodes.old.plan nodes.old.lives.items nodes.old.disks.items }
+    ensures { IsNotedIf (view_of D.seen D.faults D.clock) nodes.old.plan letter.now (mishap_of_thrown thrown.now) nodes.old nodes.new }
+{
+    match thrown {
+        Some(Why::Stale) => note_in(nodes, MishapKind::Stale, letter),
+        Some(Why::Down | Why::Old | Why::NotPromised | Why::NotMember | Why::Late) => {}
+        None => {}
+    }
+}
+
+/// Notes the mishap of a letter that was handed to its receiver, if it has one. It takes no memory.
+fn note_handed<D: Disk>(nodes: &mut Nodes<D>, letter: &Letter, heard: &Result<Outbox, NodeFault>)
+    requires works { CanWorkOn D.seen nodes.old.plan nodes.old.lives.items nodes.old.disks.items }
+    ensures { IsNotedIf (view_of D.seen D.faults D.clock) nodes.old.plan letter.now (mishap_of heard.now) nodes.old nodes.new }
+{
+    match heard {
+        Ok(outbox) => note_thrown(nodes, letter, &outbox.thrown),
+        Err(NodeFault::Disk) => note_in(nodes, MishapKind::Disk, letter),
+        Err(NodeFault::Worn) => {}
+        Err(NodeFault::NoMemory { .. }) => {}
+    }
+}
+
+/// A node goes down for want of memory. It takes none.
+fn fall_short<D>(nodes: &mut Nodes<D>, book: &mut Book, node: NodeNo) -> StepFault
+    requires within { node ≤ nodes.old.plan.nodes }
+    requires room { 0 < spare_of book.old }
+    ensures fault { result ≡ fault.NoMemory (Some node) }
+    ensures turned { ChangesNode node (IsTurnedTo lives.Down) nodes.old nodes.new }
+    ensures entered { IsEntered node book.old book.new }
+{
+    nodes.turn(node, Life::Down);
+    enter_fall(book, node);
+    StepFault::NoMemory { down: Some(node) }
+}
+
+/// What the receiver answers is put in flight. Where there is no memory for that, the receiver goes down, since it has done
+/// its work.
+fn send_answers<D: Disk>(
+    alloc: Global,
+    nodes: &mut Nodes<D>,
+    flying: &mut Flying,
+    book: &mut Book,
+    node: NodeNo,
+    posted: Option<u64>,
+    letters: Vec<Letter>,
+) -> Result<Said, StepFault>
+    requires works { CanWorkOn D.seen nodes.old.plan nodes.old.lives.items nodes.old.disks.items }
+    requires within { node ≤ nodes.old.plan.nodes }
+    requires room { 0 < spare_of book.old }
+    requires fit { AllCanBeTaken letters.items }
+    ensures { AnswersSent (view_of D.seen D.faults D.clock) nodes.old.plan node posted letters.items result nodes.old flying.old book.old nodes.new flying.new book.new }
+{
+    match send(alloc, nodes, flying, letters, posted) {
+        Ok(()) => Ok(Said::Heard),
+        Err(AllocError) => Err(fall_short(nodes, book, node)),
+    }
+}
+
+/// A letter that was heard, or thrown, leaves, if it is to, and what the receiver answers is in flight.
+fn end_heard<D: Disk>(
+    alloc: Global,
+    nodes: &mut Nodes<D>,
+    flying: &mut Flying,
+    book: &mut Book,
+    node: NodeNo,
+    posted: Option<u64>,
+    outbox: Outbox,
+) -> Result<Said, StepFault>
+    requires works { CanWorkOn D.seen nodes.old.plan nodes.old.lives.items nodes.old.disks.items }
+    requires within { node ≤ nodes.old.plan.nodes }
+    requires room { 0 < spare_of book.old }
+    requires fit { AllCanBeTaken outbox.letters }
+    ensures { EndsHeard (view_of D.seen D.faults D.clock) nodes.old.plan node posted outbox.thrown outbox.letters result nodes.old flying.old book.old nodes.new flying.new book.new }
+{
+    let Outbox { letters, thrown } = outbox;
+    match thrown {
+        Some(why) => {
+            leave(flying, posted);
+            Ok(Said::Thrown(why))
+        }
+        None => send_answers(alloc, nodes, flying, book, node, posted, letters.into_vec()),
+    }
+}
+
+/// A letter in whose hearing the receiver's work stopped: it leaves with a disk fault alone.
+fn end_stopped(
+    flying: &mut Flying,
+    book: &mut Book,
+    node: NodeNo,
+    posted: Option<u64>,
+    fault: NodeFault,
+) -> Result<Said, StepFault>
+    requires room { 0 < spare_of book.old }
+    ensures { EndsStopped node posted fault result flying.old book.old flying.new book.new }
+{
+    match fault {
+        NodeFault::Disk => {
+            enter_fall(book, node);
+            leave(flying, posted);
+            Ok(Said::Faulted(node))
+        }
+        NodeFault::Worn => Err(StepFault::Worn),
+        NodeFault::NoMemory { down: true } => {
+            enter_fall(book, node);
+            Err(StepFault::NoMemory { down: Some(node) })
+        }
+        NodeFault::NoMemory { down: false } => Err(StepFault::NoMemory { down: None }),
+    }
+}
+
+/// What is made of a letter that was handed to its receiver.
+fn end_post<D: Disk>(
+    alloc: Global,
+    nodes: &mut Nodes<D>,
+    flying: &mut Flying,
+    book: &mut Book,
+    node: NodeNo,
+    posted: Option<u64>,
+    heard: Result<Outbox, NodeFault>,
+) -> Result<Said, StepFault>
+    requires works { CanWorkOn D.seen nodes.old.plan nodes.old.lives.items nodes.old.disks.items }
+    requires within { node ≤ nodes.old.plan.nodes }
+    requires room { 0 < spare_of book.old }
+    requires fit { IfOk heard (λ outbox. AllCanBeTaken outbox.letters) }
+    ensures { EndsPost (view_of D.seen D.faults D.clock) nodes.old.plan node posted heard result nodes.old flying.old book.old nodes.new flying.new book.new }
+{
+    match heard {
+        Ok(outbox) => end_heard(alloc, nodes, flying, book, node, posted, outbox),
+        Err(why) => end_stopped(flying, book, node, posted, why),
+    }
+}
+
+/// Hands a letter to its receiver. It leaves, or is kept in flight, so that it can be posted again; where memory runs out it
+/// stays. Its ticket has a mishap where the receiver is not up, has another epoch, or has a disk fault.
+pub(crate) fn post_letter<D: Disk>(
+    alloc: Global,
+    nodes: &mut Nodes<D>,
+    flying: &mut Flying,
+    book: &mut Book,
+    number: u64,
+    keep: bool,
+) -> Result<Said, StepFault>
+    requires ready { CanWorkOn D.seen nodes.old.plan nodes.old.lives.items nodes.old.disks.items }
+    requires room { all_falls_left nodes.old.lives.items ≤ spare_of book.old }
+    ensures did { (seconds : ℕ) → StepDid (view_of D.seen D.faults D.clock) result (step.Post number keep) (state_with nodes.old flying.old seconds book.old) (state_with nodes.new flying.new seconds book.new) }
+    ensures ready { CanWorkOn D.seen nodes.new.plan nodes.new.lives.items nodes.new.disks.items }
+    ensures settled { (seconds : ℕ) → AreSettled D.settled (state_with nodes.old flying.old seconds book.old) → AreSettled D.settled (state_with nodes.new flying.new seconds book.new) }
+    ensures room { all_falls_left nodes.new.lives.items ≤ spare_of book.new }
+{
+    let Some(letter) = flying.letter(number) else {
+        return Err(StepFault::NoSuchLetter);
+    };
+    if is_worn(flying.sent()) {
+        return Err(StepFault::Worn);
+    }
+    let node = receiver_of(letter);
+    if !has_up(nodes, node) {
+        note_in(nodes, MishapKind::Down, letter);
+        leave(flying, out_of(number, keep));
+        return Ok(Said::Thrown(Why::Down));
+    }
+    let heard = hear_in(alloc, nodes, letter);
+    note_handed(nodes, letter, &heard);
+    end_post(
+        alloc,
+        nodes,
+        flying,
+        book,
+        node,
+        out_of(number, keep),
+        heard,
+    )
+}

@@ -1,0 +1,102 @@
+//! A node that is down starts.
+ghost use Rattle.std.specs.Prelude.{◌≡◌, ◌+◌, ◌≤◌, ◌<◌, ◌++◌, ℕ, None};
+ghost use Rattle.cluster_model.specs.Steps.{letters_end};
+ghost use Rattle.std.specs.Prelude.{nat_le};
+ghost use Rattle.node_store.specs.Disks.{view_of};
+ghost use Rattle.world_book.specs.Books.{entries_of, spare_of};
+ghost use Rattle.cluster_world.specs.Lives.{all_falls_left, CanWorkOn};
+ghost use Rattle.cluster_world.specs.Worlds.{state_with, life_among};
+ghost use Rattle.cluster_world.specs.Turns.{node_refusal};
+ghost use Rattle.cluster_world.specs.Starting.{HasStarted, said_of_start, entries_of_start};
+ghost use Rattle.cluster_world.specs.Steps.{StepDid, AreSettled};
+ghost use Rattle.cluster_world.specs.declared.step.Step.TheVariants as step;
+ghost use Rattle.cluster_world.specs.declared.life.Life.TheVariants as lives;
+
+use crate::fault::StepFault;
+use crate::flying::Flying;
+use crate::life::Life;
+use crate::nodes::{Nodes, put_life};
+use crate::step::Said;
+use io_edge::Disk;
+use mail_base::{NodeNo, Plan};
+use node_core::{Node, NodeFault};
+use std::alloc::Global;
+use world_book::{Book, Entry};
+
+/// From this number on no letter is sent: each step may send some.
+const LETTERS_END: u64 = 18_446_744_069_414_584_320;
+
+/// Whether the numbers of letters are used up.
+pub(crate) fn is_late(flying: &Flying) -> bool
+    ensures { result ≡ nat_le letters_end flying.now.sent }
+{
+    LETTERS_END <= flying.sent()
+}
+
+/// Starts a node that is down over its disk. It answers its boot.
+pub(crate) fn start_at<D: Disk>(
+    alloc: Global,
+    life: &mut Life,
+    disk: &mut D,
+    plan: &Plan,
+    node: NodeNo,
+) -> Result<u32, NodeFault>
+    requires down { life.old ≡ lives.Down }
+    requires within { node ≤ plan.now.nodes }
+    requires few { plan.now.nodes ≤ 16 }
+    requires copies { 1 ≤ plan.now.copies }
+    ensures { HasStarted (view_of D.seen D.faults D.clock) plan.now node D.settled result life.old disk.old life.new disk.new }
+{
+    let up = Node::start(alloc, disk, plan, node)?;
+    let boot = up.boot();
+    put_life(life, Life::Up(up));
+    Ok(boot)
+}
+
+// What is said of the start, and what the book has of it.
+fn tell(book: &mut Book, node: NodeNo, started: Result<u32, NodeFault>) -> Result<Said, StepFault>
+    requires room { 0 < spare_of book.old }
+    ensures said { result ≡ said_of_start node started }
+    ensures entries { entries_of book.new ≡ entries_of book.old ++ entries_of_start node started }
+    ensures spare { spare_of book.old ≤ spare_of book.new + 1 }
+{
+    match started {
+        Ok(boot) => {
+            book.add(Entry::Up { node, boot });
+            Ok(Said::NodeUp { boot })
+        }
+        Err(NodeFault::Disk) => {
+            book.add(Entry::Down { node });
+            Ok(Said::Faulted(node))
+        }
+        Err(NodeFault::Worn) => Err(StepFault::Worn),
+        Err(NodeFault::NoMemory { down: true }) => {
+            book.add(Entry::Down { node });
+            Err(StepFault::NoMemory { down: Some(node) })
+        }
+        Err(NodeFault::NoMemory { down: false }) => Err(StepFault::NoMemory { down: None }),
+    }
+}
+
+/// Starts a node that is down: the record of its next boot is written before all else.
+pub(crate) fn start_node<D: Disk>(
+    alloc: Global,
+    nodes: &mut Nodes<D>,
+    flying: &Flying,
+    book: &mut Book,
+    node: NodeNo,
+) -> Result<Said, StepFault>
+    requires fit { node_refusal nodes.old.plan (life_among nodes.old) (step.Start node) ≡ None }
+    requires room { all_falls_left nodes.old.lives.items ≤ spare_of book.old }
+    ensures did { (seconds : ℕ) → StepDid (view_of D.seen D.faults D.clock) result (step.Start node) (state_with nodes.old flying.now seconds book.old) (state_with nodes.new flying.now seconds book.new) }
+    ensures ready { CanWorkOn D.seen nodes.old.plan nodes.old.lives.items nodes.old.disks.items → CanWorkOn D.seen nodes.new.plan nodes.new.lives.items nodes.new.disks.items }
+    ensures settled { (seconds : ℕ) → AreSettled D.settled (state_with nodes.old flying.now seconds book.old) → AreSettled D.settled (state_with nodes.new flying.now seconds book.new) }
+    ensures room { all_falls_left nodes.new.lives.items ≤ spare_of book.new }
+{
+    if is_late(flying) {
+        return Err(StepFault::Worn);
+    }
+    book.reserve(nodes.most_falls() + 2)?;
+    let started = nodes.start(alloc, node);
+    tell(book, node, started)
+}

@@ -1,0 +1,112 @@
+//! What a world tells of its letters, its calls and its members.
+ghost use Rattle.std.specs.Prelude.{◌≡◌, ◌≤◌, Some, if◌then◌else◌};
+ghost use Rattle.std.specs.Option.{option_copied};
+ghost use Rattle.object_model.specs.Sets.{all_nodes};
+ghost use Rattle.node_core.specs.Nodes.{IsWhole};
+ghost use Rattle.node_core.specs.declared.node.Node.{Node as ANode};
+ghost use Rattle.node_tickets.specs.Standing.{call_kind_seen, kind_of_ticket, filed_seen, filing_at};
+ghost use Rattle.cluster_world.specs.Flights.{first_number};
+ghost use Rattle.cluster_world.specs.Lives.{is_up_life};
+ghost use Rattle.cluster_world.specs.Worlds.{state_of, plan_of, life_of, IsReady};
+ghost use Rattle.cluster_world.specs.Telling.{standing_on, standing_in};
+ghost use Rattle.cluster_world.specs.declared.life.Life.TheVariants as lives;
+
+use crate::life::Life;
+use crate::steps::ask::{node_of, ticket_of};
+use crate::world::World;
+use io_edge::Disk;
+use mail_base::{CallKind, Filing, NodeNo, NodeSet, Ticket};
+
+/// The node of this number.
+fn numbered(number: u8) -> NodeNo
+    requires above { 1 ≤ number }
+    requires within { number ≤ 16 }
+    ensures { result ≡ number }
+{
+    NodeNo::new(number).unwrap()
+}
+
+/// The nodes from 1 to so many.
+fn first_nodes(nodes: u8) -> NodeSet
+    requires { nodes ≤ 16 }
+    ensures { result ≡ all_nodes nodes }
+{
+    if nodes == 0 {
+        return NodeSet::empty();
+    }
+    first_nodes(nodes - 1).with(numbered(nodes))
+}
+
+/// The kind of the call of the ticket at a node, if it stands there.
+fn kind_at(life: &Life, ticket: &Ticket) -> Option<CallKind>
+    requires whole { (node : ANode) → life.now ≡ lives.Up node → IsWhole node }
+    ensures { call_kind_seen result ≡ kind_of_ticket (standing_on (Some life.now) ticket.now) }
+{
+    match life {
+        Life::Up(node) => node.kind(ticket_of(ticket)),
+        Life::Down => None,
+        Life::Lost => None,
+    }
+}
+
+/// What the delivery of the ticket filed at a node, if it stands there.
+fn filing_in<'a>(life: &'a Life, ticket: &Ticket) -> Option<&'a Filing>
+    requires whole { (node : ANode) → life.now ≡ lives.Up node → IsWhole node }
+    ensures { filed_seen (option_copied result) ≡ filing_at (standing_on (Some life.now) ticket.now) }
+{
+    match life {
+        Life::Up(node) => node.filing(ticket_of(ticket)),
+        Life::Down => None,
+        Life::Lost => None,
+    }
+}
+
+impl<D: Disk> World<D> {
+    /// The lowest number of a letter in flight. It takes no memory.
+    pub fn flying(&self) -> Option<u64>
+        ensures { result ≡ first_number (state_of self.now).flying.flights }
+    {
+        self.flying.first()
+    }
+
+    /// The seconds since 1970. They are 0 so far.
+    pub fn seconds(&self) -> u64
+        ensures { result ≡ (state_of self.now).seconds }
+    {
+        self.seconds
+    }
+
+    /// The members of the node's epoch: all nodes of the plan, and none where the node is not up. It takes no memory.
+    pub fn members(&self, node: NodeNo) -> NodeSet
+        ensures { result ≡ (if is_up_life (life_of self.now node) then all_nodes (plan_of self.now).nodes else 0) }
+    {
+        if self.is_up(node) {
+            first_nodes(self.plan().nodes)
+        } else {
+            NodeSet::empty()
+        }
+    }
+
+    /// The kind of the call for which the ticket stands; none exactly where it stands at no node that is up. It takes no memory.
+    pub fn kind(&self, ticket: &Ticket) -> Option<CallKind>
+        requires ready { IsReady D.seen self.now }
+        ensures { call_kind_seen result ≡ kind_of_ticket (standing_in self.now ticket.now) }
+    {
+        match self.nodes.life(node_of(ticket)) {
+            Some(life) => kind_at(life, ticket),
+            None => None,
+        }
+    }
+
+    /// What the delivery filed for which the ticket stands; none where no delivery stands under it at a node that is up, or one
+    /// that failed at once. It takes no memory.
+    pub fn filing(&self, ticket: &Ticket) -> Option<&Filing>
+        requires ready { IsReady D.seen self.now }
+        ensures { filed_seen (option_copied result) ≡ filing_at (standing_in self.now ticket.now) }
+    {
+        match self.nodes.life(node_of(ticket)) {
+            Some(life) => filing_in(life, ticket),
+            None => None,
+        }
+    }
+}
