@@ -1,155 +1,93 @@
--- A session that waits is asked for, and replies.
-use Rattle.std.proofs.Common.{◌≡◌, ◌≢◌, ◌⊎◌, ◌+◌, ◌-◌, ◌++◌, ◌∷◌, ◌<◌, ◌≤◌, ℕ, zero, suc, Bool, true, false, List, [], length, Option, Some, None, Result, Ok, Err, refl, sym, ap, ◌∙◌, subst, inl, inr, ⊎_elim, arith}
-use Rattle.std.specs.Prelude.{slice_get, slice_set, if◌then◌else◌}
+-- A session that waits is asked for: it replies, or still waits.
+use Rattle.std.proofs.Common.{◌≡◌, ◌≢◌, ◌⊎◌, ◌+◌, ◌-◌, ◌++◌, ◌∷◌, ◌<◌, ◌≤◌, ℕ, zero, suc, nat_eq, Bool, true, false, List, [], length, Option, Some, None, Result, Ok, Err, refl, sym, ap, ◌∙◌, subst, inl, inr, ⊎_elim, arith}
+use Rattle.std.specs.Prelude.{slice_get, slice_set, if◌then◌else◌, IfOk, OnOk}
+use Rattle.std.specs.Io.KnownBytes.{Appends}
 use Rattle.std.proofs.lemmas.List.{append-nil}
 use Rattle.io_edge.proofs.Known.{appends_none}
+use Rattle.object_model.specs.Lists.{Among}
 use Rattle.mail_model.specs.Plan.{Plan}
 use Rattle.mail_model.specs.Transcript.{Entry, said_lines}
 use Rattle.mail_model.specs.Site.{closed_event}
 use Rattle.session_model.specs.Calls as calls
 use Rattle.session_model.specs.Calls.{IsReply}
-use Rattle.session_model.specs.Talk.{Exchange, TalkState, Standing, IsOn}
-use Rattle.session_model.specs.Talk.Standing.{Waiting, EndedDown}
+use Rattle.session_model.specs.Talk.{TalkState, Standing, IsOn, answered}
+use Rattle.session_model.specs.Talk.Standing.{Waiting}
 use Rattle.session_model.specs.Sessions.{Session, session_at}
 use Rattle.session_model.specs.Moves.{with_answer}
-use Rattle.session_model.specs.Talk.{answered}
-use Rattle.session_model.specs.Acts.{Act, Acted, Did, closing}
-use Rattle.session_model.specs.Acts.Act.{Does}
+use Rattle.session_model.specs.Acts.{Act, Did, closing}
+use Rattle.session_model.specs.Acts.Act.{Does, StillWaits}
 use Rattle.session_model.specs.Acts.Deed.{IsAnswered}
-use Rattle.session_model.specs.Turns.{Turn, IsReadyToAsk, IsFirst, IsNone, IsDone, Waits, Next}
-use Rattle.session_model.specs.Turns.Turn.{Hearing, Beginning, Falling, Asking}
+use Rattle.session_model.specs.Lives.{failed_in}
+use Rattle.session_model.specs.Turns.{Turn, IsReadyToAsk, IsFirst, Waits, Next}
+use Rattle.session_model.specs.Turns.Turn.{Hearing, Beginning, Closing, Falling, Asking}
 use Rattle.session_model.specs.Run.{Made, Stop, count_on}
 use Rattle.session_model.specs.Run.Stop.{OutOfMemory}
-use Rattle.call_tickets.specs.Moves.{HasEnded}
-use Rattle.cluster_world.specs.Steps.{nth_ticket}
-use Rattle.cluster_world.specs.Outcomes.{Outcome, Awaited}
-use Rattle.cluster_world.specs.Outcomes.Outcome.{Answers, Unanswered}
-use Rattle.cluster_world.specs.World.{plan_of, is_up}
+use Rattle.session_model.proofs.Replies.{each_answer_has_reply}
+use Rattle.call_tickets.specs.Seen.{answer_seen}
+use Rattle.call_tickets.specs.declared.answer.Answer.{Answer}
+use Rattle.node_store.specs.Disks.{View}
+use Rattle.cluster_world.specs.Outcomes.{Outcome, Awaited, without_session}
+use Rattle.cluster_world.specs.Outcomes.Outcome.{Answers, StillPending, Unanswered}
 use Rattle.cluster_world.specs.declared.world.World.{World}
-use Rattle.mail_base.specs.declared.ticket.Ticket.{Ticket}
+use Rattle.drive_tape.specs.declared.open_call.OpenCall.{OpenCall}
 use Rattle.drive_tape.specs.declared.cluster.Cluster.{Cluster}
+use Rattle.drive_tape.specs.declared.cluster.Heard.{Heard}
+use Rattle.drive_tape.specs.declared.cluster.Heard.TheVariants as heard
 use Rattle.drive_tape.specs.declared.sessions.Sessions.{Sessions}
 use Rattle.drive_tape.specs.declared.sessions.After.{After}
 use Rattle.drive_tape.specs.declared.sessions.After.TheVariants.{Stays, Ends}
 use Rattle.drive_tape.specs.declared.drove.Stop.{Stop as Why}
 use Rattle.drive_tape.specs.declared.drove.Stop.TheVariants as why
-use Rattle.drive_tape.specs.Moving.{has_ended, RepliesTo, GoesOn, left_at, ticket_here, work_at}
-use Rattle.drive_tape.specs.Worlds.{WorldIsAt, IsSince}
-use Rattle.drive_tape.specs.Points.{Point, Work, Cut, OneAct, AreLinked, IsAtPoint, Stopped, WentOn, IsUpUnlessFailed}
-use Rattle.drive_tape.specs.Talks.{Converse, HaveTickets, NoTickets, OneWaits}
-use Rattle.drive_tape.specs.Clusters.{HearsAt, RestsAt, IsAfter, IsSaying, AsksFrom, IsAsking}
+use Rattle.drive_tape.specs.Kinds.{fits_kind, IsKindOf}
+use Rattle.drive_tape.specs.Moving.{has_ended, RepliesTo, GoesOn, left_at, call_here, work_at}
+use Rattle.drive_tape.specs.Worlds.{WorldIsAt, WentTo, HasGone, AskedSo, AreSameLives, HasCauses}
+use Rattle.drive_tape.specs.Points.{Point, Work, Cut, OneAct, IsAtPoint, Stopped, WentOn, WorkGoes}
+use Rattle.drive_tape.specs.Talks.{EachSession, HasOwnTicket, HasTicket, TicketFits, StandsOnNode, IsUpAt}
+use Rattle.drive_tape.specs.Clusters.{HearsAt, RestsAt, MovedTo, IsAfter, IsSaying, AsksFrom, HasAnswer, HeardSo}
 use Rattle.drive_tape.specs.Lines.{NothingIsUnderWay}
-use Rattle.drive_tape.proofs.Talks.{at_place, count_same, count_less, no_tickets_set, quiet_at, still_up, set_here, set_twice, set_same, within_get, some_same, replies_on, replies_ended, converse_length}
-use Rattle.drive_tape.proofs.Falling.{get_other}
-use Rattle.drive_tape.proofs.Works.{work_more, cut_act}
-use Rattle.drive_tape.proofs.Clusters.{since_at, stopped_on}
-use Rattle.drive_tape.proofs.Moves.{acted_does}
+use Rattle.drive_tape.proofs.Talks.{at_place, count_same, count_less, converse_length, found_at, set_here, set_same, within_get, some_same, did_node, replies_on, replies_ended}
+use Rattle.drive_tape.proofs.Works.{work_act, work_more, cut_act}
+use Rattle.drive_tape.proofs.Clusters.{since_gone}
+use Rattle.drive_tape.proofs.Acting.{acted_does}
+use Rattle.drive_tape.proofs.Places.{NotWaiting, get_apart, each_set, nodes_set, does_plain, waits_plain, up_on, lives_on, causes_on}
+use Rattle.drive_tape.proofs.Falling.{own_none}
+use Rattle.drive_tape.proofs.Begins.{among_filter, not_at}
 
--- nobody has a ticket
-pub no_ticket_at : (tickets : List (Option Ticket)) (sessions : List Session) (place : ℕ) (ticket : Ticket) → NoTickets tickets sessions → slice_get tickets place ≡ Some (Some ticket) → ⊥
-no_ticket_at [] sessions place ticket none has = cc
-no_ticket_at (t ∷ ts) [] place ticket none has = none
-no_ticket_at (t ∷ ts) (s ∷ ss) zero ticket none has = let no : Some None ≡ Some (Some ticket) = ap Some (sym none.0) ∙ has in cc
-no_ticket_at (t ∷ ts) (s ∷ ss) (suc place) ticket none has = no_ticket_at ts ss place ticket none.2 has
+-- whoever has a ticket waits
+pub ticket_waits : (kept : Option (Option OpenCall)) (s : Session) (k : ℕ) (awaited : List Awaited) (standing : Standing) (open_call : OpenCall) → TicketFits kept s k awaited standing → kept ≡ Some (Some open_call)
+    → (state : TalkState) × (call : calls.Call) × (standing ≡ Waiting state call) × HasTicket kept s k call awaited
+ticket_waits kept s k awaited (Waiting state call) open_call fits is = (state, call, refl, fits)
+ticket_waits kept s k awaited (Standing.Hearing state) open_call fits is = absurd (let never : ◌≡◌ {A = Option (Option OpenCall)} (Some None) (Some (Some open_call)) = sym fits ∙ is in cc)
+ticket_waits kept s k awaited Standing.EndedByQuit open_call fits is = absurd (let never : ◌≡◌ {A = Option (Option OpenCall)} (Some None) (Some (Some open_call)) = sym fits ∙ is in cc)
+ticket_waits kept s k awaited Standing.EndedDown open_call fits is = absurd (let never : ◌≡◌ {A = Option (Option OpenCall)} (Some None) (Some (Some open_call)) = sym fits ∙ is in cc)
+ticket_waits kept s k awaited Standing.EndedClosed open_call fits is = absurd (let never : ◌≡◌ {A = Option (Option OpenCall)} (Some None) (Some (Some open_call)) = sym fits ∙ is in cc)
 
--- nobody has one but this
-same_place : (tickets : List (Option Ticket)) (sessions : List Session) (waits place : ℕ) (ticket : Ticket) → NoTickets (slice_set tickets waits None) sessions → slice_get tickets place ≡ Some (Some ticket) → waits ≡ place
-same_place [] sessions waits place ticket none has = absurd cc
-same_place (t ∷ ts) [] zero place ticket none has = absurd none
-same_place (t ∷ ts) [] (suc waits) place ticket none has = absurd none
-same_place (t ∷ ts) (s ∷ ss) zero zero ticket none has = refl
-same_place (t ∷ ts) (s ∷ ss) zero (suc place) ticket none has = absurd (no_ticket_at ts ss place ticket none.2 has)
-same_place (t ∷ ts) (s ∷ ss) (suc waits) zero ticket none has = let no : Some None ≡ Some (Some ticket) = ap Some (sym none.0) ∙ has in absurd cc
-same_place (t ∷ ts) (s ∷ ss) (suc waits) (suc place) ticket none has = ap suc (same_place ts ss waits place ticket none.2 has)
+-- and whoever waits has one
+pub waits_ticket : (kept : Option (Option OpenCall)) (s : Session) (k : ℕ) (awaited : List Awaited) (standing : Standing) → TicketFits kept s k awaited standing → kept ≡ Some None
+    → (state : TalkState) (call : calls.Call) → standing ≡ Waiting state call → ⊥
+waits_ticket kept s k awaited (Waiting one of) fits none state call waits = let never : ◌≡◌ {A = Option (Option OpenCall)} (Some None) (Some (Some fits.open_call)) = sym none ∙ fits.has in cc
+waits_ticket kept s k awaited (Standing.Hearing one) fits none state call waits = cc
+waits_ticket kept s k awaited Standing.EndedByQuit fits none state call waits = cc
+waits_ticket kept s k awaited Standing.EndedDown fits none state call waits = cc
+waits_ticket kept s k awaited Standing.EndedClosed fits none state call waits = cc
 
-less_or_same : (i n : ℕ) → i ≤ n → (i < n) ⊎ (i ≡ n)
-less_or_same zero zero w = inr refl
-less_or_same zero (suc n) w = inl (omega arith)
-less_or_same (suc i) zero w = absurd (omega (arith, w))
-less_or_same (suc i) (suc n) w = ⊎_elim (λ (l : i < n). inl (omega (arith, l))) (λ (e : i ≡ n). inr (ap suc e)) (less_or_same i n (omega (arith, w)))
-
--- nobody waits
-quiet_none : (tickets : List (Option Ticket)) (sessions : List Session) (j : ℕ) → NoTickets tickets sessions → Waits (session_at sessions j) → ⊥
-quiet_none tickets sessions zero none waits = waits
-quiet_none tickets sessions (suc i) none waits = by_session (slice_get sessions i) refl (subst Waits (at_place sessions (suc i) i (omega arith)) waits)
-  where
-    by_session : (o : Option Session) → slice_get sessions i ≡ o → Waits o → ⊥
-    by_session None is w = w
-    by_session (Some s) is w = quiet_at tickets sessions i s none is w.0 w.1 w.2
-
-module _ {D : Type 0} (seen : D → Option (List ℕ)) (faults : D → ℕ) (start : World D) (p : Point) (place : ℕ) (old : Cluster D)
-    (shows : IsAtPoint seen faults start old p) (asks : AsksFrom place p) where
-  -- it waits
-  pub asking : (ticket : Ticket) (new : Cluster D) → slice_get old.sessions.tickets.items place ≡ Some (Some ticket) → new.world ≡ old.world → new.sessions.talkers ≡ old.sessions.talkers
-      → new.sessions.standing ≡ old.sessions.standing → new.sessions.tickets.items ≡ slice_set old.sessions.tickets.items place None → IsAsking seen faults start p place ticket new
-  asking ticket new has world talkers standing tickets = by_awaited p.awaited shows.tickets shows.at
-    where
-      by_awaited : (a : List Awaited) → HaveTickets old.sessions.tickets.items p.sessions a → WorldIsAt seen faults start p.outcomes a old.world → IsAsking seen faults start p place ticket new
-      by_awaited [] none at = absurd (no_ticket_at _ _ place ticket none has)
-      by_awaited (one ∷ []) w at =
-          let same : w.place ≡ place = same_place _ _ w.place place ticket w.others has in
-          let here : slice_get p.sessions place ≡ Some w.plain = subst (λ (i : ℕ). slice_get p.sessions i ≡ Some w.plain) same w.here in
-          let is : Some (Some w.ticket) ≡ Some (Some ticket) = sym w.has ∙ ap (λ (i : ℕ). slice_get old.sessions.tickets.items i) same ∙ has in
-          let up = still_up _ p.down p.sessions place w.plain shows.up here (rw w.waits tt) in
-          record {
-            from = asks.from;
-            ready = asks.ready;
-            before = asks.before;
-            number = one.number;
-            ticket_is = sym (some_same w.ticket ticket (some_same (Some w.ticket) (Some ticket) is)) ∙ w.ticket_is;
-            call = one.call;
-            plain = w.plain;
-            here = here;
-            state = w.state;
-            waits = w.waits;
-            heard = w.heard;
-            at = rw world (subst (λ (s : ℕ). WorldIsAt seen faults start p.outcomes (record { number = one.number; session = s; call = one.call } ∷ []) old.world) (w.number_is ∙ ap (λ (i : ℕ). i + 1) same) at);
-            talks = rw talkers shows.talks;
-            others = rw tickets (subst (λ (i : ℕ). NoTickets (slice_set old.sessions.tickets.items i None) (slice_set p.sessions i (record w.plain { standing = EndedDown }))) same w.others);
-            count = standing ∙ shows.count;
-            up = ap is_up world ∙ up.0;
-            down = up.1;
-          }
-      by_awaited (one ∷ other ∷ more) w at = absurd w
-
-  -- it does not
-  pub asks_past : slice_get old.sessions.tickets.items place ≡ Some None → AsksFrom (place + 1) p
-  asks_past none = record {
-    from = asks.from;
-    ready = asks.ready;
-    before = omega (arith, asks.before);
-    awaits = ⊎_elim inl (λ (some : (one : Awaited) × (p.awaited ≡ one ∷ []) × (place + 1 ≤ one.session)).
-        let w : OneWaits some.0 old.sessions.tickets.items p.sessions = subst (λ (a : List Awaited). HaveTickets old.sessions.tickets.items p.sessions a) some.1 shows.tickets in
-        let past : place ≤ w.place = omega (arith, some.2, w.number_is) in
-        ⊎_elim (λ (less : place < w.place). inr (some.0, some.1, omega (arith, less, w.number_is)))
-        (λ (same : place ≡ w.place). let no : Some None ≡ Some (Some w.ticket) = sym none ∙ ap (λ (i : ℕ). slice_get old.sessions.tickets.items i) same ∙ w.has in absurd cc)
-        (less_or_same place w.place past)) asks.awaits;
-  }
-
-  -- nobody does
-  pub settled : length old.sessions.talkers.items ≤ place → NothingIsUnderWay p
-  settled all = by_awaited p.awaited refl shows.tickets asks.awaits
-    where
-      length_is : length old.sessions.talkers.items ≡ length p.sessions
-      length_is = converse_length old.sessions.talkers.items p.sessions shows.talks
-
-      by_awaited : (a : List Awaited) → p.awaited ≡ a → HaveTickets old.sessions.tickets.items p.sessions a → (a ≡ []) ⊎ ((one : Awaited) × (a ≡ one ∷ []) × (place + 1 ≤ one.session)) → NothingIsUnderWay p
-      by_awaited a is w (inl none) =
-          let nobody : NoTickets old.sessions.tickets.items p.sessions = subst (λ (l : List Awaited). HaveTickets old.sessions.tickets.items p.sessions l) none w in
-          record { done = (asks.from, asks.ready, λ j from waits. quiet_none _ _ j nobody waits); quiet = is ∙ none }
-      by_awaited a is w (inr some) =
-          let one : OneWaits some.0 old.sessions.tickets.items p.sessions = subst (λ (l : List Awaited). HaveTickets old.sessions.tickets.items p.sessions l) some.1 w in
-          let within : one.place < length p.sessions = within_get p.sessions one.place one.plain one.here in
-          absurd (omega (arith, within, all, length_is, one.number_is, some.2))
-
--- it rests, and those after it are to be asked
-pub asks_on : (place : ℕ) (p : Point) → RestsAt place (place + 1) p → AsksFrom place p
-asks_on place p rests = record {
-  from = place + 1;
-  ready = rests.ready;
-  before = omega arith;
-  awaits = ⊎_elim inl (λ (some : (one : Awaited) × (p.awaited ≡ one ∷ []) × (one.session ≡ place + 1)). inr (some.0, some.1, omega (arith, some.2))) rests.alone;
-}
+-- a ticket that is awaited stays so as that of another session no more is
+ticket_without : (kept : Option (Option OpenCall)) (s : Session) (k other : ℕ) (awaited : List Awaited) (standing : Standing) → k ≢ other → TicketFits kept s k awaited standing → TicketFits kept s k (without_session other awaited) standing
+ticket_without kept s k other awaited (Waiting state call) apart t =
+    record {
+      open_call = t.open_call;
+      has = t.has;
+      own = t.own;
+      kind = t.kind;
+      stands = among_filter _ _ awaited (not_at k other apart) t.stands;
+      before = t.before;
+      last = t.last;
+      heard = t.heard;
+    }
+ticket_without kept s k other awaited (Standing.Hearing state) apart t = t
+ticket_without kept s k other awaited Standing.EndedByQuit apart t = t
+ticket_without kept s k other awaited Standing.EndedDown apart t = t
+ticket_without kept s k other awaited Standing.EndedClosed apart t = t
 
 -- the entries of a reply
 closed_or_not : (after : After) (k : ℕ) (call : calls.Call) (answer : calls.Answer) (reply : List (List ℕ)) (plain : Session) → IsAfter after plain
@@ -174,40 +112,81 @@ counts_after : (sessions : List Session) (place : ℕ) (plain new : Session) (af
 counts_after sessions place plain new Stays standing now here on count goes = goes.1 ∙ count ∙ sym (count_same sessions place plain new here on goes.0)
 counts_after sessions place plain new (Ends leave) standing now here on count goes = goes.2 ∙ ap (λ (n : ℕ). n - 1) count ∙ sym (count_less sessions place plain new here on goes.0)
 
-module _ {D : Type 0} (seen : D → Option (List ℕ)) (faults : D → ℕ) (start : World D) (plan : Plan) (p : Point) (place : ℕ) (ticket : Ticket) (old : Cluster D) (a : IsAsking seen faults start p place ticket old) where
-  first : IsFirst Waits p.sessions a.from (place + 1)
-  first = record {
-    later = a.before;
-    here = subst Waits (sym (at_place p.sessions (place + 1) place refl ∙ a.here)) (a.state, a.call, a.waits);
-    none = λ j from before waits. earlier j before waits;
+-- the session that is asked is the first that waits
+module _ (p : Point) (place : ℕ) (asks : AsksFrom place p) (plain : Session) (here : slice_get p.sessions place ≡ Some plain) (state : TalkState) (call : calls.Call) (waits : plain.standing ≡ Waiting state call) where
+  pub first_waits : IsFirst Waits p.sessions asks.from (place + 1)
+  first_waits = record {
+    later = asks.before;
+    here = subst Waits (sym (at_place p.sessions (place + 1) place refl ∙ here)) (state, call, waits);
+    none = λ j from before. asks.none j from before;
   }
+
+  next_answered : (asked : calls.Call) (answer : calls.Answer) (reply : List (List ℕ)) → Next p.turn p.sessions (Does (place + 1) (IsAnswered asked answer reply)) (Hearing (place + 1) (place + 1))
+  next_answered asked answer reply = by_turn p.turn asks.ready
     where
-      earlier : (j : ℕ) → j < place + 1 → Waits (session_at p.sessions j) → ⊥
-      earlier zero before waits = waits
-      earlier (suc i) before waits = by_session (slice_get p.sessions i) refl (subst Waits (at_place p.sessions (suc i) i (omega arith)) waits)
-        where
-          by_session : (o : Option Session) → slice_get p.sessions i ≡ o → Waits o → ⊥
-          by_session None is w = w
-          by_session (Some s) is w = quiet_at old.sessions.tickets.items _ i s a.others (get_other p.sessions place i (record a.plain { standing = EndedDown }) (omega (arith, before)) ∙ is) w.0 w.1 w.2
+      by_turn : (t : Turn) → IsReadyToAsk t p.sessions asks.from → Next t p.sessions (Does (place + 1) (IsAnswered asked answer reply)) (Hearing (place + 1) (place + 1))
+      by_turn (Hearing k onward) ready = (asks.from, ready, first_waits, refl)
+      by_turn (Beginning k onward) ready = (asks.from, ready, first_waits, refl)
+      by_turn (Closing k onward) ready = absurd ready
+      by_turn (Falling k node onward) ready = (asks.from, ready, first_waits, refl)
+      by_turn (Asking k) ready = (asks.from, ready, first_waits, refl)
+
+  next_waits : Next p.turn p.sessions (StillWaits (place + 1)) (Asking (place + 1 + 1))
+  next_waits = by_turn p.turn asks.ready
+    where
+      by_turn : (t : Turn) → IsReadyToAsk t p.sessions asks.from → Next t p.sessions (StillWaits (place + 1)) (Asking (place + 1 + 1))
+      by_turn (Hearing k onward) ready = (asks.from, ready, first_waits, refl)
+      by_turn (Beginning k onward) ready = (asks.from, ready, first_waits, refl)
+      by_turn (Closing k onward) ready = absurd ready
+      by_turn (Falling k node onward) ready = (asks.from, ready, first_waits, refl)
+      by_turn (Asking k) ready = (asks.from, ready, first_waits, refl)
+
+  waits_one : (plan : Plan) (ticket : _) → OneAct plan p (StillWaits (place + 1)) [] (StillPending (place + 1) ticket ∷ []) (Asking (place + 1 + 1)) p.sessions
+  waits_one plan ticket = record { next = next_waits; acted = (refl, refl); linked = record { made = refl; asked = refl; answered = refl; waits = refl }; at_nodes = (tt, tt) }
+
+  -- it still waits
+  pub still_waits : {D : Type 0} (on : View D) (start : World D) (plan : Plan) (old new : Cluster D) (ticket : _) (held : Option (List ℕ)) → p.held ≡ held → IsAtPoint on start plan old p → new.sessions ≡ old.sessions
+      → AreSameLives old.world new.world → WentTo on start old.world (p.outcomes ++ StillPending (place + 1) ticket ∷ []) p.awaited new.world → WentOn on start plan p (RestsAt (place + 1 + 1)) held new
+  still_waits on start plan old new ticket held is shows same lives went =
+      let act = StillWaits (place + 1) in
+      let q = record p { turn = Asking (place + 1 + 1); outcomes = p.outcomes ++ StillPending (place + 1) ticket ∷ []; been = p.been ++ StillWaits (place + 1) ∷ [] } in
+      record {
+        q = q;
+        work = work_act plan p q act [] (StillPending (place + 1) ticket ∷ []) (waits_one plan ticket) refl refl (appends_none p.held);
+        held_is = is;
+        shows = record {
+          at = went.at;
+          talks = rw same shows.talks;
+          nodes = rw same shows.nodes;
+          tickets = rw same shows.tickets;
+          count = rw same shows.count;
+          lives = lives_on plan p.been act old.world new.world (waits_plain (place + 1)) lives shows.lives;
+          up = λ i s there. up_on plan p.been act s (waits_plain (place + 1)) (shows.up i s there);
+          causes = causes_on on start new.world p.been act (waits_plain (place + 1)) (went.causes (failed_in p.been) shows.causes);
+        };
+        so_is = refl;
+      }
 
   -- memory ran out as it was asked for
-  pub stops_asking : (held : Option (List ℕ)) (last : World D) → p.held ≡ held → IsSince seen faults start (p.outcomes ++ Unanswered (place + 1) a.number ∷ []) last → Stopped seen faults start plan p why.NoMemory held last
-  stops_asking held last is since = record {
+  pub stops_asking : {D : Type 0} (on : View D) (start : World D) (plan : Plan) (old last : World D) (ticket : _) (held : Option (List ℕ)) → p.held ≡ held → HasCauses on start (failed_in p.been) old
+      → HasGone on start old (p.outcomes ++ Unanswered (place + 1) call ticket ∷ []) last → Stopped on start plan p why.NoMemory held last
+  stops_asking on start plan old last ticket held is causes gone = record {
     stop = OutOfMemory;
     is = refl;
-    outcomes = p.outcomes ++ Unanswered (place + 1) a.number ∷ [];
+    outcomes = p.outcomes ++ Unanswered (place + 1) call ticket ∷ [];
     cut = record {
       acts = [];
       outputs = [];
       turn = p.turn;
       sessions = p.sessions;
       goes = (refl, refl);
-      new = Unanswered (place + 1) a.number ∷ [];
+      new = Unanswered (place + 1) call ticket ∷ [];
       lacking = [];
       extra = Made.Asks (place + 1) ∷ [];
-      linked = record { made = refl; asked = refl; answered = refl };
+      linked = record { made = refl; asked = refl; answered = refl; waits = refl };
+      at_nodes = (tt, tt);
       came = refl;
-      asked = inr (a.from, place + 1, a.ready, first, refl);
+      asked = inr (asks.from, place + 1, asks.ready, first_waits, refl);
       front = [];
       missing = [];
       parts = refl;
@@ -215,144 +194,242 @@ module _ {D : Type 0} (seen : D → Option (List ℕ)) (faults : D → ℕ) (sta
       may = inl refl;
       cut = [];
       is_cut = inl refl;
-      gave = subst (λ (h : Option (List ℕ)). Rattle.std.specs.Io.KnownBytes.Appends p.held h []) is (appends_none p.held);
+      gave = subst (λ (h : Option (List ℕ)). Appends p.held h []) is (appends_none p.held);
     };
-    cause = inl (append-nil p.down ∙ a.down);
-    since = since;
+    causes = subst (λ (d : List Act). HasCauses on start (failed_in d) last) (sym (append-nil p.been)) (gone.1.causes (failed_in p.been) causes);
+    since = since_gone on start old _ last gone;
   }
 
-  module _ (call : calls.Call) (answer : calls.Answer) (reply : List (List ℕ)) (after : Session) (did : Did plan a.plain (IsAnswered call answer reply) reply after) (same : call ≡ a.call) where
+module _ {D : Type 0} (on : View D) (start : World D) (plan : Plan) (p : Point) (place : ℕ) (answer : calls.Answer) (old : Cluster D) (a : HasAnswer on start plan p place answer old) where
+  abbrev pub came : List Outcome
+  came = Answers (place + 1) a.call a.has.open_call.ticket answer ∷ []
+
+  module _ (call : calls.Call) (reply : List (List ℕ)) (after : Session) (did : Did plan a.plain (IsAnswered call answer reply) reply after) (same : call ≡ a.call) where
     abbrev pub entries : List Entry
     entries = said_lines (place + 1) reply ++ closing (place + 1) (IsAnswered call answer reply) after.standing
 
-    next : Next p.turn p.sessions (Does (place + 1) (IsAnswered call answer reply)) (Hearing (place + 1) (place + 1))
-    next = by_turn p.turn a.ready
-      where
-        by_turn : (t : Turn) → IsReadyToAsk t p.sessions a.from → Next t p.sessions (Does (place + 1) (IsAnswered call answer reply)) (Hearing (place + 1) (place + 1))
-        by_turn (Hearing k onward) ready = (a.from, ready, first, refl)
-        by_turn (Beginning k onward) ready = (a.from, ready, first, refl)
-        by_turn (Falling k node onward) ready = (a.from, ready, first, refl)
-        by_turn (Asking k) ready = (a.from, ready, first, refl)
-
-    pub replies_one : OneAct plan p (Does (place + 1) (IsAnswered call answer reply)) entries (Answers (place + 1) a.call a.number answer ∷ []) (Hearing (place + 1) (place + 1)) (slice_set p.sessions place after)
+    pub replies_one : OneAct plan p (Does (place + 1) (IsAnswered call answer reply)) entries came (Hearing (place + 1) (place + 1)) (slice_set p.sessions place after)
     replies_one = record {
-      next = next;
+      next = next_answered p place a.asks a.plain a.here a.state a.call a.waits call answer reply;
       acted = acted_does plan p.sessions place a.plain after (IsAnswered call answer reply) reply a.here did;
-      linked = rw same (record { made = refl; asked = refl; answered = refl });
-    }
-
-    -- memory ran out before it said anything
-    pub stops_replying : (held : Option (List ℕ)) (last : World D) → p.held ≡ held → WorldIsAt seen faults start (p.outcomes ++ Answers (place + 1) a.call a.number answer ∷ []) [] last → Stopped seen faults start plan p why.NoMemory held last
-    unfolding cut_act
-    stops_replying held last is at = record {
-      stop = OutOfMemory;
-      is = refl;
-      outcomes = p.outcomes ++ Answers (place + 1) a.call a.number answer ∷ [];
-      cut = cut_act plan p (Does (place + 1) (IsAnswered call answer reply)) entries (Answers (place + 1) a.call a.number answer ∷ []) (Hearing (place + 1) (place + 1)) (slice_set p.sessions place after) OutOfMemory held
-          [] entries [] replies_one refl (inl refl) (inl refl) (subst (λ (h : Option (List ℕ)). Rattle.std.specs.Io.KnownBytes.Appends p.held h []) is (appends_none p.held));
-      cause = inl (append-nil p.down ∙ a.down);
-      since = since_at seen faults start (p.outcomes ++ Answers (place + 1) a.call a.number answer ∷ []) [] last at;
+      linked = rw same (record { made = refl; asked = refl; answered = refl; waits = refl });
+      at_nodes = (tt, tt);
     }
 
   -- memory ran out though the answer is there
-  pub stops_answered : (answer : calls.Answer) (held : Option (List ℕ)) (last : World D) → p.held ≡ held → WorldIsAt seen faults start (p.outcomes ++ Answers (place + 1) a.call a.number answer ∷ []) [] last
-      → ((reply : List (List ℕ)) × IsReply a.call answer reply) → Stopped seen faults start plan p why.NoMemory held last
-  stops_answered answer held last is at reply =
-      stops_replying a.call answer reply.0 (record a.plain { whole = a.heard.0 ++ with_answer a.heard.1 answer reply.0 ∷ []; standing = answered a.state a.call answer })
-      (a.heard.0, a.heard.1, a.state, a.heard.2, a.waits, reply.1, refl, refl) refl held last is at
+  pub stops_answered : (held : Option (List ℕ)) (last : World D) → p.held ≡ held → last ≡ old.world → Stopped on start plan p why.NoMemory held last
+  unfolding cut_act
+  stops_answered held last is world = rw world (record {
+    stop = OutOfMemory;
+    is = refl;
+    outcomes = p.outcomes ++ came;
+    cut = cut_act plan p act says came (Hearing (place + 1) (place + 1)) (slice_set p.sessions place after) OutOfMemory held [] says [] one refl (inl refl) (inl refl)
+        (subst (λ (h : Option (List ℕ)). Appends p.held h []) is (appends_none p.held));
+    causes = causes_on on start old.world p.been act (does_plain (place + 1) (IsAnswered a.call answer a.reply)) (a.went.causes (failed_in p.been) a.shows.causes);
+    since = (without_session (place + 1) p.awaited, a.went.at);
+  })
+    where
+      act : Act
+      act = Does (place + 1) (IsAnswered a.call answer a.reply)
+
+      after : Session
+      after = record a.plain { whole = a.has.before ++ with_answer a.has.last answer a.reply ∷ []; standing = answered a.state a.call answer }
+
+      says : List Entry
+      says = said_lines (place + 1) a.reply ++ closing (place + 1) (IsAnswered a.call answer a.reply) after.standing
+
+      one : OneAct plan p act says came (Hearing (place + 1) (place + 1)) (slice_set p.sessions place after)
+      one = replies_one a.call a.reply after (a.has.before, a.has.last, a.state, a.has.heard, a.waits, a.replies, refl, refl) refl
 
   -- it replied
-  abbrev pub replied_point : calls.Answer → Session → Point
-  replied_point answer after = record p {
+  abbrev pub replied_point : (call : calls.Call) (reply : List (List ℕ)) → Session → Point
+  replied_point call reply after = record p {
     turn = Hearing (place + 1) (place + 1);
     sessions = slice_set p.sessions place after;
-    outcomes = p.outcomes ++ Answers (place + 1) a.call a.number answer ∷ [];
-    awaited = [];
+    been = p.been ++ Does (place + 1) (IsAnswered call answer reply) ∷ [];
+    outcomes = p.outcomes ++ Answers (place + 1) a.call a.has.open_call.ticket answer ∷ [];
+    awaited = without_session (place + 1) p.awaited;
   }
 
-  pub replying : (answer : calls.Answer) (after : After) (items out : List ℕ) (new : Cluster D) → out ≡ items → WorldIsAt seen faults start (p.outcomes ++ Answers (place + 1) a.call a.number answer ∷ []) [] new.world
-      → is_up new.world ≡ is_up old.world → new.sessions.tickets ≡ old.sessions.tickets
-      → (r : RepliesTo plan p.sessions place a.plain answer after items old.sessions.standing new.sessions) → IsSaying seen faults start plan p (replied_point answer r.after) place (place + 1) after out new
-  replying answer after items out new shown at up tickets r =
+  pub replying : (after : After) (items out : List ℕ) (new : Cluster D) → out ≡ items → new.world ≡ old.world → new.sessions.nodes ≡ old.sessions.nodes
+      → place < length old.sessions.calls.items → new.sessions.calls.items ≡ slice_set old.sessions.calls.items place None
+      → (r : RepliesTo plan p.sessions place a.plain answer after items old.sessions.standing new.sessions) → IsSaying on start plan p (replied_point r.call r.reply r.after) place (place + 1) after out new
+  replying after items out new shown world nodes within kept r =
       let is = is_after plan a.plain r.call answer r.reply after r.after _ _ r.did r.goes_on in
-      let on : IsOn a.plain.standing = rw a.waits tt in
+      let on_it : IsOn a.plain.standing = rw a.waits tt in
       let same : r.call ≡ a.call = same_call r.did.2 a.state r.call a.call (sym r.did.4 ∙ a.waits) in
-      let quiet = replies_on plan a.plain r.call answer r.reply r.reply r.after r.did in
+      let act = Does (place + 1) (IsAnswered r.call answer r.reply) in
+      let one = does_plain (place + 1) (IsAnswered r.call answer r.reply) in
+      let same_node = did_node plan a.plain (IsAnswered r.call answer r.reply) r.reply r.after r.did in
       record {
-        act = Does (place + 1) (IsAnswered r.call answer r.reply);
+        act = act;
         said = r.reply;
-        outcomes = Answers (place + 1) a.call a.number answer ∷ [];
-        one = subst (λ (es : List Entry). OneAct plan p (Does (place + 1) (IsAnswered r.call answer r.reply)) es (Answers (place + 1) a.call a.number answer ∷ []) (Hearing (place + 1) (place + 1)) (slice_set p.sessions place r.after))
+        outcomes = came;
+        one = subst (λ (es : List Entry). OneAct plan p (Does (place + 1) (IsAnswered r.call answer r.reply)) es came (Hearing (place + 1) (place + 1)) (slice_set p.sessions place r.after))
             (ap (λ (es : List Entry). said_lines (place + 1) r.reply ++ es) (closed_or_not after (place + 1) r.call answer r.reply r.after is))
-            (replies_one r.call answer r.reply r.after r.did same);
+            (replies_one r.call r.reply r.after r.did same);
         came = refl;
-        failed = sym (append-nil p.down);
+        been = refl;
         held = refl;
         says = shown ∙ r.says;
         lines = r.lines;
         shows = record {
-          at = at;
+          at = rw world a.went.at;
           talks = r.talks;
-          tickets = rw tickets (subst (λ (ss : List Session). NoTickets old.sessions.tickets.items ss) (set_twice p.sessions place (record a.plain { standing = EndedDown }) r.after)
-              (no_tickets_set old.sessions.tickets.items (slice_set p.sessions place (record a.plain { standing = EndedDown })) place r.after a.others quiet));
-          count = counts_after p.sessions place a.plain r.after after old.sessions.standing new.sessions.standing a.here on a.count r.goes_on;
-          up = inl (up ∙ a.up, a.down);
+          nodes = ap (λ l. l.items) nodes ∙ ap (λ (t : Sessions). t.nodes.items) a.same ∙ a.shows.nodes ∙ sym (nodes_set p.sessions place a.plain r.after a.here same_node);
+          tickets = each_set (HasOwnTicket new.sessions.calls.items (without_session (place + 1) p.awaited)) p.sessions place r.after others
+              (own_none new.sessions.calls.items (without_session (place + 1) p.awaited) place r.after (replies_on plan a.plain r.call answer r.reply r.reply r.after r.did) none_here);
+          count = counts_after p.sessions place a.plain r.after after old.sessions.standing new.sessions.standing a.here on_it (ap (λ (t : Sessions). t.standing) a.same ∙ a.shows.count) r.goes_on;
+          lives = lives_on plan p.been act a.old.world new.world one (rw world a.lives) a.shows.lives;
+          up = each_set (λ i s. StandsOnNode plan (p.been ++ act ∷ []) s) p.sessions place r.after (λ i s here other. up_on plan p.been act s one (a.shows.up i s here))
+              (up_on plan p.been act r.after one (λ stands. subst (λ (n : ℕ). IsUpAt plan p.been n) (sym same_node) (a.shows.up place a.plain a.here on_it)));
+          causes = causes_on on start new.world p.been act one (rw world (a.went.causes (failed_in p.been) a.shows.causes));
         };
         turn = refl;
-        quiet = refl;
-        down = a.down;
         plain = r.after;
         here = set_here p.sessions place r.after (within_get p.sessions place a.plain a.here);
         is_after = is;
       }
     where
       same_call : (s t : TalkState) (c d : calls.Call) → Waiting s c ≡ Waiting t d → c ≡ d
-      same_call s t c d is = cc
+      same_call s t c d e = cc
 
--- a ticket that was taken is less to do
-pub taken_less : (old new : Sessions) (place : ℕ) (ticket : Ticket) → slice_get old.tickets.items place ≡ Some (Some ticket) → new.tickets.items ≡ slice_set old.tickets.items place None
-    → left_at place new ≤ left_at place old → work_at place new < work_at place old
-taken_less old new place ticket has tickets left =
-    let within : place < length old.tickets.items = within_get old.tickets.items place (Some ticket) has in
-    let was : ticket_here (slice_get old.tickets.items place) ≡ 1 = ap ticket_here has in
-    let none : slice_get new.tickets.items place ≡ Some None = ap (λ (ts : List (Option Ticket)). slice_get ts place) tickets ∙ set_here old.tickets.items place None within in
-    let is : ticket_here (slice_get new.tickets.items place) ≡ 0 = ap ticket_here none in
-    omega (arith, was, is, left)
+      none_here : slice_get new.sessions.calls.items place ≡ Some None
+      none_here = ap (λ (l : List (Option OpenCall)). slice_get l place) kept ∙ set_here old.sessions.calls.items place None within
 
--- nothing was taken
-pub shows_untaken : {D : Type 0} (seen : D → Option (List ℕ)) (faults : D → ℕ) (start : World D) (p : Point) (place : ℕ) (old new : Cluster D) → IsAtPoint seen faults start old p
-    → new.world ≡ old.world → new.sessions.talkers ≡ old.sessions.talkers → new.sessions.standing ≡ old.sessions.standing → new.sessions.tickets.items ≡ slice_set old.sessions.tickets.items place None
-    → slice_get old.sessions.tickets.items place ≡ Some None → IsAtPoint seen faults start new p
-shows_untaken seen faults start p place old new shows world talkers standing tickets none = record {
-  at = rw world shows.at;
-  talks = rw talkers shows.talks;
-  tickets = rw (tickets ∙ set_same old.sessions.tickets.items place None none) shows.tickets;
-  count = standing ∙ shows.count;
-  up = rw world shows.up;
+      same_apart : (i : ℕ) → i ≢ place → slice_get new.sessions.calls.items i ≡ slice_get a.old.sessions.calls.items i
+      same_apart i other = ap (λ (l : List (Option OpenCall)). slice_get l i) kept ∙ get_apart old.sessions.calls.items place i None other ∙ ap (λ (t : Sessions). slice_get t.calls.items i) a.same
+
+      others : (i : ℕ) (s : Session) → slice_get p.sessions i ≡ Some s → i ≢ place → HasOwnTicket new.sessions.calls.items (without_session (place + 1) p.awaited) i s
+      others i s here other =
+          subst (λ (o : Option (Option OpenCall)). TicketFits o s (i + 1) (without_session (place + 1) p.awaited) s.standing) (sym (same_apart i other))
+          (ticket_without _ s (i + 1) (place + 1) p.awaited s.standing (λ both. other (omega (arith, both))) (a.shows.tickets i s here))
+
+-- the session at a place is asked for
+pub record Waiter (p : Point) (place : ℕ) (kept : Option (Option OpenCall)) (open_call : OpenCall) : Type 0 where
+  pub plain : Session
+  pub here : slice_get p.sessions place ≡ Some plain
+  pub state : TalkState
+  pub call : calls.Call
+  pub waits : plain.standing ≡ Waiting state call
+  pub has : HasTicket kept plain (place + 1) call p.awaited
+  pub is : has.open_call ≡ open_call
+
+pub waiter : {D : Type 0} (on : View D) (start : World D) (plan : Plan) (p : Point) (place : ℕ) (cluster : Cluster D) (open_call : OpenCall) → IsAtPoint on start plan cluster p → place < length cluster.sessions.talkers.items
+    → slice_get cluster.sessions.calls.items place ≡ Some (Some open_call) → Waiter p place (slice_get cluster.sessions.calls.items place) open_call
+waiter on start plan p place cluster open_call shows within is =
+    let found = found_at cluster.sessions.talkers.items p.sessions place shows.talks within in
+    let w = ticket_waits (slice_get cluster.sessions.calls.items place) found.0 (place + 1) p.awaited found.0.standing open_call (shows.tickets place found.0 found.1) is in
+    record { plain = found.0; here = found.1; state = w.0; call = w.1; waits = w.2; has = w.3; is = some_same w.3.open_call open_call (some_same (Some w.3.open_call) (Some open_call) (sym w.3.has ∙ is)) }
+
+-- an answer of the call's kind has a reply
+pub own_reply : (kind : _) (call : calls.Call) (answer : Answer) → IsKindOf kind call → fits_kind kind answer ≡ true → (reply : List (List ℕ)) × IsReply call (answer_seen answer) reply
+own_reply kind call answer own fits = each_answer_has_reply call (answer_seen answer) (own.fits answer fits)
+
+-- what comes of asking for it
+module _ {D : Type 0} (on : View D) (start : World D) (plan : Plan) (p : Point) (place : ℕ) (old : Cluster D) (open_call : OpenCall) (held : Option (List ℕ)) (shows : IsAtPoint on start plan old p) (asks : AsksFrom place p)
+    (w : Waiter p place (slice_get old.sessions.calls.items place) open_call) (is_held : p.held ≡ held) where
+  pub stands : Among (record { ticket = open_call.ticket; session = place + 1; call = w.call }) p.awaited
+  stands = subst (λ (o : OpenCall). Among (record { ticket = o.ticket; session = place + 1; call = w.call }) p.awaited) w.is w.has.stands
+
+  pub kind : IsKindOf open_call.kind w.call
+  kind = subst (λ (o : OpenCall). IsKindOf o.kind w.call) w.is w.has.kind
+
+  pub waits_on : (E : Type 0) (new : Cluster D) → new.sessions ≡ old.sessions → AskedSo {E = E} on start p.outcomes p.awaited (place + 1) w.call open_call (Ok None) old.world new.world → WentOn on start plan p (RestsAt (place + 1 + 1)) held new
+  waits_on E new same so = still_waits p place asks w.plain w.here w.state w.call w.waits on start plan old new open_call.ticket held is_held shows same so.0 so.1
+
+  pub told : (E : Type 0) (answer : Answer) (new : Cluster D) → new.sessions ≡ old.sessions → AskedSo {E = E} on start p.outcomes p.awaited (place + 1) w.call open_call (Ok (Some answer)) old.world new.world
+      → HasAnswer on start plan p place (answer_seen answer) new
+  told E answer new same so =
+      let reply = own_reply open_call.kind w.call answer kind so.0 in
+      record {
+        old = old;
+        shows = shows;
+        asks = asks;
+        plain = w.plain;
+        here = w.here;
+        state = w.state;
+        call = w.call;
+        waits = w.waits;
+        has = w.has;
+        reply = reply.0;
+        replies = reply.1;
+        lives = so.1;
+        went = subst (λ (o : OpenCall). WentTo on start old.world (p.outcomes ++ Answers (place + 1) w.call o.ticket (answer_seen answer) ∷ []) (without_session (place + 1) p.awaited) new.world) (sym w.is) so.2;
+        same = same;
+      }
+
+  pub stops_for : (last : World D) → HasGone on start old.world (p.outcomes ++ Unanswered (place + 1) w.call open_call.ticket ∷ []) last → Stopped on start plan p why.NoMemory held last
+  stops_for last so = stops_asking p place asks w.plain w.here w.state w.call w.waits on start plan old.world last open_call.ticket held is_held shows.causes so
+
+-- nobody waits at a place that keeps no ticket
+pub asks_past : {D : Type 0} (on : View D) (start : World D) (plan : Plan) (p : Point) (place : ℕ) (cluster : Cluster D) → IsAtPoint on start plan cluster p → AsksFrom place p
+    → slice_get cluster.sessions.calls.items place ≡ Some None → AsksFrom (place + 1) p
+asks_past on start plan p place cluster shows asks none = record {
+  from = asks.from;
+  ready = asks.ready;
+  before = let before = asks.before in omega (arith, before);
+  none = λ j from below. ⊎_elim (λ (less : j < place + 1). asks.none j from less) (λ (same : j ≡ place + 1). λ waits. quiet (subst (λ (i : ℕ). Waits (session_at p.sessions i)) same waits)) (less_or_same j (place + 1) (omega (arith, below)));
 }
+  where
+    less_or_same : (i n : ℕ) → i ≤ n → (i < n) ⊎ (i ≡ n)
+    less_or_same zero zero w = inr refl
+    less_or_same zero (suc n) w = inl (omega arith)
+    less_or_same (suc i) zero w = absurd (omega (arith, w))
+    less_or_same (suc i) (suc n) w = ⊎_elim (λ (l : i < n). inl (omega (arith, l))) (λ (e : i ≡ n). inr (ap suc e)) (less_or_same i n (omega (arith, w)))
+
+    quiet : Waits (session_at p.sessions (place + 1)) → ⊥
+    quiet waits = by (slice_get p.sessions place) refl (subst Waits (at_place p.sessions (place + 1) place refl) waits)
+      where
+        by : (o : Option Session) → slice_get p.sessions place ≡ o → Waits o → ⊥
+        by None is w = w
+        by (Some s) is w = waits_ticket (slice_get cluster.sessions.calls.items place) s (place + 1) p.awaited s.standing (shows.tickets place s is) none w.0 w.1 w.2
+
+-- those after this place are to be asked
+pub asks_on : (place : ℕ) (p : Point) → RestsAt (place + 1) p → AsksFrom place p
+asks_on place p rests = record { from = place + 1; ready = rests; before = omega arith; none = λ j from below. absurd (omega (arith, from, below)) }
+
+pub asks_again : {D : Type 0} (on : View D) (start : World D) (plan : Plan) (p : Point) (place : ℕ) (held : Option (List ℕ)) (cluster : Cluster D) → WentOn on start plan p (RestsAt (place + 1)) held cluster
+    → WentOn on start plan p (AsksFrom place) held cluster
+asks_again on start plan p place held cluster went =
+    record { q = went.q; work = went.work; held_is = went.held_is; shows = went.shows; so_is = asks_on place went.q went.so_is }
 
 pub none_of : {X : Type 0} (o : Option X) → ((x : X) → o ≡ Some x → ⊥) → o ≡ None
 none_of None is = refl
 none_of (Some x) is = absurd (is x refl)
 
-module _ {D : Type 0} (seen : D → Option (List ℕ)) (faults : D → ℕ) (start : World D) (plan mid last : Plan) (p q : Point) (place : ℕ) (between held : Option (List ℕ)) (old : Cluster D)
-    (work : Work plan p q) (same : mid ≡ plan) (still : last ≡ plan) (went : WentOn seen faults start mid q (HearsAt place (place + 1)) between old) where
-  goes : WentOn seen faults start plan q (HearsAt place (place + 1)) between old
-  goes = subst (λ (pl : Plan). WentOn seen faults start pl q (HearsAt place (place + 1)) between old) same went
+-- all were asked
+pub all_asked : {D : Type 0} (on : View D) (start : World D) (plan : Plan) (p : Point) (place : ℕ) (cluster : Cluster D) → IsAtPoint on start plan cluster p → AsksFrom place p
+    → length cluster.sessions.talkers.items ≤ place → NothingIsUnderWay p
+all_asked on start plan p place cluster shows asks all = (asks.from, asks.ready, λ j from waits. by j from waits (less_or_not j (place + 1)))
+  where
+    less_or_not : (i n : ℕ) → (i < n) ⊎ (n ≤ i)
+    less_or_not i zero = inr (omega arith)
+    less_or_not zero (suc n) = inl (omega arith)
+    less_or_not (suc i) (suc n) = ⊎_elim (λ (l : i < n). inl (omega (arith, l))) (λ (g : n ≤ i). inr (omega (arith, g))) (less_or_not i n)
 
-  -- it was answered, and heard on
-  pub answered_on : (new : Cluster D) → ((r : Point) → IsAtPoint seen faults start old r → r.held ≡ between → HearsAt place (place + 1) r → WentOn seen faults start last r (RestsAt place (place + 1)) held new)
-      → (x : Point) × Work plan p x × (x.held ≡ held) × IsAtPoint seen faults start new x × AsksFrom place x
-  answered_on new more =
-      let one = goes in
-      let two : WentOn seen faults start plan one.q (RestsAt place (place + 1)) held new =
-      subst (λ (pl : Plan). WentOn seen faults start pl one.q (RestsAt place (place + 1)) held new) still (more one.q one.shows one.held_is one.so_is) in
-      (two.q, work_more plan p one.q two.q (work_more plan p q one.q work one.work) two.work, two.held_is, two.shows, asks_on place two.q two.so_is)
+    length_is : length cluster.sessions.talkers.items ≡ length p.sessions
+    length_is = converse_length cluster.sessions.talkers.items p.sessions shows.talks
 
-  -- it was answered, and the work stopped as it heard on
-  pub answered_stops : (reason : Why) (world : World D) → ((r : Point) → IsAtPoint seen faults start old r → r.held ≡ between → HearsAt place (place + 1) r → Stopped seen faults start last r reason held world)
-      → Stopped seen faults start plan p reason held world
-  answered_stops reason world more =
-      let one = goes in
-      stopped_on seen faults start plan p one.q reason held world (work_more plan p q one.q work one.work)
-      (subst (λ (pl : Plan). Stopped seen faults start pl one.q reason held world) still (more one.q one.shows one.held_is one.so_is))
+    by : (j : ℕ) → asks.from ≤ j → Waits (session_at p.sessions j) → (j < place + 1) ⊎ (place + 1 ≤ j) → ⊥
+    by j from waits (inl less) = asks.none j from less waits
+    by zero from waits (inr more) = omega (arith, more)
+    by (suc i) from waits (inr more) = none (slice_get p.sessions i) refl (subst Waits (at_place p.sessions (suc i) i (omega arith)) waits)
+      where
+        none : (o : Option Session) → slice_get p.sessions i ≡ o → Waits o → ⊥
+        none None is w = w
+        none (Some s) is w = let inside = within_get p.sessions i s is in omega (arith, inside, length_is, all, more)
+
+-- the plan stays
+pub answer_plan : {D : Type 0} (on : View D) (start : World D) (plan other : Plan) (p : Point) (place : ℕ) (answer : calls.Answer) (cluster : Cluster D) → plan ≡ other → HasAnswer on start plan p place answer cluster → HasAnswer on start other p place answer cluster
+answer_plan on start plan other p place answer cluster is has = subst (λ (pl : Plan). HasAnswer on start pl p place answer cluster) is has
+
+-- a call that was answered is less to do
+pub answered_less : (old new : Sessions) (place : ℕ) (open_call : OpenCall) → slice_get old.calls.items place ≡ Some (Some open_call) → new.calls.items ≡ slice_set old.calls.items place None
+    → left_at place new ≤ left_at place old → work_at place new < work_at place old
+answered_less old new place open_call has kept left =
+    let within : place < length old.calls.items = within_get old.calls.items place (Some open_call) has in
+    let was : call_here (slice_get old.calls.items place) ≡ 1 = ap call_here has in
+    let none : slice_get new.calls.items place ≡ Some None = ap (λ (l : List (Option OpenCall)). slice_get l place) kept ∙ set_here old.calls.items place None within in
+    let is : call_here (slice_get new.calls.items place) ≡ 0 = ap call_here none in
+    omega (arith, was, is, left)

@@ -1,143 +1,207 @@
--- The first act of each line, and lines that come to none.
-use Rattle.std.proofs.Common.{◌≡◌, ◌≢◌, ◌⊎◌, ◌+◌, ◌++◌, ◌∷◌, ◌<◌, ◌≤◌, ◌-◌, ℕ, Bool, true, false, List, [], length, flat_map, All, Option, Some, None, Result, Ok, Err, refl, sym, ap, ◌∙◌, subst, inl, inr, ⊎_elim, arith}
-use Rattle.std.specs.Prelude.{slice_get, slice_set, OnOk}
+-- Lines that come to nothing, and the first act of a line that feeds a session.
+use Rattle.std.proofs.Common.{◌≡◌, ◌≢◌, ◌⊎◌, ◌+◌, ◌++◌, ◌∷◌, ◌<◌, ◌≤◌, ℕ, Bool, true, false, List, [], length, flat_map, Option, Some, None, Result, Ok, Err, refl, sym, ap, ◌∙◌, subst, inl, inr, ⊎_elim, arith}
+use Rattle.std.specs.Prelude.{slice_get, slice_set, if◌then◌else◌}
 use Rattle.std.specs.Io.KnownBytes.{Appends}
 use Rattle.std.proofs.lemmas.List.{append-nil}
-use Rattle.std.proofs.lemmas.List.Elements.{All-nil, All-cons}
-use Rattle.drive_tape.specs.declared.entry.WriteStop.{WriteStop}
-use Rattle.drive_tape.specs.Entries.{WritesEntries}
 use Rattle.io_edge.proofs.Known.{appends_none}
-use Rattle.mail_model.specs.Lines.{sent_line, HasNoCrlf}
+use Rattle.mail_model.specs.Lines.{sent_line}
 use Rattle.mail_model.specs.Plan.{Plan}
-use Rattle.mail_model.specs.Tape as tape
+use Rattle.mail_model.specs.Site.{TapeFault as site}
 use Rattle.mail_model.specs.Tape.{Order, tape_order}
-use Rattle.mail_model.specs.Tape.Order.{Open, Say, Feed, Close}
+use Rattle.mail_model.specs.Tape.Order.{Say, Feed, GiveUp}
 use Rattle.mail_model.specs.Transcript.{Entry, written_of, said_lines}
 use Rattle.session_model.specs.Calls as calls
-use Rattle.session_model.specs.Talk.{TalkState, Standing, IsOn, entered_as}
-use Rattle.session_model.specs.Talk.Standing.{EndedClosed}
-use Rattle.session_model.specs.Sessions.{Session, session_at, exchanges_of}
-use Rattle.session_model.specs.Acts.{Acted, closing, greeting_of, opened_session}
-use Rattle.session_model.specs.Acts.Act.{Opens, Does}
-use Rattle.session_model.specs.Acts.Deed.{IsFed, Closes}
-use Rattle.session_model.specs.Turns.{Turn, Waits, Starts}
-use Rattle.session_model.specs.Turns.Turn.{Hearing, Asking}
-use Rattle.session_model.specs.Run.{Stop, refusal, session_fault, is_on, count_on}
-use Rattle.session_model.specs.Run.Stop.{BehindLine, OutOfMemory}
-use Rattle.cluster_world.specs.Outcomes.{Awaited}
-use Rattle.cluster_world.specs.World.{is_up}
+use Rattle.session_model.specs.Talk.{TalkState, Standing, IsOn}
+use Rattle.session_model.specs.Sessions.{Session, session_at}
+use Rattle.session_model.specs.Acts.{Act, Acted, closing}
+use Rattle.session_model.specs.Acts.Act.{Does}
+use Rattle.session_model.specs.Acts.Deed.{IsFed}
+use Rattle.session_model.specs.Lives.{failed_in}
+use Rattle.session_model.specs.Logs.{Asked, Answered}
+use Rattle.session_model.specs.Turns.{Turn, Starts}
+use Rattle.session_model.specs.Turns.Turn.{Hearing}
+use Rattle.session_model.specs.Run.{Made, Stop, FirstStep, IsInVain, refusal, session_fault, giving_fault, waiting_fault, is_on, count_on}
+use Rattle.session_model.specs.Run.Stop.{BehindLine, Denied, SinkFailed, OutOfMemory}
+use Rattle.node_store.specs.Disks.{View}
+use Rattle.cluster_world.specs.Outcomes.{Outcome, Awaited, made_of, asked_by_outcome, answered_by_outcome}
+use Rattle.cluster_world.specs.declared.fault.StepFault.{StepFault}
+use Rattle.cluster_world.specs.declared.fault.StepFault.TheVariants as fault
 use Rattle.cluster_world.specs.declared.world.World.{World}
-use Rattle.call_tickets.specs.declared.call.Call.{Call}
-use Rattle.mail_base.specs.declared.ticket.Ticket.{Ticket}
 use Rattle.drive_tape.specs.declared.cluster.Cluster.{Cluster}
+use Rattle.drive_tape.specs.declared.open_call.OpenCall.{OpenCall}
+use Rattle.drive_tape.specs.declared.drove.Stop.{Stop as Why}
 use Rattle.drive_tape.specs.declared.drove.Stop.TheVariants as why
 use Rattle.drive_tape.specs.declared.drove.TapeFault.{TapeFault}
-use Rattle.drive_tape.specs.declared.drove.TapeFault.TheVariants.{NoSuchSession}
+use Rattle.drive_tape.specs.declared.drove.TapeFault.TheVariants as tape
+use Rattle.drive_tape.specs.Denials.{stop_by}
+use Rattle.drive_tape.specs.Drive.{MayLackOne, IsDenied}
 use Rattle.drive_tape.specs.Faults.{tape_fault_seen}
 use Rattle.drive_tape.specs.Fed.{IsFeeding, IsFeedingAt}
-use Rattle.drive_tape.specs.Leaving.{IsLeaveOf}
-use Rattle.drive_tape.specs.Talks.{Converse, NoTickets, HaveTickets, IsFound}
-use Rattle.drive_tape.specs.Worlds.{WorldIsAt, IsSince}
-use Rattle.drive_tape.specs.Points.{Point, Work, AreLinked, IsAtPoint, WentOn, WorkGoes, Stopped, HasCauses, IsUpUnlessFailed}
-use Rattle.drive_tape.specs.Clusters.{HearsAt, RestsAt, SessionEndsAt, AsksFrom}
-use Rattle.drive_tape.specs.Lines.{NothingIsUnderWay, IsStarted, LineDid, LineStopped, IsWhy}
-use Rattle.drive_tape.proofs.Talks.{is_spoken_to, on_on, at_place, count_same, count_less, no_tickets_set, quiet_at, set_here, within_get, still_up}
-use Rattle.drive_tape.proofs.Moves.{acted_does}
-use Rattle.drive_tape.proofs.Clusters.{since_at, causes_at, causes_more, went_on, stopped_on, went_plan, stopped_plan}
+use Rattle.drive_tape.specs.Talks.{Converse, HasOwnTicket, HasTicket, TicketFits, StandsOnNode, IsFound, nodes_of}
+use Rattle.drive_tape.specs.Worlds.{WorldIsAt, IsSince, HasCauses}
+use Rattle.drive_tape.specs.Points.{Point, Work, AreLinked, waits_by_outcome, IsAtOwnNode, IsAtPoint, WentOn, WorkGoes, Stopped}
+use Rattle.drive_tape.specs.Clusters.{HearsAt, RestsAt, AsksFrom}
+use Rattle.drive_tape.specs.Lines.{IsStarted, LineStopped, IsWhy}
+use Rattle.drive_tape.proofs.Talks.{is_spoken_to, at_place, count_same, set_here, within_get}
+use Rattle.drive_tape.proofs.Acting.{acted_does}
+use Rattle.drive_tape.proofs.Clusters.{goes_more, goes_plan}
+use Rattle.drive_tape.proofs.Places.{each_set, nodes_set, does_plain, up_on, lives_on, same_lives, causes_on}
 
 -- nothing was done
-module _ {D : Type 0} (seen : D → Option (List ℕ)) (faults : D → ℕ) (start : World D) (plan : Plan) (p : Point) (line : List ℕ) (held : Option (List ℕ)) (world : World D) (same : p.held ≡ held)
-    (since : IsSince seen faults start p.outcomes world) (cause : HasCauses seen faults start p.down world) where
-  gave : Appends p.held held (written_of [] ++ [])
-  gave = subst (λ (h : Option (List ℕ)). Appends p.held h []) same (appends_none p.held)
-
-  stopped : (stop : Stop) (reason : why.the_data) → stop ≢ Stop.SinkFailed → IsWhy reason plan p line stop [] → (stop ≡ OutOfMemory) ⊎ (stop ≡ BehindLine) → LineStopped seen faults start plan p line reason held world
-  stopped stop reason not_sink is which = record {
+module _ {D : Type 0} (on : View D) (start : World D) (plan : Plan) (p : Point) (line : List ℕ) (held : Option (List ℕ)) (world : World D) (same : p.held ≡ held)
+    (since : IsSince on start p.outcomes world) (causes : HasCauses on start (failed_in p.been) world) where
+  stopped : (stop : Stop) (reason : Why) → stop ≢ SinkFailed → stop ≢ Denied → IsWhy reason plan p line stop [] [] → MayLackOne stop [] → LineStopped on start plan p line reason held world
+  stopped stop reason not_sink not_denied is lacks = record {
     stop = stop;
     midst = [];
     behind = [];
     tail = [];
     extra = [];
     sessions = p.sessions;
-    off = (refl, refl, refl, not_sink);
+    off = (refl, refl, refl, not_sink, not_denied);
     at_line = inl refl;
-    why = is;
     new = [];
+    why = is;
     lacking = [];
-    linked = record { made = refl; asked = refl; answered = refl };
-    lack = lacks stop which;
-    since = rw (append-nil p.outcomes) since;
-    cause = causes_more seen faults start p.down [] world refl cause;
+    linked = record { made = refl; asked = refl; answered = refl; waits = refl };
+    at_nodes = tt;
+    lack = lacks;
+    since = subst (λ (os : List Outcome). IsSince on start os world) (sym (append-nil p.outcomes)) since;
+    causes = subst (λ (been : List Act). HasCauses on start (failed_in been) world) (sym (append-nil p.been)) causes;
     missing = [];
     all = inl refl;
     cut = [];
     is_cut = inl refl;
-    whole = λ is. refl;
-    gave = gave;
+    whole = λ behind. refl;
+    gave = subst (λ (h : Option (List ℕ)). Appends p.held h []) same (appends_none p.held);
   }
-    where
-      lacks : (stop : Stop) → (stop ≡ OutOfMemory) ⊎ (stop ≡ BehindLine) → Rattle.drive_tape.specs.Drive.MayLackOne stop []
-      lacks OutOfMemory which = inl refl
-      lacks BehindLine which = refl
-      lacks Stop.SinkFailed which = refl
 
-  pub not_begun : LineStopped seen faults start plan p line why.NoMemory held world
-  not_begun = stopped OutOfMemory why.NoMemory (λ is. cc) refl (inl refl)
+  pub not_begun : LineStopped on start plan p line why.NoMemory held world
+  not_begun = stopped OutOfMemory why.NoMemory (λ is. absurd (let never : OutOfMemory ≡ SinkFailed = is in cc)) (λ is. absurd (let never : OutOfMemory ≡ Denied = is in cc)) refl (inl refl)
 
-  pub refused : (order : Order) (fault : TapeFault) → tape_order line ≡ Some order → refusal plan p.down p.sessions order ≡ Some (tape_fault_seen fault) → LineStopped seen faults start plan p line (why.Bad fault) held world
-  refused order fault spelled is = stopped BehindLine (why.Bad fault) (λ is. cc) (refl, refl, inr (order, spelled, is)) (inr refl)
+  pub refused : (order : Order) (one : TapeFault) → tape_order line ≡ Some order → refusal plan p.been p.sessions order ≡ Some (tape_fault_seen one) → LineStopped on start plan p line (why.Bad one) held world
+  refused order one spelled is =
+      stopped BehindLine (why.Bad one) (λ so. absurd (let never : BehindLine ≡ SinkFailed = so in cc)) (λ so. absurd (let never : BehindLine ≡ Denied = so in cc))
+      (inl (refl, refl, inr (order, spelled, is))) refl
+
+-- The first step of a line was made, and nothing came of it.
+module _ {D : Type 0} (on : View D) (start : World D) (plan : Plan) (p : Point) (line : List ℕ) (held : Option (List ℕ)) (world : World D) (same : p.held ≡ held)
+    (order : Order) (spelled : tape_order line ≡ Some order) (accepted : refusal plan p.been p.sessions order ≡ None) (outcome : Outcome) (first : FirstStep order p.sessions (made_of outcome))
+    (asks : asked_by_outcome outcome ≡ []) (answers : answered_by_outcome outcome ≡ []) (waits : waits_by_outcome outcome ≡ []) (own : IsAtOwnNode p.sessions outcome) (since : IsSince on start (p.outcomes ++ outcome ∷ []) world) (causes : HasCauses on start (failed_in p.been) world) where
+  tried : (stop : Stop) (reason : Why) → IsInVain stop → IsWhy reason plan p line stop (line ∷ []) (outcome ∷ []) → MayLackOne stop [] → LineStopped on start plan p line reason held world
+  tried stop reason vain is lacks = record {
+    stop = stop;
+    midst = line ∷ [];
+    behind = [] ∷ [];
+    tail = [];
+    extra = made_of outcome ∷ [];
+    sessions = p.sessions;
+    off = (record { order = order; spelled = spelled; accepted = accepted; step = made_of outcome; first = first; extra_is = refl; in_vain = vain; none = refl }, refl);
+    at_line = inr refl;
+    new = outcome ∷ [];
+    why = is;
+    lacking = [];
+    linked = record { made = refl; asked = sym (ap (λ (l : List Asked). (l ++ []) ++ []) asks); answered = sym (ap (λ (l : List Answered). l ++ []) answers); waits = sym (ap (λ (l : List ℕ). l ++ []) waits) };
+    at_nodes = (own, tt);
+    lack = lacks;
+    since = since;
+    causes = subst (λ (been : List Act). HasCauses on start (failed_in been) world) (sym (append-nil p.been)) causes;
+    missing = [];
+    all = inl refl;
+    cut = [];
+    is_cut = inl refl;
+    whole = λ behind. refl;
+    gave = subst (λ (h : Option (List ℕ)). Appends p.held h []) same (appends_none p.held);
+  }
+
+  bad : (one : TapeFault) → IsDenied one outcome → LineStopped on start plan p line (why.Bad one) held world
+  bad one denied = tried Denied (why.Bad one) tt (inr (refl, refl, ([], outcome, refl, denied))) refl
+
+  by_fault : (one : StepFault) → ((f : TapeFault) → stop_by one ≡ why.Bad f → IsDenied f outcome) → LineStopped on start plan p line (stop_by one) held world
+  by_fault fault.NoSuchNode denied = bad tape.NoSuchNode (denied tape.NoSuchNode refl)
+  by_fault fault.NodeLost denied = bad tape.NodeLost (denied tape.NodeLost refl)
+  by_fault fault.NodeDown denied = bad tape.NodeDown (denied tape.NodeDown refl)
+  by_fault fault.NodeUp denied = bad tape.NodeUp (denied tape.NodeUp refl)
+  by_fault fault.NoSuchLetter denied = bad tape.NoSuchLetter (denied tape.NoSuchLetter refl)
+  by_fault fault.NoSuchTicket denied = bad tape.NoSuchTicket (denied tape.NoSuchTicket refl)
+  by_fault fault.Worn denied = bad tape.Worn (denied tape.Worn refl)
+  by_fault fault.NoRoom denied = bad tape.NoRoom (denied tape.NoRoom refl)
+  by_fault (fault.NoMemory down) denied = tried OutOfMemory why.NoMemory tt refl (inl refl)
+
+  -- the cluster denied it, or memory ran out
+  pub in_vain : (one : StepFault) (reason : Why) → reason ≡ stop_by one → ((f : TapeFault) → stop_by one ≡ why.Bad f → IsDenied f outcome) → LineStopped on start plan p line reason held world
+  in_vain one reason is denied = subst (λ (r : Why). LineStopped on start plan p line r held world) (sym is) (by_fault one denied)
 
 -- the world as it was
-pub since_shows : {D : Type 0} (seen : D → Option (List ℕ)) (faults : D → ℕ) (start : World D) (cluster : Cluster D) (p : Point) → IsAtPoint seen faults start cluster p → IsSince seen faults start p.outcomes cluster.world
-since_shows seen faults start cluster p shows = since_at seen faults start p.outcomes p.awaited cluster.world shows.at
-
-pub causes_shows : {D : Type 0} (seen : D → Option (List ℕ)) (faults : D → ℕ) (start : World D) (cluster : Cluster D) (p : Point) → IsAtPoint seen faults start cluster p → HasCauses seen faults start p.down cluster.world
-causes_shows seen faults start cluster p shows = causes_at seen faults start p.outcomes p.awaited cluster.world p.down p.sessions shows.at shows.up
+pub since_shows : {D : Type 0} (on : View D) (start : World D) (plan : Plan) (cluster : Cluster D) (p : Point) → IsAtPoint on start plan cluster p → IsSince on start p.outcomes cluster.world
+since_shows on start plan cluster p shows = (p.awaited, shows.at)
 
 -- no session of this number is spoken to
-pub no_session : (p : Point) (k : ℕ) → IsFound k None p.sessions → session_fault (session_at p.sessions k) ≡ Some (tape_fault_seen NoSuchSession)
+pub no_session : (p : Point) (k : ℕ) → IsFound k None p.sessions → session_fault (session_at p.sessions k) ≡ Some (tape_fault_seen tape.NoSuchSession)
 no_session p k found = found
 
+no_giving : (standing : Standing) → (is_on standing ≡ false) → waiting_fault standing ≡ Some site.NoSuchSession
+no_giving (Standing.Hearing state) is = absurd (let never : true ≡ false = is in cc)
+no_giving (Standing.Waiting state call) is = absurd (let never : true ≡ false = is in cc)
+no_giving Standing.EndedByQuit is = refl
+no_giving Standing.EndedDown is = refl
+no_giving Standing.EndedClosed is = refl
+
+pub no_giver : (one : Option Session) → session_fault one ≡ Some site.NoSuchSession → giving_fault one ≡ Some site.NoSuchSession
+no_giver None is = refl
+no_giver (Some session) is = by (is_on session.standing) refl is
+  where
+    by : (b : Bool) → is_on session.standing ≡ b → (if b then None else Some site.NoSuchSession) ≡ Some site.NoSuchSession → waiting_fault session.standing ≡ Some site.NoSuchSession
+    by true so never = absurd (let no : ◌≡◌ {A = Option site} None (Some site.NoSuchSession) = never in cc)
+    by false so same = no_giving session.standing so
+
 -- the work went on from the first act
-pub goes_on : {D T : Type 0} (seen : D → Option (List ℕ)) (faults : D → ℕ) (start : World D) (plan other : Plan) (p q : Point) (so : Point → Type 0) (result : Result T why.the_data) (held : Option (List ℕ)) (cluster : Cluster D)
-    → other ≡ plan → Work plan p q → WorkGoes seen faults start other q so result held cluster → WorkGoes seen faults start plan p so result held cluster
-goes_on seen faults start plan other p q so (Ok x) held cluster same work more = went_on seen faults start plan p q so held cluster work (went_plan seen faults start other plan q so held cluster same more)
-goes_on seen faults start plan other p q so (Err reason) held cluster same work more = stopped_on seen faults start plan p q reason held cluster.world work (stopped_plan seen faults start other plan q reason held cluster.world same more)
+pub goes_on : {D T : Type 0} (on : View D) (start : World D) (plan other : Plan) (p q : Point) (so : Point → Type 0) (result : Result T Why) (held : Option (List ℕ)) (cluster : Cluster D)
+    → other ≡ plan → Work plan p q → WorkGoes on start other q so result held cluster → WorkGoes on start plan p so result held cluster
+goes_on on start plan other p q so result held cluster same work more = goes_more on start plan p q so result held cluster work (goes_plan on start other plan q so result held cluster same more)
 
--- the session at this place rests, and all are asked
-pub rests_asked : (p : Point) (place : ℕ) → RestsAt place 1 p → AsksFrom 0 p
-rests_asked p place rests = record {
-  from = 1;
-  ready = rests.ready;
-  before = omega arith;
-  awaits = ⊎_elim (λ none. inl none) (λ (one : (one : Awaited) × (p.awaited ≡ one ∷ []) × (one.session ≡ place + 1)). inr (one.0, one.1, rw one.2 (omega arith))) rests.alone;
-}
+pub goes_held : {D T : Type 0} (on : View D) (start : World D) (plan : Plan) (p : Point) (so : Point → Type 0) (result : Result T Why) (held other : Option (List ℕ)) (cluster : Cluster D) → held ≡ other
+    → WorkGoes on start plan p so result held cluster → WorkGoes on start plan p so result other cluster
+goes_held on start plan p so result held other cluster same went = subst (λ (h : Option (List ℕ)). WorkGoes on start plan p so result h cluster) same went
 
-on_closing : (k : ℕ) (octets : List ℕ) (standing : Standing) → IsOn standing → closing k (IsFed octets) standing ≡ []
+-- all are asked from the first on
+pub rests_asked : (p : Point) → RestsAt 1 p → AsksFrom 0 p
+rests_asked p rests = record { from = 1; ready = rests; before = omega arith; none = λ j above below waits. absurd (omega (arith, above, below)) }
+
+-- a ticket fits a session of the same node and exchanges
+pub ticket_alike : (kept : Option (Option OpenCall)) (s t : Session) (k : ℕ) (awaited : List Awaited) (standing : Standing) → t.node ≡ s.node → t.whole ≡ s.whole → TicketFits kept s k awaited standing → TicketFits kept t k awaited standing
+ticket_alike kept s t k awaited (Standing.Waiting state call) node whole f =
+    record { open_call = f.open_call; has = f.has; own = f.own ∙ sym node; kind = f.kind; stands = f.stands; before = f.before; last = f.last; heard = whole ∙ f.heard }
+ticket_alike kept s t k awaited (Standing.Hearing state) node whole f = f
+ticket_alike kept s t k awaited Standing.EndedByQuit node whole f = f
+ticket_alike kept s t k awaited Standing.EndedDown node whole f = f
+ticket_alike kept s t k awaited Standing.EndedClosed node whole f = f
+
+on_closing : (k : ℕ) (octets : List ℕ) (standing : Standing) → IsOn standing → said_lines k [] ++ closing k (IsFed octets) standing ≡ []
 on_closing k octets (Standing.Hearing state) on = refl
 on_closing k octets (Standing.Waiting state call) on = refl
 on_closing k octets Standing.EndedByQuit on = absurd on
 on_closing k octets Standing.EndedDown on = absurd on
 on_closing k octets Standing.EndedClosed on = absurd on
 
--- a session is given octets
-module _ {D : Type 0} (seen : D → Option (List ℕ)) (faults : D → ℕ) (start : World D) (plan : Plan) (p : Point) (line : List ℕ) (place : ℕ) (octets : List ℕ) (old new : Cluster D)
-    (f : IsFeedingAt p line place octets) (shows : IsAtPoint seen faults start old p) (quiet : p.awaited ≡ []) (held : Option (List ℕ)) (same_held : p.held ≡ held) (world : new.world ≡ old.world)
-    (tickets : new.sessions.tickets ≡ old.sessions.tickets) (count : new.sessions.standing ≡ old.sessions.standing) where
+-- a session is fed
+module _ {D : Type 0} (on : View D) (start : World D) (plan : Plan) (p : Point) (line : List ℕ) (place : ℕ) (octets : List ℕ) (old new : Cluster D) (f : IsFeedingAt p line place octets)
+    (shows : IsAtPoint on start plan old p) (world : new.world ≡ old.world) (nodes : new.sessions.nodes ≡ old.sessions.nodes) (kept : new.sessions.calls ≡ old.sessions.calls)
+    (count : new.sessions.standing ≡ old.sessions.standing) where
   abbrev pub fed : Session
   fed = record f.plain { octets = f.plain.octets ++ octets; rest = f.plain.rest ++ octets }
 
   abbrev pub fed_point : Point
-  fed_point = record p { turn = Hearing (place + 1) 1; sessions = slice_set p.sessions place fed; held = held }
+  fed_point = record p { turn = Hearing (place + 1) 1; sessions = slice_set p.sessions place fed; been = p.been ++ Does (place + 1) (IsFed octets) ∷ [] }
 
-  none : NoTickets old.sessions.tickets.items p.sessions
-  none = subst (λ (a : List Awaited). HaveTickets old.sessions.tickets.items p.sessions a) quiet shows.tickets
+  at_k : session_at p.sessions (place + 1) ≡ Some f.plain
+  at_k = at_place p.sessions (place + 1) place refl ∙ f.here
 
-  accepts : (order : Order) → IsFeeding order (place + 1) octets → refusal plan p.down p.sessions order ≡ None
-  accepts order (inl is) = rw is (is_spoken_to p.sessions (place + 1) f.plain (at_place p.sessions (place + 1) place refl ∙ f.here) f.on)
-  accepts order (inr is) = rw is.1 (is_spoken_to p.sessions (place + 1) f.plain (at_place p.sessions (place + 1) place refl ∙ f.here) f.on)
+  accepts : (order : Order) → IsFeeding order (place + 1) octets → refusal plan p.been p.sessions order ≡ None
+  accepts order (inl is) = rw is (is_spoken_to p.sessions (place + 1) f.plain at_k f.on)
+  accepts order (inr is) = rw is.1 (is_spoken_to p.sessions (place + 1) f.plain at_k f.on)
 
-  starts_so : (order : Order) → IsFeeding order (place + 1) octets → Starts order p.sessions (Does (place + 1) (IsFed octets)) (Hearing (place + 1) 1)
+  starts_so : (order : Order) → IsFeeding order (place + 1) octets → Starts plan p.been order p.sessions (Does (place + 1) (IsFed octets)) (Hearing (place + 1) 1)
   starts_so order (inl is) = rw is (refl, refl)
   starts_so order (inr is) = rw is.1 (ap (λ (o : List ℕ). Does (place + 1) (IsFed o)) is.2, refl)
 
@@ -149,162 +213,30 @@ module _ {D : Type 0} (seen : D → Option (List ℕ)) (faults : D → ℕ) (sta
     starts = starts_so f.order f.feeds;
     acted = subst (λ (es : List Entry). Acted plan p.sessions (Does (place + 1) (IsFed octets)) es (slice_set p.sessions place fed)) (on_closing (place + 1) octets f.plain.standing f.on)
         (acted_does plan p.sessions place f.plain fed (IsFed octets) [] f.here (f.on, refl, refl));
-    linked = record { made = refl; asked = refl; answered = refl };
-    came = refl;
-    none_failed = refl;
-    failed = refl;
-    gave = subst (λ (h : Option (List ℕ)). Appends p.held h []) same_held (appends_none p.held);
-  }
-
-  pub fed_shows : Converse new.sessions.talkers.items (slice_set p.sessions place fed) → IsAtPoint seen faults start new fed_point
-  fed_shows talks = record {
-    at = rw world shows.at;
-    talks = talks;
-    tickets = subst (λ (a : List Awaited). HaveTickets new.sessions.tickets.items (slice_set p.sessions place fed) a) (sym quiet)
-        (rw tickets (no_tickets_set old.sessions.tickets.items p.sessions place fed none (quiet_at old.sessions.tickets.items p.sessions place f.plain none f.here)));
-    count = count ∙ shows.count ∙ sym (count_same p.sessions place f.plain fed f.here f.on f.on);
-    up = rw world (inl (still_up _ p.down p.sessions place f.plain shows.up f.here f.on));
-  }
-
-  pub fed_hears : HearsAt place 1 fed_point
-  fed_hears = record { turn = refl; quiet = quiet; plain = fed; here = set_here p.sessions place fed (within_get p.sessions place f.plain f.here); on = f.on }
-
--- a session is closed
-module _ {D : Type 0} (seen : D → Option (List ℕ)) (faults : D → ℕ) (start : World D) (plan : Plan) (p : Point) (place : ℕ) (plain : Session) (call : Option Call) (old new : Cluster D)
-    (here : slice_get p.sessions place ≡ Some plain) (on : IsOn plain.standing) (shows : IsAtPoint seen faults start old p) (quiet : p.awaited ≡ []) (world : new.world ≡ old.world)
-    (tickets : new.sessions.tickets ≡ old.sessions.tickets) (count : new.sessions.standing ≡ old.sessions.standing - 1) where
-  abbrev pub closed : Session
-  closed = record plain { standing = EndedClosed }
-
-  abbrev pub closed_point : Point
-  closed_point = record p { turn = Hearing (place + 1) 1; sessions = slice_set p.sessions place closed }
-
-  nobody : NoTickets old.sessions.tickets.items p.sessions
-  nobody = subst (λ (a : List Awaited). HaveTickets old.sessions.tickets.items p.sessions a) quiet shows.tickets
-
-  at_k : session_at p.sessions (place + 1) ≡ Some plain
-  at_k = at_place p.sessions (place + 1) place refl ∙ here
-
-  pub closed_started : IsStarted plan p closed_point (Close (place + 1))
-  closed_started = record {
-    accepted = is_spoken_to p.sessions (place + 1) plain at_k on;
-    first = Does (place + 1) Closes;
-    said = [];
-    starts = (refl, λ waits. let w : Waits (Some plain) = subst Waits at_k waits in quiet_at old.sessions.tickets.items p.sessions place plain nobody here w.0 w.1 w.2, refl);
-    acted = acted_does plan p.sessions place plain closed Closes [] here (on, refl, refl);
-    linked = record { made = refl; asked = refl; answered = refl };
-    came = refl;
-    none_failed = refl;
-    failed = refl;
+    outcomes = [];
+    linked = record { made = refl; asked = refl; answered = refl; waits = refl };
+    at_nodes = tt;
+    came = sym (append-nil p.outcomes);
+    been = refl;
     gave = appends_none p.held;
   }
 
-  pub closed_shows : Converse new.sessions.talkers.items (slice_set p.sessions place closed) → IsAtPoint seen faults start new closed_point
-  closed_shows talks = record {
-    at = rw world shows.at;
-    talks = talks;
-    tickets = subst (λ (a : List Awaited). HaveTickets new.sessions.tickets.items (slice_set p.sessions place closed) a) (sym quiet)
-        (rw tickets (no_tickets_set old.sessions.tickets.items p.sessions place closed nobody (λ s c same. cc)));
-    count = count ∙ ap (λ (n : ℕ). n - 1) shows.count ∙ sym (count_less p.sessions place plain closed here on tt);
-    up = rw world (inl (still_up _ p.down p.sessions place plain shows.up here on));
-  }
+  pub fed_shows : Converse new.sessions.talkers.items (slice_set p.sessions place fed) → IsAtPoint on start plan new fed_point
+  fed_shows talks =
+      let act = Does (place + 1) (IsFed octets) in
+      let one = does_plain (place + 1) (IsFed octets) in
+      record {
+        at = rw world shows.at;
+        talks = talks;
+        nodes = ap (λ l. l.items) nodes ∙ shows.nodes ∙ sym (nodes_set p.sessions place f.plain fed f.here refl);
+        tickets = each_set (HasOwnTicket new.sessions.calls.items p.awaited) p.sessions place fed (λ i s here other. rw kept (shows.tickets i s here))
+            (ticket_alike (slice_get new.sessions.calls.items place) f.plain fed (place + 1) p.awaited f.plain.standing refl refl (rw kept (shows.tickets place f.plain f.here)));
+        count = count ∙ shows.count ∙ sym (count_same p.sessions place f.plain fed f.here f.on f.on);
+        lives = lives_on plan p.been act new.world new.world one (same_lives new.world) (rw world shows.lives);
+        up = each_set (λ i s. StandsOnNode plan (p.been ++ act ∷ []) s) p.sessions place fed (λ i s here other. up_on plan p.been act s one (shows.up i s here))
+            (up_on plan p.been act fed one (shows.up place f.plain f.here));
+        causes = causes_on on start new.world p.been act one (rw world shows.causes);
+      }
 
-  pub closed_ends : IsLeaveOf call (entered_as (exchanges_of plain)) → SessionEndsAt place 1 call closed_point
-  closed_ends leaves = record {
-    turn = refl;
-    quiet = quiet;
-    plain = closed;
-    here = set_here p.sessions place closed (within_get p.sessions place plain here);
-    idle = tt;
-    leaves_as = refl;
-    leaves = leaves;
-    down = (still_up _ p.down p.sessions place plain shows.up here on).1;
-  }
-
-count_more : (sessions : List Session) (one : Session) → IsOn one.standing → count_on (sessions ++ one ∷ []) ≡ count_on sessions + 1
-count_more [] one on = let o : is_on one.standing ≡ true = on_on one.standing on in rw o refl
-count_more (s ∷ ss) one on = let more : count_on (ss ++ one ∷ []) ≡ count_on ss + 1 = count_more ss one on in omega (arith, more)
-
-tickets_more : (tickets : List (Option Ticket)) (sessions : List Session) (one : Session) → NoTickets tickets sessions → ((state : TalkState) (call : calls.Call) → one.standing ≢ Standing.Waiting state call)
-    → NoTickets (tickets ++ None ∷ []) (sessions ++ one ∷ [])
-tickets_more [] [] one all quiet = (refl, quiet, tt)
-tickets_more [] (s ∷ ss) one all quiet = absurd all
-tickets_more (t ∷ ts) [] one all quiet = absurd all
-tickets_more (t ∷ ts) (s ∷ ss) one all quiet = (all.0, all.1, tickets_more ts ss one all.2 quiet)
-
--- a session is opened
-module _ {D : Type 0} (seen : D → Option (List ℕ)) (faults : D → ℕ) (start : World D) (plan : Plan) (p : Point) (protocol : tape.Protocol) (node : ℕ) (old new : Cluster D)
-    (accepted : refusal plan p.down p.sessions (Open protocol node) ≡ None) (only : node ≡ 1) (shows : IsAtPoint seen faults start old p) (quiet : p.awaited ≡ []) where
-  abbrev greeting : List ℕ
-  greeting = greeting_of protocol 1 1 (length p.sessions + 1) 0
-
-  abbrev pub opened_point : Option (List ℕ) → Point
-  opened_point held = record p { turn = Asking 1; sessions = p.sessions ++ opened_session protocol 1 ∷ []; held = held }
-
-  pub opens_so : Starts (Open protocol node) p.sessions (Opens protocol 1 (greeting_of protocol 1 1 (length p.sessions + 1) 0)) (Asking 1)
-  opens_so = rw only (refl, refl)
-
-  pub opens_acted : Acted plan p.sessions (Opens protocol 1 (greeting_of protocol 1 1 (length p.sessions + 1) 0)) (said_lines (length p.sessions + 1) (greeting_of protocol 1 1 (length p.sessions + 1) 0 ∷ []) ++ [])
-      (p.sessions ++ opened_session protocol 1 ∷ [])
-  opens_acted = (refl, refl)
-
-  pub opened_started : (held : Option (List ℕ)) → Appends p.held held (written_of (said_lines (length p.sessions + 1) (greeting_of protocol 1 1 (length p.sessions + 1) 0 ∷ []) ++ []))
-      → IsStarted plan p (opened_point held) (Open protocol node)
-  opened_started held gave = record {
-    accepted = accepted;
-    first = Opens protocol 1 greeting;
-    said = said_lines (length p.sessions + 1) (greeting ∷ []) ++ [];
-    starts = opens_so;
-    acted = opens_acted;
-    linked = record { made = refl; asked = refl; answered = refl };
-    came = refl;
-    none_failed = refl;
-    failed = refl;
-    gave = gave;
-  }
-
-  pub opened_shows : (held : Option (List ℕ)) → is_up old.world ≡ true → new.world ≡ old.world → Converse new.sessions.talkers.items (p.sessions ++ opened_session protocol 1 ∷ [])
-      → new.sessions.tickets.items ≡ old.sessions.tickets.items ++ None ∷ [] → new.sessions.standing ≡ old.sessions.standing + 1 → IsAtPoint seen faults start new (opened_point held)
-  opened_shows held up world talks tickets count = record {
-    at = rw world shows.at;
-    talks = talks;
-    tickets = subst (λ (a : List Awaited). HaveTickets new.sessions.tickets.items (p.sessions ++ opened_session protocol 1 ∷ []) a) (sym quiet)
-        (rw tickets (tickets_more old.sessions.tickets.items p.sessions (opened_session protocol 1) (subst (λ (a : List Awaited). HaveTickets old.sessions.tickets.items p.sessions a) quiet shows.tickets) (λ s c same. cc)));
-    count = count ∙ ap (λ (n : ℕ). n + 1) shows.count ∙ sym (count_more p.sessions (opened_session protocol 1) tt);
-    up = rw world (inl (is_still (is_up old.world) p.down p.sessions shows.up up));
-  }
-    where
-      is_still : (b : Bool) (down : List ℕ) (sessions : List Session) → IsUpUnlessFailed b down sessions → b ≡ true → (b ≡ true) × (down ≡ [])
-      is_still b down sessions (inl is) up = is
-      is_still b down sessions (inr is) up = absurd (let no : true ≡ false = sym up ∙ is.0 in cc)
-
-  pub opened_asks : (held : Option (List ℕ)) → AsksFrom 0 (opened_point held)
-  opened_asks held = record { from = 1; ready = refl; before = omega arith; awaits = inl quiet }
-
-pub one_line : (text before out : List ℕ) → before ≡ [] → out ≡ before ++ sent_line text → out ≡ flat_map sent_line (text ∷ [])
-one_line text before out none is = is ∙ ap (λ (b : List ℕ). b ++ sent_line text) none ∙ sym (append-nil (sent_line text))
-
-pub stopped_held : {D : Type 0} (seen : D → Option (List ℕ)) (faults : D → ℕ) (start : World D) (plan : Plan) (p : Point) (reason : why.the_data) (held other : Option (List ℕ)) (world : World D) → held ≡ other
-    → Stopped seen faults start plan p reason held world → Stopped seen faults start plan p reason other world
-stopped_held seen faults start plan p reason held other world same stopped = subst (λ (h : Option (List ℕ)). Stopped seen faults start plan p reason h world) same stopped
-
-pub length_more : {X : Type 0} (xs : List X) (x : X) → length (xs ++ x ∷ []) ≡ length xs + 1
-length_more [] x = refl
-length_more (y ∷ xs) x = let more : length (xs ++ x ∷ []) ≡ length xs + 1 = length_more xs x in omega (arith, more)
-
--- what is written of a greeting
-pub greeted : (h old new : Option (List ℕ)) (n k : ℕ) (text : List ℕ) (texts : List ℕ) → h ≡ old → n ≡ k → texts ≡ text → Appends old new (written_of (said_lines n (texts ∷ []) ++ [])) → Appends h new (written_of (said_lines k (text ∷ []) ++ []))
-greeted h old new n k text texts same is at gave = rw (same, sym is, sym at) gave
-
-pub not_greeted : (h old new : Option (List ℕ)) (n k : ℕ) (text : List ℕ) (texts : List ℕ) (reason : WriteStop) → h ≡ old → n ≡ k → texts ≡ text
-    → WritesEntries {E = WriteStop} old new (Err reason) (said_lines n (texts ∷ []) ++ []) → WritesEntries {E = WriteStop} h new (Err reason) (said_lines k (text ∷ []) ++ [])
-not_greeted h old new n k text texts reason same is at wrote =
-    subst (λ (o : Option (List ℕ)). WritesEntries {E = WriteStop} o new (Err reason) (said_lines k (text ∷ []) ++ [])) (sym same)
-    (subst (λ (m : ℕ). WritesEntries {E = WriteStop} old new (Err reason) (said_lines m (text ∷ []) ++ [])) is
-    (subst (λ (t : List ℕ). WritesEntries {E = WriteStop} old new (Err reason) (said_lines n (t ∷ []) ++ [])) at wrote))
-
-pub greets_same : (protocol : tape.Protocol) (n m : ℕ) → n ≡ m → greeting_of protocol 1 1 (n + 1) 0 ≡ greeting_of protocol 1 1 (m + 1) 0
-greets_same protocol n m same = ap (λ (i : ℕ). greeting_of protocol 1 1 (i + 1) 0) same
-
-pub all_one : (text : List ℕ) → HasNoCrlf text → All HasNoCrlf (text ∷ [])
-all_one text is = All-cons HasNoCrlf text [] is (All-nil HasNoCrlf)
+  pub fed_hears : HearsAt place 1 fed_point
+  fed_hears = record { turn = refl; plain = fed; here = set_here p.sessions place fed (within_get p.sessions place f.plain f.here); on = f.on }

@@ -3,13 +3,13 @@ use Rattle.std.proofs.Common.{◌≡◌, ◌+◌, ◌^◌, ℕ, List, [], ◌∷
 use Rattle.std.proofs.lemmas.List.{append-nil}
 use Rattle.std.proofs.lemmas.List.Elements.{All-nil, All-push}
 use Rattle.std.proofs.lemmas.Grind.{flat_map-append}
-use Rattle.std.specs.Prelude.{option_and_then}
+use Rattle.std.specs.Prelude.{option_and_then, IfOk}
 use Rattle.std.specs.Io.KnownBytes.{Consumes}
 use Rattle.io_edge.proofs.Known.{consumes_more, consumes_none}
 use Rattle.mail_model.specs.Lines.{HasNoLf, ended}
 use Rattle.mail_model.specs.Plan.{Plan}
 use Rattle.mail_model.specs.Tape as tape
-use Rattle.mail_model.specs.Tape.{Draft, empty_draft}
+use Rattle.mail_model.specs.Tape.{Draft, empty_draft, planned}
 use Rattle.drive_tape.specs.declared.reader.LineStop.{LineStop}
 use Rattle.drive_tape.specs.declared.reader.LineStop.TheVariants as line
 use Rattle.drive_tape.specs.declared.plan_head.PlanTurn.TheVariants.{Line, End}
@@ -18,7 +18,8 @@ use Rattle.drive_tape.specs.declared.drove.Stop.{Stop}
 use Rattle.drive_tape.specs.Reads.{ReadsLine}
 use Rattle.drive_tape.specs.Stops.{of_line}
 use Rattle.drive_tape.specs.Drive.{stop_of, NamesLine}
-use Rattle.drive_tape.specs.Plans.{DraftsOn, DraftsTo, PlanStops, PlanTurned, PlanProgress, HeadDid, HeadEnds, ReadsHead}
+use Rattle.drive_tape.proofs.PlanFits.{plan_fits}
+use Rattle.drive_tape.specs.Plans.{DraftsOn, DraftsTo, IsTapePlan, PlanStops, PlanTurned, PlanProgress, HeadDid, HeadEnds, ReadsHead}
 
 drafts_more : (first : Draft) (lines : List (List ℕ)) (mid : Draft) (line : List ℕ) (new : Draft) → DraftsTo first lines mid → DraftsOn mid line new → DraftsTo first (lines ++ line ∷ []) new
 drafts_more first [] mid line new drafts on = (new, subst (λ (old : Draft). DraftsOn old line new) drafts on, refl)
@@ -74,7 +75,7 @@ head_stops left0 left1 left2 draft count room1 room2 new stop answer p t is name
 
 go_did : (result : Result (Plan × ℕ) Drove) (left : Option (List ℕ)) (octets line : List ℕ) (room : ℕ) (draft : Draft) (count : ℕ)
     → octets ≡ ended line → HasNoLf line → tape.tape_plan_line line ≡ Some tape.PlanLine.Go → HeadEnds result draft (count + 1) → HeadDid result left octets room draft count
-go_did (Ok head) left octets line room draft count whole one go ends = (line, whole, one, go, ends.0, ends.1, ends.2)
+go_did (Ok head) left octets line room draft count whole one go ends = (line, whole, one, go, ends.0, ends.1)
 go_did (Err answer) left octets line room draft count whole one go ends =
     let none : option_and_then (tape.drafted draft) (tape.tape_plan_line line) ≡ None = rw go refl in
     rw ends.0 (inl (refl, record { line = line; whole = whole; one = one; adds_nothing = none; no_plan = λ _. ends.1 }), refl)
@@ -85,3 +86,9 @@ head_ends left0 left1 left2 draft count room1 room2 new result p t ends =
     let step = t.did in
     ends_with left0 left1 left2 draft count room1 room2 t.taken result p t.took t.size
     (go_did result left2 t.taken step.0 room2 draft count step.1 step.2 step.3 (subst (λ (d : Draft). HeadEnds result d (count + 1)) step.4 ends))
+
+-- whatever plan it gives is within the limits
+pub head_fits : (left0 left1 left2 : Option (List ℕ)) (draft new : Draft) (count room1 room2 : ℕ) (result : Result (Plan × ℕ) Drove)
+    → PlanProgress left0 left1 draft count room1 → PlanTurned left1 left2 (Ok End) room1 draft room2 new → HeadEnds result new (count + 1) → IfOk result (λ head. IsTapePlan head.0)
+head_fits left0 left1 left2 draft new count room1 room2 (Ok head) p t ends = plan_fits p.lines draft head.0 p.drafts (subst (λ (d : Draft). planned d ≡ Some head.0) t.did.4 ends.0)
+head_fits left0 left1 left2 draft new count room1 room2 (Err answer) p t ends = tt

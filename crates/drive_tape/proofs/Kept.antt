@@ -1,86 +1,262 @@
--- A world that was driven keeps what was promised to clients, by its own book.
-use Rattle.std.proofs.Common.{◌≡◌, ⊎_elim, inl, inr, ℕ, Bool, List, [], ◌∷◌, ◌++◌, map, flat_map, Option, Some, refl, sym, ap, ◌∙◌, subst}
-use Rattle.std.specs.Prelude.{is_some}
+-- A world that was driven keeps what was promised to clients, by its own disks and its own book.
+use Rattle.std.proofs.Common.{◌≡◌, ◌⊎◌, ⊎_elim, inl, inr, ◌≤◌, ℕ, Bool, true, List, [], ◌∷◌, ◌++◌, map, flat_map, All, Option, Some, None, refl, sym, ap, ap₂, ◌∙◌, subst}
 use Rattle.std.proofs.lemmas.List.{append-nil}
+use Rattle.std.proofs.lemmas.List.Elements.{All-head, All-tail}
 use Rattle.mail_model.specs.Plan.{Plan}
+use Rattle.mail_model.specs.Told.{Mail}
+use Rattle.mail_model.specs.Tape.{Protocol, ClusterOrder, tape_order}
+use Rattle.mail_model.specs.Tape.Protocol.{Smtp}
+use Rattle.mail_model.specs.Tape.{ClusterOrder as order}
+use Rattle.mail_model.specs.Tape as tape
 use Rattle.mail_model.specs.Transcript.{Entry}
-use Rattle.mail_model.specs.Listing.{octets_in}
+use Rattle.mail_model.specs.Stored.{opened, kind_at}
+use Rattle.object_model.specs.Letters.{Number}
+use Rattle.object_model.specs.Lists.{Among}
+use Rattle.object_model.proofs.Lists.{among_front, among_behind}
 use Rattle.session_model.specs.Calls.{Call}
-use Rattle.session_model.specs.Sessions.{Session}
+use Rattle.session_model.specs.Calls.Call.{Deliver, Login, Fetch, Strike}
+use Rattle.session_model.specs.Events.NodeLife.{Up, Lost}
+use Rattle.session_model.specs.Sessions.{Session, session_at, exchanges_of}
 use Rattle.session_model.specs.Acts.{Act}
-use Rattle.session_model.specs.Logs.{Asked, Answered, asked_by, answered_by}
+use Rattle.session_model.specs.Acts.Act.{StillWaits}
+use Rattle.session_model.specs.Logs.{Asked, Answered, asked_by, answered_by, asked_in}
+use Rattle.session_model.specs.Turns.{IsAtNode}
 use Rattle.session_model.specs.Run.{Stop, Made, IsDriven}
-use Rattle.session_model.specs.Run.Stop.{BehindLine, SinkFailed, OutOfMemory}
+use Rattle.session_model.specs.Run.Stop.{BehindLine, Denied, SinkFailed, OutOfMemory}
 use Rattle.session_model.specs.Runs.{Shows}
-use Rattle.session_model.specs.Books.{Among, AreBegun}
+use Rattle.session_model.specs.Losses.{IsLostIn}
+use Rattle.session_model.specs.Books.{Among as AmongAsked, AreBegun}
 use Rattle.session_model.specs.Owes.{Owes}
+use Rattle.session_model.specs.OneNode.{IsSoundMail}
 use Rattle.session_model.specs.Kept.{IsEnding}
+use Rattle.session_model.proofs.InOrder.{kind_there}
+use Rattle.session_model.proofs.Books.{IsCallIn, among_in, call_at}
+use Rattle.session_model.proofs.Owed.{logged}
+use Rattle.session_model.proofs.Asking.{asks_as_told}
 use Rattle.session_model.proofs.Driven.{driven_is_shown}
-use Rattle.session_model.proofs.Alone.{driven_at_1, call_asked}
-use Rattle.session_model.proofs.Kept.{begun_asked, owed_is_kept}
-use Rattle.cluster_world.specs.World.{IsAtBeginning, plan_of, disk_of, book_of}
-use Rattle.cluster_world.specs.Outcomes.{Outcome, Awaited, Came, Makes, AreOfSessions, asked_by_outcome, answered_by_outcome}
-use Rattle.cluster_world.specs.Outcomes.Outcome.{Began, Refused, Fell, Answers, Unanswered, Left}
+use Rattle.session_model.proofs.Kept.{owed_is_kept}
+use Rattle.cluster_owes.specs.Held.{filed_on}
+use Rattle.cluster_owes.specs.Outcomes.{IsTakenAt}
+use Rattle.node_store.specs.Disks.{View}
+use Rattle.cluster_world.specs.Worlds.{plan_of, disks_of, book_of, life_of, tells}
+use Rattle.cluster_world.specs.Opens.{IsAtBeginning}
+use Rattle.cluster_world.specs.Owing.{AreBlind, IsOfBlind, AllBlind, AreKnown, IsOfSession, AreOfSessions, AreLost, WorldOwes}
+use Rattle.cluster_world.specs.Outcomes.{Outcome, Awaited, StepMade, Came, Makes, AreStepsOf, IsPost, IsPushOf, made_of, asked_by_outcome, answered_by_outcome}
+use Rattle.cluster_world.specs.Outcomes.Outcome.{Began, Refused, Fell, Broke, Answers, StillPending, Unanswered, GaveUp, Abandoned, KeptUp, Left, Moved}
 use Rattle.cluster_world.specs.declared.world.World.{World}
-use Rattle.cluster_world.proofs.Owed.{world_owes}
+use Rattle.cluster_world.specs.declared.step.Step.TheVariants as step
+use Rattle.cluster_world.specs.Steps.{IsBlind}
+use Rattle.cluster_world.proofs.Owed.{none_pending}
 use Rattle.drive_tape.specs.Drive.{MayLackOne}
-use Rattle.drive_tape.specs.Kept.{KeptIn}
-
--- a world tells what it holds as long as it did
-made_told : {D : Type 0} (seen : D → Option (List ℕ)) (faults : D → ℕ) (outcomes : List Outcome) (awaited left : List Awaited) (old new : World D) → Makes seen faults outcomes awaited old left new
-    → is_some (seen (disk_of new)) ≡ is_some (seen (disk_of old))
-made_told {D} seen faults [] awaited left old new (same, is) = ap (λ (w : World D). is_some (seen (disk_of w))) is
-made_told {D} seen faults (outcome ∷ more) awaited left old new (between, mid, came, makes) =
-    made_told seen faults more between left mid new makes ∙ one outcome came
-  where
-    one : (outcome : Outcome) → Came seen faults outcome awaited old between mid → is_some (seen (disk_of mid)) ≡ is_some (seen (disk_of old))
-    one (Began k asked number) (begun, stirs, calls, step, waits) = step.told
-    one (Refused k asked) (begun, result, calls, refused, step, waits) = step.told
-    one (Fell k asked) (begun, result, calls, falls, step, waits) = step.told
-    one (Answers k asked number given) (own, before, behind, same, were, are, step) = step.told
-    one (Unanswered k number) (fault, step, waits) = step.told
-    one (Left k user) (begun, result, leaves, step, waits) = step.told
+use Rattle.drive_tape.specs.Kept.{IsBlindOrder, AreBlindLines, AreToldOrBlind, KeptIn}
+use Rattle.drive_tape.specs.Points.{IsAtOwnNode, AreAtOwnNodes, waits_by, waits_by_outcome}
+use Rattle.drive_tape.proofs.AtFirst.{first_lives, makes_lost}
+use Rattle.drive_tape.proofs.LineActs.{begun_is_asked, moved_by_line, lost_by_line, lost_more}
+use Rattle.drive_tape.proofs.OpenedKinds.{driven_kinds}
 
 -- what was begun of what was asked
 were_begun : (stop : Stop) (asked begun lacking : List Asked) → asked ≡ begun ++ lacking → MayLackOne stop lacking → AreBegun stop asked begun
 were_begun BehindLine asked begun lacking are none = sym (are ∙ ap (λ (l : List Asked). begun ++ l) none ∙ append-nil begun)
+were_begun Denied asked begun lacking are none = sym (are ∙ ap (λ (l : List Asked). begun ++ l) none ∙ append-nil begun)
 were_begun SinkFailed asked begun lacking are none = sym (are ∙ ap (λ (l : List Asked). begun ++ l) none ∙ append-nil begun)
 were_begun OutOfMemory asked begun lacking are may = ⊎_elim
     (λ none. inl (sym (are ∙ ap (λ (l : List Asked). begun ++ l) none ∙ append-nil begun)))
     (λ one. inr (one.0, are ∙ ap (λ (l : List Asked). begun ++ l) one.1)) may
 
-module _ {D : Type 0} (seen : D → Option (List ℕ)) (faults : D → ℕ) (start last : World D) (one : (plan_of start).nodes ≡ 1) (begins : IsAtBeginning seen (plan_of start) start)
+-- lines that need nothing that a disk tells
+
+posts_blind : (nodes : ℕ) (steps : List StepMade) → All IsPost steps → AreBlind nodes steps
+posts_blind nodes [] all = tt
+posts_blind nodes (one ∷ steps) all =
+    let is : IsPost one = All-head IsPost one steps all in (subst (IsBlind nodes) (sym is.1) tt, posts_blind nodes steps (All-tail IsPost one steps all))
+
+pushes_blind : (nodes node : ℕ) (steps : List StepMade) → nodes ≡ 1 → All (IsPushOf node) steps → AreBlind nodes steps
+pushes_blind nodes node [] alone all = tt
+pushes_blind nodes node (one ∷ steps) alone all =
+    let is : IsPushOf node one = All-head (IsPushOf node) one steps all in (subst (IsBlind nodes) (sym is.1) alone, pushes_blind nodes node steps alone (All-tail (IsPushOf node) one steps all))
+
+order_blind : (nodes : ℕ) (asked : ClusterOrder) (steps : List StepMade) → AreStepsOf asked steps → IsBlindOrder nodes (Some (tape.Order.Moves asked)) → AreBlind nodes steps
+order_blind nodes (order.Crash node) steps (result, are) blind = subst (AreBlind nodes) (sym are) (tt, tt)
+order_blind nodes (order.Start node) steps (result, are) blind = absurd blind
+order_blind nodes (order.Lose node) steps (result, are) blind = subst (AreBlind nodes) (sym are) (tt, tt)
+order_blind nodes (order.Post letter) steps (result, are) blind = subst (AreBlind nodes) (sym are) (tt, tt)
+order_blind nodes (order.Again letter) steps (result, are) blind = subst (AreBlind nodes) (sym are) (tt, tt)
+order_blind nodes (order.Drop letter) steps (result, are) blind = subst (AreBlind nodes) (sym are) (tt, tt)
+order_blind nodes order.Flow steps are blind = posts_blind nodes steps are
+order_blind nodes (order.Push node) steps are blind = pushes_blind nodes node steps blind are
+order_blind nodes (order.Widen at user id to) steps (result, are) blind = subst (AreBlind nodes) (sym are) (tt, tt)
+
+line_blind : (nodes : ℕ) (lines : List (List ℕ)) (line : List ℕ) → AreBlindLines nodes lines → Among line lines → IsBlindOrder nodes (tape_order line)
+line_blind nodes [] line all among = absurd among
+line_blind nodes (first ∷ lines) line all among = ⊎_elim
+    (λ (same : first ≡ line). subst (λ (l : List ℕ). IsBlindOrder nodes (tape_order l)) same (All-head (λ (l : List ℕ). IsBlindOrder nodes (tape_order l)) first lines all))
+    (λ (rest : Among line lines). line_blind nodes lines line (All-tail (λ (l : List ℕ). IsBlindOrder nodes (tape_order l)) first lines all) rest) among
+
+-- each outcome is of the steps that its order asks for
+all_blind : {D : Type 0} (on : View D) (nodes : ℕ) (outcomes : List Outcome) (awaited left : List Awaited) (old new : World D) → Makes on outcomes awaited old left new
+    → ((asked : ClusterOrder) → Among (Made.Moves asked) (map made_of outcomes) → IsBlindOrder nodes (Some (tape.Order.Moves asked))) → AllBlind nodes outcomes
+all_blind on nodes [] awaited left old new makes blind = tt
+all_blind {D} on nodes (outcome ∷ more) awaited left old new (between, mid, came, makes) blind = (one outcome came (λ asked is. blind asked (inl is)), all_blind on nodes more between left mid new makes (λ asked among. blind asked (inr among)))
+  where
+    one : (outcome : Outcome) → Came on outcome awaited old between mid → ((asked : ClusterOrder) → made_of outcome ≡ Made.Moves asked → IsBlindOrder nodes (Some (tape.Order.Moves asked))) → IsOfBlind nodes outcome
+    one (Moved asked steps) (are, made, waits) may = order_blind nodes asked steps are (may asked refl)
+    one (Began k node asked ticket) came may = tt
+    one (Refused k node asked) came may = tt
+    one (Fell k node asked) came may = tt
+    one (Broke k node asked) came may = tt
+    one (Answers k asked ticket given) came may = tt
+    one (StillPending k ticket) came may = tt
+    one (Unanswered k asked ticket) came may = tt
+    one (GaveUp k asked ticket) came may = tt
+    one (Abandoned k asked ticket) came may = tt
+    one (KeptUp k ticket why) came may = tt
+    one (Left k node user) came may = tt
+
+made_among : (outcomes : List Outcome) (outcome : Outcome) → Among outcome outcomes → Among (made_of outcome) (map made_of outcomes)
+made_among [] outcome among = absurd among
+made_among (first ∷ outcomes) outcome among = ⊎_elim (λ (same : first ≡ outcome). inl (ap made_of same)) (λ (rest : Among outcome outcomes). inr (made_among outcomes outcome rest)) among
+
+own_among : (sessions : List Session) (outcomes : List Outcome) (outcome : Outcome) → AreAtOwnNodes sessions outcomes → Among outcome outcomes → IsAtOwnNode sessions outcome
+own_among sessions [] outcome all among = absurd among
+own_among sessions (first ∷ outcomes) outcome all among = ⊎_elim (λ (same : first ≡ outcome). subst (IsAtOwnNode sessions) same all.0) (λ (rest : Among outcome outcomes). own_among sessions outcomes outcome all.1 rest) among
+
+-- a session that waits has a ticket that is pending
+
+waits_among : (k : ℕ) (acts : List Act) → Among (StillWaits k) acts → Among k (flat_map waits_by acts)
+waits_among k [] among = absurd among
+waits_among k (act ∷ acts) among = ⊎_elim
+    (λ (same : act ≡ StillWaits k). among_front k (waits_by act) (flat_map waits_by acts) (subst (λ (a : Act). Among k (waits_by a)) (sym same) (inl refl)))
+    (λ (rest : Among (StillWaits k) acts). among_behind k (waits_by act) (flat_map waits_by acts) (waits_among k acts rest)) among
+
+behind : (k : ℕ) (outcome : Outcome) (more : List Outcome) → (ticket : Number) × Among (StillPending k ticket) more → (ticket : Number) × Among (StillPending k ticket) (outcome ∷ more)
+behind k outcome more found = (found.0, inr found.1)
+
+pending_among : (k : ℕ) (outcomes : List Outcome) → Among k (flat_map waits_by_outcome outcomes) → (ticket : Number) × Among (StillPending k ticket) outcomes
+pending_among k [] among = absurd among
+pending_among k (StillPending j ticket ∷ more) among = ⊎_elim
+    (λ (same : j ≡ k). (ticket, inl (ap (λ (n : ℕ). StillPending n ticket) same)))
+    (λ (rest : Among k (flat_map waits_by_outcome more)). behind k (StillPending j ticket) more (pending_among k more rest)) among
+pending_among k (Began j node asked ticket ∷ more) among = behind k (Began j node asked ticket) more (pending_among k more among)
+pending_among k (Refused j node asked ∷ more) among = behind k (Refused j node asked) more (pending_among k more among)
+pending_among k (Fell j node asked ∷ more) among = behind k (Fell j node asked) more (pending_among k more among)
+pending_among k (Broke j node asked ∷ more) among = behind k (Broke j node asked) more (pending_among k more among)
+pending_among k (Answers j asked ticket given ∷ more) among = behind k (Answers j asked ticket given) more (pending_among k more among)
+pending_among k (Unanswered j asked ticket ∷ more) among = behind k (Unanswered j asked ticket) more (pending_among k more among)
+pending_among k (GaveUp j asked ticket ∷ more) among = behind k (GaveUp j asked ticket) more (pending_among k more among)
+pending_among k (Abandoned j asked ticket ∷ more) among = behind k (Abandoned j asked ticket) more (pending_among k more among)
+pending_among k (KeptUp j ticket why ∷ more) among = behind k (KeptUp j ticket why) more (pending_among k more among)
+pending_among k (Left j node user ∷ more) among = behind k (Left j node user) more (pending_among k more among)
+pending_among k (Moved asked steps ∷ more) among = behind k (Moved asked steps) more (pending_among k more among)
+
+module _ {D : Type 0} (on : View D) (start last : World D) (begins : IsAtBeginning on (plan_of start) start)
     (stop : Stop) (handled midst : List (List ℕ)) (acts behind : List (List Act)) (made : List Made) (entries : List Entry) (sessions : List Session)
     (driven : IsDriven (plan_of start) stop handled midst acts behind made entries sessions)
-    (outcomes : List Outcome) (awaited : List Awaited) (steps : Makes seen faults outcomes [] start awaited last)
-    (lacking : List Asked) (asked_are : flat_map asked_by (flat_map (λ a. a) (acts ++ behind)) ≡ flat_map asked_by_outcome outcomes ++ lacking) (lack : MayLackOne stop lacking)
-    (answered_are : flat_map answered_by (flat_map (λ a. a) (acts ++ behind)) ≡ flat_map answered_by_outcome outcomes) where
+    (outcomes : List Outcome) (awaited : List Awaited) (steps : Makes on outcomes [] start awaited last) (made_are : map made_of outcomes ≡ made) (at_nodes : AreAtOwnNodes sessions outcomes) where
+  abbrev plan : Plan
+  plan = plan_of start
+
+  abbrev lines : List (List ℕ)
+  lines = handled ++ midst
+
   abbrev done : List Act
   done = flat_map (λ a. a) (acts ++ behind)
 
   abbrev begun : List Asked
   begun = flat_map asked_by_outcome outcomes
 
-  were : AreBegun stop (flat_map asked_by done) begun
-  were = were_begun stop (flat_map asked_by done) begun lacking asked_are lack
+  shown : (sessions : List Session) × Shows plan lines entries done sessions
+  shown = driven_is_shown plan stop handled midst acts behind made entries sessions driven
 
-  shown : (sessions : List Session) × Shows (plan_of start) (handled ++ midst) entries done sessions
-  shown = driven_is_shown (plan_of start) stop handled midst acts behind made entries sessions driven
+  made_in : (outcome : Outcome) → Among outcome outcomes → Among (made_of outcome) made
+  made_in outcome among = subst (Among (made_of outcome)) made_are (made_among outcomes outcome among)
 
-  of_sessions : AreOfSessions (handled ++ midst) begun
-  of_sessions k call among = call_asked (plan_of start) (handled ++ midst) entries done shown.0 shown.1
-      (driven_at_1 (plan_of start) stop handled midst acts behind made entries sessions one driven) k call
-      (begun_asked stop (flat_map asked_by done) begun were (record { session = k; call = call }) among)
+  -- a message that was asked to be stored is sound, and its session takes mail
+  mail_asked : (k : ℕ) (mail : Mail) (there : Option Session) → session_at shown.0 k ≡ there → IsCallIn (Deliver mail) (asked_in k (flat_map asked_by done))
+      → IsSoundMail (Deliver mail) × ((node : ℕ) × (kind_at (opened lines) k ≡ Some (Smtp, node)))
+  mail_asked k mail None none is = absurd (subst (IsCallIn (Deliver mail)) (logged plan lines entries done shown.0 shown.1 k None none).0 is)
+  mail_asked k mail (Some session) at is =
+      let found = call_at (Deliver mail) (exchanges_of session) (subst (IsCallIn (Deliver mail)) (logged plan lines entries done shown.0 shown.1 k (Some session) at).0 is) in
+      let talk = (shown.1.are.each k session at).talk in
+      let told = asks_as_told plan session.node session.protocol session.octets (exchanges_of session) talk.before session.rest talk.goes found.0 found.1 found.2 mail found.3 found.4 in
+      let kind = kind_there (opened lines) [] shown.0 k session (shown.1.are.kinds ∙ sym (append-nil _)) at in
+      ((told.1.0, told.1.1, told.1.2, told.2), (session.node, kind ∙ ap (λ (p : Protocol). Some (p, session.node)) told.0))
+
+  mail_begun : (k : ℕ) (mail : Mail) → Among (Made.Begins k (Deliver mail)) made → IsSoundMail (Deliver mail) × ((node : ℕ) × (kind_at (opened lines) k ≡ Some (Smtp, node)))
+  mail_begun k mail among =
+      mail_asked k mail (session_at shown.0 k) refl
+      (among_in (record { session = k; call = Deliver mail }) (flat_map asked_by done) (begun_is_asked plan stop handled midst acts behind made entries sessions driven k (Deliver mail) among))
+
+  sound_begun : (k : ℕ) (call : Call) → Among (Made.Begins k call) made → IsSoundMail call
+  sound_begun k (Deliver mail) among = (mail_begun k mail among).0
+  sound_begun k (Login user secret) among = tt
+  sound_begun k (Fetch user id) among = tt
+  sound_begun k (Strike user ids) among = tt
+
+  -- at the node at which its session is
+  taken_begun : (k node : ℕ) (call : Call) → Among (Made.Begins k call) made → IsAtNode node (session_at sessions k) → IsTakenAt lines k node call
+  taken_begun k node (Deliver mail) among own = by (session_at sessions k) refl own
+    where
+      protocol_of : Option (Protocol × ℕ) → Protocol
+      protocol_of None = Smtp
+      protocol_of (Some kind) = kind.0
+
+      protocol_same : (a b : Protocol) (n m : ℕ) → ◌≡◌ {A = Option (Protocol × ℕ)} (Some (a, n)) (Some (b, m)) → a ≡ b
+      protocol_same a b n m e = ap protocol_of e
+
+      by : (there : Option Session) → session_at sessions k ≡ there → IsAtNode node there → kind_at (opened lines) k ≡ Some (Smtp, node)
+      by None none at = absurd at
+      by (Some session) here at =
+          let kind : kind_at (opened lines) k ≡ Some (session.protocol, session.node) =
+          kind_there (opened lines) [] sessions k session (driven_kinds plan stop handled midst acts behind made entries sessions driven ∙ sym (append-nil _)) here in
+          let mail = (mail_begun k mail among).1 in
+          let same : session.protocol ≡ Smtp = protocol_same session.protocol Smtp session.node mail.0 (sym kind ∙ mail.1) in
+          kind ∙ ap₂ (λ (p : Protocol) (n : ℕ). Some (p, n)) same at
+  taken_begun k node (Login user secret) among own = tt
+  taken_begun k node (Fetch user id) among own = tt
+  taken_begun k node (Strike user ids) among own = tt
+
+  -- each call is one that a session of its node makes
+  pub of_sessions : AreOfSessions lines outcomes
+  of_sessions (Began k node asked ticket) among = (sound_begun k asked (made_in _ among), taken_begun k node asked (made_in _ among) (own_among sessions outcomes _ at_nodes among))
+  of_sessions (Fell k node asked) among = (sound_begun k asked (made_in _ among), taken_begun k node asked (made_in _ among) (own_among sessions outcomes _ at_nodes among))
+  of_sessions (Broke k node asked) among = (sound_begun k asked (made_in _ among), taken_begun k node asked (made_in _ among) (own_among sessions outcomes _ at_nodes among))
+  of_sessions (Refused k node asked) among = sound_begun k asked (made_in _ among)
+  of_sessions (Answers k asked ticket given) among = tt
+  of_sessions (StillPending k ticket) among = tt
+  of_sessions (Unanswered k asked ticket) among = tt
+  of_sessions (GaveUp k asked ticket) among = tt
+  of_sessions (Abandoned k asked ticket) among = tt
+  of_sessions (KeptUp k ticket why) among = tt
+  of_sessions (Left k node user) among = tt
+  of_sessions (Moved asked made_steps) among = tt
+
+  -- the disks tell what they hold, or no step needs it
+  pub known : AreToldOrBlind on start lines → AreKnown on start outcomes
+  known told = ⊎_elim (λ all. inl all) (λ blind. inr (all_blind on plan.nodes outcomes [] awaited start last steps (λ asked among.
+      let found = moved_by_line plan stop handled midst acts behind made entries sessions driven asked (subst (Among (Made.Moves asked)) made_are among) in
+      subst (IsBlindOrder plan.nodes) found.2 (line_blind plan.nodes lines found.0 blind found.1)))) told
+
+  -- a node that is lost is so by tape and transcript
+  lost : (plan_of last ≡ plan_of start) → (ending : List Entry) → AreLost last (IsLostIn stop lines (entries ++ ending))
+  lost same ending n above within is = lost_more stop lines entries ending n (⊎_elim
+      (λ was. absurd (let never : Up 1 ≡ Lost = sym (first_lives on plan start begins n above (subst (λ (p : Plan). n ≤ p.nodes) same within)) ∙ was in cc))
+      (λ some. lost_by_line plan stop handled midst acts behind made entries sessions driven n (made_in (Moved (order.Lose n) some.0) some.1))
+      (makes_lost on n outcomes [] awaited start last steps is))
 
   -- whatever line says why the program ended
-  pub kept_in : (plan_of start).confirm ≡ 1 → (ending : List Entry) → IsEnding ending → KeptIn seen last (plan_of start) stop (handled ++ midst) (entries ++ ending) done begun
-  kept_in sure ending ends =
-      let owed = world_owes seen faults (plan_of start) (handled ++ midst) (entries ++ ending) outcomes awaited start last one sure begins steps of_sessions in
+  pub kept_in : WorldOwes on → (lacking : List Asked) → flat_map asked_by done ≡ begun ++ lacking → MayLackOne stop lacking → flat_map answered_by done ≡ flat_map answered_by_outcome outcomes → (plan_of last ≡ plan_of start)
+      → AreToldOrBlind on start lines → (ending : List Entry) → IsEnding ending → KeptIn on last plan stop lines (entries ++ ending) done begun
+  kept_in owing lacking asked_are lack answered_are same told ending ends =
+      let owed = owing plan stop lines (entries ++ ending) outcomes awaited start last begins (known told) steps of_sessions (lost same ending) in
       record {
         records = owed.0;
-        promises = owed_is_kept (plan_of start) (is_some (seen (disk_of last))) stop handled midst acts behind made entries ending sessions
-            (seen (disk_of last) ∷ []) (owed.0 ∷ []) (λ id. octets_in id owed.0) begun (book_of last) driven ends were
-            (subst (λ (l : List Answered). Owes (plan_of start) (is_some (seen (disk_of last))) (handled ++ midst) (entries ++ ending) (seen (disk_of last) ∷ []) (owed.0 ∷ []) (λ id. octets_in id owed.0) begun l (book_of last)) (sym answered_are)
-            (subst (λ (t : Bool). Owes (plan_of start) t (handled ++ midst) (entries ++ ending) (seen (disk_of last) ∷ []) (owed.0 ∷ []) (λ id. octets_in id owed.0) begun (flat_map answered_by_outcome outcomes) (book_of last))
-            (sym (made_told seen faults outcomes [] awaited start last steps)) owed.1));
+        promises = owed_is_kept plan (tells on.seen last) stop handled midst acts behind made entries ending sessions (map on.seen (disks_of last)) owed.0 (filed_on owed.0) begun (book_of last) driven ends
+            (were_begun stop (flat_map asked_by done) begun lacking asked_are lack)
+            (subst (λ (l : List Answered). Owes plan (tells on.seen last) lines (IsLostIn stop lines (entries ++ ending)) (map on.seen (disks_of last)) owed.0 (filed_on owed.0) begun l (book_of last)) (sym answered_are) owed.1);
       }
+
+  -- where one node is all there is, no session waits
+  pub none_waits : flat_map waits_by done ≡ flat_map waits_by_outcome outcomes → AreToldOrBlind on start lines → plan.nodes ≡ 1 → plan.confirm ≡ 1 → 1 ≤ plan.copies → (k : ℕ) → Among (StillWaits k) done → ⊥
+  none_waits waits_are told alone sure some k among =
+      let found = pending_among k outcomes (subst (Among k) waits_are (waits_among k done among)) in
+      none_pending on plan lines outcomes awaited start last alone sure some begins (known told) steps of_sessions k found.0 found.1

@@ -1,68 +1,87 @@
 -- The next move of a session, and the beginning of its call.
-use Rattle.std.proofs.Common.{◌≡◌, ◌≢◌, ◌⊎◌, ◌+◌, ◌-◌, ◌++◌, ◌∷◌, ◌<◌, ◌≤◌, ℕ, Bool, true, false, List, [], length, map, flat_map, All, Option, Some, None, Result, Ok, Err, refl, sym, ap, ◌∙◌, subst, inl, inr, ⊎_elim, arith}
-use Rattle.std.specs.Prelude.{slice_get, slice_set, if◌then◌else◌}
+use Rattle.std.proofs.Common.{◌≡◌, ◌≢◌, ◌⊎◌, ◌+◌, ◌-◌, ◌++◌, ◌∷◌, ◌<◌, ◌≤◌, ℕ, nat_eq, Bool, true, false, List, [], length, map, flat_map, All, Option, Some, None, Result, Ok, Err, refl, sym, ap, ◌∙◌, subst, inl, inr, ⊎_elim, arith}
+use Rattle.std.proofs.lemmas.Bool.Decides.{nat_tests}
+use Rattle.std.specs.Prelude.{slice_get, slice_set, filter, not, if◌then◌else◌}
 use Rattle.std.specs.Io.KnownBytes.{Appends}
 use Rattle.std.proofs.lemmas.List.{append-nil}
+use Rattle.std.proofs.lemmas.Grind.{flat_map-append}
 use Rattle.io_edge.proofs.Known.{appends_none}
-use Rattle.mail_model.specs.Lines.{HasNoCrlf, sent_line}
+use Rattle.object_model.specs.Lists.{Among}
 use Rattle.mail_model.specs.Plan.{Plan}
-use Rattle.mail_model.specs.Transcript.{Entry, written_of, said_lines}
+use Rattle.mail_model.specs.Transcript.{Entry, said_lines}
 use Rattle.mail_model.specs.Site.{closed_event}
 use Rattle.session_model.specs.Calls as calls
-use Rattle.session_model.specs.Talk.{Exchange, TalkState, Standing, IsIdle, IsOn, entered_as, leave_of}
+use Rattle.session_model.specs.Talk.{Exchange, TalkState, Standing, IsIdle, IsOn, leave_of}
 use Rattle.session_model.specs.Sessions.{Session, session_at, exchanges_of}
 use Rattle.session_model.specs.Acts.{Act, Acted, Did, Deed, closing}
-use Rattle.session_model.specs.Acts.Act.{Opens, Does, Faults, StillWaits, Leaves}
-use Rattle.session_model.specs.Acts.Deed.{Hears, IsAnswered}
-use Rattle.session_model.specs.Logs.{Asked, asked_by, answered_by}
+use Rattle.session_model.specs.Acts.Act.{Does, Faults}
+use Rattle.session_model.specs.Acts.Deed.{Hears}
+use Rattle.session_model.specs.Events.{NodeLife, turned}
+use Rattle.session_model.specs.Events.NodeLife.{Up, Down}
+use Rattle.session_model.specs.Lives.{life_after, failed_by, failed_in}
+use Rattle.session_model.specs.Logs.{Asked}
 use Rattle.session_model.specs.Turns.{Turn, IsReadyToAsk, IsAtRest, Next, to_leave, turn_after_unit}
-use Rattle.session_model.specs.Turns.Turn.{Hearing, Beginning, Falling, Asking}
-use Rattle.session_model.specs.Run.{Made, Stop, failed_by, made_by, count_on}
-use Rattle.session_model.specs.Run.Stop.{SinkFailed, OutOfMemory}
+use Rattle.session_model.specs.Turns.Turn.{Hearing, Beginning}
+use Rattle.session_model.specs.Run.{Made, count_on}
+use Rattle.session_model.specs.Run.Stop.{OutOfMemory}
 use Rattle.call_tickets.specs.declared.call.Call.{Call}
 use Rattle.call_tickets.specs.Seen.{call_seen}
-use Rattle.call_tickets.specs.Moves.{HasEnded, IsWaiting, HearsNothing}
-use Rattle.cluster_world.specs.Steps.{nth_ticket}
-use Rattle.cluster_world.specs.Outcomes.{Outcome, Awaited, made_of, asked_by_outcome, answered_by_outcome}
-use Rattle.cluster_world.specs.Outcomes.Outcome.{Began, Refused, Fell}
-use Rattle.cluster_world.specs.World.{plan_of, is_up}
+use Rattle.call_tickets.specs.Moves.{IsWaiting, HearsNothing}
+use Rattle.node_store.specs.Disks.{View}
+use Rattle.cluster_world.specs.Outcomes.{Outcome, Awaited, made_of, asked_by_outcome, answered_by_outcome, without_node}
+use Rattle.cluster_world.specs.Outcomes.Outcome.{Began, Refused, Fell, Broke}
 use Rattle.cluster_world.specs.declared.world.World.{World}
-use Rattle.mail_base.specs.declared.ticket.Ticket.{Ticket}
 use Rattle.drive_tape.specs.declared.cluster.Cluster.{Cluster}
-use Rattle.drive_tape.specs.declared.sessions.Sessions.{Sessions}
+use Rattle.drive_tape.specs.declared.open_call.OpenCall.{OpenCall}
 use Rattle.drive_tape.specs.declared.sessions.After.{After}
 use Rattle.drive_tape.specs.declared.sessions.After.TheVariants.{Stays, Ends}
-use Rattle.drive_tape.specs.declared.drove.Stop.{Stop as Why}
 use Rattle.drive_tape.specs.declared.drove.Stop.TheVariants as why
+use Rattle.drive_tape.specs.Kinds.{IsKindOf}
 use Rattle.drive_tape.specs.Moving.{has_ended, HeardAt, StaysAt, GoesOn}
-use Rattle.drive_tape.specs.Worlds.{WorldIsAt, IsSince}
-use Rattle.drive_tape.specs.Points.{Point, Work, Cut, OneAct, AreLinked, IsAtPoint, Stopped, WentOn, IsUpUnlessFailed}
-use Rattle.drive_tape.specs.Talks.{Converse, HaveTickets, NoTickets, OneWaits}
-use Rattle.drive_tape.specs.Clusters.{HearsAt, RestsAt, IsAfter, IsSaying, IsBeginning, FallsAt}
-use Rattle.drive_tape.proofs.Talks.{at_place, asks_waits, asks_silent, says_on, says_ended, count_same, count_less, no_tickets_set, quiet_at, one_waits, still_up, on_not_ended, set_here, within_get, some_same}
-use Rattle.drive_tape.proofs.Works.{work_none, work_act, work_more, work_cut, cut_act}
-
-pub minus_one : (place : ℕ) → place + 1 - 1 ≡ place
-minus_one place = omega arith
-
--- a session does something
-pub acted_does : (plan : Plan) (sessions : List Session) (place : ℕ) (plain after : Session) (deed : Deed) (said : List (List ℕ)) → slice_get sessions place ≡ Some plain → Did plan plain deed said after
-    → Acted plan sessions (Does (place + 1) deed) (said_lines (place + 1) said ++ closing (place + 1) deed after.standing) (slice_set sessions place after)
-acted_does plan sessions place plain after deed said here did =
-    (plain, after, said, at_place sessions (place + 1) place refl ∙ here, did, refl, ap (λ (i : ℕ). slice_set sessions i after) (sym (minus_one place)))
+use Rattle.drive_tape.specs.Talks.{HasOwnTicket, HasTicket, TicketFits, StandsOnNode, IsUpAt, EachBut}
+use Rattle.drive_tape.specs.Worlds.{WorldIsAt, WentTo, HasGone, AreSameLives, IsDownNow, HasFailed, HasCauses, AreLives}
+use Rattle.drive_tape.specs.Points.{Point, Work, Cut, OneAct, AreLinked, IsAtOwnNode, waits_by_outcome, IsAtPoint, Stopped, WentOn}
+use Rattle.drive_tape.specs.Clusters.{HearsAt, RestsAt, IsAfter, IsSaying, IsBeginning, FaultsAt}
+use Rattle.drive_tape.proofs.Talks.{at_place, asks_waits, asks_silent, says_on, says_ended, count_same, count_less, set_here, within_get, did_node}
+use Rattle.drive_tape.proofs.Works.{work_none, work_act}
+use Rattle.drive_tape.proofs.Clusters.{since_gone}
+use Rattle.drive_tape.proofs.Acting.{acted_does}
+use Rattle.drive_tape.proofs.Stepping.{life_more}
+use Rattle.drive_tape.proofs.Places.{NotWaiting, same_or_not, get_apart, set_at, each_set, nodes_set, ticket_none, does_plain, up_on, lives_on, same_lives, causes_on, failed_on}
+use Rattle.drive_tape.proofs.Falling.{own_none}
 
 -- where no call is asked, a unit leads to no step
 hears_none : (k : ℕ) (one : Exchange) → one.call ≡ None → AreLinked (Does k (Hears one) ∷ []) [] [] []
-hears_none k one none = record { made = rw none refl; asked = rw none refl; answered = refl }
+hears_none k one none = record { made = rw none refl; asked = rw none refl; answered = refl; waits = refl }
+
+-- what began does not wait yet
+begins_waits : (k : ℕ) (asked : calls.Call) (outcome : Outcome) → made_of outcome ≡ Made.Begins k asked → waits_by_outcome outcome ≡ []
+begins_waits k asked (Outcome.Began j node call ticket) is = refl
+begins_waits k asked (Outcome.Refused j node call) is = refl
+begins_waits k asked (Outcome.Fell j node call) is = refl
+begins_waits k asked (Outcome.Broke j node call) is = refl
+begins_waits k asked (Outcome.Answers j call ticket given) is = refl
+begins_waits k asked (Outcome.StillPending j ticket) is = absurd (let never : Made.Asks j ≡ Made.Begins k asked = is in cc)
+begins_waits k asked (Outcome.Unanswered j call ticket) is = refl
+begins_waits k asked (Outcome.GaveUp j call ticket) is = refl
+begins_waits k asked (Outcome.Abandoned j call ticket) is = refl
+begins_waits k asked (Outcome.KeptUp j ticket why) is = refl
+begins_waits k asked (Outcome.Left j node user) is = refl
+begins_waits k asked (Outcome.Moved order steps) is = refl
 
 -- and else to the beginning of the call
-hears_call : (k : ℕ) (one : Exchange) (asked : calls.Call) (outcome : Outcome) (lacking : List Asked) → one.call ≡ Some asked → made_of outcome ≡ Made.Begins k asked
+pub hears_call : (k : ℕ) (one : Exchange) (asked : calls.Call) (outcome : Outcome) (lacking : List Asked) → one.call ≡ Some asked → made_of outcome ≡ Made.Begins k asked
     → asked_by_outcome outcome ++ lacking ≡ record { session = k; call = asked } ∷ [] → answered_by_outcome outcome ≡ [] → AreLinked (Does k (Hears one) ∷ []) (outcome ∷ []) lacking []
 hears_call k one asked outcome lacking is made asks answers = record {
   made = rw is (ap (λ (m : Made). m ∷ []) made);
   asked = rw is (sym asks ∙ ap (λ (l : List Asked). l ++ lacking) (sym (append-nil (asked_by_outcome outcome))));
   answered = sym (append-nil (answered_by_outcome outcome) ∙ answers);
+  waits = sym (append-nil (waits_by_outcome outcome) ∙ begins_waits k asked outcome made);
 }
+
+-- one that hears does not wait
+pub hears_quiet : (plan : Plan) (plain : Session) (one : Exchange) (said : List (List ℕ)) (after : Session) → Did plan plain (Hears one) said after → NotWaiting plain.standing
+hears_quiet plan plain one said after did state call waits = absurd (let never : Standing.Hearing did.0 ≡ Standing.Waiting state call = sym did.2 ∙ waits in cc)
 
 module _ (plan : Plan) (p : Point) (place onward : ℕ) (plain after : Session) (one : Exchange) (turn : p.turn ≡ Hearing (place + 1) onward)
     (here : slice_get p.sessions place ≡ Some plain) (did : Did plan plain (Hears one) one.reply after) where
@@ -76,6 +95,7 @@ module _ (plan : Plan) (p : Point) (place onward : ℕ) (plain after : Session) 
     next = hears_next (Hearing (place + 1) onward) (ap (turn_after_unit (place + 1) onward) (sym none));
     acted = acted_does plan p.sessions place plain after (Hears one) one.reply here did;
     linked = hears_none (place + 1) one none;
+    at_nodes = tt;
   }
 
   -- it asks a call, and nothing is said
@@ -92,16 +112,47 @@ module _ (plan : Plan) (p : Point) (place onward : ℕ) (plain after : Session) 
   asks_next asked is = hears_next (Beginning (place + 1) onward) (ap (turn_after_unit (place + 1) onward) (sym is))
 
   pub asks_one : (asked : calls.Call) (outcome : Outcome) → one.call ≡ Some asked → made_of outcome ≡ Made.Begins (place + 1) asked
-      → asked_by_outcome outcome ≡ record { session = place + 1; call = asked } ∷ [] → answered_by_outcome outcome ≡ []
+      → asked_by_outcome outcome ≡ record { session = place + 1; call = asked } ∷ [] → answered_by_outcome outcome ≡ [] → IsAtOwnNode (slice_set p.sessions place after) outcome
       → OneAct plan p (Does (place + 1) (Hears one)) [] (outcome ∷ []) (Beginning (place + 1) onward) (slice_set p.sessions place after)
-  asks_one asked outcome is made asks answers = record {
+  asks_one asked outcome is made asks answers own = record {
     next = asks_next asked is;
     acted = asks_acted asked is;
     linked = hears_call (place + 1) one asked outcome [] is made (append-nil (asked_by_outcome outcome) ∙ asks) answers;
+    at_nodes = (own, tt);
   }
 
+-- one that has nothing to do
+pub nothing_idle : (s : Standing) (rest : List ℕ) → HearsNothing s rest → IsIdle s rest
+nothing_idle (Standing.Hearing state) rest is = is
+nothing_idle (Standing.Waiting state call) rest is = absurd is
+nothing_idle Standing.EndedByQuit rest is = absurd is
+nothing_idle Standing.EndedDown rest is = absurd is
+nothing_idle Standing.EndedClosed rest is = absurd is
+
+pub nothing_stays : (s : Standing) (rest : List ℕ) (exchanges : List Exchange) → HearsNothing s rest → leave_of exchanges s ≡ None
+nothing_stays (Standing.Hearing state) rest exchanges is = refl
+nothing_stays (Standing.Waiting state call) rest exchanges is = absurd is
+nothing_stays Standing.EndedByQuit rest exchanges is = absurd is
+nothing_stays Standing.EndedDown rest exchanges is = absurd is
+nothing_stays Standing.EndedClosed rest exchanges is = absurd is
+
+-- nor has one that waits
+pub waits_idle : (s : Standing) (rest : List ℕ) → IsWaiting s → IsIdle s rest
+waits_idle (Standing.Waiting state call) rest is = tt
+waits_idle (Standing.Hearing state) rest is = absurd is
+waits_idle Standing.EndedByQuit rest is = absurd is
+waits_idle Standing.EndedDown rest is = absurd is
+waits_idle Standing.EndedClosed rest is = absurd is
+
+pub waits_stays : (s : Standing) (exchanges : List Exchange) → IsWaiting s → leave_of exchanges s ≡ None
+waits_stays (Standing.Waiting state call) exchanges is = refl
+waits_stays (Standing.Hearing state) exchanges is = absurd is
+waits_stays Standing.EndedByQuit exchanges is = absurd is
+waits_stays Standing.EndedDown exchanges is = absurd is
+waits_stays Standing.EndedClosed exchanges is = absurd is
+
 -- the entries of a reply
-closed_or_not : (after : After) (k : ℕ) (one : Exchange) (plain : Session) → IsAfter after plain → closing k (Hears one) plain.standing ≡ (if has_ended after then closed_event k ∷ [] else [])
+pub closed_or_not : (after : After) (k : ℕ) (one : Exchange) (plain : Session) → IsAfter after plain → closing k (Hears one) plain.standing ≡ (if has_ended after then closed_event k ∷ [] else [])
 closed_or_not Stays k one plain on = by_standing plain.standing on
   where
     by_standing : (s : Standing) → IsOn s → closing k (Hears one) s ≡ []
@@ -112,218 +163,101 @@ closed_or_not Stays k one plain on = by_standing plain.standing on
     by_standing Standing.EndedClosed is = absurd is
 closed_or_not (Ends leave) k one plain is = ap (closing k (Hears one)) is.0
 
-is_after_hears : (plan : Plan) (old : Session) (one : Exchange) (after : After) (new : Session) (standing now : ℕ) → Did plan old (Hears one) one.reply new → one.call ≡ None → GoesOn after new standing now → IsAfter after new
+pub is_after_hears : (plan : Plan) (old : Session) (one : Exchange) (after : After) (new : Session) (standing now : ℕ) → Did plan old (Hears one) one.reply new → one.call ≡ None → GoesOn after new standing now → IsAfter after new
 is_after_hears plan old one Stays new standing now did none goes = goes.0
 is_after_hears plan old one (Ends leave) new standing now did none goes = (says_ended plan old one one.reply new did none goes.0, goes.1)
 
-counts_after : (sessions : List Session) (place : ℕ) (plain new : Session) (after : After) (standing now : ℕ) → slice_get sessions place ≡ Some plain → IsOn plain.standing → standing ≡ count_on sessions → GoesOn after new standing now
+pub counts_after : (sessions : List Session) (place : ℕ) (plain new : Session) (after : After) (standing now : ℕ) → slice_get sessions place ≡ Some plain → IsOn plain.standing → standing ≡ count_on sessions → GoesOn after new standing now
     → now ≡ count_on (slice_set sessions place new)
 counts_after sessions place plain new Stays standing now here on count goes = goes.1 ∙ count ∙ sym (count_same sessions place plain new here on goes.0)
 counts_after sessions place plain new (Ends leave) standing now here on count goes = goes.2 ∙ ap (λ (n : ℕ). n - 1) count ∙ sym (count_less sessions place plain new here on goes.0)
 
-module _ {D : Type 0} (seen : D → Option (List ℕ)) (faults : D → ℕ) (start : World D) (plan : Plan) (p : Point) (place onward : ℕ) (old new : Cluster D)
-    (shows : IsAtPoint seen faults start old p) (hears : HearsAt place onward p) (world : new.world ≡ old.world) (tickets : new.sessions.tickets ≡ old.sessions.tickets) where
-  none : NoTickets old.sessions.tickets.items p.sessions
-  none = subst (λ (a : List Awaited). HaveTickets old.sessions.tickets.items p.sessions a) hears.quiet shows.tickets
+module _ {D : Type 0} (on : View D) (start : World D) (plan : Plan) (p : Point) (place onward : ℕ) (old new : Cluster D)
+    (shows : IsAtPoint on start plan old p) (hears : HearsAt place onward p) (world : new.world ≡ old.world) (nodes : new.sessions.nodes ≡ old.sessions.nodes) (kept : new.sessions.calls ≡ old.sessions.calls) where
+  abbrev pub heard_point : Exchange → Session → Point
+  heard_point one after = record p { turn = Hearing (place + 1) onward; sessions = slice_set p.sessions place after; been = p.been ++ Does (place + 1) (Hears one) ∷ [] }
 
   -- it said something
   pub saying : (after : After) (out : List ℕ) → (h : HeardAt plan p.sessions place hears.plain None after out old.sessions.standing new.sessions)
-      → IsSaying seen faults start plan p (record p { turn = Hearing (place + 1) onward; sessions = slice_set p.sessions place h.after }) place onward after out new
+      → IsSaying on start plan p (heard_point h.one h.after) place onward after out new
   saying after out h =
       let is = is_after_hears plan hears.plain h.one after h.after _ _ h.did h.asks h.goes_on in
-      let up = still_up _ p.down p.sessions place hears.plain shows.up hears.here hears.on in
+      let act = Does (place + 1) (Hears h.one) in
+      let one = does_plain (place + 1) (Hears h.one) in
+      let none_old = ticket_none _ hears.plain (place + 1) p.awaited hears.plain.standing (hears_quiet plan hears.plain h.one h.one.reply h.after h.did) (shows.tickets place hears.plain hears.here) in
+      let same_node = did_node plan hears.plain (Hears h.one) h.one.reply h.after h.did in
       record {
-        act = Does (place + 1) (Hears h.one);
+        act = act;
         said = h.one.reply;
         outcomes = [];
         one = subst (λ (es : List Entry). OneAct plan p (Does (place + 1) (Hears h.one)) es [] (Hearing (place + 1) onward) (slice_set p.sessions place h.after))
             (ap (λ (es : List Entry). said_lines (place + 1) h.one.reply ++ es) (closed_or_not after (place + 1) h.one h.after is))
             (hears_one plan p place onward hears.plain h.after h.one hears.turn hears.here h.did h.asks);
         came = sym (append-nil p.outcomes);
-        failed = sym (append-nil p.down);
+        been = refl;
         held = refl;
         says = h.says;
         lines = h.lines;
         shows = record {
           at = rw world shows.at;
           talks = h.talks;
-          tickets = subst (λ (a : List Awaited). HaveTickets new.sessions.tickets.items (slice_set p.sessions place h.after) a) (sym hears.quiet)
-              (rw tickets (no_tickets_set old.sessions.tickets.items p.sessions place h.after none (says_on plan hears.plain h.one h.one.reply h.after h.did h.asks)));
+          nodes = ap (λ l. l.items) nodes ∙ shows.nodes ∙ sym (nodes_set p.sessions place hears.plain h.after hears.here same_node);
+          tickets = each_set (HasOwnTicket new.sessions.calls.items p.awaited) p.sessions place h.after (λ i s here other. rw kept (shows.tickets i s here))
+              (own_none new.sessions.calls.items p.awaited place h.after (says_on plan hears.plain h.one h.one.reply h.after h.did h.asks) (rw kept none_old));
           count = counts_after p.sessions place hears.plain h.after after old.sessions.standing new.sessions.standing hears.here hears.on shows.count h.goes_on;
-          up = rw world (inl up);
+          lives = lives_on plan p.been act new.world new.world one (same_lives new.world) (rw world shows.lives);
+          up = each_set (λ i s. StandsOnNode plan (p.been ++ act ∷ []) s) p.sessions place h.after (λ i s here other. up_on plan p.been act s one (shows.up i s here))
+              (up_on plan p.been act h.after one (λ stands. subst (λ (n : ℕ). IsUpAt plan p.been n) (sym same_node) (shows.up place hears.plain hears.here hears.on)));
+          causes = causes_on on start new.world p.been act one (rw world shows.causes);
         };
         turn = refl;
-        quiet = hears.quiet;
         plain = h.after;
         here = set_here p.sessions place h.after (within_get p.sessions place hears.plain hears.here);
         is_after = is;
-        down = up.1;
       }
 
   -- it asks a call
   pub beginning : (call : Call) (asked : calls.Call) (out : List ℕ) → call_seen call ≡ Some asked → HeardAt plan p.sessions place hears.plain (Some asked) Stays out old.sessions.standing new.sessions
-      → IsBeginning seen faults start plan p place onward call new
-  beginning call asked out is h =
-      let up = still_up _ p.down p.sessions place hears.plain shows.up hears.here hears.on in
-      record {
-        plain = hears.plain;
-        one = h.one;
-        after = h.after;
-        here = hears.here;
-        did = h.did;
-        asked = asked;
-        call_is = is;
-        asks = h.asks;
-        turn = hears.turn;
-        quiet = hears.quiet;
-        at = rw world (subst (λ (a : List Awaited). WorldIsAt seen faults start p.outcomes a old.world) hears.quiet shows.at);
-        talks = h.talks;
-        tickets = rw tickets none;
-        count = h.goes_on.1 ∙ shows.count;
-        up = ap is_up world ∙ up.0;
-        down = up.1;
-      }
+      → IsBeginning on start plan p place onward call new
+  beginning call asked out is h = record {
+    plain = hears.plain;
+    one = h.one;
+    after = h.after;
+    here = hears.here;
+    did = h.did;
+    asked = asked;
+    call_is = is;
+    asks = h.asks;
+    turn = hears.turn;
+    at = rw world shows.at;
+    talks = h.talks;
+    nodes = ap (λ l. l.items) nodes ∙ shows.nodes;
+    tickets = λ i s here. rw kept (shows.tickets i s here);
+    count = h.goes_on.1 ∙ shows.count;
+    lives = rw world shows.lives;
+    up = shows.up;
+    causes = rw world shows.causes;
+  }
 
   -- it has nothing to do
-  pub rests : (out : List ℕ) → HearsNothing hears.plain.standing hears.plain.rest → StaysAt p.sessions out old.sessions.standing new.sessions → WentOn seen faults start plan p (RestsAt place onward) p.held new
-  rests out nothing same = record {
+  pub rests : (out : List ℕ) → IsIdle hears.plain.standing hears.plain.rest → leave_of (exchanges_of hears.plain) hears.plain.standing ≡ None → StaysAt p.sessions out old.sessions.standing new.sessions
+      → WentOn on start plan p (RestsAt onward) p.held new
+  rests out idle stays same = record {
     q = p;
     work = work_none plan p;
     held_is = refl;
-    shows = record { at = rw world shows.at; talks = same.talks; tickets = rw tickets shows.tickets; count = same.count ∙ shows.count; up = rw world shows.up };
-    so_is = record { ready = subst (λ (t : Turn). IsReadyToAsk t p.sessions onward) (sym hears.turn) (refl, idle, leaves); alone = inl hears.quiet };
+    shows = record {
+      at = rw world shows.at;
+      talks = same.talks;
+      nodes = ap (λ l. l.items) nodes ∙ shows.nodes;
+      tickets = λ i s here. rw kept (shows.tickets i s here);
+      count = same.count ∙ shows.count;
+      lives = rw world shows.lives;
+      up = shows.up;
+      causes = rw world shows.causes;
+    };
+    so_is = subst (λ (t : Turn). IsReadyToAsk t p.sessions onward) (sym hears.turn) (refl, subst IsAtRest (sym at_k) idle, ap to_leave at_k ∙ stays);
   }
     where
       at_k : session_at p.sessions (place + 1) ≡ Some hears.plain
       at_k = at_place p.sessions (place + 1) place refl ∙ hears.here
-
-      is_idle : (s : Standing) (rest : List ℕ) → HearsNothing s rest → IsIdle s rest
-      is_idle (Standing.Hearing state) rest is = is
-      is_idle (Standing.Waiting state call) rest is = absurd is
-      is_idle Standing.EndedByQuit rest is = absurd is
-      is_idle Standing.EndedDown rest is = absurd is
-      is_idle Standing.EndedClosed rest is = absurd is
-
-      stays : (s : Standing) (rest : List ℕ) (exchanges : List Exchange) → HearsNothing s rest → leave_of exchanges s ≡ None
-      stays (Standing.Hearing state) rest exchanges is = refl
-      stays (Standing.Waiting state call) rest exchanges is = absurd is
-      stays Standing.EndedByQuit rest exchanges is = absurd is
-      stays Standing.EndedDown rest exchanges is = absurd is
-      stays Standing.EndedClosed rest exchanges is = absurd is
-
-      idle : IsAtRest (session_at p.sessions (place + 1))
-      idle = subst IsAtRest (sym at_k) (is_idle hears.plain.standing hears.plain.rest nothing)
-
-      leaves : to_leave (session_at p.sessions (place + 1)) ≡ None
-      leaves = ap to_leave at_k ∙ stays hears.plain.standing hears.plain.rest (exchanges_of hears.plain) nothing
-
-  -- it does not wait
-  pub not_waiting : IsWaiting hears.plain.standing → ⊥
-  not_waiting waits = by_standing hears.plain.standing refl waits
-    where
-      by_standing : (s : Standing) → hears.plain.standing ≡ s → IsWaiting s → ⊥
-      by_standing (Standing.Waiting state call) is w = quiet_at old.sessions.tickets.items p.sessions place hears.plain none hears.here state call is
-      by_standing (Standing.Hearing state) is w = w
-      by_standing Standing.EndedByQuit is w = w
-      by_standing Standing.EndedDown is w = w
-      by_standing Standing.EndedClosed is w = w
-
-module _ {D : Type 0} (seen : D → Option (List ℕ)) (faults : D → ℕ) (start : World D) (plan : Plan) (p : Point) (place onward : ℕ) (call : Call) (old : Cluster D)
-    (b : IsBeginning seen faults start plan p place onward call old) where
-  sessions : List Session
-  sessions = slice_set p.sessions place b.after
-
-  -- the point after the beginning of the call
-  abbrev pub begun_point : Outcome → List Awaited → Point
-  begun_point outcome awaited = record p { turn = Beginning (place + 1) onward; sessions = slice_set p.sessions place b.after; outcomes = p.outcomes ++ outcome ∷ []; awaited = awaited }
-
-  pub begun_work : (outcome : Outcome) (awaited : List Awaited) → made_of outcome ≡ Made.Begins (place + 1) b.asked → asked_by_outcome outcome ≡ record { session = place + 1; call = b.asked } ∷ [] → answered_by_outcome outcome ≡ []
-      → Work plan p (begun_point outcome awaited)
-  begun_work outcome awaited made asks answers =
-      work_act plan p (begun_point outcome awaited) (Does (place + 1) (Hears b.one)) [] (outcome ∷ [])
-      (asks_one plan p place onward b.plain b.after b.one b.turn b.here b.did b.asked outcome b.asks made asks answers) refl (sym (append-nil p.down)) (appends_none p.held)
-
-  -- it waits
-  pub begins : (number : ℕ) (ticket : Ticket) (new : Cluster D) (held : Option (List ℕ)) → p.held ≡ held → place < length old.sessions.tickets.items → ticket ≡ nth_ticket number → is_up new.world ≡ true
-      → WorldIsAt seen faults start (p.outcomes ++ Began (place + 1) b.asked number ∷ []) (record { number = number; session = place + 1; call = b.asked } ∷ []) new.world
-      → new.sessions.talkers ≡ old.sessions.talkers → new.sessions.tickets.items ≡ slice_set old.sessions.tickets.items place (Some ticket) → new.sessions.standing ≡ old.sessions.standing
-      → WentOn seen faults start plan p (RestsAt place onward) held new
-  begins number ticket new held same_held within is up at talkers tickets count =
-      let waits = asks_waits plan b.plain b.one b.one.reply b.after b.asked b.did b.asks in
-      let awaited = record { number = number; session = place + 1; call = b.asked } ∷ [] in
-      record {
-        q = begun_point (Began (place + 1) b.asked number) awaited;
-        work = begun_work (Began (place + 1) b.asked number) awaited refl refl refl;
-        held_is = same_held;
-        shows = record {
-          at = at;
-          talks = rw talkers b.talks;
-          tickets = rw tickets (one_waits old.sessions.tickets.items p.sessions place number b.plain b.after waits.0 b.asked ticket b.tickets within b.here waits.1 (b.plain.whole, b.one, ap (λ (s : Session). s.whole) b.did.5) is);
-          count = count ∙ b.count ∙ sym (count_same p.sessions place b.plain b.after b.here (was_on b.plain) (rw waits.1 tt));
-          up = inl (up, b.down);
-        };
-        so_is = record { ready = refl; alone = inr (record { number = number; session = place + 1; call = b.asked }, refl, refl) };
-      }
-    where
-      was_on : (plain : Session) → IsOn b.plain.standing
-      was_on plain = rw b.did.2 tt
-
-  -- the node failed
-  pub falls : (new : Cluster D) → is_up new.world ≡ false → WorldIsAt seen faults start (p.outcomes ++ Fell (place + 1) b.asked ∷ []) [] new.world → new.sessions ≡ old.sessions
-      → FallsAt seen faults start (begun_point (Fell (place + 1) b.asked) []) place onward new
-  falls new down at same =
-      let waits = asks_waits plan b.plain b.one b.one.reply b.after b.asked b.did b.asks in
-      record {
-        turn = refl;
-        quiet = refl;
-        plain = b.after;
-        here = set_here p.sessions place b.after (within_get p.sessions place b.plain b.here);
-        at = at;
-        talks = rw same b.talks;
-        count = rw same (b.count ∙ sym (count_same p.sessions place b.plain b.after b.here (rw b.did.2 tt) (rw waits.1 tt)));
-        up = down;
-        down = b.down;
-      }
-
-  -- memory ran out
-  stops_with : (outcome : Outcome) (lacking : List Asked) (last : World D) → made_of outcome ≡ Made.Begins (place + 1) b.asked → asked_by_outcome outcome ++ lacking ≡ record { session = place + 1; call = b.asked } ∷ [] → answered_by_outcome outcome ≡ []
-      → (lacking ≡ []) ⊎ ((one : Asked) × (lacking ≡ one ∷ [])) → IsSince seen faults start (p.outcomes ++ outcome ∷ []) last → Stopped seen faults start plan p why.NoMemory p.held last
-  stops_with outcome lacking last made asks answers few since = record {
-    stop = OutOfMemory;
-    is = refl;
-    outcomes = p.outcomes ++ outcome ∷ [];
-    cut = record {
-      acts = Does (place + 1) (Hears b.one) ∷ [];
-      outputs = [] ∷ [];
-      turn = Beginning (place + 1) onward;
-      sessions = slice_set p.sessions place b.after;
-      goes = (
-        Beginning (place + 1) onward,
-        slice_set p.sessions place b.after,
-        asks_next plan p place onward b.plain b.after b.one b.turn b.here b.did b.asked b.asks,
-        asks_acted plan p place onward b.plain b.after b.one b.turn b.here b.did b.asked b.asks,
-        (refl, refl),
-      );
-      new = outcome ∷ [];
-      lacking = lacking;
-      extra = [];
-      linked = hears_call (place + 1) b.one b.asked outcome lacking b.asks made asks answers;
-      came = refl;
-      asked = inl refl;
-      front = [];
-      missing = [];
-      parts = refl;
-      tail = inl refl;
-      may = few;
-      cut = [];
-      is_cut = inl refl;
-      gave = appends_none p.held;
-    };
-    cause = inl (append-nil p.down ∙ b.down);
-    since = since;
-  }
-
-  pub stops_beginning : (last : World D) → IsSince seen faults start (p.outcomes ++ Refused (place + 1) b.asked ∷ []) last ⊎ IsSince seen faults start (p.outcomes ++ Fell (place + 1) b.asked ∷ []) last
-      → Stopped seen faults start plan p why.NoMemory p.held last
-  stops_beginning last (inl since) = stops_with (Refused (place + 1) b.asked) (record { session = place + 1; call = b.asked } ∷ []) last refl refl refl (inr (record { session = place + 1; call = b.asked }, refl)) since
-  stops_beginning last (inr since) = stops_with (Fell (place + 1) b.asked) [] last refl refl refl (inl refl) since

@@ -18,13 +18,13 @@ use Rattle.drive_tape.specs.declared.sessions.After.TheVariants.{Stays, Ends}
 use Rattle.drive_tape.specs.Talks.{Converse}
 use Rattle.drive_tape.specs.Speakers.{Matches, talker_left}
 use Rattle.drive_tape.specs.Moving.{HeardAt, RepliesTo, StaysAt, FellAt, GoesOn, left_of, left_here}
-use Rattle.drive_tape.proofs.Talks.{matches_at, node_at, converse_set, did_node, asks_waits, set_same}
+use Rattle.drive_tape.proofs.Talks.{matches_at, converse_set, did_node, asks_waits, set_same}
 
 module _ (talkers : List (Option Talker)) (sessions : List Session) (place : ℕ) (talker new : Talker) (plain : Session) where
   -- the others sit as they did
-  pub seated : (after : Session) → Converse talkers sessions → slice_get talkers place ≡ Some (Some talker) → slice_get sessions place ≡ Some plain → Matches new after Nothing → after.node ≡ plain.node
+  pub seated : (after : Session) → Converse talkers sessions → slice_get talkers place ≡ Some (Some talker) → slice_get sessions place ≡ Some plain → Matches new after Nothing
       → Converse (slice_set talkers place (Some new)) (slice_set sessions place after)
-  seated after all there here matches node = converse_set talkers sessions place (Some new) after all matches (node ∙ node_at talkers sessions place (Some talker) plain all there here)
+  seated after all there here matches = converse_set talkers sessions place (Some new) after all matches
 
 pub waits_on : (after : Session) (state : _) (call : calls.Call) → after.standing ≡ Waiting state call → IsOn after.standing
 waits_on after state call is = rw is tt
@@ -47,7 +47,7 @@ left_was talkers place talker there = ap left_here there
 pub stays : (talkers : List (Option Talker)) (sessions : List Session) (place : ℕ) (talker new : Talker) (plain : Session) → Converse talkers sessions
     → slice_get talkers place ≡ Some (Some talker) → slice_get sessions place ≡ Some plain → Matches new plain Nothing → Converse (slice_set talkers place (Some new)) sessions
 stays talkers sessions place talker new plain all there here matches =
-    subst (λ (l : List Session). Converse (slice_set talkers place (Some new)) l) (set_same sessions place plain here) (seated talkers sessions place talker new plain plain all there here matches refl)
+    subst (λ (l : List Session). Converse (slice_set talkers place (Some new)) l) (set_same sessions place plain here) (seated talkers sessions place talker new plain plain all there here matches)
 
 pub fell_ended : (plan : Plan) (old : Session) (said : List (List ℕ)) (new : Session) → Did plan old Falls said new → HasEnded new.standing
 fell_ended plan old said new did = let is : new.standing ≡ EndedDown = ap (λ (s : Session). s.standing) did.2 in rw is tt

@@ -13,13 +13,10 @@ use Rattle.session_model.specs.Calls.Call.{Deliver, Login, Fetch, Strike}
 use Rattle.session_model.specs.Calls.Answer.{Stored, Listed, Wrong, Part, GoneAlready, Dropped, Failed}
 use Rattle.session_model.specs.Sessions.{Session, session_at}
 use Rattle.session_model.specs.Acts.{Did, Deed}
-use Rattle.session_model.specs.Acts.Deed.{IsFed, Hears, IsAnswered, Falls, Closes}
+use Rattle.session_model.specs.Acts.Deed.{IsFed, Hears, IsAnswered, IsGivenUp, Falls, Closes}
 use Rattle.call_tickets.specs.Moves.Due.{Nothing}
 use Rattle.drive_tape.specs.declared.talker.Talker.{Talker}
-use Rattle.drive_tape.specs.Talks.{Converse, Sits, NoTickets, OneWaits}
-use Rattle.drive_tape.specs.Points.{AllEnded, IsUpUnlessFailed}
-use Rattle.cluster_world.specs.Steps.{nth_ticket}
-use Rattle.mail_base.specs.declared.ticket.Ticket.{Ticket}
+use Rattle.drive_tape.specs.Talks.{Converse, Sits}
 use Rattle.drive_tape.specs.Speakers.{Matches}
 use Rattle.std.proofs.lemmas.Bool.Decides.{nat_tests}
 
@@ -28,19 +25,19 @@ some_same x y is = cc
 
 -- one session more
 pub converse_more : (talkers : List (Option Talker)) (old : List Session) (talker : Option Talker) (one : Session)
-    → Converse talkers old → Sits talker one → one.node ≡ 1 → Converse (talkers ++ talker ∷ []) (old ++ one ∷ [])
-converse_more [] [] talker one all last node = (last, node, tt)
-converse_more [] (c ∷ cs) talker one all last node = absurd all
-converse_more (t ∷ ts) [] talker one all last node = absurd all
-converse_more (t ∷ ts) (c ∷ cs) talker one all last node = (all.0, all.1, converse_more ts cs talker one all.2 last node)
+    → Converse talkers old → Sits talker one → Converse (talkers ++ talker ∷ []) (old ++ one ∷ [])
+converse_more [] [] talker one all last = (last, tt)
+converse_more [] (c ∷ cs) talker one all last = absurd all
+converse_more (t ∷ ts) [] talker one all last = absurd all
+converse_more (t ∷ ts) (c ∷ cs) talker one all last = (all.0, converse_more ts cs talker one all.1 last)
 
 -- the session at a place
 pub converse_get : (talkers : List (Option Talker)) (old : List Session) (at : ℕ) (talker : Option Talker)
-    → Converse talkers old → slice_get talkers at ≡ Some talker → (one : Session) × (slice_get old at ≡ Some one) × Sits talker one × (one.node ≡ 1)
+    → Converse talkers old → slice_get talkers at ≡ Some talker → (one : Session) × (slice_get old at ≡ Some one) × Sits talker one
 converse_get [] old at talker all is = absurd (cc)
 converse_get (t ∷ ts) [] at talker all is = absurd all
-converse_get (t ∷ ts) (c ∷ cs) zero talker all is = (c, refl, subst (λ (x : Option Talker). Sits x c) (cc) all.0, all.1)
-converse_get (t ∷ ts) (c ∷ cs) (suc at) talker all is = converse_get ts cs at talker all.2 is
+converse_get (t ∷ ts) (c ∷ cs) zero talker all is = (c, refl, subst (λ (x : Option Talker). Sits x c) (cc) all.0)
+converse_get (t ∷ ts) (c ∷ cs) (suc at) talker all is = converse_get ts cs at talker all.1 is
 
 pub matches_at : (talkers : List (Option Talker)) (old : List Session) (at : ℕ) (talker : Option Talker) (one : Session)
     → Converse talkers old → slice_get talkers at ≡ Some talker → slice_get old at ≡ Some one → Sits talker one
@@ -48,40 +45,35 @@ matches_at talkers old at talker one all there here =
     let got = converse_get talkers old at talker all there in
     subst (λ (s : Session). Sits talker s) (some_same got.0 one (sym got.1 ∙ here)) got.2
 
-pub node_at : (talkers : List (Option Talker)) (old : List Session) (at : ℕ) (talker : Option Talker) (one : Session)
-    → Converse talkers old → slice_get talkers at ≡ Some talker → slice_get old at ≡ Some one → one.node ≡ 1
-node_at talkers old at talker one all there here =
-    let got = converse_get talkers old at talker all there in
-    sym (ap (λ (s : Session). s.node) (some_same got.0 one (sym got.1 ∙ here))) ∙ got.3
-
 -- no session has a place after the last
 pub converse_none : (talkers : List (Option Talker)) (old : List Session) (at : ℕ) → Converse talkers old → length talkers ≤ at → slice_get old at ≡ None
 converse_none [] [] at all past = refl
 converse_none [] (c ∷ cs) at all past = absurd all
 converse_none (t ∷ ts) [] at all past = refl
 converse_none (t ∷ ts) (c ∷ cs) zero all past = absurd (omega arith)
-converse_none (t ∷ ts) (c ∷ cs) (suc at) all past = converse_none ts cs at all.2 (omega arith)
+converse_none (t ∷ ts) (c ∷ cs) (suc at) all past = converse_none ts cs at all.1 (omega arith)
 
 -- one session in place of another
 pub converse_set : (talkers : List (Option Talker)) (old : List Session) (at : ℕ) (talker : Option Talker) (one : Session)
-    → Converse talkers old → Sits talker one → one.node ≡ 1 → Converse (slice_set talkers at talker) (slice_set old at one)
-converse_set [] [] at talker one all here node = tt
-converse_set [] (c ∷ cs) at talker one all here node = absurd all
-converse_set (t ∷ ts) [] at talker one all here node = absurd all
-converse_set (t ∷ ts) (c ∷ cs) zero talker one all here node = (here, node, all.2)
-converse_set (t ∷ ts) (c ∷ cs) (suc at) talker one all here node = (all.0, all.1, converse_set ts cs at talker one all.2 here node)
+    → Converse talkers old → Sits talker one → Converse (slice_set talkers at talker) (slice_set old at one)
+converse_set [] [] at talker one all here = tt
+converse_set [] (c ∷ cs) at talker one all here = absurd all
+converse_set (t ∷ ts) [] at talker one all here = absurd all
+converse_set (t ∷ ts) (c ∷ cs) zero talker one all here = (here, all.1)
+converse_set (t ∷ ts) (c ∷ cs) (suc at) talker one all here = (all.0, converse_set ts cs at talker one all.1 here)
 
 pub converse_length : (talkers : List (Option Talker)) (old : List Session) → Converse talkers old → length talkers ≡ length old
 converse_length [] [] all = refl
 converse_length [] (c ∷ cs) all = absurd all
 converse_length (t ∷ ts) [] all = absurd all
-converse_length (t ∷ ts) (c ∷ cs) all = ap suc (converse_length ts cs all.2)
+converse_length (t ∷ ts) (c ∷ cs) all = ap suc (converse_length ts cs all.1)
 
 -- whatever a session does, it stays at its node
 pub did_node : (plan : Plan) (old : Session) (deed : Deed) (said : List (List ℕ)) (new : Session) → Did plan old deed said new → new.node ≡ old.node
 did_node plan old (IsFed more) said new did = ap (λ (s : Session). s.node) did.2
 did_node plan old (Hears one) said new did = ap (λ (s : Session). s.node) did.5
 did_node plan old (IsAnswered call answer reply) said new did = ap (λ (s : Session). s.node) did.7
+did_node plan old (IsGivenUp call reply) said new did = ap (λ (s : Session). s.node) did.7
 did_node plan old Falls said new did = ap (λ (s : Session). s.node) did.2
 did_node plan old Closes said new did = ap (λ (s : Session). s.node) did.2
 
@@ -224,7 +216,7 @@ pub found_at : (talkers : List (Option Talker)) (old : List Session) (at : ℕ) 
 found_at [] old at all within = absurd (omega (arith, within))
 found_at (t ∷ ts) [] at all within = absurd all
 found_at (t ∷ ts) (c ∷ cs) zero all within = (c, refl)
-found_at (t ∷ ts) (c ∷ cs) (suc at) all within = found_at ts cs at all.2 (omega (arith, within))
+found_at (t ∷ ts) (c ∷ cs) (suc at) all within = found_at ts cs at all.1 (omega (arith, within))
 
 -- one that asks says nothing yet
 pub asks_silent : (plan : Plan) (old : Session) (one : Exchange) (said : List (List ℕ)) (new : Session) (call : Call) → Did plan old (Hears one) said new → one.call ≡ Some call → one.reply ≡ []
@@ -287,62 +279,6 @@ count_less sessions place plain new here on ended =
     let was : ◌≡◌ {A = ℕ} (if is_on plain.standing then 1 else 0) 1 = ap {B = ℕ} (λ (b : Bool). if b then 1 else 0) (on_on plain.standing on) in
     let now : ◌≡◌ {A = ℕ} (if is_on new.standing then 1 else 0) 0 = ap {B = ℕ} (λ (b : Bool). if b then 1 else 0) (ended_off new.standing ended) in
     let sum = count_at sessions place plain new here in omega (arith, sum, was, now)
-
--- nobody waits, still
-pub no_tickets_set : (tickets : List (Option Ticket)) (sessions : List Session) (place : ℕ) (new : Session) → NoTickets tickets sessions
-    → ((state : TalkState) (call : Call) → new.standing ≢ Waiting state call) → NoTickets tickets (slice_set sessions place new)
-no_tickets_set [] [] place new all quiet = tt
-no_tickets_set [] (s ∷ ss) place new all quiet = absurd all
-no_tickets_set (t ∷ ts) [] place new all quiet = absurd all
-no_tickets_set (t ∷ ts) (s ∷ ss) zero new all quiet = (all.0, quiet, all.2)
-no_tickets_set (t ∷ ts) (s ∷ ss) (suc place) new all quiet = (all.0, all.1, no_tickets_set ts ss place new all.2 quiet)
-
-pub no_ticket_set : (tickets : List (Option Ticket)) (sessions : List Session) (place : ℕ) (new : Session) → NoTickets tickets sessions
-    → ((state : TalkState) (call : Call) → new.standing ≢ Waiting state call) → NoTickets (slice_set tickets place None) (slice_set sessions place new)
-no_ticket_set [] [] place new all quiet = tt
-no_ticket_set [] (s ∷ ss) place new all quiet = absurd all
-no_ticket_set (t ∷ ts) [] place new all quiet = absurd all
-no_ticket_set (t ∷ ts) (s ∷ ss) zero new all quiet = (refl, quiet, all.2)
-no_ticket_set (t ∷ ts) (s ∷ ss) (suc place) new all quiet = (all.0, all.1, no_ticket_set ts ss place new all.2 quiet)
-
-pub quiet_at : (tickets : List (Option Ticket)) (sessions : List Session) (place : ℕ) (plain : Session) → NoTickets tickets sessions → slice_get sessions place ≡ Some plain
-    → (state : TalkState) (call : Call) → plain.standing ≢ Waiting state call
-quiet_at [] [] place plain all here state call waits = absurd cc
-quiet_at [] (s ∷ ss) place plain all here state call waits = absurd all
-quiet_at (t ∷ ts) [] place plain all here state call waits = absurd all
-quiet_at (t ∷ ts) (s ∷ ss) zero plain all here state call waits = all.1 state call (ap (λ (x : Session). x.standing) (some_same s plain here) ∙ waits)
-quiet_at (t ∷ ts) (s ∷ ss) (suc place) plain all here state call waits = quiet_at ts ss place plain all.2 here state call waits
-
--- it waits, and nobody else does
-pub one_waits : (tickets : List (Option Ticket)) (sessions : List Session) (place number : ℕ) (plain after : Session) (state : TalkState) (call : Call) (ticket : Ticket) → NoTickets tickets sessions
-    → place < length tickets → slice_get sessions place ≡ Some plain → after.standing ≡ Waiting state call → ((before : List Exchange) × (last : Exchange) × (after.whole ≡ before ++ last ∷ []))
-    → ticket ≡ nth_ticket number
-    → OneWaits (record { number = number; session = place + 1; call = call }) (slice_set tickets place (Some ticket)) (slice_set sessions place after)
-one_waits tickets sessions place number plain after state call ticket none within here waits heard is = record {
-  place = place;
-  number_is = refl;
-  plain = after;
-  here = set_here sessions place after (within_get sessions place plain here);
-  state = state;
-  waits = waits;
-  heard = heard;
-  ticket = ticket;
-  has = set_here tickets place (Some ticket) within;
-  ticket_is = is;
-  others = subst (λ (ts : List (Option Ticket)). NoTickets ts (slice_set (slice_set sessions place after) place (record after { standing = EndedDown }))) (sym (set_twice tickets place (Some ticket) None))
-      (subst (λ (ss : List Session). NoTickets (slice_set tickets place None) ss) (sym (set_twice sessions place after (record after { standing = EndedDown })))
-      (no_ticket_set tickets sessions place (record after { standing = EndedDown }) none (λ s c same. cc)));
-}
-
--- all have ended, and so has each
-pub each_ended : (sessions : List Session) (place : ℕ) (plain : Session) → AllEnded sessions → slice_get sessions place ≡ Some plain → HasEnded plain.standing
-each_ended [] place plain all here = absurd cc
-each_ended (s ∷ ss) zero plain all here = subst (λ (x : Session). HasEnded x.standing) (some_same s plain here) all.0
-each_ended (s ∷ ss) (suc place) plain all here = each_ended ss place plain all.1 here
-
-pub still_up : (up : Bool) (down : List ℕ) (sessions : List Session) (place : ℕ) (plain : Session) → IsUpUnlessFailed up down sessions → slice_get sessions place ≡ Some plain → IsOn plain.standing → (up ≡ true) × (down ≡ [])
-still_up up down sessions place plain (inl is) here on = is
-still_up up down sessions place plain (inr is) here on = absurd (on_not_ended plain.standing on (each_ended sessions place plain is.2 here))
 
 pub not_true : (b : Bool) → not b ≡ true → b ≡ false
 not_true true is = absurd cc

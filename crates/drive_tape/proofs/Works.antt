@@ -13,14 +13,15 @@ use Rattle.session_model.specs.Acts.{Act, Acted}
 use Rattle.session_model.specs.Logs.{Asked, asked_by, answered_by}
 use Rattle.session_model.specs.Turns as turns
 use Rattle.session_model.specs.Turns.{Turn, Next}
-use Rattle.session_model.specs.Run.{Made, Stop, made_by, failed_by, failed_in, MayHaveAsked}
-use Rattle.session_model.specs.Run.Stop.{SinkFailed, OutOfMemory, BehindLine}
+use Rattle.session_model.specs.Run.{Made, Stop, made_by, MayHaveAsked}
+use Rattle.session_model.specs.Run.Stop.{SinkFailed, OutOfMemory, BehindLine, Denied}
 use Rattle.cluster_world.specs.Outcomes.{Outcome, made_of, asked_by_outcome, answered_by_outcome}
 use Rattle.drive_tape.specs.declared.entry.WriteStop.{WriteStop}
 use Rattle.drive_tape.specs.Entries.{WritesEntries}
 use Rattle.drive_tape.specs.Parts.{IsCutEntry}
-use Rattle.drive_tape.specs.Points.{Point, Work, Cut, OneAct, AreLinked, IsMissingTail, MayLack}
+use Rattle.drive_tape.specs.Points.{Point, Work, Cut, OneAct, AreLinked, IsMissingTail, MayLack, waits_by, waits_by_outcome}
 use Rattle.drive_tape.proofs.Replies.{written_more}
+use Rattle.drive_tape.proofs.OwnNodes.{goes_stay, at_nodes_more}
 
 pub all_more : (xs ys : List (List Entry)) → all_of (xs ++ ys) ≡ all_of xs ++ all_of ys
 all_more xs ys = flat_map-append (λ es. es) xs ys
@@ -43,6 +44,8 @@ linked_more acts others outcomes news lacking extra one two = record {
       ∙ sym (append_assoc (flat_map asked_by_outcome outcomes) (flat_map asked_by_outcome news) lacking) ∙ ap (λ l. l ++ lacking) (sym (flat_map-append asked_by_outcome outcomes news));
   answered = flat_map-append answered_by acts others ∙ ap (λ l. l ++ flat_map answered_by others) one.answered ∙ ap (λ l. flat_map answered_by_outcome outcomes ++ l) two.answered
       ∙ sym (flat_map-append answered_by_outcome outcomes news);
+  waits = flat_map-append waits_by acts others ∙ ap (λ l. l ++ flat_map waits_by others) one.waits ∙ ap (λ l. flat_map waits_by_outcome outcomes ++ l) two.waits
+      ∙ sym (flat_map-append waits_by_outcome outcomes news);
 }
 
 -- nothing was done
@@ -52,9 +55,10 @@ work_none plan p = record {
   outputs = [];
   outcomes = [];
   goes = (refl, refl);
-  linked = record { made = refl; asked = refl; answered = refl };
+  linked = record { made = refl; asked = refl; answered = refl; waits = refl };
+  at_nodes = tt;
   came = sym (append-nil p.outcomes);
-  failed = sym (append-nil p.down);
+  been = sym (append-nil p.been);
   gave = appends_none p.held;
 }
 
@@ -66,9 +70,9 @@ work_more plan p q r one two = record {
   outcomes = one.outcomes ++ two.outcomes;
   goes = goes_more plan _ _ one.acts one.outputs _ _ two.acts two.outputs _ _ one.goes two.goes;
   linked = linked_more one.acts two.acts one.outcomes two.outcomes [] [] one.linked two.linked;
+  at_nodes = at_nodes_more q.sessions r.sessions (goes_stay plan _ _ q.sessions r.sessions two.acts two.outputs two.goes) one.outcomes two.outcomes one.at_nodes two.at_nodes;
   came = two.came ∙ ap (λ l. l ++ two.outcomes) one.came ∙ append_assoc p.outcomes one.outcomes two.outcomes;
-  failed = two.failed ∙ ap (λ l. l ++ failed_in two.acts) one.failed ∙ append_assoc p.down (failed_in one.acts) (failed_in two.acts)
-      ∙ ap (λ l. p.down ++ l) (sym (flat_map-append failed_by one.acts two.acts));
+  been = two.been ∙ ap (λ l. l ++ two.acts) one.been ∙ append_assoc p.been one.acts two.acts;
   gave = subst (Appends p.held r.held) (sym (ap written_of (all_more one.outputs two.outputs) ∙ written_more (all_of one.outputs) (all_of two.outputs))) (appends_more _ _ _ _ _ one.gave two.gave);
 }
 
@@ -90,6 +94,7 @@ work_cut plan stop p q held outcomes one two = record {
   lacking = two.lacking;
   extra = two.extra;
   linked = linked_more one.acts two.acts one.outcomes two.new two.lacking two.extra one.linked two.linked;
+  at_nodes = at_nodes_more q.sessions two.sessions (goes_stay plan _ _ q.sessions two.sessions two.acts two.outputs two.goes) one.outcomes two.new one.at_nodes two.at_nodes;
   came = two.came ∙ ap (λ l. l ++ two.new) one.came ∙ append_assoc p.outcomes one.outcomes two.new;
   asked = two.asked;
   front = all_of one.outputs ++ two.front;
@@ -114,7 +119,8 @@ cut_none plan p = record {
   new = [];
   lacking = [];
   extra = [];
-  linked = record { made = refl; asked = refl; answered = refl };
+  linked = record { made = refl; asked = refl; answered = refl; waits = refl };
+  at_nodes = tt;
   came = sym (append-nil p.outcomes);
   asked = inl refl;
   front = [];
@@ -129,15 +135,16 @@ cut_none plan p = record {
 
 -- all of it is written
 pub work_act : (plan : Plan) (p q : Point) (act : Act) (entries : List Entry) (outcomes : List Outcome) → OneAct plan p act entries outcomes q.turn q.sessions
-    → q.outcomes ≡ p.outcomes ++ outcomes → q.down ≡ p.down ++ failed_by act → Appends p.held q.held (written_of entries) → Work plan p q
-work_act plan p q act entries outcomes one came failed gave = record {
+    → q.outcomes ≡ p.outcomes ++ outcomes → q.been ≡ p.been ++ act ∷ [] → Appends p.held q.held (written_of entries) → Work plan p q
+work_act plan p q act entries outcomes one came been gave = record {
   acts = act ∷ [];
   outputs = entries ∷ [];
   outcomes = outcomes;
   goes = (q.turn, q.sessions, one.next, one.acted, (refl, refl));
   linked = one.linked;
+  at_nodes = one.at_nodes;
   came = came;
-  failed = failed ∙ ap (λ l. p.down ++ l) (sym (append-nil (failed_by act)));
+  been = been;
   gave = subst (λ es. Appends p.held q.held (written_of es)) (sym (append-nil entries)) gave;
 }
 
@@ -155,6 +162,7 @@ cut_act plan p act entries outcomes turn sessions stop held front missing cut on
   lacking = [];
   extra = [];
   linked = one.linked;
+  at_nodes = one.at_nodes;
   came = refl;
   asked = nothing_more stop turn sessions;
   front = front;
@@ -171,3 +179,4 @@ cut_act plan p act entries outcomes turn sessions stop held front missing cut on
     nothing_more OutOfMemory t ss = inl refl
     nothing_more SinkFailed t ss = refl
     nothing_more BehindLine t ss = refl
+    nothing_more Denied t ss = refl

@@ -1,5 +1,5 @@
 -- What driving a cluster by a tape did, over the octets that were read and those that were written.
-use Rattle.std.specs.Prelude.{◌≡◌, ◌⊎◌, ◌<◌, ◌≤◌, ◌+◌, ◌^◌, ℕ, true, List, [], ◌∷◌, ◌++◌, length, map, flat_map, All, ⊤, Option, Some, None}
+use Rattle.std.specs.Prelude.{◌≡◌, ◌⊎◌, ◌<◌, ◌≤◌, ◌+◌, ◌^◌, ℕ, true, List, [], ◌∷◌, ◌++◌, length, map, flat_map, All, ⊤, Option, Some, None, Result, Ok, Err}
 use Rattle.std.specs.Io.KnownBytes.{Consumes, Appends, IsAtEnd}
 use Rattle.mail_model.specs.Lines.{HasNoLf, ended}
 use Rattle.mail_model.specs.Plan.{Plan}
@@ -9,13 +9,20 @@ use Rattle.mail_model.specs.Transcript.{Entry, entry_line, written_of}
 use Rattle.mail_model.specs.Site as site
 use Rattle.session_model.specs.Sessions.{Session}
 use Rattle.session_model.specs.Acts.{Act}
+use Rattle.session_model.specs.Acts.Act.{StillWaits}
 use Rattle.session_model.specs.Logs.{Asked, asked_by, answered_by}
-use Rattle.session_model.specs.Run.{Made, Stop, IsDriven, refusal, failed_in}
+use Rattle.session_model.specs.Lives.{failed_in}
+use Rattle.session_model.specs.Run.{Made, Stop, IsDriven, IsCutShort, refusal}
 use Rattle.session_model.specs.Kept.{IsEnding}
-use Rattle.session_model.specs.Run.Stop.{BehindLine, SinkFailed, OutOfMemory}
-use Rattle.cluster_world.specs.Outcomes.{Outcome, Awaited, Makes, made_of, asked_by_outcome, answered_by_outcome}
-use Rattle.cluster_world.specs.World.{plan_of, disk_of, is_up}
-use Rattle.io_edge.specs.Causes.{Rose}
+use Rattle.session_model.specs.Run.Stop.{BehindLine, Denied, SinkFailed, OutOfMemory}
+use Rattle.node_store.specs.Disks.{View}
+use Rattle.cluster_world.specs.Outcomes.{Outcome, Awaited, StepMade, Makes, made_of, asked_by_outcome, answered_by_outcome}
+use Rattle.cluster_world.specs.Outcomes.Outcome.{Moved, KeptUp}
+use Rattle.session_model.specs.Events.NodeLife.{Up}
+use Rattle.mail_model.specs.Tape.{ClusterOrder as order}
+use Rattle.cluster_world.specs.Worlds.{plan_of, disk_at, life_of}
+use Rattle.cluster_world.specs.declared.fault.StepFault.{StepFault}
+use Rattle.object_model.specs.Lists.{Among}
 use Rattle.cluster_world.specs.declared.world.World.{World}
 use Rattle.drive_tape.specs.declared.drove.Drove.{Drove}
 use Rattle.drive_tape.specs.declared.drove.Drove.TheVariants as drove
@@ -23,8 +30,11 @@ use Rattle.drive_tape.specs.declared.drove.TapeFault.{TapeFault}
 use Rattle.drive_tape.specs.declared.drove.TapeFault.TheVariants.{BadLine, TapeTooLong}
 use Rattle.drive_tape.specs.declared.drove.Stop.{Stop as Why}
 use Rattle.drive_tape.specs.declared.drove.Stop.TheVariants as why
+use Rattle.drive_tape.specs.Denials.{stop_by}
 use Rattle.drive_tape.specs.Faults.{tape_fault_seen}
-use Rattle.drive_tape.specs.Kept.{KeptIn}
+use Rattle.drive_tape.specs.Kept.{AreToldOrBlind, KeptIn}
+use Rattle.drive_tape.specs.Points.{AreAtOwnNodes, waits_by, waits_by_outcome}
+use Rattle.drive_tape.specs.Worlds.{HasFailed}
 
 -- the octets are a line that is this order
 pub record IsOrder (octets : List ℕ) (order : Order) : Type 0 where
@@ -41,13 +51,13 @@ pub record IsNoOrder (octets : List ℕ) : Type 0 where
   pub spelled : tape_order line ≡ None
 
 -- Why the work stopped at a fault of the tape, at these octets that were taken and not handled, with room for so many more.
-abbrev pub StopsAt : TapeFault → Plan → List ℕ → List Session → Option (List ℕ) → List ℕ → ℕ → Type 0
-StopsAt fault plan down sessions left octets room =
+abbrev pub StopsAt : TapeFault → Plan → List Act → List Session → Option (List ℕ) → List ℕ → ℕ → Type 0
+StopsAt fault plan been sessions left octets room =
     ((fault ≡ BadLine) × HasNoLf octets × IsAtEnd left)
     ⊎ ((fault ≡ BadLine) × HasNoLf octets × (65535 < length octets))
     ⊎ ((fault ≡ BadLine) × IsNoOrder octets)
     ⊎ ((fault ≡ TapeTooLong) × HasNoLf octets × (room ≡ 0))
-    ⊎ ((order : Order) × IsOrder octets order × (refusal plan down sessions order ≡ Some (tape_fault_seen fault)))
+    ⊎ ((order : Order) × IsOrder octets order × (refusal plan been sessions order ≡ Some (tape_fault_seen fault)))
 
 -- the stop of an answer, and the number of the line that it names
 abbrev pub stop_of : Drove → Why
@@ -64,23 +74,44 @@ NamesLine (drove.WriteFault n) line = n ≡ line
 NamesLine (drove.BadTape n why) line = n ≡ line
 NamesLine (drove.NoMemory n) line = n ≡ line
 
--- Why the work stopped: at the line `end`, a fault of the source, the sink or the tape, or as memory ran out.
-abbrev pub Stops : Why → Stop → Plan → List ℕ → List Session → List (List ℕ) → Option (List ℕ) → List ℕ → ℕ → Type 0
-Stops why.Ended stop plan down sessions midst left octets room = (stop ≡ BehindLine) × (midst ≡ []) × IsOrder octets End
-Stops why.ReadFault stop plan down sessions midst left octets room = (stop ≡ BehindLine) × (midst ≡ []) × HasNoLf octets
-Stops why.WriteFault stop plan down sessions midst left octets room = (stop ≡ SinkFailed) × (octets ≡ [])
-Stops (why.Bad fault) stop plan down sessions midst left octets room = (stop ≡ BehindLine) × (midst ≡ []) × StopsAt fault plan down sessions left octets room
-Stops why.NoMemory stop plan down sessions midst left octets room = stop ≡ OutOfMemory
+-- the last step of an outcome was refused, for this fault of the tape
+abbrev pub IsDenied : TapeFault → Outcome → Type 0
+IsDenied fault (Moved order steps) = (before : List StepMade) × (one : StepMade) × (cause : StepFault) × (steps ≡ before ++ one ∷ []) × (one.result ≡ Err cause) × (stop_by cause ≡ why.Bad fault)
+IsDenied fault (KeptUp k ticket cause) = stop_by cause ≡ why.Bad fault
+IsDenied fault outcome = ⊥
+
+-- so it is of the last of these outcomes
+abbrev pub EndsDenied : TapeFault → List Outcome → Type 0
+EndsDenied fault outcomes = (before : List Outcome) × (last : Outcome) × (outcomes ≡ before ++ last ∷ []) × IsDenied fault last
+
+-- Why the work stopped: at the line `end`, a fault of the source, the sink or the tape, a step that was refused, or as memory ran out.
+abbrev pub Stops : Why → Stop → Plan → List Act → List Session → List (List ℕ) → Option (List ℕ) → List ℕ → ℕ → List Outcome → Type 0
+Stops why.Ended stop plan been sessions midst left octets room outcomes = (stop ≡ BehindLine) × (midst ≡ []) × IsOrder octets End
+Stops why.ReadFault stop plan been sessions midst left octets room outcomes = (stop ≡ BehindLine) × (midst ≡ []) × HasNoLf octets
+Stops why.WriteFault stop plan been sessions midst left octets room outcomes = (stop ≡ SinkFailed) × (octets ≡ [])
+Stops (why.Bad fault) stop plan been sessions midst left octets room outcomes =
+    ((stop ≡ BehindLine) × (midst ≡ []) × StopsAt fault plan been sessions left octets room) ⊎ ((stop ≡ Denied) × (octets ≡ []) × EndsDenied fault outcomes)
+Stops why.NoMemory stop plan been sessions midst left octets room outcomes = stop ≡ OutOfMemory
 
 -- What the clients asked is what the cluster began; where memory ran out, one call may have come to nothing.
 abbrev pub MayLackOne : Stop → List Asked → Type 0
 MayLackOne OutOfMemory lacking = (lacking ≡ []) ⊎ ((one : Asked) × (lacking ≡ one ∷ []))
 MayLackOne stop lacking = lacking ≡ []
 
+-- a run line started the node
+abbrev pub Restarts : ℕ → Outcome → Type 0
+Restarts n (Moved (order.Start node) steps) = node ≡ n
+Restarts n outcome = ⊥
+
+-- A node that was up at first, is up at last and was not started again has a disk that has not failed.
+abbrev pub StaysWhole : {D : Type 0} → View D → World D → List Outcome → World D → Type 0
+StaysWhole {D} on start outcomes last = (n first now : ℕ) (disk disk' : D) → life_of start n ≡ Up first → life_of last n ≡ Up now → ((outcome : Outcome) → Among outcome outcomes → Restarts n outcome → ⊥)
+    → disk_at start n ≡ Some disk → disk_at last n ≡ Some disk' → on.faults disk' ≡ on.faults disk
+
 -- The whole: the octets that were read begin with the lines that were handled, and the one in whose midst the work stopped, if there is one; the run of these
 -- lines is this; what was written is its entries, the last line of them perhaps in part; the world made its steps and no others; the answer says why it
 -- stopped; and the world that came back keeps what was promised.
-pub record Drives {D : Type 0} (seen : D → Option (List ℕ)) (faults : D → ℕ) (start : World D) (left0 left1 held0 held1 : Option (List ℕ)) (answer : Drove) (from : ℕ) (last : World D) : Type 0 where
+pub record Drives {D : Type 0} (on : View D) (start : World D) (left0 left1 held0 held1 : Option (List ℕ)) (answer : Drove) (from : ℕ) (last : World D) : Type 0 where
   pub read : List ℕ
   pub handled : List (List ℕ)
   pub midst : List (List ℕ)
@@ -104,17 +135,24 @@ pub record Drives {D : Type 0} (seen : D → Option (List ℕ)) (faults : D → 
   pub outcomes : List Outcome
   pub awaited : List Awaited
   pub lacking : List Asked
-  pub steps : Makes seen faults outcomes [] start awaited last
+  pub steps : Makes on outcomes [] start awaited last
   pub made_are : map made_of outcomes ≡ made
   pub asked_are : flat_map asked_by (flat_map (λ a. a) (acts ++ behind)) ≡ flat_map asked_by_outcome outcomes ++ lacking
   pub lack : MayLackOne stop lacking
+  -- each call began at the node of its session
+  pub at_nodes : AreAtOwnNodes sessions outcomes
   pub answered_are : flat_map answered_by (flat_map (λ a. a) (acts ++ behind)) ≡ flat_map answered_by_outcome outcomes
-  pub why : Stops (stop_of answer) stop (plan_of start) (failed_in (flat_map (λ a. a) acts)) sessions midst left1 others room
+  -- where a session still waits, its ticket was asked for and is pending
+  pub waits_are : flat_map waits_by (flat_map (λ a. a) (acts ++ behind)) ≡ flat_map waits_by_outcome outcomes
+  -- where one node is all there is, none waits
+  pub none_waits : AreToldOrBlind on start (handled ++ midst) → (plan_of start).nodes ≡ 1 → (plan_of start).confirm ≡ 1 → 1 ≤ (plan_of start).copies → (k : ℕ) → Among (StillWaits k) (flat_map (λ a. a) (acts ++ behind)) → ⊥
+  pub why : Stops (stop_of answer) stop (plan_of start) (flat_map (λ a. a) acts) sessions midst left1 others room outcomes
   pub number : NamesLine answer (from + length handled + 1)
-  pub whole : stop ≡ BehindLine → cut ≡ []
-  pub later : faults (disk_of start) ≤ faults (disk_of last)
-  pub fallen : (failed_in (flat_map (λ a. a) (acts ++ behind)) ≡ []) ⊎ Rose (faults (disk_of start)) (faults (disk_of last)) ⊎ (seen (disk_of start) ≡ None)
-  pub quiet : is_up last ≡ true → faults (disk_of last) ≡ faults (disk_of start)
-  -- all promises are kept by the disk and the book of the world that came back, whatever line then says why the program ended
-  pub kept : (plan_of start).confirm ≡ 1 → (ending : List Entry) → IsEnding ending
-      → KeptIn seen last (plan_of start) stop (handled ++ midst) (entries ++ ending) (flat_map (λ a. a) (acts ++ behind)) (flat_map asked_by_outcome outcomes)
+  pub whole : (IsCutShort stop → ⊥) → cut ≡ []
+  -- a count of faults never falls; a node that failed has its cause, and one that was never turned has the count that it had
+  pub later : (n : ℕ) (disk disk' : D) → disk_at start n ≡ Some disk → disk_at last n ≡ Some disk' → on.faults disk ≤ on.faults disk'
+  pub fallen : (n : ℕ) → Among n (failed_in (flat_map (λ a. a) (acts ++ behind))) → HasFailed on start last n
+  pub quiet : StaysWhole on start outcomes last
+  -- all promises are kept by the disks and the book of the world that came back, whatever line then says why the program ended
+  pub kept : AreToldOrBlind on start (handled ++ midst) → (ending : List Entry) → IsEnding ending
+      → KeptIn on last (plan_of start) stop (handled ++ midst) (entries ++ ending) (flat_map (λ a. a) (acts ++ behind)) (flat_map asked_by_outcome outcomes)

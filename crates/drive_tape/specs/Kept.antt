@@ -1,17 +1,34 @@
 -- The promises to clients, over the world that was driven and came back.
-use Rattle.std.specs.Prelude.{ℕ, List, [], ◌∷◌, Option, is_some}
+use Rattle.std.specs.Prelude.{◌≡◌, ◌⊎◌, ℕ, true, List, map, All, ⊤, Option, Some}
 use Rattle.mail_model.specs.Plan.{Plan}
 use Rattle.mail_model.specs.Record.{Record}
+use Rattle.mail_model.specs.Tape.{Order, tape_order}
+use Rattle.mail_model.specs.Tape.Order.{Moves}
+use Rattle.mail_model.specs.Tape.ClusterOrder.{Start, Push}
 use Rattle.mail_model.specs.Transcript.{Entry}
-use Rattle.mail_model.specs.Listing.{octets_in}
 use Rattle.session_model.specs.Acts.{Act}
 use Rattle.session_model.specs.Logs.{Asked}
 use Rattle.session_model.specs.Run.{Stop}
 use Rattle.session_model.specs.Kept.{KeepsPromises}
-use Rattle.cluster_world.specs.World.{disk_of, book_of}
+use Rattle.cluster_owes.specs.Held.{filed_on}
+use Rattle.node_store.specs.Disks.{View}
+use Rattle.cluster_world.specs.Worlds.{plan_of, disks_of, book_of, tells}
 use Rattle.cluster_world.specs.declared.world.World.{World}
 
--- All promises are kept, by the records that the disk of this world holds and by its own book.
-pub record KeptIn {D : Type 0} (seen : D → Option (List ℕ)) (world : World D) (plan : Plan) (stop : Stop) (lines : List (List ℕ)) (entries : List Entry) (acts : List Act) (begun : List Asked) : Type 0 where
-  pub records : List Record
-  pub promises : KeepsPromises plan (is_some (seen (disk_of world))) stop lines entries (seen (disk_of world) ∷ []) (records ∷ []) (λ id. octets_in id records) (book_of world) acts begun
+-- The order needs nothing that a disk tells: it starts no node, and has none push to another.
+abbrev pub IsBlindOrder : ℕ → Option Order → Type 0
+IsBlindOrder nodes (Some (Moves (Start node))) = ⊥
+IsBlindOrder nodes (Some (Moves (Push node))) = nodes ≡ 1
+IsBlindOrder nodes order = ⊤
+
+abbrev pub AreBlindLines : ℕ → List (List ℕ) → Type 0
+AreBlindLines nodes lines = All (λ line. IsBlindOrder nodes (tape_order line)) lines
+
+-- The disks tell what they hold, or no line needs it.
+abbrev pub AreToldOrBlind : {D : Type 0} → View D → World D → List (List ℕ) → Type 0
+AreToldOrBlind on start lines = (tells on.seen start ≡ true) ⊎ AreBlindLines (plan_of start).nodes lines
+
+-- All promises are kept, by the records that the disks of this world hold and by its own book; what is filed of a message is what the first of the disks has that has any.
+pub record KeptIn {D : Type 0} (on : View D) (world : World D) (plan : Plan) (stop : Stop) (lines : List (List ℕ)) (entries : List Entry) (acts : List Act) (begun : List Asked) : Type 0 where
+  pub records : List (List Record)
+  pub promises : KeepsPromises plan (tells on.seen world) stop lines entries (map on.seen (disks_of world)) records (filed_on records) (book_of world) acts begun

@@ -8,91 +8,95 @@ use Rattle.mail_model.specs.Transcript.{Entry, written_of}
 use Rattle.mail_model.specs.Transcript.{all_of}
 use Rattle.session_model.specs.Sessions.{Session}
 use Rattle.session_model.specs.Acts.{Act, Acted}
+use Rattle.session_model.specs.Lives.{failed_in}
 use Rattle.session_model.specs.Logs.{Asked}
 use Rattle.session_model.specs.Turns.{Starts, IsDone}
-use Rattle.session_model.specs.Run.{Made, Stop, IsHandled, IsLeftOff, refusal, failed_in, failed_by}
-use Rattle.session_model.specs.Run.Stop.{BehindLine, SinkFailed, OutOfMemory}
-use Rattle.cluster_world.specs.Outcomes.{Outcome, Awaited}
+use Rattle.session_model.specs.Run.{Made, Stop, IsHandled, IsLeftOff, refusal}
+use Rattle.session_model.specs.Run.Stop.{BehindLine, Denied, SinkFailed, OutOfMemory}
+use Rattle.node_store.specs.Disks.{View}
+use Rattle.cluster_world.specs.Outcomes.{Outcome}
 use Rattle.cluster_world.specs.declared.world.World.{World}
 use Rattle.drive_tape.specs.declared.cluster.Cluster.{Cluster}
 use Rattle.drive_tape.specs.declared.drove.TapeFault.{TapeFault}
 use Rattle.drive_tape.specs.declared.drove.TapeFault.TheVariants.{BadLine}
 use Rattle.drive_tape.specs.declared.drove.Stop.{Stop as Why}
 use Rattle.drive_tape.specs.declared.drove.Stop.TheVariants as why
-use Rattle.drive_tape.specs.Drive.{MayLackOne}
+use Rattle.drive_tape.specs.Drive.{MayLackOne, EndsDenied}
 use Rattle.drive_tape.specs.Faults.{tape_fault_seen}
 use Rattle.drive_tape.specs.Parts.{IsCutEntry}
-use Rattle.drive_tape.specs.Points.{Point, AreLinked, IsAtPoint, HasCauses}
-use Rattle.drive_tape.specs.Worlds.{IsSince}
+use Rattle.drive_tape.specs.Points.{Point, AreLinked, AreAtOwnNodes, IsAtPoint}
+use Rattle.drive_tape.specs.Worlds.{IsSince, HasCauses}
 
 -- nothing is under way, and nobody is left to be asked
-pub record NothingIsUnderWay (p : Point) : Type 0 where
-  pub done : IsDone p.turn p.sessions
-  pub quiet : p.awaited ≡ []
+abbrev pub NothingIsUnderWay : Point → Type 0
+NothingIsUnderWay p = IsDone p.turn p.sessions
 
 -- The order was accepted, and its first act was made; nothing else yet.
 pub record IsStarted (plan : Plan) (p q : Point) (order : Order) : Type 0 where
-  pub accepted : refusal plan p.down p.sessions order ≡ None
+  pub accepted : refusal plan p.been p.sessions order ≡ None
   pub first : Act
   pub said : List Entry
-  pub starts : Starts order p.sessions first q.turn
+  pub starts : Starts plan p.been order p.sessions first q.turn
   pub acted : Acted plan p.sessions first said q.sessions
-  pub linked : AreLinked (first ∷ []) [] [] []
-  pub came : q.outcomes ≡ p.outcomes
-  pub none_failed : failed_by first ≡ []
-  pub failed : q.down ≡ p.down
+  pub outcomes : List Outcome
+  pub linked : AreLinked (first ∷ []) outcomes [] []
+  pub at_nodes : AreAtOwnNodes q.sessions outcomes
+  pub came : q.outcomes ≡ p.outcomes ++ outcomes
+  pub been : q.been ≡ p.been ++ first ∷ []
   pub gave : Appends p.held q.held (written_of said)
 
 -- The line was handled: from one point to another, at both of which nothing is under way.
-pub record LineWent {D : Type 0} (seen : D → Option (List ℕ)) (faults : D → ℕ) (start : World D) (plan : Plan) (p : Point) (line : List ℕ) (held : Option (List ℕ)) (cluster : Cluster D) : Type 0 where
+pub record LineWent {D : Type 0} (on : View D) (start : World D) (plan : Plan) (p : Point) (line : List ℕ) (held : Option (List ℕ)) (cluster : Cluster D) : Type 0 where
   pub q : Point
   pub acts : List Act
   pub outputs : List (List Entry)
   pub outcomes : List Outcome
-  pub handled : IsHandled plan p.down p.sessions line acts outputs q.sessions
+  pub handled : IsHandled plan p.been p.sessions line acts outputs q.sessions
   pub linked : AreLinked acts outcomes [] []
+  pub at_nodes : AreAtOwnNodes q.sessions outcomes
   pub came : q.outcomes ≡ p.outcomes ++ outcomes
-  pub failed : q.down ≡ p.down ++ failed_in acts
+  pub been : q.been ≡ p.been ++ acts
   pub gave : Appends p.held q.held (written_of (all_of outputs))
   pub held_is : q.held ≡ held
-  pub quiet : q.awaited ≡ []
-  pub shows : IsAtPoint seen faults start cluster q
+  pub shows : IsAtPoint on start plan cluster q
 
--- why a line is not handled: it is `end`, or the fault is this
-abbrev pub IsWhy : Why → Plan → Point → List ℕ → Stop → List (List ℕ) → Type 0
-IsWhy why.Ended plan p line stop midst = (stop ≡ BehindLine) × (midst ≡ []) × (tape_order line ≡ Some End)
-IsWhy (why.Bad fault) plan p line stop midst =
-    (stop ≡ BehindLine) × (midst ≡ [])
-    × (((fault ≡ BadLine) × (tape_order line ≡ None)) ⊎ ((order : Order) × (tape_order line ≡ Some order) × (refusal plan p.down p.sessions order ≡ Some (tape_fault_seen fault))))
-IsWhy why.WriteFault plan p line stop midst = (stop ≡ SinkFailed) × (midst ≡ line ∷ [])
-IsWhy why.NoMemory plan p line stop midst = stop ≡ OutOfMemory
-IsWhy why.ReadFault plan p line stop midst = ⊥
+-- why a line is not handled: it is `end`, or the fault is this, found before anything was done or by the cluster
+abbrev pub IsWhy : Why → Plan → Point → List ℕ → Stop → List (List ℕ) → List Outcome → Type 0
+IsWhy why.Ended plan p line stop midst new = (stop ≡ BehindLine) × (midst ≡ []) × (tape_order line ≡ Some End)
+IsWhy (why.Bad fault) plan p line stop midst new =
+    ((stop ≡ BehindLine) × (midst ≡ [])
+    × (((fault ≡ BadLine) × (tape_order line ≡ None)) ⊎ ((order : Order) × (tape_order line ≡ Some order) × (refusal plan p.been p.sessions order ≡ Some (tape_fault_seen fault)))))
+    ⊎ ((stop ≡ Denied) × (midst ≡ line ∷ []) × EndsDenied fault new)
+IsWhy why.WriteFault plan p line stop midst new = (stop ≡ SinkFailed) × (midst ≡ line ∷ [])
+IsWhy why.NoMemory plan p line stop midst new = stop ≡ OutOfMemory
+IsWhy why.ReadFault plan p line stop midst new = ⊥
 
 -- The line was not handled, or the work stopped before it was done.
-pub record LineStopped {D : Type 0} (seen : D → Option (List ℕ)) (faults : D → ℕ) (start : World D) (plan : Plan) (p : Point) (line : List ℕ) (reason : Why) (held : Option (List ℕ)) (world : World D) : Type 0 where
+pub record LineStopped {D : Type 0} (on : View D) (start : World D) (plan : Plan) (p : Point) (line : List ℕ) (reason : Why) (held : Option (List ℕ)) (world : World D) : Type 0 where
   pub stop : Stop
   pub midst : List (List ℕ)
   pub behind : List (List Act)
   pub tail : List Entry
   pub extra : List Made
   pub sessions : List Session
-  pub off : IsLeftOff plan p.down stop p.sessions midst behind tail extra sessions
+  pub off : IsLeftOff plan p.been stop p.sessions midst behind tail extra sessions
   pub at_line : (midst ≡ []) ⊎ (midst ≡ line ∷ [])
-  pub why : IsWhy reason plan p line stop midst
   pub new : List Outcome
+  pub why : IsWhy reason plan p line stop midst new
   pub lacking : List Asked
   pub linked : AreLinked (flat_map (λ a. a) behind) new lacking extra
+  pub at_nodes : AreAtOwnNodes sessions new
   pub lack : MayLackOne stop lacking
-  pub since : IsSince seen faults start (p.outcomes ++ new) world
-  pub cause : HasCauses seen faults start (p.down ++ failed_in (flat_map (λ a. a) behind)) world
+  pub since : IsSince on start (p.outcomes ++ new) world
+  pub causes : HasCauses on start (failed_in (p.been ++ flat_map (λ a. a) behind)) world
   pub missing : List Entry
-  pub all : (missing ≡ []) ⊎ ((more : List Made) × IsLeftOff plan p.down OutOfMemory p.sessions midst behind (tail ++ missing) more sessions)
+  pub all : (missing ≡ []) ⊎ ((more : List Made) × IsLeftOff plan p.been OutOfMemory p.sessions midst behind (tail ++ missing) more sessions)
   pub cut : List ℕ
   pub is_cut : IsCutEntry missing cut
   pub whole : stop ≡ BehindLine → cut ≡ []
   pub gave : Appends p.held held (written_of tail ++ cut)
 
 -- what the work on a line did
-abbrev pub LineDid : {D T : Type 0} → (D → Option (List ℕ)) → (D → ℕ) → World D → Plan → Point → List ℕ → Result T Why → Option (List ℕ) → Cluster D → Type 0
-LineDid seen faults start plan p line (Ok _) held cluster = LineWent seen faults start plan p line held cluster
-LineDid seen faults start plan p line (Err reason) held cluster = LineStopped seen faults start plan p line reason held cluster.world
+abbrev pub LineDid : {D T : Type 0} → View D → World D → Plan → Point → List ℕ → Result T Why → Option (List ℕ) → Cluster D → Type 0
+LineDid on start plan p line (Ok _) held cluster = LineWent on start plan p line held cluster
+LineDid on start plan p line (Err reason) held cluster = LineStopped on start plan p line reason held cluster.world

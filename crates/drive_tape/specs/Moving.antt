@@ -1,5 +1,5 @@
 -- What the moves of one session make of all sessions.
-use Rattle.std.specs.Prelude.{◌≡◌, ◌+◌, ◌-◌, ℕ, Bool, true, false, List, [], ◌∷◌, flat_map, All, slice_get, slice_set, Option, Some, None}
+use Rattle.std.specs.Prelude.{◌≡◌, ◌+◌, ◌-◌, ℕ, Bool, true, false, List, [], ◌∷◌, flat_map, length, All, slice_get, slice_set, Option, Some, None}
 use Rattle.mail_model.specs.Lines.{HasNoCrlf, sent_line}
 use Rattle.mail_model.specs.Plan.{Plan}
 use Rattle.session_model.specs.Calls as calls
@@ -12,7 +12,7 @@ use Rattle.call_tickets.specs.Moves.{HasEnded, IsWaiting, HearsNothing}
 use Rattle.call_tickets.specs.declared.step.Move.{Move}
 use Rattle.call_tickets.specs.declared.step.Move.TheVariants.{Said, Begin, Wait, Idle, End}
 use Rattle.drive_tape.specs.declared.sessions.Sessions.{Sessions}
-use Rattle.mail_base.specs.declared.ticket.Ticket.{Ticket}
+use Rattle.drive_tape.specs.declared.open_call.OpenCall.{OpenCall}
 use Rattle.drive_tape.specs.declared.talker.Talker.{Talker}
 use Rattle.drive_tape.specs.declared.sessions.After.{After}
 use Rattle.drive_tape.specs.declared.sessions.After.TheVariants.{Stays, Ends}
@@ -32,13 +32,13 @@ left_here (Some talker) = left_of talker
 abbrev pub left_at : ℕ → Sessions → ℕ
 left_at place table = left_here (slice_get table.talkers.items place)
 
-abbrev pub ticket_here : Option (Option Ticket) → ℕ
-ticket_here (Some (Some ticket)) = 1
-ticket_here other = 0
+abbrev pub call_here : Option (Option OpenCall) → ℕ
+call_here (Some (Some waits)) = 1
+call_here other = 0
 
 -- the same, and its call to ask for
 abbrev pub work_at : ℕ → Sessions → ℕ
-work_at place table = left_at place table + left_at place table + ticket_here (slice_get table.tickets.items place)
+work_at place table = left_at place table + left_at place table + call_here (slice_get table.calls.items place)
 
 -- The session goes on; or it has ended, with this to ask as it leaves, and one fewer stands.
 abbrev pub GoesOn : After → Session → ℕ → ℕ → Type 0
@@ -101,3 +101,8 @@ pub record FellAt (sessions : List Session) (place : ℕ) (plain : Session) (oct
 abbrev pub FallsTo : List Session → ℕ → Session → Bool → List ℕ → ℕ → Sessions → Type 0
 FallsTo sessions place plain true octets standing table = FellAt sessions place plain octets standing table
 FallsTo sessions place plain false octets standing table = HasEnded plain.standing × StaysAt sessions octets standing table
+
+-- a node and a place for a call for each session
+pub record AreEven (table : Sessions) : Type 0 where
+  pub calls : length table.calls.items ≡ length table.talkers.items
+  pub nodes : length table.nodes.items ≡ length table.talkers.items

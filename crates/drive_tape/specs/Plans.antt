@@ -1,6 +1,7 @@
 -- What reading the plan lines of a tape did, up to `go`.
-use Rattle.std.specs.Prelude.{◌≡◌, ◌⊎◌, ◌<◌, ◌+◌, ◌^◌, ℕ, false, true, List, [], ◌∷◌, ◌++◌, length, flat_map, All, ⊤, Option, Some, None, Result, Ok, Err, option_and_then}
+use Rattle.std.specs.Prelude.{◌≡◌, ◌⊎◌, ◌<◌, ◌≤◌, ◌+◌, ◌^◌, ℕ, true, is_some, List, [], ◌∷◌, ◌++◌, length, flat_map, All, ⊤, Option, Some, None, Result, Ok, Err, option_and_then}
 use Rattle.std.specs.Io.KnownBytes.{Consumes, IsAtEnd}
+use Rattle.std.specs.FinMap as map
 use Rattle.mail_model.specs.Lines.{HasNoLf, ended}
 use Rattle.mail_model.specs.Plan.{Plan}
 use Rattle.mail_model.specs.Tape.{Draft, empty_draft, drafted, planned, tape_plan_line}
@@ -24,17 +25,13 @@ abbrev pub DraftsTo : Draft → List (List ℕ) → Draft → Type 0
 DraftsTo old [] new = new ≡ old
 DraftsTo old (line ∷ lines) new = (mid : Draft) × DraftsOn old line mid × DraftsTo mid lines new
 
--- the plan is one that this program serves: one node, and so one copy
-abbrev pub IsServed : Plan → Type 0
-IsServed plan = (plan.nodes ≡ 1) × (plan.copies ≡ 1) × (plan.confirm ≡ 1)
-
--- the octets are a line that adds nothing to the draft, and if it is `go`, the draft is no plan that is served
+-- the octets are a line that adds nothing to the draft, and if it is `go`, the draft is no plan
 pub record IsBadPlan (octets : List ℕ) (draft : Draft) : Type 0 where
   pub line : List ℕ
   pub whole : octets ≡ ended line
   pub one : HasNoLf line
   pub adds_nothing : option_and_then (drafted draft) (tape_plan_line line) ≡ None
-  pub no_plan : tape_plan_line line ≡ Some Go → (plan : Plan) → planned draft ≡ Some plan → IsServed plan → ⊥
+  pub no_plan : tape_plan_line line ≡ Some Go → planned draft ≡ None
 
 -- Why the plan part has a fault of the tape, at these octets that were taken and are no plan line, with room for so many more.
 abbrev pub PlanStopsAt : TapeFault → Option (List ℕ) → List ℕ → ℕ → Draft → Type 0
@@ -73,10 +70,10 @@ pub record PlanProgress (left0 left1 : Option (List ℕ)) (draft : Draft) (count
   pub counted : length lines ≡ count
   pub size : length (flat_map ended lines) + room ≡ 2 ^ 40
 
--- the octets after the plan lines are `go`, with a plan that is served; or why they are not
+-- the octets after the plan lines are `go`, with a plan; or why they are not
 abbrev pub HeadDid : Result (Plan × ℕ) Drove → Option (List ℕ) → List ℕ → ℕ → Draft → ℕ → Type 0
 HeadDid (Ok head) left octets room draft count =
-    (line : List ℕ) × (octets ≡ ended line) × HasNoLf line × (tape_plan_line line ≡ Some Go) × (planned draft ≡ Some head.0) × IsServed head.0 × (head.1 ≡ count + 1)
+    (line : List ℕ) × (octets ≡ ended line) × HasNoLf line × (tape_plan_line line ≡ Some Go) × (planned draft ≡ Some head.0) × (head.1 ≡ count + 1)
 HeadDid (Err answer) left octets room draft count = PlanStops (stop_of answer) left octets room draft × NamesLine answer (count + 1)
 
 -- The whole: the octets that were read are plan lines, and `go`, or the answer is why there is none.
@@ -93,5 +90,17 @@ pub record ReadsHead (left0 left1 : Option (List ℕ)) (result : Result (Plan ×
 
 -- what the draft gives at `go`, at the line of this number
 abbrev pub HeadEnds : Result (Plan × ℕ) Drove → Draft → ℕ → Type 0
-HeadEnds (Ok head) draft number = (planned draft ≡ Some head.0) × IsServed head.0 × (head.1 ≡ number)
-HeadEnds (Err answer) draft number = (answer ≡ BadTape number BadPlan) × ((plan : Plan) → planned draft ≡ Some plan → IsServed plan → ⊥)
+HeadEnds (Ok head) draft number = (planned draft ≡ Some head.0) × (head.1 ≡ number)
+HeadEnds (Err answer) draft number = (answer ≡ BadTape number BadPlan) × (planned draft ≡ None)
+
+-- A plan as tapes have it: from 1 to 16 nodes, with as many copies at most, of which as many confirm at most, and one at least; from 1 to 1,024 buckets; 4,096 users
+-- at most, of which the postmaster is one.
+pub record IsTapePlan (plan : Plan) : Type 0 where
+  pub some : 1 ≤ plan.nodes
+  pub few : plan.nodes ≤ 16
+  pub confirmed : 1 ≤ plan.confirm
+  pub copied : plan.confirm ≤ plan.copies
+  pub spread : plan.copies ≤ plan.nodes
+  pub buckets : (1 ≤ plan.buckets) × (plan.buckets ≤ 1024)
+  pub users : map.len plan.users ≤ 4096
+  pub postmaster : is_some (map.get plan.users plan.postmaster) ≡ true

@@ -4,39 +4,62 @@ use Rattle.std.specs.Io.KnownBytes.{Appends}
 use Rattle.mail_model.specs.Lines.{HasNoLf}
 use Rattle.mail_model.specs.Plan.{Plan}
 use Rattle.mail_model.specs.Transcript.{Entry, entry_line, written_of, all_of}
-use Rattle.call_tickets.specs.Moves.{HasEnded}
 use Rattle.session_model.specs.Sessions.{Session, session_at}
 use Rattle.session_model.specs.Acts.{Act, Acted}
+use Rattle.session_model.specs.Acts.Act.{StillWaits}
+use Rattle.session_model.specs.Lives.{failed_in}
 use Rattle.session_model.specs.Logs.{Asked, Answered, asked_by, answered_by}
 use Rattle.session_model.specs.Turns as turns
-use Rattle.session_model.specs.Turns.{Turn, Next}
-use Rattle.session_model.specs.Run.{Made, Stop, made_by, failed_in, MayHaveAsked, count_on}
-use Rattle.session_model.specs.Run.Stop.{SinkFailed, OutOfMemory, BehindLine}
-use Rattle.cluster_world.specs.Outcomes.{Outcome, Awaited, Makes, made_of, asked_by_outcome, answered_by_outcome}
-use Rattle.io_edge.specs.Causes.{Rose}
-use Rattle.cluster_world.specs.World.{plan_of, is_up, disk_of}
+use Rattle.session_model.specs.Turns.{Turn, Next, IsAtNode}
+use Rattle.session_model.specs.Run.{Made, Stop, made_by, MayHaveAsked, count_on}
+use Rattle.session_model.specs.Run.Stop.{SinkFailed, OutOfMemory, BehindLine, Denied}
+use Rattle.node_store.specs.Disks.{View}
+use Rattle.cluster_world.specs.Outcomes.{Outcome, Awaited, made_of, asked_by_outcome, answered_by_outcome}
+use Rattle.cluster_world.specs.Outcomes.Outcome.{Began, Fell, Broke, StillPending}
 use Rattle.cluster_world.specs.declared.world.World.{World}
 use Rattle.drive_tape.specs.declared.cluster.Cluster.{Cluster}
 use Rattle.drive_tape.specs.Parts.{IsCutEntry}
-use Rattle.drive_tape.specs.Talks.{Converse, HaveTickets}
-use Rattle.drive_tape.specs.Worlds.{WorldIsAt, IsSince}
+use Rattle.drive_tape.specs.Talks.{Converse, EachSession, HasOwnTicket, StandsOnNode, nodes_of}
+use Rattle.drive_tape.specs.Worlds.{WorldIsAt, IsSince, AreLives, HasCauses}
 use Rattle.drive_tape.specs.declared.drove.Stop.{Stop as Why}
 use Rattle.drive_tape.specs.declared.drove.Stop.TheVariants as why
 
--- What is under way, how the sessions stand, which nodes failed, what came of the steps, which calls are awaited, and what the sink holds.
+-- What is under way, how the sessions stand, the acts so far, what came of the steps, which calls are awaited, and what the sink holds.
 pub record Point : Type 0 where
   pub turn : Turn
   pub sessions : List Session
-  pub down : List ℕ
+  pub been : List Act
   pub outcomes : List Outcome
   pub awaited : List Awaited
   pub held : Option (List ℕ)
+
+-- the session that was asked and still waits
+abbrev pub waits_by : Act → List ℕ
+waits_by (StillWaits k) = k ∷ []
+waits_by act = []
+
+abbrev pub waits_by_outcome : Outcome → List ℕ
+waits_by_outcome (StillPending k ticket) = k ∷ []
+waits_by_outcome outcome = []
 
 -- What came of the steps of these acts. A call that came to nothing is asked, and none of the cluster: it is lacking.
 pub record AreLinked (acts : List Act) (outcomes : List Outcome) (lacking : List Asked) (extra : List Made) : Type 0 where
   pub made : map made_of outcomes ≡ flat_map made_by acts ++ extra
   pub asked : flat_map asked_by acts ≡ flat_map asked_by_outcome outcomes ++ lacking
   pub answered : flat_map answered_by acts ≡ flat_map answered_by_outcome outcomes
+  pub waits : flat_map waits_by acts ≡ flat_map waits_by_outcome outcomes
+
+-- a call begins at the node of its session
+abbrev pub IsAtOwnNode : List Session → Outcome → Type 0
+IsAtOwnNode sessions (Began k node asked ticket) = IsAtNode node (session_at sessions k)
+IsAtOwnNode sessions (Fell k node asked) = IsAtNode node (session_at sessions k)
+IsAtOwnNode sessions (Broke k node asked) = IsAtNode node (session_at sessions k)
+IsAtOwnNode sessions outcome = ⊤
+
+-- so it is of each
+abbrev pub AreAtOwnNodes : List Session → List Outcome → Type 0
+AreAtOwnNodes sessions [] = ⊤
+AreAtOwnNodes sessions (outcome ∷ outcomes) = IsAtOwnNode sessions outcome × AreAtOwnNodes sessions outcomes
 
 -- the work went from one point to the other
 pub record Work (plan : Plan) (p q : Point) : Type 0 where
@@ -45,8 +68,9 @@ pub record Work (plan : Plan) (p q : Point) : Type 0 where
   pub outcomes : List Outcome
   pub goes : turns.ActsGo plan p.turn p.sessions acts outputs q.turn q.sessions
   pub linked : AreLinked acts outcomes [] []
+  pub at_nodes : AreAtOwnNodes q.sessions outcomes
   pub came : q.outcomes ≡ p.outcomes ++ outcomes
-  pub failed : q.down ≡ p.down ++ failed_in acts
+  pub been : q.been ≡ p.been ++ acts
   pub gave : Appends p.held q.held (written_of (all_of outputs))
 
 -- an act, and what it writes
@@ -54,6 +78,7 @@ pub record OneAct (plan : Plan) (p : Point) (act : Act) (entries : List Entry) (
   pub next : Next p.turn p.sessions act turn
   pub acted : Acted plan p.sessions act entries sessions
   pub linked : AreLinked (act ∷ []) outcomes [] []
+  pub at_nodes : AreAtOwnNodes sessions outcomes
 
 -- nothing of it is missing, or lines of the last act
 abbrev pub IsMissingTail : List (List Entry) → List Entry → Type 0
@@ -62,6 +87,7 @@ IsMissingTail outputs missing = (missing ≡ []) ⊎ ((before : List (List Entry
 -- what of the last act's lines may be missing
 abbrev pub MayLack : Stop → List Entry → List Asked → Type 0
 MayLack BehindLine missing lacking = ⊥
+MayLack Denied missing lacking = ⊥
 MayLack SinkFailed missing lacking = (missing ≢ []) × (lacking ≡ [])
 MayLack OutOfMemory missing lacking = (lacking ≡ []) ⊎ ((one : Asked) × (lacking ≡ one ∷ []))
 
@@ -76,6 +102,7 @@ pub record Cut (plan : Plan) (stop : Stop) (p : Point) (held : Option (List ℕ)
   pub lacking : List Asked
   pub extra : List Made
   pub linked : AreLinked acts new lacking extra
+  pub at_nodes : AreAtOwnNodes sessions new
   pub came : outcomes ≡ p.outcomes ++ new
   pub asked : MayHaveAsked stop turn sessions extra
   pub front : List Entry
@@ -87,22 +114,16 @@ pub record Cut (plan : Plan) (stop : Stop) (p : Point) (held : Option (List ℕ)
   pub is_cut : IsCutEntry missing cut
   pub gave : Appends p.held held (written_of front ++ cut)
 
--- nobody stands
-abbrev pub AllEnded : List Session → Type 0
-AllEnded [] = ⊤
-AllEnded (session ∷ sessions) = HasEnded session.standing × AllEnded sessions
-
--- the node is up exactly where it did not fail, and its sessions have ended where it did
-abbrev pub IsUpUnlessFailed : Bool → List ℕ → List Session → Type 0
-IsUpUnlessFailed up down sessions = ((up ≡ true) × (down ≡ [])) ⊎ ((up ≡ false) × (down ≡ 1 ∷ []) × AllEnded sessions)
-
 -- the cluster is at this point
-pub record IsAtPoint {D : Type 0} (seen : D → Option (List ℕ)) (faults : D → ℕ) (start : World D) (cluster : Cluster D) (p : Point) : Type 0 where
-  pub at : WorldIsAt seen faults start p.outcomes p.awaited cluster.world
+pub record IsAtPoint {D : Type 0} (on : View D) (start : World D) (plan : Plan) (cluster : Cluster D) (p : Point) : Type 0 where
+  pub at : WorldIsAt on start p.outcomes p.awaited cluster.world
   pub talks : Converse cluster.sessions.talkers.items p.sessions
-  pub tickets : HaveTickets cluster.sessions.tickets.items p.sessions p.awaited
+  pub nodes : cluster.sessions.nodes.items ≡ nodes_of p.sessions
+  pub tickets : EachSession (HasOwnTicket cluster.sessions.calls.items p.awaited) p.sessions
   pub count : cluster.sessions.standing ≡ count_on p.sessions
-  pub up : IsUpUnlessFailed (is_up cluster.world) p.down p.sessions
+  pub lives : AreLives plan p.been cluster.world
+  pub up : EachSession (λ place session. StandsOnNode plan p.been session) p.sessions
+  pub causes : HasCauses on start (failed_in p.been) cluster.world
 
 -- the stop is this one of the definitions
 abbrev pub IsStop : Why → Stop → Type 0
@@ -110,28 +131,24 @@ IsStop why.WriteFault stop = stop ≡ SinkFailed
 IsStop why.NoMemory stop = stop ≡ OutOfMemory
 IsStop other stop = ⊥
 
--- a node failed only where its disk did, or where the disk does not tell what it holds
-abbrev pub HasCauses : {D : Type 0} → (D → Option (List ℕ)) → (D → ℕ) → World D → List ℕ → World D → Type 0
-HasCauses seen faults start down last = (down ≡ []) ⊎ Rose (faults (disk_of start)) (faults (disk_of last)) ⊎ (seen (disk_of start) ≡ None)
-
 -- the work stopped
-pub record Stopped {D : Type 0} (seen : D → Option (List ℕ)) (faults : D → ℕ) (start : World D) (plan : Plan) (p : Point) (reason : Why) (held : Option (List ℕ)) (world : World D) : Type 0 where
+pub record Stopped {D : Type 0} (on : View D) (start : World D) (plan : Plan) (p : Point) (reason : Why) (held : Option (List ℕ)) (world : World D) : Type 0 where
   pub stop : Stop
   pub is : IsStop reason stop
   pub outcomes : List Outcome
   pub cut : Cut plan stop p held outcomes
-  pub cause : HasCauses seen faults start (p.down ++ failed_in cut.acts) world
-  pub since : IsSince seen faults start outcomes world
+  pub causes : HasCauses on start (failed_in (p.been ++ cut.acts)) world
+  pub since : IsSince on start outcomes world
 
 -- the work went on to a point at which this is so
-pub record WentOn {D : Type 0} (seen : D → Option (List ℕ)) (faults : D → ℕ) (start : World D) (plan : Plan) (p : Point) (so : Point → Type 0) (held : Option (List ℕ)) (cluster : Cluster D) : Type 0 where
+pub record WentOn {D : Type 0} (on : View D) (start : World D) (plan : Plan) (p : Point) (so : Point → Type 0) (held : Option (List ℕ)) (cluster : Cluster D) : Type 0 where
   pub q : Point
   pub work : Work plan p q
   pub held_is : q.held ≡ held
-  pub shows : IsAtPoint seen faults start cluster q
+  pub shows : IsAtPoint on start plan cluster q
   pub so_is : so q
 
 -- what was done from a point on
-abbrev pub WorkGoes : {D T : Type 0} → (D → Option (List ℕ)) → (D → ℕ) → World D → Plan → Point → (Point → Type 0) → Result T Why → Option (List ℕ) → Cluster D → Type 0
-WorkGoes seen faults start plan p so (Ok _) held cluster = WentOn seen faults start plan p so held cluster
-WorkGoes seen faults start plan p so (Err reason) held cluster = Stopped seen faults start plan p reason held cluster.world
+abbrev pub WorkGoes : {D T : Type 0} → View D → World D → Plan → Point → (Point → Type 0) → Result T Why → Option (List ℕ) → Cluster D → Type 0
+WorkGoes on start plan p so (Ok _) held cluster = WentOn on start plan p so held cluster
+WorkGoes on start plan p so (Err reason) held cluster = Stopped on start plan p reason held cluster.world

@@ -1,41 +1,41 @@
-// The steps that the program makes of a world of one node.
-ghost use Rattle.std.specs.Prelude.{◌≡◌, true, [], ◌∷◌, ◌++◌, Some, List, ℕ, OnOk};
+// The steps that sessions lead to: a call is begun, asked for or given up, and a session leaves.
+ghost use Rattle.std.specs.Prelude.{◌≡◌, true, [], ◌∷◌, ◌++◌, Some, List, ℕ, IsErrOf, OnOk};
 ghost use Rattle.session_model.specs.Calls as calls;
 ghost use Rattle.call_tickets.specs.Seen.{call_seen};
+ghost use Rattle.node_store.specs.Disks.{view_of};
 ghost use Rattle.cluster_world.specs.Outcomes.{Outcome, Awaited, IsLeave};
-ghost use Rattle.cluster_world.specs.Steps.{nth_ticket};
-ghost use Rattle.cluster_world.specs.World.{plan_of, is_up};
+ghost use Rattle.cluster_world.specs.Worlds.{plan_of};
 ghost use Rattle.cluster_world.specs.declared.world.World.{World as AWorld};
-ghost use Rattle.drive_tape.specs.Worlds.{HandsOn, WorldIsAt, WorldIsReady, BeganSo, AskedSo};
+ghost use Rattle.object_model.specs.Lists.{Among};
+ghost use Rattle.drive_tape.specs.Kinds.{IsKindOf};
+ghost use Rattle.drive_tape.specs.Worlds.{IsWholeCall, HandsOn, WorldIsAt, WorldIsReady, BeganSo, AskedSo, GaveUpSo, LeftSo};
 
+use crate::Stop;
+use crate::denial::stop_by;
+use crate::open_call::{OpenCall, fits, kind_of};
 use call_tickets::{Answer, Ask, Call};
 use cluster_world::{Said, Step, StepFault, World};
 use io_edge::Disk;
-use mail_base::{NodeNo, Ticket};
+use mail_base::{CallKind, NodeNo};
 use std::alloc::{AllocError, Global};
 
-// The node of a cluster of one.
-fn only_node() -> NodeNo
-    ensures { result ≡ 1 }
-{
-    NodeNo::new(1).unwrap()
-}
-
-// The ticket of a call that has begun; none where the disk failed.
-fn hand_on(said: &Result<Said, StepFault>) -> Result<Option<Ticket>, AllocError>
-    ensures { HandsOn said.now result }
+// The call that has begun; none where the disk failed.
+fn hand_on(said: &Result<Said, StepFault>, kind: CallKind) -> Result<Option<OpenCall>, AllocError>
+    ensures { HandsOn kind said.now result }
 {
     match said {
-        Ok(Said::Begun { ticket, stirs: _ }) => Ok(Some(*ticket)),
+        Ok(Said::Begun { ticket, stirs: _ }) => Ok(Some(OpenCall {
+            ticket: *ticket,
+            kind,
+        })),
         Ok(Said::Faulted(_)) => Ok(None),
-        // Only a leave is noted, which has no ticket; and a beginning is no ask.
-        Ok(Said::Noted) => Err(AllocError),
-        Ok(Said::Asked(_)) => Err(AllocError),
+        // Nothing else is said of a beginning.
+        Ok(_) => Err(AllocError),
         Err(_) => Err(AllocError),
     }
 }
 
-/// Begins the call at node 1: its ticket, or none where the disk failed and the node is down.
+/// Begins the call at this node: the call in progress, or none where the disk failed and the node is down.
 ///
 /// # Errors
 ///
@@ -43,21 +43,23 @@ fn hand_on(said: &Result<Said, StepFault>) -> Result<Option<Ticket>, AllocError>
 pub(crate) fn begin<D: Disk>(
     world: &mut World<D>,
     alloc: Global,
+    node: NodeNo,
     call: Call,
-) -> Result<Option<Ticket>, AllocError>
+) -> Result<Option<OpenCall>, AllocError>
     requires ready { WorldIsReady D.seen D.settled world.old }
-    requires up { is_up world.old ≡ true }
     ensures ready { WorldIsReady D.seen D.settled world.new }
     ensures plan { plan_of world.new ≡ plan_of world.old }
-    ensures began { (start : AWorld D) (outcomes : List Outcome) (k : ℕ) (asked : calls.Call) → call_seen call ≡ Some asked
-        → WorldIsAt D.seen D.faults start outcomes [] world.old → BeganSo D.seen D.faults start outcomes k asked result world.new }
+    ensures began { (start : AWorld D) (outcomes : List Outcome) (awaited : List Awaited) (k : ℕ) (asked : calls.Call) → call_seen call ≡ Some asked → IsWholeCall asked
+        → WorldIsAt (view_of D.seen D.faults D.clock) start outcomes awaited world.old → BeganSo (view_of D.seen D.faults D.clock) start outcomes awaited k node asked result world.old world.new }
 {
-    let node = only_node();
+    let Some(kind) = kind_of(&call) else {
+        return Err(AllocError);
+    };
     let said = world.step(alloc, Step::Begin { node, call });
-    hand_on(&said)
+    hand_on(&said, kind)
 }
 
-/// Asks for a call that has begun: its answer; none where it is not there yet.
+/// Asks for a call in progress: its answer; none where it is not there yet.
 ///
 /// # Errors
 ///
@@ -65,28 +67,69 @@ pub(crate) fn begin<D: Disk>(
 pub(crate) fn ask<D: Disk>(
     world: &mut World<D>,
     alloc: Global,
-    ticket: Ticket,
+    open_call: &OpenCall,
 ) -> Result<Option<Answer>, AllocError>
     requires ready { WorldIsReady D.seen D.settled world.old }
     ensures ready { WorldIsReady D.seen D.settled world.new }
     ensures plan { plan_of world.new ≡ plan_of world.old }
-    ensures up { is_up world.new ≡ is_up world.old }
-    ensures asked { (start : AWorld D) (outcomes : List Outcome) (k number : ℕ) (asked : calls.Call) → ticket ≡ nth_ticket number
-        → WorldIsAt D.seen D.faults start outcomes (record { number = number; session = k; call = asked } ∷ []) world.old
-        → AskedSo D.seen D.faults start outcomes k asked number result world.new }
+    ensures asked { (start : AWorld D) (outcomes : List Outcome) (awaited : List Awaited) (k : ℕ) (asked : calls.Call)
+        → Among (record { ticket = open_call.now.ticket; session = k; call = asked }) awaited → IsKindOf open_call.now.kind asked
+        → WorldIsAt (view_of D.seen D.faults D.clock) start outcomes awaited world.old
+        → AskedSo (view_of D.seen D.faults D.clock) start outcomes awaited k asked open_call.now result world.old world.new }
 {
-    match world.step(alloc, Step::Ask { ticket }) {
-        Ok(Said::Asked(Ask::Done(answer))) => Ok(Some(answer)),
-        Err(_) => Err(AllocError),
-        // In a cluster of one node a call is done as it begins; and an ask begins nothing and touches no disk.
+    match world.step(
+        alloc,
+        Step::Ask {
+            ticket: open_call.ticket,
+        },
+    ) {
+        Ok(Said::Asked(Ask::Done(answer))) => {
+            // A world answers each call in its own kind.
+            if fits(open_call.kind, &answer) {
+                Ok(Some(answer))
+            } else {
+                Err(AllocError)
+            }
+        }
         Ok(Said::Asked(Ask::Pending { .. })) => Ok(None),
-        Ok(Said::Begun { .. }) => Ok(None),
-        Ok(Said::Noted) => Ok(None),
-        Ok(Said::Faulted(_)) => Ok(None),
+        Ok(_) => Err(AllocError),
+        Err(_) => Err(AllocError),
     }
 }
 
-/// Tells node 1 that a session leaves.
+/// Gives up a call in progress.
+///
+/// # Errors
+///
+/// Why it was not: the fault by which the tape is refused, or out of memory.
+pub(crate) fn give_up<D: Disk>(
+    world: &mut World<D>,
+    alloc: Global,
+    open_call: &OpenCall,
+) -> Result<(), Stop>
+    requires ready { WorldIsReady D.seen D.settled world.old }
+    ensures ready { WorldIsReady D.seen D.settled world.new }
+    ensures plan { plan_of world.new ≡ plan_of world.old }
+    ensures gave_up { (start : AWorld D) (outcomes : List Outcome) (awaited : List Awaited) (k : ℕ) (asked : calls.Call)
+        → Among (record { ticket = open_call.now.ticket; session = k; call = asked }) awaited
+        → WorldIsAt (view_of D.seen D.faults D.clock) start outcomes awaited world.old
+        → GaveUpSo (view_of D.seen D.faults D.clock) start outcomes awaited k asked open_call.now.ticket result world.old world.new }
+    ensures why { IsErrOf result Stop.WriteFault → ⊥ }
+{
+    match world.step(
+        alloc,
+        Step::GiveUp {
+            ticket: open_call.ticket,
+        },
+    ) {
+        Ok(Said::Done) => Ok(()),
+        // Nothing else is said of it.
+        Ok(_) => Err(Stop::NoMemory),
+        Err(fault) => Err(stop_by(fault)),
+    }
+}
+
+/// Tells this node that a session leaves.
 ///
 /// # Errors
 ///
@@ -94,19 +137,20 @@ pub(crate) fn ask<D: Disk>(
 pub(crate) fn leave<D: Disk>(
     world: &mut World<D>,
     alloc: Global,
+    node: NodeNo,
     call: Call,
 ) -> Result<(), AllocError>
     requires ready { WorldIsReady D.seen D.settled world.old }
     ensures ready { WorldIsReady D.seen D.settled world.new }
     ensures plan { plan_of world.new ≡ plan_of world.old }
-    ensures up { OnOk result (is_up world.new ≡ is_up world.old) }
-    ensures left { (start : AWorld D) (outcomes : List Outcome) (k : ℕ) (user : List ℕ) → IsLeave user call
-        → WorldIsAt D.seen D.faults start outcomes [] world.old → WorldIsAt D.seen D.faults start (outcomes ++ Outcome.Left k user ∷ []) [] world.new }
+    ensures left { (start : AWorld D) (outcomes : List Outcome) (awaited : List Awaited) (k : ℕ) (user : List ℕ) → IsLeave user call
+        → WorldIsAt (view_of D.seen D.faults D.clock) start outcomes awaited world.old
+        → LeftSo (view_of D.seen D.faults D.clock) start outcomes awaited k node user result world.old world.new }
 {
-    let node = only_node();
     match world.step(alloc, Step::Begin { node, call }) {
         Ok(Said::Noted) => Ok(()),
         // Memory alone can run out for a leave.
-        _ => Err(AllocError),
+        Ok(_) => Err(AllocError),
+        Err(_) => Err(AllocError),
     }
 }

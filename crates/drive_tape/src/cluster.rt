@@ -1,33 +1,48 @@
 // A cluster and the sessions that are open at it.
-ghost use Rattle.std.specs.Prelude.{◌^◌, ◌≡◌, ◌⊎◌, ◌+◌, ◌<◌, ◌≤◌, ℕ, List, [], true, length, Option, IsErrOf, OnOk, IfOk};
+ghost use Rattle.std.specs.Prelude.{◌^◌, ◌≡◌, ◌⊎◌, ◌+◌, ◌<◌, ◌≤◌, ℕ, List, [], true, length, slice_get, slice_set, Option, Some, None, IsErrOf, OnOk, IfOk};
 ghost use Rattle.io_edge.specs.Causes.{Rose};
-ghost use Rattle.cluster_world.specs.World.{plan_of, is_up};
+ghost use Rattle.mail_model.specs.Plan.{Plan};
+ghost use Rattle.session_model.specs.Acts.{Act as AnAct};
+ghost use Rattle.call_tickets.specs.Seen.{answer_seen};
+ghost use Rattle.node_store.specs.Disks.{view_of};
+ghost use Rattle.cluster_world.specs.Worlds.{plan_of};
 ghost use Rattle.cluster_world.specs.declared.world.World.{World as AWorld};
 ghost use Rattle.drive_tape.specs.Points.{Point, IsAtPoint, WorkGoes};
 ghost use Rattle.drive_tape.specs.Lines.{NothingIsUnderWay};
+ghost use Rattle.drive_tape.specs.Fed.{IsTelling, TellsSo};
 ghost use Rattle.drive_tape.specs.Worlds.{WorldIsReady};
-ghost use Rattle.drive_tape.specs.Moving.{left_at, work_at};
-ghost use Rattle.drive_tape.specs.Clusters.{HearsAt, RestsAt, MovedTo, IsSaying, SessionEndsAt, IsBeginning, FallsAt, IsFalling, FellOn, AsksFrom, IsAsking};
-ghost use Rattle.mail_model.specs.Plan.{Plan};
-ghost use Rattle.drive_tape.specs.declared.sessions.After.TheVariants.{Ends};
+ghost use Rattle.drive_tape.specs.Moving.{left_at, work_at, AreEven};
+ghost use Rattle.drive_tape.specs.Clusters.{HearsAt, RestsAt, MovedTo, IsSaying, SessionEndsAt, IsBeginning, FaultsAt, IsToFall, IsFalling, FellOn, AsksFrom, HasAnswer, HeardSo, IsLess};
 
+use crate::Stop;
 use crate::calls::{ask, begin, leave};
+use crate::open_call::OpenCall;
 use crate::reply::{write_fault, write_reply};
 use crate::sessions::{After, Sessions};
-use crate::{Row, Stop, WriteStop};
-use call_tickets::{Call, Move};
+use call_tickets::{Answer, Call, Move};
 use cluster_world::World;
 use io_edge::{Disk, Sink};
-use mail_base::{NodeNo, Ticket};
-use std::alloc::{AllocError, Global};
+use mail_base::NodeNo;
+use std::alloc::Global;
 
-/// A cluster of one node with the sessions of a tape, numbered from 1 in order of `open`.
+/// A cluster with the sessions of a tape, numbered from 1 in order of `open`.
 #[derive(Drop)]
 pub(crate) struct Cluster<D> {
-    /// The node and its disk.
+    /// The nodes and their disks.
     pub world: World<D>,
     /// All sessions, those that have ended among them.
     pub sessions: Sessions,
+}
+
+/// How a session goes on that was asked for.
+#[derive(Clone, Copy, Debug, PartialEq, Eq)]
+pub(crate) enum Heard {
+    /// It was answered, and hears on.
+    On,
+    /// It was answered, and has ended.
+    Rests,
+    /// It still waits.
+    StillWaits,
 }
 
 // The number of the session at this place.
@@ -48,13 +63,13 @@ impl<D: Disk> Cluster<D> {
     ) -> Result<bool, Stop>
         requires ready { WorldIsReady D.seen D.settled self.old.world }
         requires within { place < length self.old.sessions.talkers.items }
-        requires tickets { length self.old.sessions.tickets.items ≡ length self.old.sessions.talkers.items }
+        requires even { AreEven self.old.sessions }
         ensures ready { WorldIsReady D.seen D.settled self.new.world }
         ensures plan { plan_of self.new.world ≡ plan_of self.old.world }
-        ensures moved { (start : AWorld D) (p : Point) (onward : ℕ) → IsAtPoint D.seen D.faults start self.old p → p.held ≡ K.contents sink.old → HearsAt place onward p
-            → WorkGoes D.seen D.faults start (plan_of self.old.world) p (MovedTo place onward result) result (K.contents sink.new) self.new }
+        ensures moved { (start : AWorld D) (p : Point) (onward : ℕ) → IsAtPoint (view_of D.seen D.faults D.clock) start (plan_of self.old.world) self.old p → p.held ≡ K.contents sink.old → HearsAt place onward p
+            → WorkGoes (view_of D.seen D.faults D.clock) start (plan_of self.old.world) p (MovedTo place onward result) result (K.contents sink.new) self.new }
         ensures length { length self.new.sessions.talkers.items ≡ length self.old.sessions.talkers.items }
-        ensures tickets { length self.new.sessions.tickets.items ≡ length self.old.sessions.tickets.items }
+        ensures even { AreEven self.new.sessions }
         ensures later { K.faults sink.old ≤ K.faults sink.new }
         ensures failed { IsErrOf result Stop.WriteFault → Rose (K.faults sink.old) (K.faults sink.new) }
         ensures work { OnOk result (work_at place self.new.sessions ≤ work_at place self.old.sessions) }
@@ -77,13 +92,13 @@ impl<D: Disk> Cluster<D> {
     pub fn hear<K: Sink>(&mut self, alloc: Global, sink: &mut K, place: usize) -> Result<(), Stop>
         requires ready { WorldIsReady D.seen D.settled self.old.world }
         requires within { place < length self.old.sessions.talkers.items }
-        requires tickets { length self.old.sessions.tickets.items ≡ length self.old.sessions.talkers.items }
+        requires even { AreEven self.old.sessions }
         ensures ready { WorldIsReady D.seen D.settled self.new.world }
         ensures plan { plan_of self.new.world ≡ plan_of self.old.world }
-        ensures heard { (start : AWorld D) (p : Point) (onward : ℕ) → IsAtPoint D.seen D.faults start self.old p → p.held ≡ K.contents sink.old → HearsAt place onward p
-            → WorkGoes D.seen D.faults start (plan_of self.old.world) p (RestsAt place onward) result (K.contents sink.new) self.new }
+        ensures heard { (start : AWorld D) (p : Point) (onward : ℕ) → IsAtPoint (view_of D.seen D.faults D.clock) start (plan_of self.old.world) self.old p → p.held ≡ K.contents sink.old → HearsAt place onward p
+            → WorkGoes (view_of D.seen D.faults D.clock) start (plan_of self.old.world) p (RestsAt onward) result (K.contents sink.new) self.new }
         ensures length { length self.new.sessions.talkers.items ≡ length self.old.sessions.talkers.items }
-        ensures tickets { length self.new.sessions.tickets.items ≡ length self.old.sessions.tickets.items }
+        ensures even { AreEven self.new.sessions }
         ensures later { K.faults sink.old ≤ K.faults sink.new }
         ensures failed { IsErrOf result Stop.WriteFault → Rose (K.faults sink.old) (K.faults sink.new) }
         ensures work { OnOk result (work_at place self.new.sessions ≤ work_at place self.old.sessions) }
@@ -92,54 +107,101 @@ impl<D: Disk> Cluster<D> {
         Ok(())
     }
 
-    // The call of the session at this place is asked for, and its reply is written. Whether it hears on.
+    // The call for which the session at this place waits.
+    fn waiting(&self, place: usize) -> Option<OpenCall>
+        requires within { place < length self.now.sessions.calls.items }
+        ensures { slice_get self.now.sessions.calls.items place ≡ Some result }
+    {
+        match &self.sessions.calls[place] {
+            Some(open_call) => Some(OpenCall {
+                ticket: open_call.ticket,
+                kind: open_call.kind,
+            }),
+            None => None,
+        }
+    }
+
+    // The call of the session at this place was answered: it replies, and that is written. Whether it hears on.
+    fn answered<K: Sink>(
+        &mut self,
+        alloc: Global,
+        sink: &mut K,
+        place: usize,
+        answer: Answer,
+    ) -> Result<bool, Stop>
+        requires ready { WorldIsReady D.seen D.settled self.old.world }
+        requires within { place < length self.old.sessions.talkers.items }
+        requires even { AreEven self.old.sessions }
+        ensures ready { WorldIsReady D.seen D.settled self.new.world }
+        ensures plan { plan_of self.new.world ≡ plan_of self.old.world }
+        ensures answered { (start : AWorld D) (p : Point) → HasAnswer (view_of D.seen D.faults D.clock) start (plan_of self.old.world) p place (answer_seen answer) self.old → p.held ≡ K.contents sink.old
+            → WorkGoes (view_of D.seen D.faults D.clock) start (plan_of self.old.world) p (MovedTo place (place + 1) result) result (K.contents sink.new) self.new }
+        ensures length { length self.new.sessions.talkers.items ≡ length self.old.sessions.talkers.items }
+        ensures even { AreEven self.new.sessions }
+        ensures later { K.faults sink.old ≤ K.faults sink.new }
+        ensures failed { IsErrOf result Stop.WriteFault → Rose (K.faults sink.old) (K.faults sink.new) }
+        ensures calls { self.new.sessions.calls.items ≡ slice_set self.old.sessions.calls.items place None }
+        ensures left { OnOk result (left_at place self.new.sessions ≤ left_at place self.old.sessions) }
+    {
+        self.sessions.calls[place] = None;
+        let mut out = Vec::new(alloc);
+        let after = self
+            .sessions
+            .reply(alloc, self.world.plan(), place, Some(answer), &mut out)?;
+        self.say(alloc, sink, place, &out, after)
+    }
+
+    // The call of the session at this place is asked for, and its reply is written.
     fn ask<K: Sink>(
         &mut self,
         alloc: Global,
         sink: &mut K,
         place: usize,
-        ticket: Ticket,
-    ) -> Result<bool, Stop>
+        open_call: &OpenCall,
+    ) -> Result<Heard, Stop>
         requires ready { WorldIsReady D.seen D.settled self.old.world }
         requires within { place < length self.old.sessions.talkers.items }
+        requires even { AreEven self.old.sessions }
+        requires waits { slice_get self.old.sessions.calls.items place ≡ Some (Some open_call.now) }
         ensures ready { WorldIsReady D.seen D.settled self.new.world }
         ensures plan { plan_of self.new.world ≡ plan_of self.old.world }
-        ensures asked { (start : AWorld D) (p : Point) → IsAsking D.seen D.faults start p place ticket self.old → p.held ≡ K.contents sink.old
-            → WorkGoes D.seen D.faults start (plan_of self.old.world) p (MovedTo place (place + 1) result) result (K.contents sink.new) self.new }
+        ensures asked { (start : AWorld D) (p : Point) → IsAtPoint (view_of D.seen D.faults D.clock) start (plan_of self.old.world) self.old p → p.held ≡ K.contents sink.old → AsksFrom place p
+            → WorkGoes (view_of D.seen D.faults D.clock) start (plan_of self.old.world) p (HeardSo place result) result (K.contents sink.new) self.new }
         ensures length { length self.new.sessions.talkers.items ≡ length self.old.sessions.talkers.items }
-        ensures tickets { self.new.sessions.tickets ≡ self.old.sessions.tickets }
-        ensures left { OnOk result (left_at place self.new.sessions ≤ left_at place self.old.sessions) }
+        ensures even { AreEven self.new.sessions }
         ensures later { K.faults sink.old ≤ K.faults sink.new }
         ensures failed { IsErrOf result Stop.WriteFault → Rose (K.faults sink.old) (K.faults sink.new) }
+        ensures less { IfOk result (λ heard. IsLess heard (work_at place self.new.sessions) (work_at place self.old.sessions)) }
     {
-        let answer = match ask(&mut self.world, alloc, ticket)? {
-            Some(answer) => answer,
-            None => return Ok(false),
+        let Some(answer) = ask(&mut self.world, alloc, open_call)? else {
+            return Ok(Heard::StillWaits);
         };
-        let mut out = Vec::new(alloc);
-        let after = self
-            .sessions
-            .reply(alloc, self.world.plan(), place, answer, &mut out)?;
-        self.say(alloc, sink, place, &out, after)
+        if self.answered(alloc, sink, place, answer)? {
+            Ok(Heard::On)
+        } else {
+            Ok(Heard::Rests)
+        }
     }
 
-    // The session at this place is asked for, as long as it waits.
+    // The session at this place is asked for, until it waits no more or its answer is not there yet.
     fn ask_at<K: Sink>(&mut self, alloc: Global, sink: &mut K, place: usize) -> Result<(), Stop>
         requires ready { WorldIsReady D.seen D.settled self.old.world }
         requires within { place < length self.old.sessions.talkers.items }
-        requires tickets { length self.old.sessions.tickets.items ≡ length self.old.sessions.talkers.items }
+        requires even { AreEven self.old.sessions }
         ensures ready { WorldIsReady D.seen D.settled self.new.world }
         ensures plan { plan_of self.new.world ≡ plan_of self.old.world }
-        ensures asked { (start : AWorld D) (p : Point) → IsAtPoint D.seen D.faults start self.old p → p.held ≡ K.contents sink.old → AsksFrom place p
-            → WorkGoes D.seen D.faults start (plan_of self.old.world) p (AsksFrom (place + 1)) result (K.contents sink.new) self.new }
+        ensures asked { (start : AWorld D) (p : Point) → IsAtPoint (view_of D.seen D.faults D.clock) start (plan_of self.old.world) self.old p → p.held ≡ K.contents sink.old → AsksFrom place p
+            → WorkGoes (view_of D.seen D.faults D.clock) start (plan_of self.old.world) p (AsksFrom (place + 1)) result (K.contents sink.new) self.new }
         ensures length { length self.new.sessions.talkers.items ≡ length self.old.sessions.talkers.items }
-        ensures tickets { length self.new.sessions.tickets.items ≡ length self.old.sessions.tickets.items }
+        ensures even { AreEven self.new.sessions }
         ensures later { K.faults sink.old ≤ K.faults sink.new }
         ensures failed { IsErrOf result Stop.WriteFault → Rose (K.faults sink.old) (K.faults sink.new) }
     {
-        while let Some(ticket) = self.sessions.tickets[place].take() {
-            if self.ask(alloc, sink, place, ticket)? {
-                self.hear(alloc, sink, place)?;
+        while let Some(open_call) = self.waiting(place) {
+            match self.ask(alloc, sink, place, &open_call)? {
+                Heard::On => self.hear(alloc, sink, place)?,
+                Heard::Rests => {}
+                Heard::StillWaits => return Ok(()),
             }
         }
         Ok(())
@@ -148,13 +210,13 @@ impl<D: Disk> Cluster<D> {
     // All sessions that wait are asked for, in rising order.
     pub fn ask_all<K: Sink>(&mut self, alloc: Global, sink: &mut K) -> Result<(), Stop>
         requires ready { WorldIsReady D.seen D.settled self.old.world }
-        requires tickets { length self.old.sessions.tickets.items ≡ length self.old.sessions.talkers.items }
+        requires even { AreEven self.old.sessions }
         ensures ready { WorldIsReady D.seen D.settled self.new.world }
         ensures plan { plan_of self.new.world ≡ plan_of self.old.world }
-        ensures asked { (start : AWorld D) (p : Point) → IsAtPoint D.seen D.faults start self.old p → p.held ≡ K.contents sink.old → AsksFrom 0 p
-            → WorkGoes D.seen D.faults start (plan_of self.old.world) p NothingIsUnderWay result (K.contents sink.new) self.new }
+        ensures asked { (start : AWorld D) (p : Point) → IsAtPoint (view_of D.seen D.faults D.clock) start (plan_of self.old.world) self.old p → p.held ≡ K.contents sink.old → AsksFrom 0 p
+            → WorkGoes (view_of D.seen D.faults D.clock) start (plan_of self.old.world) p NothingIsUnderWay result (K.contents sink.new) self.new }
         ensures length { length self.new.sessions.talkers.items ≡ length self.old.sessions.talkers.items }
-        ensures tickets { length self.new.sessions.tickets.items ≡ length self.old.sessions.tickets.items }
+        ensures even { AreEven self.new.sessions }
         ensures later { K.faults sink.old ≤ K.faults sink.new }
         ensures failed { IsErrOf result Stop.WriteFault → Rose (K.faults sink.old) (K.faults sink.new) }
     {
@@ -164,8 +226,8 @@ impl<D: Disk> Cluster<D> {
         Ok(())
     }
 
-    // Writes what the session at this place said; if it has ended, it leaves. Whether it hears on.
-    fn say<K: Sink>(
+    /// Writes what the session at this place said; if it has ended, it leaves. Whether it hears on.
+    pub fn say<K: Sink>(
         &mut self,
         alloc: Global,
         sink: &mut K,
@@ -175,10 +237,13 @@ impl<D: Disk> Cluster<D> {
     ) -> Result<bool, Stop>
         requires ready { WorldIsReady D.seen D.settled self.old.world }
         requires within { place < length self.old.sessions.talkers.items }
+        requires even { AreEven self.old.sessions }
         ensures ready { WorldIsReady D.seen D.settled self.new.world }
         ensures plan { plan_of self.new.world ≡ plan_of self.old.world }
-        ensures said { (start : AWorld D) (p q : Point) (onward : ℕ) → IsSaying D.seen D.faults start (plan_of self.old.world) p q place onward after out.now self.old → p.held ≡ K.contents sink.old
-            → WorkGoes D.seen D.faults start (plan_of self.old.world) p (MovedTo place onward result) result (K.contents sink.new) self.new }
+        ensures said { (start : AWorld D) (p q : Point) (onward : ℕ) → IsSaying (view_of D.seen D.faults D.clock) start (plan_of self.old.world) p q place onward after out.now self.old → p.held ≡ K.contents sink.old
+            → WorkGoes (view_of D.seen D.faults D.clock) start (plan_of self.old.world) p (MovedTo place onward result) result (K.contents sink.new) self.new }
+        ensures told { (start : AWorld D) (p q : Point) (line : List ℕ) → IsTelling (view_of D.seen D.faults D.clock) start (plan_of self.old.world) p q line place after out.now self.old → p.held ≡ K.contents sink.old
+            → TellsSo (view_of D.seen D.faults D.clock) start (plan_of self.old.world) p line place result (K.contents sink.new) self.new }
         ensures sessions { self.new.sessions ≡ self.old.sessions }
         ensures later { K.faults sink.old ≤ K.faults sink.new }
         ensures failed { IsErrOf result Stop.WriteFault → Rose (K.faults sink.old) (K.faults sink.new) }
@@ -190,29 +255,34 @@ impl<D: Disk> Cluster<D> {
             }
             After::Ends(call) => {
                 write_reply(alloc, sink, number_of(place), out, true)?;
-                self.leave(alloc, call)?;
+                self.leave(alloc, place, call)?;
                 Ok(false)
             }
         }
     }
 
-    // A session that has ended leaves, where it was let in.
-    pub fn leave(&mut self, alloc: Global, call: Option<Call>) -> Result<(), Stop>
+    // The session at this place, which has ended, leaves, where it was let in.
+    pub fn leave(&mut self, alloc: Global, place: usize, call: Option<Call>) -> Result<(), Stop>
         requires ready { WorldIsReady D.seen D.settled self.old.world }
+        requires within { place < length self.old.sessions.talkers.items }
+        requires even { AreEven self.old.sessions }
         ensures ready { WorldIsReady D.seen D.settled self.new.world }
         ensures plan { plan_of self.new.world ≡ plan_of self.old.world }
-        ensures left { (start : AWorld D) (p : Point) (place onward : ℕ) → IsAtPoint D.seen D.faults start self.old p → SessionEndsAt place onward call p
-            → WorkGoes D.seen D.faults start (plan_of self.old.world) p (RestsAt place onward) result p.held self.new }
+        ensures left { (start : AWorld D) (p : Point) (onward : ℕ) → IsAtPoint (view_of D.seen D.faults D.clock) start (plan_of self.old.world) self.old p → SessionEndsAt place onward call p
+            → WorkGoes (view_of D.seen D.faults D.clock) start (plan_of self.old.world) p (RestsAt onward) result p.held self.new }
         ensures sessions { self.new.sessions ≡ self.old.sessions }
         ensures why { IsErrOf result Stop.WriteFault → ⊥ }
     {
         match call {
-            Some(call) => Ok(leave(&mut self.world, alloc, call)?),
+            Some(call) => {
+                let node = self.sessions.nodes[place];
+                Ok(leave(&mut self.world, alloc, node, call)?)
+            }
             None => Ok(()),
         }
     }
 
-    // The call of the session at this place begins: it waits; or the disk failed, and the node is down.
+    // The call of the session at this place begins: it waits; or the disk failed, and its node is down.
     fn begin<K: Sink>(
         &mut self,
         alloc: Global,
@@ -221,60 +291,97 @@ impl<D: Disk> Cluster<D> {
         call: Call,
     ) -> Result<bool, Stop>
         requires ready { WorldIsReady D.seen D.settled self.old.world }
-        requires within { place < length self.old.sessions.tickets.items }
-        requires tickets { length self.old.sessions.tickets.items ≡ length self.old.sessions.talkers.items }
+        requires within { place < length self.old.sessions.talkers.items }
+        requires even { AreEven self.old.sessions }
         ensures ready { WorldIsReady D.seen D.settled self.new.world }
         ensures plan { plan_of self.new.world ≡ plan_of self.old.world }
-        ensures began { (start : AWorld D) (p : Point) (onward : ℕ) → IsBeginning D.seen D.faults start (plan_of self.old.world) p place onward call self.old → p.held ≡ K.contents sink.old
-            → WorkGoes D.seen D.faults start (plan_of self.old.world) p (MovedTo place onward result) result (K.contents sink.new) self.new }
+        ensures began { (start : AWorld D) (p : Point) (onward : ℕ) → IsBeginning (view_of D.seen D.faults D.clock) start (plan_of self.old.world) p place onward call self.old → p.held ≡ K.contents sink.old
+            → WorkGoes (view_of D.seen D.faults D.clock) start (plan_of self.old.world) p (MovedTo place onward result) result (K.contents sink.new) self.new }
         ensures length { length self.new.sessions.talkers.items ≡ length self.old.sessions.talkers.items }
-        ensures tickets { length self.new.sessions.tickets.items ≡ length self.old.sessions.tickets.items }
+        ensures even { AreEven self.new.sessions }
         ensures left { left_at place self.new.sessions ≤ left_at place self.old.sessions }
         ensures later { K.faults sink.old ≤ K.faults sink.new }
         ensures failed { IsErrOf result Stop.WriteFault → Rose (K.faults sink.old) (K.faults sink.new) }
     {
-        let Some(node) = NodeNo::new(1) else {
-            return Ok(false);
-        };
-        if !self.world.is_up(node) {
-            // A session of a node that is down has ended, and begins nothing.
-            return Ok(false);
-        }
-        match begin(&mut self.world, alloc, call)? {
-            Some(ticket) => self.sessions.tickets[place] = Some(ticket),
-            None => self.fall(alloc, sink)?,
+        let node = self.sessions.nodes[place];
+        match begin(&mut self.world, alloc, node, call)? {
+            Some(open_call) => self.sessions.calls[place] = Some(open_call),
+            None => self.fault(alloc, sink, place)?,
         }
         Ok(false)
     }
 
-    // The disk failed: that is written, and all sessions fall.
-    fn fall<K: Sink>(&mut self, alloc: Global, sink: &mut K) -> Result<(), Stop>
-        requires tickets { length self.old.sessions.tickets.items ≡ length self.old.sessions.talkers.items }
+    // The disk of the node of the session at this place failed: that is written, and its sessions fall.
+    fn fault<K: Sink>(&mut self, alloc: Global, sink: &mut K, place: usize) -> Result<(), Stop>
+        requires within { place < length self.old.sessions.talkers.items }
+        requires even { AreEven self.old.sessions }
         ensures world { self.new.world ≡ self.old.world }
-        ensures fell { (start : AWorld D) (p : Point) (place onward : ℕ) → FallsAt D.seen D.faults start p place onward self.old → p.held ≡ K.contents sink.old
-            → WorkGoes D.seen D.faults start (plan_of self.old.world) p (RestsAt place onward) result (K.contents sink.new) self.new }
+        ensures faulted { (start : AWorld D) (plan : Plan) (p : Point) (onward node : ℕ) → FaultsAt (view_of D.seen D.faults D.clock) start plan p place onward node self.old → p.held ≡ K.contents sink.old
+            → WorkGoes (view_of D.seen D.faults D.clock) start plan p (RestsAt onward) result (K.contents sink.new) self.new }
         ensures length { length self.new.sessions.talkers.items ≡ length self.old.sessions.talkers.items }
-        ensures tickets { length self.new.sessions.tickets.items ≡ length self.old.sessions.tickets.items }
-        ensures left { (place : ℕ) → left_at place self.new.sessions ≤ left_at place self.old.sessions }
+        ensures even { AreEven self.new.sessions }
+        ensures left { (other : ℕ) → left_at other self.new.sessions ≤ left_at other self.old.sessions }
         ensures later { K.faults sink.old ≤ K.faults sink.new }
         ensures failed { IsErrOf result Stop.WriteFault → Rose (K.faults sink.old) (K.faults sink.new) }
     {
-        write_fault(alloc, sink, 1)?;
+        let node = self.sessions.nodes[place];
+        write_fault(alloc, sink, node.number())?;
+        let node = self.sessions.nodes[place];
+        self.fall(alloc, sink, node)
+    }
+
+    // All sessions of the node fall, in rising order.
+    pub fn fall<K: Sink>(&mut self, alloc: Global, sink: &mut K, node: NodeNo) -> Result<(), Stop>
+        requires even { AreEven self.old.sessions }
+        ensures world { self.new.world ≡ self.old.world }
+        ensures fell { (start : AWorld D) (plan : Plan) (p : Point) (onward : ℕ) → IsFalling (view_of D.seen D.faults D.clock) start plan p 0 node onward self.old → p.held ≡ K.contents sink.old
+            → WorkGoes (view_of D.seen D.faults D.clock) start plan p (RestsAt onward) result (K.contents sink.new) self.new }
+        ensures length { length self.new.sessions.talkers.items ≡ length self.old.sessions.talkers.items }
+        ensures even { AreEven self.new.sessions }
+        ensures left { (other : ℕ) → left_at other self.new.sessions ≤ left_at other self.old.sessions }
+        ensures later { K.faults sink.old ≤ K.faults sink.new }
+        ensures failed { IsErrOf result Stop.WriteFault → Rose (K.faults sink.old) (K.faults sink.new) }
+    {
         for place in 0..self.sessions.talkers.len() {
-            self.fall_at(alloc, sink, place)?;
+            self.fall_of(alloc, sink, place, node)?;
         }
         Ok(())
+    }
+
+    // The session at this place falls, if it is one of the node.
+    fn fall_of<K: Sink>(
+        &mut self,
+        alloc: Global,
+        sink: &mut K,
+        place: usize,
+        node: NodeNo,
+    ) -> Result<(), Stop>
+        requires within { place < length self.old.sessions.talkers.items }
+        requires even { AreEven self.old.sessions }
+        ensures world { self.new.world ≡ self.old.world }
+        ensures fell { (start : AWorld D) (plan : Plan) (p : Point) (onward : ℕ) → IsFalling (view_of D.seen D.faults D.clock) start plan p place node onward self.old → p.held ≡ K.contents sink.old
+            → FellOn (view_of D.seen D.faults D.clock) start plan p place node onward result (K.contents sink.new) self.new }
+        ensures length { length self.new.sessions.talkers.items ≡ length self.old.sessions.talkers.items }
+        ensures even { AreEven self.new.sessions }
+        ensures left { (other : ℕ) → left_at other self.new.sessions ≤ left_at other self.old.sessions }
+        ensures later { K.faults sink.old ≤ K.faults sink.new }
+        ensures failed { IsErrOf result Stop.WriteFault → Rose (K.faults sink.old) (K.faults sink.new) }
+    {
+        if self.sessions.nodes[place].number() != node.number() {
+            return Ok(());
+        }
+        self.fall_at(alloc, sink, place)
     }
 
     // The session at this place falls, where it has not ended, and its last line is written.
     fn fall_at<K: Sink>(&mut self, alloc: Global, sink: &mut K, place: usize) -> Result<(), Stop>
         requires within { place < length self.old.sessions.talkers.items }
-        requires tickets { length self.old.sessions.tickets.items ≡ length self.old.sessions.talkers.items }
+        requires even { AreEven self.old.sessions }
         ensures world { self.new.world ≡ self.old.world }
-        ensures fell { (start : AWorld D) (plan : Plan) (p : Point) (onward : ℕ) → IsFalling D.seen D.faults start p place onward self.old → p.held ≡ K.contents sink.old
-            → FellOn D.seen D.faults start plan p place onward result (K.contents sink.new) self.new }
+        ensures fell { (start : AWorld D) (plan : Plan) (p : Point) (node onward : ℕ) → IsToFall (view_of D.seen D.faults D.clock) start plan p place node onward self.old → p.held ≡ K.contents sink.old
+            → FellOn (view_of D.seen D.faults D.clock) start plan p place node onward result (K.contents sink.new) self.new }
         ensures length { length self.new.sessions.talkers.items ≡ length self.old.sessions.talkers.items }
-        ensures tickets { length self.new.sessions.tickets.items ≡ length self.old.sessions.tickets.items }
+        ensures even { AreEven self.new.sessions }
         ensures left { (other : ℕ) → left_at other self.new.sessions ≤ left_at other self.old.sessions }
         ensures later { K.faults sink.old ≤ K.faults sink.new }
         ensures failed { IsErrOf result Stop.WriteFault → Rose (K.faults sink.old) (K.faults sink.new) }

@@ -1,16 +1,20 @@
 // Drives a cluster by the run lines of a tape.
 ghost use Rattle.std.specs.Prelude.{◌≡◌, ◌≤◌, ◌<◌, ◌^◌, ℕ, List, [], true, length, OnOk, IsErrOf};
 ghost use Rattle.io_edge.specs.Causes.{Rose};
-ghost use Rattle.cluster_world.specs.World.{plan_of, is_up, disk_of, IsAtBeginning, ShowsGate};
+ghost use Rattle.node_store.specs.Disks.{view_of};
+ghost use Rattle.cluster_world.specs.Worlds.{IsReady, state_of, plan_of};
+ghost use Rattle.cluster_world.specs.Steps.{AreSettled};
+ghost use Rattle.cluster_world.specs.Opens.{IsAtBeginning};
 ghost use Rattle.cluster_world.specs.declared.world.World.{World as AWorld};
 ghost use Rattle.drive_tape.specs.Drive.{Drives, stop_of, NamesLine};
 ghost use Rattle.drive_tape.specs.Lines.{LineDid};
 ghost use Rattle.drive_tape.specs.Points.{Point, IsAtPoint};
 ghost use Rattle.drive_tape.specs.Runs.{Turned};
 ghost use Rattle.drive_tape.specs.Worlds.{WorldIsReady};
+ghost use Rattle.drive_tape.specs.Moving.{AreEven};
 
 use crate::cluster::Cluster;
-use crate::lines::{close_line, feed_line, open_line, say_line};
+use crate::lines::{close_line, feed_line, give_up_line, move_line, open_line, say_line};
 use crate::reader::next_line;
 use crate::sessions::Sessions;
 use crate::{Drove, LineStop, Stop, TapeFault, WriteStop};
@@ -86,12 +90,12 @@ fn handle<D: Disk, K: Sink>(
     line: &[u8],
 ) -> Result<(), Stop>
     requires ready { WorldIsReady D.seen D.settled cluster.old.world }
-    requires tickets { length cluster.old.sessions.tickets.items ≡ length cluster.old.sessions.talkers.items }
+    requires even { AreEven cluster.old.sessions }
     ensures ready { WorldIsReady D.seen D.settled cluster.new.world }
     ensures plan { plan_of cluster.new.world ≡ plan_of cluster.old.world }
-    ensures tickets { OnOk result (length cluster.new.sessions.tickets.items ≡ length cluster.new.sessions.talkers.items) }
-    ensures did { (start : AWorld D) (p : Point) → IsAtPoint D.seen D.faults start cluster.old p
-        → p.held ≡ K.contents sink.old → p.awaited ≡ [] → LineDid D.seen D.faults start (plan_of cluster.old.world) p line.now result (K.contents sink.new) cluster.new }
+    ensures even { OnOk result (AreEven cluster.new.sessions) }
+    ensures did { (start : AWorld D) (p : Point) → IsAtPoint (view_of D.seen D.faults D.clock) start (plan_of cluster.old.world) cluster.old p
+        → p.held ≡ K.contents sink.old → LineDid (view_of D.seen D.faults D.clock) start (plan_of cluster.old.world) p line.now result (K.contents sink.new) cluster.new }
     ensures later { K.faults sink.old ≤ K.faults sink.new }
     ensures failed { IsErrOf result Stop.WriteFault → Rose (K.faults sink.old) (K.faults sink.new) }
 {
@@ -103,6 +107,8 @@ fn handle<D: Disk, K: Sink>(
         Order::Say { session, text } => say_line(cluster, alloc, sink, session, text),
         Order::Feed { session, octets } => feed_line(cluster, alloc, sink, session, &octets),
         Order::Close { session } => close_line(cluster, alloc, sink, session),
+        Order::GiveUp { session } => give_up_line(cluster, alloc, sink, session),
+        Order::Moves(order) => move_line(cluster, alloc, sink, order),
         Order::End => Err(Stop::Ended),
     }
 }
@@ -116,16 +122,16 @@ fn turn<S: Source, K: Sink, D: Disk>(
     cluster: &mut Cluster<D>,
 ) -> Result<(), Stop>
     requires ready { WorldIsReady D.seen D.settled cluster.old.world }
-    requires tickets { length cluster.old.sessions.tickets.items ≡ length cluster.old.sessions.talkers.items }
+    requires even { AreEven cluster.old.sessions }
     ensures ready { WorldIsReady D.seen D.settled cluster.new.world }
     ensures plan { plan_of cluster.new.world ≡ plan_of cluster.old.world }
-    ensures tickets { OnOk result (length cluster.new.sessions.tickets.items ≡ length cluster.new.sessions.talkers.items) }
-    ensures turned { (start : AWorld D) (p : Point) → IsAtPoint D.seen D.faults start cluster.old p → p.held ≡ K.contents sink.old → p.awaited ≡ []
-        → Turned D.seen D.faults start (plan_of cluster.old.world) p result (S.left source.old) (S.left source.new) room.old room.new (K.contents sink.new) cluster.old cluster.new }
+    ensures even { OnOk result (AreEven cluster.new.sessions) }
+    ensures turned { (start : AWorld D) (p : Point) → IsAtPoint (view_of D.seen D.faults D.clock) start (plan_of cluster.old.world) cluster.old p → p.held ≡ K.contents sink.old
+        → Turned (view_of D.seen D.faults D.clock) start (plan_of cluster.old.world) p result (S.left source.old) (S.left source.new) room.old room.new (K.contents sink.new) cluster.old cluster.new }
     ensures less { OnOk result (room.new < room.old) }
     ensures read_later { S.faults source.old ≤ S.faults source.new }
     ensures write_later { K.faults sink.old ≤ K.faults sink.new }
-    ensures read_fault { (start : AWorld D) (p : Point) → IsAtPoint D.seen D.faults start cluster.old p → p.held ≡ K.contents sink.old → p.awaited ≡ []
+    ensures read_fault { (start : AWorld D) (p : Point) → IsAtPoint (view_of D.seen D.faults D.clock) start (plan_of cluster.old.world) cluster.old p → p.held ≡ K.contents sink.old
         → IsErrOf result Stop.ReadFault → Rose (S.faults source.old) (S.faults source.new) }
     ensures write_fault { IsErrOf result Stop.WriteFault → Rose (K.faults sink.old) (K.faults sink.new) }
 {
@@ -146,16 +152,17 @@ pub fn drive<S: Source, K: Sink, D: Disk>(
     world: World<D>,
     from: u64,
 ) -> (Drove, World<D>)
-    requires one { (plan_of world).nodes ≡ 1 }
-    requires gate { is_up world ≡ true → ShowsGate D.seen world }
-    requires settled { is_up world ≡ true → D.settled (disk_of world) }
+    requires nodes { (plan_of world).nodes ≤ 16 }
+    requires ready { IsReady D.seen world }
+    requires settled { AreSettled D.settled (state_of world) }
     requires few { from < 2 ^ 63 }
-    ensures drives { IsAtBeginning D.seen (plan_of world) world → Drives D.seen D.faults world (S.left source.old) (S.left source.new) (K.contents sink.old) (K.contents sink.new) result.0 from result.1 }
-    ensures settled { is_up result.1 ≡ true → D.settled (disk_of result.1) }
+    ensures drives { IsAtBeginning (view_of D.seen D.faults D.clock) (plan_of world) world → Drives (view_of D.seen D.faults D.clock) world (S.left source.old) (S.left source.new) (K.contents sink.old) (K.contents sink.new) result.0 from result.1 }
+    ensures ready { IsReady D.seen result.1 }
+    ensures settled { AreSettled D.settled (state_of result.1) }
     ensures plan { plan_of result.1 ≡ plan_of world }
     ensures read_later { S.faults source.old ≤ S.faults source.new }
     ensures write_later { K.faults sink.old ≤ K.faults sink.new }
-    ensures read_fault { IsAtBeginning D.seen (plan_of world) world → stop_of result.0 ≡ Stop.ReadFault → Rose (S.faults source.old) (S.faults source.new) }
+    ensures read_fault { IsAtBeginning (view_of D.seen D.faults D.clock) (plan_of world) world → stop_of result.0 ≡ Stop.ReadFault → Rose (S.faults source.old) (S.faults source.new) }
     ensures write_fault { stop_of result.0 ≡ Stop.WriteFault → Rose (K.faults sink.old) (K.faults sink.new) }
 {
     let mut cluster = Cluster {

@@ -14,10 +14,22 @@ pub enum TapeFault {
     NoSuchSession,
     /// 256 sessions stand.
     TooManySessions,
-    /// The node is not of the plan. It comes before `NodeDown` and `TooManySessions`.
+    /// The node is not of the plan. It comes before what is wrong with a node.
     NoSuchNode,
-    /// The node is down. It comes before `TooManySessions`.
+    /// The node is lost for good.
+    NodeLost,
+    /// The node is down. For `open` it comes before `TooManySessions`.
     NodeDown,
+    /// The node that is to start is up.
+    NodeUp,
+    /// The letter is not in flight.
+    NoSuchLetter,
+    /// The call stands no more.
+    NoSuchTicket,
+    /// A number that the step needs is used up.
+    Worn,
+    /// Not even the first letter finds room.
+    NoRoom,
     /// 1,099,511,627,776 octets were taken after `go`, and no whole line is left of them.
     TapeTooLong,
 }
@@ -33,7 +45,13 @@ impl TapeFault {
             TapeFault::NoSuchSession => b"NoSuchSession",
             TapeFault::TooManySessions => b"TooManySessions",
             TapeFault::NoSuchNode => b"NoSuchNode",
+            TapeFault::NodeLost => b"NodeLost",
             TapeFault::NodeDown => b"NodeDown",
+            TapeFault::NodeUp => b"NodeUp",
+            TapeFault::NoSuchLetter => b"NoSuchLetter",
+            TapeFault::NoSuchTicket => b"NoSuchTicket",
+            TapeFault::Worn => b"Worn",
+            TapeFault::NoRoom => b"NoRoom",
             TapeFault::TapeTooLong => b"TapeTooLong",
         }
     }

@@ -1,48 +1,59 @@
 // The run lines of a tape, each until nothing of it is under way.
-ghost use Rattle.std.specs.Prelude.{◌≡◌, ◌+◌, ◌<◌, ◌≤◌, ℕ, List, [], length, true, Some, IsErrOf, IfOk, OnOk, slice_get};
+ghost use Rattle.std.specs.Prelude.{◌≡◌, ◌+◌, ◌<◌, ◌≤◌, ℕ, List, [], length, true, Some, Ok, IsErrOf, IfOk, OnOk, slice_get};
 ghost use Rattle.io_edge.specs.Causes.{Rose};
-ghost use Rattle.cluster_world.specs.World.{plan_of, is_up};
-ghost use Rattle.cluster_world.specs.declared.world.World.{World as AWorld};
 ghost use Rattle.mail_model.specs.Tape.{tape_order, Order as AnOrder};
 ghost use Rattle.mail_model.specs.Tape as tape;
+ghost use Rattle.mail_model.specs.Plan.{Plan};
 ghost use Rattle.tape_lines.specs.Orders.{protocol_seen};
-ghost use Rattle.drive_tape.specs.Points.{Point, IsAtPoint};
+ghost use Rattle.tape_lines.specs.ClusterOrders.{cluster_order_seen};
+ghost use Rattle.node_store.specs.Disks.{view_of};
+ghost use Rattle.cluster_world.specs.Worlds.{plan_of};
+ghost use Rattle.cluster_world.specs.declared.world.World.{World as AWorld};
+ghost use Rattle.drive_tape.specs.Clusters.{RestsAt, MovedTo};
+ghost use Rattle.drive_tape.specs.declared.drove.Stop.{Stop as Why};
+ghost use Rattle.drive_tape.specs.Points.{Point, IsAtPoint, WorkGoes};
 ghost use Rattle.drive_tape.specs.Lines.{LineDid};
-ghost use Rattle.drive_tape.specs.Fed.{IsFeedingAt, Admits};
+ghost use Rattle.drive_tape.specs.Fed.{IsFeedingAt, AdmitsSession, LetsGo, IsGivingUpAt, IsClosingAt, MayFallBy, Happens};
+ghost use Rattle.session_model.specs.Talk.{IsOn};
+ghost use Rattle.session_model.specs.Sessions.{Session};
 ghost use Rattle.drive_tape.specs.Worlds.{WorldIsReady};
+ghost use Rattle.drive_tape.specs.Moving.{AreEven};
 
+use crate::calls::give_up;
 use crate::cluster::Cluster;
+use crate::event::{ClusterEvent, write_event};
+use crate::moved::make;
+use crate::orders::{admit, worker};
 use crate::reply::write_reply;
 use crate::{Stop, TapeFault};
 use io_edge::{Disk, Sink};
 use mail_base::NodeNo;
 use std::alloc::Global;
-use tape_lines::Protocol;
+use tape_lines::{ClusterOrder, Protocol};
 
 /// How many sessions may stand.
 const MOST_SESSIONS: u64 = 256;
 
-// The node at which a session may be opened; or why not, the first that applies.
-fn admit<D: Disk>(cluster: &Cluster<D>, node: u64) -> Result<NodeNo, TapeFault>
+// The node at which a session may be opened, and its boot; or why not, the first that applies.
+fn admit_session<D: Disk>(
+    cluster: &Cluster<D>,
+    protocol: Protocol,
+    number: u64,
+) -> Result<(NodeNo, u32), TapeFault>
     requires ready { WorldIsReady D.seen D.settled cluster.now.world }
-    ensures admits { (start : AWorld D) (p : Point) (protocol : tape.Protocol) → IsAtPoint D.seen D.faults start cluster.now p → Admits (plan_of cluster.now.world) p protocol node result cluster.now.sessions.standing }
-    ensures few { OnOk result (cluster.now.sessions.standing < 256) }
-    ensures up { OnOk result (is_up cluster.now.world ≡ true) }
-    ensures only { IfOk result (λ only. only ≡ 1) }
+    ensures admits { AdmitsSession (plan_of cluster.now.world) cluster.now (protocol_seen protocol) number result }
 {
-    if node != 1 {
-        return Err(TapeFault::NoSuchNode);
+    if protocol == Protocol::Pop && cluster.world.plan().nodes > 1 {
+        return Err(TapeFault::BadLine);
     }
-    let Some(only) = NodeNo::new(1) else {
-        return Err(TapeFault::NoSuchNode);
-    };
-    if !cluster.world.is_up(only) {
+    let node = worker(&cluster.world, number)?;
+    let Some(boot) = cluster.world.boot(node) else {
         return Err(TapeFault::NodeDown);
-    }
+    };
     if cluster.sessions.standing >= MOST_SESSIONS {
         return Err(TapeFault::TooManySessions);
     }
-    Ok(only)
+    Ok((node, boot))
 }
 
 /// A session is opened and greeted, at the node of this number.
@@ -58,24 +69,22 @@ pub(crate) fn open_line<D: Disk, K: Sink>(
     node: u64,
 ) -> Result<(), Stop>
     requires ready { WorldIsReady D.seen D.settled cluster.old.world }
-    requires tickets { length cluster.old.sessions.tickets.items ≡ length cluster.old.sessions.talkers.items }
+    requires even { AreEven cluster.old.sessions }
     ensures ready { WorldIsReady D.seen D.settled cluster.new.world }
     ensures plan { plan_of cluster.new.world ≡ plan_of cluster.old.world }
-    ensures tickets { OnOk result (length cluster.new.sessions.tickets.items ≡ length cluster.new.sessions.talkers.items) }
-    ensures did { (start : AWorld D) (p : Point) (line : List ℕ) → tape_order line ≡ Some (AnOrder.Open (protocol_seen protocol) node) → IsAtPoint D.seen D.faults start cluster.old p
-        → p.held ≡ K.contents sink.old → p.awaited ≡ [] → LineDid D.seen D.faults start (plan_of cluster.old.world) p line result (K.contents sink.new) cluster.new }
+    ensures even { OnOk result (AreEven cluster.new.sessions) }
+    ensures did { (start : AWorld D) (p : Point) (line : List ℕ) → tape_order line ≡ Some (AnOrder.Open (protocol_seen protocol) node) → IsAtPoint (view_of D.seen D.faults D.clock) start (plan_of cluster.old.world) cluster.old p
+        → p.held ≡ K.contents sink.old → LineDid (view_of D.seen D.faults D.clock) start (plan_of cluster.old.world) p line result (K.contents sink.new) cluster.new }
     ensures later { K.faults sink.old ≤ K.faults sink.new }
     ensures failed { IsErrOf result Stop.WriteFault → Rose (K.faults sink.old) (K.faults sink.new) }
 {
-    let only = match admit(cluster, node) {
-        Ok(only) => only,
+    let (only, boot) = match admit_session(cluster, protocol, node) {
+        Ok(found) => found,
         Err(fault) => return Err(Stop::Bad(fault)),
     };
     let number = cluster.sessions.talkers.len() as u64 + 1;
     let mut out = Vec::new(alloc);
-    cluster
-        .sessions
-        .open(alloc, cluster.world.plan(), protocol, only, &mut out)?;
+    cluster.sessions.open(alloc, cluster.world.plan(), protocol, only, boot, &mut out)?;
     write_reply(alloc, sink, number, &out, false)?;
     cluster.ask_all(alloc, sink)
 }
@@ -89,13 +98,13 @@ fn feed_at<D: Disk, K: Sink>(
     octets: &[u8],
 ) -> Result<(), Stop>
     requires ready { WorldIsReady D.seen D.settled cluster.old.world }
+    requires even { AreEven cluster.old.sessions }
     requires within { place < length cluster.old.sessions.talkers.items }
-    requires tickets { length cluster.old.sessions.tickets.items ≡ length cluster.old.sessions.talkers.items }
     ensures ready { WorldIsReady D.seen D.settled cluster.new.world }
     ensures plan { plan_of cluster.new.world ≡ plan_of cluster.old.world }
-    ensures tickets { OnOk result (length cluster.new.sessions.tickets.items ≡ length cluster.new.sessions.talkers.items) }
-    ensures did { (start : AWorld D) (p : Point) (line : List ℕ) → IsFeedingAt p line place octets.now → IsAtPoint D.seen D.faults start cluster.old p
-        → p.held ≡ K.contents sink.old → p.awaited ≡ [] → LineDid D.seen D.faults start (plan_of cluster.old.world) p line result (K.contents sink.new) cluster.new }
+    ensures even { OnOk result (AreEven cluster.new.sessions) }
+    ensures did { (start : AWorld D) (p : Point) (line : List ℕ) → IsFeedingAt p line place octets.now → IsAtPoint (view_of D.seen D.faults D.clock) start (plan_of cluster.old.world) cluster.old p
+        → p.held ≡ K.contents sink.old → LineDid (view_of D.seen D.faults D.clock) start (plan_of cluster.old.world) p line result (K.contents sink.new) cluster.new }
     ensures later { K.faults sink.old ≤ K.faults sink.new }
     ensures failed { IsErrOf result Stop.WriteFault → Rose (K.faults sink.old) (K.faults sink.new) }
 {
@@ -117,12 +126,12 @@ pub(crate) fn say_line<D: Disk, K: Sink>(
     text: &[u8],
 ) -> Result<(), Stop>
     requires ready { WorldIsReady D.seen D.settled cluster.old.world }
-    requires tickets { length cluster.old.sessions.tickets.items ≡ length cluster.old.sessions.talkers.items }
+    requires even { AreEven cluster.old.sessions }
     ensures ready { WorldIsReady D.seen D.settled cluster.new.world }
     ensures plan { plan_of cluster.new.world ≡ plan_of cluster.old.world }
-    ensures tickets { OnOk result (length cluster.new.sessions.tickets.items ≡ length cluster.new.sessions.talkers.items) }
-    ensures did { (start : AWorld D) (p : Point) (line : List ℕ) → tape_order line ≡ Some (AnOrder.Say session text.now) → IsAtPoint D.seen D.faults start cluster.old p
-        → p.held ≡ K.contents sink.old → p.awaited ≡ [] → LineDid D.seen D.faults start (plan_of cluster.old.world) p line result (K.contents sink.new) cluster.new }
+    ensures even { OnOk result (AreEven cluster.new.sessions) }
+    ensures did { (start : AWorld D) (p : Point) (line : List ℕ) → tape_order line ≡ Some (AnOrder.Say session text.now) → IsAtPoint (view_of D.seen D.faults D.clock) start (plan_of cluster.old.world) cluster.old p
+        → p.held ≡ K.contents sink.old → LineDid (view_of D.seen D.faults D.clock) start (plan_of cluster.old.world) p line result (K.contents sink.new) cluster.new }
     ensures later { K.faults sink.old ≤ K.faults sink.new }
     ensures failed { IsErrOf result Stop.WriteFault → Rose (K.faults sink.old) (K.faults sink.new) }
 {
@@ -148,12 +157,12 @@ pub(crate) fn feed_line<D: Disk, K: Sink>(
     octets: &[u8],
 ) -> Result<(), Stop>
     requires ready { WorldIsReady D.seen D.settled cluster.old.world }
-    requires tickets { length cluster.old.sessions.tickets.items ≡ length cluster.old.sessions.talkers.items }
+    requires even { AreEven cluster.old.sessions }
     ensures ready { WorldIsReady D.seen D.settled cluster.new.world }
     ensures plan { plan_of cluster.new.world ≡ plan_of cluster.old.world }
-    ensures tickets { OnOk result (length cluster.new.sessions.tickets.items ≡ length cluster.new.sessions.talkers.items) }
-    ensures did { (start : AWorld D) (p : Point) (line : List ℕ) → tape_order line ≡ Some (AnOrder.Feed session octets.now) → IsAtPoint D.seen D.faults start cluster.old p
-        → p.held ≡ K.contents sink.old → p.awaited ≡ [] → LineDid D.seen D.faults start (plan_of cluster.old.world) p line result (K.contents sink.new) cluster.new }
+    ensures even { OnOk result (AreEven cluster.new.sessions) }
+    ensures did { (start : AWorld D) (p : Point) (line : List ℕ) → tape_order line ≡ Some (AnOrder.Feed session octets.now) → IsAtPoint (view_of D.seen D.faults D.clock) start (plan_of cluster.old.world) cluster.old p
+        → p.held ≡ K.contents sink.old → LineDid (view_of D.seen D.faults D.clock) start (plan_of cluster.old.world) p line result (K.contents sink.new) cluster.new }
     ensures later { K.faults sink.old ≤ K.faults sink.new }
     ensures failed { IsErrOf result Stop.WriteFault → Rose (K.faults sink.old) (K.faults sink.new) }
 {
@@ -163,7 +172,50 @@ pub(crate) fn feed_line<D: Disk, K: Sink>(
     feed_at(cluster, alloc, sink, place, octets)
 }
 
-/// A session is closed by its client, and leaves.
+// The call of the session at this place is given up, where one is in progress. Whether it was.
+fn let_go<D: Disk>(cluster: &mut Cluster<D>, alloc: Global, place: usize) -> Result<bool, Stop>
+    requires ready { WorldIsReady D.seen D.settled cluster.old.world }
+    requires even { AreEven cluster.old.sessions }
+    requires within { place < length cluster.old.sessions.talkers.items }
+    ensures ready { WorldIsReady D.seen D.settled cluster.new.world }
+    ensures plan { plan_of cluster.new.world ≡ plan_of cluster.old.world }
+    ensures even { AreEven cluster.new.sessions }
+    ensures length { length cluster.new.sessions.talkers.items ≡ length cluster.old.sessions.talkers.items }
+    ensures let_go { (start : AWorld D) (p : Point) (plain : Session) → IsAtPoint (view_of D.seen D.faults D.clock) start (plan_of cluster.old.world) cluster.old p → slice_get p.sessions place ≡ Some plain → IsOn plain.standing
+        → LetsGo (view_of D.seen D.faults D.clock) start (plan_of cluster.old.world) p place result cluster.new }
+    ensures why { IsErrOf result Stop.WriteFault → ⊥ }
+{
+    let Some(open_call) = cluster.sessions.calls[place].take() else {
+        return Ok(false);
+    };
+    give_up(&mut cluster.world, alloc, &open_call)?;
+    Ok(true)
+}
+
+// The session at this place, whose call is not in progress, is closed, and leaves.
+fn close_at<D: Disk, K: Sink>(
+    cluster: &mut Cluster<D>,
+    alloc: Global,
+    sink: &mut K,
+    place: usize,
+) -> Result<(), Stop>
+    requires ready { WorldIsReady D.seen D.settled cluster.old.world }
+    requires even { AreEven cluster.old.sessions }
+    requires within { place < length cluster.old.sessions.talkers.items }
+    ensures ready { WorldIsReady D.seen D.settled cluster.new.world }
+    ensures plan { plan_of cluster.new.world ≡ plan_of cluster.old.world }
+    ensures even { OnOk result (AreEven cluster.new.sessions) }
+    ensures closed { (start : AWorld D) (p : Point) (line : List ℕ) → IsClosingAt (view_of D.seen D.faults D.clock) start (plan_of cluster.old.world) p line place cluster.old
+        → p.held ≡ K.contents sink.old → LineDid (view_of D.seen D.faults D.clock) start (plan_of cluster.old.world) p line result (K.contents sink.new) cluster.new }
+    ensures later { K.faults sink.old ≤ K.faults sink.new }
+    ensures failed { IsErrOf result Stop.WriteFault → Rose (K.faults sink.old) (K.faults sink.new) }
+{
+    let call = cluster.sessions.close(place);
+    cluster.leave(alloc, place, call)?;
+    cluster.ask_all(alloc, sink)
+}
+
+/// A session is closed by its client, and leaves. A call of it that is in progress is given up first.
 ///
 /// # Errors
 ///
@@ -175,19 +227,173 @@ pub(crate) fn close_line<D: Disk, K: Sink>(
     session: u64,
 ) -> Result<(), Stop>
     requires ready { WorldIsReady D.seen D.settled cluster.old.world }
-    requires tickets { length cluster.old.sessions.tickets.items ≡ length cluster.old.sessions.talkers.items }
+    requires even { AreEven cluster.old.sessions }
     ensures ready { WorldIsReady D.seen D.settled cluster.new.world }
     ensures plan { plan_of cluster.new.world ≡ plan_of cluster.old.world }
-    ensures tickets { OnOk result (length cluster.new.sessions.tickets.items ≡ length cluster.new.sessions.talkers.items) }
-    ensures did { (start : AWorld D) (p : Point) (line : List ℕ) → tape_order line ≡ Some (AnOrder.Close session) → IsAtPoint D.seen D.faults start cluster.old p
-        → p.held ≡ K.contents sink.old → p.awaited ≡ [] → LineDid D.seen D.faults start (plan_of cluster.old.world) p line result (K.contents sink.new) cluster.new }
+    ensures even { OnOk result (AreEven cluster.new.sessions) }
+    ensures did { (start : AWorld D) (p : Point) (line : List ℕ) → tape_order line ≡ Some (AnOrder.Close session) → IsAtPoint (view_of D.seen D.faults D.clock) start (plan_of cluster.old.world) cluster.old p
+        → p.held ≡ K.contents sink.old → LineDid (view_of D.seen D.faults D.clock) start (plan_of cluster.old.world) p line result (K.contents sink.new) cluster.new }
     ensures later { K.faults sink.old ≤ K.faults sink.new }
     ensures failed { IsErrOf result Stop.WriteFault → Rose (K.faults sink.old) (K.faults sink.new) }
 {
     let Some(place) = cluster.sessions.find(session) else {
         return Err(Stop::Bad(TapeFault::NoSuchSession));
     };
-    let call = cluster.sessions.close(place);
-    cluster.leave(alloc, call)?;
+    let_go(cluster, alloc, place)?;
+    close_at(cluster, alloc, sink, place)
+}
+
+// The session at this place hears on, or rests.
+fn hear_on<D: Disk, K: Sink>(
+    cluster: &mut Cluster<D>,
+    alloc: Global,
+    sink: &mut K,
+    place: usize,
+    goes_on: bool,
+) -> Result<(), Stop>
+    requires ready { WorldIsReady D.seen D.settled cluster.old.world }
+    requires even { AreEven cluster.old.sessions }
+    requires within { place < length cluster.old.sessions.talkers.items }
+    ensures ready { WorldIsReady D.seen D.settled cluster.new.world }
+    ensures plan { plan_of cluster.new.world ≡ plan_of cluster.old.world }
+    ensures even { AreEven cluster.new.sessions }
+    ensures heard { (start : AWorld D) (p : Point) (onward : ℕ) → IsAtPoint (view_of D.seen D.faults D.clock) start (plan_of cluster.old.world) cluster.old p → p.held ≡ K.contents sink.old → MovedTo {E = Why} place onward (Ok goes_on) p
+        → WorkGoes (view_of D.seen D.faults D.clock) start (plan_of cluster.old.world) p (RestsAt onward) result (K.contents sink.new) cluster.new }
+    ensures later { K.faults sink.old ≤ K.faults sink.new }
+    ensures failed { IsErrOf result Stop.WriteFault → Rose (K.faults sink.old) (K.faults sink.new) }
+{
+    if goes_on {
+        return cluster.hear(alloc, sink, place);
+    }
+    Ok(())
+}
+
+// The session at this place, whose call was given up, is told so, and hears on.
+fn told_at<D: Disk, K: Sink>(
+    cluster: &mut Cluster<D>,
+    alloc: Global,
+    sink: &mut K,
+    place: usize,
+) -> Result<(), Stop>
+    requires ready { WorldIsReady D.seen D.settled cluster.old.world }
+    requires even { AreEven cluster.old.sessions }
+    requires within { place < length cluster.old.sessions.talkers.items }
+    ensures ready { WorldIsReady D.seen D.settled cluster.new.world }
+    ensures plan { plan_of cluster.new.world ≡ plan_of cluster.old.world }
+    ensures even { OnOk result (AreEven cluster.new.sessions) }
+    ensures told { (start : AWorld D) (p : Point) (line : List ℕ) → IsGivingUpAt (view_of D.seen D.faults D.clock) start (plan_of cluster.old.world) p line place cluster.old
+        → p.held ≡ K.contents sink.old → LineDid (view_of D.seen D.faults D.clock) start (plan_of cluster.old.world) p line result (K.contents sink.new) cluster.new }
+    ensures later { K.faults sink.old ≤ K.faults sink.new }
+    ensures failed { IsErrOf result Stop.WriteFault → Rose (K.faults sink.old) (K.faults sink.new) }
+{
+    let mut out = Vec::new(alloc);
+    let after = cluster
+        .sessions
+        .reply(alloc, cluster.world.plan(), place, None, &mut out)?;
+    let goes_on = cluster.say(alloc, sink, place, &out, after)?;
+    hear_on(cluster, alloc, sink, place, goes_on)?;
     cluster.ask_all(alloc, sink)
+}
+
+/// The call that a session waits for is given up.
+///
+/// # Errors
+///
+/// As `open_line`; and the fault of the step, where it is refused.
+pub(crate) fn give_up_line<D: Disk, K: Sink>(
+    cluster: &mut Cluster<D>,
+    alloc: Global,
+    sink: &mut K,
+    session: u64,
+) -> Result<(), Stop>
+    requires ready { WorldIsReady D.seen D.settled cluster.old.world }
+    requires even { AreEven cluster.old.sessions }
+    ensures ready { WorldIsReady D.seen D.settled cluster.new.world }
+    ensures plan { plan_of cluster.new.world ≡ plan_of cluster.old.world }
+    ensures even { OnOk result (AreEven cluster.new.sessions) }
+    ensures did { (start : AWorld D) (p : Point) (line : List ℕ) → tape_order line ≡ Some (AnOrder.GiveUp session) → IsAtPoint (view_of D.seen D.faults D.clock) start (plan_of cluster.old.world) cluster.old p
+        → p.held ≡ K.contents sink.old → LineDid (view_of D.seen D.faults D.clock) start (plan_of cluster.old.world) p line result (K.contents sink.new) cluster.new }
+    ensures later { K.faults sink.old ≤ K.faults sink.new }
+    ensures failed { IsErrOf result Stop.WriteFault → Rose (K.faults sink.old) (K.faults sink.new) }
+{
+    let Some(place) = cluster.sessions.find(session) else {
+        return Err(Stop::Bad(TapeFault::NoSuchSession));
+    };
+    if !let_go(cluster, alloc, place)? {
+        return Err(Stop::Bad(TapeFault::BadLine));
+    }
+    told_at(cluster, alloc, sink, place)
+}
+
+// All sessions of this node fall, where there is one.
+fn fall_by<D: Disk, K: Sink>(
+    cluster: &mut Cluster<D>,
+    alloc: Global,
+    sink: &mut K,
+    fallen: Option<NodeNo>,
+) -> Result<(), Stop>
+    requires even { AreEven cluster.old.sessions }
+    ensures world { cluster.new.world ≡ cluster.old.world }
+    ensures even { AreEven cluster.new.sessions }
+    ensures fell { (start : AWorld D) (plan : Plan) (p : Point) → MayFallBy (view_of D.seen D.faults D.clock) start plan p fallen cluster.old → p.held ≡ K.contents sink.old
+        → WorkGoes (view_of D.seen D.faults D.clock) start plan p (RestsAt 1) result (K.contents sink.new) cluster.new }
+    ensures later { K.faults sink.old ≤ K.faults sink.new }
+    ensures failed { IsErrOf result Stop.WriteFault → Rose (K.faults sink.old) (K.faults sink.new) }
+{
+    match fallen {
+        Some(node) => cluster.fall(alloc, sink, node),
+        None => Ok(()),
+    }
+}
+
+// What came of the steps of a run line is written; the sessions of a node that went down fall, and those that wait are
+// asked for.
+fn happen<D: Disk, K: Sink>(
+    cluster: &mut Cluster<D>,
+    alloc: Global,
+    sink: &mut K,
+    event: &ClusterEvent,
+) -> Result<(), Stop>
+    requires ready { WorldIsReady D.seen D.settled cluster.old.world }
+    requires even { AreEven cluster.old.sessions }
+    ensures ready { WorldIsReady D.seen D.settled cluster.new.world }
+    ensures plan { plan_of cluster.new.world ≡ plan_of cluster.old.world }
+    ensures even { OnOk result (AreEven cluster.new.sessions) }
+    ensures happened { (start : AWorld D) (p : Point) (line : List ℕ) → Happens (view_of D.seen D.faults D.clock) start (plan_of cluster.old.world) p line event.now cluster.old
+        → p.held ≡ K.contents sink.old → LineDid (view_of D.seen D.faults D.clock) start (plan_of cluster.old.world) p line result (K.contents sink.new) cluster.new }
+    ensures later { K.faults sink.old ≤ K.faults sink.new }
+    ensures failed { IsErrOf result Stop.WriteFault → Rose (K.faults sink.old) (K.faults sink.new) }
+{
+    write_event(alloc, sink, event)?;
+    fall_by(cluster, alloc, sink, event.fallen())?;
+    cluster.ask_all(alloc, sink)
+}
+
+/// The cluster itself is moved.
+///
+/// # Errors
+///
+/// As `open_line`; and the fault of a step, where it is refused.
+pub(crate) fn move_line<D: Disk, K: Sink>(
+    cluster: &mut Cluster<D>,
+    alloc: Global,
+    sink: &mut K,
+    order: ClusterOrder,
+) -> Result<(), Stop>
+    requires ready { WorldIsReady D.seen D.settled cluster.old.world }
+    requires even { AreEven cluster.old.sessions }
+    ensures ready { WorldIsReady D.seen D.settled cluster.new.world }
+    ensures plan { plan_of cluster.new.world ≡ plan_of cluster.old.world }
+    ensures even { OnOk result (AreEven cluster.new.sessions) }
+    ensures did { (start : AWorld D) (p : Point) (line : List ℕ) → tape_order line ≡ Some (AnOrder.Moves (cluster_order_seen order)) → IsAtPoint (view_of D.seen D.faults D.clock) start (plan_of cluster.old.world) cluster.old p
+        → p.held ≡ K.contents sink.old → LineDid (view_of D.seen D.faults D.clock) start (plan_of cluster.old.world) p line result (K.contents sink.new) cluster.new }
+    ensures later { K.faults sink.old ≤ K.faults sink.new }
+    ensures failed { IsErrOf result Stop.WriteFault → Rose (K.faults sink.old) (K.faults sink.new) }
+{
+    let admitted = match admit(&cluster.world, order) {
+        Ok(admitted) => admitted,
+        Err(fault) => return Err(Stop::Bad(fault)),
+    };
+    let event = make(&mut cluster.world, alloc, admitted)?;
+    happen(cluster, alloc, sink, &event)
 }

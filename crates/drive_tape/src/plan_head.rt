@@ -1,9 +1,9 @@
 // Reads the plan lines of a tape, up to `go`.
-ghost use Rattle.std.specs.Prelude.{◌≡◌, ◌+◌, ◌^◌, ◌≤◌, ◌<◌, ℕ, IfOk, OnOk, IsErrOf, length, Bool, nat_eq, ◌&&◌};
+ghost use Rattle.std.specs.Prelude.{◌≡◌, ◌+◌, ◌^◌, ◌≤◌, ◌<◌, ℕ, IfOk, OnOk, IsErrOf, length};
 ghost use Rattle.io_edge.specs.Causes.{Rose};
 ghost use Rattle.mail_model.specs.Tape.{planned};
 ghost use Rattle.drive_tape.specs.Drive.{stop_of, NamesLine};
-ghost use Rattle.drive_tape.specs.Plans.{PlanTurned, ReadsHead, HeadEnds};
+ghost use Rattle.drive_tape.specs.Plans.{PlanTurned, ReadsHead, HeadEnds, IsTapePlan};
 
 use crate::driver::{TAPE_OCTETS, at_line};
 use crate::reader::next_line;
@@ -48,25 +48,14 @@ fn plan_turn<S: Source>(
     }
 }
 
-// Whether this program serves the plan: one node, and so one copy.
-fn is_served(plan: &Plan) -> bool
-    ensures { result ≡ nat_eq plan.now.nodes 1 && nat_eq plan.now.copies 1 && nat_eq plan.now.confirm 1 }
-{
-    plan.nodes == 1 && plan.copies == 1 && plan.confirm == 1
-}
-
 // The plan at `go`, at the line of this number.
 fn finish(draft: Draft, number: u64) -> Result<(Plan, u64), Drove>
     ensures { HeadEnds result draft number }
 {
-    let bad = Drove::BadTape(number, TapeFault::BadPlan);
-    let Some(plan) = draft.finish() else {
-        return Err(bad);
-    };
-    if !is_served(&plan) {
-        return Err(bad);
+    match draft.finish() {
+        Some(plan) => Ok((plan, number)),
+        None => Err(Drove::BadTape(number, TapeFault::BadPlan)),
     }
-    Ok((plan, number))
 }
 
 /// Reads the plan lines of a tape through `go`, and no octet after it: the plan, and how many lines were read.
@@ -74,10 +63,11 @@ fn finish(draft: Draft, number: u64) -> Result<(Plan, u64), Drove>
 /// # Errors
 ///
 /// `BadTape(n, BadPlan)` with the number of the line that is no plan line, or that of `go` where the plan does not fit
-/// together or is not one that is served; `BadTape(n, BadLine)` where line n has more than 65,536 octets with its LF, or
+/// together; `BadTape(n, BadLine)` where line n has more than 65,536 octets with its LF, or
 /// the source ended before it was whole; `ReadFault` where the source failed; `NoMemory`.
 pub fn read_drive_head<S: Source>(alloc: Global, source: &mut S) -> Result<(Plan, u64), Drove>
     ensures plan { ReadsHead (S.left source.old) (S.left source.new) result }
+    ensures fits { IfOk result (λ head. IsTapePlan head.0) }
     ensures few { IfOk result (λ head. head.1 ≤ 2 ^ 40) }
     ensures read_later { S.faults source.old ≤ S.faults source.new }
     ensures read_fault { IsErrOf result Drove.ReadFault → Rose (S.faults source.old) (S.faults source.new) }

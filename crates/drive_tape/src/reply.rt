@@ -5,7 +5,8 @@ ghost use Rattle.mail_model.specs.Lines.{HasNoCrlf, sent_line};
 ghost use Rattle.mail_model.specs.Site.{closed_event};
 ghost use Rattle.mail_model.specs.Transcript.{said_lines};
 ghost use Rattle.drive_tape.specs.Entries.{transcript_entry, WritesEntries};
-ghost use Rattle.drive_tape.specs.Replies.{IsFirstCrlf, fault_event};
+ghost use Rattle.session_model.specs.Events.{fault_event};
+ghost use Rattle.drive_tape.specs.Replies.{IsFirstCrlf};
 
 use crate::entry::{Entry, said_line};
 use crate::{WriteStop, write_entries};

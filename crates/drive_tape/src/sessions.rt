@@ -10,26 +10,29 @@ ghost use Rattle.session_model.specs.Acts.{opened_session, greeting_of};
 ghost use Rattle.session_model.specs.Run.{count_on, session_fault};
 ghost use Rattle.mail_model.specs.Site.{TapeFault};
 ghost use Rattle.call_tickets.specs.Moves.{Due, Fed, HasEnded, IsBusy};
-ghost use Rattle.call_tickets.specs.Seen.{answer_seen};
+ghost use Rattle.call_tickets.specs.Seen.{given_answer};
 ghost use Rattle.tape_lines.specs.Orders.{protocol_seen};
 ghost use Rattle.drive_tape.specs.Leaving.{IsLeaveOf};
 ghost use Rattle.drive_tape.specs.Talks.{Converse, IsFound};
 ghost use Rattle.drive_tape.specs.Speakers.{Matches};
 ghost use Rattle.drive_tape.specs.Moving.{MovesTo, RepliesTo, FallsTo, GoesOn, left_at};
 
+use crate::open_call::OpenCall;
 use crate::talker::Talker;
 use call_tickets::{Answer, Call, Move};
-use mail_base::{NodeNo, Plan, Ticket};
+use mail_base::{NodeNo, Plan};
 use std::alloc::{AllocError, Global};
 use tape_lines::Protocol;
 
-/// The sessions by number, from 1, with the tickets that they wait for.
+/// The sessions by number, from 1, with the calls that they wait for.
 #[derive(Drop)]
 pub(crate) struct Sessions {
     /// Session k is at place k - 1; none where it has ended.
     pub talkers: Vec<Option<Talker>>,
-    /// The ticket of its call, where it waits.
-    pub tickets: Vec<Option<Ticket>>,
+    /// The node that it is at.
+    pub nodes: Vec<NodeNo>,
+    /// Its call in progress, where it waits.
+    pub calls: Vec<Option<OpenCall>>,
     /// How many of them have not ended.
     pub standing: u64,
 }
@@ -47,12 +50,14 @@ impl Sessions {
     /// No session was opened. It takes no memory.
     pub fn new(alloc: Global) -> Sessions
         ensures talkers { result.talkers.items ≡ [] }
-        ensures tickets { result.tickets.items ≡ [] }
+        ensures nodes { result.nodes.items ≡ [] }
+        ensures calls { result.calls.items ≡ [] }
         ensures standing { result.standing ≡ 0 }
     {
         Sessions {
             talkers: Vec::new(alloc),
-            tickets: Vec::new(alloc),
+            nodes: Vec::new(alloc),
+            calls: Vec::new(alloc),
             standing: 0,
         }
     }
@@ -102,22 +107,24 @@ impl Sessions {
         plan: &Plan,
         protocol: Protocol,
         node: NodeNo,
+        boot: u32,
         out: &mut Vec<u8>,
     ) -> Result<(), AllocError>
         requires few { self.old.standing < 256 }
-        requires node { node ≡ 1 }
-        ensures greets { OnOk result (out.new.items ≡ out.old.items ++ sent_line (greeting_of (protocol_seen protocol) 1 1 (length self.old.talkers.items + 1) 0)) }
-        ensures line { OnOk result (HasNoCrlf (greeting_of (protocol_seen protocol) 1 1 (length self.old.talkers.items + 1) 0)) }
+        ensures greets { OnOk result (out.new.items ≡ out.old.items ++ sent_line (greeting_of (protocol_seen protocol) node boot (length self.old.talkers.items + 1) 0)) }
+        ensures line { OnOk result (HasNoCrlf (greeting_of (protocol_seen protocol) node boot (length self.old.talkers.items + 1) 0)) }
         ensures talks { OnOk result ((sessions : List Session) → Converse self.old.talkers.items sessions
-            → Converse self.new.talkers.items (sessions ++ opened_session (protocol_seen protocol) 1 ∷ [])) }
-        ensures tickets { OnOk result (self.new.tickets.items ≡ self.old.tickets.items ++ None ∷ []) }
+            → Converse self.new.talkers.items (sessions ++ opened_session (protocol_seen protocol) node ∷ [])) }
+        ensures nodes { OnOk result (self.new.nodes.items ≡ self.old.nodes.items ++ node ∷ []) }
+        ensures calls { OnOk result (self.new.calls.items ≡ self.old.calls.items ++ None ∷ []) }
         ensures length { OnOk result (length self.new.talkers.items ≡ length self.old.talkers.items + 1) }
         ensures count { OnOk result (self.new.standing ≡ self.old.standing + 1) }
     {
         let number = self.talkers.len() as u64 + 1;
-        let talker = Talker::open(alloc, protocol, node, number, plan, out)?;
+        let talker = Talker::open(alloc, protocol, node, boot, number, plan, out)?;
         self.talkers.push(Some(talker))?;
-        self.tickets.push(None)?;
+        self.nodes.push(node)?;
+        self.calls.push(None)?;
         self.standing += 1;
         Ok(())
     }
@@ -131,7 +138,8 @@ impl Sessions {
         requires within { place < length self.old.talkers.items }
         ensures talks { OnOk result ((sessions : List Session) (plain : Session) → Converse self.old.talkers.items sessions → slice_get sessions place ≡ Some plain → IsOn plain.standing
             → Converse self.new.talkers.items (slice_set sessions place (record plain { octets = plain.octets ++ octets.now; rest = plain.rest ++ octets.now }))) }
-        ensures tickets { self.new.tickets ≡ self.old.tickets }
+        ensures nodes { self.new.nodes ≡ self.old.nodes }
+        ensures calls { self.new.calls ≡ self.old.calls }
         ensures count { self.new.standing ≡ self.old.standing }
         ensures length { length self.new.talkers.items ≡ length self.old.talkers.items }
     {
@@ -145,9 +153,10 @@ impl Sessions {
     fn after(&mut self, place: usize) -> After
         requires within { place < length self.old.talkers.items }
         ensures goes_on { (sessions : List Session) (plain : Session) (talker : Talker) → slice_get self.old.talkers.items place ≡ Some (Some talker) → Matches talker plain Due.Nothing
-            → Converse self.old.talkers.items (slice_set sessions place plain) → plain.node ≡ 1
+            → Converse self.old.talkers.items (slice_set sessions place plain)
             → Converse self.new.talkers.items (slice_set sessions place plain) × GoesOn result plain self.old.standing self.new.standing }
-        ensures tickets { self.new.tickets ≡ self.old.tickets }
+        ensures nodes { self.new.nodes ≡ self.old.nodes }
+        ensures calls { self.new.calls ≡ self.old.calls }
         ensures length { length self.new.talkers.items ≡ length self.old.talkers.items }
         ensures less { left_at place self.new ≤ left_at place self.old }
     {
@@ -177,7 +186,8 @@ impl Sessions {
         requires empty { out.old.items ≡ [] }
         ensures moved { IfOk result (λ move. (sessions : List Session) (plain : Session) → Converse self.old.talkers.items sessions → slice_get sessions place ≡ Some plain
             → MovesTo plan.now sessions place plain move.0 move.1 out.new.items self.old.standing self.new) }
-        ensures tickets { self.new.tickets ≡ self.old.tickets }
+        ensures nodes { self.new.nodes ≡ self.old.nodes }
+        ensures calls { self.new.calls ≡ self.old.calls }
         ensures length { length self.new.talkers.items ≡ length self.old.talkers.items }
         ensures less { IfOk result (λ move. (IsBusy move.0 → left_at place self.new < left_at place self.old) × (left_at place self.new ≤ left_at place self.old)) }
     {
@@ -194,7 +204,8 @@ impl Sessions {
         }
     }
 
-    /// The session at this place, which waits, is answered; its reply is appended. How it goes on.
+    /// The session at this place, which waits, is answered, or told that its call was given up; its reply is appended. How
+    /// it goes on.
     ///
     /// # Errors
     ///
@@ -204,15 +215,16 @@ impl Sessions {
         alloc: Global,
         plan: &Plan,
         place: usize,
-        answer: Answer,
+        answer: Option<Answer>,
         out: &mut Vec<u8>,
     ) -> Result<After, AllocError>
         requires within { place < length self.old.talkers.items }
         requires empty { out.old.items ≡ [] }
         ensures replied { IfOk result (λ after. (sessions : List Session) (plain : Session) (state : TalkState) (call : calls.Call) (reply : List (List ℕ)) → Converse self.old.talkers.items sessions
-            → slice_get sessions place ≡ Some plain → plain.standing ≡ Waiting state call → IsReply call (answer_seen answer) reply
-            → RepliesTo plan.now sessions place plain (answer_seen answer) after out.new.items self.old.standing self.new) }
-        ensures tickets { self.new.tickets ≡ self.old.tickets }
+            → slice_get sessions place ≡ Some plain → plain.standing ≡ Waiting state call → IsReply call (given_answer answer) reply
+            → RepliesTo plan.now sessions place plain (given_answer answer) after out.new.items self.old.standing self.new) }
+        ensures nodes { self.new.nodes ≡ self.old.nodes }
+        ensures calls { self.new.calls ≡ self.old.calls }
         ensures length { length self.new.talkers.items ≡ length self.old.talkers.items }
         ensures less { OnOk result (left_at place self.new ≤ left_at place self.old) }
     {
@@ -235,16 +247,17 @@ impl Sessions {
         out: &mut Vec<u8>,
     ) -> Result<bool, AllocError>
         requires within { place < length self.old.talkers.items }
-        requires tickets { length self.old.tickets.items ≡ length self.old.talkers.items }
+        requires calls { length self.old.calls.items ≡ length self.old.talkers.items }
         requires empty { out.old.items ≡ [] }
         ensures fell { IfOk result (λ fell. (sessions : List Session) (plain : Session) → Converse self.old.talkers.items sessions → slice_get sessions place ≡ Some plain
             → FallsTo sessions place plain fell out.new.items self.old.standing self.new) }
-        ensures tickets { OnOk result (self.new.tickets.items ≡ slice_set self.old.tickets.items place None) }
+        ensures nodes { self.new.nodes ≡ self.old.nodes }
+        ensures calls { OnOk result (self.new.calls.items ≡ slice_set self.old.calls.items place None) }
         ensures length { length self.new.talkers.items ≡ length self.old.talkers.items }
-        ensures ticket_length { length self.new.tickets.items ≡ length self.old.tickets.items }
+        ensures call_length { length self.new.calls.items ≡ length self.old.calls.items }
         ensures left { (other : ℕ) → left_at other self.new ≤ left_at other self.old }
     {
-        self.tickets[place] = None;
+        self.calls[place] = None;
         match self.talkers[place].take() {
             Some(mut talker) => {
                 if talker.has_ended() {
@@ -263,7 +276,8 @@ impl Sessions {
         requires within { place < length self.old.talkers.items }
         ensures closed { (sessions : List Session) (plain : Session) → Converse self.old.talkers.items sessions → slice_get sessions place ≡ Some plain → IsOn plain.standing
             → IsLeaveOf result (entered_as (exchanges_of plain)) × Converse self.new.talkers.items (slice_set sessions place (record plain { standing = EndedClosed })) }
-        ensures tickets { self.new.tickets ≡ self.old.tickets }
+        ensures nodes { self.new.nodes ≡ self.old.nodes }
+        ensures calls { self.new.calls ≡ self.old.calls }
         ensures count { self.new.standing ≡ self.old.standing - 1 }
         ensures length { length self.new.talkers.items ≡ length self.old.talkers.items }
     {

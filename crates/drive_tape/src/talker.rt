@@ -8,7 +8,7 @@ ghost use Rattle.session_model.specs.Talk.Standing.{Waiting};
 ghost use Rattle.session_model.specs.Sessions.{Session, exchanges_of};
 ghost use Rattle.session_model.specs.Acts.{opened_session, greeting_of};
 ghost use Rattle.call_tickets.specs.Moves.{Due, Moves, Replied, Fed, HasEnded, IsBusy};
-ghost use Rattle.call_tickets.specs.Seen.{answer_seen};
+ghost use Rattle.call_tickets.specs.Seen.{given_answer};
 ghost use Rattle.tape_lines.specs.Orders.{protocol_seen};
 ghost use Rattle.drive_tape.specs.Leaving.{IsLeaveOf};
 ghost use Rattle.smtp_session.specs.Follows as mail;
@@ -32,7 +32,7 @@ pub(crate) enum Talker {
 }
 
 impl Talker {
-    /// Opens a session of this number at the node, in its first boot and at second 0, and appends its greeting.
+    /// Opens a session of this number at the node, which is in this boot, at second 0, and appends its greeting.
     ///
     /// # Errors
     ///
@@ -41,12 +41,13 @@ impl Talker {
         alloc: Global,
         protocol: Protocol,
         node: NodeNo,
+        boot: u32,
         number: u64,
         plan: &Plan,
         out: &mut Vec<u8>,
     ) -> Result<Talker, AllocError>
-        ensures greets { OnOk result (out.new.items ≡ out.old.items ++ sent_line (greeting_of (protocol_seen protocol) node 1 number 0)) }
-        ensures line { OnOk result (HasNoCrlf (greeting_of (protocol_seen protocol) node 1 number 0)) }
+        ensures greets { OnOk result (out.new.items ≡ out.old.items ++ sent_line (greeting_of (protocol_seen protocol) node boot number 0)) }
+        ensures line { OnOk result (HasNoCrlf (greeting_of (protocol_seen protocol) node boot number 0)) }
         ensures opened { IfOk result (λ talker. Matches talker (opened_session (protocol_seen protocol) node) Due.Nothing) }
     {
         match protocol {
@@ -56,7 +57,7 @@ impl Talker {
                 Ok(Talker::Smtp(session))
             }
             Protocol::Pop => {
-                let mut session = PopSession::new(alloc, node, 1, number, 0);
+                let mut session = PopSession::new(alloc, node, boot, number, 0);
                 session.next(alloc, plan, out)?;
                 Ok(Talker::Pop(session))
             }
@@ -98,7 +99,7 @@ impl Talker {
         }
     }
 
-    /// Takes the answer to its call, and appends its reply.
+    /// Takes the answer to its call, or that it was given up, and appends its reply.
     ///
     /// # Errors
     ///
@@ -107,12 +108,12 @@ impl Talker {
         &mut self,
         alloc: Global,
         plan: &Plan,
-        answer: Answer,
+        answer: Option<Answer>,
         out: &mut Vec<u8>,
     ) -> Result<(), AllocError>
         ensures replied { OnOk result ((octets : List ℕ) × (out.new.items ≡ out.old.items ++ octets)
             × ((plain : Session) (state : TalkState) (call : calls.Call) (reply : List (List ℕ)) → Matches self.old plain Due.Nothing → plain.standing ≡ Waiting state call
-            → IsReply call (answer_seen answer) reply → Replied (Matches self.new) plan.now plain (answer_seen answer) octets)) }
+            → IsReply call (given_answer answer) reply → Replied (Matches self.new) plan.now plain (given_answer answer) octets)) }
         ensures less { OnOk result (talker_left self.new ≤ talker_left self.old) }
     {
         match self {
@@ -162,15 +163,15 @@ fn reply_to_mail(
     session: &mut SmtpSession,
     alloc: Global,
     plan: &Plan,
-    answer: Answer,
+    answer: Option<Answer>,
     out: &mut Vec<u8>,
 ) -> Result<(), AllocError>
     ensures replied { OnOk result ((octets : List ℕ) × (out.new.items ≡ out.old.items ++ octets)
         × ((plain : Session) (state : TalkState) (call : calls.Call) (reply : List (List ℕ)) → mail.Follows session.old plain Due.Nothing → plain.standing ≡ Waiting state call
-        → IsReply call (answer_seen answer) reply → Replied (mail.Follows session.new) plan.now plain (answer_seen answer) octets)) }
+        → IsReply call (given_answer answer) reply → Replied (mail.Follows session.new) plan.now plain (given_answer answer) octets)) }
     ensures less { OnOk result (mail.left session.new ≤ mail.left session.old) }
 {
-    session.answer(Some(answer));
+    session.answer(answer);
     session.next(alloc, plan, out)?;
     Ok(())
 }
@@ -180,15 +181,15 @@ fn reply_to_reader(
     session: &mut PopSession,
     alloc: Global,
     plan: &Plan,
-    answer: Answer,
+    answer: Option<Answer>,
     out: &mut Vec<u8>,
 ) -> Result<(), AllocError>
     ensures replied { OnOk result ((octets : List ℕ) × (out.new.items ≡ out.old.items ++ octets)
         × ((plain : Session) (state : TalkState) (call : calls.Call) (reply : List (List ℕ)) → reader.Follows session.old plain Due.Nothing → plain.standing ≡ Waiting state call
-        → IsReply call (answer_seen answer) reply → Replied (reader.Follows session.new) plan.now plain (answer_seen answer) octets)) }
+        → IsReply call (given_answer answer) reply → Replied (reader.Follows session.new) plan.now plain (given_answer answer) octets)) }
     ensures less { OnOk result (reader.left session.new ≤ reader.left session.old) }
 {
-    session.answer(Some(answer));
+    session.answer(answer);
     session.next(alloc, plan, out)?;
     Ok(())
 }

@@ -1,15 +1,17 @@
 // Small tapes with what the description of tapes gives for them, and each public call once.
-ghost use Rattle.std.specs.Prelude.{◌≡◌, IfSome, []};
+ghost use Rattle.std.specs.Prelude.{◌≡◌, IfSome, IfOk, []};
+ghost use Rattle.cluster_world.specs.Opens.{AreEmpty};
 
 use crate::reader::next_line;
 use crate::{Drove, Entry, LineStop, Row, TapeFault, drive, read_drive_head, write_entries};
-use cluster_world::{Entry as BookEntry, World};
+use cluster_world::World;
 use io_edge::faulty::{FaultySink, FaultySource};
 use io_edge::{Disk, PlainDisk, Sink, SliceSource, Source, VecSink};
 use mail_base::Octets;
 use node_disk::MemoryDisk;
 use std::alloc::{AllocError, Global};
 use std::test::Fail;
+use world_book::Entry as BookEntry;
 
 // In another order than the usual one, and with two users.
 const PLAN: &[u8] =
@@ -28,13 +30,15 @@ fn joined(alloc: Global, front: &[u8], rest: &[u8]) -> Result<Vec<u8>, AllocErro
 }
 
 // What the book says: how many copies were acknowledged, were to be deleted, and were dropped, and how many times a node
-// went down.
+// went down, came up or was lost.
 #[derive(Clone, Copy, Debug, PartialEq, Eq)]
 struct Counts {
     acked: u32,
     struck: u32,
     dropped: u32,
     down: u32,
+    up: u32,
+    lost: u32,
 }
 
 fn none() -> Counts {
@@ -43,6 +47,8 @@ fn none() -> Counts {
         struck: 0,
         dropped: 0,
         down: 0,
+        up: 0,
+        lost: 0,
     }
 }
 
@@ -54,28 +60,54 @@ fn counted_in(book: &[BookEntry]) -> Counts {
             BookEntry::Struck { .. } => found.struck = found.struck.saturating_add(1),
             BookEntry::Dropped { .. } => found.dropped = found.dropped.saturating_add(1),
             BookEntry::Down { .. } => found.down = found.down.saturating_add(1),
+            BookEntry::Up { .. } => found.up = found.up.saturating_add(1),
+            BookEntry::Lost { .. } => found.lost = found.lost.saturating_add(1),
+            BookEntry::Installed { .. } => {}
         }
     }
     found
 }
 
-// What the tape leads to on that disk, and the counts of the book.
+// The disk of a cluster of one node.
+fn alone<D: Disk + Drop>(alloc: Global, disk: D) -> Result<Vec<D>, AllocError>
+    requires { IfSome (D.seen disk) (λ held. held ≡ []) }
+    ensures { IfOk result (λ disks. AreEmpty D.seen disks.items) }
+{
+    let mut disks = Vec::with_capacity(alloc, 1)?;
+    disks.push_reserved(disk);
+    Ok(disks)
+}
+
+// The disks of a cluster of three nodes.
+fn three<D: Disk + Drop>(alloc: Global, first: D, second: D, third: D) -> Result<Vec<D>, AllocError>
+    requires first { IfSome (D.seen first) (λ held. held ≡ []) }
+    requires second { IfSome (D.seen second) (λ held. held ≡ []) }
+    requires third { IfSome (D.seen third) (λ held. held ≡ []) }
+    ensures { IfOk result (λ disks. AreEmpty D.seen disks.items) }
+{
+    let mut disks = Vec::with_capacity(alloc, 3)?;
+    disks.push_reserved(first);
+    disks.push_reserved(second);
+    disks.push_reserved(third);
+    Ok(disks)
+}
+
+// What the tape leads to on those disks, and the counts of the book.
 fn run<S: Source, K: Sink, D: Disk + Drop>(
     alloc: Global,
     source: &mut S,
     sink: &mut K,
-    disk: D,
+    disks: Vec<D>,
 ) -> (Drove, Counts)
-    requires { IfSome (D.seen disk) (λ held. held ≡ []) }
+    requires { AreEmpty D.seen disks.items }
 {
     let (plan, from) = match read_drive_head(alloc, source) {
         Ok(head) => head,
         Err(answer) => return (answer, none()),
     };
-    let Ok(mut disks) = Vec::with_capacity(alloc, 1) else {
+    if disks.len() != usize::from(plan.nodes) {
         return (Drove::NoMemory(from), none());
-    };
-    disks.push_reserved(disk);
+    }
     let Ok(world) = World::open(alloc, plan, disks) else {
         return (Drove::NoMemory(from), none());
     };
@@ -92,12 +124,13 @@ fn a_message_is_stored_or_the_disk_fails(rt: HostRuntime) -> Result<(), Fail> {
     let fallen: &[u8] = b"* fault 1\n1 421 node1 down\n* 1 closed\n";
     let whole = Counts { acked: 2, ..none() };
     let gone = Counts { down: 1, ..none() };
-    // The opening makes six disk calls, and the message for two mailboxes twelve.
+    // The opening makes six disk calls, and the message for two mailboxes twenty: its octets, and of each copy its state and
+    // that it is retired.
     let cases: [(u64, Drove, &[u8], Counts); 4] = [
         (0, Drove::Ended, stored, whole),
         (7, Drove::BadTape(18, TapeFault::NodeDown), fallen, gone),
-        (18, Drove::BadTape(18, TapeFault::NodeDown), fallen, gone),
-        (19, Drove::Ended, stored, whole),
+        (26, Drove::BadTape(18, TapeFault::NodeDown), fallen, gone),
+        (27, Drove::Ended, stored, whole),
     ];
     for (call, wanted, transcript, counted) in cases {
         let front = joined(alloc, PLAN, MESSAGE)?;
@@ -105,8 +138,9 @@ fn a_message_is_stored_or_the_disk_fails(rt: HostRuntime) -> Result<(), Fail> {
         let mut sink = VecSink::new(alloc);
         let mut disk = MemoryDisk::new(alloc);
         disk.fail_at(call)?;
+        let disks = alone(alloc, disk)?;
         assert_eq!(rt;
-            run(alloc, &mut SliceSource::new(&tape), &mut sink, disk),
+            run(alloc, &mut SliceSource::new(&tape), &mut sink, disks),
             (wanted, counted)
         );
         assert_eq!(rt;
@@ -134,20 +168,20 @@ fn a_marked_message_is_deleted_or_the_disk_fails(rt: HostRuntime) -> Result<(), 
         acked: 2,
         struck: 1,
         dropped: 1,
-        down: 0,
+        ..none()
     };
     let down = Counts {
         acked: 2,
         struck: 1,
-        dropped: 0,
         down: 1,
+        ..none()
     };
-    // The Gone state takes four disk calls, after the eighteen before it.
+    // The Gone state takes four disk calls after the twenty-six before it, and that it is retired four more.
     let cases: [(u64, &[u8], Counts); 4] = [
         (0, dropped, whole),
-        (19, fallen, down),
-        (22, fallen, down),
-        (23, dropped, whole),
+        (27, fallen, down),
+        (34, fallen, down),
+        (35, dropped, whole),
     ];
     for (call, transcript, counted) in cases {
         let front = joined(alloc, PLAN, MESSAGE)?;
@@ -155,14 +189,80 @@ fn a_marked_message_is_deleted_or_the_disk_fails(rt: HostRuntime) -> Result<(), 
         let mut sink = VecSink::new(alloc);
         let mut disk = MemoryDisk::new(alloc);
         disk.fail_at(call)?;
+        let disks = alone(alloc, disk)?;
         assert_eq!(rt;
-            run(alloc, &mut SliceSource::new(&tape), &mut sink, disk),
+            run(alloc, &mut SliceSource::new(&tape), &mut sink, disks),
             (Drove::Ended, counted)
         );
         let asked = joined(alloc, ASKED, MARKED)?;
         assert_eq!(rt;
             sink.held.as_slice(),
             joined(alloc, &asked, transcript)?.as_slice()
+        );
+    }
+    Ok(())
+}
+
+// A message for alice at node 1 of three, of which two confirm. Its letters to nodes 2 and 3 are 1 and 2; that which says
+// that node 2 has it is 3.
+const THREE: &[u8] =
+    b"nodes 3\ncopies 3 2\nbuckets 1\nuser alice tanstaaf\npostmaster alice\ngo\nopen smtp 1\nsay 1 HELO c.example\nsay 1 MAIL FROM:<bob@b.example>\nsay 1 RCPT TO:<alice>\nsay 1 DATA\nsay 1 Subject: hi\nsay 1\nsay 1 hello\nsay 1 .\n";
+
+const PENDING: &[u8] =
+    b"1 220 node1 Porcupine ready\n1 250 node1\n1 250 sender ok\n1 250 recipient ok\n1 354 end with a line that is a single period\n";
+
+#[test]
+fn a_message_waits_for_its_nodes(rt: HostRuntime) -> Result<(), Fail> {
+    let alloc = rt.alloc();
+    let stored = Counts { acked: 1, ..none() };
+    let cases: [(&[u8], Drove, &[u8], Counts); 5] = [
+        (b"end\n", Drove::Ended, b"", none()),
+        (
+            b"post 1\npost 3\nend\n",
+            Drove::Ended,
+            b"* 1 heard\n* 3 heard\n1 250 stored\n",
+            stored,
+        ),
+        (
+            b"giveup 1\nend\n",
+            Drove::Ended,
+            b"1 451 not stored, try again\n",
+            none(),
+        ),
+        (
+            b"crash 1\nstart 1\nlose 2\nend\n",
+            Drove::Ended,
+            b"* node 1 down\n1 421 node1 down\n* 1 closed\n* node 1 up 2\n* node 2 lost\n",
+            Counts {
+                down: 1,
+                up: 1,
+                lost: 1,
+                ..none()
+            },
+        ),
+        (
+            b"drop 1\npost 1\n",
+            Drove::BadTape(17, TapeFault::NoSuchLetter),
+            b"",
+            none(),
+        ),
+    ];
+    for (lines, wanted, transcript, counted) in cases {
+        let tape = joined(alloc, THREE, lines)?;
+        let mut sink = VecSink::new(alloc);
+        let disks = three(
+            alloc,
+            PlainDisk::new(alloc),
+            PlainDisk::new(alloc),
+            PlainDisk::new(alloc),
+        )?;
+        assert_eq!(rt;
+            run(alloc, &mut SliceSource::new(&tape), &mut sink, disks),
+            (wanted, counted)
+        );
+        assert_eq!(rt;
+            sink.held.as_slice(),
+            joined(alloc, PENDING, transcript)?.as_slice()
         );
     }
     Ok(())
@@ -193,7 +293,8 @@ fn streams_fail(rt: HostRuntime) -> Result<(), Fail> {
     for (read, write, wanted, transcript) in cases {
         let mut source = FaultySource::new(SliceSource::new(&tape), read);
         let mut sink = FaultySink::new(VecSink::new(alloc), write);
-        let (answer, _) = run(alloc, &mut source, &mut sink, PlainDisk::new(alloc));
+        let disks = alone(alloc, PlainDisk::new(alloc))?;
+        let (answer, _) = run(alloc, &mut source, &mut sink, disks);
         assert_eq!(rt; answer, wanted);
         assert_eq!(rt; sink.inner.held.as_slice(), transcript);
     }

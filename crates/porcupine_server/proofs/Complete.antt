@@ -1,32 +1,43 @@
 -- A good tape is handled through its line `end`.
-use Rattle.std.proofs.Common.{◌≡◌, ◌≢◌, ◌≤◌, ℕ, true, false, List, [], ◌∷◌, ◌++◌, length, flat_map, All, Option, Some, None, Ok, Err, refl, sym, ap, ◌∙◌, subst, arith, inl, inr, ⊎_elim}
-use Rattle.std.specs.Prelude.{◌⊎◌, ⊤, IfSome, is_some}
+use Rattle.std.proofs.Common.{◌≡◌, ◌≢◌, ◌≤◌, ℕ, Bool, true, false, List, [], ◌∷◌, ◌++◌, length, flat_map, All, Option, Some, None, Ok, Err, refl, sym, ap, ◌∙◌, subst, arith, inl, inr, ⊎_elim}
+use Rattle.std.specs.Prelude.{◌⊎◌, ⊤}
 use Rattle.std.specs.Io.KnownBytes.{Appends}
 use Rattle.std.proofs.lemmas.List.{append-nil}
+use Rattle.std.proofs.lemmas.List.Concat.{flat_map-append}
 use Rattle.io_edge.specs.Causes.{Rose}
 use Rattle.mail_model.specs.Lines.{HasNoLf, ended}
 use Rattle.mail_model.specs.Plan.{Plan}
 use Rattle.mail_model.specs.Transcript.{Entry, written_of}
+use Rattle.object_model.specs.Lists.{Among}
+use Rattle.object_model.proofs.Lists.{among_front}
 use Rattle.session_model.specs.Sessions.{Session}
 use Rattle.session_model.specs.Acts.{Act}
-use Rattle.session_model.specs.Run.{Made, Stop, AreHandled, IsLeftOff, failed_in}
-use Rattle.io_edge.specs.Octets.{IsToldAlike}
-use Rattle.cluster_world.specs.World.{disk_of, plan_of}
+use Rattle.session_model.specs.Acts.Act.{StillWaits}
+use Rattle.session_model.specs.Lives.{failed_by, failed_in}
+use Rattle.session_model.specs.Run.{Made, Stop, AreHandled, IsLeftOff, is_no_node}
+use Rattle.session_model.specs.Run.Stop.{BehindLine, Denied}
+use Rattle.yard_stores.proofs.Taking.{as_many}
+use Rattle.node_store.specs.Disks.{View}
+use Rattle.cluster_world.specs.Worlds.{plan_of, disks_of, tells}
 use Rattle.cluster_world.specs.declared.world.World.{World}
+use Rattle.cluster_world.proofs.Chained.{plan_stays}
 use Rattle.drive_tape.specs.declared.drove.Drove.{Drove}
 use Rattle.drive_tape.specs.declared.drove.Drove.TheVariants as drove
 use Rattle.drive_tape.specs.declared.drove.TapeFault.{TapeFault}
 use Rattle.drive_tape.specs.Parts.{IsCutEntry}
+use Rattle.drive_tape.specs.Worlds.{HasFailed}
 use Rattle.drive_tape.specs.Drive.{Drives, StopsAt}
 use Rattle.drive_tape.specs.Plans.{ReadsHead}
 use Rattle.porcupine_server.specs.declared.ending.Ending.{Ending}
 use Rattle.porcupine_server.specs.declared.ending.Ending.TheVariants.{Done, Line, Read, Write, Store, NoMemory}
-use Rattle.porcupine_server.specs.Complete.{IsGoodTape}
+use Rattle.porcupine_server.specs.Complete.{IsGoodTape, NobodyWaits}
 use Rattle.porcupine_server.specs.Endings.{ending_of, status_of, last_entries, Finishes}
-use Rattle.porcupine_server.specs.Stores.{StoreFailed}
-use Rattle.porcupine_server.specs.Works.{SourceAndSink, Stores, Works, NoPlan, NoStore, ServedStore, NotOpened, Ran, IsBeforeRun}
+use Rattle.porcupine_server.specs.Stores.{NodeFailed, StoreFailed}
+use Rattle.porcupine_server.specs.Works.{SourceAndSink, Stores, Works, NoPlan, NoStores, ServedStores, NotOpened, Ran, IsBeforeRun}
 use Rattle.porcupine_server.proofs.GoodPlan.{run_part, no_plan_fault, reads_good_plan}
-use Rattle.porcupine_server.proofs.GoodRun.{no_run_fault}
+use Rattle.porcupine_server.proofs.GoodRun.{no_run_fault, no_denial}
+use Rattle.porcupine_server.proofs.Placed.{untold_store, fell}
+use Rattle.porcupine_server.proofs.Within.{failed_within, node_ends}
 
 -- the ending names no line of the tape
 abbrev NamesNone : Ending → Type 0
@@ -34,7 +45,7 @@ NamesNone Done = ⊤
 NamesNone (Line number fault) = ⊥
 NamesNone Read = ⊤
 NamesNone Write = ⊤
-NamesNone Store = ⊤
+NamesNone (Store node) = ⊤
 NamesNone NoMemory = ⊤
 
 before_run : (ending : Ending) → IsBeforeRun ending → NamesNone ending
@@ -42,20 +53,20 @@ before_run Done before = absurd before
 before_run (Line number fault) before = absurd before
 before_run Read before = absurd before
 before_run Write before = absurd before
-before_run Store before = tt
+before_run (Store node) before = tt
 before_run NoMemory before = tt
 
 -- where no line was left, nothing was done after the last
-none_left : (plan : Plan) (down : List ℕ) (stop : Stop) (old : List Session) (left : List (List ℕ)) (acts : List (List Act)) (entries : List Entry) (extra : List Made) (new : List Session)
-    → left ≡ [] → IsLeftOff plan down stop old left acts entries extra new → (acts ≡ []) × (new ≡ old)
-none_left plan down stop old [] [] entries extra new none off = (refl, off.2)
-none_left plan down stop old [] (a ∷ acts) entries extra new none off = absurd off
-none_left plan down stop old (line ∷ left) acts entries extra new none off = absurd (omega (arith, ap length none))
+none_left : (plan : Plan) (been : List Act) (stop : Stop) (old : List Session) (left : List (List ℕ)) (acts : List (List Act)) (entries : List Entry) (extra : List Made) (new : List Session)
+    → left ≡ [] → IsLeftOff plan been stop old left acts entries extra new → new ≡ old
+none_left plan been stop old [] [] entries extra new none off = off.2
+none_left plan been stop old [] (a ∷ acts) entries extra new none off = absurd off
+none_left plan been stop old (line ∷ left) acts entries extra new none off = absurd (omega (arith, ap length none))
 
--- octets that were not told are not told later
-untold : (old new : Option (List ℕ)) → IsToldAlike old new → new ≡ None → IfSome old (λ held. held ≢ [])
-untold None new alike none = tt
-untold (Some held) new alike none = absurd (let never : false ≡ true = sym (ap is_some none) ∙ alike in cc)
+-- a list of which nothing is one
+none_of : (xs : List ℕ) → ((n : ℕ) → Among n xs → ⊥) → xs ≡ []
+none_of [] never = refl
+none_of (x ∷ xs) never = absurd (never x (inl refl))
 
 module _ (tape : List ℕ) (good : IsGoodTape tape) where
   -- the plan was not read
@@ -67,70 +78,126 @@ module _ (tape : List ℕ) (good : IsGoodTape tape) where
       absurd (no_plan_fault tape good left0 left1 fault reads.lines reads.draft reads.others reads.room told reads.took reads.each reads.drafts reads.limit reads.did.0)
   unread left0 left1 (drove.NoMemory n) told reads = tt
 
-  -- the run lines were handled, at a node that did not fail
-  handled : {D : Type 0} (seen : D → Option (List ℕ)) (faults : D → ℕ) (start last : World D) (between left1 held0 held1 : Option (List ℕ)) (answer : Drove) (from : ℕ) → plan_of start ≡ good.plan
-      → between ≡ Some (run_part tape good) → (d : Drives seen faults start between left1 held0 held1 answer from last) → failed_in (flat_map (λ a. a) (d.acts ++ d.behind)) ≡ [] → NamesNone (ending_of answer)
-  handled seen faults start last between left1 held0 held1 drove.Ended from same told d up = tt
-  handled seen faults start last between left1 held0 held1 drove.ReadFault from same told d up = tt
-  handled seen faults start last between left1 held0 held1 (drove.WriteFault n) from same told d up = tt
-  handled seen faults start last between left1 held0 held1 (drove.BadTape n fault) from same told d up =
-      let off = none_left (plan_of start) (failed_in (flat_map (λ a. a) d.acts)) d.stop d.driven.mid d.midst d.behind d.driven.tail d.driven.extra d.sessions d.why.1 d.driven.off in
-      let alone : d.handled ++ d.midst ≡ d.handled = ap (λ (ls : List (List ℕ)). d.handled ++ ls) d.why.1 ∙ append-nil d.handled in
-      let none : failed_in (flat_map (λ a. a) d.acts) ≡ [] = ap (λ (by_line : List (List Act)). failed_in (flat_map (λ a. a) by_line)) (sym (ap (λ (by_line : List (List Act)). d.acts ++ by_line) off.0 ∙ append-nil d.acts)) ∙ up in
-      absurd (no_run_fault tape good between left1 fault d.read d.others d.room d.handled d.acts d.driven.outputs d.driven.mid told d.took
-      (d.tape ∙ ap (λ (ls : List (List ℕ)). flat_map ended ls ++ d.others) alone)
-      (subst (All HasNoLf) alone d.each)
-      (subst (λ (p : Plan). AreHandled p [] [] d.handled d.acts d.driven.outputs d.driven.mid) same d.driven.are) none d.limit
-      (subst (λ (ss : List Session). StopsAt fault good.plan [] ss left1 d.others d.room) off.1
-      (subst (λ (down : List ℕ). StopsAt fault good.plan down d.sessions left1 d.others d.room) none
-      (subst (λ (p : Plan). StopsAt fault p (failed_in (flat_map (λ a. a) d.acts)) d.sessions left1 d.others d.room) same d.why.2))))
-  handled seen faults start last between left1 held0 held1 (drove.NoMemory n) from same told d up = tt
+  -- the run lines were handled, at nodes that did not fail, and in a plan of one node nobody waits
+  module _ {D : Type 0} (on : View D) (start last : World D) (between left1 held0 held1 : Option (List ℕ)) (answer : Drove) (from : ℕ) (same : plan_of start ≡ good.plan)
+      (told : between ≡ Some (run_part tape good)) (d : Drives on start between left1 held0 held1 answer from last)
+      (never : (n : ℕ) → is_no_node (plan_of start) n ≡ false → HasFailed on start last n → ⊥)
+      (alone : (plan_of start).nodes ≡ 1 → NobodyWaits (flat_map (λ a. a) (d.acts ++ d.behind))) where
+    abbrev been : List Act
+    been = flat_map (λ a. a) d.acts
 
-  -- whatever the work did, with a store that does not fail
-  module _ {D : Type 0} (seen : D → Option (List ℕ)) (faults : D → ℕ) (is_settled : D → Type 0) (stores : Stores D) (ends : SourceAndSink) (ending : Ending) (before now : ℕ) (told : ends.left0 ≡ Some tape)
-      (stands : StoreFailed seen faults stores.handed0 stores.handed1 stores.returned0 stores.returned1 before now → ⊥) where
-    by_run : (served : ServedStore seen faults is_settled stores ends ending) → Ran seen faults is_settled (record ends { left0 = served.between }) served.plan served.count ending served.taken served.given → NamesNone ending
+    all_acts : flat_map (λ a. a) (d.acts ++ d.behind) ≡ been ++ flat_map (λ a. a) d.behind
+    all_acts = flat_map-append (λ (a : List Act). a) d.acts d.behind
+
+    up : failed_in been ≡ []
+    up = none_of (failed_in been) (λ n among. never n (failed_within (plan_of start) d.handled d.acts d.driven.outputs d.driven.mid d.driven.are n among)
+        (d.fallen n (subst (Among n) (sym (ap failed_in all_acts ∙ flat_map-append failed_by been (flat_map (λ a. a) d.behind)))
+        (among_front n (failed_in been) (failed_in (flat_map (λ a. a) d.behind)) among))))
+
+    calm : good.plan.nodes ≡ 1 → NobodyWaits been
+    calm one k among = alone (ap (λ (p : Plan). p.nodes) same ∙ one) k
+        (subst (λ (acts : List Act). Among (StillWaits k) acts) (sym all_acts) (among_front (StillWaits k) been (flat_map (λ a. a) d.behind) among))
+
+    runs : AreHandled good.plan [] [] d.handled d.acts d.driven.outputs d.driven.mid
+    runs = subst (λ (p : Plan). AreHandled p [] [] d.handled d.acts d.driven.outputs d.driven.mid) same d.driven.are
+
+    not_refused : (fault : TapeFault) → d.midst ≡ [] → StopsAt fault (plan_of start) been d.sessions left1 d.others d.room → ⊥
+    not_refused fault none why =
+        let off = none_left (plan_of start) been d.stop d.driven.mid d.midst d.behind d.driven.tail d.driven.extra d.sessions none d.driven.off in
+        let all : d.handled ++ d.midst ≡ d.handled = ap (λ (ls : List (List ℕ)). d.handled ++ ls) none ∙ append-nil d.handled in
+        no_run_fault tape good between left1 fault d.read d.others d.room d.handled d.acts d.driven.outputs d.driven.mid told d.took
+        (d.tape ∙ ap (λ (ls : List (List ℕ)). flat_map ended ls ++ d.others) all) (subst (All HasNoLf) all d.each) runs up calm d.limit
+        (subst (λ (ss : List Session). StopsAt fault good.plan been ss left1 d.others d.room) off
+        (subst (λ (p : Plan). StopsAt fault p been d.sessions left1 d.others d.room) same why))
+
+    not_denied : d.stop ≡ Denied → ⊥
+    not_denied is = by d.midst d.behind refl (subst (λ (s : Stop). IsLeftOff (plan_of start) been s d.driven.mid d.midst d.behind d.driven.tail d.driven.extra d.sessions) is d.driven.off)
+      where
+        by : (midst : List (List ℕ)) (behind : List (List Act)) → d.midst ≡ midst → IsLeftOff (plan_of start) been Denied d.driven.mid midst behind d.driven.tail d.driven.extra d.sessions → ⊥
+        by [] [] here off = off.4 refl
+        by (line ∷ []) ([] ∷ []) here (tried, stays) =
+            no_denial tape good between left1 d.read d.others d.handled line d.acts d.driven.outputs d.driven.mid tried.order told d.took
+            (d.tape ∙ ap (λ (ms : List (List ℕ)). flat_map ended (d.handled ++ ms) ++ d.others) here)
+            (subst (λ (ms : List (List ℕ)). All HasNoLf (d.handled ++ ms)) here d.each) runs up calm tried.spelled (tried.step, tried.first)
+        by (line ∷ []) ((act ∷ acts) ∷ []) here (turn, cut, more) = absurd cut.may
+        by midst behind here off = absurd off
+
+  handled : {D : Type 0} (on : View D) (start last : World D) (between left1 held0 held1 : Option (List ℕ)) (answer : Drove) (from : ℕ) → plan_of start ≡ good.plan
+      → between ≡ Some (run_part tape good) → (d : Drives on start between left1 held0 held1 answer from last)
+      → ((n : ℕ) → is_no_node (plan_of start) n ≡ false → HasFailed on start last n → ⊥)
+      → ((plan_of start).nodes ≡ 1 → NobodyWaits (flat_map (λ a. a) (d.acts ++ d.behind))) → NamesNone (ending_of answer)
+  handled on start last between left1 held0 held1 drove.Ended from same told d never alone = tt
+  handled on start last between left1 held0 held1 drove.ReadFault from same told d never alone = tt
+  handled on start last between left1 held0 held1 (drove.WriteFault n) from same told d never alone = tt
+  handled on start last between left1 held0 held1 (drove.BadTape n fault) from same told d never alone = absurd (⊎_elim
+      (λ refused. not_refused on start last between left1 held0 held1 (drove.BadTape n fault) from same told d never alone fault refused.1 refused.2)
+      (λ denied. not_denied on start last between left1 held0 held1 (drove.BadTape n fault) from same told d never alone denied.0)
+      d.why)
+  handled on start last between left1 held0 held1 (drove.NoMemory n) from same told d never alone = tt
+
+  -- whatever the work did, with stores that do not fail
+  module _ {D : Type 0} (on : View D) (is_settled : D → Type 0) (stores : Stores D) (ends : SourceAndSink) (ending : Ending) (before now : ℕ) (told : ends.left0 ≡ Some tape)
+      (stands : (node : ℕ) → StoreFailed on.seen on.faults stores.handed0 stores.handed1 stores.returned0 stores.returned1 before now node → ⊥) where
+    by_run : (served : ServedStores on is_settled stores ends ending) → Ran on is_settled (record ends { left0 = served.between }) served.plan served.count ending served.disks served.given → NamesNone ending
     by_run served ran =
         let plan = reads_good_plan tape good ends.left0 served.between served.plan served.count told served.reads in
-        subst NamesNone (sym ran.is) (handled seen faults ran.start ran.last served.between ends.left1 ends.held0 ends.held1 ran.answer served.count (ran.begins.plan_is ∙ plan.1) plan.0 ran.drives
-        (⊎_elim (λ (none : failed_in (flat_map (λ a. a) (ran.drives.acts ++ ran.drives.behind)) ≡ []). none)
-        (λ (some : Rose (faults (disk_of ran.start)) (faults (disk_of ran.last)) ⊎ (seen (disk_of ran.start) ≡ None)). absurd (stands (inr (
-          served.taken,
-          served.given,
-          served.out,
-          served.back,
-          ⊎_elim
-              (λ (rose : Rose (faults (disk_of ran.start)) (faults (disk_of ran.last))).
-              inl (subst (λ (n : ℕ). Rose n (faults served.given)) ran.opened (subst (λ (d : D). Rose (faults (disk_of ran.start)) (faults d)) (sym ran.store) rose)))
-              (λ (none : seen (disk_of ran.start) ≡ None). inr (untold (seen served.taken) (seen (disk_of ran.start)) ran.told none))
-              some,
-        ))))
-        ran.drives.fallen))
+        subst NamesNone (sym ran.is) (handled on ran.start ran.last served.between ends.left1 ends.held0 ends.held1 ran.answer served.count (ran.opened.begins.plan_is ∙ plan.1) plan.0 ran.drives never alone)
+      where
+        stays : (plan_of ran.last ≡ plan_of ran.start) × (length (disks_of ran.last) ≡ length (disks_of ran.start)) × (tells on.seen ran.last ≡ tells on.seen ran.start)
+        stays = plan_stays on ran.drives.outcomes [] ran.drives.awaited ran.start ran.last ran.drives.steps
 
-    no_line_named : Works seen faults is_settled stores ends ending → NamesNone ending
+        no_failure : (node : ℕ) × NodeFailed on.seen on.faults node served.taken served.given → ⊥
+        no_failure one = stands one.0 (record { taken = served.taken; given = served.given; are = served.are; cause = inr one.1 })
+
+        all_told : (b : Bool) → tells on.seen ran.start ≡ b → b ≡ true
+        all_told true is = refl
+        all_told false is = absurd (no_failure (untold_store on is_settled served.plan served.taken served.disks served.given ran.start ran.last served.looked ran.opened ran.stores stays.1 is))
+
+        never : (n : ℕ) → is_no_node (plan_of ran.start) n ≡ false → HasFailed on ran.start ran.last n → ⊥
+        never n of_plan cause =
+            let ends_at = node_ends (plan_of ran.start) n of_plan in
+            let many = as_many on.seen on.faults served.taken served.disks served.looked in
+            no_failure (fell on is_settled served.plan served.taken served.disks served.given ran.start ran.last served.looked ran.opened ran.stores stays.1 n ends_at.0
+            (omega (arith, ends_at.1, ap (λ (p : Plan). p.nodes) ran.opened.begins.plan_is, served.one_each, many, ran.opened.handed.count)) cause)
+
+        alone : (plan_of ran.start).nodes ≡ 1 → NobodyWaits (flat_map (λ a. a) (ran.drives.acts ++ ran.drives.behind))
+        alone one = ran.drives.none_waits (inl (all_told (tells on.seen ran.start) refl)) one
+            (omega (arith, one, nodes_are, confirm_is, served.fits.confirmed, served.fits.copied, served.fits.spread))
+            (omega (arith, one, nodes_are, copies_are, served.fits.confirmed, served.fits.copied, served.fits.spread))
+          where
+            nodes_are : (plan_of ran.start).nodes ≡ served.plan.nodes
+            nodes_are = ap (λ (p : Plan). p.nodes) ran.opened.begins.plan_is
+
+            confirm_is : (plan_of ran.start).confirm ≡ served.plan.confirm
+            confirm_is = ap (λ (p : Plan). p.confirm) ran.opened.begins.plan_is
+
+            copies_are : (plan_of ran.start).copies ≡ served.plan.copies
+            copies_are = ap (λ (p : Plan). p.copies) ran.opened.begins.plan_is
+
+    no_line_named : Works on is_settled stores ends ending → NamesNone ending
     no_line_named works = ⊎_elim
         (λ (none : NoPlan stores ends ending). subst NamesNone (sym none.is) (unread ends.left0 ends.left1 none.answer told none.reads))
-        (λ (some : NoStore stores ends ending ⊎ ServedStore seen faults is_settled stores ends ending). ⊎_elim
-        (λ (none : NoStore stores ends ending). before_run ending none.is)
-        (λ (served : ServedStore seen faults is_settled stores ends ending). ⊎_elim
-        (λ (none : NotOpened seen faults (record ends { left0 = served.between }) ending served.taken served.given). before_run ending none.before)
-        (λ (ran : Ran seen faults is_settled (record ends { left0 = served.between }) served.plan served.count ending served.taken served.given). by_run served ran)
+        (λ (some : NoStores on stores ends ending ⊎ ServedStores on is_settled stores ends ending). ⊎_elim
+        (λ (none : NoStores on stores ends ending). before_run ending none.is)
+        (λ (served : ServedStores on is_settled stores ends ending). ⊎_elim
+        (λ (none : NotOpened on (record ends { left0 = served.between }) ending served.disks served.given). before_run ending none.before)
+        (λ (ran : Ran on is_settled (record ends { left0 = served.between }) served.plan served.count ending served.disks served.given). by_run served ran)
         served.serves)
         some)
         works
 
 -- the status of an ending that names no line, where nothing of the outside fails
-fine_status : (ending : Ending) (status : ℕ) → NamesNone ending → status ≡ status_of ending → (ending ≡ Read → ⊥) → (ending ≡ Write → ⊥) → (ending ≡ Store → ⊥) → (status ≡ 0) ⊎ (status ≡ 7)
+fine_status : (ending : Ending) (status : ℕ) → NamesNone ending → status ≡ status_of ending → (ending ≡ Read → ⊥) → (ending ≡ Write → ⊥) → ((node : ℕ) → ending ≡ Store node → ⊥) → (status ≡ 0) ⊎ (status ≡ 7)
 fine_status Done status none is read write store = inl is
 fine_status (Line number fault) status none is read write store = absurd none
 fine_status Read status none is read write store = absurd (read refl)
 fine_status Write status none is read write store = absurd (write refl)
-fine_status Store status none is read write store = absurd (store refl)
+fine_status (Store node) status none is read write store = absurd (store node refl)
 fine_status NoMemory status none is read write store = inr is
 
 -- the last line changes it only where the sink failed or memory ran out
 finish_fine : (held0 held1 : Option (List ℕ)) (ending : Ending) (status : ℕ) → Finishes held0 held1 ending status → NamesNone ending
-    → (ending ≡ Read → ⊥) → (ending ≡ Write → ⊥) → (ending ≡ Store → ⊥) → (status ≡ 5 → ⊥) → (status ≡ 0) ⊎ (status ≡ 7)
+    → (ending ≡ Read → ⊥) → (ending ≡ Write → ⊥) → ((node : ℕ) → ending ≡ Store node → ⊥) → (status ≡ 5 → ⊥) → (status ≡ 0) ⊎ (status ≡ 7)
 finish_fine held0 held1 ending status finishes none read write store failed = ⊎_elim
     (λ (whole : (status ≡ status_of ending) × Appends held0 held1 (written_of (last_entries ending))). fine_status ending status none whole.0 read write store)
     (λ (part : ((status ≡ 5) ⊎ (status ≡ 7)) × ((front : List Entry) × (missing : List Entry) × (cut : List ℕ)
@@ -138,20 +205,20 @@ finish_fine held0 held1 ending status finishes none read write store failed = �
     ⊎_elim (λ (five : status ≡ 5). absurd (failed five)) (λ (seven : status ≡ 7). inr seven) part.0)
     finishes
 
--- a good tape, over a source, a sink and a store that do not fail
-pub complete : {D : Type 0} (seen : D → Option (List ℕ)) (faults : D → ℕ) (is_settled : D → Type 0) (stores : Stores D) (ends : SourceAndSink) (middle : Option (List ℕ))
+-- a good tape, over a source, a sink and stores that do not fail
+pub complete : {D : Type 0} (on : View D) (is_settled : D → Type 0) (stores : Stores D) (ends : SourceAndSink) (middle : Option (List ℕ))
     (ending : Ending) (status before now reads0 reads1 writes0 writes1 writes2 : ℕ) (tape : List ℕ)
-    → Works seen faults is_settled stores (record ends { held1 = middle }) ending → Finishes middle ends.held1 ending status
+    → Works on is_settled stores (record ends { held1 = middle }) ending → Finishes middle ends.held1 ending status
     → (ending ≡ Read → Rose reads0 reads1) → (ending ≡ Write → Rose writes0 writes1)
-    → (ending ≡ Store → StoreFailed seen faults stores.handed0 stores.handed1 stores.returned0 stores.returned1 before now)
+    → ((node : ℕ) → ending ≡ Store node → StoreFailed on.seen on.faults stores.handed0 stores.handed1 stores.returned0 stores.returned1 before now node)
     → writes0 ≤ writes1 → writes1 ≤ writes2 → (status ≡ 5 → (ending ≡ Write) ⊎ Rose writes1 writes2)
     → ends.left0 ≡ Some tape → IsGoodTape tape → (Rose reads0 reads1 → ⊥) → (Rose writes0 writes2 → ⊥)
-    → (StoreFailed seen faults stores.handed0 stores.handed1 stores.returned0 stores.returned1 before now → ⊥)
+    → ((node : ℕ) → StoreFailed on.seen on.faults stores.handed0 stores.handed1 stores.returned0 stores.returned1 before now node → ⊥)
     → (status ≡ 0) ⊎ (status ≡ 7)
-complete seen faults is_settled stores ends middle ending status before now reads0 reads1 writes0 writes1 writes2 tape works finishes read write store first second failed told good reads writes stands =
+complete on is_settled stores ends middle ending status before now reads0 reads1 writes0 writes1 writes2 tape works finishes read write store first second failed told good reads writes stands =
     finish_fine middle ends.held1 ending status finishes
-    (no_line_named tape good seen faults is_settled stores (record ends { held1 = middle }) ending before now told stands works)
-    (λ is. reads (read is)) no_write (λ is. stands (store is))
+    (no_line_named tape good on is_settled stores (record ends { held1 = middle }) ending before now told stands works)
+    (λ is. reads (read is)) no_write (λ node is. stands node (store node is))
     (λ five. ⊎_elim no_write (λ (rose : Rose writes1 writes2). writes (omega (arith, rose, first))) (failed five))
   where
     no_write : ending ≡ Write → ⊥

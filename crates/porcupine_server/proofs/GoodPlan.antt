@@ -10,7 +10,7 @@ use Rattle.mail_model.specs.Tape.{Draft, PlanLine, empty_draft, drafted, planned
 use Rattle.mail_model.specs.Tape.PlanLine.{Go}
 use Rattle.drive_tape.specs.declared.drove.TapeFault.{TapeFault}
 use Rattle.drive_tape.specs.declared.drove.TapeFault.TheVariants.{BadPlan, BadLine, TapeTooLong}
-use Rattle.drive_tape.specs.Plans.{DraftsOn, DraftsTo, IsServed, IsBadPlan, PlanStopsAt, ReadsHead}
+use Rattle.drive_tape.specs.Plans.{DraftsOn, DraftsTo, IsBadPlan, PlanStopsAt, ReadsHead}
 use Rattle.porcupine_server.specs.Complete.{IsGoodTape}
 use Rattle.porcupine_server.proofs.NextLine.{flat_map_last, Ahead, same_line, begins_more, within_line, no_line, next_line, last_or_before}
 use Rattle.porcupine_server.proofs.FewDrafts.{plan_line_short, drafts_few}
@@ -124,7 +124,7 @@ module _ (tape : List ℕ) (good : IsGoodTape tape) where
           let is = (same_line (others ++ left.0) bad.line ([] ++ left.0) n.next n.rest (begins_more others bad.line [] left.0 (record { whole = bad.whole; one = bad.one })) n.begins).0 in
           ⊎_elim
           (λ (goes : (n.next ≡ good.go) × (draft ≡ good.draft) × (n.rest ≡ run_part)).
-          bad.no_plan (ap tape_plan_line (is ∙ goes.0) ∙ good.goes) good.plan (ap planned goes.1 ∙ good.plan_is) good.served)
+          none-some good.plan (sym (bad.no_plan (ap tape_plan_line (is ∙ goes.0) ∙ good.goes)) ∙ ap planned goes.1 ∙ good.plan_is))
           (λ (on : (after : Draft) × DraftsOn draft n.next after). none-some on.0 (sym bad.adds_nothing ∙ ap (λ (l : List ℕ). option_and_then (drafted draft) (tape_plan_line l)) is ∙ on.1))
           n.kind
 
@@ -143,7 +143,7 @@ module _ (tape : List ℕ) (good : IsGoodTape tape) where
       (λ (on : (after : Draft) × DraftsOn reads.draft n.next after). absurd (go_ends reads.draft on.0 n.next (ap tape_plan_line (sym same.0) ∙ go.3) on.1))
       n.kind
     where
-      go : (line : List ℕ) × (reads.others ≡ ended line) × HasNoLf line × (tape_plan_line line ≡ Some Go) × (planned reads.draft ≡ Some plan) × IsServed plan × (count ≡ length reads.lines + 1)
+      go : (line : List ℕ) × (reads.others ≡ ended line) × HasNoLf line × (tape_plan_line line ≡ Some Go) × (planned reads.draft ≡ Some plan) × (count ≡ length reads.lines + 1)
       go = reads.did
 
       left : (left : List ℕ) × (left1 ≡ Some left) × (tape ≡ (flat_map ended reads.lines ++ reads.others) ++ left)

@@ -14,13 +14,14 @@ use Rattle.mail_model.specs.Transcript.{Entry}
 use Rattle.session_model.specs.Sessions.{Session}
 use Rattle.session_model.specs.Acts.{Act}
 use Rattle.session_model.specs.Turns.{Turn, Starts}
-use Rattle.session_model.specs.Run.{IsHandled, AreHandled, failed_in, refusal}
+use Rattle.session_model.specs.Lives.{failed_in}
+use Rattle.session_model.specs.Run.{IsHandled, AreHandled, refusal}
 use Rattle.drive_tape.specs.declared.drove.TapeFault.{TapeFault}
 use Rattle.drive_tape.specs.declared.drove.TapeFault.TheVariants.{BadLine, TapeTooLong}
 use Rattle.drive_tape.specs.Faults.{tape_fault_seen}
 use Rattle.drive_tape.specs.Drive.{IsOrder, IsNoOrder, StopsAt}
-use Rattle.porcupine_server.specs.Complete.{IsGoodTape}
-use Rattle.porcupine_server.proofs.NextLine.{flat_map_last, Ahead, same_line, begins_more, within_line, no_line, next_line, last_or_before}
+use Rattle.porcupine_server.specs.Complete.{IsGoodTape, NobodyWaits, MayBeDenied}
+use Rattle.porcupine_server.proofs.NextLine.{flat_map_last, front_all, last_all, Ahead, same_line, begins_more, within_line, no_line, next_line, last_or_before}
 use Rattle.porcupine_server.proofs.GoodPlan.{consumed, at_end, run_part}
 
 -- an order is not too long
@@ -32,35 +33,40 @@ order_short line order is = by_test (is_long line) refl is
     by_test false test some = ltb-false 65535 (length line) test
 
 -- `end` is not handled as a run line
-no_end_start : (order : Order) (sessions : List Session) (first : Act) (turn : Turn) → order ≡ End → Starts order sessions first turn → ⊥
-no_end_start order sessions first turn is starts = subst (λ (o : Order). Starts o sessions first turn) is starts
+no_end_start : (plan : Plan) (been : List Act) (order : Order) (sessions : List Session) (first : Act) (turn : Turn) → order ≡ End → Starts plan been order sessions first turn → ⊥
+no_end_start plan been order sessions first turn is starts = subst (λ (o : Order). Starts plan been o sessions first turn) is starts
 
-no_end_line : (plan : Plan) (down : List ℕ) (old : List Session) (line : List ℕ) (acts : List Act) (outputs : List (List Entry)) (new : List Session) → tape_order line ≡ Some End → IsHandled plan down old line acts outputs new → ⊥
-no_end_line plan down old line acts outputs new ends handled =
-    no_end_start handled.begun.order old handled.begun.first handled.begun.next (same_Some handled.begun.order End (sym handled.begun.spelled ∙ ends)) handled.begun.starts
+no_end_line : (plan : Plan) (been : List Act) (old : List Session) (line : List ℕ) (acts : List Act) (outputs : List (List Entry)) (new : List Session) → tape_order line ≡ Some End → IsHandled plan been old line acts outputs new → ⊥
+no_end_line plan been old line acts outputs new ends handled =
+    no_end_start plan been handled.begun.order old handled.begun.first handled.begun.next (same_Some handled.begun.order End (sym handled.begun.spelled ∙ ends)) handled.begun.starts
 
-no_end_run : (plan : Plan) (down : List ℕ) (old : List Session) (front : List (List ℕ)) (line : List ℕ) (rest : List (List ℕ)) (acts : List (List Act)) (outputs : List (List (List Entry))) (new : List Session)
-    → tape_order line ≡ Some End → AreHandled plan down old (front ++ line ∷ rest) acts outputs new → ⊥
-no_end_run plan down old [] line rest [] outputs new ends runs = absurd runs
-no_end_run plan down old [] line rest (a ∷ acts) [] new ends runs = absurd runs
-no_end_run plan down old [] line rest (a ∷ acts) (o ∷ outputs) new ends runs = no_end_line plan down old line a o runs.0 ends runs.1
-no_end_run plan down old (l ∷ front) line rest [] outputs new ends runs = absurd runs
-no_end_run plan down old (l ∷ front) line rest (a ∷ acts) [] new ends runs = absurd runs
-no_end_run plan down old (l ∷ front) line rest (a ∷ acts) (o ∷ outputs) new ends runs = no_end_run plan (down ++ failed_in a) runs.0 front line rest acts outputs new ends runs.2
+no_end_run : (plan : Plan) (been : List Act) (old : List Session) (front : List (List ℕ)) (line : List ℕ) (rest : List (List ℕ)) (acts : List (List Act)) (outputs : List (List (List Entry))) (new : List Session)
+    → tape_order line ≡ Some End → AreHandled plan been old (front ++ line ∷ rest) acts outputs new → ⊥
+no_end_run plan been old [] line rest [] outputs new ends runs = absurd runs
+no_end_run plan been old [] line rest (a ∷ acts) [] new ends runs = absurd runs
+no_end_run plan been old [] line rest (a ∷ acts) (o ∷ outputs) new ends runs = no_end_line plan been old line a o runs.0 ends runs.1
+no_end_run plan been old (l ∷ front) line rest [] outputs new ends runs = absurd runs
+no_end_run plan been old (l ∷ front) line rest (a ∷ acts) [] new ends runs = absurd runs
+no_end_run plan been old (l ∷ front) line rest (a ∷ acts) (o ∷ outputs) new ends runs = no_end_run plan (been ++ a) runs.0 front line rest acts outputs new ends runs.2
+
+-- `end` asks nothing of the cluster
+end_undenied : (sessions : List Session) → MayBeDenied End sessions → ⊥
+end_undenied sessions denied = denied.1
 
 module _ (tape : List ℕ) (good : IsGoodTape tape) where
   -- the run lines and `end`
   abbrev all_lines : List (List ℕ)
   all_lines = good.lines ++ good.last ∷ []
 
-  -- The next line after run lines that were handled, where no node failed: it is an order, and is not refused.
-  record RunNext (lines : List (List ℕ)) (sessions : List Session) (more : List ℕ) : Type 0 where
+  -- The next line after run lines that were handled, where no node failed: it is an order, and is neither refused nor denied.
+  record RunNext (lines : List (List ℕ)) (been : List Act) (sessions : List Session) (more : List ℕ) : Type 0 where
     next : List ℕ
     rest : List ℕ
     begins : BeginsWith more next rest
     order : Order
     spelled : tape_order next ≡ Some order
-    accepted : refusal good.plan [] sessions order ≡ None
+    accepted : refusal good.plan been sessions order ≡ None
+    undenied : MayBeDenied order sessions → ⊥
     short : length (flat_map ended lines) + length next < 2 ^ 40
 
   octets_of : flat_map ended all_lines ≡ flat_map ended good.lines ++ ended good.last
@@ -82,8 +88,9 @@ module _ (tape : List ℕ) (good : IsGoodTape tape) where
 
   run_next : (lines : List (List ℕ)) (acts : List (List Act)) (outputs : List (List (List Entry))) (sessions : List Session) (more : List ℕ) → All HasNoLf lines
       → AreHandled good.plan [] [] lines acts outputs sessions → failed_in (flat_map (λ a. a) acts) ≡ []
-      → run_part tape good ≡ flat_map ended lines ++ more → RunNext lines sessions more
-  run_next lines acts outputs sessions more each runs up is = ⊎_elim
+      → (good.plan.nodes ≡ 1 → NobodyWaits (flat_map (λ a. a) acts))
+      → run_part tape good ≡ flat_map ended lines ++ more → RunNext lines (flat_map (λ a. a) acts) sessions more
+  run_next lines acts outputs sessions more each runs up alone is = ⊎_elim
       (λ (ahead : Ahead all_lines lines good.behind more). ⊎_elim
       (λ (here : (good.lines ≡ lines) × (good.last ≡ ahead.next) × (ahead.others ≡ [])). record {
         next = ahead.next;
@@ -92,10 +99,11 @@ module _ (tape : List ℕ) (good : IsGoodTape tape) where
         order = End;
         spelled = ap tape_order (sym here.1) ∙ good.ends;
         accepted = refl;
+        undenied = end_undenied sessions;
         short = run_short lines ahead.next ahead.others ahead.split;
       })
       (λ (before : (others : List (List ℕ)) × (good.lines ≡ lines ++ ahead.next ∷ others)).
-      let accepted = good.accepted lines ahead.next before.0 acts outputs sessions before.1 runs up in
+      let accepted = good.accepted lines ahead.next before.0 acts outputs sessions before.1 runs up alone in
       record {
         next = ahead.next;
         rest = flat_map ended ahead.others ++ good.behind;
@@ -103,6 +111,7 @@ module _ (tape : List ℕ) (good : IsGoodTape tape) where
         order = accepted.0;
         spelled = accepted.1;
         accepted = accepted.2;
+        undenied = accepted.3;
         short = run_short lines ahead.next ahead.others ahead.split;
       })
       (last_or_before good.lines good.last lines ahead.next ahead.others ahead.split))
@@ -114,26 +123,27 @@ module _ (tape : List ℕ) (good : IsGoodTape tape) where
   -- the run lines of the tape have no fault
   pub no_run_fault : (between left1 : Option (List ℕ)) (fault : TapeFault) (read others : List ℕ) (room : ℕ) (lines : List (List ℕ)) (acts : List (List Act)) (outputs : List (List (List Entry))) (sessions : List Session)
       → between ≡ Some (run_part tape good) → Consumes between left1 read → read ≡ flat_map ended lines ++ others → All HasNoLf lines
-      → AreHandled good.plan [] [] lines acts outputs sessions → failed_in (flat_map (λ a. a) acts) ≡ [] → length read + room ≡ 2 ^ 40 → StopsAt fault good.plan [] sessions left1 others room → ⊥
-  no_run_fault between left1 fault read others room lines acts outputs sessions told took cut each runs up limit why = ⊎_elim
+      → AreHandled good.plan [] [] lines acts outputs sessions → failed_in (flat_map (λ a. a) acts) ≡ []
+      → (good.plan.nodes ≡ 1 → NobodyWaits (flat_map (λ a. a) acts)) → length read + room ≡ 2 ^ 40 → StopsAt fault good.plan (flat_map (λ a. a) acts) sessions left1 others room → ⊥
+  no_run_fault between left1 fault read others room lines acts outputs sessions told took cut each runs up alone limit why = ⊎_elim
       (λ (end : (fault ≡ BadLine) × HasNoLf others × IsAtEnd left1). no_line others n.next n.rest end.1 (ap (λ (l : List ℕ). others ++ l) (sym (at_end left1 later.0 later.1 end.2)) ∙ n.begins.whole))
       (λ (a : ((fault ≡ BadLine) × HasNoLf others × (65535 < length others)) ⊎ ((fault ≡ BadLine) × IsNoOrder others) ⊎ ((fault ≡ TapeTooLong) × HasNoLf others × (room ≡ 0))
-      ⊎ ((order : Order) × IsOrder others order × (refusal good.plan [] sessions order ≡ Some (tape_fault_seen fault)))). ⊎_elim
+      ⊎ ((order : Order) × IsOrder others order × (refusal good.plan (flat_map (λ a. a) acts) sessions order ≡ Some (tape_fault_seen fault)))). ⊎_elim
       (λ (long : (fault ≡ BadLine) × HasNoLf others × (65535 < length others)).
       omega (arith, long.2, order_short n.next n.order n.spelled, within_line others later.0 n.next n.rest long.1 n.begins.whole))
       (λ (b : ((fault ≡ BadLine) × IsNoOrder others) ⊎ ((fault ≡ TapeTooLong) × HasNoLf others × (room ≡ 0))
-      ⊎ ((order : Order) × IsOrder others order × (refusal good.plan [] sessions order ≡ Some (tape_fault_seen fault)))). ⊎_elim
+      ⊎ ((order : Order) × IsOrder others order × (refusal good.plan (flat_map (λ a. a) acts) sessions order ≡ Some (tape_fault_seen fault)))). ⊎_elim
       (λ (none : (fault ≡ BadLine) × IsNoOrder others). none-some n.order (sym none.1.spelled ∙ ap tape_order (next_is none.1.line none.1.whole none.1.one) ∙ n.spelled))
-      (λ (c : ((fault ≡ TapeTooLong) × HasNoLf others × (room ≡ 0)) ⊎ ((order : Order) × IsOrder others order × (refusal good.plan [] sessions order ≡ Some (tape_fault_seen fault)))). ⊎_elim
+      (λ (c : ((fault ≡ TapeTooLong) × HasNoLf others × (room ≡ 0)) ⊎ ((order : Order) × IsOrder others order × (refusal good.plan (flat_map (λ a. a) acts) sessions order ≡ Some (tape_fault_seen fault)))). ⊎_elim
       (λ (far : (fault ≡ TapeTooLong) × HasNoLf others × (room ≡ 0)). no_limit far.1 far.2)
-      (λ (refused : (order : Order) × IsOrder others order × (refusal good.plan [] sessions order ≡ Some (tape_fault_seen fault))). no_refusal refused.0 refused.1 refused.2)
+      (λ (refused : (order : Order) × IsOrder others order × (refusal good.plan (flat_map (λ a. a) acts) sessions order ≡ Some (tape_fault_seen fault))). no_refusal refused.0 refused.1 refused.2)
       c) b) a) why
     where
       later : (later : List ℕ) × (left1 ≡ Some later) × (run_part tape good ≡ read ++ later)
       later = consumed (run_part tape good) left1 read (subst (λ (l : Option (List ℕ)). Consumes l left1 read) told took)
 
-      n : RunNext lines sessions (others ++ later.0)
-      n = run_next lines acts outputs sessions (others ++ later.0) each runs up (later.2 ∙ ap (λ (l : List ℕ). l ++ later.0) cut ∙ append_assoc (flat_map ended lines) others later.0)
+      n : RunNext lines (flat_map (λ a. a) acts) sessions (others ++ later.0)
+      n = run_next lines acts outputs sessions (others ++ later.0) each runs up alone (later.2 ∙ ap (λ (l : List ℕ). l ++ later.0) cut ∙ append_assoc (flat_map ended lines) others later.0)
 
       next_is : (line : List ℕ) → others ≡ ended line → HasNoLf line → line ≡ n.next
       next_is line whole one = (same_line (others ++ later.0) line ([] ++ later.0) n.next n.rest (begins_more others line [] later.0 (record { whole = whole; one = one })) n.begins).0
@@ -142,7 +152,34 @@ module _ (tape : List ℕ) (good : IsGoodTape tape) where
       no_limit none full =
           omega (arith, full, limit, n.short, ap length cut, length-append (flat_map ended lines) others, within_line others later.0 n.next n.rest none n.begins.whole)
 
-      no_refusal : (order : Order) → IsOrder others order → refusal good.plan [] sessions order ≡ Some (tape_fault_seen fault) → ⊥
+      no_refusal : (order : Order) → IsOrder others order → refusal good.plan (flat_map (λ a. a) acts) sessions order ≡ Some (tape_fault_seen fault) → ⊥
       no_refusal order is refused =
           let same = same_Some order n.order (sym is.spelled ∙ ap tape_order (next_is is.line is.whole is.one) ∙ n.spelled) in
-          none-some (tape_fault_seen fault) (sym n.accepted ∙ ap (refusal good.plan [] sessions) (sym same) ∙ refused)
+          none-some (tape_fault_seen fault) (sym n.accepted ∙ ap (refusal good.plan (flat_map (λ a. a) acts) sessions) (sym same) ∙ refused)
+
+  -- and the cluster denies none of them
+  pub no_denial : (between left1 : Option (List ℕ)) (read others : List ℕ) (lines : List (List ℕ)) (line : List ℕ) (acts : List (List Act)) (outputs : List (List (List Entry))) (sessions : List Session) (order : Order)
+      → between ≡ Some (run_part tape good) → Consumes between left1 read → read ≡ flat_map ended (lines ++ line ∷ []) ++ others → All HasNoLf (lines ++ line ∷ [])
+      → AreHandled good.plan [] [] lines acts outputs sessions → failed_in (flat_map (λ a. a) acts) ≡ [] → (good.plan.nodes ≡ 1 → NobodyWaits (flat_map (λ a. a) acts))
+      → tape_order line ≡ Some order → MayBeDenied order sessions → ⊥
+  no_denial between left1 read others lines line acts outputs sessions order told took cut each runs up alone spelled denied =
+      n.undenied (subst (λ (o : Order). MayBeDenied o sessions) (same_Some order n.order (sym spelled ∙ ap tape_order next_is ∙ n.spelled)) denied)
+    where
+      later : (later : List ℕ) × (left1 ≡ Some later) × (run_part tape good ≡ read ++ later)
+      later = consumed (run_part tape good) left1 read (subst (λ (l : Option (List ℕ)). Consumes l left1 read) told took)
+
+      cut_more : read ++ later.0 ≡ flat_map ended lines ++ ((ended line ++ others) ++ later.0)
+      cut_more = ap (λ (l : List ℕ). l ++ later.0) (cut ∙ ap (λ (l : List ℕ). l ++ others) (flat_map_last ended lines line) ∙ append_assoc (flat_map ended lines) (ended line) others)
+          ∙ append_assoc (flat_map ended lines) (ended line ++ others) later.0
+
+      n : RunNext lines (flat_map (λ a. a) acts) sessions ((ended line ++ others) ++ later.0)
+      n = run_next lines acts outputs sessions ((ended line ++ others) ++ later.0) (front_all HasNoLf lines (line ∷ []) each) runs up alone (later.2 ∙ cut_more)
+
+      begins : BeginsWith ((ended line ++ others) ++ later.0) line (others ++ later.0)
+      begins = record {
+        whole = append_assoc (ended line) others later.0 ∙ append_assoc line (10 ∷ []) (others ++ later.0);
+        one = last_all HasNoLf lines line each;
+      }
+
+      next_is : line ≡ n.next
+      next_is = (same_line ((ended line ++ others) ++ later.0) line (others ++ later.0) n.next n.rest begins n.begins).0

@@ -2,8 +2,11 @@ mod NextLine
 mod GoodRun
 mod GoodPlan
 mod FewDrafts
+mod Within
+mod Placed
 mod Complete
 pub mod OneWord
 pub mod Serving
 pub mod Promises
+pub mod Named
 pub mod OwnStores

@@ -1,4 +1,4 @@
--- All promises are kept, over the octets that the program read and wrote and the store that it gave back.
+-- All promises are kept, over the octets that the program read and wrote and the stores that it gave back.
 use Rattle.std.proofs.Common.{◌≡◌, ◌≢◌, ◌⊎◌, inl, inr, ⊎_elim, ◌+◌, ◌<◌, ℕ, Bool, true, List, [], ◌∷◌, ◌++◌, length, drop, map, flat_map, All, Option, Some, None, Ok, Err, refl, sym, ap, ◌∙◌, subst, arith, append_assoc, length-append, codes}
 use Rattle.std.specs.Prelude.{is_some}
 use Rattle.std.specs.List.{slice_index}
@@ -7,48 +7,38 @@ use Rattle.std.specs.Io.KnownBytes.{Consumes, Appends}
 use Rattle.std.proofs.lemmas.List.{append-nil, map-append}
 use Rattle.std.proofs.lemmas.List.Concat.{flat_map-append}
 use Rattle.std.proofs.lemmas.List.Elements.{All-nil, All-cons, All-head, All-tail, All-append}
-use Rattle.io_edge.specs.Yards.{TellsOneMore}
+use Rattle.yard_stores.specs.Taken.{numbered, TellsAll}
 use Rattle.io_edge.proofs.Known.{consumes_more, appends_more}
 use Rattle.mail_model.specs.Lines.{HasNoLf, ended}
 use Rattle.mail_model.specs.Plan.{Plan}
-use Rattle.mail_model.specs.Tape.{Protocol}
 use Rattle.mail_model.specs.Transcript.{Entry, entry_line, written_of}
 use Rattle.mail_model.specs.Transcript.Entry.{Said, Event, Refused}
 use Rattle.mail_model.specs.Site.{TapeFault, fault_name}
 use Rattle.mail_model.specs.Shown.{lines_to}
-use Rattle.mail_model.specs.Listing.{octets_in}
-use Rattle.mail_model.specs.Stored.{opened, kind_at}
 use Rattle.mail_model.specs.Record.{Record}
 use Rattle.mail_model.proofs.OneLine.{by_test, decimal_no_lf}
-use Rattle.session_model.specs.Calls.{Call}
-use Rattle.session_model.specs.Sessions.{Session}
 use Rattle.session_model.specs.Acts.{Act}
-use Rattle.session_model.specs.Logs.{Asked, Answered, asked_by, answered_by}
-use Rattle.session_model.specs.Run.{Stop, failed_in}
-use Rattle.session_model.specs.Run.Stop.{BehindLine, SinkFailed, OutOfMemory}
-use Rattle.session_model.specs.Runs.{Shows}
-use Rattle.session_model.specs.Books.{Among, AreBegun}
-use Rattle.session_model.specs.Owes.{Owes}
+use Rattle.session_model.specs.Logs.{Asked}
 use Rattle.session_model.specs.Kept.{KeepsPromises, IsEnding}
-use Rattle.session_model.proofs.Driven.{driven_is_shown}
-use Rattle.session_model.proofs.Kept.{begun_asked, owed_is_kept}
-use Rattle.cluster_world.specs.World.{IsAtBeginning, disk_of, plan_of, book_of}
-use Rattle.cluster_world.specs.Outcomes.{Outcome, Awaited, Came, Makes, AreOfSessions, IsStep, asked_by_outcome, answered_by_outcome}
-use Rattle.cluster_world.specs.Outcomes.Outcome.{Began, Refused as WasRefused, Fell, Answers, Unanswered, Left}
+use Rattle.session_model.specs.Run.{IsCutShort}
+use Rattle.cluster_owes.specs.Held.{filed_on}
+use Rattle.node_store.specs.Disks.{View}
+use Rattle.cluster_world.specs.Worlds.{plan_of, book_of, tells}
+use Rattle.cluster_world.specs.Outcomes.{asked_by_outcome}
 use Rattle.cluster_world.specs.declared.world.World.{World}
-use Rattle.cluster_world.proofs.Owed.{world_owes}
+use Rattle.cluster_world.proofs.Chained.{plan_stays}
 use Rattle.drive_tape.specs.declared.drove.Drove.{Drove}
 use Rattle.drive_tape.specs.declared.drove.Drove.TheVariants as drove
 use Rattle.drive_tape.specs.Faults.{tape_fault_seen}
 use Rattle.drive_tape.specs.Parts.{IsCutEntry, IsPart}
-use Rattle.drive_tape.specs.Drive.{Drives, MayLackOne, Stops, stop_of}
+use Rattle.drive_tape.specs.Drive.{Drives, Stops, stop_of}
 use Rattle.drive_tape.specs.Plans.{ReadsHead}
+use Rattle.drive_tape.specs.Kept.{AreBlindLines}
 use Rattle.porcupine_server.specs.declared.ending.Ending.{Ending}
 use Rattle.porcupine_server.specs.declared.ending.Ending.TheVariants.{Done, Line, Read, Write, Store, NoMemory}
 use Rattle.porcupine_server.specs.Endings.{ending_of, status_of, last_entries, Finishes}
-use Rattle.porcupine_server.specs.Works.{SourceAndSink, Stores, Works, NoPlan, NoStore, ServedStore, NotOpened, Ran}
-use Rattle.session_model.proofs.Alone.{driven_at_1, call_asked}
-use Rattle.porcupine_server.specs.Promises.{IsTape, IsTranscript, KeepsAll, HasKept}
+use Rattle.porcupine_server.specs.Works.{SourceAndSink, Stores, Works, NoPlan, NoStores, ServedStores, NotOpened, Ran}
+use Rattle.porcupine_server.specs.Promises.{IsTape, IsTranscript, KeepsAll, HasKept, all_tell}
 
 abbrev IsNoLf : ℕ → Type 0
 IsNoLf x = x ≢ 10
@@ -62,7 +52,13 @@ name_none TapeFault.BadLine = by_test (codes "BadLine") refl
 name_none TapeFault.NoSuchSession = by_test (codes "NoSuchSession") refl
 name_none TapeFault.TooManySessions = by_test (codes "TooManySessions") refl
 name_none TapeFault.NoSuchNode = by_test (codes "NoSuchNode") refl
+name_none TapeFault.NodeLost = by_test (codes "NodeLost") refl
 name_none TapeFault.NodeDown = by_test (codes "NodeDown") refl
+name_none TapeFault.NodeUp = by_test (codes "NodeUp") refl
+name_none TapeFault.NoSuchLetter = by_test (codes "NoSuchLetter") refl
+name_none TapeFault.NoSuchTicket = by_test (codes "NoSuchTicket") refl
+name_none TapeFault.Worn = by_test (codes "Worn") refl
+name_none TapeFault.NoRoom = by_test (codes "NoRoom") refl
 name_none TapeFault.TapeTooLong = by_test (codes "TapeTooLong") refl
 
 refused_line : (text : List ℕ) → HasNoLf text → AreLines (Refused text ∷ [])
@@ -78,7 +74,7 @@ last_lines Done = All-nil HasNoLf
 last_lines (Line number why) = refused_line _ (line_none number (tape_fault_seen why))
 last_lines Read = refused_line (codes "read") (by_test (codes "read") refl)
 last_lines Write = All-nil HasNoLf
-last_lines Store = refused_line (codes "disk 0 1") (by_test (codes "disk 0 1") refl)
+last_lines (Store node) = refused_line _ (All-append IsNoLf (codes "disk 0 ") (decimal node) (by_test (codes "disk 0 ") refl) (decimal_no_lf node))
 last_lines NoMemory = All-nil HasNoLf
 
 last_is_ending : (ending : Ending) → IsEnding (last_entries ending)
@@ -86,7 +82,7 @@ last_is_ending Done = tt
 last_is_ending (Line number why) = tt
 last_is_ending Read = tt
 last_is_ending Write = tt
-last_is_ending Store = tt
+last_is_ending (Store node) = tt
 last_is_ending NoMemory = tt
 
 -- a prefix of a last line is one
@@ -188,83 +184,40 @@ kept_nothing seen stores ends middle ending read took none last = record {
   promise = inl (ending_unsaid last.front last.ends);
 }
 
--- a world tells what it holds as long as it did
-made_told : {D : Type 0} (seen : D → Option (List ℕ)) (faults : D → ℕ) (outcomes : List Outcome) (awaited left : List Awaited) (old new : World D) → Makes seen faults outcomes awaited old left new
-    → is_some (seen (disk_of new)) ≡ is_some (seen (disk_of old))
-made_told {D} seen faults [] awaited left old new (same, is) = ap (λ (w : World D). is_some (seen (disk_of w))) is
-made_told {D} seen faults (outcome ∷ more) awaited left old new (between, mid, came, makes) =
-    made_told seen faults more between left mid new makes ∙ one outcome came
-  where
-    one : (outcome : Outcome) → Came seen faults outcome awaited old between mid → is_some (seen (disk_of mid)) ≡ is_some (seen (disk_of old))
-    one (Began k asked number) (begun, stirs, calls, step, waits) = step.told
-    one (WasRefused k asked) (begun, result, calls, refused, step, waits) = step.told
-    one (Fell k asked) (begun, result, calls, falls, step, waits) = step.told
-    one (Answers k asked number given) (own, before, behind, same, were, are, step) = step.told
-    one (Unanswered k number) (fault, step, waits) = step.told
-    one (Left k user) (begun, result, leaves, step, waits) = step.told
-
--- what was begun of what was asked
-were_begun : (stop : Stop) (asked begun lacking : List Asked) → asked ≡ begun ++ lacking → MayLackOne stop lacking → AreBegun stop asked begun
-were_begun BehindLine asked begun lacking are none = sym (are ∙ ap (λ (l : List Asked). begun ++ l) none ∙ append-nil begun)
-were_begun SinkFailed asked begun lacking are none = sym (are ∙ ap (λ (l : List Asked). begun ++ l) none ∙ append-nil begun)
-were_begun OutOfMemory asked begun lacking are may = ⊎_elim
-    (λ none. inl (sym (are ∙ ap (λ (l : List Asked). begun ++ l) none ∙ append-nil begun)))
-    (λ one. inr (one.0, are ∙ ap (λ (l : List Asked). begun ++ l) one.1)) may
-
 -- run lines were handled
-module _ {D : Type 0} (seen : D → Option (List ℕ)) (faults : D → ℕ) (is_settled : D → Type 0) (stores : Stores D) (ends : SourceAndSink) (between middle : Option (List ℕ)) (plan : Plan) (count : ℕ) (ending : Ending)
-    (taken given : D) (reads : ReadsHead ends.left0 between (Ok (plan, count))) (back : TellsOneMore stores.returned0 stores.returned1 (0, 1, given))
-    (ran : Ran seen faults is_settled (record ends { left0 = between; held1 = middle }) plan count ending taken given) (last : Last middle ends.held1 ending) where
+module _ {D : Type 0} (on : View D) (is_settled : D → Type 0) (stores : Stores D) (ends : SourceAndSink) (between middle : Option (List ℕ)) (plan : Plan) (count : ℕ) (ending : Ending)
+    (disks given : List D) (reads : ReadsHead ends.left0 between (Ok (plan, count))) (back : TellsAll stores.returned0 stores.returned1 (numbered 1 given))
+    (ran : Ran on is_settled (record ends { left0 = between; held1 = middle }) plan count ending disks given) (last : Last middle ends.held1 ending) where
   abbrev lines : List (List ℕ)
   lines = ran.drives.handled ++ ran.drives.midst
 
   abbrev done : List Act
   done = flat_map (λ a. a) (ran.drives.acts ++ ran.drives.behind)
 
-  one : (plan_of ran.start).nodes ≡ 1
-  one = ap (λ (p : Plan). p.nodes) ran.begins.plan_is ∙ reads.did.5.0
-
-  sure : (plan_of ran.start).confirm ≡ 1
-  sure = ap (λ (p : Plan). p.confirm) ran.begins.plan_is ∙ reads.did.5.2
-
-  begun : List Asked
+  abbrev begun : List Asked
   begun = flat_map asked_by_outcome ran.drives.outcomes
 
-  were : AreBegun ran.drives.stop (flat_map asked_by done) (flat_map asked_by_outcome ran.drives.outcomes)
-  were = were_begun ran.drives.stop (flat_map asked_by done) (flat_map asked_by_outcome ran.drives.outcomes) ran.drives.lacking ran.drives.asked_are ran.drives.lack
-
-  shown : (sessions : List Session) × Shows (plan_of ran.start) lines ran.drives.entries done sessions
-  shown = driven_is_shown (plan_of ran.start) ran.drives.stop ran.drives.handled ran.drives.midst ran.drives.acts ran.drives.behind ran.drives.made ran.drives.entries ran.drives.sessions ran.drives.driven
-
-  of_sessions : AreOfSessions lines (flat_map asked_by_outcome ran.drives.outcomes)
-  of_sessions k call among = call_asked (plan_of ran.start) lines ran.drives.entries done shown.0 shown.1
-      (driven_at_1 (plan_of ran.start) ran.drives.stop ran.drives.handled ran.drives.midst ran.drives.acts ran.drives.behind ran.drives.made ran.drives.entries ran.drives.sessions one ran.drives.driven) k call
-      (begun_asked ran.drives.stop (flat_map asked_by done) (flat_map asked_by_outcome ran.drives.outcomes) were (record { session = k; call = call }) among)
+  -- all stores told what they held at first, if they do at last
+  told : all_tell on.seen given ≡ true → tells on.seen ran.start ≡ true
+  told all = sym (plan_stays on ran.drives.outcomes [] ran.drives.awaited ran.start ran.last ran.drives.steps).2 ∙ ap (all_tell on.seen) (sym ran.stores) ∙ all
 
   -- the promises, with this last line
-  kept_with : (front : List Entry) → IsEnding front
-      → (records : List Record) × KeepsPromises (plan_of ran.start) (is_some (seen given)) ran.drives.stop lines (ran.drives.entries ++ front) (seen given ∷ []) (records ∷ []) (λ id. octets_in id records)
-      (book_of ran.last) done (flat_map asked_by_outcome ran.drives.outcomes)
-  kept_with front ended_so =
-      let owed = world_owes seen faults (plan_of ran.start) lines (ran.drives.entries ++ front) ran.drives.outcomes ran.drives.awaited ran.start ran.last one sure
-      (subst (λ (p : Plan). IsAtBeginning seen p ran.start) (sym ran.begins.plan_is) ran.begins) ran.drives.steps of_sessions in
-      let told : is_some (seen (disk_of ran.start)) ≡ is_some (seen given) =
-      sym (made_told seen faults ran.drives.outcomes [] ran.drives.awaited ran.start ran.last ran.drives.steps) ∙ ap (λ (d : D). is_some (seen d)) (sym ran.store) in (
-        owed.0,
-        owed_is_kept (plan_of ran.start) (is_some (seen given)) ran.drives.stop ran.drives.handled ran.drives.midst ran.drives.acts ran.drives.behind ran.drives.made ran.drives.entries front ran.drives.sessions
-            (seen given ∷ []) (owed.0 ∷ []) (λ id. octets_in id owed.0) (flat_map asked_by_outcome ran.drives.outcomes) (book_of ran.last) ran.drives.driven ended_so were
-            (subst (λ (l : List Answered). Owes (plan_of ran.start) (is_some (seen given)) lines (ran.drives.entries ++ front) (seen given ∷ []) (owed.0 ∷ []) (λ id. octets_in id owed.0) (flat_map asked_by_outcome ran.drives.outcomes) l (book_of ran.last)) (sym ran.drives.answered_are)
-            (subst (λ (t : Bool). Owes (plan_of ran.start) t lines (ran.drives.entries ++ front) (seen given ∷ []) (owed.0 ∷ []) (λ id. octets_in id owed.0) (flat_map asked_by_outcome ran.drives.outcomes) (flat_map answered_by_outcome ran.drives.outcomes) (book_of ran.last)) told
-            (subst (λ (d : D). Owes (plan_of ran.start) (is_some (seen (disk_of ran.start))) lines (ran.drives.entries ++ front) (seen d ∷ []) (owed.0 ∷ []) (λ id. octets_in id owed.0) (flat_map asked_by_outcome ran.drives.outcomes) (flat_map answered_by_outcome ran.drives.outcomes) (book_of ran.last)) (sym ran.store) owed.1))),
+  kept_with : (front : List Entry) → IsEnding front → (all_tell on.seen given ≡ true) ⊎ AreBlindLines (plan_of ran.start).nodes lines → (records : List (List Record))
+      × KeepsPromises (plan_of ran.start) (all_tell on.seen given) ran.drives.stop lines (ran.drives.entries ++ front) (map on.seen given) records (filed_on records) (book_of ran.last) done begun
+  kept_with front ended_so which =
+      let kept = ran.drives.kept (⊎_elim (λ all. inl (told all)) (λ blind. inr blind) which) front ended_so in (
+        kept.records,
+        subst (λ (l : List D). KeepsPromises (plan_of ran.start) (all_tell on.seen l) ran.drives.stop lines (ran.drives.entries ++ front) (map on.seen l) kept.records (filed_on kept.records) (book_of ran.last) done begun)
+            (sym ran.stores) kept.promises,
       )
 
   -- where a line was cut, nothing follows it
   uncut : (answer : Drove) → ending ≡ ending_of answer
-      → Stops (stop_of answer) ran.drives.stop (plan_of ran.start) (failed_in (flat_map (λ a. a) ran.drives.acts)) ran.drives.sessions ran.drives.midst ends.left1 ran.drives.others ran.drives.room
+      → Stops (stop_of answer) ran.drives.stop (plan_of ran.start) (flat_map (λ a. a) ran.drives.acts) ran.drives.sessions ran.drives.midst ends.left1 ran.drives.others ran.drives.room ran.drives.outcomes
       → (ran.drives.cut ≡ []) ⊎ ((last.front ≡ []) × (last.cut ≡ []))
-  uncut drove.Ended is why = inl (ran.drives.whole why.0)
-  uncut drove.ReadFault is why = inl (ran.drives.whole why.0)
-  uncut (drove.BadTape n fault) is why = inl (ran.drives.whole why.0)
+  uncut drove.Ended is why = inl (ran.drives.whole (λ short. subst IsCutShort why.0 short))
+  uncut drove.ReadFault is why = inl (ran.drives.whole (λ short. subst IsCutShort why.0 short))
+  uncut (drove.BadTape n fault) is why = inl (ran.drives.whole (λ short. ⊎_elim (λ bad. subst IsCutShort bad.0 short) (λ denied. subst IsCutShort denied.0 short) why))
   uncut (drove.WriteFault n) is why = inr (last.none (ap last_entries is))
   uncut (drove.NoMemory n) is why = inr (last.none (ap last_entries is))
 
@@ -287,10 +240,9 @@ module _ {D : Type 0} (seen : D → Option (List ℕ)) (faults : D → ℕ) (is_
       ))
       which
 
-  pub kept_run : HasKept seen stores ends
+  pub kept_run : HasKept on.seen stores ends
   kept_run =
       let wrote = all_written (uncut ran.answer ran.is ran.drives.why) in
-      let kept = kept_with last.front last.ends in
       let go = reads.did in
       record {
         read = (flat_map ended reads.lines ++ reads.others) ++ ran.drives.read;
@@ -317,36 +269,35 @@ module _ {D : Type 0} (seen : D → Option (List ℕ)) (faults : D → ℕ) (is_
               each = ran.drives.each;
               drafts = reads.drafts;
               goes = go.3;
-              plan_is = go.4 ∙ ap Some (sym ran.begins.plan_is);
+              plan_is = go.4 ∙ ap Some (sym ran.opened.begins.plan_is);
             };
             stop = ran.drives.stop;
-            records = kept.0;
             book = book_of ran.last;
             acts = done;
-            begun = flat_map asked_by_outcome ran.drives.outcomes;
-            promises = kept.1;
+            begun = begun;
+            promises = kept_with last.front last.ends;
           },
         );
       }
 
 -- whatever the work did
-pub has_kept : {D : Type 0} (seen : D → Option (List ℕ)) (faults : D → ℕ) (is_settled : D → Type 0) (stores : Stores D) (ends : SourceAndSink) (middle : Option (List ℕ)) (ending : Ending) (status : ℕ)
-    → Works seen faults is_settled stores (record ends { held1 = middle }) ending → Finishes middle ends.held1 ending status → HasKept seen stores ends
-has_kept seen faults is_settled stores ends middle ending status works finishes = ⊎_elim
-    (λ (none : NoPlan stores (record ends { held1 = middle }) ending). kept_nothing seen stores ends middle ending (flat_map ended none.reads.lines ++ none.reads.others) none.reads.took none.none last)
-    (λ (some : NoStore stores (record ends { held1 = middle }) ending ⊎ ServedStore seen faults is_settled stores (record ends { held1 = middle }) ending). ⊎_elim
-    (λ (none : NoStore stores (record ends { held1 = middle }) ending). kept_nothing seen stores ends middle ending (flat_map ended none.reads.lines ++ none.reads.others) none.reads.took none.none last)
-    (λ (served : ServedStore seen faults is_settled stores (record ends { held1 = middle }) ending). by_serving served) some)
+pub has_kept : {D : Type 0} (on : View D) (is_settled : D → Type 0) (stores : Stores D) (ends : SourceAndSink) (middle : Option (List ℕ)) (ending : Ending) (status : ℕ)
+    → Works on is_settled stores (record ends { held1 = middle }) ending → Finishes middle ends.held1 ending status → HasKept on.seen stores ends
+has_kept on is_settled stores ends middle ending status works finishes = ⊎_elim
+    (λ (none : NoPlan stores (record ends { held1 = middle }) ending). kept_nothing on.seen stores ends middle ending (flat_map ended none.reads.lines ++ none.reads.others) none.reads.took none.none last)
+    (λ (some : NoStores on stores (record ends { held1 = middle }) ending ⊎ ServedStores on is_settled stores (record ends { held1 = middle }) ending). ⊎_elim
+    (λ (none : NoStores on stores (record ends { held1 = middle }) ending). kept_nothing on.seen stores ends middle ending (flat_map ended none.reads.lines ++ none.reads.others) none.reads.took none.none last)
+    (λ (served : ServedStores on is_settled stores (record ends { held1 = middle }) ending). by_serving served) some)
     works
   where
     last : Last middle ends.held1 ending
     last = lasts middle ends.held1 ending status finishes
 
-    by_serving : ServedStore seen faults is_settled stores (record ends { held1 = middle }) ending → HasKept seen stores ends
+    by_serving : ServedStores on is_settled stores (record ends { held1 = middle }) ending → HasKept on.seen stores ends
     by_serving served = ⊎_elim
-        (λ (none : NotOpened seen faults (record ends { left0 = served.between; held1 = middle }) ending served.taken served.given).
-        kept_nothing seen stores ends middle ending (flat_map ended served.reads.lines ++ served.reads.others)
+        (λ (none : NotOpened on (record ends { left0 = served.between; held1 = middle }) ending served.disks served.given).
+        kept_nothing on.seen stores ends middle ending (flat_map ended served.reads.lines ++ served.reads.others)
         (subst (λ (left : Option (List ℕ)). Consumes ends.left0 left (flat_map ended served.reads.lines ++ served.reads.others)) (sym none.nothing_read) served.reads.took) none.nothing_written last)
-        (λ (ran : Ran seen faults is_settled (record ends { left0 = served.between; held1 = middle }) served.plan served.count ending served.taken served.given).
-        kept_run seen faults is_settled stores ends served.between middle served.plan served.count ending served.taken served.given served.reads served.back ran last)
+        (λ (ran : Ran on is_settled (record ends { left0 = served.between; held1 = middle }) served.plan served.count ending served.disks served.given).
+        kept_run on is_settled stores ends served.between middle served.plan served.count ending served.disks served.given served.reads served.are.back ran last)
         served.serves

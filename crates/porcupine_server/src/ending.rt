@@ -6,13 +6,15 @@ ghost use Rattle.mail_model.specs.Transcript as transcript;
 ghost use Rattle.mail_model.specs.Site.{fault_name};
 ghost use Rattle.drive_tape.specs.Faults.{tape_fault_seen};
 ghost use Rattle.drive_tape.specs.Entries.{transcript_entries};
-ghost use Rattle.porcupine_server.specs.Endings.{ending_of, status_of, last_entries, Finishes};
+ghost use Rattle.porcupine_server.specs.Endings.{ending_of, ending_untaken, ending_unopened, status_of, last_entries, Finishes};
 ghost use Rattle.porcupine_server.specs.declared.ending.Ending.TheVariants as endings;
 
+use cluster_world::OpenFault;
 use drive_tape::{Drove, Entry, Row, TapeFault, WriteStop, write_entries};
 use io_edge::Sink;
 use mail_base::Octets;
 use std::alloc::{AllocError, Global};
+use yard_stores::TakeFault;
 
 /// Why the work of a tape ended.
 #[derive(Clone, Copy, Debug, PartialEq, Eq)]
@@ -25,8 +27,8 @@ pub enum Ending {
     Read,
     /// The sink failed.
     Write,
-    /// The store failed as it was opened, or is not empty.
-    Store,
+    /// The store of this node failed as it was taken or opened, or is not empty.
+    Store { node: u8 },
     /// Memory ran out.
     NoMemory,
 }
@@ -45,6 +47,28 @@ impl Ending {
         }
     }
 
+    /// How it ends where not all stores are there.
+    pub fn untaken(fault: TakeFault) -> Ending
+        ensures { result ≡ ending_untaken fault }
+    {
+        match fault {
+            TakeFault::Store(node) => Ending::Store { node },
+            TakeFault::NoMemory => Ending::NoMemory,
+        }
+    }
+
+    /// How it ends where the cluster is not opened.
+    pub fn unopened(fault: &OpenFault) -> Ending
+        ensures { result ≡ ending_unopened fault.now }
+    {
+        match fault {
+            OpenFault::DiskFault(node) => Ending::Store {
+                node: node.number(),
+            },
+            OpenFault::NoMemory => Ending::NoMemory,
+        }
+    }
+
     /// The exit status.
     pub fn status(self) -> u8
         ensures { result ≡ status_of self }
@@ -54,7 +78,7 @@ impl Ending {
             Ending::Line { .. } => 3,
             Ending::Read => 4,
             Ending::Write => 5,
-            Ending::Store => 6,
+            Ending::Store { .. } => 6,
             Ending::NoMemory => 7,
         }
     }
@@ -68,7 +92,7 @@ impl Ending {
             Ending::Line { number, fault } => line_refused(alloc, number, fault),
             Ending::Read => refused(alloc, b"read"),
             Ending::Write => Ok(Row::new(alloc)),
-            Ending::Store => refused(alloc, b"disk 0 1"),
+            Ending::Store { node } => store_refused(alloc, node),
             Ending::NoMemory => Ok(Row::new(alloc)),
         }
     }
@@ -92,6 +116,15 @@ fn line_refused(alloc: Global, number: u64, fault: TapeFault) -> Result<Row<Entr
     text.extend_from_slice(number.to_string(alloc)?.as_bytes())?;
     text.push(b' ')?;
     text.extend_from_slice(fault.name())?;
+    refused(alloc, &text)
+}
+
+// The line that names the node of a store.
+fn store_refused(alloc: Global, node: u8) -> Result<Row<Entry>, AllocError>
+    ensures { IfOk result (λ entries. transcript_entries entries ≡ transcript.Entry.Refused (codes "disk 0 " ++ decimal node) ∷ []) }
+{
+    let mut text = Vec::from_slice(alloc, b"disk 0 ")?;
+    text.extend_from_slice(node.to_string(alloc)?.as_bytes())?;
     refused(alloc, &text)
 }
 

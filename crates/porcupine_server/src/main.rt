@@ -1,12 +1,14 @@
 //! porcupine_server: the program.
 //!
 //! It reads its words and does what they name. `drive` reads a tape from standard input and writes
-//! the transcript to standard output: what a cluster of one node, with a fresh store, says to the
-//! sessions of the tape. All that it does is the call `porcupine`, over a source, a sink and a yard
-//! that makes the stores; `main` makes the real ones and ends with the status that the call answers.
+//! the transcript to standard output: what a cluster of 1 to 16 nodes, each with a fresh store, says
+//! to the sessions of the tape. All that it does is the call `porcupine`, over a source, a sink and a
+//! yard that makes the stores; `main` makes the real ones and ends with the status that the call
+//! answers.
 //!
-//! It stands on `drive_tape` for the tape and on `io_edge` for the outside. It refuses every other
-//! word, and a store that is not empty. It keeps nothing when it ends: the store is in memory.
+//! It stands on `drive_tape` for the tape, on `yard_stores` for the stores and on `io_edge` for the
+//! outside. It refuses every other word, and a store that is not empty. It keeps nothing when it ends:
+//! the stores are in memory.
 #![tactic(auto)]
 
 mod ending;

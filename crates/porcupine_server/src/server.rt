@@ -1,104 +1,98 @@
 // The top call.
-ghost use Rattle.std.specs.Prelude.{◌≡◌, ◌⊎◌, ◌≤◌, ◌∷◌, ◌^◌, ℕ, List, [], Some, vec_len};
+ghost use Rattle.std.specs.Prelude.{◌≡◌, ◌⊎◌, ◌≤◌, ◌^◌, ℕ, List, Some, length};
+ghost use Rattle.std.specs.Io.KnownBytes.{Appends};
 ghost use Rattle.io_edge.specs.Causes.{Rose};
-ghost use Rattle.drive_tape.specs.Plans.{IsServed};
+ghost use Rattle.node_store.specs.Disks.{view_of};
+ghost use Rattle.cluster_world.specs.Opens.{AreEmpty};
+ghost use Rattle.drive_tape.specs.Plans.{IsTapePlan};
 ghost use Rattle.porcupine_server.specs.Words.{IsDrive, RefusesWords};
-ghost use Rattle.porcupine_server.specs.Stores.{DiskFailed, StoreFailed};
-ghost use Rattle.porcupine_server.specs.Works.{SourceAndSink, Stores, ServesStore, Works, TranscriptFollows};
+ghost use Rattle.porcupine_server.specs.Stores.{NodeFailed, StoreFailed, store_line};
+ghost use Rattle.porcupine_server.specs.Works.{SourceAndSink, Stores, ServesStores, Works, TranscriptFollows};
 ghost use Rattle.porcupine_server.specs.Complete.{IsGoodTape};
 ghost use Rattle.porcupine_server.specs.Promises.{HasKept};
 ghost use Rattle.porcupine_server.specs.declared.ending.Ending.TheVariants as endings;
 
 use crate::ending::{Ending, finish};
 use crate::words::is_drive;
-use cluster_world::{OpenFault, World};
+use cluster_world::World;
 use drive_tape::{drive, read_drive_head};
-use io_edge::{Disk, Sink, Source, Yard, YardRefusal, write_all};
+use io_edge::{Disk, Sink, Source, Yard, write_all};
 use mail_base::Plan;
 use std::alloc::Global;
+use yard_stores::{give_back_all, take_stores};
 
-// The one element of a list.
-fn only<T: Drop>(mut list: Vec<T>) -> T
-    requires one { vec_len list ≡ 1 }
-    ensures { list.items ≡ result ∷ [] }
-{
-    match list.pop() {
-        Some(only) => only,
-        None => unreachable!(),
-    }
-}
-
-// Opens the store and handles the run lines. The disk comes back in whatever state it is.
+// Opens the cluster and handles the run lines. The disks come back in whatever state they are.
 fn serve<S: Source, K: Sink, D: Disk + Drop>(
     alloc: Global,
     plan: Plan,
     lines: u64,
     source: &mut S,
     sink: &mut K,
-    mut disk: D,
-) -> (Ending, D)
-    requires plan { IsServed plan }
+    disks: Vec<D>,
+) -> (Ending, Vec<D>)
+    requires plan { IsTapePlan plan }
     requires few { lines ≤ 2 ^ 40 }
-    ensures serves { ServesStore D.seen D.faults D.settled (record { left0 = S.left source.old; left1 = S.left source.new; held0 = K.contents sink.old; held1 = K.contents sink.new })
-        plan lines result.0 disk result.1 }
+    requires one_each { length disks.items ≡ plan.nodes }
+    requires empty { AreEmpty D.seen disks.items }
+    ensures serves { ServesStores (view_of D.seen D.faults D.clock) D.settled
+        (record { left0 = S.left source.old; left1 = S.left source.new; held0 = K.contents sink.old; held1 = K.contents sink.new })
+        plan lines result.0 disks.items (result.1).items }
+    ensures as_many { length (result.1).items ≡ plan.nodes }
     ensures read_later { S.faults source.old ≤ S.faults source.new }
     ensures write_later { K.faults sink.old ≤ K.faults sink.new }
     ensures read_fault { result.0 ≡ endings.Read → Rose (S.faults source.old) (S.faults source.new) }
     ensures write_fault { result.0 ≡ endings.Write → Rose (K.faults sink.old) (K.faults sink.new) }
-    ensures store_fault { result.0 ≡ endings.Store → DiskFailed D.seen D.faults disk result.1 }
+    ensures store_fault { (node : ℕ) → result.0 ≡ endings.Store node → NodeFailed D.seen D.faults node disks.items (result.1).items }
 {
-    let Ok(0) = disk.len() else {
-        return (Ending::Store, disk);
-    };
-    let Ok(mut disks) = Vec::with_capacity(alloc, 1) else {
-        return (Ending::NoMemory, disk);
-    };
-    disks.push_reserved(disk);
     match World::open(alloc, plan, disks) {
-        Err((OpenFault::DiskFault(_), disks)) => (Ending::Store, only(disks)),
-        Err((OpenFault::NoMemory, disks)) => (Ending::NoMemory, only(disks)),
+        Err((fault, disks)) => (Ending::unopened(&fault), disks),
         Ok(world) => {
             let (drove, world) = drive(alloc, source, sink, world, lines);
-            (Ending::of(drove), only(world.close()))
+            (Ending::of(drove), world.close())
         }
     }
 }
 
-// The work of `drive`: the plan is read, a store is taken from the yard, served, and given back.
+// The work of `drive`: the plan is read, a store for each of its nodes is taken from the yard, they are served, and given
+// back.
 fn work<S: Source, K: Sink, Y: Yard>(
     alloc: Global,
     source: &mut S,
     sink: &mut K,
     yard: &mut Y,
 ) -> Ending
-    ensures works { Works Y.Store.seen Y.Store.faults Y.Store.settled
+    ensures works { Works (view_of Y.Store.seen Y.Store.faults Y.Store.clock) Y.Store.settled
         (record { handed0 = Y.handed yard.old; handed1 = Y.handed yard.new; returned0 = Y.returned yard.old; returned1 = Y.returned yard.new })
         (record { left0 = S.left source.old; left1 = S.left source.new; held0 = K.contents sink.old; held1 = K.contents sink.new }) result }
     ensures read_later { S.faults source.old ≤ S.faults source.new }
     ensures write_later { K.faults sink.old ≤ K.faults sink.new }
     ensures read_fault { result ≡ endings.Read → Rose (S.faults source.old) (S.faults source.new) }
     ensures write_fault { result ≡ endings.Write → Rose (K.faults sink.old) (K.faults sink.new) }
-    ensures store_fault { result ≡ endings.Store → StoreFailed Y.Store.seen Y.Store.faults (Y.handed yard.old) (Y.handed yard.new)
-        (Y.returned yard.old) (Y.returned yard.new) (Y.faults yard.old) (Y.faults yard.new) }
+    ensures store_fault { (node : ℕ) → result ≡ endings.Store node → StoreFailed Y.Store.seen Y.Store.faults (Y.handed yard.old) (Y.handed yard.new)
+        (Y.returned yard.old) (Y.returned yard.new) (Y.faults yard.old) (Y.faults yard.new) node }
 {
     let (plan, lines) = match read_drive_head(alloc, source) {
         Ok(head) => head,
         Err(drove) => return Ending::of(drove),
     };
-    let disk = match yard.store(0, 1, "") {
-        Ok(disk) => disk,
-        Err(YardRefusal::Failed) => return Ending::Store,
-        Err(YardRefusal::NoMemory) => return Ending::NoMemory,
+    let nodes = plan.nodes;
+    let Ok(mut disks) = Vec::with_capacity(alloc, usize::from(nodes)) else {
+        return Ending::NoMemory;
     };
-    let (ending, disk) = serve(alloc, plan, lines, source, sink, disk);
-    yard.give_back(0, 1, disk);
+    if let Err(fault) = take_stores(yard, nodes, &mut disks) {
+        give_back_all(yard, disks);
+        return Ending::untaken(fault);
+    }
+    let (ending, disks) = serve(alloc, plan, lines, source, sink, disks);
+    give_back_all(yard, disks);
     ending
 }
 
 /// Does all that the program does, and answers its exit status.
 ///
-/// The words are the one word `drive`: a tape is read from the source through its line `end`, node 1 gets the first store of
-/// the yard, which has to be empty, and the transcript goes to the sink. The store is given back in whatever state it is.
+/// The words are the one word `drive`: a tape is read from the source through its line `end`, each node of its plan gets a
+/// store of the yard, in order of node, which has to be empty, and the transcript goes to the sink. The stores are given
+/// back, in order of node, in whatever state they are.
 ///
 /// | Status | Comes where | Last line written |
 /// |---|---|---|
@@ -107,7 +101,7 @@ fn work<S: Source, K: Sink, Y: Yard>(
 /// | 3 | line N of the tape has the fault NAME | `! line N NAME` |
 /// | 4 | the source failed | `! read` |
 /// | 5 | the sink failed | none |
-/// | 6 | the yard failed, or the store failed as it was opened or is not empty | `! disk 0 1` |
+/// | 6 | the yard failed at the store of node N, or that store failed as it was opened or is not empty | `! disk 0 N` |
 /// | 7 | memory ran out | none |
 ///
 /// What was written before a fault stays. With other words nothing is read and no store is taken; the status is 1 even where
@@ -122,7 +116,7 @@ pub fn porcupine<S: Source, K: Sink, Y: Yard>(
     ensures promises { IsDrive words.now → HasKept Y.Store.seen
         (record { handed0 = Y.handed yard.old; handed1 = Y.handed yard.new; returned0 = Y.returned yard.old; returned1 = Y.returned yard.new })
         (record { left0 = S.left source.old; left1 = S.left source.new; held0 = K.contents sink.old; held1 = K.contents sink.new }) }
-    ensures transcript_follows { IsDrive words.now → TranscriptFollows Y.Store.seen Y.Store.faults Y.Store.settled
+    ensures transcript_follows { IsDrive words.now → TranscriptFollows (view_of Y.Store.seen Y.Store.faults Y.Store.clock) Y.Store.settled
         (record { handed0 = Y.handed yard.old; handed1 = Y.handed yard.new; returned0 = Y.returned yard.old; returned1 = Y.returned yard.new })
         (record { left0 = S.left source.old; left1 = S.left source.new; held0 = K.contents sink.old; held1 = K.contents sink.new }) result }
     ensures words_refused { (IsDrive words.now → ⊥) → (result ≡ 1) × (S.left source.new ≡ S.left source.old) × (Y.handed yard.new ≡ Y.handed yard.old) }
@@ -130,12 +124,12 @@ pub fn porcupine<S: Source, K: Sink, Y: Yard>(
     ensures words_taken { IsDrive words.now → result ≡ 1 → ⊥ }
     ensures read_fault { result ≡ 4 → Rose (S.faults source.old) (S.faults source.new) }
     ensures write_fault { result ≡ 5 → Rose (K.faults sink.old) (K.faults sink.new) }
-    ensures store_fault { result ≡ 6 → StoreFailed Y.Store.seen Y.Store.faults (Y.handed yard.old) (Y.handed yard.new)
-        (Y.returned yard.old) (Y.returned yard.new) (Y.faults yard.old) (Y.faults yard.new) }
+    ensures store_fault { result ≡ 6 → (node : ℕ) × Appends (K.contents sink.old) (K.contents sink.new) (store_line node)
+        × StoreFailed Y.Store.seen Y.Store.faults (Y.handed yard.old) (Y.handed yard.new) (Y.returned yard.old) (Y.returned yard.new) (Y.faults yard.old) (Y.faults yard.new) node }
     ensures complete { IsDrive words.now → (tape : List ℕ) → S.left source.old ≡ Some tape → IsGoodTape tape
         → (Rose (S.faults source.old) (S.faults source.new) → ⊥) → (Rose (K.faults sink.old) (K.faults sink.new) → ⊥)
-        → (StoreFailed Y.Store.seen Y.Store.faults (Y.handed yard.old) (Y.handed yard.new)
-        (Y.returned yard.old) (Y.returned yard.new) (Y.faults yard.old) (Y.faults yard.new) → ⊥)
+        → ((node : ℕ) → StoreFailed Y.Store.seen Y.Store.faults (Y.handed yard.old) (Y.handed yard.new)
+        (Y.returned yard.old) (Y.returned yard.new) (Y.faults yard.old) (Y.faults yard.new) node → ⊥)
         → (result ≡ 0) ⊎ (result ≡ 7) }
 {
     if !is_drive(words) {

@@ -1,6 +1,9 @@
 // Whole tapes through the program's one call, over an outside in memory.
 
+mod at_once;
+mod clusters;
 mod command_line;
+mod crashes;
 mod deletions;
 mod examples;
 mod faults;
@@ -10,6 +13,7 @@ mod plans;
 mod replies;
 mod run_lines;
 mod store;
+mod three_nodes;
 
 use crate::server::porcupine;
 use io_edge::{MemoryYard, SliceSource, VecSink};
@@ -49,37 +53,56 @@ fn words(alloc: Global, word: &str) -> Result<Vec<String>, AllocError> {
 struct Run {
     status: u8,
     transcript: Vec<u8>,
-    /// The disk that was given back, and an empty one where none was.
+    /// The disk of node 1 that was given back, and an empty one where none was.
     disk: MemoryDisk,
 }
 
-// A yard of one empty disk, of which this call fails; none where it is 0.
+// How many disks a yard of the tests has.
+const DISKS: usize = 3;
+
+// A yard of empty disks, of the first of which this call fails; none where it is 0.
 fn yard_of(alloc: Global, failing: u64) -> Result<MemoryYard<MemoryDisk>, AllocError> {
-    let mut disk = MemoryDisk::new(alloc);
-    disk.fail_at(failing)?;
     let mut disks = Vec::new(alloc);
-    disks.push(disk)?;
+    for place in 0..DISKS {
+        let mut disk = MemoryDisk::new(alloc);
+        if place == 0 {
+            disk.fail_at(failing)?;
+        }
+        disks.push(disk)?;
+    }
     Ok(MemoryYard::new(alloc, disks))
 }
 
-// Runs `drive` on the tape, over an empty disk of which this call fails.
-fn drive(alloc: Global, tape: &[u8], failing: u64) -> Result<Run, AllocError> {
-    let mut yard = yard_of(alloc, failing)?;
+// Runs `drive` on the tape over the stores of this yard: the status and the transcript.
+fn drive_over(
+    alloc: Global,
+    tape: &[u8],
+    yard: &mut MemoryYard<MemoryDisk>,
+) -> Result<(u8, Vec<u8>), AllocError> {
     let mut sink = VecSink::new(alloc);
     let status = porcupine(
         alloc,
         &words(alloc, "drive")?,
         &mut SliceSource::new(tape),
         &mut sink,
-        &mut yard,
+        yard,
     );
-    let disk = match yard.returned.pop() {
-        Some((_, _, disk)) => disk,
-        None => MemoryDisk::new(alloc),
-    };
+    Ok((status, sink.held))
+}
+
+// Runs `drive` on the tape, over empty disks, of the first of which this call fails.
+fn drive(alloc: Global, tape: &[u8], failing: u64) -> Result<Run, AllocError> {
+    let mut yard = yard_of(alloc, failing)?;
+    let (status, transcript) = drive_over(alloc, tape, &mut yard)?;
+    let mut disk = MemoryDisk::new(alloc);
+    for (_, node, last) in yard.returned {
+        if node == 1 {
+            disk = last;
+        }
+    }
     Ok(Run {
         status,
-        transcript: sink.held,
+        transcript,
         disk,
     })
 }
@@ -138,6 +161,19 @@ fn each_refused(rt: &impl Abort, alloc: Global, first: &[u8], table: &[u8]) -> R
         if line.starts_with(b"  !") {
             script.run(rt, 3)?;
             script = Script::new(alloc, first)?;
+        }
+    }
+    Ok(())
+}
+
+// Runs each case of the table: a case is a whole tape, through its line `end`.
+fn each_handled(rt: &impl Abort, alloc: Global, table: &[u8]) -> Result<(), Fail> {
+    let mut script = Script::new(alloc, b"")?;
+    for line in table.split_inclusive(|octet| *octet == b'\n') {
+        script.add(line)?;
+        if line == b"end\n".as_slice() {
+            script.run(rt, 0)?;
+            script = Script::new(alloc, b"")?;
         }
     }
     Ok(())

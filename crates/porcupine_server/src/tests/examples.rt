@@ -276,9 +276,183 @@ say 1 QUIT
 end
 ";
 
+const RESTART: &[u8] = b"\
+nodes 1
+copies 1 1
+buckets 1
+user alice tanstaaf
+postmaster alice
+go
+open smtp 1
+  1 220 node1 Porcupine ready
+say 1 HELO c.example
+  1 250 node1
+say 1 MAIL FROM:<bob@b.example>
+  1 250 sender ok
+say 1 RCPT TO:<alice>
+  1 250 recipient ok
+say 1 DATA
+  1 354 end with a line that is a single period
+say 1 Subject: hi
+say 1
+say 1 hello
+say 1 .
+  1 250 stored
+say 1 MAIL FROM:<bob@b.example>
+  1 250 sender ok
+crash 1
+  * node 1 down
+  1 421 node1 down
+  * 1 closed
+start 1
+  * node 1 up 2
+open pop 1
+  2 +OK node1 ready <2.2.0@node1>
+say 2 USER alice
+  2 +OK send PASS
+say 2 PASS tanstaaf
+  2 +OK maildrop open
+say 2 LIST
+  2 +OK listing
+  2 1 151
+  2 .
+say 2 RETR 1
+  2 +OK 151 octets
+  2 Return-Path: <bob@b.example>
+  2 Received: from c.example
+  2  by node1 with SMTP id <1.1.1@node1>;
+  2  Thu, 01 Jan 1970 00:00:00 +0000
+  2 Subject: hi
+  2\x20
+  2 hello
+  2 .
+say 2 DELE 1
+  2 +OK message 1 deleted
+crash 1
+  * node 1 down
+  2 -ERR [SYS/TEMP] node1 down
+  * 2 closed
+start 1
+  * node 1 up 3
+open pop 1
+  3 +OK node1 ready <3.3.0@node1>
+say 3 USER alice
+  3 +OK send PASS
+say 3 PASS tanstaaf
+  3 +OK maildrop open
+say 3 UIDL
+  3 +OK unique ids
+  3 1 1.1.1
+  3 .
+say 3 DELE 1
+  3 +OK message 1 deleted
+say 3 QUIT
+  3 +OK bye
+  * 3 closed
+crash 1
+  * node 1 down
+start 1
+  * node 1 up 4
+open smtp 1
+  4 220 node1 Porcupine ready
+say 4 HELO c.example
+  4 250 node1
+say 4 MAIL FROM:<bob@b.example>
+  4 250 sender ok
+say 4 RCPT TO:<alice>
+  4 250 recipient ok
+say 4 DATA
+  4 354 end with a line that is a single period
+say 4 again
+say 4 .
+  4 250 stored
+say 4 QUIT
+  4 221 node1 closing
+  * 4 closed
+open pop 1
+  5 +OK node1 ready <4.5.0@node1>
+say 5 USER alice
+  5 +OK send PASS
+say 5 PASS tanstaaf
+  5 +OK maildrop open
+say 5 UIDL
+  5 +OK unique ids
+  5 1 1.4.1
+  5 .
+say 5 QUIT
+  5 +OK bye
+  * 5 closed
+end
+";
+
+const LOST_NODE: &[u8] = b"\
+nodes 3
+copies 3 2
+buckets 16
+user alice tanstaaf
+postmaster alice
+go
+open smtp 1
+  1 220 node1 Porcupine ready
+say 1 HELO c.example
+  1 250 node1
+say 1 MAIL FROM:<bob@b.example>
+  1 250 sender ok
+say 1 RCPT TO:<alice>
+  1 250 recipient ok
+say 1 DATA
+  1 354 end with a line that is a single period
+say 1 Subject: hi
+say 1
+say 1 hello
+say 1 .
+drop 2
+post 1
+  * 1 heard
+post 3
+  * 3 heard
+  1 250 stored
+say 1 QUIT
+  1 221 node1 closing
+  * 1 closed
+lose 2
+  * node 2 lost
+push 1
+  * sent 2
+post 4
+  * 4 thrown down
+post 5
+  * 5 heard
+flow
+  * flowed
+crash 1
+  * node 1 down
+start 1
+  * node 1 up 2
+open smtp 3
+  2 220 node3 Porcupine ready
+say 2 HELO d.example
+  2 250 node3
+say 2 MAIL FROM:<carol@d.example>
+  2 250 sender ok
+say 2 RCPT TO:<alice>
+  2 250 recipient ok
+say 2 DATA
+  2 354 end with a line that is a single period
+say 2 hello again
+say 2 .
+flow
+  * flowed
+  2 250 stored
+say 2 QUIT
+  2 221 node3 closing
+  * 2 closed
+end
+";
+
 #[test]
 fn each_example_is_answered_as_its_file_says(rt: HostRuntime) -> Result<(), Fail> {
-    for lines in [FIRST, READING, DAY] {
+    for lines in [FIRST, READING, DAY, RESTART, LOST_NODE] {
         Script::new(rt.alloc(), lines)?.run(&rt, 0)?;
     }
     Ok(())

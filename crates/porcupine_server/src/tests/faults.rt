@@ -184,16 +184,20 @@ fn what_a_unit_gives_is_written_before_the_next_is_heard(rt: HostRuntime) -> Res
     Ok(())
 }
 
+const PLAN_OF_TWO: &[u8] =
+    b"nodes 2\ncopies 2 1\nbuckets 1\nuser alice tanstaaf\npostmaster alice\ngo\n";
+
 #[test]
 fn the_outside_fails(rt: HostRuntime) -> Result<(), Fail> {
     let alloc = rt.alloc();
-    let tape = joined(alloc, &[PLAN, b"open smtp 1\nsay 1 QUIT\nend\n"])?;
+    let tape = joined(alloc, &[PLAN_OF_TWO, b"open smtp 1\nsay 1 QUIT\nend\n"])?;
     // Which read, which write and which store fails, the first being 1; the status and the transcript.
-    let cases: [(u64, u64, u64, u8, &[u8]); 4] = [
+    let cases: [(u64, u64, u64, u8, &[u8]); 5] = [
         (1, 0, 0, 4, b"! read\n"),
         (0, 1, 0, 5, b""),
         (0, 2, 0, 5, b"1 220 node1 Porcupine ready\n"),
         (0, 0, 1, 6, b"! disk 0 1\n"),
+        (0, 0, 2, 6, b"! disk 0 2\n"),
     ];
     for (read, write, store, status, transcript) in cases {
         let mut sink = FaultySink::new(VecSink::new(alloc), write);
@@ -210,28 +214,43 @@ fn the_outside_fails(rt: HostRuntime) -> Result<(), Fail> {
     Ok(())
 }
 
+// Two disks, of which the one of this node holds something.
+fn held_by(alloc: Global, node: u8) -> Result<Vec<PlainDisk>, AllocError> {
+    let mut disks = Vec::new(alloc);
+    for number in 1..=2 {
+        let mut disk = PlainDisk::new(alloc);
+        if number == node {
+            disk.octets.extend_from_slice(b"mail")?;
+        }
+        disks.push(disk)?;
+    }
+    Ok(disks)
+}
+
 #[test]
 fn a_store_that_holds_something_is_given_back_as_it_was(rt: HostRuntime) -> Result<(), Fail> {
     let alloc = rt.alloc();
-    let mut disk = PlainDisk::new(alloc);
-    disk.octets.extend_from_slice(b"mail")?;
-    let mut disks = Vec::new(alloc);
-    disks.push(disk)?;
-    let mut yard = MemoryYard::new(alloc, disks);
-    let mut sink = VecSink::new(alloc);
-    let tape = joined(alloc, &[PLAN, b"open smtp 1\nend\n"])?;
-    let answer = porcupine(
-        alloc,
-        &words(alloc, "drive")?,
-        &mut SliceSource::new(&tape),
-        &mut sink,
-        &mut yard,
-    );
-    assert_eq!(rt; answer, 6);
-    assert_eq!(rt; sink.held.as_slice(), b"! disk 0 1\n".as_slice());
-    match yard.returned.pop() {
-        Some((_, _, disk)) => assert_eq!(rt; disk.octets.as_slice(), b"mail".as_slice()),
-        None => assert!(rt; false),
+    let cases: [(u8, &[u8]); 2] = [(1, b"! disk 0 1\n"), (2, b"! disk 0 2\n")];
+    for (node, transcript) in cases {
+        let mut yard = MemoryYard::new(alloc, held_by(alloc, node)?);
+        let mut sink = VecSink::new(alloc);
+        let tape = joined(alloc, &[PLAN_OF_TWO, b"open smtp 1\nend\n"])?;
+        let answer = porcupine(
+            alloc,
+            &words(alloc, "drive")?,
+            &mut SliceSource::new(&tape),
+            &mut sink,
+            &mut yard,
+        );
+        assert_eq!(rt; answer, 6);
+        assert_eq!(rt; sink.held.as_slice(), transcript);
+        match yard.returned.pop() {
+            Some((_, last, disk)) => {
+                assert_eq!(rt; last, node);
+                assert_eq!(rt; disk.octets.as_slice(), b"mail".as_slice());
+            }
+            None => assert!(rt; false),
+        }
     }
     Ok(())
 }

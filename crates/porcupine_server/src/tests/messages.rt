@@ -42,7 +42,7 @@ fn sent(alloc: Global, texts: &[&[u8]]) -> Result<Script, AllocError> {
 #[test]
 fn one_message_is_stored(rt: HostRuntime) -> Result<(), Fail> {
     let alloc = rt.alloc();
-    // Besides the message the store has 88 octets.
+    // Besides the message the store has 130 octets.
     let cases: [(&[u8], &[u8], usize); 2] = [
         (b"", b"", 129),
         (
@@ -53,7 +53,7 @@ fn one_message_is_stored(rt: HostRuntime) -> Result<(), Fail> {
     ];
     for (lines, text, length) in cases {
         let run = sent(alloc, &[lines])?.run(&rt, 0)?;
-        assert_eq!(rt; run.disk.octets().len(), length + 88);
+        assert_eq!(rt; run.disk.octets().len(), length + 130);
         let mut journal = Journal::new(alloc)?;
         journal.message(b"bob@b.example", b"c.example", &[b"alice"], text)?;
         journal.is_held(&rt, run.disk.octets())?;

@@ -56,23 +56,20 @@ impl Journal {
     }
 
     // A state of the user's copy of a message, with the last stamp: it is here (1) or gone (2). Node 1 in its boot 1
-    // stamped it, and is its target.
+    // stamped it, and is its only target: so it is retired at once.
     fn state(&mut self, id: &[u8], user: &[u8], value: u8) -> Result<(), Fail> {
-        let length = [u8::try_from(user.len())?];
-        let value = [value];
-        let count = self.count.to_be_bytes();
-        let payload = joined(
-            self.alloc,
-            &[
-                b"\x04\x02",
-                &length,
-                user,
-                id,
-                &value,
-                &count,
-                b"\0\0\0\x01\x01\0\x01",
-            ],
-        )?;
+        self.record_state(4, id, user, value)?;
+        self.record_state(5, id, user, value)
+    }
+
+    // The record of this kind that has the state.
+    fn record_state(&mut self, kind: u8, id: &[u8], user: &[u8], value: u8) -> Result<(), Fail> {
+        let mut payload = Vec::from_slice(self.alloc, &[kind, 2, u8::try_from(user.len())?])?;
+        payload.extend_from_slice(user)?;
+        payload.extend_from_slice(id)?;
+        payload.push(value)?;
+        payload.extend_from_slice(&self.count.to_be_bytes())?;
+        payload.extend_from_slice(b"\0\0\0\x01\x01\0\x01")?;
         self.record(&payload)
     }
 

@@ -1,26 +1,37 @@
-use Rattle.std.proofs.Common.{sym, subst}
-use Rattle.mail_base.specs.declared.ticket.Ticket.{Ticket}
-use Rattle.cluster_world.specs.Outcomes.{IsStep}
+use Rattle.std.proofs.Common.{◌≡◌, Ok, Err, subst}
+use Rattle.node_store.specs.Disks.{view_of}
+use Rattle.call_tickets.specs.declared.answer.Ask.TheVariants.{Done, Pending}
+use Rattle.cluster_world.specs.Steps.{IsStep}
 use Rattle.cluster_world.specs.declared.step.Step.TheVariants.{Ask}
-use Rattle.drive_tape.proofs.Calling.{Answered, call_asked}
+use Rattle.cluster_world.specs.declared.step.Said.TheVariants.{Asked}
+use Rattle.cluster_world.specs.declared.fault.StepFault.{StepFault}
+use Rattle.drive_tape.proofs.Calling.{call_answered, call_waits, call_untold, not_its_own}
 use Rattle.drive_tape.proofs.calls.ask.Goals as goal
 
-pub returns-in-Ok-Asked-Done-clause-asked : goal.returns-in-Ok-Asked-Done-clause-asked
-returns-in-Ok-Asked-Done-clause-asked g c start outcomes k number asked is at =
-    let seen = g.D.Disk.seen in
-    let faults = g.D.Disk.faults in
-    let old = c.args.world.now in
-    let new = c.step.new.self in
-    let came = call_asked seen faults start old new outcomes k asked number c.step.result c.requires.ready.one at
-    (subst (λ (t : Ticket). IsStep seen faults c.step.result (Ask t) old new) is (record { did = c.step.ensures.stepped; count = c.step.ensures.counted; told = c.step.ensures.told; names = c.step.ensures.names; numbers = c.step.ensures.numbers })) c.step.ensures.quiet in
-    rw (c.in-Ok-Asked-Done.field-0-is, c.in-Ok-Asked-Done.field-0-0-is) at (subst (λ r. Answered seen faults start old new outcomes k asked number r) c.in-Ok-Asked-Done.is came)
+pub returns-then-fits-clause-asked : goal.returns-then-fits-clause-asked
+returns-then-fits-clause-asked g c start outcomes awaited k asked among kind at =
+    let on = view_of g.D.Disk.seen g.D.Disk.faults g.D.Disk.clock in
+    let result : c.step.result ≡ Ok (Asked (Done c.in-Ok-Asked-Done.answer)) = (let a = c.in-Ok-Asked-Done.is in let b = c.in-Ok-Asked-Done.field-0-is in let d = c.in-Ok-Asked-Done.field-0-0-is in cc) in
+    let is = subst (λ r. IsStep on r (Ask c.args.open_call.now.ticket) c.args.world.now c.step.new.self) result c.step.ensures.is in
+    call_answered on start c.args.world.now c.step.new.self outcomes awaited k at StepFault asked c.args.open_call.now c.in-Ok-Asked-Done.answer (let a = c.fits.ensures in let b = c.if-fits.true in cc) among is
+
+pub returns-else-fits-clause-asked : goal.returns-else-fits-clause-asked
+returns-else-fits-clause-asked g c start outcomes awaited k asked among kind at =
+    let on = view_of g.D.Disk.seen g.D.Disk.faults g.D.Disk.clock in
+    let result : c.step.result ≡ Ok (Asked (Done c.in-Ok-Asked-Done.answer)) = (let a = c.in-Ok-Asked-Done.is in let b = c.in-Ok-Asked-Done.field-0-is in let d = c.in-Ok-Asked-Done.field-0-0-is in cc) in
+    let is = subst (λ r. IsStep on r (Ask c.args.open_call.now.ticket) c.args.world.now c.step.new.self) result c.step.ensures.is in
+    call_untold on start c.args.world.now c.step.new.self outcomes awaited k at asked c.args.open_call.now (Ok (Asked (Done c.in-Ok-Asked-Done.answer)))
+    (not_its_own on start c.args.world.now c.step.new.self outcomes awaited k at asked c.args.open_call.now c.in-Ok-Asked-Done.answer (let a = c.fits.ensures in let b = c.if-fits.false in cc) kind) among is
+
+pub returns-in-Ok-Asked-Pending-clause-asked : goal.returns-in-Ok-Asked-Pending-clause-asked
+returns-in-Ok-Asked-Pending-clause-asked g c start outcomes awaited k asked among kind at =
+    let on = view_of g.D.Disk.seen g.D.Disk.faults g.D.Disk.clock in
+    let result : c.step.result ≡ Ok (Asked (Pending c.in-Ok-Asked-Pending.field-0-0-0 c.in-Ok-Asked-Pending.field-0-0-1)) = (let a = c.in-Ok-Asked-Pending.is in let b = c.in-Ok-Asked-Pending.field-0-is in let d = c.in-Ok-Asked-Pending.field-0-0-is in cc) in
+    let is = subst (λ r. IsStep on r (Ask c.args.open_call.now.ticket) c.args.world.now c.step.new.self) result c.step.ensures.is in
+    call_waits on start c.args.world.now c.step.new.self outcomes awaited k at StepFault asked c.args.open_call.now c.in-Ok-Asked-Pending.field-0-0-0 c.in-Ok-Asked-Pending.field-0-0-1 is
 
 pub returns-in-Err-clause-asked : goal.returns-in-Err-clause-asked
-returns-in-Err-clause-asked g c start outcomes k number asked is at =
-    let seen = g.D.Disk.seen in
-    let faults = g.D.Disk.faults in
-    let old = c.args.world.now in
-    let new = c.step.new.self in
-    let came = call_asked seen faults start old new outcomes k asked number c.step.result c.requires.ready.one at
-    (subst (λ (t : Ticket). IsStep seen faults c.step.result (Ask t) old new) is (record { did = c.step.ensures.stepped; count = c.step.ensures.counted; told = c.step.ensures.told; names = c.step.ensures.names; numbers = c.step.ensures.numbers })) c.step.ensures.quiet in
-    subst (λ r. Answered seen faults start old new outcomes k asked number r) c.in-Err.is came
+returns-in-Err-clause-asked g c start outcomes awaited k asked among kind at =
+    let on = view_of g.D.Disk.seen g.D.Disk.faults g.D.Disk.clock in
+    let is = subst (λ r. IsStep on r (Ask c.args.open_call.now.ticket) c.args.world.now c.step.new.self) c.in-Err.is c.step.ensures.is in
+    call_untold on start c.args.world.now c.step.new.self outcomes awaited k at asked c.args.open_call.now (Err c.in-Err.field-0) tt among is

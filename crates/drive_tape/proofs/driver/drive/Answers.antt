@@ -1,14 +1,17 @@
 use Rattle.std.proofs.Common.{refl, sym, ap, ◌∙◌, length, arith, Err}
-use Rattle.cluster_world.specs.World.{plan_of}
+use Rattle.node_store.specs.Disks.{view_of}
+use Rattle.cluster_world.specs.Worlds.{plan_of}
+use Rattle.cluster_world.proofs.Owed.{world_owes}
+use Rattle.drive_tape.proofs.Clusters.{at_plan}
 use Rattle.drive_tape.proofs.Drives.{progress_start, goes_on, stops}
 use Rattle.drive_tape.proofs.driver.drive.Goals as goal
 
 pub loop-handled-init : goal.loop-handled-init
 loop-handled-init g c = record {
-  ready = record { one = c.requires.one; gate = c.requires.gate; settled = c.requires.settled };
+  ready = record { few = c.requires.nodes; ready = c.requires.ready; settled = c.requires.settled };
   plan = refl;
-  tickets = omega (arith, ap length c.new.ensures.tickets, ap length c.new.ensures.talkers);
-  progress = λ begins. progress_start _ _ _ _ _ _ begins refl c.new.ensures.talkers c.new.ensures.tickets c.new.ensures.standing;
+  even = record { calls = ap length c.new.ensures.calls ∙ sym (ap length c.new.ensures.talkers); nodes = ap length c.new.ensures.nodes ∙ sym (ap length c.new.ensures.talkers) };
+  progress = λ begins. progress_start _ _ _ _ _ begins refl c.new.ensures.talkers c.new.ensures.nodes c.new.ensures.standing;
   unread = omega arith;
   read_later = omega arith;
   write_later = omega arith;
@@ -21,9 +24,10 @@ loop-handled-preserved g c =
     record {
       ready = turn.ready;
       plan = turn.plan ∙ loop.plan;
-      tickets = turn.tickets;
+      even = turn.even;
       progress = λ begins. let p = loop.progress begins in
-          goes_on _ _ _ _ _ _ _ _ _ _ _ _ _ _ _ p (plan_of c.loop-handled.cluster.world) loop.plan (turn.turned c.args.world p.point p.shows p.held_is p.quiet);
+          goes_on _ _ _ _ _ _ _ _ _ _ _ _ _ _ p (plan_of c.loop-handled.cluster.world) loop.plan
+          (turn.turned c.args.world p.point (at_plan _ _ _ _ _ _ (sym loop.plan) p.shows) p.held_is);
       unread = omega (arith, loop.unread, turn.less);
       read_later = omega (arith, loop.read_later, turn.read_later);
       write_later = omega (arith, loop.write_later, turn.write_later);
@@ -33,11 +37,12 @@ pub returns-in-Err-clause-drives : goal.returns-in-Err-clause-drives
 returns-in-Err-clause-drives g c begins =
     let loop = c.loop-handled.invariant in
     let p = loop.progress begins in
-    stops _ _ _ _ _ _ _ _ _ _ _ _ _ _ _ c.in-Err.stop c.at_line.result p (plan_of c.loop-handled.cluster.world) loop.plan (c.in-Err.ensures.turned c.args.world p.point p.shows p.held_is p.quiet)
-    c.at_line.ensures.stop c.at_line.ensures.number c.requires.one begins
+    stops _ _ _ _ _ _ _ _ _ _ _ _ _ _ c.in-Err.stop c.at_line.result p (plan_of c.loop-handled.cluster.world) loop.plan
+    (c.in-Err.ensures.turned c.args.world p.point (at_plan _ _ _ _ _ _ (sym loop.plan) p.shows) p.held_is)
+    c.at_line.ensures.stop c.at_line.ensures.number begins (world_owes (view_of g.D.Disk.seen g.D.Disk.faults g.D.Disk.clock) g.met.D.Disk.seen_is_image)
 
 pub returns-in-Err-clause-read_fault : goal.returns-in-Err-clause-read_fault
 returns-in-Err-clause-read_fault g c begins is =
     let loop = c.loop-handled.invariant in
     let p = loop.progress begins in
-    omega (arith, c.in-Err.ensures.read_fault c.args.world p.point p.shows p.held_is p.quiet (ap Err (sym c.at_line.ensures.stop ∙ is)), loop.read_later)
+    omega (arith, c.in-Err.ensures.read_fault c.args.world p.point (at_plan _ _ _ _ _ _ (sym loop.plan) p.shows) p.held_is (ap Err (sym c.at_line.ensures.stop ∙ is)), loop.read_later)

@@ -1,10 +1,10 @@
-use Rattle.std.proofs.Common.{◌≡◌, ◌⊎◌, ◌+◌, ◌++◌, ◌∷◌, ◌<◌, ◌≤◌, [], ℕ, List, Option, Result, Ok, Err, Some, None, refl, sym, ap, ◌∙◌, subst, inl, inr}
+use Rattle.std.proofs.Common.{◌≡◌, ◌+◌, ◌++◌, ◌∷◌, [], ℕ, List, Option, Result, Ok, Err, Some, None, refl, sym, ap, ◌∙◌, subst, inl, inr}
 use Rattle.std.proofs.lemmas.Result.{err_from_is_err_and}
-use Rattle.drive_tape.proofs.Fed.{refused, since_shows, causes_shows, no_session}
+use Rattle.drive_tape.proofs.Fed.{refused, not_begun, since_shows, no_session}
 use Rattle.drive_tape.specs.declared.drove.TapeFault.TheVariants.{NoSuchSession}
 use Rattle.drive_tape.proofs.lines.feed_line.Goals as goal
 
 pub returns-in_default-clause-did : goal.returns-in_default-clause-did
-returns-in_default-clause-did g c start p line spelled shows held quiet =
-    refused _ _ start _ p line _ c.args.cluster.now.world held (since_shows _ _ start c.args.cluster.now p shows) (causes_shows _ _ start c.args.cluster.now p shows) _ NoSuchSession spelled
+returns-in_default-clause-did g c start p line spelled shows held =
+    refused _ start _ p line _ c.args.cluster.now.world held (since_shows _ start _ c.args.cluster.now p shows) shows.causes _ NoSuchSession spelled
     (no_session p c.args.session (c.in_default.ensures.found p.sessions shows.talks))

@@ -1,5 +1,5 @@
 use Rattle.std.proofs.Common.{arith}
-use Rattle.drive_tape.proofs.Heads.{head_start, head_goes_on, head_stops, head_ends}
+use Rattle.drive_tape.proofs.Heads.{head_start, head_goes_on, head_stops, head_ends, head_fits}
 use Rattle.drive_tape.proofs.plan_head.read_drive_head.Goals as goal
 
 pub loop-count-init : goal.loop-count-init
@@ -22,3 +22,7 @@ returns-in-Ok-End-clause-plan g c =
 pub returns-in-Err-clause-plan : goal.returns-in-Err-clause-plan
 returns-in-Err-clause-plan g c =
     head_stops _ _ _ _ _ _ _ _ _ _ c.loop-count.invariant.progress c.in-Err.ensures.turned c.at_line.ensures.stop c.at_line.ensures.number
+
+pub returns-in-Ok-End-clause-fits : goal.returns-in-Ok-End-clause-fits
+returns-in-Ok-End-clause-fits g c =
+    head_fits _ _ _ _ _ _ _ _ _ c.loop-count.invariant.progress (rw c.in-Ok-End.field-0-is at c.in-Ok-End.ensures.turned) c.finish.ensures

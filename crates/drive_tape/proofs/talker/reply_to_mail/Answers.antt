@@ -1,7 +1,7 @@
 use Rattle.std.proofs.Common.{arith}
 use Rattle.mail_model.specs.Smtp.{greeting_text}
 use Rattle.call_tickets.specs.Moves.Due.{Reply}
-use Rattle.call_tickets.specs.Seen.{answer_seen}
+use Rattle.call_tickets.specs.Seen.{given_answer}
 use Rattle.smtp_session.specs.Follows as mail
 use Rattle.drive_tape.proofs.Talkers.{replies_only}
 use Rattle.drive_tape.proofs.talker.reply_to_mail.Goals as goal
@@ -9,7 +9,7 @@ use Rattle.drive_tape.proofs.talker.reply_to_mail.Goals as goal
 pub returns-clause-replied : goal.returns-clause-replied
 returns-clause-replied c =
     let moved = c.in_ok-next.ensures.ok in
-    let answer = answer_seen c.args.answer in (
+    let answer = given_answer c.args.answer in (
       moved.0,
       moved.1,
       λ plain state call reply follows stands is.

@@ -1,129 +1,79 @@
-use Rattle.std.proofs.Common.{◌≡◌, ◌<◌, ◌≤◌, ◌+◌, ◌++◌, ◌∷◌, [], ℕ, List, Option, Some, None, Err, length, refl, sym, ap, ◌∙◌, subst, arith}
-use Rattle.std.specs.Prelude.{slice_get, slice_set}
-use Rattle.std.specs.Vec.{with_item}
-use Rattle.std.proofs.lemmas.Option.{slice_get_read}
+use Rattle.std.proofs.Common.{◌≡◌, ◌≤◌, ◌+◌, ℕ, length, Option, Some, None, refl, sym, ap, ◌∙◌, arith}
 use Rattle.std.proofs.lemmas.Result.{err_from_is_err_and}
-use Rattle.cluster_world.specs.World.{plan_of}
-use Rattle.mail_base.specs.declared.ticket.Ticket.{Ticket}
-use Rattle.drive_tape.proofs.Talks.{set_length}
-use Rattle.drive_tape.proofs.Works.{work_none, work_more}
-use Rattle.drive_tape.proofs.Clusters.{stopped_on, stopped_plan, went_plan}
-use Rattle.drive_tape.proofs.Asking.{asking, asks_past, asks_on, answered_on, answered_stops, taken_less, shows_untaken, none_of}
+use Rattle.drive_tape.proofs.Works.{work_none}
+use Rattle.drive_tape.proofs.Clusters.{went_on, stopped_on, stopped_plan, went_plan, at_plan}
+use Rattle.drive_tape.proofs.Asking.{asks_again, asks_past, none_of}
 use Rattle.drive_tape.proofs.cluster.Cluster.ask_at.Goals as goal
 
-pub loop-ticket-init : goal.loop-ticket-init
-loop-ticket-init g c = record {
-  asked = λ start p shows held asks. (p, work_none _ p, held, shows, asks);
+pub loop-open_call-init : goal.loop-open_call-init
+loop-open_call-init g c = record {
+  asked = λ start p shows held asks. record { q = p; work = work_none _ p; held_is = held; shows = shows; so_is = asks };
   ready = c.requires.ready;
   plan = refl;
   places = refl;
-  tickets = refl;
+  even = c.requires.even;
   later = omega arith;
 }
 
 pub returns-in_err-ask-clause-asked : goal.returns-in_err-ask-clause-asked
 returns-in_err-ask-clause-asked g c start p shows held asks =
     let e = err_from_is_err_and c.from_residual.result c.from_residual.ensures.1 in
-    let so_far = c.loop-ticket.invariant.asked start p shows held asks in
-    let within : c.args.place < length c.loop-ticket.self.sessions.tickets.items = omega (arith, c.requires.within, c.requires.tickets, c.loop-ticket.invariant.tickets) in
-    let has = slice_get_read _ _ _ _ refl within c.index_mut.ensures.value ∙ ap Some (sym c.take.ensures.value ∙ c.in-Some.is) in
-    let a = asking _ _ start so_far.0 c.args.place c.loop-ticket.self so_far.3 so_far.4 c.in-Some.ticket (record {
-      world = c.loop-ticket.self.world;
-      sessions = record {
-        talkers = c.loop-ticket.self.sessions.talkers;
-        tickets = with_item c.loop-ticket.self.sessions.tickets c.args.place c.take.new.self;
-        standing = c.loop-ticket.self.sessions.standing;
-      };
-    }) has refl refl refl (ap (λ (t : Option Ticket). slice_set c.loop-ticket.self.sessions.tickets.items c.args.place t) c.take.ensures.after) in
-    rw (e.1, e.2) (stopped_on _ _ start _ p so_far.0 _ _ _ so_far.1 (stopped_plan _ _ start _ _ _ _ _ _ c.loop-ticket.invariant.plan (c.in_err-ask.ensures.asked start so_far.0 a so_far.2)))
+    let loop = c.loop-open_call.invariant in
+    let so = loop.asked start p shows held asks in
+    let more = c.in_err-ask.ensures.asked start so.q (at_plan _ start _ _ _ so.q (sym loop.plan) so.shows) so.held_is so.so_is in
+    rw (e.1, e.2) (stopped_on _ start _ p so.q _ _ _ so.work (stopped_plan _ start _ _ _ _ _ _ loop.plan more))
 
-pub loop-ticket-smaller-in-Continue-branch-2 : goal.loop-ticket-smaller-in-Continue-branch-2
-loop-ticket-smaller-in-Continue-branch-2 g c =
-    let within : c.args.place < length c.loop-ticket.self.sessions.tickets.items = omega (arith, c.requires.within, c.requires.tickets, c.loop-ticket.invariant.tickets) in
-    let has = slice_get_read _ _ _ _ refl within c.index_mut.ensures.value ∙ ap Some (sym c.take.ensures.value ∙ c.in-Some.is) in
-    let less = taken_less c.loop-ticket.self.sessions c.ask.new.self.sessions c.args.place c.in-Some.ticket has
-    (ap (λ v. v.items) c.in_ok-ask.ensures.tickets ∙ ap (λ (t : Option Ticket). slice_set c.loop-ticket.self.sessions.tickets.items c.args.place t) c.take.ensures.after) c.in_ok-ask.ensures.left in
-    omega (arith, less, c.in_ok-hear.ensures.work)
+pub loop-open_call-preserved-in-Continue-branch-3 : goal.loop-open_call-preserved-in-Continue-branch-3
+loop-open_call-preserved-in-Continue-branch-3 g c =
+    let loop = c.loop-open_call.invariant in
+    record {
+      asked = λ start p shows held asks.
+          let so = loop.asked start p shows held asks in
+          let heard = rw c.in-On.is at c.in_ok-ask.ensures.asked start so.q (at_plan _ start _ _ _ so.q (sym loop.plan) so.shows) so.held_is so.so_is in
+          let rests = c.in_ok-hear-in-On.ensures.heard start heard.q (c.args.place + 1) (at_plan _ start _ _ _ heard.q (sym c.in_ok-ask.ensures.plan) heard.shows) heard.held_is heard.so_is in
+          went_on _ start _ p so.q _ _ _ so.work (went_plan _ start _ _ _ _ _ _ loop.plan
+          (asks_again _ start _ so.q c.args.place _ _ (went_on _ start _ so.q heard.q _ _ _ heard.work (went_plan _ start _ _ _ _ _ _ c.in_ok-ask.ensures.plan rests))));
+      ready = c.in_ok-hear-in-On.ensures.ready;
+      plan = c.in_ok-hear-in-On.ensures.plan ∙ c.in_ok-ask.ensures.plan ∙ loop.plan;
+      places = c.in_ok-hear-in-On.ensures.length ∙ c.in_ok-ask.ensures.length ∙ loop.places;
+      even = c.in_ok-hear-in-On.ensures.even;
+      later = omega (arith, loop.later, c.in_ok-ask.ensures.later, c.in_ok-hear-in-On.ensures.later);
+    }
 
-pub loop-ticket-preserved-in-Continue-branch-2 : goal.loop-ticket-preserved-in-Continue-branch-2
-loop-ticket-preserved-in-Continue-branch-2 g c = record {
-  asked = λ start p shows held asks.
-      let so_far = c.loop-ticket.invariant.asked start p shows held asks in
-      let within : c.args.place < length c.loop-ticket.self.sessions.tickets.items = omega (arith, c.requires.within, c.requires.tickets, c.loop-ticket.invariant.tickets) in
-      let has = slice_get_read _ _ _ _ refl within c.index_mut.ensures.value ∙ ap Some (sym c.take.ensures.value ∙ c.in-Some.is) in
-      let a = asking _ _ start so_far.0 c.args.place c.loop-ticket.self so_far.3 so_far.4 c.in-Some.ticket (record {
-        world = c.loop-ticket.self.world;
-        sessions = record {
-          talkers = c.loop-ticket.self.sessions.talkers;
-          tickets = with_item c.loop-ticket.self.sessions.tickets c.args.place c.take.new.self;
-          standing = c.loop-ticket.self.sessions.standing;
-        };
-      }) has refl refl refl (ap (λ (t : Option Ticket). slice_set c.loop-ticket.self.sessions.tickets.items c.args.place t) c.take.ensures.after) in
-      answered_on _ _ start _ _ _ p so_far.0 c.args.place _ _ c.ask.new.self so_far.1 c.loop-ticket.invariant.plan (c.in_ok-ask.ensures.plan ∙ c.loop-ticket.invariant.plan)
-      (rw c.if-branch.true at c.in_ok-ask.ensures.asked start so_far.0 a so_far.2) c.hear.new.self (λ r shown holds hears. c.in_ok-hear.ensures.heard start r (c.args.place + 1) shown holds hears);
-  ready = c.in_ok-hear.ensures.ready;
-  plan = c.in_ok-hear.ensures.plan ∙ c.in_ok-ask.ensures.plan ∙ c.loop-ticket.invariant.plan;
-  places = c.in_ok-hear.ensures.length ∙ c.in_ok-ask.ensures.length ∙ c.loop-ticket.invariant.places;
-  tickets = c.in_ok-hear.ensures.tickets ∙ ap (λ v. length v.items) c.in_ok-ask.ensures.tickets ∙ set_length c.loop-ticket.self.sessions.tickets.items c.args.place c.take.new.self ∙ c.loop-ticket.invariant.tickets;
-  later = omega (arith, c.loop-ticket.invariant.later, c.in_ok-ask.ensures.later, c.in_ok-hear.ensures.later);
-}
+pub returns-in_err-hear-in-On-clause-asked : goal.returns-in_err-hear-in-On-clause-asked
+returns-in_err-hear-in-On-clause-asked g c start p shows held asks =
+    let e = err_from_is_err_and c.from_residual-in_err-hear-in-On.result c.from_residual-in_err-hear-in-On.ensures.1 in
+    let loop = c.loop-open_call.invariant in
+    let so = loop.asked start p shows held asks in
+    let heard = rw c.in-On.is at c.in_ok-ask.ensures.asked start so.q (at_plan _ start _ _ _ so.q (sym loop.plan) so.shows) so.held_is so.so_is in
+    let more = c.in_err-hear-in-On.ensures.heard start heard.q (c.args.place + 1) (at_plan _ start _ _ _ heard.q (sym c.in_ok-ask.ensures.plan) heard.shows) heard.held_is heard.so_is in
+    rw (e.1, e.2) (stopped_on _ start _ p so.q _ _ _ so.work (stopped_plan _ start _ _ _ _ _ _ loop.plan
+    (stopped_on _ start _ so.q heard.q _ _ _ heard.work (stopped_plan _ start _ _ _ _ _ _ c.in_ok-ask.ensures.plan more))))
 
-pub returns-in_err-hear-clause-asked : goal.returns-in_err-hear-clause-asked
-returns-in_err-hear-clause-asked g c start p shows held asks =
-    let e = err_from_is_err_and c.from_residual-in_err-hear.result c.from_residual-in_err-hear.ensures.1 in
-    let so_far = c.loop-ticket.invariant.asked start p shows held asks in
-    let within : c.args.place < length c.loop-ticket.self.sessions.tickets.items = omega (arith, c.requires.within, c.requires.tickets, c.loop-ticket.invariant.tickets) in
-    let has = slice_get_read _ _ _ _ refl within c.index_mut.ensures.value ∙ ap Some (sym c.take.ensures.value ∙ c.in-Some.is) in
-    let a = asking _ _ start so_far.0 c.args.place c.loop-ticket.self so_far.3 so_far.4 c.in-Some.ticket (record {
-      world = c.loop-ticket.self.world;
-      sessions = record {
-        talkers = c.loop-ticket.self.sessions.talkers;
-        tickets = with_item c.loop-ticket.self.sessions.tickets c.args.place c.take.new.self;
-        standing = c.loop-ticket.self.sessions.standing;
-      };
-    }) has refl refl refl (ap (λ (t : Option Ticket). slice_set c.loop-ticket.self.sessions.tickets.items c.args.place t) c.take.ensures.after) in
-    rw (e.1, e.2) (answered_stops _ _ start _ _ _ p so_far.0 c.args.place _ _ c.ask.new.self so_far.1 c.loop-ticket.invariant.plan (c.in_ok-ask.ensures.plan ∙ c.loop-ticket.invariant.plan)
-    (rw c.if-branch.true at c.in_ok-ask.ensures.asked start so_far.0 a so_far.2) _ c.hear.new.self.world (λ r shown holds hears. c.in_err-hear.ensures.heard start r (c.args.place + 1) shown holds hears))
+pub loop-open_call-preserved : goal.loop-open_call-preserved
+loop-open_call-preserved g c =
+    let loop = c.loop-open_call.invariant in
+    record {
+      asked = λ start p shows held asks.
+          let so = loop.asked start p shows held asks in
+          let rests = rw c.in-Rests.is at c.in_ok-ask.ensures.asked start so.q (at_plan _ start _ _ _ so.q (sym loop.plan) so.shows) so.held_is so.so_is in
+          went_on _ start _ p so.q _ _ _ so.work (went_plan _ start _ _ _ _ _ _ loop.plan (asks_again _ start _ so.q c.args.place _ _ rests));
+      ready = c.in_ok-ask.ensures.ready;
+      plan = c.in_ok-ask.ensures.plan ∙ loop.plan;
+      places = c.in_ok-ask.ensures.length ∙ loop.places;
+      even = c.in_ok-ask.ensures.even;
+      later = omega (arith, loop.later, c.in_ok-ask.ensures.later);
+    }
 
-pub loop-ticket-smaller : goal.loop-ticket-smaller
-loop-ticket-smaller g c =
-    let within : c.args.place < length c.loop-ticket.self.sessions.tickets.items = omega (arith, c.requires.within, c.requires.tickets, c.loop-ticket.invariant.tickets) in
-    let has = slice_get_read _ _ _ _ refl within c.index_mut.ensures.value ∙ ap Some (sym c.take.ensures.value ∙ c.in-Some.is) in
-    taken_less c.loop-ticket.self.sessions c.ask.new.self.sessions c.args.place c.in-Some.ticket has
-    (ap (λ v. v.items) c.in_ok-ask.ensures.tickets ∙ ap (λ (t : Option Ticket). slice_set c.loop-ticket.self.sessions.tickets.items c.args.place t) c.take.ensures.after) c.in_ok-ask.ensures.left
-
-pub loop-ticket-preserved : goal.loop-ticket-preserved
-loop-ticket-preserved g c = record {
-  asked = λ start p shows held asks.
-      let so_far = c.loop-ticket.invariant.asked start p shows held asks in
-      let within : c.args.place < length c.loop-ticket.self.sessions.tickets.items = omega (arith, c.requires.within, c.requires.tickets, c.loop-ticket.invariant.tickets) in
-      let has = slice_get_read _ _ _ _ refl within c.index_mut.ensures.value ∙ ap Some (sym c.take.ensures.value ∙ c.in-Some.is) in
-      let a = asking _ _ start so_far.0 c.args.place c.loop-ticket.self so_far.3 so_far.4 c.in-Some.ticket (record {
-        world = c.loop-ticket.self.world;
-        sessions = record {
-          talkers = c.loop-ticket.self.sessions.talkers;
-          tickets = with_item c.loop-ticket.self.sessions.tickets c.args.place c.take.new.self;
-          standing = c.loop-ticket.self.sessions.standing;
-        };
-      }) has refl refl refl (ap (λ (t : Option Ticket). slice_set c.loop-ticket.self.sessions.tickets.items c.args.place t) c.take.ensures.after) in
-      let went = went_plan _ _ start _ _ _ _ _ _ c.loop-ticket.invariant.plan (rw c.if-branch.false at c.in_ok-ask.ensures.asked start so_far.0 a so_far.2) in
-      (went.q, work_more _ p so_far.0 went.q so_far.1 went.work, went.held_is, went.shows, asks_on c.args.place went.q went.so_is);
-  ready = c.in_ok-ask.ensures.ready;
-  plan = c.in_ok-ask.ensures.plan ∙ c.loop-ticket.invariant.plan;
-  places = c.in_ok-ask.ensures.length ∙ c.loop-ticket.invariant.places;
-  tickets = ap (λ v. length v.items) c.in_ok-ask.ensures.tickets ∙ set_length c.loop-ticket.self.sessions.tickets.items c.args.place c.take.new.self ∙ c.loop-ticket.invariant.tickets;
-  later = omega (arith, c.loop-ticket.invariant.later, c.in_ok-ask.ensures.later);
-}
+pub returns-in-StillWaits-clause-asked : goal.returns-in-StillWaits-clause-asked
+returns-in-StillWaits-clause-asked g c start p shows held asks =
+    let loop = c.loop-open_call.invariant in
+    let so = loop.asked start p shows held asks in
+    let rests = rw c.in-StillWaits.is at c.in_ok-ask.ensures.asked start so.q (at_plan _ start _ _ _ so.q (sym loop.plan) so.shows) so.held_is so.so_is in
+    went_on _ start _ p so.q _ _ _ so.work (went_plan _ start _ _ _ _ _ _ loop.plan (asks_again _ start _ so.q (c.args.place + 1) _ _ rests))
 
 pub returns-clause-asked : goal.returns-clause-asked
 returns-clause-asked g c start p shows held asks =
-    let so_far = c.loop-ticket.invariant.asked start p shows held asks in
-    let within : c.args.place < length c.loop-ticket.self.sessions.tickets.items = omega (arith, c.requires.within, c.requires.tickets, c.loop-ticket.invariant.tickets) in
-    let none = slice_get_read _ _ _ _ refl within c.index_mut.ensures.value ∙ ap Some (sym c.take.ensures.value ∙ none_of c.take.result c.in_default.not-Some) in
-    record {
-      q = so_far.0;
-      work = so_far.1;
-      held_is = so_far.2;
-      shows = shows_untaken _ _ start so_far.0 c.args.place c.loop-ticket.self _ so_far.3 refl refl refl (ap (λ (t : Option Ticket). slice_set c.loop-ticket.self.sessions.tickets.items c.args.place t) c.take.ensures.after) none;
-      so_is = asks_past _ _ start so_far.0 c.args.place c.loop-ticket.self so_far.3 so_far.4 none;
-    }
+    let so = c.loop-open_call.invariant.asked start p shows held asks in
+    let none = c.waiting.ensures ∙ ap Some (none_of c.waiting.result c.in_default.not-Some) in
+    record { q = so.q; work = so.work; held_is = so.held_is; shows = so.shows; so_is = asks_past _ start _ so.q c.args.place c.loop-open_call.self so.shows so.so_is none }

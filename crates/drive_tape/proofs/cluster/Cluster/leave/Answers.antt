@@ -1,17 +1,17 @@
-use Rattle.std.proofs.Common.{refl}
+use Rattle.std.proofs.Common.{◌≡◌, ◌+◌, ℕ, refl, sym, ap, ◌∙◌, subst}
 use Rattle.std.proofs.lemmas.Result.{err_from_is_err_and}
 use Rattle.drive_tape.proofs.Clusters.{stays_ended, has_left, stops_leaving}
 use Rattle.drive_tape.proofs.cluster.Cluster.leave.Goals as goal
 
 pub returns-in_err-leave-in-Some-clause-left : goal.returns-in_err-leave-in-Some-clause-left
-returns-in_err-leave-in-Some-clause-left g c start p place onward shows ends =
+returns-in_err-leave-in-Some-clause-left g c start p onward shows ends =
     let e = err_from_is_err_and c.from_residual.result c.from_residual.ensures.1 in
-    rw (e.1, e.2) (stops_leaving _ _ start _ p place onward c.args.self.now _ c.in-Some.call shows (rw c.in-Some.is at ends) (λ user is at. c.leave.ensures.left start p.outcomes _ user is at))
+    rw (e.1, e.2) (stops_leaving _ start _ p c.args.place onward _ c.args.self.now _ c.in-Some.call shows (rw c.in-Some.is at ends) (λ user is. c.in_err-leave-in-Some.ensures.left start p.outcomes p.awaited (c.args.place + 1) user is shows.at))
 
 pub returns-in_ok-leave-in-Some-clause-left : goal.returns-in_ok-leave-in-Some-clause-left
-returns-in_ok-leave-in-Some-clause-left g c start p place onward shows ends =
-    has_left _ _ start _ p place onward c.args.self.now _ c.in-Some.call shows (rw c.in-Some.is at ends) refl c.in_ok-leave-in-Some.ensures.up
-    (λ user is at. c.in_ok-leave-in-Some.ensures.left start p.outcomes _ user is at)
+returns-in_ok-leave-in-Some-clause-left g c start p onward shows ends =
+    has_left _ start _ p c.args.place onward _ c.args.self.now _ c.in-Some.call shows (rw c.in-Some.is at ends) refl
+    (λ user is. c.in_ok-leave-in-Some.ensures.left start p.outcomes p.awaited (c.args.place + 1) user is shows.at)
 
 pub returns-in-None-clause-left : goal.returns-in-None-clause-left
-returns-in-None-clause-left g c start p place onward shows ends = stays_ended _ _ start _ p place onward c.args.self.now c.args.self.now shows (rw c.in-None.is at ends)
+returns-in-None-clause-left g c start p onward shows ends = stays_ended _ start _ p c.args.place onward 0 c.args.self.now c.args.self.now shows (rw c.in-None.is at ends)

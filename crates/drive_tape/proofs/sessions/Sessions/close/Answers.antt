@@ -10,7 +10,7 @@ use Rattle.drive_tape.specs.Talks.{Converse, Sits}
 use Rattle.drive_tape.specs.declared.talker.Talker.{Talker}
 use Rattle.call_tickets.specs.Moves.Due.{Nothing}
 use Rattle.drive_tape.specs.Speakers.{Matches}
-use Rattle.drive_tape.proofs.Talks.{matches_at, node_at, found_at, sit_none, is_on_so, it_is, it_is_not, converse_more, converse_get, converse_set, none_at, at_place, set_here, set_here_with, set_length, set_same, set_twice, within_get, is_ended, on_not_ended, did_node, some_same, asks_waits}
+use Rattle.drive_tape.proofs.Talks.{matches_at, found_at, sit_none, is_on_so, it_is, it_is_not, converse_more, converse_get, converse_set, none_at, at_place, set_here, set_here_with, set_length, set_same, set_twice, within_get, is_ended, on_not_ended, did_node, some_same, asks_waits}
 use Rattle.drive_tape.proofs.Moving.{seated, waits_on, left_none, left_set}
 use Rattle.drive_tape.proofs.sessions.Sessions.close.Goals as goal
 
@@ -18,8 +18,7 @@ pub returns-in-Some-clause-closed : goal.returns-in-Some-clause-closed
 returns-in-Some-clause-closed c sessions plain all here on =
     let was = slice_get_read _ _ _ _ refl c.requires.within c.index_mut.ensures.value ∙ ap Some (sym c.take.ensures.value ∙ c.in-Some.is) in (
       c.leave.ensures plain (matches_at _ sessions c.args.place _ plain all was here),
-      converse_set _ sessions c.args.place c.take.new.self (record plain { standing = EndedClosed }) all (subst (λ (t : Option Talker). Sits t (record plain { standing = EndedClosed })) (sym c.take.ensures.after) tt)
-          (node_at _ sessions c.args.place _ plain all was here),
+      converse_set _ sessions c.args.place c.take.new.self (record plain { standing = EndedClosed }) all (subst (λ (t : Option Talker). Sits t (record plain { standing = EndedClosed })) (sym c.take.ensures.after) tt),
     )
 
 pub returns-in-None-clause-closed : goal.returns-in-None-clause-closed

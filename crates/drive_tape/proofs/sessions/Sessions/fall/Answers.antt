@@ -11,7 +11,7 @@ use Rattle.drive_tape.specs.Talks.{Converse, Sits}
 use Rattle.drive_tape.specs.declared.talker.Talker.{Talker}
 use Rattle.call_tickets.specs.Moves.Due.{Nothing}
 use Rattle.drive_tape.specs.Speakers.{Matches}
-use Rattle.drive_tape.proofs.Talks.{matches_at, node_at, found_at, sit_none, is_on_so, it_is, it_is_not, converse_more, converse_get, converse_set, none_at, at_place, set_here, set_here_with, set_length, set_same, set_twice, within_get, is_ended, on_not_ended, did_node, some_same, asks_waits}
+use Rattle.drive_tape.proofs.Talks.{matches_at, found_at, sit_none, is_on_so, it_is, it_is_not, converse_more, converse_get, converse_set, none_at, at_place, set_here, set_here_with, set_length, set_same, set_twice, within_get, is_ended, on_not_ended, did_node, some_same, asks_waits}
 use Rattle.drive_tape.proofs.Moving.{seated, stays, waits_on, left_none, left_set, left_was, fell_ended, any_plan}
 use Rattle.drive_tape.proofs.sessions.Sessions.fall.Goals as goal
 
@@ -23,7 +23,7 @@ returns-then-has_ended-clause-fell c sessions plain all here =
       record {
         says = c.requires.empty;
         talks = subst (λ (l : List Session). Converse (slice_set c.args.self.now.talkers.items c.args.place c.take.new.self) l) (set_same sessions c.args.place plain here)
-            (converse_set _ sessions c.args.place c.take.new.self plain all (subst (λ (t : Option Talker). Sits t plain) (sym c.take.ensures.after) ended) (node_at _ sessions c.args.place _ plain all was here));
+            (converse_set _ sessions c.args.place c.take.new.self plain all (subst (λ (t : Option Talker). Sits t plain) (sym c.take.ensures.after) ended));
         count = refl;
       },
     )
@@ -42,8 +42,7 @@ returns-in_ok-node_down-in-Some-clause-fell c sessions plain all here =
       says = fell.1 ∙ ap (λ (l : List ℕ). l ++ fell.0) c.requires.empty ∙ f.says;
       line = f.line;
       talks = converse_set _ sessions c.args.place c.take.new.self f.after all
-          (subst (λ (t : Option Talker). Sits t f.after) (sym c.take.ensures.after) (fell_ended any_plan plain (down_line plain.protocol plain.node ∷ []) f.after (f.did any_plan)))
-          (did_node any_plan plain Falls (down_line plain.protocol plain.node ∷ []) f.after (f.did any_plan) ∙ node_at _ sessions c.args.place _ plain all was here);
+          (subst (λ (t : Option Talker). Sits t f.after) (sym c.take.ensures.after) (fell_ended any_plan plain (down_line plain.protocol plain.node ∷ []) f.after (f.did any_plan)));
       count = c.saturating_sub-self.ensures;
     }
 

@@ -10,7 +10,7 @@ use Rattle.drive_tape.specs.Talks.{Converse, Sits}
 use Rattle.drive_tape.specs.declared.talker.Talker.{Talker}
 use Rattle.call_tickets.specs.Moves.Due.{Nothing}
 use Rattle.drive_tape.specs.Speakers.{Matches}
-use Rattle.drive_tape.proofs.Talks.{matches_at, node_at, found_at, sit_none, is_on_so, it_is, it_is_not, converse_more, converse_get, converse_set, none_at, at_place, set_here, set_here_with, set_length, set_same, set_twice, within_get, is_ended, on_not_ended, did_node, some_same, asks_waits}
+use Rattle.drive_tape.proofs.Talks.{matches_at, found_at, sit_none, is_on_so, it_is, it_is_not, converse_more, converse_get, converse_set, none_at, at_place, set_here, set_here_with, set_length, set_same, set_twice, within_get, is_ended, on_not_ended, did_node, some_same, asks_waits}
 use Rattle.drive_tape.proofs.Moving.{seated, waits_on, left_none, left_set}
 use Rattle.drive_tape.proofs.sessions.Sessions.find.Goals as goal
 

@@ -7,7 +7,7 @@ use Rattle.session_model.specs.Talk.{IsOn}
 use Rattle.session_model.specs.Talk.Standing.{EndedClosed}
 use Rattle.call_tickets.specs.Moves.{HasEnded}
 use Rattle.drive_tape.specs.Talks.{Converse}
-use Rattle.drive_tape.proofs.Talks.{matches_at, node_at, found_at, sit_none, is_on_so, it_is, it_is_not, converse_more, converse_get, converse_set, none_at, at_place, set_here, set_here_with, set_length, set_same, set_twice, within_get, is_ended, did_node, some_same, asks_waits}
+use Rattle.drive_tape.proofs.Talks.{matches_at, found_at, sit_none, is_on_so, it_is, it_is_not, converse_more, converse_get, converse_set, none_at, at_place, set_here, set_here_with, set_length, set_same, set_twice, within_get, is_ended, did_node, some_same, asks_waits}
 use Rattle.drive_tape.proofs.Moving.{seated, waits_on}
 use Rattle.drive_tape.proofs.sessions.Sessions.is_on.Goals as goal
 

@@ -11,7 +11,7 @@ use Rattle.drive_tape.specs.Talks.{Converse, Sits}
 use Rattle.drive_tape.specs.declared.talker.Talker.{Talker}
 use Rattle.call_tickets.specs.Moves.Due.{Nothing}
 use Rattle.drive_tape.specs.Speakers.{Matches}
-use Rattle.drive_tape.proofs.Talks.{matches_at, node_at, found_at, sit_none, is_on_so, it_is, it_is_not, converse_more, converse_get, converse_set, none_at, at_place, set_here, set_here_with, set_length, set_same, set_twice, within_get, is_ended, on_not_ended, did_node, some_same, asks_waits}
+use Rattle.drive_tape.proofs.Talks.{matches_at, found_at, sit_none, is_on_so, it_is, it_is_not, converse_more, converse_get, converse_set, none_at, at_place, set_here, set_here_with, set_length, set_same, set_twice, within_get, is_ended, on_not_ended, did_node, some_same, asks_waits}
 use Rattle.drive_tape.proofs.Moving.{seated, stays, waits_on, left_none, left_set, left_was}
 use Rattle.drive_tape.proofs.sessions.Sessions.next.Goals as goal
 
@@ -28,9 +28,8 @@ returns-in-Said-clause-moved c sessions plain all here =
     let moved = rw c.in-Said.is at c.in_ok-did-in-Some.ensures.moved in
     let out = moved.1 ∙ ap (λ (l : List ℕ). l ++ moved.0) c.requires.empty in
     let h = moved.2 plain (matches_at _ sessions c.args.place _ plain all there here) in
-    let node = did_node c.args.plan.now plain (Hears h.one) h.one.reply h.after h.did ∙ node_at _ sessions c.args.place _ plain all there here in
     let goes = c.after.ensures.goes_on sessions h.after c.next.new.self (set_here c.args.self.now.talkers.items c.args.place (Some c.next.new.self) c.requires.within) h.goes_on
-    (seated _ sessions c.args.place _ c.next.new.self plain h.after all there here h.goes_on (did_node c.args.plan.now plain (Hears h.one) h.one.reply h.after h.did)) node in
+    (seated _ sessions c.args.place _ c.next.new.self plain h.after all there here h.goes_on) in
     record { one = h.one; after = h.after; did = h.did; asks = h.asks; says = out ∙ h.says; lines = h.lines; talks = goes.0; goes_on = goes.1 }
 
 pub returns-in-Said-clause-less : goal.returns-in-Said-clause-less
@@ -58,7 +57,7 @@ returns-in-Begin-clause-moved c sessions plain all here =
         asks = h.2.asks;
         says = out ∙ h.2.says;
         lines = h.2.lines;
-        talks = seated _ sessions c.args.place _ c.next.new.self plain h.2.after all there here h.2.goes_on (did_node c.args.plan.now plain (Hears h.2.one) h.2.one.reply h.2.after h.2.did);
+        talks = seated _ sessions c.args.place _ c.next.new.self plain h.2.after all there here h.2.goes_on;
         goes_on = (waits_on h.2.after waits.0 h.0 waits.1, refl);
       },
     )

@@ -10,7 +10,7 @@ use Rattle.drive_tape.specs.Talks.{Converse, Sits}
 use Rattle.drive_tape.specs.declared.talker.Talker.{Talker}
 use Rattle.call_tickets.specs.Moves.Due.{Nothing}
 use Rattle.drive_tape.specs.Speakers.{Matches}
-use Rattle.drive_tape.proofs.Talks.{matches_at, node_at, found_at, sit_none, is_on_so, it_is, it_is_not, converse_more, converse_get, converse_set, none_at, at_place, set_here, set_here_with, set_length, set_same, set_twice, within_get, is_ended, on_not_ended, did_node, some_same, asks_waits}
+use Rattle.drive_tape.proofs.Talks.{matches_at, found_at, sit_none, is_on_so, it_is, it_is_not, converse_more, converse_get, converse_set, none_at, at_place, set_here, set_here_with, set_length, set_same, set_twice, within_get, is_ended, on_not_ended, did_node, some_same, asks_waits}
 use Rattle.drive_tape.proofs.Moving.{seated, waits_on, left_none, left_set}
 use Rattle.drive_tape.proofs.sessions.Sessions.open.Goals as goal
 use Rattle.std.proofs.Common.{◌++◌}
@@ -19,6 +19,5 @@ use Rattle.tape_lines.specs.Orders.{protocol_seen}
 
 pub returns-clause-talks : goal.returns-clause-talks
 returns-clause-talks c sessions all =
-    subst (λ (l : List (Option Talker)). Converse l (sessions ++ opened_session (protocol_seen c.args.protocol) 1 ∷ [])) (sym c.in_ok-push.ensures.items)
-    (converse_more _ _ _ _ all
-    (subst (λ (n : ℕ). Matches c.in_ok-talker.talker (opened_session (protocol_seen c.args.protocol) n) Nothing) c.requires.node c.in_ok-talker.ensures.opened) refl)
+    subst (λ (l : List (Option Talker)). Converse l (sessions ++ opened_session (protocol_seen c.args.protocol) c.args.node ∷ [])) (sym c.in_ok-push.ensures.items)
+    (converse_more _ _ _ _ all c.in_ok-talker.ensures.opened)

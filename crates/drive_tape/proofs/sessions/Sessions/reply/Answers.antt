@@ -11,7 +11,7 @@ use Rattle.drive_tape.specs.Talks.{Converse, Sits}
 use Rattle.drive_tape.specs.declared.talker.Talker.{Talker}
 use Rattle.call_tickets.specs.Moves.Due.{Nothing}
 use Rattle.drive_tape.specs.Speakers.{Matches}
-use Rattle.drive_tape.proofs.Talks.{matches_at, node_at, found_at, sit_none, is_on_so, it_is, it_is_not, converse_more, converse_get, converse_set, none_at, at_place, set_here, set_here_with, set_length, set_same, set_twice, within_get, is_ended, on_not_ended, did_node, some_same, asks_waits}
+use Rattle.drive_tape.proofs.Talks.{matches_at, found_at, sit_none, is_on_so, it_is, it_is_not, converse_more, converse_get, converse_set, none_at, at_place, set_here, set_here_with, set_length, set_same, set_twice, within_get, is_ended, on_not_ended, did_node, some_same, asks_waits}
 use Rattle.drive_tape.proofs.Moving.{seated, stays, waits_on, left_none, left_set, left_was}
 use Rattle.session_model.specs.Talk.Standing.{Waiting}
 use Rattle.drive_tape.proofs.sessions.Sessions.reply.Goals as goal
@@ -27,9 +27,8 @@ returns-clause-replied c sessions plain state call reply all here waits is =
     let moved = c.in_ok-reply-in-Some.ensures.replied in
     let out = moved.1 ∙ ap (λ (l : List ℕ). l ++ moved.0) c.requires.empty in
     let h = moved.2 plain state call reply (matches_at _ sessions c.args.place _ plain all there here) waits is in
-    let still = did_node c.args.plan.now plain (IsAnswered h.call _ h.reply) h.reply h.after h.did in
     let goes = c.after.ensures.goes_on sessions h.after c.reply.new.self (set_here c.args.self.now.talkers.items c.args.place (Some c.reply.new.self) c.requires.within) h.goes_on
-    (seated _ sessions c.args.place _ c.reply.new.self plain h.after all there here h.goes_on still) (still ∙ node_at _ sessions c.args.place _ plain all there here) in
+    (seated _ sessions c.args.place _ c.reply.new.self plain h.after all there here h.goes_on) in
     record { call = h.call; reply = h.reply; after = h.after; did = h.did; says = out ∙ h.says; lines = h.lines; talks = goes.0; goes_on = goes.1 }
 
 pub returns-clause-less : goal.returns-clause-less

@@ -1,0 +1,78 @@
+-- What a run line made of the cluster.
+use Rattle.std.specs.Prelude.{◌≡◌, ◌⊎◌, ℕ, false, List, [], ◌∷◌, ◌++◌, ⊤, Option, Some, None, Result, Ok, Err}
+use Rattle.object_model.specs.Lists.{Among}
+use Rattle.mail_model.specs.Plan.{Plan}
+use Rattle.mail_model.specs.Tape.{ClusterOrder}
+use Rattle.session_model.specs.Acts.{Act}
+use Rattle.session_model.specs.Acts.Act.{Makes}
+use Rattle.session_model.specs.Events.{IsEventOf, failed_by_event}
+use Rattle.session_model.specs.Lives.{life_after}
+use Rattle.session_model.specs.Run.{IsAlwaysDone, cluster_refusal}
+use Rattle.node_store.specs.Disks.{View}
+use Rattle.cluster_world.specs.Worlds.{plan_of}
+use Rattle.cluster_world.specs.Steps.{IsStep}
+use Rattle.cluster_world.specs.Outcomes.{Outcome, Awaited, StepMade, MakesSteps, left_after}
+use Rattle.cluster_world.specs.Outcomes.Outcome.{Moved}
+use Rattle.cluster_world.specs.declared.world.World.{World}
+use Rattle.cluster_world.specs.declared.step.Step.TheVariants as step
+use Rattle.cluster_world.specs.declared.step.Said.{Said}
+use Rattle.cluster_world.specs.declared.step.Said.TheVariants as said
+use Rattle.cluster_world.specs.declared.fault.StepFault.{StepFault}
+use Rattle.drive_tape.specs.declared.drove.Stop.{Stop}
+use Rattle.drive_tape.specs.declared.event.ClusterEvent.{ClusterEvent}
+use Rattle.drive_tape.specs.declared.event.ClusterEvent.TheVariants as event
+use Rattle.drive_tape.specs.Denials.{stop_by}
+use Rattle.drive_tape.specs.Happenings.{event_seen, fallen_by}
+use Rattle.drive_tape.specs.Worlds.{WorldIsAt, WentTo, HasGone, AreLives, HasFailed}
+
+-- The order is not refused to a world that the acts so far left.
+pub record IsFit {D : Type 0} (on : View D) (start : World D) (outcomes : List Outcome) (awaited : List Awaited) (been : List Act) (order : ClusterOrder) (world : World D) : Type 0 where
+  pub at : WorldIsAt on start outcomes awaited world
+  pub lives : AreLives (plan_of world) been world
+  pub accepted : cluster_refusal (plan_of world) (life_after been) order ≡ None
+
+-- The steps were made, and this came of them.
+pub record Happened {D : Type 0} (on : View D) (start : World D) (outcomes : List Outcome) (awaited : List Awaited) (been : List Act) (old : World D) (order : ClusterOrder) (event : ClusterEvent) (world : World D) : Type 0 where
+  pub steps : List StepMade
+  pub at : WentTo on start old (outcomes ++ Moved order steps ∷ []) (left_after (fallen_by (event_seen event)) awaited) world
+  pub is : IsEventOf (plan_of old) (life_after been) order (event_seen event)
+  pub lives : AreLives (plan_of old) (been ++ Makes order (event_seen event) ∷ []) world
+  pub cause : (n : ℕ) → Among n (failed_by_event (event_seen event)) → HasFailed on start world n
+
+-- the last of the steps was refused, and so the work stops
+pub record IsDeniedBy (steps : List StepMade) (stop : Stop) : Type 0 where
+  pub before : List StepMade
+  pub one : StepMade
+  pub last : steps ≡ before ++ one ∷ []
+  pub why : StepFault
+  pub refused : one.result ≡ Err why
+  pub stops : stop ≡ stop_by why
+
+abbrev pub MovedSo : {D : Type 0} → View D → World D → List Outcome → List Awaited → List Act → World D → ClusterOrder → Result ClusterEvent Stop → World D → Type 0
+MovedSo on start outcomes awaited been old order (Ok event) world = Happened on start outcomes awaited been old order event world
+MovedSo on start outcomes awaited been old order (Err stop) world =
+    (IsAlwaysDone order → ⊥) × (steps : List StepMade) × IsDeniedBy steps stop × HasGone on start old (outcomes ++ Moved order steps ∷ []) world
+
+-- one node pushed to another
+abbrev pub PushedSo : {D : Type 0} → View D → ℕ → Result (Option ℕ) Stop → World D → World D → Type 0
+PushedSo on from (Ok (Some letters)) old new = (to : ℕ) × IsStep on (Ok (said.Sent letters)) (step.Push from to) old new
+PushedSo on from (Ok None) old new = (to : ℕ) × IsStep on (Ok (said.Faulted from)) (step.Push from to) old new
+PushedSo on from (Err stop) old new = (to : ℕ) × (why : StepFault) × (stop ≡ stop_by why) × IsStep on (Err why) (step.Push from to) old new
+
+-- the same, where it may be that node itself, which sends nothing
+abbrev pub PushesSo : {D : Type 0} → View D → ℕ → Result (Option ℕ) Stop → World D → World D → Type 0
+PushesSo on from (Ok (Some letters)) old new = (new ≡ old) ⊎ PushedSo on from (Ok (Some letters)) old new
+PushesSo on from result old new = PushedSo on from result old new
+
+-- what is said of a letter that was posted
+abbrev pub PostsTo : ℕ → Result Said StepFault → Result ClusterEvent Stop → Type 0
+PostsTo letter (Ok said.Heard) (Ok happened) = happened ≡ event.WasHeard letter
+PostsTo letter (Ok said.Heard) (Err stop) = ⊥
+PostsTo letter (Ok (said.Thrown why)) (Ok happened) = happened ≡ event.WasThrown letter why
+PostsTo letter (Ok (said.Thrown why)) (Err stop) = ⊥
+PostsTo letter (Ok (said.Faulted node)) (Ok happened) = happened ≡ event.HasFaulted node
+PostsTo letter (Ok (said.Faulted node)) (Err stop) = ⊥
+PostsTo letter (Ok said) (Ok happened) = ⊥
+PostsTo letter (Ok said) (Err stop) = ⊤
+PostsTo letter (Err why) (Ok happened) = ⊥
+PostsTo letter (Err why) (Err stop) = stop ≡ stop_by why
