@@ -20,7 +20,7 @@ def octets(literal):
 
 def main():
     differ = False
-    tables = re.findall(r'const ([A-Z]+): &\[u8\] = b"(.*?)";', TABLES.read_text(), re.S)
+    tables = re.findall(r'const ([A-Z_]+): &\[u8\] = b"(.*?)";', TABLES.read_text(), re.S)
     for tape in sorted(HERE.glob("*.tape")):
         if tape.stem not in [name.lower() for name, _ in tables]:
             print(f"{tape.name} is in no table")
