@@ -4,7 +4,6 @@ use Rattle.mail_model.specs.Lines.{HasNoCrlf, sent_line}
 use Rattle.mail_model.specs.Plan.{Plan}
 use Rattle.mail_model.specs.Told.{HasNoUnit}
 use Rattle.session_model.specs.Calls as model
-use Rattle.session_model.specs.Calls.{IsReply}
 use Rattle.session_model.specs.Talk.{Exchange, Standing, in_text, down_line}
 use Rattle.session_model.specs.Talk.Standing.{Hearing, Waiting, EndedByQuit, EndedDown, EndedClosed}
 use Rattle.session_model.specs.Sessions.{Session}

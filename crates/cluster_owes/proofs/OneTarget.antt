@@ -1,5 +1,5 @@
 -- In a plan of one node the node itself is asked, and confirms as a call begins.
-use Rattle.std.proofs.Common.{◌≡◌, inl, inr, ◌<◌, ◌≤◌, ◌+◌, ◌-◌, ◌%◌, ℕ, zero, suc, Bool, true, false, not, List, [], ◌∷◌, ◌++◌, length, map, take, refl, sym, ap, ◌∙◌, subst, arith, true≢false, if◌then◌else◌}
+use Rattle.std.proofs.Common.{◌≡◌, inl, inr, ◌≤◌, ◌+◌, ◌-◌, ◌%◌, ℕ, zero, suc, Bool, true, false, not, List, [], ◌∷◌, ◌++◌, length, map, take, refl, sym, ap, ◌∙◌, subst, arith, true≢false, if◌then◌else◌}
 use Rattle.std.specs.Prelude.{nat_lt, nat_le}
 use Rattle.mail_model.specs.Told.{Mail}
 use Rattle.object_model.specs.Mishaps.{no_mishaps, counted, mishaps_of}
@@ -10,9 +10,9 @@ use Rattle.object_model.specs.Sets.{has, one_node, with_node, nodes_in}
 use Rattle.object_model.proofs.SetLaws.{has_right, one_has}
 use Rattle.cluster_model.specs.Cluster.{Want, Node, members_of}
 use Rattle.cluster_model.specs.Cluster.AskedOfNodes.{Deletion}
-use Rattle.cluster_model.specs.Rules.{StrikeItem, new_want, dated}
+use Rattle.cluster_model.specs.Rules.{new_want, dated}
 use Rattle.cluster_model.specs.Targets.{deliver_targets, strike_asks, turned, position_of, set_of}
-use Rattle.cluster_model.specs.Steps.{NodeCall, Struck, fails_at_once, has_few_members, end_of_dates}
+use Rattle.cluster_model.specs.Steps.{Struck, fails_at_once, has_few_members, end_of_dates}
 use Rattle.cluster_model.specs.Steps.NodeCall.{Deliver, Strike}
 use Rattle.cluster_model.specs.Makes.{targets_for, asked_for}
 

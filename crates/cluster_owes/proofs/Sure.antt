@@ -1,31 +1,28 @@
 -- In a plan of one node each ticket that stands is confirmed.
-use Rattle.std.proofs.Common.{◌≡◌, ◌⊎◌, inl, inr, ⊎_elim, ◌<◌, ◌≤◌, ◌+◌, ℕ, zero, suc, Bool, true, false, List, [], ◌∷◌, ◌++◌, map, Option, Some, None, refl, sym, ap, ◌∙◌, subst, arith, true≢false, le_trans, if◌then◌else◌}
-use Rattle.std.specs.Prelude.{nat_le, nat_eq, ◌&&◌}
+use Rattle.std.proofs.Common.{◌≡◌, ◌⊎◌, inl, inr, ⊎_elim, ◌≤◌, ◌+◌, ℕ, zero, suc, Bool, true, false, List, [], ◌∷◌, ◌++◌, Option, Some, None, refl, sym, ap, ◌∙◌, subst, arith}
 use Rattle.std.specs.FinMap as fin
 use Rattle.std.specs.Ordering.{nat_cmp}
 use Rattle.std.specs.List.{list_all}
-use Rattle.std.proofs.lemmas.Bool.{and_from, le-leb}
+use Rattle.std.proofs.lemmas.Bool.{le-leb}
 use Rattle.mail_model.specs.Plan.{Plan}
 use Rattle.mail_model.specs.Record.{Record}
-use Rattle.mail_model.specs.Told.{Mail}
 use Rattle.object_model.specs.Lists.{Among}
-use Rattle.object_model.specs.Sets.{has, one_node, count_in, count_below}
+use Rattle.object_model.specs.Sets.{has, count_in, count_below}
 use Rattle.object_model.specs.Letters.{Number}
 use Rattle.object_model.proofs.SetLaws.{has_one}
-use Rattle.session_model.specs.Calls.{Call}
 use Rattle.cluster_model.specs.Reads.{Found}
-use Rattle.cluster_model.specs.Cluster.{Want, Ticket, Node, Slot, slot_at, CallKind}
-use Rattle.cluster_model.specs.Rules.{Reaction, new_number, refuse, begin_read, end_ticket, ticket_at}
-use Rattle.cluster_model.specs.Progress.{Ask, is_confirmed, ask_of, ask_of_found, ask_of_wants}
+use Rattle.cluster_model.specs.Cluster.{Want, Ticket, Node, Slot, slot_at}
+use Rattle.cluster_model.specs.Rules.{Reaction, refuse, begin_read, end_ticket}
+use Rattle.cluster_model.specs.Progress.{is_confirmed, ask_of, ask_of_found}
 use Rattle.cluster_model.specs.Progress.Ask.{Pending, Done}
 use Rattle.cluster_model.specs.Deeds.{slot_up}
 use Rattle.cluster_model.specs.Parts.{Sound}
 use Rattle.cluster_model.specs.World.{World, cluster_of}
-use Rattle.cluster_model.specs.WorldLaws.{InPlan, opening_world, fresh_slots, fresh_slot}
-use Rattle.cluster_model.specs.Steps.{NodeCall, Step, Said, StepOutcome, Struck, fails_at_once, mishaps_of_call, ids_drawn}
+use Rattle.cluster_model.specs.WorldLaws.{InPlan, opening_world, fresh_slot}
+use Rattle.cluster_model.specs.Steps.{NodeCall, Step, Said, StepOutcome, fails_at_once, mishaps_of_call, ids_drawn}
 use Rattle.cluster_model.specs.Steps.NodeCall.{Deliver, Login, Fetch, Strike, Leave}
 use Rattle.cluster_model.specs.Steps.Step.{Begin, AskFor, GiveUp}
-use Rattle.cluster_model.specs.Steps.Said.{Begun, Asked as AskedFor, Faulted}
+use Rattle.cluster_model.specs.Steps.Said.{Begun, Asked as AskedFor}
 use Rattle.cluster_model.specs.Steps.StepOutcome.{Says, NoMemory}
 use Rattle.cluster_model.specs.Makes.{IsUp, after, with_struck, IsFiled, begun_by, BeginsCall, AnswersAsk, NodeGoesDown, RunsShort, MakesStep}
 use Rattle.cluster_model.specs.Makes.BeginsCall.{FailsAtOnce, Goes, FailsInIt, Reads, FailsReading, Leaves}
@@ -33,14 +30,14 @@ use Rattle.cluster_model.specs.Makes.AnswersAsk.{Waits, Ends}
 use Rattle.cluster_model.specs.Makes.RunsShort.{Beginning, Hearing, Widening, Starting}
 use Rattle.cluster_model.proofs.Counting.{count_le}
 use Rattle.cluster_model.proofs.Opening.{opening_sound}
-use Rattle.cluster_owes.specs.Outcomes.{Outcome, BegunCall, Came, Makes, IsFall, IsOther, begun_by_outcome}
+use Rattle.cluster_owes.specs.Outcomes.{Outcome, BegunCall, Came, Makes, IsFall, begun_by_outcome}
 use Rattle.cluster_owes.specs.Outcomes.Outcome.{Began, Fell, Answers, GaveUp, Other}
 use Rattle.cluster_owes.specs.Laws.{NoneWaits}
-use Rattle.cluster_owes.proofs.Standing.{StandsAs, NoneNew, SameWant, SameWants, SameCall, slot_quiet, same_up}
+use Rattle.cluster_owes.proofs.Standing.{StandsAs, NoneNew, SameWants, SameCall, slot_quiet, same_up}
 use Rattle.cluster_owes.proofs.NodeSteps.{end_goes}
-use Rattle.cluster_owes.proofs.WorldSteps.{TicketsStep, OtherGoes, steps_so, other_goes, cut_goes}
+use Rattle.cluster_owes.proofs.WorldSteps.{TicketsStep, steps_so, other_goes, cut_goes}
 use Rattle.cluster_owes.proofs.Beginning.{begun_tickets, begun_stands}
-use Rattle.cluster_owes.proofs.QuietSteps.{StepKept, step_kept}
+use Rattle.cluster_owes.proofs.QuietSteps.{step_kept}
 use Rattle.cluster_owes.proofs.Answering.{ticket_stands}
 use Rattle.cluster_owes.proofs.OneTarget.{delivery_sure, deletion_sure}
 

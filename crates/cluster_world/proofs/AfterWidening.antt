@@ -1,5 +1,5 @@
 -- What a step leaves in which one node worked: that node is up as before, did its work, or went down in it.
-use Rattle.std.proofs.Common.{get_or, ◌≡◌, ◌≢◌, ◌⊎◌, inl, ℕ, zero, suc, ◌+◌, ◌≤◌, true, false, List, [], ◌∷◌, ◌++◌, append-nil, All, Option, Some, None, Result, Ok, refl, sym, ap, ◌∙◌, subst, arith}
+use Rattle.std.proofs.Common.{get_or, ◌≡◌, ◌≢◌, ◌⊎◌, inl, ℕ, zero, suc, ◌+◌, ◌≤◌, true, false, List, [], ◌∷◌, ◌++◌, append-nil, Option, Some, None, Result, Ok, refl, sym, ap, ◌∙◌, subst, arith}
 use Rattle.std.specs.Prelude.{⊤, IfSome, is_some, slice_get}
 use Rattle.std.proofs.lemmas.Option.{slice_get-get_or}
 use Rattle.std.specs.List.{list_all}
@@ -9,10 +9,9 @@ use Rattle.io_edge.specs.Causes.{Rose}
 use Rattle.io_edge.specs.Moments.{Passed, Keeps as KeepsImages}
 use Rattle.io_edge.specs.Octets.{IsToldAlike}
 use Rattle.mail_model.specs.Plan.{Plan}
-use Rattle.mail_model.specs.Record.{Record, IsJournal, payloads_of}
-use Rattle.mail_model.specs.Grammar.{IsRecord}
+use Rattle.mail_model.specs.Record.{Record, payloads_of}
 use Rattle.object_model.specs.Letters.{Letter}
-use Rattle.session_model.specs.Events.{NodeLife, NodeLife as life, turned}
+use Rattle.session_model.specs.Events.{NodeLife as life, turned}
 use Rattle.cluster_model.specs.Cluster as plain
 use Rattle.cluster_model.specs.Cluster.{Slot, slot_at, with_slot}
 use Rattle.cluster_model.specs.Deeds.{slot_up}
@@ -28,7 +27,7 @@ use Rattle.node_core.specs.declared.node.Node.{Node}
 use Rattle.world_book.specs.declared.book.Book.{Book}
 use Rattle.cluster_world.specs.Flights.{InFlight}
 use Rattle.cluster_world.specs.Lives.{life_seen, of_node, falls_left, all_falls_left, CanWorkOn}
-use Rattle.cluster_world.specs.Stands.{StandsUp, SlotStands, SlotsStand}
+use Rattle.cluster_world.specs.Stands.{SlotStands, SlotsStand}
 use Rattle.cluster_world.specs.Worlds.{life_among, seen_life, state_with}
 use Rattle.cluster_world.specs.Changes.{ChangesNode}
 use Rattle.cluster_world.specs.Moments.{IsStopOf, StopsKeep}
@@ -43,7 +42,7 @@ use Rattle.cluster_world.specs.declared.step.Step.{Step}
 use Rattle.cluster_world.specs.declared.step.Step.TheVariants.{Begin, Ask, GiveUp, Post, Drop, Push, Widen, Crash, Start, Lose}
 use Rattle.cluster_world.specs.declared.step.Said.TheVariants.{Faulted}
 use Rattle.cluster_world.specs.declared.fault.StepFault.TheVariants as fault
-use Rattle.cluster_world.proofs.Worked.{did_turned, cut_down, if_both, if_told, passed}
+use Rattle.cluster_world.proofs.Worked.{did_turned, cut_down, if_told, passed}
 use Rattle.cluster_world.proofs.Still.{some_same, if_some, images_stop}
 use Rattle.cluster_world.proofs.Falling.{fallen}
 use Rattle.cluster_world.proofs.Turned.{disk_there, slot_of, slots_stand, stops_kept, lives_turned, told_by, quiet_by, settled_by, still_ready, falls_now}

@@ -1,37 +1,33 @@
 -- What a step leaves in which one node worked, and after which tickets may have changed: the node did its work, or stopped in it, or went down after it.
-use Rattle.std.proofs.Common.{◌≡◌, ◌≢◌, ◌⊎◌, inl, inr, ⊎_elim, ℕ, zero, suc, ◌+◌, ◌≤◌, Bool, true, false, List, [], ◌∷◌, ◌++◌, length, append-nil, All, Option, Some, None, Result, refl, sym, ap, ◌∙◌, subst, arith}
-use Rattle.std.specs.Prelude.{slice_set, IfSome, IfOk, is_some}
+use Rattle.std.proofs.Common.{◌≡◌, ◌≢◌, ℕ, zero, suc, ◌+◌, ◌≤◌, List, [], ◌∷◌, ◌++◌, length, append-nil, Option, Some, Result, refl, sym, ap, ◌∙◌, subst}
+use Rattle.std.specs.Prelude.{slice_set, IfSome, IfOk}
 use Rattle.mail_model.specs.Plan.{Plan}
 use Rattle.mail_model.specs.Record.{Record, payloads_of}
-use Rattle.mail_model.specs.Grammar.{IsRecord}
 use Rattle.mail_model.specs.Book.{BookEntry}
 use Rattle.mail_model.specs.Book.BookEntry.{WentDown}
 use Rattle.object_model.specs.Letters.{Letter}
 use Rattle.object_model.specs.Mishaps.MishapKind.{Crowded}
-use Rattle.session_model.specs.Events.{NodeLife, NodeLife as life, turned}
+use Rattle.session_model.specs.Events.{NodeLife as life, turned}
 use Rattle.io_edge.specs.Octets.{IsToldAlike}
 use Rattle.cluster_model.specs.Cluster as plain
 use Rattle.cluster_model.specs.Cluster.{Slot, slot_at, with_slot}
 use Rattle.cluster_model.specs.Deeds.{slot_up}
-use Rattle.cluster_model.specs.Room.{Flight, has_room}
-use Rattle.cluster_model.specs.Rules.{Reaction}
+use Rattle.cluster_model.specs.Room.{Flight}
 use Rattle.cluster_model.specs.World as machine
-use Rattle.cluster_model.specs.World.{put}
 use Rattle.cluster_model.specs.Makes.{IsUp, IsWorkCut, after}
 use Rattle.disk_journal.specs.Journal.{EndsAt, TellsJournal}
 use Rattle.node_store.specs.Disks.{View}
-use Rattle.node_core.specs.Nodes.{node_seen, end_in, IsAsBefore, IsNodeOf, CanWork}
+use Rattle.node_core.specs.Nodes.{node_seen, IsAsBefore, IsNodeOf, CanWork}
 use Rattle.node_core.specs.Works.{Rule, NodeDid, NodeStopped}
-use Rattle.node_core.specs.Starting.{MayHold}
 use Rattle.node_core.specs.declared.node.Node.{Node}
 use Rattle.world_book.specs.declared.book.Book.{Book}
 use Rattle.cluster_world.specs.Books.{booked_by}
 use Rattle.cluster_world.specs.Flights.{InFlight, PutDown, put_down, left_without, taken_out}
 use Rattle.cluster_world.specs.Lives.{life_seen, of_node, with_node_at, falls_left, all_falls_left, CanWorkOn}
-use Rattle.cluster_world.specs.Stands.{StandsUp, SlotStands, SlotsStand}
+use Rattle.cluster_world.specs.Stands.{SlotStands, SlotsStand}
 use Rattle.cluster_world.specs.Worlds.{State, seen_life, life_among, state_with, Stands}
 use Rattle.cluster_world.specs.Changes.{ChangesNode, IsTurnedTo}
-use Rattle.cluster_world.specs.Missing.{all_missed, OnlyTickets, Noticed, SentOff}
+use Rattle.cluster_world.specs.Missing.{all_missed, OnlyTickets, SentOff}
 use Rattle.cluster_world.specs.Moments.{StopsKeep}
 use Rattle.cluster_world.specs.Works.{slot_after, SlotTurned, SlotCut}
 use Rattle.cluster_world.specs.Turns.{node_refusal, life_after_step}
@@ -43,8 +39,8 @@ use Rattle.cluster_world.specs.declared.life.Life.{Life}
 use Rattle.cluster_world.specs.declared.life.Life.TheVariants.{Up, Down, Lost}
 use Rattle.cluster_world.specs.declared.nodes.Nodes.{Nodes}
 use Rattle.cluster_world.proofs.Still.{some_same, untouched}
-use Rattle.cluster_world.proofs.Worked.{if_both, if_told, payloads_more, did_turned, cut_down}
-use Rattle.cluster_world.proofs.Turned.{slot_of, slots_stand, stops_kept, lives_turned, life_there, disk_there, as_many, told_by, quiet_by, settled_by, still_ready, falls_now}
+use Rattle.cluster_world.proofs.Worked.{did_turned, cut_down}
+use Rattle.cluster_world.proofs.Turned.{slot_of, slots_stand, stops_kept, lives_turned, disk_there, as_many, told_by, quiet_by, settled_by, still_ready, falls_now}
 use Rattle.cluster_world.proofs.Asked.{slot_same}
 use Rattle.cluster_world.proofs.Befallen.{turned_still}
 use Rattle.cluster_world.proofs.Falling.{fallen}

@@ -1,10 +1,10 @@
 -- What an ask of a ticket does.
-use Rattle.std.proofs.Common.{◌≡◌, ◌≢◌, ◌⊎◌, inl, inr, ⊎_elim, ℕ, zero, suc, ◌+◌, ◌≤◌, Bool, true, false, List, [], ◌∷◌, ◌++◌, length, append-nil, Option, Some, None, Result, Ok, Err, refl, sym, ap, ◌∙◌, subst, arith, nat_eq, nat_le, if◌then◌else◌}
-use Rattle.std.specs.Prelude.{IfSome, is_some, slice_get, slice_set}
+use Rattle.std.proofs.Common.{◌≡◌, ◌≢◌, inl, ℕ, zero, suc, ◌+◌, ◌≤◌, Bool, true, false, List, [], ◌∷◌, ◌++◌, length, append-nil, Option, Some, None, Result, Ok, Err, refl, sym, ap, ◌∙◌, subst, arith, nat_eq, nat_le, if◌then◌else◌}
+use Rattle.std.specs.Prelude.{IfSome, is_some}
 use Rattle.std.specs.List.{list_all}
 use Rattle.std.specs.FinMap as fin
 use Rattle.mail_model.specs.Plan.{Plan}
-use Rattle.mail_model.specs.Record.{Record, payloads_of}
+use Rattle.mail_model.specs.Record.{payloads_of}
 use Rattle.mail_model.specs.Book.{BookEntry}
 use Rattle.object_model.specs.Letters.{Number}
 use Rattle.session_model.specs.Events.{NodeLife, NodeLife as life, turned}
@@ -14,7 +14,7 @@ use Rattle.cluster_model.specs.Deeds.{slot_up}
 use Rattle.cluster_model.specs.Rules.{ticket_at}
 use Rattle.cluster_model.specs.World as machine
 use Rattle.cluster_model.specs.Steps as steps
-use Rattle.cluster_model.specs.Steps.{is_node, stands_at, step_fault, letters_end}
+use Rattle.cluster_model.specs.Steps.{is_node, stands_at, letters_end}
 use Rattle.cluster_model.specs.Progress as progress
 use Rattle.cluster_model.specs.Progress.{ask_of, entries_with, wants_entries}
 use Rattle.cluster_model.specs.Makes.{AnswersAsk, after}
@@ -36,10 +36,10 @@ use Rattle.cluster_world.specs.Lives.{life_seen, of_node, falls_left, all_falls_
 use Rattle.cluster_world.specs.Stands.{SlotStands}
 use Rattle.cluster_world.specs.Worlds.{seen_life, life_among, state_with, Stands}
 use Rattle.cluster_world.specs.Changes.{ChangesNode}
-use Rattle.cluster_world.specs.Asking.{IsUpWhole, AreForTicket, confirms, IsAsked, IsAskedOn, IsRetold, IsRetoldOn, left_without}
+use Rattle.cluster_world.specs.Asking.{IsUpWhole, AreForTicket, confirms, IsAskedOn, IsRetold, IsRetoldOn, left_without}
 use Rattle.cluster_world.specs.Turns.{life_refusal, node_refusal}
 use Rattle.cluster_world.specs.Moments.{StopsKeep}
-use Rattle.cluster_world.specs.Steps.{StepDid, AreSettled, LeadsTo, EveryStopKeeps, AreToldAlike, IsQuiet}
+use Rattle.cluster_world.specs.Steps.{StepDid, AreSettled, LeadsTo, AreToldAlike, IsQuiet}
 use Rattle.cluster_world.specs.declared.life.Life.{Life}
 use Rattle.cluster_world.specs.declared.life.Life.TheVariants.{Up, Down, Lost}
 use Rattle.cluster_world.specs.declared.nodes.Nodes.{Nodes}
@@ -49,7 +49,7 @@ use Rattle.cluster_world.specs.declared.step.Step.TheVariants as step
 use Rattle.cluster_world.specs.declared.step.Said.TheVariants.{Asked, Done}
 use Rattle.cluster_world.specs.declared.fault.StepFault.{StepFault}
 use Rattle.cluster_world.specs.declared.fault.StepFault.TheVariants as fault
-use Rattle.cluster_world.proofs.Still.{some_same, if_some, both_at}
+use Rattle.cluster_world.proofs.Still.{some_same, both_at}
 use Rattle.cluster_world.proofs.Changing.{set_same}
 use Rattle.cluster_world.proofs.Turned.{slot_of, lives_turned, as_many, told_by, quiet_by, settled_by, still_ready, falls_now, stops_kept, stands_now}
 use Rattle.cluster_world.proofs.Refusing.{fit_of, ask_goes, no_ticket_asked, give_up_goes}

@@ -1,5 +1,5 @@
 -- A mishap of a letter leaves all that is told of nodes, but for a ticket: the machine notes it likewise.
-use Rattle.std.proofs.Common.{◌≡◌, ◌≢◌, ◌⊎◌, inl, inr, ⊎_elim, ℕ, zero, suc, ◌+◌, ◌<◌, ◌≤◌, Bool, true, false, nat_eq, List, [], ◌∷◌, ◌++◌, length, append-nil, take, Option, Some, None, refl, sym, ap, ◌∙◌, subst, arith, if◌then◌else◌}
+use Rattle.std.proofs.Common.{◌≡◌, ◌⊎◌, ⊎_elim, ℕ, zero, suc, ◌+◌, ◌<◌, ◌≤◌, Bool, true, false, nat_eq, List, [], ◌∷◌, ◌++◌, length, take, Option, Some, None, refl, sym, ap, ◌∙◌, subst, arith, if◌then◌else◌}
 use Rattle.std.specs.Prelude.{slice_get}
 use Rattle.std.proofs.lemmas.Option.{slice_get_cases}
 use Rattle.mail_model.specs.Plan.{Plan}
@@ -7,7 +7,7 @@ use Rattle.object_model.specs.Letters.{Number, Letter}
 use Rattle.object_model.specs.Mishaps.{MishapKind}
 use Rattle.session_model.specs.Events.{NodeLife, turned}
 use Rattle.cluster_model.specs.Cluster as plain
-use Rattle.cluster_model.specs.Cluster.{slot_at, with_slot}
+use Rattle.cluster_model.specs.Cluster.{slot_at}
 use Rattle.cluster_model.specs.World.{missed, missed_under, missed_at, other_end}
 use Rattle.node_store.specs.Disks.{View}
 use Rattle.node_core.specs.Nodes.{IsNodeOf, CanWork, IsWhole}
@@ -16,7 +16,7 @@ use Rattle.cluster_world.specs.Lives.{life_seen, of_node, with_node_at, falls_le
 use Rattle.cluster_world.specs.Stands.{SlotsStand}
 use Rattle.cluster_world.specs.Worlds.{seen_life}
 use Rattle.cluster_world.specs.Changes.{ChangesNode}
-use Rattle.cluster_world.specs.Missing.{all_missed, OnlyTickets, Noticed}
+use Rattle.cluster_world.specs.Missing.{all_missed, Noticed}
 use Rattle.cluster_world.specs.Noting.{LifeNoted, LifeChanges, LivesNoted, NotedUnder, LettersNoted}
 use Rattle.cluster_world.specs.declared.life.Life.{Life}
 use Rattle.cluster_world.specs.declared.life.Life.TheVariants.{Up, Down, Lost}

@@ -1,10 +1,10 @@
 -- A node that only read its disk, and is as it was; or that goes down after it.
-use Rattle.std.proofs.Common.{◌≡◌, ◌≢◌, ◌⊎◌, inl, inr, ℕ, ◌≤◌, List, [], ◌∷◌, ◌++◌, append-nil, All, Option, Some, None, refl, sym, ap, ◌∙◌, subst}
-use Rattle.std.specs.Prelude.{IfSome, is_some}
-use Rattle.mail_model.specs.Record.{Record, payloads_of}
+use Rattle.std.proofs.Common.{◌≡◌, ◌≢◌, inl, inr, ℕ, List, [], ◌++◌, append-nil, All, Option, Some, refl, sym, ap, ◌∙◌, subst}
+use Rattle.std.specs.Prelude.{is_some}
+use Rattle.mail_model.specs.Record.{payloads_of}
 use Rattle.mail_model.specs.Grammar.{IsRecord}
 use Rattle.cluster_model.specs.Cluster as plain
-use Rattle.cluster_model.specs.Cluster.{Slot, slot_at, with_slot}
+use Rattle.cluster_model.specs.Cluster.{Slot, slot_at}
 use Rattle.cluster_model.specs.Deeds.{slot_up}
 use Rattle.cluster_model.specs.Rules.{idle}
 use Rattle.cluster_model.specs.World as machine

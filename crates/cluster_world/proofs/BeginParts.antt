@@ -1,6 +1,6 @@
 -- A call that begins at a node that is up: how the node and its disk then are.
-use Rattle.std.proofs.Common.{◌≡◌, ◌≢◌, ◌⊎◌, inl, inr, ⊎_elim, ℕ, zero, suc, ◌+◌, ◌<◌, ◌≤◌, nat_le, Bool, true, false, ◌&&◌, List, [], ◌∷◌, ◌++◌, length, append-nil, All, Option, Some, None, Result, Ok, Err, refl, sym, ap, ◌∙◌, subst, arith}
-use Rattle.std.specs.Prelude.{IfSome, IfOk, is_some, slice_get, slice_set}
+use Rattle.std.proofs.Common.{◌≡◌, ◌⊎◌, inl, inr, ℕ, ◌+◌, ◌<◌, ◌≤◌, true, false, List, [], ◌∷◌, Option, Some, None, Result, Ok, Err, refl, sym, ap, ◌∙◌, subst, arith}
+use Rattle.std.specs.Prelude.{IfOk, is_some, slice_get, slice_set}
 use Rattle.std.proofs.Common.{get_or}
 use Rattle.std.proofs.lemmas.Option.{slice_get-get_or}
 use Rattle.std.specs.List.{list_all}
@@ -10,31 +10,28 @@ use Rattle.io_edge.specs.Octets.{IsToldAlike}
 use Rattle.io_edge.proofs.Passing.{keeps_none}
 use Rattle.mail_model.specs.Plan.{Plan}
 use Rattle.object_model.specs.Letters.{Number, Letter}
-use Rattle.session_model.specs.Events.{NodeLife, NodeLife as life}
+use Rattle.session_model.specs.Events.{NodeLife as life}
 use Rattle.cluster_model.specs.Steps.{NodeCall, is_node}
-use Rattle.cluster_model.specs.Makes.{begun_by}
 use Rattle.node_store.specs.Disks.{View}
 use Rattle.node_store.specs.Appends.{Fails}
 use Rattle.node_store.specs.declared.fault.KeepFault.{KeepFault}
 use Rattle.node_store.specs.declared.fault.KeepFault.TheVariants as keep
-use Rattle.node_core.specs.Beginning.{IsTextEnded, call_seen, at_second, CallDid, CallBegun, CallStopped, CallFailed, NodeBegins}
-use Rattle.node_core.specs.Nodes.{node_seen, CanWork, IsNodeOf, IsSameNode, IsAsBefore}
+use Rattle.node_core.specs.Beginning.{IsTextEnded, call_seen, CallDid, CallStopped, CallFailed, NodeBegins}
+use Rattle.node_core.specs.Nodes.{node_seen, CanWork, IsNodeOf, IsAsBefore}
 use Rattle.node_core.specs.Spelling.{AllCanBeTaken}
-use Rattle.node_core.specs.Works.{Rule, NodeDid, NodeStopped, IsOnlyRead, ReadFailed, LeavesUp}
+use Rattle.node_core.specs.Works.{Rule, NodeDid, IsOnlyRead, LeavesUp}
 use Rattle.node_core.specs.declared.fault.NodeFault.{NodeFault}
 use Rattle.node_core.specs.declared.fault.NodeFault.TheVariants.{Disk, Worn, NoMemory}
 use Rattle.node_core.specs.declared.node.Node.{Node}
 use Rattle.node_core.specs.declared.outbox.Outbox.{Outbox}
 use Rattle.call_tickets.specs.declared.call.Call.{Call}
-use Rattle.world_book.specs.declared.book.Book.{Book}
 use Rattle.cluster_world.specs.Begins.{BeginsAt, HasRule}
 use Rattle.cluster_world.specs.Changes.{ChangesNode}
-use Rattle.cluster_world.specs.Flights.{InFlight}
 use Rattle.cluster_world.specs.Lives.{life_seen, of_node, falls_left, all_falls_left, CanWorkOn}
-use Rattle.cluster_world.specs.Steps.{AreSettled, WasToWork}
+use Rattle.cluster_world.specs.Steps.{WasToWork}
 use Rattle.cluster_world.specs.Turning.{TurnsBy, life_left}
 use Rattle.cluster_world.specs.Turns.{life_refusal, node_refusal}
-use Rattle.cluster_world.specs.Worlds.{seen_life, life_among, state_with}
+use Rattle.cluster_world.specs.Worlds.{seen_life, life_among}
 use Rattle.cluster_world.specs.declared.life.Life.{Life}
 use Rattle.cluster_world.specs.declared.life.Life.TheVariants.{Up, Down, Lost}
 use Rattle.cluster_world.specs.declared.nodes.Nodes.{Nodes}
@@ -42,8 +39,8 @@ use Rattle.cluster_world.specs.declared.step.Step.TheVariants as step
 use Rattle.cluster_world.specs.declared.fault.StepFault.TheVariants as fault
 use Rattle.cluster_world.proofs.Still.{some_same}
 use Rattle.cluster_world.proofs.Changing.{changed_at, node_at}
-use Rattle.cluster_world.proofs.Asked.{ready_of, disk_of}
-use Rattle.cluster_world.proofs.Turned.{settled_by, still_ready, falls_now}
+use Rattle.cluster_world.proofs.Asked.{ready_of}
+use Rattle.cluster_world.proofs.Turned.{still_ready, falls_now}
 use Rattle.cluster_world.proofs.Refusing.{fit_of}
 
 -- the answer of a node

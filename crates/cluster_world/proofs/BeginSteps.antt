@@ -1,72 +1,54 @@
 -- A call that begins at a node that is up, as a step of the machine.
-use Rattle.std.proofs.Common.{◌≡◌, ◌≢◌, ◌⊎◌, inl, inr, ⊎_elim, ℕ, zero, suc, ◌+◌, ◌<◌, ◌≤◌, nat_le, Bool, true, false, ◌&&◌, List, [], ◌∷◌, ◌++◌, length, append-nil, append_assoc, All, Option, Some, None, Result, Ok, Err, refl, sym, ap, ◌∙◌, subst, arith}
-use Rattle.std.specs.Prelude.{IfSome, IfOk, is_some, slice_get}
+use Rattle.std.proofs.Common.{◌≡◌, ℕ, zero, suc, ◌+◌, nat_le, Bool, true, false, ◌&&◌, List, [], ◌∷◌, ◌++◌, length, append-nil, Option, Some, None, Ok, refl, sym, ap, ◌∙◌, subst, arith}
+use Rattle.std.specs.Prelude.{is_some}
 use Rattle.std.specs.List.{list_all}
-use Rattle.io_edge.specs.Causes.{Rose}
-use Rattle.io_edge.specs.Moments.{Keeps as KeepsImages}
 use Rattle.mail_model.specs.Plan.{Plan}
 use Rattle.mail_model.specs.Record.{Record, payloads_of}
-use Rattle.mail_model.specs.Grammar.{IsRecord}
-use Rattle.mail_model.specs.Book.{BookEntry}
-use Rattle.mail_model.specs.Book.BookEntry.{WentDown}
 use Rattle.object_model.specs.Letters.{Number, Letter}
-use Rattle.session_model.specs.Events.{NodeLife, NodeLife as life, turned}
+use Rattle.session_model.specs.Events.{NodeLife, NodeLife as life}
 use Rattle.cluster_model.specs.Cluster as plain
-use Rattle.cluster_model.specs.Cluster.{Slot, CallKind, slot_at, with_slot}
 use Rattle.cluster_model.specs.Deeds.{slot_up}
 use Rattle.cluster_model.specs.Reads.{Found}
-use Rattle.cluster_model.specs.Rules.{Reaction, idle, refuse, begin_read, new_number}
+use Rattle.cluster_model.specs.Rules.{idle, refuse, begin_read, new_number}
 use Rattle.cluster_model.specs.World as machine
 use Rattle.cluster_model.specs.Steps as steps
-use Rattle.cluster_model.specs.Steps.{NodeCall, is_node, letters_end, is_worn_for, mishaps_of_call, fails_at_once, ids_drawn}
+use Rattle.cluster_model.specs.Steps.{NodeCall, is_node, letters_end, is_worn_for, mishaps_of_call, ids_drawn}
 use Rattle.cluster_model.specs.Steps.NodeCall.{Deliver, Login, Fetch, Strike, Leave}
-use Rattle.cluster_model.specs.Makes.{IsUp, IsFiled, IsFound, IsWorkCut, NodeGoesDown, BeginsCall, RunsShort, DoesStep, MakesStep, after, with_struck, cut_world, begun_by, kind_of_call}
-use Rattle.disk_journal.specs.Journal.{TellsJournal, EndsAt}
+use Rattle.cluster_model.specs.Makes.{IsUp, IsFound, BeginsCall, after, with_struck, begun_by}
+use Rattle.disk_journal.specs.Journal.{TellsJournal}
 use Rattle.node_store.specs.Disks.{View}
-use Rattle.node_store.specs.declared.fault.KeepFault.TheVariants as keep
-use Rattle.node_core.specs.Beginning.{call_seen, at_second, CallDid, CallBegun, CallStopped, CallFailed, NodeBegins}
+use Rattle.node_core.specs.Beginning.{call_seen, at_second, CallDid, CallBegun}
 use Rattle.node_core.specs.Nodes.{node_seen, Keeps, end_in, IsAsBefore}
-use Rattle.node_core.specs.Starting.{MayHold}
-use Rattle.node_core.specs.Works.{Rule, NodeDid, NodeStopped, IsOnlyRead, ReadFailed}
-use Rattle.node_core.specs.declared.fault.NodeFault.{NodeFault}
-use Rattle.node_core.specs.declared.fault.NodeFault.TheVariants.{Disk, Worn, NoMemory}
+use Rattle.node_core.specs.Works.{Rule, NodeDid, IsOnlyRead}
+use Rattle.node_core.specs.declared.fault.NodeFault.TheVariants.{Worn}
 use Rattle.node_core.specs.declared.node.Node.{Node}
 use Rattle.node_core.specs.declared.outbox.Outbox.{Outbox}
 use Rattle.call_tickets.specs.declared.call.Call.{Call}
 use Rattle.world_book.specs.Books.{entries_of}
 use Rattle.world_book.specs.declared.book.Book.{Book}
 use Rattle.world_book.specs.declared.entry.Entry.{Entry}
-use Rattle.world_book.specs.declared.entry.Entry.TheVariants as written
 use Rattle.cluster_world.specs.Begins.{BeginsAt, HasRule, struck_by, said_of_begin}
 use Rattle.cluster_world.specs.Books.{entries_seen, booked_by}
-use Rattle.cluster_world.specs.Changes.{ChangesNode, IsTurnedTo}
+use Rattle.cluster_world.specs.Changes.{ChangesNode}
 use Rattle.cluster_world.specs.Flights.{InFlight}
-use Rattle.cluster_world.specs.Lives.{life_seen, of_node, CanWorkOn}
-use Rattle.cluster_world.specs.Missing.{SentOff, OnlyTickets}
-use Rattle.cluster_world.specs.Moments.{IsStopOf, StopsKeep}
-use Rattle.cluster_world.specs.Seen.{outcome_seen, said_seen}
-use Rattle.cluster_world.specs.Stands.{StandsUp, SlotStands}
-use Rattle.cluster_world.specs.Steps.{StepDid, LeadsTo, HasCause, IsRefusedRight, SaysSo, FallsSo, IsLighter, BeginsSo, MayMisread}
+use Rattle.cluster_world.specs.Lives.{of_node, CanWorkOn}
+use Rattle.cluster_world.specs.Missing.{SentOff}
+use Rattle.cluster_world.specs.Seen.{said_seen}
+use Rattle.cluster_world.specs.Stands.{SlotStands}
+use Rattle.cluster_world.specs.Steps.{StepDid, LeadsTo, HasCause, FallsSo, BeginsSo}
 use Rattle.cluster_world.specs.Turns.{node_refusal, life_after_step}
-use Rattle.cluster_world.specs.Worlds.{State, seen_life, life_among, state_with, tells_in, Stands}
+use Rattle.cluster_world.specs.Worlds.{State, life_among, state_with, tells_in, Stands}
 use Rattle.cluster_world.specs.declared.life.Life.{Life}
-use Rattle.cluster_world.specs.declared.life.Life.TheVariants.{Up, Down, Lost}
+use Rattle.cluster_world.specs.declared.life.Life.TheVariants.{Up}
 use Rattle.cluster_world.specs.declared.nodes.Nodes.{Nodes}
 use Rattle.cluster_world.specs.declared.step.Step.TheVariants as step
-use Rattle.cluster_world.specs.declared.step.Said.{Said}
-use Rattle.cluster_world.specs.declared.step.Said.TheVariants as said
 use Rattle.cluster_world.specs.declared.fault.StepFault.{StepFault}
-use Rattle.cluster_world.specs.declared.fault.StepFault.TheVariants as fault
-use Rattle.cluster_world.proofs.Still.{some_same, if_some, images_stop}
-use Rattle.cluster_world.proofs.Same.{same_told, same_quiet, same_stops}
-use Rattle.cluster_world.proofs.Worked.{passed, if_both, if_told}
-use Rattle.cluster_world.proofs.Asked.{slot_same}
-use Rattle.cluster_world.proofs.Turned.{slot_of, disk_there}
-use Rattle.cluster_world.proofs.Falling.{entries_more, fallen}
-use Rattle.cluster_world.proofs.AfterWork.{AreThese, nothing_else, turned_after, work_plan, work_handed, work_lives, work_goes_on, work_told, work_quiet, work_stops, work_stands, up_slot, WorkSent, work_sent, CutSlot, work_stopped, work_undone, cut_stands, cut_stops}
-use Rattle.cluster_world.proofs.Beginning.{struck_world, with_struck_is, filed_in, begun_in, filed_kind, begun_so, noted_so, fault_so, begin_goes, begin_is_late, begin_is_worn}
-use Rattle.cluster_world.proofs.BeginIdle.{read_stands, read_stops, read_fell}
-use Rattle.cluster_world.proofs.BeginParts.{Began, begin_named, begin_there, begin_was, begin_life, begin_did, StaysUp, FellDown, begin_stays, begin_case, begin_seen, begin_worked, read_none}
+use Rattle.cluster_world.proofs.Still.{some_same}
+use Rattle.cluster_world.proofs.Falling.{entries_more}
+use Rattle.cluster_world.proofs.AfterWork.{work_handed, work_goes_on, work_told, work_quiet, up_slot, WorkSent, work_sent}
+use Rattle.cluster_world.proofs.Beginning.{struck_world, with_struck_is, filed_in, begun_in, filed_kind, begun_so, noted_so, begin_goes, begin_is_worn}
+use Rattle.cluster_world.proofs.BeginIdle.{read_stands, read_stops}
+use Rattle.cluster_world.proofs.BeginParts.{Began, begin_named, begin_did, StaysUp, begin_stays, begin_seen, read_none}
 
 -- where there is one disk alone, it is the node's
 one_tells : {D : Type 0} (seen : D → Option (List ℕ)) (disks : List D) (n : ℕ) (disk : D) → length disks ≡ 1 → of_node disks n ≡ Some disk → is_some (seen disk) ≡ list_all (λ d. is_some (seen d)) disks

@@ -1,25 +1,24 @@
 -- A call begins at a node that is up: how the machine begins it.
-use Rattle.std.proofs.Common.{◌≡◌, ◌⊎◌, inl, inr, ⊎_elim, ℕ, zero, suc, ◌+◌, ◌-◌, ◌<◌, ◌≤◌, nat_le, Bool, true, false, IsTrue, nat_eq, ◌&&◌, ◌||◌, List, [], ◌∷◌, ◌++◌, append-nil, append_assoc, length, Option, Some, None, refl, sym, ap, ◌∙◌, subst, arith, if◌then◌else◌}
-use Rattle.std.specs.Prelude.{slice_index_or, slice_get}
+use Rattle.std.proofs.Common.{◌≡◌, ℕ, zero, suc, ◌+◌, nat_le, Bool, true, false, ◌||◌, List, [], ◌∷◌, ◌++◌, append-nil, length, Some, None, refl, sym, ap, ◌∙◌, subst, arith, if◌then◌else◌}
+use Rattle.std.specs.Prelude.{slice_index_or}
 use Rattle.std.specs.List.{list_all}
 use Rattle.mail_model.specs.Lines.{ends_in_crlf}
 use Rattle.mail_model.specs.Plan.{Plan}
 use Rattle.mail_model.specs.Record.{Record}
-use Rattle.mail_model.specs.Book.BookEntry.{WentDown}
 use Rattle.object_model.specs.Letters.{Number}
 use Rattle.cluster_model.specs.Cluster as plain
-use Rattle.cluster_model.specs.Cluster.{Slot, slot_at, with_slot}
-use Rattle.cluster_model.specs.Cluster.Life.{Up, Down}
+use Rattle.cluster_model.specs.Cluster.{Slot, slot_at}
+use Rattle.cluster_model.specs.Cluster.Life.{Up}
 use Rattle.cluster_model.specs.World.{World}
-use Rattle.cluster_model.specs.Steps.{NodeCall, StepFault, is_node, slot_fault, life_fault, letters_end, is_worn_for, is_worn_at, step_fault}
+use Rattle.cluster_model.specs.Steps.{NodeCall, is_node, slot_fault, life_fault, letters_end, is_worn_for, is_worn_at, step_fault}
 use Rattle.cluster_model.specs.Steps.NodeCall.{Deliver, Login, Fetch, Strike, Leave}
 use Rattle.cluster_model.specs.Steps.Step.{Begin}
-use Rattle.cluster_model.specs.Steps.StepFault.{NoSuchNode, Worn}
-use Rattle.cluster_model.specs.Makes.{IsFiled, begun_by, with_struck, cut_world, kind_of_call}
+use Rattle.cluster_model.specs.Steps.StepFault.{Worn}
+use Rattle.cluster_model.specs.Makes.{IsFiled, begun_by, with_struck, kind_of_call}
 use Rattle.node_core.specs.Beginning.{at_second, call_seen}
 use Rattle.call_tickets.specs.declared.call.Call.{Call}
 use Rattle.call_tickets.specs.declared.call.Call.TheVariants as kind
-use Rattle.cluster_world.specs.Begins.{struck_by, said_of_begin}
+use Rattle.cluster_world.specs.Begins.{struck_by}
 use Rattle.cluster_world.specs.Steps.{BeginsSo}
 use Rattle.cluster_world.specs.declared.step.Said.TheVariants as said
 use Rattle.cluster_world.proofs.Refusing.{none_at_all, fifth_fault, named_well}

@@ -1,14 +1,13 @@
 -- What stays along a chain of steps: the plan, the disks, what they tell, and that no count of faults falls.
-use Rattle.std.proofs.Common.{◌≡◌, ⊎_elim, ℕ, zero, suc, ◌+◌, ◌≤◌, ◌<◌, Bool, List, [], ◌∷◌, ◌++◌, length, Option, Some, None, refl, sym, ap, ◌∙◌, subst, arith}
-use Rattle.std.specs.Prelude.{Result, is_some, slice_get, min, ◌&&◌}
+use Rattle.std.proofs.Common.{◌≡◌, ⊎_elim, ℕ, zero, suc, ◌+◌, ◌≤◌, ◌<◌, List, [], ◌∷◌, length, Option, Some, None, refl, sym, ap, ◌∙◌, subst, arith}
+use Rattle.std.specs.Prelude.{Result, is_some, slice_get, min}
 use Rattle.std.specs.List.{list_all}
 use Rattle.std.proofs.lemmas.Option.{slice_get_within, slice_get_cases}
 use Rattle.std.proofs.Math.Nat.{min-eq_left, min-eq_right, min-le_right}
 use Rattle.std.proofs.lemmas.Bool.{cases_lt}
 use Rattle.node_store.specs.Disks.{View}
-use Rattle.cluster_world.specs.Worlds.{state_of, plan_of, disks_of, disk_at, steps_of, one_more, tells}
+use Rattle.cluster_world.specs.Worlds.{plan_of, disks_of, disk_at, steps_of, tells}
 use Rattle.cluster_world.specs.Steps.{IsStep}
-use Rattle.cluster_world.specs.Opens.{IsAtBeginning}
 use Rattle.cluster_world.specs.Outcomes.{Outcome, Awaited, StepMade, MakesSteps, Came, Makes}
 use Rattle.cluster_world.specs.Chains.{MakesMore, StepsAreCounted, PlanStays, LaterAfter, steps_in, all_steps_in}
 use Rattle.cluster_world.specs.Outcomes.Outcome.{Began, Refused, Fell, Broke, Answers, StillPending, Unanswered, GaveUp, Abandoned, KeptUp, Left, Moved}

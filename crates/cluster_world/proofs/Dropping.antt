@@ -1,9 +1,8 @@
 -- A letter is dropped.
-use Rattle.std.proofs.Common.{◌≡◌, inl, ℕ, Bool, true, false, ◌&&◌, ◌||◌, nat_le, List, [], ◌∷◌, length, Option, Some, None, is_some, Ok, Err, refl, sym, ap, ◌∙◌, subst, if◌then◌else◌}
+use Rattle.std.proofs.Common.{◌≡◌, inl, ℕ, Bool, true, false, ◌&&◌, ◌||◌, nat_le, [], ◌∷◌, length, Option, Some, None, is_some, Ok, Err, refl, sym, ap, ◌∙◌, subst, if◌then◌else◌}
 use Rattle.mail_model.specs.Plan.{Plan}
 use Rattle.object_model.specs.Letters.{Letter}
 use Rattle.object_model.specs.Mishaps.{MishapKind as plain_kind}
-use Rattle.cluster_model.specs.Cluster as plain
 use Rattle.cluster_model.specs.World as machine
 use Rattle.cluster_model.specs.World.{missed}
 use Rattle.cluster_model.specs.Makes.{lost_letter}

@@ -1,9 +1,8 @@
 -- A message that a session tells is whole.
-use Rattle.std.proofs.Common.{◌≡◌, ◌⊎◌, inl, inr, ⊎_elim, ℕ, ◌≤◌, true, List, [], ◌∷◌, ◌++◌, length, length-append, append-nil, Option, Some, None, refl, sym, ap, ◌∙◌, subst, arith}
-use Rattle.std.specs.Prelude.{flat_map}
+use Rattle.std.proofs.Common.{◌≡◌, ◌⊎◌, inl, inr, ℕ, ◌≤◌, true, List, [], ◌∷◌, ◌++◌, length, length-append, append-nil, Some, refl, sym, ap, ◌∙◌, subst, arith}
 use Rattle.mail_model.specs.Lines.{sent_line, ends_in_crlf}
 use Rattle.mail_model.specs.Session.{undotted, undotted_line}
-use Rattle.mail_model.specs.Told.{Mail, mail_of}
+use Rattle.mail_model.specs.Told.{Mail}
 use Rattle.mail_base.specs.Delivers.{mail_in}
 use Rattle.session_model.specs.Calls as model
 use Rattle.session_model.specs.OneNode.{IsSoundMail}

@@ -1,13 +1,12 @@
 -- What the steps do that stop a node or lose it.
-use Rattle.std.proofs.Common.{◌≡◌, ◌≢◌, ◌⊎◌, inl, inr, ⊎_elim, ℕ, zero, suc, ◌+◌, ◌<◌, ◌≤◌, true, List, [], ◌∷◌, ◌++◌, append-nil, All, Option, Some, None, Ok, refl, sym, ap, ◌∙◌, subst, arith}
-use Rattle.std.specs.Prelude.{IfSome, is_some, slice_get}
+use Rattle.std.proofs.Common.{◌≡◌, ◌≢◌, ◌⊎◌, ⊎_elim, ℕ, zero, suc, ◌+◌, ◌<◌, ◌≤◌, true, List, [], ◌∷◌, ◌++◌, Option, Some, None, Ok, refl, sym, ap, ◌∙◌, subst, arith}
+use Rattle.std.specs.Prelude.{slice_get}
 use Rattle.std.specs.List.{list_all}
 use Rattle.mail_model.specs.Record.{Record}
 use Rattle.mail_model.specs.Plan.{Plan}
-use Rattle.mail_model.specs.Book.{BookEntry as entry}
 use Rattle.session_model.specs.Events.{NodeLife, NodeLife as life, turned}
 use Rattle.cluster_model.specs.Cluster as plain
-use Rattle.cluster_model.specs.Cluster.{Slot, slot_at}
+use Rattle.cluster_model.specs.Cluster.{Slot}
 use Rattle.cluster_model.specs.World as machine
 use Rattle.cluster_model.specs.Steps as steps
 use Rattle.cluster_model.specs.Steps.{is_node}
@@ -30,7 +29,7 @@ use Rattle.cluster_world.specs.declared.step.Step.TheVariants as step
 use Rattle.cluster_world.specs.declared.step.Said.TheVariants.{Done}
 use Rattle.cluster_world.proofs.Still.{some_same}
 use Rattle.cluster_world.proofs.Turned.{slot_of, lives_turned, as_many, told_by, quiet_by, settled_by, still_ready, falls_now}
-use Rattle.cluster_world.proofs.Refusing.{fit_of, crash_goes, lose_goes}
+use Rattle.cluster_world.proofs.Refusing.{fit_of, crash_goes}
 use Rattle.cluster_world.proofs.Falling.{crash_up, lose_here, fallen, fall_told, fall_leads}
 
 -- a node that is up is not lost

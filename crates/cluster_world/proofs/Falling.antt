@@ -1,44 +1,36 @@
 -- A node that stops, or is lost.
-use Rattle.std.proofs.Common.{◌≡◌, ◌≢◌, ◌⊎◌, inl, inr, ⊎_elim, ℕ, suc, ◌+◌, ◌≤◌, true, List, [], ◌∷◌, ◌++◌, append-nil, All, Option, Some, None, Ok, refl, sym, ap, ◌∙◌, subst, arith}
-use Rattle.std.specs.Prelude.{IfSome, flat_map, is_some}
-use Rattle.std.specs.List.{list_all}
-use Rattle.mail_model.specs.Record.{Record, IsJournal, payloads_of}
+use Rattle.std.proofs.Common.{◌≡◌, ◌≢◌, ◌⊎◌, inl, inr, ℕ, ◌+◌, List, [], ◌∷◌, ◌++◌, append-nil, All, Option, Some, None, refl, sym, ap, ◌∙◌, subst, arith}
+use Rattle.std.specs.Prelude.{IfSome, is_some}
 use Rattle.mail_model.specs.Grammar.{IsRecord}
 use Rattle.mail_model.specs.Book.{BookEntry as entry}
-use Rattle.session_model.specs.Events.{NodeLife, NodeLife as life, turned}
+use Rattle.session_model.specs.Events.{NodeLife as life}
 use Rattle.cluster_model.specs.Cluster as plain
 use Rattle.cluster_model.specs.Cluster.{Slot, slot_at, with_slot}
 use Rattle.cluster_model.specs.World as machine
 use Rattle.cluster_model.specs.Steps as steps
-use Rattle.cluster_model.specs.Makes.{NodeFalls}
 use Rattle.io_edge.specs.Octets.{IsToldAlike}
 use Rattle.node_store.specs.Disks.{View}
 use Rattle.node_core.specs.Starting.{MayHold}
-use Rattle.node_core.specs.Nodes.{CanWork, IsNodeOf}
 use Rattle.node_core.specs.declared.node.Node.{Node}
-use Rattle.world_book.specs.Books.{entries_of, spare_of}
+use Rattle.world_book.specs.Books.{entries_of}
 use Rattle.world_book.specs.declared.book.Book.{Book}
 use Rattle.world_book.specs.declared.entry.Entry.{Entry}
-use Rattle.world_book.specs.declared.entry.Entry.TheVariants as written
-use Rattle.cluster_world.specs.Books.{entries_seen, booked_by}
+use Rattle.cluster_world.specs.Books.{entries_seen}
 use Rattle.cluster_world.specs.Flights.{InFlight}
-use Rattle.cluster_world.specs.Lives.{life_seen, of_node, falls_left, all_falls_left, CanWorkOn}
+use Rattle.cluster_world.specs.Lives.{life_seen}
 use Rattle.cluster_world.specs.Stands.{SlotStands}
-use Rattle.cluster_world.specs.Worlds.{seen_life, life_among, state_with, Stands}
+use Rattle.cluster_world.specs.Worlds.{state_with, Stands}
 use Rattle.cluster_world.specs.Changes.{ChangesNode, IsTurnedTo}
-use Rattle.cluster_world.specs.Turns.{life_refusal, node_refusal}
+use Rattle.cluster_world.specs.Turns.{life_refusal}
 use Rattle.cluster_world.specs.Moments.{StopsKeep}
-use Rattle.cluster_world.specs.Steps.{StepDid, AreSettled, LeadsTo}
 use Rattle.cluster_world.specs.declared.life.Life.{Life}
 use Rattle.cluster_world.specs.declared.life.Life.TheVariants.{Up, Down, Lost}
 use Rattle.cluster_world.specs.declared.nodes.Nodes.{Nodes}
 use Rattle.cluster_world.specs.declared.step.Step.{Step}
 use Rattle.cluster_world.specs.declared.step.Step.TheVariants as step
-use Rattle.cluster_world.specs.declared.step.Said.TheVariants.{Done}
 use Rattle.cluster_world.specs.declared.fault.StepFault.TheVariants as fault
-use Rattle.cluster_world.proofs.Still.{some_same, if_some, images_stop}
-use Rattle.cluster_world.proofs.Turned.{slot_of, slots_stand, stops_kept, lives_turned, as_many, told_by, quiet_by, settled_by, still_ready, falls_now}
-use Rattle.cluster_world.proofs.Refusing.{fit_of, crash_goes, lose_goes}
+use Rattle.cluster_world.proofs.Still.{if_some, images_stop}
+use Rattle.cluster_world.proofs.Turned.{slots_stand, stops_kept}
 
 -- the entries of the book one after another
 pub entries_more : (xs ys : List Entry) → entries_seen (xs ++ ys) ≡ entries_seen xs ++ entries_seen ys

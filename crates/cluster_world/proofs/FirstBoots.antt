@@ -1,8 +1,7 @@
 -- A world that is opened.
-use Rattle.std.proofs.Common.{◌≡◌, ◌≢◌, ◌⊎◌, inl, inr, ⊎_elim, ℕ, zero, suc, ◌+◌, ◌*◌, ◌<◌, ◌≤◌, List, [], ◌∷◌, ◌++◌, length, length-append, Option, Some, None, Result, Ok, Err, refl, sym, ap, ◌∙◌, subst, arith}
+use Rattle.std.proofs.Common.{◌≡◌, ◌≢◌, ◌⊎◌, inl, inr, ⊎_elim, ℕ, zero, suc, ◌+◌, ◌<◌, ◌≤◌, List, [], ◌∷◌, ◌++◌, length, length-append, Option, Some, None, Ok, Err, refl, sym, ap, ◌∙◌, subst, arith}
 use Rattle.std.specs.Prelude.{IfSome, is_some, slice_get, slice_set}
 use Rattle.std.proofs.lemmas.Option.{slice_get_cases, slice_get_within}
-use Rattle.io_edge.specs.Causes.{Rose}
 use Rattle.io_edge.specs.Moments.{IsOnly}
 use Rattle.io_edge.specs.Octets.{IsToldAlike}
 use Rattle.mail_model.specs.Plan.{Plan}
@@ -11,26 +10,24 @@ use Rattle.mail_model.specs.Record.Record.{Boot}
 use Rattle.mail_model.proofs.Sessions.{get_set, get_set_other}
 use Rattle.session_model.specs.Events.{NodeLife as life}
 use Rattle.cluster_model.specs.Cluster as plain
-use Rattle.cluster_model.specs.WorldLaws.{fresh_slot, fresh_slots, opening_world}
-use Rattle.disk_journal.specs.Journal.{TellsJournal, EndsAt}
+use Rattle.cluster_model.specs.WorldLaws.{fresh_slot, fresh_slots}
+use Rattle.disk_journal.specs.Journal.{EndsAt}
 use Rattle.node_store.specs.Disks.{View}
-use Rattle.node_core.specs.First.{fresh_node, IsFirst}
-use Rattle.node_core.specs.Nodes.{node_seen, end_in, CanWork, IsNodeOf}
+use Rattle.node_core.specs.First.{fresh_node}
+use Rattle.node_core.specs.Nodes.{end_in, CanWork, IsNodeOf}
 use Rattle.node_core.specs.declared.node.Node.{Node}
 use Rattle.world_book.specs.Books.{entries_of}
-use Rattle.world_book.specs.declared.book.Book.{Book}
 use Rattle.cluster_world.specs.Books.{entries_seen}
-use Rattle.cluster_world.specs.Lives.{life_seen, of_node, CanWorkOn}
-use Rattle.cluster_world.specs.Opens.{AreEmpty, AreHandedOn, IsAtBeginning, Opened, OpenFails, Refused, IsOpenedOn, OpensNext, NextComes, AreOpened, AllOpen}
-use Rattle.cluster_world.specs.Stands.{StandsUp, SlotStands, SlotsStand}
-use Rattle.cluster_world.specs.Worlds.{State, seen_life, Stands, disks_of, state_of}
-use Rattle.cluster_world.specs.Steps.{AreSettled}
+use Rattle.cluster_world.specs.Lives.{of_node, CanWorkOn}
+use Rattle.cluster_world.specs.Opens.{AreHandedOn, Opened, OpenFails, Refused, IsOpenedOn, OpensNext, NextComes, AreOpened}
+use Rattle.cluster_world.specs.Stands.{SlotStands, SlotsStand}
+use Rattle.cluster_world.specs.Worlds.{seen_life}
 use Rattle.cluster_world.specs.declared.life.Life.{Life}
-use Rattle.cluster_world.specs.declared.life.Life.TheVariants.{Up, Down, Lost}
+use Rattle.cluster_world.specs.declared.life.Life.TheVariants.{Up}
 use Rattle.cluster_world.specs.declared.world.World.{World}
 use Rattle.cluster_world.specs.declared.fault.OpenFault.{OpenFault}
 use Rattle.cluster_world.specs.declared.fault.OpenFault.TheVariants.{DiskFault, NoMemory}
-use Rattle.cluster_world.proofs.Still.{some_same, both_at, if_some}
+use Rattle.cluster_world.proofs.Still.{some_same, both_at}
 use Rattle.cluster_world.proofs.Turned.{same_or}
 
 both_held : (o : Option (List ℕ)) (P Q R : List ℕ → Type 0) → ((c : List ℕ) → P c → Q c → R c) → IfSome o P → IfSome o Q → IfSome o R

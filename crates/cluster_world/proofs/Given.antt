@@ -1,6 +1,6 @@
 -- What it does to give a call up.
-use Rattle.std.proofs.Common.{◌≡◌, inl, inr, ℕ, ◌+◌, ◌≤◌, nat_le, true, false, List, [], ◌∷◌, Option, Some, None, Ok, Err, refl, sym, ap, ◌∙◌, subst, arith}
-use Rattle.std.specs.Prelude.{IfSome, is_some}
+use Rattle.std.proofs.Common.{◌≡◌, inl, ℕ, ◌+◌, nat_le, true, false, [], ◌∷◌, Option, Some, None, Ok, Err, refl, sym, ap, ◌∙◌, arith}
+use Rattle.std.specs.Prelude.{is_some}
 use Rattle.std.specs.List.{list_all}
 use Rattle.mail_base.specs.declared.filing.CallKind.{CallKind}
 use Rattle.object_model.specs.Letters.{Number}
@@ -17,7 +17,6 @@ use Rattle.node_core.specs.declared.node.Node.{Node}
 use Rattle.world_book.specs.declared.book.Book.{Book}
 use Rattle.cluster_world.specs.Flights.{InFlight}
 use Rattle.cluster_world.specs.Lives.{of_node, falls_left, all_falls_left, CanWorkOn}
-use Rattle.cluster_world.specs.Stands.{SlotStands}
 use Rattle.cluster_world.specs.Worlds.{seen_life, life_among, state_with, Stands}
 use Rattle.cluster_world.specs.Changes.{ChangesNode}
 use Rattle.cluster_world.specs.Asking.{IsUpWhole, IsRetoldOn, left_without}

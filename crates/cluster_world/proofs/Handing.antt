@@ -1,5 +1,5 @@
 -- A node that is up is handed a letter, at its place in the list of all.
-use Rattle.std.proofs.Common.{◌≡◌, ℕ, ◌+◌, ◌<◌, Bool, true, false, List, length, get_or, Option, Some, None, Result, refl, sym, ap, ◌∙◌, subst, arith}
+use Rattle.std.proofs.Common.{◌≡◌, ℕ, ◌+◌, ◌<◌, true, false, List, length, get_or, Option, Some, None, Result, refl, sym, ap, ◌∙◌, subst, arith}
 use Rattle.std.specs.Prelude.{slice_get, slice_set}
 use Rattle.std.proofs.lemmas.Option.{slice_get_within, slice_get-get_or}
 use Rattle.mail_model.specs.Plan.{Plan}
@@ -19,7 +19,6 @@ use Rattle.cluster_world.specs.Posts.{HearsAt}
 use Rattle.cluster_world.specs.declared.life.Life.{Life}
 use Rattle.cluster_world.specs.declared.life.Life.TheVariants.{Up, Down, Lost}
 use Rattle.cluster_world.specs.declared.nodes.Nodes.{Nodes}
-use Rattle.cluster_world.proofs.Still.{both_at, some_same}
 use Rattle.cluster_world.proofs.Asked.{ready_of}
 use Rattle.cluster_world.proofs.Changing.{node_at, changed_at}
 

@@ -1,8 +1,7 @@
 -- Which records the disks of a world hold, once it is done with.
-use Rattle.std.proofs.Common.{◌≡◌, ⊎_elim, ◌⊎◌, inl, inr, ℕ, zero, suc, ◌+◌, ◌<◌, ◌≤◌, Bool, true, false, List, [], ◌∷◌, ◌++◌, length, length-append, map, Option, Some, None, refl, sym, ap, ◌∙◌, subst, arith}
+use Rattle.std.proofs.Common.{◌≡◌, ⊎_elim, ◌⊎◌, inl, inr, ℕ, zero, suc, ◌+◌, ◌<◌, ◌≤◌, true, false, List, [], ◌∷◌, ◌++◌, length, length-append, map, Option, Some, None, refl, sym, ap, ◌∙◌, subst, arith}
 use Rattle.std.specs.Prelude.{IfSome, All, ◌^◌, is_some, slice_get}
 use Rattle.std.specs.List.{list_all}
-use Rattle.std.proofs.lemmas.Bool.{and_parts}
 use Rattle.std.proofs.lemmas.List.{get_or_append_left}
 use Rattle.std.proofs.lemmas.Option.{slice_get_within}
 use Rattle.mail_model.specs.Identity.{Id}
@@ -18,7 +17,7 @@ use Rattle.cluster_owes.specs.Held.{IsHeld, AreHeld, AreCounted, IsLostAt}
 use Rattle.node_store.specs.Disks.{View}
 use Rattle.node_core.specs.Starting.{MayHold}
 use Rattle.disk_journal.specs.Journal.{EndsAt}
-use Rattle.cluster_world.specs.Stands.{StandsUp, SlotStands, SlotsStand}
+use Rattle.cluster_world.specs.Stands.{SlotStands, SlotsStand}
 use Rattle.cluster_world.specs.Lives.{of_node}
 use Rattle.cluster_world.specs.Worlds.{seen_life}
 use Rattle.cluster_world.specs.Owing.{TellsImages}

@@ -1,10 +1,9 @@
 -- Steps that are made one after another, up to the first that is refused.
 use Rattle.std.proofs.Common.{◌≡◌, inl, inr, List, [], ◌∷◌, ◌++◌, None, Result, Ok, Err, refl, sym, ap, ◌∙◌}
-use Rattle.std.specs.Prelude.{map}
 use Rattle.std.proofs.lemmas.List.{map-append}
 use Rattle.node_store.specs.Disks.{View}
 use Rattle.cluster_world.specs.Outcomes.{StepMade}
-use Rattle.cluster_world.specs.Runs.{MadeThese, MadeSome, RunStops}
+use Rattle.cluster_world.specs.Runs.{MadeThese, RunStops}
 use Rattle.cluster_world.specs.Steps.{IsStep}
 use Rattle.cluster_world.specs.declared.world.World.{World}
 use Rattle.cluster_world.specs.declared.step.Step.{Step}

@@ -1,5 +1,5 @@
 -- A mishap leaves each disk's records, so what a step kept it keeps with its mishaps too.
-use Rattle.std.proofs.Common.{◌≡◌, ◌≢◌, ◌⊎◌, ⊎_elim, ℕ, Bool, true, false, List, [], ◌∷◌, ◌++◌, length, Option, Some, None, refl, sym, ap, ◌∙◌, subst, arith, ◌≤◌, if◌then◌else◌}
+use Rattle.std.proofs.Common.{◌≡◌, ◌≢◌, ◌⊎◌, ⊎_elim, ℕ, Bool, true, false, List, [], ◌∷◌, ◌++◌, Option, Some, None, refl, sym, ap, ◌∙◌, subst, arith, ◌≤◌, if◌then◌else◌}
 use Rattle.std.specs.Prelude.{nat_eq, is_some}
 use Rattle.std.specs.FinMap as fin
 use Rattle.mail_model.specs.Record.{Record}
@@ -15,10 +15,9 @@ use Rattle.cluster_model.proofs.Slots.{at_same}
 use Rattle.node_store.specs.Disks.{View}
 use Rattle.world_book.specs.declared.book.Book.{Book}
 use Rattle.cluster_world.specs.Flights.{InFlight}
-use Rattle.cluster_world.specs.Moments.{StopsKeep}
 use Rattle.cluster_world.specs.Missing.{all_missed, OnlyTickets}
 use Rattle.cluster_world.specs.Steps.{AreToldAlike, IsQuiet, AreSettled, EveryStopKeeps}
-use Rattle.cluster_world.specs.Worlds.{State, state_with, seen_life}
+use Rattle.cluster_world.specs.Worlds.{State, state_with}
 use Rattle.cluster_world.specs.Lives.{of_node}
 use Rattle.cluster_world.specs.declared.nodes.Nodes.{Nodes}
 use Rattle.cluster_world.proofs.Still.{some_same}

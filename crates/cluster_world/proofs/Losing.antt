@@ -1,13 +1,13 @@
 -- What the step does that loses a node for good.
-use Rattle.std.proofs.Common.{◌≡◌, ◌≢◌, ◌⊎◌, inl, inr, ⊎_elim, ℕ, ◌+◌, ◌≤◌, true, List, [], ◌∷◌, ◌++◌, append-nil, length-append, All, Option, Some, None, Ok, refl, sym, ap, ◌∙◌, subst, arith}
+use Rattle.std.proofs.Common.{◌≡◌, ◌≢◌, ◌⊎◌, inl, inr, ⊎_elim, ℕ, ◌+◌, ◌≤◌, List, [], ◌∷◌, ◌++◌, append-nil, length-append, All, Option, Some, None, Ok, refl, sym, ap, ◌∙◌, subst, arith}
 use Rattle.std.specs.Prelude.{IfSome, is_some}
 use Rattle.std.specs.List.{list_all}
 use Rattle.std.proofs.lemmas.List.{get_or_append_left}
 use Rattle.mail_model.specs.Record.{Record, IsJournal, payloads_of}
 use Rattle.mail_model.specs.Grammar.{IsRecord}
-use Rattle.session_model.specs.Events.{NodeLife, NodeLife as life, turned}
+use Rattle.session_model.specs.Events.{NodeLife as life, turned}
 use Rattle.cluster_model.specs.Cluster as plain
-use Rattle.cluster_model.specs.Cluster.{Slot, slot_at}
+use Rattle.cluster_model.specs.Cluster.{Slot}
 use Rattle.cluster_model.specs.World as machine
 use Rattle.cluster_model.specs.Steps as steps
 use Rattle.cluster_model.specs.Steps.{is_node}
@@ -17,9 +17,9 @@ use Rattle.node_core.specs.declared.node.Node.{Node}
 use Rattle.world_book.specs.Books.{entries_of}
 use Rattle.world_book.specs.declared.book.Book.{Book}
 use Rattle.world_book.specs.declared.entry.Entry.TheVariants as written
-use Rattle.cluster_world.specs.Books.{entries_seen, booked_by}
+use Rattle.cluster_world.specs.Books.{entries_seen}
 use Rattle.cluster_world.specs.Flights.{InFlight}
-use Rattle.cluster_world.specs.Lives.{life_seen, of_node}
+use Rattle.cluster_world.specs.Lives.{life_seen}
 use Rattle.cluster_world.specs.Stands.{SlotStands}
 use Rattle.cluster_world.specs.Worlds.{seen_life, life_among, state_with, Stands}
 use Rattle.cluster_world.specs.Changes.{ChangesNode, IsTurnedTo}

@@ -1,16 +1,14 @@
 -- What the machine makes of each outcome, and of all of them.
-use Rattle.std.proofs.Common.{◌≡◌, ⊎_elim, ◌⊎◌, inl, inr, ℕ, Bool, true, false, List, [], ◌∷◌, ◌++◌, append-nil, append_assoc, Option, Some, None, refl, sym, ap, ◌∙◌, subst}
-use Rattle.std.specs.Prelude.{⊤, filter, not, nat_eq, if◌then◌else◌, flat_map, Result, Ok, Err}
+use Rattle.std.proofs.Common.{◌≡◌, ⊎_elim, ◌⊎◌, inl, inr, ℕ, Bool, true, false, List, [], ◌∷◌, Option, Some, None, refl, sym, ap, ◌∙◌, subst}
+use Rattle.std.specs.Prelude.{filter, not, nat_eq, if◌then◌else◌, flat_map, Result, Ok, Err}
 use Rattle.mail_model.specs.Plan.{Plan}
 use Rattle.object_model.specs.Letters.{Number}
 use Rattle.object_model.specs.Lists.{Among}
 use Rattle.object_model.proofs.Lists.{among_front, among_behind, among_either}
 use Rattle.session_model.specs.Calls.{Call, Answer, IsAnswerTo}
 use Rattle.session_model.specs.OneNode.{IsSoundMail}
-use Rattle.call_tickets.specs.Seen.{call_seen, answer_seen}
 use Rattle.call_tickets.specs.declared.call.Call.{Call as WorldCall}
 use Rattle.call_tickets.specs.declared.call.Call.TheVariants as calls
-use Rattle.call_tickets.specs.declared.answer.Answer.{Answer as WorldAnswer}
 use Rattle.call_tickets.specs.declared.answer.Ask.TheVariants as ask
 use Rattle.cluster_model.specs.World as machine
 use Rattle.cluster_model.specs.Steps as steps
@@ -19,16 +17,16 @@ use Rattle.cluster_model.specs.Progress.{Ask as asks}
 use Rattle.cluster_model.specs.Makes.{MakesStep}
 use Rattle.node_core.specs.Beginning.{call_seen as machine_call, IsTextEnded}
 use Rattle.node_tickets.specs.Seen.{progress_seen}
-use Rattle.cluster_owes.specs.Seen.{call_made, answer_told}
+use Rattle.cluster_owes.specs.Seen.{answer_told}
 use Rattle.cluster_owes.specs.Outcomes as owes
 use Rattle.node_store.specs.Disks.{View}
-use Rattle.cluster_world.specs.Worlds.{plan_of, tells, StandsFor}
+use Rattle.cluster_world.specs.Worlds.{StandsFor}
 use Rattle.cluster_world.specs.Seen.{step_seen, outcome_seen}
 use Rattle.cluster_world.specs.Ended.{IsEnded}
 use Rattle.cluster_world.specs.Steps.{IsBlind, IsStep}
-use Rattle.cluster_world.specs.Outcomes.{asked_by_outcome as asked_by, answered_by_outcome as answered_by, Outcome, Awaited, StepMade, MakesSteps, Came, Makes, IsLeave, IsRefusal, IsUntold, without_node, without_session, left_after, left_after_all, fallen_in}
+use Rattle.cluster_world.specs.Outcomes.{asked_by_outcome as asked_by, answered_by_outcome as answered_by, Outcome, Awaited, StepMade, MakesSteps, Came, IsLeave, left_after, left_after_all, fallen_in}
 use Rattle.cluster_world.specs.Outcomes.Outcome.{Began, Refused, Fell, Broke, Answers, StillPending, Unanswered, GaveUp, Abandoned, KeptUp, Left, Moved}
-use Rattle.cluster_world.specs.Owing.{AreBlind, IsOfBlind, IsOfSession, AreOfSessions}
+use Rattle.cluster_world.specs.Owing.{AreBlind, IsOfBlind, IsOfSession}
 use Rattle.cluster_world.specs.declared.world.World.{World}
 use Rattle.cluster_world.specs.declared.step.Step.{Step}
 use Rattle.cluster_world.specs.declared.step.Step.TheVariants as step
@@ -39,7 +37,7 @@ use Rattle.cluster_world.specs.declared.fault.StepFault.TheVariants as fault
 use Rattle.cluster_world.proofs.SeenAlike.{made_alike, told_alike}
 use Rattle.cluster_world.proofs.Ended.{sound_ended}
 use Rattle.cluster_world.proofs.Quietly.{AreQuiet, AnswersAmiss, refusal_quiet, untold_quiet, moves_quiet}
-use Rattle.cluster_world.proofs.Chained.{step_stays, stays}
+use Rattle.cluster_world.proofs.Chained.{step_stays}
 use Rattle.cluster_world.proofs.Mirrors.{Mirrored, Led, HaveBegun, IsOf, begun_of, begun_with, led, quiet_one, joined}
 
 kept_among : {X : Type 0} (p : X → Bool) (xs : List X) (x : X) → Among x (filter p xs) → Among x xs

@@ -1,21 +1,20 @@
 -- A chain of steps of a world, as the machine makes them: each step once, marked with the session that led to it.
-use Rattle.std.proofs.Common.{◌≡◌, ⊎_elim, ◌⊎◌, inl, inr, ℕ, Bool, true, false, List, [], ◌∷◌, ◌++◌, append-nil, append_assoc, Option, Some, None, refl, sym, ap, ◌∙◌, subst}
-use Rattle.std.specs.Prelude.{⊤, flat_map, Result, Ok, Err}
+use Rattle.std.proofs.Common.{◌≡◌, ⊎_elim, ◌⊎◌, inl, inr, ℕ, Bool, true, List, [], ◌∷◌, ◌++◌, append-nil, append_assoc, refl, sym, ap, ◌∙◌, subst}
+use Rattle.std.specs.Prelude.{flat_map, Result}
 use Rattle.std.proofs.lemmas.Grind.{flat_map-append}
 use Rattle.mail_model.specs.Plan.{Plan}
 use Rattle.object_model.specs.Lists.{Among}
-use Rattle.object_model.proofs.Lists.{among_front, among_behind, among_either}
-use Rattle.session_model.specs.Logs.{Asked, Answered}
+use Rattle.object_model.proofs.Lists.{among_front, among_behind}
 use Rattle.cluster_model.specs.World as machine
 use Rattle.cluster_model.specs.Makes.{MakesStep}
 use Rattle.cluster_owes.specs.Outcomes as owes
 use Rattle.node_store.specs.Disks.{View}
-use Rattle.cluster_world.specs.Worlds.{plan_of, tells, state_of, Stands, StandsFor}
+use Rattle.cluster_world.specs.Worlds.{plan_of, tells, StandsFor}
 use Rattle.cluster_world.specs.Seen.{step_seen, outcome_seen}
 use Rattle.cluster_world.specs.Ended.{IsEnded}
-use Rattle.cluster_world.specs.Steps.{IsBlind, IsStep, LeadsTo}
+use Rattle.cluster_world.specs.Steps.{IsBlind, IsStep}
 use Rattle.cluster_world.specs.Outcomes.{Outcome, Awaited, asked_by_outcome, answered_by_outcome}
-use Rattle.cluster_world.specs.Owing.{IsOfSession, AreOfSessions}
+use Rattle.cluster_world.specs.Owing.{AreOfSessions}
 use Rattle.cluster_world.specs.declared.world.World.{World}
 use Rattle.cluster_world.specs.declared.step.Step.{Step}
 use Rattle.cluster_world.specs.declared.step.Said.{Said}

@@ -1,27 +1,24 @@
 -- A mishap that is noted is the machine's, and nothing else has changed.
-use Rattle.std.proofs.Common.{◌≡◌, ◌≢◌, ◌⊎◌, inl, inr, ⊎_elim, ℕ, zero, suc, ◌+◌, ◌<◌, ◌≤◌, Bool, true, false, List, [], ◌∷◌, length, Option, Some, None, refl, sym, ap, ◌∙◌, subst, arith, if◌then◌else◌}
-use Rattle.std.specs.Prelude.{slice_get, slice_set, nat_eq, ◌&&◌}
+use Rattle.std.proofs.Common.{◌≡◌, ℕ, zero, suc, Bool, true, false, List, Option, Some, None, refl, sym, ap, ◌∙◌, subst, arith, if◌then◌else◌}
+use Rattle.std.specs.Prelude.{nat_eq, ◌&&◌}
 use Rattle.std.specs.FinMap as fin
-use Rattle.mail_model.specs.Plan.{Plan}
 use Rattle.std.specs.Prelude.{IfSome}
 use Rattle.mail_model.specs.Record.{Record, payloads_of}
 use Rattle.disk_journal.specs.Journal.{EndsAt, TellsJournal}
-use Rattle.object_model.specs.Letters.{Number, Letter}
+use Rattle.object_model.specs.Letters.{Number}
 use Rattle.object_model.specs.Mishaps.{MishapKind}
 use Rattle.cluster_model.specs.Cluster as plain
 use Rattle.cluster_model.specs.Cluster.{slot_at, with_slot}
 use Rattle.cluster_model.specs.Rules.{mishap, ticket_at, failed_at}
 use Rattle.cluster_model.specs.Deeds.{slot_up}
-use Rattle.cluster_model.specs.World.{missed, missed_under, missed_at, missed_by, other_end}
+use Rattle.cluster_model.specs.World.{missed_at, missed_by}
 use Rattle.node_store.specs.Disks.{View}
 use Rattle.node_tickets.specs.Standing.{befell_in}
-use Rattle.node_core.specs.Nodes.{node_seen, ChangesTickets, IsNodeOf, CanWork}
+use Rattle.node_core.specs.Nodes.{node_seen, ChangesTickets}
 use Rattle.node_core.specs.Standing.{ticket_standing}
 use Rattle.node_core.specs.declared.node.Node.{Node}
-use Rattle.cluster_world.specs.Lives.{of_node, life_seen, CanWorkOn}
-use Rattle.cluster_world.specs.Stands.{StandsUp, SlotStands, SlotsStand}
-use Rattle.cluster_world.specs.Noting.{LifeNoted, LifeChanges, LivesNoted, LettersNoted}
-use Rattle.cluster_world.proofs.Still.{some_same, both_at}
+use Rattle.cluster_world.specs.Stands.{StandsUp, SlotStands}
+use Rattle.cluster_world.specs.Noting.{LifeNoted}
 use Rattle.cluster_world.proofs.Changing.{set_same}
 use Rattle.cluster_world.specs.declared.life.Life.{Life}
 use Rattle.cluster_world.specs.declared.life.Life.TheVariants.{Up, Down, Lost}

@@ -1,38 +1,31 @@
 -- A world that was driven has what a cluster owes.
-use Rattle.std.proofs.Common.{◌≡◌, ⊎_elim, ◌⊎◌, inl, inr, ℕ, zero, suc, ◌+◌, ◌<◌, ◌≤◌, Bool, true, false, List, [], ◌∷◌, ◌++◌, append-nil, append_assoc, length, map, Option, Some, None, refl, sym, ap, ◌∙◌, subst, arith}
+use Rattle.std.proofs.Common.{◌≡◌, ⊎_elim, ◌⊎◌, inl, inr, ℕ, ◌+◌, ◌≤◌, Bool, true, List, [], ◌∷◌, ◌++◌, append-nil, append_assoc, length, map, refl, sym, ap, ◌∙◌, subst, arith}
 use Rattle.std.specs.Prelude.{flat_map, is_some, Ok}
-use Rattle.std.specs.List.{list_all}
 use Rattle.std.proofs.lemmas.List.Folds.{list_all-map}
 use Rattle.mail_model.specs.Plan.{Plan}
-use Rattle.mail_model.specs.Record.{Record}
-use Rattle.mail_model.specs.Transcript.{Entry}
-use Rattle.mail_model.specs.Book.{BookEntry}
 use Rattle.object_model.specs.Lists.{Among}
 use Rattle.object_model.proofs.Lists.{among_front, among_behind}
-use Rattle.session_model.specs.Logs.{Asked, Answered}
-use Rattle.session_model.specs.Run.{Stop}
+use Rattle.session_model.specs.Logs.{Asked}
 use Rattle.session_model.specs.Losses.{IsLostIn}
 use Rattle.session_model.specs.Owes.{Owes}
 use Rattle.cluster_model.specs.World as machine
 use Rattle.cluster_model.specs.WorldLaws.{opening_world}
 use Rattle.cluster_owes.specs.Seen.{answer_told}
 use Rattle.cluster_owes.specs.Outcomes as owes
-use Rattle.cluster_owes.specs.Held.{IsLostAt, filed_on}
+use Rattle.cluster_owes.specs.Held.{filed_on}
 use Rattle.cluster_owes.proofs.Owed.{cluster_owes, answers_fit}
 use Rattle.cluster_owes.proofs.Sure.{none_waits}
 use Rattle.node_store.specs.Disks.{View}
-use Rattle.cluster_world.specs.Worlds.{plan_of, disks_of, lives_of, book_of, life_of, tells}
-use Rattle.cluster_world.specs.Opens.{IsAtBeginning}
+use Rattle.cluster_world.specs.Worlds.{disks_of, lives_of, tells}
 use Rattle.cluster_world.specs.Outcomes.{Outcome, Awaited, Came, Makes, asked_by_outcome, answered_by_outcome}
 use Rattle.cluster_world.specs.Outcomes.Outcome.{StillPending}
 use Rattle.cluster_world.specs.Seen.{step_seen, outcome_seen}
 use Rattle.call_tickets.specs.declared.answer.Ask.TheVariants as ask
 use Rattle.cluster_world.specs.declared.step.Step.TheVariants as step
 use Rattle.cluster_world.specs.declared.step.Said.TheVariants as said
-use Rattle.cluster_world.specs.Owing.{WorldOwes, NonePending, TellsImages, AreOfSessions, AreLost, IsOfBlind, AllBlind}
+use Rattle.cluster_world.specs.Owing.{WorldOwes, NonePending, TellsImages, AreOfSessions, IsOfBlind, AllBlind}
 use Rattle.cluster_world.specs.declared.world.World.{World}
-use Rattle.cluster_world.proofs.Along.{along_came}
-use Rattle.cluster_world.proofs.Chained.{Stays, stays, stays_came}
+use Rattle.cluster_world.proofs.Chained.{stays, stays_came}
 use Rattle.cluster_world.proofs.Mirrors.{Mirrored, IsOf, led, joined, makes_both, sessions_both}
 use Rattle.cluster_world.proofs.Mirroring.{AnswersFitAt, mirror}
 use Rattle.cluster_world.proofs.Holding.{holding, counted, lost_there}

@@ -1,12 +1,12 @@
 -- All that a posted letter leads to, however its receiver heard it.
-use Rattle.std.proofs.Common.{◌≡◌, ◌⊎◌, ⊎_elim, ℕ, zero, suc, ◌+◌, ◌≤◌, ◌<◌, Bool, true, false, nat_le, List, [], ◌∷◌, length, All, Option, Some, None, Result, Ok, Err, refl, sym, ap, ◌∙◌, subst, arith, if◌then◌else◌}
+use Rattle.std.proofs.Common.{◌≡◌, ◌⊎◌, ⊎_elim, ℕ, zero, suc, ◌+◌, ◌≤◌, ◌<◌, Bool, true, false, nat_le, List, [], ◌∷◌, length, Option, Some, None, Result, Ok, Err, refl, sym, ap, ◌∙◌, subst, arith, if◌then◌else◌}
 use Rattle.std.specs.Prelude.{IfOk}
 use Rattle.io_edge.specs.Causes.{Rose}
 use Rattle.std.proofs.lemmas.Option.{slice_get_within}
 use Rattle.mail_model.specs.Plan.{Plan}
 use Rattle.object_model.specs.Letters.{Letter}
 use Rattle.object_model.specs.Mishaps.{MishapKind, MishapKind as mishap}
-use Rattle.session_model.specs.Events.{NodeLife, NodeLife as life}
+use Rattle.session_model.specs.Events.{NodeLife as life}
 use Rattle.cluster_model.specs.Cluster as plain
 use Rattle.cluster_model.specs.Cluster.{Slot}
 use Rattle.cluster_model.specs.Deeds.{hear}
@@ -30,9 +30,9 @@ use Rattle.world_book.specs.Books.{spare_of}
 use Rattle.world_book.specs.declared.book.Book.{Book}
 use Rattle.cluster_world.specs.Flights.{InFlight, taken_out}
 use Rattle.cluster_world.specs.Lives.{life_seen, is_up_life, of_node, falls_left, all_falls_left, CanWorkOn}
-use Rattle.cluster_world.specs.Worlds.{seen_life, life_among, state_with}
-use Rattle.cluster_world.specs.Changes.{ChangesNode, IsTurnedTo}
-use Rattle.cluster_world.specs.Missing.{OnlyTickets, Noticed, SentOff}
+use Rattle.cluster_world.specs.Worlds.{life_among, state_with}
+use Rattle.cluster_world.specs.Changes.{ChangesNode}
+use Rattle.cluster_world.specs.Missing.{OnlyTickets, Noticed}
 use Rattle.cluster_world.specs.Posts.{out_of, HearsAt, mishap_of_thrown, mishap_of, IsEntered, IsNotedIf, AnswersSent, EndsHeard, EndsStopped, EndsPost}
 use Rattle.cluster_world.specs.Steps.{StepDid, AreSettled}
 use Rattle.cluster_world.specs.declared.life.Life.{Life}
@@ -45,7 +45,7 @@ use Rattle.cluster_world.specs.declared.fault.StepFault.{StepFault}
 use Rattle.cluster_world.specs.declared.fault.StepFault.TheVariants as fault
 use Rattle.cluster_world.proofs.Asked.{ready_of}
 use Rattle.cluster_world.proofs.Kept.{only_settled}
-use Rattle.cluster_world.proofs.AfterWork.{nothing_else, AreThese, turned_after, work_falls, work_settled, work_ready, CutSlot, work_stopped, work_undone}
+use Rattle.cluster_world.proofs.AfterWork.{nothing_else, AreThese, turned_after, work_falls, work_settled, work_ready, work_stopped, work_undone}
 use Rattle.cluster_world.proofs.Posting.{two_reasons, nobody_posted, stale_posted, late_posted, short_posted, heard_posted, faulted_posted, fallen_posted}
 
 -- all that is asked of a post

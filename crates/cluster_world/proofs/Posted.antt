@@ -1,5 +1,5 @@
 -- Letters in flight as the machine finds them, and what is worn or not found.
-use Rattle.std.proofs.Common.{◌≡◌, ℕ, ◌+◌, ◌≤◌, ◌<◌, Bool, true, false, List, [], ◌∷◌, ◌++◌, Option, Some, None, refl, sym, ap, ◌∙◌, subst, arith, if◌then◌else◌}
+use Rattle.std.proofs.Common.{◌≡◌, ℕ, ◌+◌, ◌≤◌, Bool, true, false, List, [], ◌∷◌, ◌++◌, Some, None, refl, ap, ◌∙◌, arith, if◌then◌else◌}
 use Rattle.std.specs.Prelude.{nat_eq}
 use Rattle.object_model.specs.Letters.{Body, Letter}
 use Rattle.object_model.specs.Letters.Body.{File, Strike, Push, PushAck}
@@ -8,7 +8,7 @@ use Rattle.cluster_model.specs.World.{World, Flies}
 use Rattle.cluster_model.specs.Steps.{letter_at}
 use Rattle.cluster_model.specs.Plain.{without_letter}
 use Rattle.node_core.specs.Weights.{weight_of_body, weight_of, weight_of_all}
-use Rattle.cluster_world.specs.Flights.{PutDown, with_flight, put_one, put_all, weight_of_flights}
+use Rattle.cluster_world.specs.Flights.{PutDown, with_flight, put_all, weight_of_flights}
 
 -- where a letter stands among others
 pub record Standing (fs : List Flight) (n : ℕ) (letter : Letter) : Type 0 where

@@ -1,18 +1,15 @@
 -- A letter is handed to its receiver.
-use Rattle.std.proofs.Common.{◌≡◌, ◌≢◌, ◌⊎◌, inl, inr, ⊎_elim, ℕ, zero, suc, ◌+◌, ◌≤◌, ◌<◌, Bool, true, false, ◌||◌, nat_le, List, [], ◌∷◌, ◌++◌, length, Option, Some, None, is_some, Result, Ok, Err, refl, sym, ap, ◌∙◌, subst, arith, if◌then◌else◌}
-use Rattle.std.specs.Prelude.{IfOk}
+use Rattle.std.proofs.Common.{◌≡◌, ◌⊎◌, inl, inr, ℕ, zero, suc, ◌+◌, ◌≤◌, ◌<◌, Bool, true, false, ◌||◌, nat_le, List, [], ◌∷◌, ◌++◌, length, Option, Some, None, is_some, Ok, Err, refl, sym, ap, ◌∙◌, subst, arith, if◌then◌else◌}
 use Rattle.io_edge.specs.Causes.{Rose}
 use Rattle.mail_model.specs.Plan.{Plan}
 use Rattle.mail_model.specs.Record.{Record}
-use Rattle.mail_model.specs.Book.{BookEntry}
 use Rattle.mail_model.specs.Book.BookEntry.{WentDown}
 use Rattle.object_model.specs.Letters.{Letter}
-use Rattle.object_model.specs.Mishaps.{MishapKind, MishapKind as mishap}
-use Rattle.session_model.specs.Events.{NodeLife, NodeLife as life, turned}
+use Rattle.object_model.specs.Mishaps.{MishapKind as mishap}
+use Rattle.session_model.specs.Events.{NodeLife as life, turned}
 use Rattle.cluster_model.specs.Cluster as plain
-use Rattle.cluster_model.specs.Cluster.{Slot, slot_at, with_slot}
+use Rattle.cluster_model.specs.Cluster.{Slot, slot_at}
 use Rattle.cluster_model.specs.Deeds.{slot_up, hear}
-use Rattle.cluster_model.specs.Room.{Flight}
 use Rattle.cluster_model.specs.Thrown as thrown
 use Rattle.cluster_model.specs.Thrown.{thrown_by}
 use Rattle.cluster_model.specs.World as machine
@@ -22,25 +19,25 @@ use Rattle.cluster_model.specs.Steps as steps
 use Rattle.cluster_model.specs.Steps.{letter_at, letters_end, first_fault, step_fault}
 use Rattle.cluster_model.specs.Steps.StepFault.{NoSuchLetter, Worn}
 use Rattle.node_store.specs.Disks.{View}
-use Rattle.node_core.specs.Hearing.{why_seen, LetterHeard, LetterThrown}
-use Rattle.node_core.specs.Nodes.{node_seen, IsAsBefore, IsNodeOf, CanWork}
+use Rattle.node_core.specs.Hearing.{why_seen}
+use Rattle.node_core.specs.Nodes.{node_seen, IsAsBefore}
 use Rattle.node_core.specs.Weights.{weight_of, weight_of_all}
-use Rattle.node_core.specs.Works.{Rule, NodeDid, NodeStopped}
+use Rattle.node_core.specs.Works.{Rule, NodeDid}
 use Rattle.node_core.specs.declared.node.Node.{Node}
 use Rattle.node_core.specs.declared.outbox.Why.{Why}
 use Rattle.node_core.specs.declared.outbox.Why.TheVariants as why
-use Rattle.world_book.specs.Books.{entries_of, spare_of}
+use Rattle.world_book.specs.Books.{entries_of}
 use Rattle.world_book.specs.declared.book.Book.{Book}
 use Rattle.world_book.specs.declared.entry.Entry.TheVariants as written
 use Rattle.cluster_world.specs.Books.{entries_seen, booked_by}
 use Rattle.cluster_world.specs.Flights.{InFlight, left_without, taken_out, put_down, weight_of_flights}
-use Rattle.cluster_world.specs.Lives.{life_seen, is_up_life, of_node, all_falls_left, CanWorkOn}
+use Rattle.cluster_world.specs.Lives.{life_seen, is_up_life, of_node}
 use Rattle.cluster_world.specs.Stands.{SlotStands}
 use Rattle.cluster_world.specs.Worlds.{State, seen_life, life_among, state_with, Stands}
 use Rattle.cluster_world.specs.Changes.{ChangesNode}
 use Rattle.cluster_world.specs.Missing.{OnlyTickets, Noticed, SentOff}
 use Rattle.cluster_world.specs.Posts.{out_of, IsEntered}
-use Rattle.cluster_world.specs.Steps.{StepDid, LeadsTo, IsLighter, WasToWork}
+use Rattle.cluster_world.specs.Steps.{StepDid, IsLighter, WasToWork}
 use Rattle.cluster_world.specs.declared.life.Life.{Life}
 use Rattle.cluster_world.specs.declared.life.Life.TheVariants.{Up, Down, Lost}
 use Rattle.cluster_world.specs.declared.nodes.Nodes.{Nodes}
@@ -53,7 +50,7 @@ use Rattle.cluster_world.proofs.Same.{same_stops, same_told, same_quiet}
 use Rattle.cluster_world.proofs.Kept.{missed_kept, stops_on, only_told, only_quiet}
 use Rattle.cluster_world.proofs.Falling.{entries_more}
 use Rattle.cluster_world.proofs.Posted.{Standing, standing, some_weight, weight_taken, weight_put}
-use Rattle.cluster_world.proofs.AfterWork.{nothing_else, work_did, work_goes_on, work_lives, up_slot, up_is, WorkSent, work_sent, CutSlot, work_stopped, work_undone, cut_stands, cut_stops, idle_stands, idle_stops}
+use Rattle.cluster_world.proofs.AfterWork.{nothing_else, work_did, work_goes_on, work_lives, up_slot, up_is, WorkSent, work_sent, CutSlot, cut_stands, cut_stops, idle_stands, idle_stops}
 
 -- what makes the machine refuse a post
 module _ (plan : Plan) (w : machine.World) (number : ℕ) (keep : Bool) where

@@ -1,43 +1,42 @@
 -- What a step does in which a node pushes to another.
-use Rattle.std.proofs.Common.{◌≡◌, ◌⊎◌, inl, inr, ⊎_elim, ℕ, zero, suc, ◌+◌, ◌-◌, ◌<◌, ◌≤◌, ◌&&◌, ◌||◌, nat_le, Bool, true, false, List, [], ◌∷◌, ◌++◌, length, append-nil, Option, Some, None, Result, Ok, Err, refl, sym, ap, ◌∙◌, subst, arith, if◌then◌else◌}
+use Rattle.std.proofs.Common.{◌≡◌, ◌⊎◌, inl, inr, ⊎_elim, ℕ, zero, suc, ◌+◌, ◌-◌, ◌≤◌, ◌&&◌, ◌||◌, nat_le, Bool, true, false, List, [], ◌∷◌, ◌++◌, length, append-nil, Option, Some, None, Result, Ok, Err, refl, sym, ap, ◌∙◌, subst, arith, if◌then◌else◌}
 use Rattle.std.specs.Prelude.{IfOk, IfErr, is_some, nat_lt, nat_eq, not}
 use Rattle.std.specs.List.{list_all}
 use Rattle.std.specs.FinMap as fin
 use Rattle.std.proofs.lemmas.Bool.Decides.{nat_tests}
-use Rattle.io_edge.specs.Causes.{Rose}
 use Rattle.mail_model.specs.Identity.{Key}
 use Rattle.mail_model.specs.Plan.{Plan}
 use Rattle.mail_model.specs.Record.{Record, payloads_of}
 use Rattle.object_model.specs.Letters.{Letter}
 use Rattle.object_model.specs.Mishaps.MishapKind.{Crowded}
-use Rattle.session_model.specs.Events.{NodeLife, NodeLife as life, turned}
+use Rattle.session_model.specs.Events.{NodeLife as life}
 use Rattle.cluster_model.specs.Cluster as plain
 use Rattle.cluster_model.specs.Cluster.{Slot, slot_at, with_slot, epoch_of}
 use Rattle.cluster_model.specs.Deeds.{slot_up}
-use Rattle.cluster_model.specs.Room.{Flight, octets_flying, octets_of_all, most_letters, most_octets, fits, fitting, has_room, due_to, keys_pushed}
+use Rattle.cluster_model.specs.Room.{Flight, octets_flying, octets_of_all, fits, fitting, has_room, due_to, keys_pushed}
 use Rattle.cluster_model.specs.Rules.{push, push_of}
 use Rattle.cluster_model.specs.World as machine
 use Rattle.cluster_model.specs.World.{put}
 use Rattle.cluster_model.specs.Steps as steps
 use Rattle.cluster_model.specs.Steps.{is_node, letters_end, slot_fault, is_worn_at, is_crowded_at, is_crowded_slot, first_fault, step_fault}
-use Rattle.cluster_model.specs.Makes.{Pushes, after, cut_world}
+use Rattle.cluster_model.specs.Makes.{Pushes, cut_world}
 use Rattle.disk_journal.specs.Journal.{TellsJournal}
 use Rattle.node_store.specs.Disks.{View}
-use Rattle.node_core.specs.Nodes.{node_seen, Keeps, end_in, IsNodeOf, IsAsBefore}
-use Rattle.node_core.specs.Pushing.{first_within, keys_within, NodePushed, PushesOut}
-use Rattle.node_core.specs.Works.{IsOnlyRead, ReadFailed}
+use Rattle.node_core.specs.Nodes.{node_seen, Keeps, end_in, IsAsBefore}
+use Rattle.node_core.specs.Pushing.{first_within, keys_within, PushesOut}
+use Rattle.node_core.specs.Works.{IsOnlyRead}
 use Rattle.node_core.specs.declared.fault.NodeFault.{NodeFault}
 use Rattle.node_core.specs.declared.fault.NodeFault.TheVariants.{Disk, Worn, NoMemory}
 use Rattle.node_core.specs.declared.outbox.Outbox.{Outbox}
 use Rattle.node_core.specs.declared.node.Node.{Node}
-use Rattle.world_book.specs.Books.{entries_of, spare_of}
+use Rattle.world_book.specs.Books.{entries_of}
 use Rattle.world_book.specs.declared.book.Book.{Book}
 use Rattle.world_book.specs.declared.entry.Entry.TheVariants as written
-use Rattle.cluster_world.specs.Books.{entries_seen, booked_by}
+use Rattle.cluster_world.specs.Books.{entries_seen}
 use Rattle.cluster_world.specs.Flights.{InFlight, put_down, taken_out}
 use Rattle.cluster_world.specs.Lives.{life_seen, of_node, all_falls_left, CanWorkOn}
-use Rattle.cluster_world.specs.Stands.{SlotStands, SlotsStand}
-use Rattle.cluster_world.specs.Worlds.{State, seen_life, life_among, life_in, disk_in, state_with, tells_in, Stands}
+use Rattle.cluster_world.specs.Stands.{SlotsStand}
+use Rattle.cluster_world.specs.Worlds.{State, seen_life, life_among, state_with, Stands}
 use Rattle.cluster_world.specs.Asking.{IsUpWhole}
 use Rattle.cluster_world.specs.Changes.{ChangesNode}
 use Rattle.cluster_world.specs.Missing.{all_missed, SentOff}
@@ -45,9 +44,9 @@ use Rattle.cluster_world.specs.Turning.{life_left}
 use Rattle.cluster_world.specs.Turns.{life_refusal, node_refusal}
 use Rattle.cluster_world.specs.Widens.{said_of_fault, entries_of_fault}
 use Rattle.cluster_world.specs.Pushes.{letters_left, octets_left, letters_left_by, octets_left_by, IsCrowdedAt, PushesAt}
-use Rattle.cluster_world.specs.Steps.{StepDid, AreSettled, AreToldAlike, IsQuiet, LeadsTo, WasToWork, IsKnown, EveryStopKeeps, MayMisread}
+use Rattle.cluster_world.specs.Steps.{StepDid, AreSettled, LeadsTo, WasToWork, IsKnown, EveryStopKeeps}
 use Rattle.cluster_world.specs.declared.life.Life.{Life}
-use Rattle.cluster_world.specs.declared.life.Life.TheVariants.{Up, Down, Lost}
+use Rattle.cluster_world.specs.declared.life.Life.TheVariants.{Up, Down}
 use Rattle.cluster_world.specs.declared.nodes.Nodes.{Nodes}
 use Rattle.cluster_world.specs.declared.step.Step.TheVariants as step
 use Rattle.cluster_world.specs.declared.step.Said.{Said}
@@ -62,7 +61,7 @@ use Rattle.cluster_world.proofs.Turned.{slot_of, as_many}
 use Rattle.cluster_world.proofs.Refusing.{fit_of}
 use Rattle.cluster_world.proofs.Falling.{entries_more}
 use Rattle.cluster_world.proofs.Asked.{ready_of, disk_of, slot_same}
-use Rattle.cluster_world.proofs.AfterWidening.{StaysUp, FallsDown, read_stays, stays_lives, stays_ready, stays_falls, stays_told, stays_quiet, stays_settled, down_lives, down_ready, down_falls, down_told, down_quiet, down_settled, FoundUp, found_up, read_there, read_down, within_first, within_second, told_there, when_told, caused, Works, up_of}
+use Rattle.cluster_world.proofs.AfterWidening.{StaysUp, FallsDown, read_stays, stays_lives, stays_ready, stays_falls, stays_told, stays_quiet, stays_settled, down_lives, down_ready, down_falls, down_told, down_quiet, down_settled, found_up, read_there, read_down, within_first, within_second, told_there, when_told, caused, up_of}
 
 -- what finds room by both counts, one after another
 module _ (letter_of : Key → List Letter) where

@@ -1,12 +1,12 @@
 -- The machine puts letters in flight as the code does: first those that find room, and then the mishaps of the others.
-use Rattle.std.proofs.Common.{◌≡◌, ℕ, ◌+◌, Bool, true, false, List, [], ◌∷◌, ◌++◌, refl, sym, ap, ◌∙◌, if◌then◌else◌}
+use Rattle.std.proofs.Common.{◌≡◌, ◌+◌, Bool, true, false, List, [], ◌∷◌, ◌++◌, refl, sym, ap, ◌∙◌, if◌then◌else◌}
 use Rattle.object_model.specs.Letters.{Letter}
 use Rattle.object_model.specs.Mishaps.{MishapKind}
 use Rattle.object_model.specs.Mishaps.MishapKind.{Crowded}
 use Rattle.cluster_model.specs.Cluster as plain
 use Rattle.cluster_model.specs.Room.{has_room}
 use Rattle.cluster_model.specs.World.{World, missed, put}
-use Rattle.cluster_world.specs.Flights.{InFlight, PutDown, with_flight, put_one, put_all, put_down}
+use Rattle.cluster_world.specs.Flights.{PutDown, with_flight, put_all, put_down}
 use Rattle.cluster_world.specs.Missing.{all_missed}
 
 pub missed_more : (kind : MishapKind) (slots : List plain.Slot) (letters : List Letter) (letter : Letter) → all_missed kind slots (letters ++ letter ∷ []) ≡ missed kind (all_missed kind slots letters) letter

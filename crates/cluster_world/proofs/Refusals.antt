@@ -1,10 +1,9 @@
 -- A step that is refused for the sake of a node is refused by the machine, and no other is.
-use Rattle.std.proofs.Common.{◌≡◌, ◌≢◌, ◌⊎◌, inl, inr, ⊎_elim, ℕ, zero, suc, ◌+◌, ◌<◌, ◌≤◌, Bool, true, false, List, [], ◌∷◌, length, Option, Some, None, Result, Ok, Err, refl, sym, ap, ◌∙◌, subst, arith, if◌then◌else◌}
-use Rattle.std.specs.Prelude.{slice_get}
+use Rattle.std.proofs.Common.{◌≡◌, ◌≢◌, ◌⊎◌, ⊎_elim, ℕ, zero, suc, ◌≤◌, Bool, true, false, List, [], ◌∷◌, length, Option, Some, None, refl, sym, ap, ◌∙◌, subst, arith, if◌then◌else◌}
 use Rattle.std.specs.List.{list_all}
 use Rattle.std.proofs.lemmas.Bool.{and_parts, false≢true}
 use Rattle.std.proofs.lemmas.Bool.Decides.{nat_tests}
-use Rattle.std.proofs.lemmas.Option.{slice_get_within, slice_get_cases}
+use Rattle.std.proofs.lemmas.Option.{slice_get_cases}
 use Rattle.session_model.specs.Events.{NodeLife, NodeLife as life}
 use Rattle.mail_model.specs.Plan.{Plan}
 use Rattle.mail_model.specs.Record.{Record}
@@ -15,7 +14,7 @@ use Rattle.cluster_model.specs.Steps.{is_node, nodes_named, actor_of, life_fault
 use Rattle.node_store.specs.Disks.{View}
 use Rattle.node_core.specs.Nodes.{node_seen}
 use Rattle.cluster_world.specs.Lives.{life_seen, of_node}
-use Rattle.cluster_world.specs.Stands.{SlotStands, SlotsStand}
+use Rattle.cluster_world.specs.Stands.{SlotStands}
 use Rattle.cluster_world.specs.Worlds.{State, seen_life, life_in, Stands}
 use Rattle.cluster_world.specs.Seen.{step_seen, fault_seen}
 use Rattle.cluster_world.specs.Turns.{life_refusal, actor_refusal, node_refusal}

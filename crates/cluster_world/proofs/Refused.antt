@@ -1,10 +1,9 @@
 -- A step that is refused for the sake of a node changes nothing.
-use Rattle.std.proofs.Common.{◌≡◌, inl, ℕ, Bool, true, false, length, List, Option, Some, None, Err, refl, sym, ap, ◌∙◌, subst, if◌then◌else◌}
+use Rattle.std.proofs.Common.{◌≡◌, inl, ℕ, Bool, true, false, length, Option, Some, None, Err, refl, sym, subst, if◌then◌else◌}
 use Rattle.std.specs.Prelude.{⊤}
 use Rattle.std.specs.List.{list_all}
 use Rattle.session_model.specs.Events.{NodeLife, NodeLife as life}
 use Rattle.cluster_model.specs.World as machine
-use Rattle.cluster_model.specs.Steps as steps
 use Rattle.cluster_model.specs.Steps.{nodes_named, actor_of, is_node}
 use Rattle.cluster_model.specs.Makes.{MakesStep}
 use Rattle.node_store.specs.Disks.{View}
@@ -16,7 +15,6 @@ use Rattle.cluster_world.specs.declared.step.Step.{Step}
 use Rattle.cluster_world.specs.declared.step.Step.TheVariants.{Begin, Ask, GiveUp, Post, Drop, Push, Widen, Crash, Start, Lose}
 use Rattle.cluster_world.specs.declared.fault.StepFault.{StepFault}
 use Rattle.cluster_world.specs.declared.fault.StepFault.TheVariants as fault
-use Rattle.cluster_world.proofs.Still.{some_same}
 use Rattle.cluster_world.proofs.Same.{same_stops, same_told, same_quiet}
 use Rattle.cluster_world.proofs.Refusals.{named_fault}
 

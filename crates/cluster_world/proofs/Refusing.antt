@@ -1,18 +1,16 @@
 -- What the machine refuses, and what it does not.
-use Rattle.std.proofs.Common.{◌≡◌, ◌⊎◌, inl, inr, ⊎_elim, ℕ, Bool, true, false, ◌&&◌, ◌||◌, nat_le, List, [], ◌∷◌, Option, Some, None, is_some, refl, sym, ap, ◌∙◌, subst, if◌then◌else◌}
+use Rattle.std.proofs.Common.{◌≡◌, ℕ, Bool, true, false, ◌||◌, nat_le, List, [], ◌∷◌, Option, Some, None, refl, ap, ◌∙◌, if◌then◌else◌}
 use Rattle.std.specs.List.{list_all}
 use Rattle.mail_model.specs.Plan.{Plan}
 use Rattle.mail_model.specs.Record.{Record}
 use Rattle.object_model.specs.Letters.{Number}
 use Rattle.cluster_model.specs.Cluster.{Node, Slot, slot_at}
-use Rattle.cluster_model.specs.Cluster.Life.{Up, Down, Lost}
+use Rattle.cluster_model.specs.Cluster.Life.{Up, Down}
 use Rattle.cluster_model.specs.World.{World}
 use Rattle.cluster_model.specs.Steps.{StepFault, is_node, slot_fault, life_fault, stands_at, letters_end, is_worn_at, first_fault, step_fault}
 use Rattle.cluster_model.specs.Steps.Step.{AskFor, GiveUp, Crash, Start, Lose}
 use Rattle.cluster_model.specs.Steps.StepFault.{NoSuchNode, NoSuchTicket, Worn}
-use Rattle.session_model.specs.Events.{NodeLife, NodeLife as life}
-use Rattle.cluster_world.specs.Turns.{life_refusal}
-use Rattle.cluster_world.specs.declared.step.Step.TheVariants as step
+use Rattle.session_model.specs.Events.{NodeLife as life}
 use Rattle.cluster_world.specs.declared.fault.StepFault as code
 use Rattle.cluster_world.specs.declared.fault.StepFault.TheVariants as fault
 

@@ -1,5 +1,5 @@
 -- A session sees a call of the world as it sees that of the machine, and an answer, too.
-use Rattle.std.proofs.Common.{◌≡◌, ℕ, List, [], ◌∷◌, Option, Some, None, refl, sym, ap, ◌∙◌, map}
+use Rattle.std.proofs.Common.{◌≡◌, List, [], ◌∷◌, Some, refl, sym, ap, map}
 use Rattle.mail_base.specs.declared.item.Item.{Item}
 use Rattle.mail_base.specs.declared.proof.Proof.TheVariants.{Pass}
 use Rattle.call_tickets.specs.Seen.{call_seen, answer_seen}

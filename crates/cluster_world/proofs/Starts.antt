@@ -1,13 +1,13 @@
 -- What a start of a node does.
-use Rattle.std.proofs.Common.{◌≡◌, ◌≢◌, ◌⊎◌, inl, inr, ⊎_elim, ℕ, zero, suc, ◌+◌, ◌<◌, ◌≤◌, nat_le, Bool, true, false, List, [], ◌∷◌, ◌++◌, append-nil, All, Option, Some, None, Result, Ok, Err, refl, sym, ap, ◌∙◌, subst, arith}
+use Rattle.std.proofs.Common.{◌≡◌, ◌⊎◌, inl, inr, ⊎_elim, ℕ, zero, suc, ◌+◌, ◌≤◌, nat_le, true, false, List, [], ◌∷◌, ◌++◌, append-nil, All, Option, Some, None, Result, Ok, Err, refl, sym, ap, ◌∙◌, subst, arith}
 use Rattle.std.specs.Prelude.{IfSome, IfOk, is_some}
 use Rattle.std.specs.List.{list_all}
 use Rattle.std.proofs.lemmas.Bool.{and_parts}
 use Rattle.std.proofs.lemmas.Bool.Decides.{nat_tests}
 use Rattle.io_edge.specs.Causes.{Rose}
-use Rattle.io_edge.specs.Moments.{Passed, IsOnly}
+use Rattle.io_edge.specs.Moments.{IsOnly}
 use Rattle.mail_model.specs.Plan.{Plan}
-use Rattle.mail_model.specs.Record.{Record, IsJournal, payloads_of}
+use Rattle.mail_model.specs.Record.{Record, payloads_of}
 use Rattle.mail_model.specs.Grammar.{IsRecord}
 use Rattle.mail_model.specs.Book.{BookEntry}
 use Rattle.session_model.specs.Events.{NodeLife, NodeLife as life, turned}
@@ -18,17 +18,16 @@ use Rattle.cluster_model.specs.Deeds.{slot_up}
 use Rattle.cluster_model.specs.World as machine
 use Rattle.cluster_model.specs.Steps as steps
 use Rattle.cluster_model.specs.Steps.{is_node, letters_end, greatest_boot}
-use Rattle.cluster_model.specs.Makes.{MakesStep, StartsUp, RunsShort, IsLastBoot}
-use Rattle.disk_journal.specs.Journal.{TellsJournal, EndsAt}
+use Rattle.cluster_model.specs.Makes.{MakesStep, StartsUp, RunsShort}
+use Rattle.disk_journal.specs.Journal.{EndsAt}
 use Rattle.node_store.specs.Disks.{View}
-use Rattle.node_core.specs.Nodes.{node_seen, end_in, CanWork, IsNodeOf}
+use Rattle.node_core.specs.Nodes.{node_seen, end_in}
 use Rattle.node_core.specs.Starting.{MayHold, WhereItHolds, IsStartStop, StartKeeps, StartedOver, StoppedOver, WornOver, NodeStarted, NodeStarts}
 use Rattle.node_core.specs.declared.fault.NodeFault.{NodeFault}
 use Rattle.node_core.specs.declared.fault.NodeFault.TheVariants.{Disk, Worn, NoMemory}
 use Rattle.node_core.specs.declared.node.Node.{Node}
-use Rattle.world_book.specs.Books.{entries_of, spare_of}
+use Rattle.world_book.specs.Books.{entries_of}
 use Rattle.world_book.specs.declared.book.Book.{Book}
-use Rattle.world_book.specs.declared.entry.Entry.{Entry}
 use Rattle.world_book.specs.declared.entry.Entry.TheVariants as written
 use Rattle.cluster_world.specs.Books.{entries_seen, booked_by}
 use Rattle.cluster_world.specs.Flights.{InFlight}
@@ -38,7 +37,7 @@ use Rattle.cluster_world.specs.Worlds.{State, seen_life, life_among, state_with,
 use Rattle.cluster_world.specs.Changes.{ChangesNode}
 use Rattle.cluster_world.specs.Starting.{said_of_start, entries_of_start, IsUpIn, ComesToThis, HasStarted}
 use Rattle.cluster_world.specs.Seen.{outcome_seen}
-use Rattle.cluster_world.specs.Turns.{life_refusal, node_refusal, life_after_step, refused_for_node}
+use Rattle.cluster_world.specs.Turns.{life_refusal, node_refusal, life_after_step}
 use Rattle.cluster_world.specs.Moments.{IsStopOf, StopsKeep}
 use Rattle.cluster_world.specs.Steps.{StepDid, AreSettled, LeadsTo, IsKnown, IsRefusedRight, SaysSo, FallsSo, WasToWork, HasCause}
 use Rattle.cluster_world.specs.declared.life.Life.{Life}
@@ -49,7 +48,7 @@ use Rattle.cluster_world.specs.declared.step.Said.{Said}
 use Rattle.cluster_world.specs.declared.step.Said.TheVariants as said
 use Rattle.cluster_world.specs.declared.fault.StepFault.{StepFault}
 use Rattle.cluster_world.specs.declared.fault.StepFault.TheVariants as fault
-use Rattle.cluster_world.proofs.Still.{some_same, if_some}
+use Rattle.cluster_world.proofs.Still.{some_same}
 use Rattle.cluster_world.proofs.Same.{same_told, same_quiet, same_stops}
 use Rattle.cluster_world.proofs.Worked.{passed, if_both}
 use Rattle.cluster_world.proofs.Turned.{slot_of, lives_turned, as_many, told_by, quiet_by, settled_by, still_ready, falls_now, stops_kept, stands_now}

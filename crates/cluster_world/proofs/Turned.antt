@@ -1,9 +1,9 @@
 -- What a step leaves that changes one node and its disk: that node as it says, and all others as they were.
 use Rattle.std.proofs.Common.{◌≡◌, ◌≢◌, ◌⊎◌, inl, inr, ⊎_elim, ℕ, zero, suc, ◌+◌, ◌*◌, ◌≤◌, Bool, true, false, List, [], ◌∷◌, ◌++◌, length, Option, Some, None, refl, sym, ap, ◌∙◌, subst, arith, nat_eq, if◌then◌else◌}
-use Rattle.std.specs.Prelude.{slice_get, slice_set, is_some}
+use Rattle.std.specs.Prelude.{slice_get, slice_set}
 use Rattle.mail_model.specs.Plan.{Plan}
 use Rattle.mail_model.proofs.Sessions.{get_set, get_set_other}
-use Rattle.session_model.specs.Events.{NodeLife, NodeLife as life, turned}
+use Rattle.session_model.specs.Events.{NodeLife as life, turned}
 use Rattle.cluster_model.specs.Cluster as plain
 use Rattle.cluster_model.specs.Cluster.{Slot, slot_at, with_slot}
 use Rattle.cluster_model.proofs.Slots.{at_same}

@@ -1,12 +1,10 @@
 -- What a step does that gives a copy a target more.
-use Rattle.std.proofs.Common.{◌≡◌, ◌⊎◌, inl, inr, ℕ, zero, suc, ◌+◌, ◌≤◌, ◌||◌, nat_le, Bool, true, false, List, [], ◌∷◌, ◌++◌, length, append-nil, Option, Some, None, Result, Ok, Err, refl, sym, ap, ◌∙◌, subst, arith, if◌then◌else◌}
+use Rattle.std.proofs.Common.{◌≡◌, inl, ℕ, ◌+◌, ◌≤◌, ◌||◌, nat_le, Bool, true, false, List, [], ◌∷◌, ◌++◌, append-nil, Option, Some, None, Result, Ok, Err, refl, sym, ap, ◌∙◌, subst, arith, if◌then◌else◌}
 use Rattle.std.specs.List.{list_all}
-use Rattle.io_edge.specs.Causes.{Rose}
-use Rattle.mail_model.specs.Identity.{Id, Key}
+use Rattle.mail_model.specs.Identity.{Id}
 use Rattle.mail_model.specs.Identity.Key.{Message}
 use Rattle.mail_model.specs.Plan.{Plan}
-use Rattle.object_model.specs.Letters.{Letter}
-use Rattle.session_model.specs.Events.{NodeLife, NodeLife as life, turned}
+use Rattle.session_model.specs.Events.{NodeLife as life}
 use Rattle.cluster_model.specs.Cluster as plain
 use Rattle.cluster_model.specs.Cluster.{Slot, slot_at, with_slot}
 use Rattle.cluster_model.specs.Deeds.{slot_up}
@@ -20,11 +18,11 @@ use Rattle.cluster_model.specs.Makes.{Widens, RunsShort, cut_world}
 use Rattle.node_store.specs.Disks.{View}
 use Rattle.node_core.specs.Nodes.{node_seen}
 use Rattle.node_core.specs.Pushing.{WidensCopy}
-use Rattle.node_core.specs.Works.{Rule, LeavesUp, NodeDid}
+use Rattle.node_core.specs.Works.{Rule, LeavesUp}
 use Rattle.node_core.specs.declared.fault.NodeFault.{NodeFault}
 use Rattle.node_core.specs.declared.fault.NodeFault.TheVariants.{Disk, Worn, NoMemory}
 use Rattle.node_core.specs.declared.node.Node.{Node}
-use Rattle.world_book.specs.Books.{entries_of, spare_of}
+use Rattle.world_book.specs.Books.{entries_of}
 use Rattle.world_book.specs.declared.book.Book.{Book}
 use Rattle.world_book.specs.declared.entry.Entry.TheVariants as written
 use Rattle.cluster_world.specs.Books.{entries_seen, booked_by}
@@ -35,20 +33,19 @@ use Rattle.cluster_world.specs.Worlds.{State, seen_life, life_among, state_with,
 use Rattle.cluster_world.specs.Changes.{ChangesNode}
 use Rattle.cluster_world.specs.Turning.{life_left}
 use Rattle.cluster_world.specs.Turns.{life_refusal, node_refusal}
-use Rattle.cluster_world.specs.Widens.{said_of_fault, entries_of_fault, said_of_widening, entries_of_widening, WidensAt}
-use Rattle.cluster_world.specs.Steps.{StepDid, AreSettled, LeadsTo, WasToWork}
-use Rattle.cluster_world.specs.declared.life.Life.TheVariants.{Up, Down, Lost}
+use Rattle.cluster_world.specs.Widens.{said_of_widening, entries_of_widening, WidensAt}
+use Rattle.cluster_world.specs.Steps.{StepDid, AreSettled, WasToWork}
+use Rattle.cluster_world.specs.declared.life.Life.TheVariants.{Up, Down}
 use Rattle.cluster_world.specs.declared.nodes.Nodes.{Nodes}
 use Rattle.cluster_world.specs.declared.step.Step.TheVariants as step
 use Rattle.cluster_world.specs.declared.step.Said.TheVariants as said
 use Rattle.cluster_world.specs.declared.fault.StepFault.TheVariants as fault
-use Rattle.cluster_world.proofs.Still.{some_same}
 use Rattle.cluster_world.proofs.Same.{same_told, same_quiet, same_stops}
-use Rattle.cluster_world.proofs.Turned.{as_many, disk_there}
+use Rattle.cluster_world.proofs.Turned.{as_many}
 use Rattle.cluster_world.proofs.Refusing.{fit_of}
 use Rattle.cluster_world.proofs.Falling.{entries_more}
 use Rattle.cluster_world.proofs.Asked.{slot_same}
-use Rattle.cluster_world.proofs.AfterWidening.{StaysUp, FallsDown, did_stay, read_stays, stopped_falls, stays_lives, stays_ready, stays_falls, stays_told, stays_quiet, stays_settled, down_lives, down_ready, down_falls, down_told, down_quiet, down_settled, FoundUp, found_up, did_there, CutThere, cut_there, read_there, within_first, nothing_read, caused, Works, up_of, slot_up_of}
+use Rattle.cluster_world.proofs.AfterWidening.{StaysUp, FallsDown, did_stay, read_stays, stopped_falls, stays_lives, stays_ready, stays_falls, stays_told, stays_quiet, stays_settled, down_lives, down_ready, down_falls, down_told, down_quiet, down_settled, FoundUp, found_up, did_there, CutThere, cut_there, read_there, within_first, nothing_read, caused, up_of, slot_up_of}
 
 -- The machine refuses it only once no letters are sent any more.
 module _ (plan : Plan) (w : machine.World) (n to : ℕ) (user : List ℕ) (id : Id) (slot : Slot) (node : plain.Node)

@@ -1,27 +1,25 @@
 -- A node that did its work, or stopped in it, as a slot of the machine.
-use Rattle.std.proofs.Common.{◌≡◌, ◌≢◌, ◌⊎◌, inl, inr, ⊎_elim, ℕ, zero, suc, ◌+◌, ◌<◌, ◌≤◌, Bool, true, false, List, [], ◌∷◌, ◌++◌, length, length-append, take, drop, append-nil, append_assoc, Option, Some, None, refl, sym, ap, ◌∙◌, subst, arith}
-use Rattle.std.specs.Prelude.{IfSome, is_some, map, All, slice_index_or}
+use Rattle.std.proofs.Common.{◌≡◌, ◌⊎◌, inl, inr, ⊎_elim, ℕ, ◌+◌, true, false, List, [], ◌∷◌, ◌++◌, length-append, append-nil, append_assoc, Option, Some, None, refl, sym, ap, ◌∙◌, subst, arith}
+use Rattle.std.specs.Prelude.{IfSome, is_some, All}
 use Rattle.std.proofs.lemmas.List.{get_or_append_left}
 use Rattle.io_edge.specs.Moments.{Clock, Passed}
 use Rattle.mail_model.specs.Record.{Record, IsJournal, payloads_of, payload_of}
 use Rattle.mail_model.specs.Grammar.{IsRecord}
 use Rattle.object_model.specs.Letters.{Letter}
 use Rattle.cluster_model.specs.Cluster as plain
-use Rattle.cluster_model.specs.Deeds.{slot_up}
 use Rattle.cluster_model.specs.Makes.{IsWorkCut}
 use Rattle.disk_journal.specs.Journal.{EndsAt, TellsJournal}
 use Rattle.disk_journal.specs.Images.{Extends, Adds, AddsAll}
 use Rattle.node_store.specs.Disks.{View}
-use Rattle.node_store.specs.Appends.{AppendsRecords, StopsAfter, IsEither}
+use Rattle.node_store.specs.Appends.{IsEither}
 use Rattle.node_core.specs.Nodes.{node_seen, Keeps, end_in}
 use Rattle.node_core.specs.Works.{Rule, NodeDid, NodeStopped}
 use Rattle.node_core.specs.Starting.{MayHold}
 use Rattle.node_core.specs.declared.node.Node.{Node}
 use Rattle.cluster_world.specs.Stands.{StandsUp, SlotStands}
-use Rattle.cluster_world.specs.Moments.{IsStopOf, StopsKeep}
-use Rattle.cluster_world.specs.Works.{slot_after, SlotTurned, SlotCut}
-use Rattle.cluster_world.proofs.Still.{if_some}
-use Rattle.cluster_world.specs.declared.life.Life.TheVariants.{Up, Down, Lost}
+use Rattle.cluster_world.specs.Moments.{IsStopOf}
+use Rattle.cluster_world.specs.Works.{SlotTurned, SlotCut}
+use Rattle.cluster_world.specs.declared.life.Life.TheVariants.{Up, Down}
 
 -- both hold where it is told
 pub if_both : (o : Option (List ℕ)) (P Q R : Type 0) → (P → Q → R) → IfSome o (λ _. P) → IfSome o (λ _. Q) → IfSome o (λ _. R)

@@ -1,5 +1,5 @@
 -- A call that begins at a node of the world.
-use Rattle.std.specs.Prelude.{◌≡◌, ◌⊎◌, ℕ, ◌≤◌, List, [], ◌∷◌, ◌++◌, length, true, false, ⊤, Option, Some, None, Result, Ok, Err}
+use Rattle.std.specs.Prelude.{◌≡◌, ℕ, ◌≤◌, List, [], ◌∷◌, ◌++◌, length, true, false, ⊤, Option, Some, None, Result, Ok, Err}
 use Rattle.mail_model.specs.Plan.{Plan}
 use Rattle.mail_model.specs.Book.{BookEntry}
 use Rattle.object_model.specs.Letters.{Number, Letter}

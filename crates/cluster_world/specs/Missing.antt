@@ -10,8 +10,7 @@ use Rattle.cluster_world.specs.Lives.{of_node, all_falls_left, CanWorkOn}
 use Rattle.cluster_world.specs.Stands.{SlotsStand}
 use Rattle.cluster_world.specs.Worlds.{seen_life}
 use Rattle.object_model.specs.Mishaps.MishapKind.{Crowded}
-use Rattle.cluster_world.specs.Flights.{InFlight, PutDown, put_down, taken_out}
-use Rattle.cluster_world.specs.declared.life.Life.{Life}
+use Rattle.cluster_world.specs.Flights.{InFlight, put_down, taken_out}
 use Rattle.cluster_world.specs.declared.nodes.Nodes.{Nodes}
 
 -- a mishap of each of these letters

@@ -1,5 +1,5 @@
 -- What making several steps does.
-use Rattle.std.specs.Prelude.{◌≡◌, ◌⊎◌, List, ◌∷◌, [], ◌++◌, map, None, Result, Ok, Err}
+use Rattle.std.specs.Prelude.{◌≡◌, ◌⊎◌, List, ◌∷◌, [], ◌++◌, map, None, Ok, Err}
 use Rattle.node_store.specs.Disks.{View}
 use Rattle.cluster_world.specs.Outcomes.{StepMade, MakesSteps}
 use Rattle.cluster_world.specs.declared.world.World.{World}

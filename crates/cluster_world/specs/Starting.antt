@@ -1,5 +1,5 @@
 -- What a start makes of the life of a node and of its disk, and what is said of it.
-use Rattle.std.specs.Prelude.{◌≡◌, ◌≤◌, ℕ, List, [], ◌∷◌, true, false, ⊤, Option, Some, None, IfOk, Result, Ok, Err}
+use Rattle.std.specs.Prelude.{◌≡◌, ◌≤◌, ℕ, List, [], ◌∷◌, true, false, Some, None, IfOk, Result, Ok, Err}
 use Rattle.io_edge.specs.Octets.{IsToldAlike}
 use Rattle.mail_model.specs.Plan.{Plan}
 use Rattle.cluster_model.specs.Steps.{greatest_boot}
@@ -12,7 +12,7 @@ use Rattle.node_core.specs.declared.node.Node.{Node}
 use Rattle.world_book.specs.declared.entry.Entry.{Entry}
 use Rattle.world_book.specs.declared.entry.Entry.TheVariants as entry
 use Rattle.cluster_world.specs.declared.life.Life.{Life}
-use Rattle.cluster_world.specs.declared.life.Life.TheVariants.{Up, Down, Lost}
+use Rattle.cluster_world.specs.declared.life.Life.TheVariants.{Up, Down}
 use Rattle.cluster_world.specs.declared.step.Said.{Said}
 use Rattle.cluster_world.specs.declared.step.Said.TheVariants as said
 use Rattle.cluster_world.specs.declared.fault.StepFault.{StepFault}

@@ -1,5 +1,5 @@
 -- Which steps come to nothing only for the sake of a node.
-use Rattle.std.specs.Prelude.{◌≡◌, ⊤, Option, Some, Result, Ok, Err}
+use Rattle.std.specs.Prelude.{◌≡◌, ⊤, Option, Some, Result, Err}
 use Rattle.cluster_world.specs.declared.step.Step.{Step}
 use Rattle.cluster_world.specs.declared.step.Step.TheVariants.{Crash, Lose}
 use Rattle.cluster_world.specs.declared.step.Said.{Said}

@@ -1,5 +1,5 @@
 //! The nodes of a plan start for the first time, each on its empty disk.
-ghost use Rattle.std.specs.Prelude.{◌≡◌, ◌+◌, ◌*◌, ◌≤◌, ◌<◌, ℕ, [], length, Some, IfSome, IfOk, slice_get};
+ghost use Rattle.std.specs.Prelude.{◌≡◌, ◌+◌, ◌*◌, ◌≤◌, ◌<◌, [], length, Some, IfSome, IfOk, slice_get};
 ghost use Rattle.io_edge.specs.Octets.{IsToldAlike};
 ghost use Rattle.node_store.specs.Disks.{view_of};
 ghost use Rattle.world_book.specs.Books.{entries_of, spare_of};

@@ -1,5 +1,5 @@
 //! The journal of a node: records after gates, of which only an open one counts.
-ghost use Rattle.std.specs.Prelude.{◌≡◌, ◌+◌, ◌≤◌, ◌<◌, ◌++◌, ◌∷◌, [], ℕ, List, length, IfOk, IfSome, OnOk, IsErrOf, ◌^◌};
+ghost use Rattle.std.specs.Prelude.{◌≡◌, ◌+◌, ◌≤◌, ◌<◌, ◌++◌, ◌∷◌, [], ℕ, List, length, IfOk, IfSome, OnOk, IsErrOf};
 ghost use Rattle.io_edge.specs.Moments.{Tears, Keeps};
 ghost use Rattle.io_edge.specs.Octets.{IsToldAlike};
 ghost use Rattle.disk_journal.specs.Images.{Adds, AddsAll};

@@ -1,8 +1,6 @@
 //! How a journal is read: its header, and record by record up to the first closed gate.
-ghost use Rattle.std.specs.Prelude.{◌≡◌, ◌+◌, ◌≤◌, ◌<◌, ℕ, List, length, take, drop, IfOk, IfSome, OnOk, IsErrOf, ◌^◌};
-ghost use Rattle.io_edge.specs.Causes.{Rose};
+ghost use Rattle.std.specs.Prelude.{◌≡◌, ◌+◌, ◌≤◌, ◌<◌, length, take, drop, IfOk, IfSome, OnOk, ◌^◌};
 ghost use Rattle.io_edge.specs.Moments.{Keeps};
-ghost use Rattle.mail_model.specs.Record.{header_of};
 ghost use Rattle.disk_journal.specs.Reading.{Fills, HasHeader, FoundAt};
 
 use crate::fault::JournalFault;

@@ -1,6 +1,6 @@
 -- A session that waits is asked for: it replies, or still waits.
-use Rattle.std.proofs.Common.{◌≡◌, ◌≢◌, ◌⊎◌, ◌+◌, ◌-◌, ◌++◌, ◌∷◌, ◌<◌, ◌≤◌, ℕ, zero, suc, nat_eq, Bool, true, false, List, [], length, Option, Some, None, Result, Ok, Err, refl, sym, ap, ◌∙◌, subst, inl, inr, ⊎_elim, arith}
-use Rattle.std.specs.Prelude.{slice_get, slice_set, if◌then◌else◌, IfOk, OnOk}
+use Rattle.std.proofs.Common.{◌≡◌, ◌≢◌, ◌⊎◌, ◌+◌, ◌-◌, ◌++◌, ◌∷◌, ◌<◌, ◌≤◌, ℕ, zero, suc, true, List, [], length, Option, Some, None, Ok, refl, sym, ap, ◌∙◌, subst, inl, inr, ⊎_elim, arith}
+use Rattle.std.specs.Prelude.{slice_get, slice_set, if◌then◌else◌}
 use Rattle.std.specs.Io.KnownBytes.{Appends}
 use Rattle.std.proofs.lemmas.List.{append-nil}
 use Rattle.io_edge.proofs.Known.{appends_none}
@@ -20,7 +20,7 @@ use Rattle.session_model.specs.Acts.Deed.{IsAnswered}
 use Rattle.session_model.specs.Lives.{failed_in}
 use Rattle.session_model.specs.Turns.{Turn, IsReadyToAsk, IsFirst, Waits, Next}
 use Rattle.session_model.specs.Turns.Turn.{Hearing, Beginning, Closing, Falling, Asking}
-use Rattle.session_model.specs.Run.{Made, Stop, count_on}
+use Rattle.session_model.specs.Run.{Made, count_on}
 use Rattle.session_model.specs.Run.Stop.{OutOfMemory}
 use Rattle.session_model.proofs.Replies.{each_answer_has_reply}
 use Rattle.call_tickets.specs.Seen.{answer_seen}
@@ -31,25 +31,23 @@ use Rattle.cluster_world.specs.Outcomes.Outcome.{Answers, StillPending, Unanswer
 use Rattle.cluster_world.specs.declared.world.World.{World}
 use Rattle.drive_tape.specs.declared.open_call.OpenCall.{OpenCall}
 use Rattle.drive_tape.specs.declared.cluster.Cluster.{Cluster}
-use Rattle.drive_tape.specs.declared.cluster.Heard.{Heard}
 use Rattle.drive_tape.specs.declared.cluster.Heard.TheVariants as heard
 use Rattle.drive_tape.specs.declared.sessions.Sessions.{Sessions}
 use Rattle.drive_tape.specs.declared.sessions.After.{After}
 use Rattle.drive_tape.specs.declared.sessions.After.TheVariants.{Stays, Ends}
-use Rattle.drive_tape.specs.declared.drove.Stop.{Stop as Why}
 use Rattle.drive_tape.specs.declared.drove.Stop.TheVariants as why
 use Rattle.drive_tape.specs.Kinds.{fits_kind, IsKindOf}
 use Rattle.drive_tape.specs.Moving.{has_ended, RepliesTo, GoesOn, left_at, call_here, work_at}
-use Rattle.drive_tape.specs.Worlds.{WorldIsAt, WentTo, HasGone, AskedSo, AreSameLives, HasCauses}
-use Rattle.drive_tape.specs.Points.{Point, Work, Cut, OneAct, IsAtPoint, Stopped, WentOn, WorkGoes}
-use Rattle.drive_tape.specs.Talks.{EachSession, HasOwnTicket, HasTicket, TicketFits, StandsOnNode, IsUpAt}
-use Rattle.drive_tape.specs.Clusters.{HearsAt, RestsAt, MovedTo, IsAfter, IsSaying, AsksFrom, HasAnswer, HeardSo}
+use Rattle.drive_tape.specs.Worlds.{WentTo, HasGone, AskedSo, AreSameLives, HasCauses}
+use Rattle.drive_tape.specs.Points.{Point, OneAct, IsAtPoint, Stopped, WentOn}
+use Rattle.drive_tape.specs.Talks.{HasOwnTicket, HasTicket, TicketFits, StandsOnNode, IsUpAt}
+use Rattle.drive_tape.specs.Clusters.{RestsAt, IsAfter, IsSaying, AsksFrom, HasAnswer}
 use Rattle.drive_tape.specs.Lines.{NothingIsUnderWay}
-use Rattle.drive_tape.proofs.Talks.{at_place, count_same, count_less, converse_length, found_at, set_here, set_same, within_get, some_same, did_node, replies_on, replies_ended}
-use Rattle.drive_tape.proofs.Works.{work_act, work_more, cut_act}
+use Rattle.drive_tape.proofs.Talks.{at_place, count_same, count_less, converse_length, found_at, set_here, within_get, some_same, did_node, replies_on, replies_ended}
+use Rattle.drive_tape.proofs.Works.{work_act, cut_act}
 use Rattle.drive_tape.proofs.Clusters.{since_gone}
 use Rattle.drive_tape.proofs.Acting.{acted_does}
-use Rattle.drive_tape.proofs.Places.{NotWaiting, get_apart, each_set, nodes_set, does_plain, waits_plain, up_on, lives_on, causes_on}
+use Rattle.drive_tape.proofs.Places.{get_apart, each_set, nodes_set, does_plain, waits_plain, up_on, lives_on, causes_on}
 use Rattle.drive_tape.proofs.Falling.{own_none}
 use Rattle.drive_tape.proofs.Begins.{among_filter, not_at}
 

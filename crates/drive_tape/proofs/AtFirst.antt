@@ -1,5 +1,5 @@
 -- How the nodes of a world are as it begins, and that a node is lost only by a run line.
-use Rattle.std.proofs.Common.{◌≡◌, ◌≢◌, ◌⊎◌, inl, inr, ⊎_elim, ◌+◌, ◌<◌, ◌≤◌, ℕ, zero, suc, nat_eq, nat_lt, Bool, true, false, ◌||◌, List, [], ◌∷◌, ◌++◌, length, All, Option, Some, None, Result, Ok, Err, refl, sym, ap, ◌∙◌, subst, arith}
+use Rattle.std.proofs.Common.{◌≡◌, ◌≢◌, ◌⊎◌, inl, inr, ⊎_elim, ◌<◌, ◌≤◌, ℕ, zero, suc, nat_eq, nat_lt, Bool, true, false, ◌||◌, List, [], ◌∷◌, length, All, Some, None, Result, Ok, Err, refl, sym, ap, ◌∙◌, subst, arith}
 use Rattle.std.specs.Prelude.{slice_get, if◌then◌else◌}
 use Rattle.std.proofs.lemmas.Bool.{eqb-true}
 use Rattle.std.proofs.lemmas.Bool.Decides.{nat_tests}
@@ -12,12 +12,11 @@ use Rattle.session_model.specs.Events.{NodeLife, turned}
 use Rattle.session_model.specs.Events.NodeLife.{Up, Down, Lost}
 use Rattle.session_model.specs.Run.{is_no_node}
 use Rattle.cluster_model.specs.Cluster as plain
-use Rattle.cluster_model.specs.WorldLaws.{fresh_slot, fresh_slots, opening_world}
+use Rattle.cluster_model.specs.WorldLaws.{fresh_slot, fresh_slots}
 use Rattle.node_store.specs.Disks.{View}
-use Rattle.node_core.specs.Nodes.{node_seen}
 use Rattle.cluster_world.specs.Lives.{life_seen}
 use Rattle.cluster_world.specs.Stands.{SlotStands}
-use Rattle.cluster_world.specs.Worlds.{plan_of, life_of, life_in, disks_of, lives_of, seen_life, state_of}
+use Rattle.cluster_world.specs.Worlds.{plan_of, life_of, disks_of, lives_of, seen_life}
 use Rattle.cluster_world.specs.Opens.{IsAtBeginning}
 use Rattle.cluster_world.specs.Steps.{IsStep}
 use Rattle.cluster_world.specs.Turns.{life_after_step}

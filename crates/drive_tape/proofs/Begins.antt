@@ -1,25 +1,24 @@
 -- A call begins at its node, or the node fails in that.
-use Rattle.std.proofs.Common.{◌≡◌, ◌≢◌, ◌⊎◌, ◌+◌, ◌++◌, ◌∷◌, ◌<◌, ℕ, nat_eq, Bool, true, false, List, [], length, Option, Some, None, Result, Ok, Err, refl, sym, ap, ◌∙◌, subst, inl, inr, ⊎_elim, arith}
+use Rattle.std.proofs.Common.{◌≡◌, ◌≢◌, ◌⊎◌, ◌+◌, ◌++◌, ◌∷◌, ◌<◌, ℕ, nat_eq, Bool, true, false, List, [], length, Option, Some, refl, sym, ap, ◌∙◌, subst, inl, inr, ⊎_elim, arith}
 use Rattle.std.proofs.lemmas.Bool.Decides.{nat_tests}
 use Rattle.std.specs.Prelude.{slice_get, slice_set, filter, not, if◌then◌else◌}
-use Rattle.std.proofs.lemmas.List.{append-nil}
 use Rattle.std.proofs.lemmas.Grind.{flat_map-append}
 use Rattle.io_edge.proofs.Known.{appends_none}
 use Rattle.object_model.specs.Lists.{Among}
 use Rattle.mail_model.specs.Plan.{Plan}
 use Rattle.session_model.specs.Calls as calls
-use Rattle.session_model.specs.Talk.{Exchange, Standing, IsOn}
+use Rattle.session_model.specs.Talk.{Standing, IsOn}
 use Rattle.session_model.specs.Sessions.{Session, session_at}
 use Rattle.session_model.specs.Acts.{Act}
 use Rattle.session_model.specs.Acts.Act.{Does, Faults}
 use Rattle.session_model.specs.Acts.Deed.{Hears}
 use Rattle.session_model.specs.Events.{NodeLife, turned}
 use Rattle.session_model.specs.Events.NodeLife.{Up, Down}
-use Rattle.session_model.specs.Lives.{life_after, failed_by, failed_in}
+use Rattle.session_model.specs.Lives.{failed_by, failed_in}
 use Rattle.session_model.specs.Logs.{Asked}
 use Rattle.session_model.specs.Turns.{IsAtNode}
 use Rattle.session_model.specs.Turns.Turn.{Beginning}
-use Rattle.session_model.specs.Run.{Made, count_on}
+use Rattle.session_model.specs.Run.{Made}
 use Rattle.session_model.specs.Run.Stop.{OutOfMemory}
 use Rattle.call_tickets.specs.declared.call.Call.{Call}
 use Rattle.node_store.specs.Disks.{View}
@@ -30,8 +29,8 @@ use Rattle.drive_tape.specs.declared.cluster.Cluster.{Cluster}
 use Rattle.drive_tape.specs.declared.open_call.OpenCall.{OpenCall}
 use Rattle.drive_tape.specs.declared.drove.Stop.TheVariants as why
 use Rattle.drive_tape.specs.Kinds.{IsKindOf}
-use Rattle.drive_tape.specs.Talks.{HasOwnTicket, HasTicket, TicketFits, StandsOnNode, IsUpAt}
-use Rattle.drive_tape.specs.Worlds.{WentTo, HasGone, AreSameLives, IsDownNow, HasFailed, HasCauses, IsWholeCall}
+use Rattle.drive_tape.specs.Talks.{HasOwnTicket, TicketFits, StandsOnNode, IsUpAt}
+use Rattle.drive_tape.specs.Worlds.{WentTo, HasGone, AreSameLives, IsDownNow, HasFailed, IsWholeCall}
 use Rattle.drive_tape.specs.Points.{Point, Work, IsAtOwnNode, Stopped, WentOn}
 use Rattle.drive_tape.specs.Clusters.{RestsAt, IsBeginning, FaultsAt}
 use Rattle.drive_tape.proofs.Talks.{asks_waits, count_same, set_here, within_get, did_node}
@@ -40,7 +39,7 @@ use Rattle.drive_tape.proofs.Works.{work_act}
 use Rattle.drive_tape.proofs.OwnNodes.{own_node}
 use Rattle.drive_tape.proofs.Clusters.{since_gone}
 use Rattle.drive_tape.proofs.Stepping.{life_more}
-use Rattle.drive_tape.proofs.Places.{same_or_not, get_apart, set_at, each_set, nodes_set, does_plain, up_on, lives_on, causes_on, failed_on}
+use Rattle.drive_tape.proofs.Places.{same_or_not, get_apart, set_at, each_set, nodes_set, does_plain, up_on, lives_on, causes_on}
 use Rattle.drive_tape.proofs.Moves.{hears_call, asks_acted, asks_next, asks_one}
 
 pub among_more : {X : Type 0} (x : X) (xs ys : List X) → Among x xs → Among x (xs ++ ys)

@@ -1,5 +1,5 @@
 -- What a step leaves of a world that is driven.
-use Rattle.std.proofs.Common.{◌≡◌, ◌⊎◌, inl, inr, ℕ, true, false, List, [], ◌∷◌, ◌++◌, Option, Some, None, Result, Ok, Err, refl, sym, ap, ◌∙◌, subst}
+use Rattle.std.proofs.Common.{◌≡◌, inl, inr, ℕ, true, false, List, [], ◌∷◌, ◌++◌, Option, Some, None, Result, Ok, Err, refl, sym, ap, ◌∙◌, subst}
 use Rattle.object_model.specs.Letters.{Number}
 use Rattle.object_model.specs.Lists.{Among}
 use Rattle.session_model.specs.Calls as calls
@@ -24,7 +24,7 @@ use Rattle.drive_tape.specs.declared.drove.Stop.{Stop}
 use Rattle.drive_tape.specs.declared.open_call.OpenCall.{OpenCall}
 use Rattle.drive_tape.specs.Denials.{stop_by}
 use Rattle.drive_tape.specs.Kinds.{fits_kind, IsKindOf}
-use Rattle.drive_tape.specs.Worlds.{IsWholeCall, HandsOn, HasFailed, WorldIsAt, WentTo, HasGone, BeganSo, AskedSo, GaveUpSo, LeftSo}
+use Rattle.drive_tape.specs.Worlds.{IsWholeCall, HandsOn, HasFailed, WorldIsAt, HasGone, BeganSo, AskedSo, GaveUpSo, LeftSo}
 use Rattle.drive_tape.proofs.Beginnings.{begins_so}
 use Rattle.drive_tape.proofs.Chains.{carried, stands_at, went_more, has_failed}
 

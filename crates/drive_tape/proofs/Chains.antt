@@ -1,15 +1,14 @@
 -- What a chain of steps keeps of a world.
-use Rattle.std.proofs.Common.{◌≡◌, ◌≤◌, ◌<◌, ◌⊎◌, inl, inr, ⊎_elim, ℕ, zero, suc, Bool, true, false, List, [], ◌∷◌, ◌++◌, length, Option, Some, None, Result, Ok, Err, refl, sym, ap, ◌∙◌, subst, arith}
+use Rattle.std.proofs.Common.{◌≡◌, ◌≤◌, ◌<◌, ◌⊎◌, inl, inr, ⊎_elim, ℕ, zero, suc, Bool, true, false, List, [], ◌∷◌, ◌++◌, length, Option, Some, None, Result, Ok, refl, sym, ap, ◌∙◌, subst, arith}
 use Rattle.std.specs.Prelude.{is_some, slice_get, ◌&&◌}
 use Rattle.std.specs.List.{list_all}
-use Rattle.object_model.specs.Lists.{Among}
 use Rattle.io_edge.specs.Causes.{Rose}
 use Rattle.io_edge.specs.Octets.{IsToldAlike}
 use Rattle.cluster_model.specs.World as machine
 use Rattle.node_store.specs.Disks.{View}
 use Rattle.cluster_world.specs.Lives.{of_node}
 use Rattle.cluster_world.specs.Worlds.{State, state_of, disk_in, disk_at, tells, tells_in, Stands, StandsFor}
-use Rattle.cluster_world.specs.Steps.{StepDid, IsStep, HasCause}
+use Rattle.cluster_world.specs.Steps.{StepDid}
 use Rattle.cluster_world.specs.Outcomes.{Outcome, Awaited, StepMade, Came, Makes, MakesSteps}
 use Rattle.cluster_world.specs.Outcomes.Outcome.{Began, Refused, Fell, Broke, Answers, StillPending, Unanswered, GaveUp, Abandoned, KeptUp, Left, Moved}
 use Rattle.cluster_world.specs.declared.world.World.{World}

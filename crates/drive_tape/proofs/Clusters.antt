@@ -1,26 +1,24 @@
 -- What a session does that makes its next move.
-use Rattle.std.proofs.Common.{◌≡◌, ◌≢◌, ◌⊎◌, ◌+◌, ◌++◌, ◌∷◌, ℕ, Bool, true, false, List, [], length, map, flat_map, All, Option, Some, None, Result, Ok, Err, refl, sym, ap, ◌∙◌, subst, inl, inr, ⊎_elim, append_assoc, arith}
-use Rattle.std.specs.Prelude.{slice_get, slice_set, if◌then◌else◌}
+use Rattle.std.proofs.Common.{◌≡◌, ◌≢◌, ◌+◌, ◌++◌, ◌∷◌, ℕ, Bool, List, [], Option, Some, None, Result, Ok, Err, refl, sym, ap, ◌∙◌, subst, inl, inr, append_assoc}
+use Rattle.std.specs.Prelude.{slice_get, if◌then◌else◌}
 use Rattle.std.specs.Io.KnownBytes.{Appends}
 use Rattle.std.proofs.lemmas.List.{append-nil}
-use Rattle.std.proofs.lemmas.Grind.{flat_map-append}
 use Rattle.io_edge.proofs.Known.{appends_none}
 use Rattle.mail_model.specs.Plan.{Plan}
 use Rattle.mail_model.specs.Transcript.{Entry, written_of, said_lines}
 use Rattle.mail_model.specs.Site.{closed_event}
-use Rattle.session_model.specs.Talk.{Exchange, IsIdle, IsOn, entered_as, leave_of}
-use Rattle.session_model.specs.Talk.Standing.{EndedByQuit}
+use Rattle.session_model.specs.Talk.{IsIdle, entered_as, leave_of}
 use Rattle.session_model.specs.Sessions.{Session, session_at, exchanges_of}
 use Rattle.session_model.specs.Acts.{Act}
 use Rattle.session_model.specs.Acts.Act.{Leaves}
-use Rattle.session_model.specs.Lives.{failed_by, failed_in}
+use Rattle.session_model.specs.Lives.{failed_in}
 use Rattle.session_model.specs.Turns.{Turn, IsReadyToAsk, IsAtRest, Next, to_leave}
-use Rattle.session_model.specs.Turns.Turn.{Hearing, Beginning, Falling, Asking}
+use Rattle.session_model.specs.Turns.Turn.{Hearing, Asking}
 use Rattle.session_model.specs.Run.{Stop}
 use Rattle.session_model.specs.Run.Stop.{SinkFailed, OutOfMemory}
 use Rattle.call_tickets.specs.declared.call.Call.{Call}
 use Rattle.node_store.specs.Disks.{View}
-use Rattle.cluster_world.specs.Outcomes.{Outcome, Awaited, IsLeave}
+use Rattle.cluster_world.specs.Outcomes.{Outcome, IsLeave}
 use Rattle.cluster_world.specs.Outcomes.Outcome.{Left}
 use Rattle.cluster_world.specs.declared.world.World.{World}
 use Rattle.drive_tape.specs.declared.cluster.Cluster.{Cluster}
@@ -34,13 +32,12 @@ use Rattle.drive_tape.specs.Entries.{WritesEntries}
 use Rattle.drive_tape.specs.Stops.{of_write}
 use Rattle.drive_tape.specs.Leaving.{IsLeaveOf}
 use Rattle.drive_tape.specs.Moving.{has_ended}
-use Rattle.drive_tape.specs.Talks.{StandsOnNode}
 use Rattle.drive_tape.specs.Worlds.{WorldIsAt, IsSince, AreSameLives, HasCauses, WentTo, HasGone}
-use Rattle.drive_tape.specs.Points.{Point, Work, Cut, OneAct, AreLinked, IsAtPoint, Stopped, WentOn, WorkGoes, IsStop, MayLack}
-use Rattle.drive_tape.specs.Clusters.{HearsAt, RestsAt, MovedTo, IsAfter, IsSaying, SessionEndsAt}
+use Rattle.drive_tape.specs.Points.{Point, Work, Cut, OneAct, IsAtPoint, Stopped, WentOn, WorkGoes, MayLack}
+use Rattle.drive_tape.specs.Clusters.{HearsAt, RestsAt, IsSaying, SessionEndsAt}
 use Rattle.drive_tape.proofs.Talks.{at_place}
 use Rattle.drive_tape.proofs.Works.{work_none, work_act, work_more, work_cut, cut_act, cut_none}
-use Rattle.drive_tape.proofs.Places.{leaves_plain, up_on, lives_on, causes_on, failed_on}
+use Rattle.drive_tape.proofs.Places.{leaves_plain, up_on, lives_on, causes_on}
 
 pub no_leave : (user : Option (List ℕ)) → IsLeaveOf None user → user ≡ None
 no_leave None leaves = refl

@@ -1,9 +1,8 @@
 -- One line after another, and why the work stopped.
-use Rattle.std.proofs.Common.{◌≡◌, ◌≢◌, ◌⊎◌, inl, inr, ⊎_elim, ◌+◌, ◌<◌, ◌≤◌, ◌^◌, ℕ, Bool, true, false, List, [], ◌∷◌, ◌++◌, length, drop, map, flat_map, All, Option, Some, None, Ok, Err, refl, sym, ap, ◌∙◌, subst, arith, append_assoc, length-append}
+use Rattle.std.proofs.Common.{◌≡◌, ◌≢◌, ◌⊎◌, inl, inr, ⊎_elim, ◌+◌, ◌<◌, ◌^◌, ℕ, List, [], ◌∷◌, ◌++◌, length, drop, map, flat_map, All, Option, Some, None, Ok, Err, refl, sym, ap, ◌∙◌, subst, arith, append_assoc, length-append}
 use Rattle.std.specs.List.{slice_index}
-use Rattle.std.specs.Prelude.{slice_get}
 use Rattle.std.specs.Io.KnownBytes.{Consumes, Appends}
-use Rattle.std.proofs.lemmas.List.{append-nil, map-append}
+use Rattle.std.proofs.lemmas.List.{append-nil}
 use Rattle.std.proofs.lemmas.List.Concat.{flat_map-append}
 use Rattle.std.proofs.lemmas.List.Elements.{All-nil, All-cons, All-head, All-tail, All-push, All-append}
 use Rattle.io_edge.proofs.Known.{consumes_more, consumes_none, appends_more, appends_none}
@@ -11,20 +10,19 @@ use Rattle.object_model.specs.Lists.{Among}
 use Rattle.mail_model.specs.Lines.{HasNoLf, ended}
 use Rattle.mail_model.specs.Plan.{Plan}
 use Rattle.mail_model.specs.Tape.{Order, tape_order}
-use Rattle.mail_model.specs.Tape.Order.{End}
 use Rattle.mail_model.specs.Transcript.{Entry, entry_line, written_of, all_of}
 use Rattle.session_model.specs.Sessions.{Session}
 use Rattle.session_model.specs.Acts.{Act}
 use Rattle.session_model.specs.Lives.{failed_in}
-use Rattle.session_model.specs.Logs.{Asked, asked_by, answered_by}
+use Rattle.session_model.specs.Logs.{Asked}
 use Rattle.session_model.specs.Turns.Turn.{Asking}
-use Rattle.session_model.specs.Run.{Made, Stop, IsDriven, IsHandled, AreHandled, IsLeftOff, IsTried, IsCutShort, made_by, refusal}
+use Rattle.session_model.specs.Run.{Made, Stop, IsDriven, IsHandled, AreHandled, IsLeftOff, IsCutShort, made_by, refusal}
 use Rattle.session_model.specs.Run.Stop.{BehindLine, Denied, SinkFailed, OutOfMemory}
 use Rattle.session_model.proofs.Driven.{begun_made}
 use Rattle.session_model.proofs.Written.{driven_writes_lines}
 use Rattle.node_store.specs.Disks.{View}
-use Rattle.cluster_world.specs.Outcomes.{Outcome, Makes, made_of, asked_by_outcome, answered_by_outcome}
-use Rattle.cluster_world.specs.Worlds.{plan_of, disk_at, life_of}
+use Rattle.cluster_world.specs.Outcomes.{Outcome}
+use Rattle.cluster_world.specs.Worlds.{plan_of, life_of}
 use Rattle.cluster_world.specs.Opens.{IsAtBeginning}
 use Rattle.cluster_world.specs.Owing.{WorldOwes}
 use Rattle.cluster_world.specs.declared.world.World.{World}
@@ -32,20 +30,20 @@ use Rattle.cluster_world.proofs.Chained.{plan_stays, later_after}
 use Rattle.drive_tape.specs.declared.cluster.Cluster.{Cluster}
 use Rattle.drive_tape.specs.declared.drove.Drove.{Drove}
 use Rattle.drive_tape.specs.declared.drove.TapeFault.{TapeFault}
-use Rattle.drive_tape.specs.declared.drove.TapeFault.TheVariants.{BadLine, TapeTooLong}
+use Rattle.drive_tape.specs.declared.drove.TapeFault.TheVariants.{BadLine}
 use Rattle.drive_tape.specs.declared.drove.Stop.{Stop as Why}
 use Rattle.drive_tape.specs.declared.drove.Stop.TheVariants as why
 use Rattle.drive_tape.specs.declared.reader.LineStop.{LineStop}
 use Rattle.drive_tape.specs.declared.reader.LineStop.TheVariants as line
-use Rattle.drive_tape.specs.Drive.{IsOrder, IsNoOrder, StopsAt, Stops, NamesLine, MayLackOne, Drives, EndsDenied, stop_of}
+use Rattle.drive_tape.specs.Drive.{Stops, NamesLine, MayLackOne, Drives, EndsDenied, stop_of}
 use Rattle.drive_tape.specs.Faults.{tape_fault_seen}
-use Rattle.drive_tape.specs.Lines.{IsWhy, LineWent, LineStopped}
+use Rattle.drive_tape.specs.Lines.{IsWhy, LineStopped}
 use Rattle.drive_tape.specs.Parts.{IsCutEntry, IsPart}
 use Rattle.drive_tape.specs.Points.{Point, AreLinked, AreAtOwnNodes, IsAtPoint}
 use Rattle.drive_tape.specs.Reads.{ReadsLine}
-use Rattle.drive_tape.specs.Runs.{Progress, Turned, TurnStopped}
+use Rattle.drive_tape.specs.Runs.{Progress, Turned}
 use Rattle.drive_tape.specs.Stops.{of_line}
-use Rattle.drive_tape.specs.Talks.{Converse, nodes_of}
+use Rattle.drive_tape.specs.Talks.{Converse}
 use Rattle.drive_tape.specs.Worlds.{WorldIsAt, IsSince, HasCauses}
 use Rattle.drive_tape.proofs.AtFirst.{first_lives, node_within}
 use Rattle.drive_tape.proofs.Kept.{kept_in, none_waits}

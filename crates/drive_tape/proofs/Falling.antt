@@ -1,26 +1,24 @@
 -- All sessions of a node that went down fall, one after another.
-use Rattle.std.proofs.Common.{◌≡◌, ◌≢◌, ◌⊎◌, ◌+◌, ◌-◌, ◌++◌, ◌∷◌, ◌<◌, ◌≤◌, ℕ, zero, suc, Bool, true, false, List, [], length, map, flat_map, All, Option, Some, None, Result, Ok, Err, refl, sym, ap, ◌∙◌, subst, inl, inr, ⊎_elim, arith}
-use Rattle.std.specs.Prelude.{slice_get, slice_set, if◌then◌else◌}
+use Rattle.std.proofs.Common.{◌≡◌, ◌≢◌, ◌⊎◌, ◌+◌, ◌-◌, ◌++◌, ◌∷◌, ◌<◌, ◌≤◌, ℕ, zero, suc, List, [], length, Option, Some, None, Err, refl, sym, ap, ◌∙◌, subst, ⊎_elim, arith}
+use Rattle.std.specs.Prelude.{slice_get, slice_set}
 use Rattle.std.specs.Io.KnownBytes.{Appends}
 use Rattle.std.proofs.lemmas.List.{append-nil}
 use Rattle.mail_model.specs.Plan.{Plan}
 use Rattle.mail_model.specs.Transcript.{Entry, written_of, said_lines}
 use Rattle.mail_model.specs.Site.{closed_event}
 use Rattle.session_model.specs.Calls as calls
-use Rattle.session_model.specs.Talk.{TalkState, Standing, IsOn, down_line}
+use Rattle.session_model.specs.Talk.{Standing, down_line}
 use Rattle.session_model.specs.Talk.Standing.{EndedDown}
 use Rattle.session_model.specs.Sessions.{Session, session_at}
-use Rattle.session_model.specs.Acts.{Act, Acted, closing}
+use Rattle.session_model.specs.Acts.{Acted, closing}
 use Rattle.session_model.specs.Acts.Act.{Does, Faults}
 use Rattle.session_model.specs.Acts.Deed.{Falls}
 use Rattle.session_model.specs.Events.{fault_event}
-use Rattle.session_model.specs.Lives.{failed_in}
 use Rattle.session_model.specs.Turns.{Turn, IsReadyToAsk, IsFirst, IsAtNode, StandsAt, Next}
 use Rattle.session_model.specs.Turns.Turn.{Falling}
-use Rattle.session_model.specs.Run.{count_on}
 use Rattle.call_tickets.specs.Moves.{HasEnded}
 use Rattle.node_store.specs.Disks.{View}
-use Rattle.cluster_world.specs.Outcomes.{Outcome, Awaited}
+use Rattle.cluster_world.specs.Outcomes.{Awaited}
 use Rattle.cluster_world.specs.declared.world.World.{World}
 use Rattle.drive_tape.specs.declared.cluster.Cluster.{Cluster}
 use Rattle.drive_tape.specs.declared.open_call.OpenCall.{OpenCall}
@@ -28,9 +26,8 @@ use Rattle.drive_tape.specs.declared.entry.WriteStop.{WriteStop}
 use Rattle.drive_tape.specs.Entries.{WritesEntries}
 use Rattle.drive_tape.specs.Stops.{of_write}
 use Rattle.drive_tape.specs.Moving.{FellAt, StaysAt}
-use Rattle.drive_tape.specs.Worlds.{WorldIsAt, IsSince, AreLives, HasCauses}
-use Rattle.drive_tape.specs.Points.{Point, Work, OneAct, IsAtPoint, Stopped, WentOn}
-use Rattle.drive_tape.specs.Talks.{HasOwnTicket, TicketFits, StandsOnNode, EachBut}
+use Rattle.drive_tape.specs.Points.{Point, Work, OneAct, Stopped, WentOn}
+use Rattle.drive_tape.specs.Talks.{HasOwnTicket, TicketFits}
 use Rattle.drive_tape.specs.Clusters.{RestsAt, FaultsAt, HasFallen, IsFalling, IsToFall}
 use Rattle.drive_tape.proofs.Talks.{at_place, count_less, on_not_ended, set_here, within_get, some_same, converse_length, did_node}
 use Rattle.drive_tape.proofs.Works.{work_act}

@@ -1,26 +1,24 @@
 -- Lines that come to nothing, and the first act of a line that feeds a session.
-use Rattle.std.proofs.Common.{◌≡◌, ◌≢◌, ◌⊎◌, ◌+◌, ◌++◌, ◌∷◌, ◌<◌, ◌≤◌, ℕ, Bool, true, false, List, [], length, flat_map, Option, Some, None, Result, Ok, Err, refl, sym, ap, ◌∙◌, subst, inl, inr, ⊎_elim, arith}
+use Rattle.std.proofs.Common.{◌≡◌, ◌≢◌, ◌+◌, ◌++◌, ◌∷◌, ℕ, Bool, true, false, List, [], Option, Some, None, Result, refl, sym, ap, ◌∙◌, subst, inl, inr, arith}
 use Rattle.std.specs.Prelude.{slice_get, slice_set, if◌then◌else◌}
 use Rattle.std.specs.Io.KnownBytes.{Appends}
 use Rattle.std.proofs.lemmas.List.{append-nil}
 use Rattle.io_edge.proofs.Known.{appends_none}
-use Rattle.mail_model.specs.Lines.{sent_line}
 use Rattle.mail_model.specs.Plan.{Plan}
 use Rattle.mail_model.specs.Site.{TapeFault as site}
 use Rattle.mail_model.specs.Tape.{Order, tape_order}
-use Rattle.mail_model.specs.Tape.Order.{Say, Feed, GiveUp}
-use Rattle.mail_model.specs.Transcript.{Entry, written_of, said_lines}
+use Rattle.mail_model.specs.Transcript.{Entry, said_lines}
 use Rattle.session_model.specs.Calls as calls
-use Rattle.session_model.specs.Talk.{TalkState, Standing, IsOn}
+use Rattle.session_model.specs.Talk.{Standing, IsOn}
 use Rattle.session_model.specs.Sessions.{Session, session_at}
 use Rattle.session_model.specs.Acts.{Act, Acted, closing}
 use Rattle.session_model.specs.Acts.Act.{Does}
 use Rattle.session_model.specs.Acts.Deed.{IsFed}
 use Rattle.session_model.specs.Lives.{failed_in}
 use Rattle.session_model.specs.Logs.{Asked, Answered}
-use Rattle.session_model.specs.Turns.{Turn, Starts}
+use Rattle.session_model.specs.Turns.{Starts}
 use Rattle.session_model.specs.Turns.Turn.{Hearing}
-use Rattle.session_model.specs.Run.{Made, Stop, FirstStep, IsInVain, refusal, session_fault, giving_fault, waiting_fault, is_on, count_on}
+use Rattle.session_model.specs.Run.{Stop, FirstStep, IsInVain, refusal, session_fault, giving_fault, waiting_fault, is_on}
 use Rattle.session_model.specs.Run.Stop.{BehindLine, Denied, SinkFailed, OutOfMemory}
 use Rattle.node_store.specs.Disks.{View}
 use Rattle.cluster_world.specs.Outcomes.{Outcome, Awaited, made_of, asked_by_outcome, answered_by_outcome}
@@ -37,9 +35,9 @@ use Rattle.drive_tape.specs.Denials.{stop_by}
 use Rattle.drive_tape.specs.Drive.{MayLackOne, IsDenied}
 use Rattle.drive_tape.specs.Faults.{tape_fault_seen}
 use Rattle.drive_tape.specs.Fed.{IsFeeding, IsFeedingAt}
-use Rattle.drive_tape.specs.Talks.{Converse, HasOwnTicket, HasTicket, TicketFits, StandsOnNode, IsFound, nodes_of}
-use Rattle.drive_tape.specs.Worlds.{WorldIsAt, IsSince, HasCauses}
-use Rattle.drive_tape.specs.Points.{Point, Work, AreLinked, waits_by_outcome, IsAtOwnNode, IsAtPoint, WentOn, WorkGoes, Stopped}
+use Rattle.drive_tape.specs.Talks.{Converse, HasOwnTicket, TicketFits, StandsOnNode, IsFound}
+use Rattle.drive_tape.specs.Worlds.{IsSince, HasCauses}
+use Rattle.drive_tape.specs.Points.{Point, Work, waits_by_outcome, IsAtOwnNode, IsAtPoint, WorkGoes}
 use Rattle.drive_tape.specs.Clusters.{HearsAt, RestsAt, AsksFrom}
 use Rattle.drive_tape.specs.Lines.{IsStarted, LineStopped, IsWhy}
 use Rattle.drive_tape.proofs.Talks.{is_spoken_to, at_place, count_same, set_here, within_get}

@@ -1,8 +1,7 @@
 -- The call of a session is given up, and a session is closed.
-use Rattle.std.proofs.Common.{◌≡◌, ◌≢◌, ◌⊎◌, ◌+◌, ◌-◌, ◌++◌, ◌∷◌, ◌<◌, ◌≤◌, ℕ, nat_eq, Bool, true, false, List, [], length, Option, Some, None, Result, Ok, Err, refl, sym, ap, ◌∙◌, subst, inl, inr, ⊎_elim, arith}
+use Rattle.std.proofs.Common.{◌≡◌, ◌≢◌, ◌+◌, ◌-◌, ◌++◌, ◌∷◌, ◌<◌, ℕ, nat_eq, Bool, true, false, List, [], length, Option, Some, None, Ok, Err, refl, sym, ap, ◌∙◌, subst, inl, inr, arith}
 use Rattle.std.proofs.lemmas.Bool.Decides.{nat_tests}
 use Rattle.std.specs.Prelude.{slice_get, slice_set, not}
-use Rattle.std.specs.Io.KnownBytes.{Appends}
 use Rattle.std.proofs.lemmas.List.{append-nil}
 use Rattle.io_edge.proofs.Known.{appends_none}
 use Rattle.object_model.specs.Letters.{Number}
@@ -11,7 +10,7 @@ use Rattle.mail_model.specs.Plan.{Plan}
 use Rattle.mail_model.specs.Tape.{tape_order}
 use Rattle.mail_model.specs.Tape.Order.{Close, GiveUp}
 use Rattle.session_model.specs.Calls as calls
-use Rattle.session_model.specs.Talk.{Exchange, TalkState, Standing, IsOn, entered_as}
+use Rattle.session_model.specs.Talk.{TalkState, Standing, IsOn, entered_as}
 use Rattle.session_model.specs.Talk.Standing.{Waiting, EndedClosed}
 use Rattle.session_model.specs.Sessions.{Session, session_at, exchanges_of}
 use Rattle.session_model.specs.Acts.{Act, Acted}
@@ -20,7 +19,7 @@ use Rattle.session_model.specs.Acts.Deed.{Closes}
 use Rattle.session_model.specs.Lives.{failed_in}
 use Rattle.session_model.specs.Turns.{Waits}
 use Rattle.session_model.specs.Turns.Turn.{Hearing, Closing}
-use Rattle.session_model.specs.Run.{refusal, giving_fault, waiting_fault, count_on}
+use Rattle.session_model.specs.Run.{refusal, giving_fault, waiting_fault}
 use Rattle.mail_model.specs.Site.{TapeFault as site}
 use Rattle.call_tickets.specs.declared.call.Call.{Call}
 use Rattle.node_store.specs.Disks.{View}
@@ -33,15 +32,15 @@ use Rattle.drive_tape.specs.declared.drove.Stop.{Stop as Why}
 use Rattle.drive_tape.specs.Fed.{IsFreed, IsGivenUpFirst, IsClosingAt, IsGivingUpAt, IsLetGo, HadNone, IsKeptUp, LetsGo}
 use Rattle.drive_tape.specs.Leaving.{IsLeaveOf}
 use Rattle.drive_tape.specs.Lines.{IsStarted, LineStopped}
-use Rattle.drive_tape.specs.Points.{Point, Work, OneAct, AreLinked, AreAtOwnNodes, IsAtPoint}
+use Rattle.drive_tape.specs.Points.{Point, Work, AreLinked, AreAtOwnNodes, IsAtPoint}
 use Rattle.drive_tape.specs.Clusters.{SessionEndsAt}
 use Rattle.drive_tape.specs.Talks.{Converse, HasOwnTicket, HasTicket, TicketFits, StandsOnNode, EachSession}
-use Rattle.drive_tape.specs.Worlds.{WorldIsAt, IsSince, WentTo, HasGone, AreSameLives, AreLives, HasCauses, GaveUpSo}
+use Rattle.drive_tape.specs.Worlds.{WorldIsAt, IsSince, WentTo, AreLives, HasCauses, GaveUpSo}
 use Rattle.drive_tape.proofs.Acting.{acted_does}
 use Rattle.drive_tape.proofs.Begins.{among_filter}
 use Rattle.drive_tape.proofs.Fed.{in_vain}
 use Rattle.drive_tape.proofs.Places.{each_set, get_apart, nodes_set, does_plain, abandons_plain, up_on, lives_on, same_lives, causes_on}
-use Rattle.drive_tape.proofs.Talks.{some_same, at_place, is_spoken_to, count_less, set_here, set_same, within_get}
+use Rattle.drive_tape.proofs.Talks.{some_same, at_place, is_spoken_to, count_less, set_here, within_get}
 use Rattle.drive_tape.proofs.Works.{work_none, work_act}
 
 other_number : (a b : ℕ) → a ≢ b → not (nat_eq a b) ≡ true

@@ -1,7 +1,7 @@
 -- A run line that moves the cluster itself.
-use Rattle.std.proofs.Common.{◌≡◌, ◌≢◌, ◌⊎◌, ◌+◌, ◌++◌, ◌∷◌, ◌<◌, ◌≤◌, ℕ, nat_eq, Bool, true, false, List, [], Option, Some, None, Result, Ok, Err, refl, sym, ap, ◌∙◌, subst, inl, inr, ⊎_elim, arith}
+use Rattle.std.proofs.Common.{◌≡◌, ◌≢◌, ◌⊎◌, ◌+◌, ◌++◌, ◌∷◌, ◌<◌, ℕ, nat_eq, Bool, true, false, List, [], Option, Some, None, Result, Err, refl, sym, ap, ◌∙◌, subst, ⊎_elim, arith}
 use Rattle.std.proofs.lemmas.Bool.Decides.{nat_tests}
-use Rattle.std.specs.Prelude.{◌||◌, not, slice_get, if◌then◌else◌}
+use Rattle.std.specs.Prelude.{◌||◌, not, if◌then◌else◌}
 use Rattle.std.specs.Io.KnownBytes.{Appends}
 use Rattle.std.proofs.lemmas.List.{append-nil}
 use Rattle.std.proofs.lemmas.Grind.{flat_map-append}
@@ -13,7 +13,7 @@ use Rattle.mail_model.specs.Tape as tape
 use Rattle.mail_model.specs.Tape.{or_else, tape_order}
 use Rattle.mail_model.specs.Tape.{ClusterOrder as order}
 use Rattle.mail_model.specs.Tape.Order.{Moves}
-use Rattle.mail_model.specs.Transcript.{Entry, written_of}
+use Rattle.mail_model.specs.Transcript.{written_of}
 use Rattle.session_model.specs.Sessions.{Session}
 use Rattle.session_model.specs.Acts.{Act}
 use Rattle.session_model.specs.Acts.Act.{Makes}
@@ -25,7 +25,7 @@ use Rattle.session_model.specs.Turns.{Turn, IsReadyToAsk, turn_after_event}
 use Rattle.session_model.specs.Turns.Turn.{Falling, Asking}
 use Rattle.session_model.specs.Run.{refusal, cluster_refusal, fault_if, is_no_node, work_fault, start_fault, loss_fault}
 use Rattle.node_store.specs.Disks.{View}
-use Rattle.cluster_world.specs.Outcomes.{Outcome, Awaited, left_after, without_node}
+use Rattle.cluster_world.specs.Outcomes.{left_after}
 use Rattle.cluster_world.specs.Outcomes.Outcome.{Moved}
 use Rattle.cluster_world.specs.Worlds.{plan_of, life_of}
 use Rattle.cluster_world.specs.declared.world.World.{World}
@@ -37,12 +37,11 @@ use Rattle.drive_tape.specs.declared.drove.Stop.{Stop as Why}
 use Rattle.drive_tape.specs.Fed.{MayFallBy, Happens}
 use Rattle.drive_tape.specs.Happenings.{event_seen, fallen_by, WritesOrStops}
 use Rattle.drive_tape.specs.Lines.{IsStarted, LineDid, LineStopped}
-use Rattle.drive_tape.specs.Moved.{IsFit, Happened, MovedSo}
+use Rattle.drive_tape.specs.Moved.{IsFit, MovedSo}
 use Rattle.drive_tape.specs.Orders.{admitted_seen}
 use Rattle.drive_tape.specs.Points.{Point, AreLinked, IsAtPoint}
-use Rattle.drive_tape.specs.Clusters.{RestsAt, IsFalling}
 use Rattle.drive_tape.specs.Stops.{of_write}
-use Rattle.drive_tape.specs.Talks.{HasOwnTicket, StandsOnNode, IsUpAt}
+use Rattle.drive_tape.specs.Talks.{HasOwnTicket, IsUpAt}
 use Rattle.drive_tape.specs.Worlds.{AreLives, HasCauses}
 use Rattle.drive_tape.proofs.Begins.{among_split, ticket_apart}
 use Rattle.drive_tape.proofs.Falling.{falling_of}

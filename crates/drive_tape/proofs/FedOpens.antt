@@ -1,5 +1,5 @@
 -- A session is opened.
-use Rattle.std.proofs.Common.{◌≡◌, ◌≢◌, ◌⊎◌, ◌+◌, ◌-◌, ◌++◌, ◌∷◌, ◌<◌, ◌≤◌, ℕ, zero, suc, Bool, true, false, List, [], length, map, All, Option, Some, None, Result, Ok, Err, refl, sym, ap, ◌∙◌, subst, inl, inr, ⊎_elim, arith}
+use Rattle.std.proofs.Common.{◌≡◌, ◌⊎◌, ◌+◌, ◌++◌, ◌∷◌, ◌<◌, ℕ, zero, suc, Bool, true, false, List, [], length, All, Option, Some, None, Ok, Err, refl, sym, ap, ◌∙◌, subst, inl, inr, ⊎_elim, arith}
 use Rattle.std.specs.Prelude.{slice_get, not, nat_le, flat_map}
 use Rattle.std.specs.Io.KnownBytes.{Appends}
 use Rattle.std.proofs.lemmas.List.{append-nil, map-append}
@@ -11,20 +11,17 @@ use Rattle.mail_model.specs.Site.TapeFault.{BadLine, NoSuchNode, TooManySessions
 use Rattle.mail_model.specs.Tape as tape
 use Rattle.mail_model.specs.Tape.{or_else}
 use Rattle.mail_model.specs.Tape.Order.{Open}
-use Rattle.mail_model.specs.Transcript.{Entry, written_of, said_lines}
+use Rattle.mail_model.specs.Transcript.{written_of, said_lines}
 use Rattle.session_model.specs.Talk.{IsOn}
 use Rattle.session_model.specs.Sessions.{Session}
-use Rattle.session_model.specs.Acts.{Act, Acted, greeting_of, opened_session}
+use Rattle.session_model.specs.Acts.{Acted, greeting_of, opened_session}
 use Rattle.session_model.specs.Acts.Act.{Opens}
 use Rattle.session_model.specs.Events.{NodeLife}
-use Rattle.session_model.specs.Events.NodeLife.{Up}
-use Rattle.session_model.specs.Lives.{life_after, failed_in}
+use Rattle.session_model.specs.Lives.{life_after}
 use Rattle.session_model.specs.Turns.{Starts}
 use Rattle.session_model.specs.Turns.Turn.{Asking}
 use Rattle.session_model.specs.Run.{refusal, work_fault, can_serve, fault_if, is_no_node, is_on, count_on}
 use Rattle.node_store.specs.Disks.{View}
-use Rattle.cluster_world.specs.Outcomes.{Outcome, Awaited}
-use Rattle.cluster_world.specs.Worlds.{life_of}
 use Rattle.cluster_world.specs.declared.world.World.{World}
 use Rattle.drive_tape.specs.declared.cluster.Cluster.{Cluster}
 use Rattle.drive_tape.specs.declared.open_call.OpenCall.{OpenCall}
@@ -33,11 +30,10 @@ use Rattle.drive_tape.specs.Entries.{WritesEntries}
 use Rattle.drive_tape.specs.Fed.{AdmitsSession, opening_fault}
 use Rattle.drive_tape.specs.Lines.{IsStarted, LineStopped}
 use Rattle.drive_tape.specs.Moving.{AreEven}
-use Rattle.drive_tape.specs.Points.{Point, AreLinked, IsAtPoint}
+use Rattle.drive_tape.specs.Points.{Point, IsAtPoint}
 use Rattle.drive_tape.specs.Clusters.{AsksFrom}
 use Rattle.drive_tape.specs.Stops.{of_write}
 use Rattle.drive_tape.specs.Talks.{Converse, HasOwnTicket, TicketFits, StandsOnNode, EachSession}
-use Rattle.drive_tape.specs.Worlds.{AreLives, HasCauses}
 use Rattle.drive_tape.proofs.Joins.{stops_first}
 use Rattle.drive_tape.proofs.Places.{IsPlainAct, up_on, lives_on, same_lives, causes_on}
 use Rattle.drive_tape.proofs.Talks.{some_same, converse_length, on_on, within_get}

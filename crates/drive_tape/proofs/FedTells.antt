@@ -1,6 +1,6 @@
 -- The first act of a line, where a session says something in it.
-use Rattle.std.proofs.Common.{◌≡◌, ◌≢◌, ◌⊎◌, ◌+◌, ◌++◌, ◌∷◌, ◌<◌, ◌≤◌, ℕ, Bool, true, false, List, [], length, flat_map, Option, Some, None, Result, Ok, Err, refl, sym, ap, ◌∙◌, subst, inl, inr, arith}
-use Rattle.std.specs.Prelude.{slice_get, slice_set, if◌then◌else◌}
+use Rattle.std.proofs.Common.{◌≡◌, ◌+◌, ◌++◌, ◌∷◌, ℕ, true, false, List, [], Option, Some, None, Err, refl, sym, ap, ◌∙◌, subst, inl}
+use Rattle.std.specs.Prelude.{slice_set, if◌then◌else◌}
 use Rattle.std.specs.Io.KnownBytes.{Appends}
 use Rattle.std.proofs.lemmas.List.{append-nil}
 use Rattle.io_edge.proofs.Known.{appends_none}
@@ -8,18 +8,17 @@ use Rattle.mail_model.specs.Maildrop.{later_text, remaining_text}
 use Rattle.mail_model.specs.Plan.{Plan}
 use Rattle.mail_model.specs.PopReplies.{one_line}
 use Rattle.mail_model.specs.Site.{closed_event}
-use Rattle.mail_model.specs.Tape.{tape_order}
 use Rattle.mail_model.specs.Tape.Order.{GiveUp}
 use Rattle.mail_model.specs.Transcript.{Entry, written_of, said_lines}
 use Rattle.session_model.specs.Calls as calls
 use Rattle.session_model.specs.Calls.{IsReply, unstored_text}
 use Rattle.session_model.specs.Calls.{Call as call}
 use Rattle.session_model.specs.Calls.Answer.{Failed}
-use Rattle.session_model.specs.Talk.{Exchange, TalkState, Standing, IsOn, answered, leave_of}
+use Rattle.session_model.specs.Talk.{Standing, IsOn, answered, leave_of}
 use Rattle.session_model.specs.Talk.Standing.{Waiting}
 use Rattle.session_model.specs.Moves.{with_answer}
 use Rattle.session_model.specs.Sessions.{Session, session_at, exchanges_of}
-use Rattle.session_model.specs.Acts.{Act, Acted, Did, closing}
+use Rattle.session_model.specs.Acts.{Act, Acted, closing}
 use Rattle.session_model.specs.Acts.Act.{Does}
 use Rattle.session_model.specs.Acts.Deed.{IsGivenUp}
 use Rattle.session_model.specs.Lives.{failed_in}
@@ -28,7 +27,7 @@ use Rattle.session_model.specs.Run.{refusal, giving_fault, waiting_fault}
 use Rattle.session_model.specs.Run.Stop.{OutOfMemory}
 use Rattle.call_tickets.specs.declared.call.Call.{Call}
 use Rattle.node_store.specs.Disks.{View}
-use Rattle.cluster_world.specs.Outcomes.{Outcome, Awaited, without_session}
+use Rattle.cluster_world.specs.Outcomes.{Outcome, without_session}
 use Rattle.cluster_world.specs.Outcomes.Outcome.{GaveUp}
 use Rattle.cluster_world.specs.declared.world.World.{World}
 use Rattle.drive_tape.specs.declared.cluster.Cluster.{Cluster}
@@ -38,11 +37,11 @@ use Rattle.drive_tape.specs.declared.entry.WriteStop.{WriteStop}
 use Rattle.drive_tape.specs.declared.drove.Stop.{Stop as Why}
 use Rattle.drive_tape.specs.declared.drove.Stop.TheVariants as why
 use Rattle.drive_tape.specs.Entries.{WritesEntries}
-use Rattle.drive_tape.specs.Fed.{IsTelling, HasTold, IsFreed, IsGivingUpAt}
+use Rattle.drive_tape.specs.Fed.{IsTelling, HasTold, IsGivingUpAt}
 use Rattle.drive_tape.specs.Lines.{IsStarted, LineStopped}
 use Rattle.drive_tape.specs.Moving.{has_ended, RepliesTo, GoesOn}
 use Rattle.drive_tape.specs.Points.{Point, AreLinked, IsAtPoint, WentOn, Stopped}
-use Rattle.drive_tape.specs.Clusters.{HearsAt, RestsAt, MovedTo, IsAfter, SessionEndsAt}
+use Rattle.drive_tape.specs.Clusters.{RestsAt, IsAfter, SessionEndsAt}
 use Rattle.drive_tape.specs.Stops.{of_write}
 use Rattle.drive_tape.specs.Talks.{HasOwnTicket, StandsOnNode, IsUpAt, EachSession}
 use Rattle.drive_tape.specs.Worlds.{WorldIsAt, AreLives, HasCauses}

@@ -1,5 +1,5 @@
 -- How much a session has left falls with its moves.
-use Rattle.std.proofs.Common.{◌≡◌, ◌+◌, ◌<◌, ◌≤◌, ℕ, List, Option, Some, None, Result, Ok, Err, refl, sym, ap, ◌∙◌, subst, arith}
+use Rattle.std.proofs.Common.{◌≡◌, ◌<◌, ◌≤◌, ℕ, List, Option, Some, None, Result, Ok, Err, refl, subst, arith}
 use Rattle.std.specs.Prelude.{slice_get, OnOk, IfOk, Bool, true}
 use Rattle.mail_model.specs.Plan.{Plan}
 use Rattle.node_store.specs.Disks.{View}

@@ -1,5 +1,5 @@
 -- A world that was driven keeps what was promised to clients, by its own disks and its own book.
-use Rattle.std.proofs.Common.{◌≡◌, ◌⊎◌, ⊎_elim, inl, inr, ◌≤◌, ℕ, Bool, true, List, [], ◌∷◌, ◌++◌, map, flat_map, All, Option, Some, None, refl, sym, ap, ap₂, ◌∙◌, subst}
+use Rattle.std.proofs.Common.{◌≡◌, ◌⊎◌, ⊎_elim, inl, inr, ◌≤◌, ℕ, List, [], ◌∷◌, ◌++◌, map, flat_map, All, Option, Some, None, refl, sym, ap, ap₂, ◌∙◌, subst}
 use Rattle.std.proofs.lemmas.List.{append-nil}
 use Rattle.std.proofs.lemmas.List.Elements.{All-head, All-tail}
 use Rattle.mail_model.specs.Plan.{Plan}
@@ -25,7 +25,7 @@ use Rattle.session_model.specs.Run.{Stop, Made, IsDriven}
 use Rattle.session_model.specs.Run.Stop.{BehindLine, Denied, SinkFailed, OutOfMemory}
 use Rattle.session_model.specs.Runs.{Shows}
 use Rattle.session_model.specs.Losses.{IsLostIn}
-use Rattle.session_model.specs.Books.{Among as AmongAsked, AreBegun}
+use Rattle.session_model.specs.Books.{AreBegun}
 use Rattle.session_model.specs.Owes.{Owes}
 use Rattle.session_model.specs.OneNode.{IsSoundMail}
 use Rattle.session_model.specs.Kept.{IsEnding}
@@ -38,13 +38,12 @@ use Rattle.session_model.proofs.Kept.{owed_is_kept}
 use Rattle.cluster_owes.specs.Held.{filed_on}
 use Rattle.cluster_owes.specs.Outcomes.{IsTakenAt}
 use Rattle.node_store.specs.Disks.{View}
-use Rattle.cluster_world.specs.Worlds.{plan_of, disks_of, book_of, life_of, tells}
+use Rattle.cluster_world.specs.Worlds.{plan_of, disks_of, book_of, tells}
 use Rattle.cluster_world.specs.Opens.{IsAtBeginning}
-use Rattle.cluster_world.specs.Owing.{AreBlind, IsOfBlind, AllBlind, AreKnown, IsOfSession, AreOfSessions, AreLost, WorldOwes}
+use Rattle.cluster_world.specs.Owing.{AreBlind, IsOfBlind, AllBlind, AreKnown, AreOfSessions, AreLost, WorldOwes}
 use Rattle.cluster_world.specs.Outcomes.{Outcome, Awaited, StepMade, Came, Makes, AreStepsOf, IsPost, IsPushOf, made_of, asked_by_outcome, answered_by_outcome}
 use Rattle.cluster_world.specs.Outcomes.Outcome.{Began, Refused, Fell, Broke, Answers, StillPending, Unanswered, GaveUp, Abandoned, KeptUp, Left, Moved}
 use Rattle.cluster_world.specs.declared.world.World.{World}
-use Rattle.cluster_world.specs.declared.step.Step.TheVariants as step
 use Rattle.cluster_world.specs.Steps.{IsBlind}
 use Rattle.cluster_world.proofs.Owed.{none_pending}
 use Rattle.drive_tape.specs.Drive.{MayLackOne}

@@ -1,22 +1,20 @@
 -- What was made of the cluster for the lines of a tape, by their acts.
-use Rattle.std.proofs.Common.{◌≡◌, ◌≢◌, ◌⊎◌, inl, inr, ⊎_elim, ◌+◌, ◌<◌, ℕ, List, [], ◌∷◌, ◌++◌, length, map, flat_map, All, Option, Some, None, refl, sym, ap, ap₂, ◌∙◌, subst, arith, append_assoc}
-use Rattle.std.proofs.lemmas.List.{append-nil, map-append}
+use Rattle.std.proofs.Common.{◌≡◌, ◌⊎◌, inl, inr, ⊎_elim, ◌+◌, ℕ, List, [], ◌∷◌, ◌++◌, map, flat_map, Option, Some, None, refl, sym, ap, ap₂, ◌∙◌, subst}
+use Rattle.std.proofs.lemmas.List.{append-nil}
 use Rattle.std.proofs.lemmas.Grind.{flat_map-append}
-use Rattle.std.proofs.lemmas.List.Elements.{All-head, All-tail}
 use Rattle.mail_model.specs.Plan.{Plan}
-use Rattle.mail_model.specs.Tape.{Order, ClusterOrder, tape_order, Protocol}
+use Rattle.mail_model.specs.Tape.{Order, ClusterOrder, tape_order}
 use Rattle.mail_model.specs.Tape.Order.{Open, Say, Feed, Close, GiveUp, End}
 use Rattle.mail_model.specs.Tape.{ClusterOrder as order}
 use Rattle.mail_model.specs.Transcript.{Entry, all_of}
-use Rattle.mail_model.specs.Stored.{IsLost, opened, opened_at}
+use Rattle.mail_model.specs.Stored.{IsLost}
 use Rattle.mail_model.proofs.ShownCuts.{front_of_one}
 use Rattle.object_model.specs.Lists.{Among}
 use Rattle.session_model.specs.Calls.{Call}
 use Rattle.session_model.specs.Events.{ClusterEvent, NodeLife, IsEventOf, lost_event}
 use Rattle.session_model.specs.Events.ClusterEvent.{WentDown, CameUp, WasLost, WasHeard, WasThrown, WasDropped, HasFlowed, HasSent, HasWidened, HasFaulted}
-use Rattle.session_model.specs.Talk.{Exchange}
-use Rattle.session_model.specs.Sessions.{Session, session_at}
-use Rattle.session_model.specs.Acts.{Act, Acted, ActedAll, opened_by, opened_session}
+use Rattle.session_model.specs.Sessions.{Session}
+use Rattle.session_model.specs.Acts.{Act, Acted}
 use Rattle.session_model.specs.Acts.Act.{Opens, Does, Faults, StillWaits, Leaves, Makes, Abandons}
 use Rattle.session_model.specs.Acts.Deed.{IsFed, Hears, IsAnswered, IsGivenUp, Falls, Closes}
 use Rattle.session_model.specs.Lives.{life_after}
@@ -24,10 +22,9 @@ use Rattle.session_model.specs.Logs.{Asked, asked_by, call_in}
 use Rattle.session_model.specs.Books.{Among as AmongAsked}
 use Rattle.session_model.specs.Turns.{Turn, Next, ActsGo, Starts}
 use Rattle.session_model.specs.Turns.Turn.{Hearing, Beginning, Closing, Falling, Asking}
-use Rattle.session_model.specs.Run.{Made, Stop, MayMiss, MayHaveAsked, FirstStep, IsAlwaysDone, IsBegun, IsHandled, AreHandled, IsTried, IsCutOff, IsLeftOff, IsDriven, IsCutShort, made_by}
+use Rattle.session_model.specs.Run.{Made, Stop, MayMiss, MayHaveAsked, FirstStep, IsAlwaysDone, IsBegun, AreHandled, IsCutOff, IsLeftOff, IsDriven, IsCutShort, made_by}
 use Rattle.session_model.specs.Run.Stop.{BehindLine, Denied, SinkFailed, OutOfMemory}
 use Rattle.session_model.specs.Losses.{IsLostIn}
-use Rattle.session_model.proofs.Driven.{AreMade, begun_made, handled_made, first_none}
 use Rattle.drive_tape.proofs.Begins.{among_more, among_split}
 
 among_behind : {X : Type 0} (x : X) (xs ys : List X) → Among x ys → Among x (xs ++ ys)

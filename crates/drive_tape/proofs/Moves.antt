@@ -1,53 +1,39 @@
 -- The next move of a session, and the beginning of its call.
-use Rattle.std.proofs.Common.{◌≡◌, ◌≢◌, ◌⊎◌, ◌+◌, ◌-◌, ◌++◌, ◌∷◌, ◌<◌, ◌≤◌, ℕ, nat_eq, Bool, true, false, List, [], length, map, flat_map, All, Option, Some, None, Result, Ok, Err, refl, sym, ap, ◌∙◌, subst, inl, inr, ⊎_elim, arith}
-use Rattle.std.proofs.lemmas.Bool.Decides.{nat_tests}
-use Rattle.std.specs.Prelude.{slice_get, slice_set, filter, not, if◌then◌else◌}
-use Rattle.std.specs.Io.KnownBytes.{Appends}
+use Rattle.std.proofs.Common.{◌≡◌, ◌+◌, ◌-◌, ◌++◌, ◌∷◌, ℕ, List, [], Some, None, refl, sym, ap, ◌∙◌, subst}
+use Rattle.std.specs.Prelude.{slice_get, slice_set, if◌then◌else◌}
 use Rattle.std.proofs.lemmas.List.{append-nil}
-use Rattle.std.proofs.lemmas.Grind.{flat_map-append}
-use Rattle.io_edge.proofs.Known.{appends_none}
-use Rattle.object_model.specs.Lists.{Among}
 use Rattle.mail_model.specs.Plan.{Plan}
 use Rattle.mail_model.specs.Transcript.{Entry, said_lines}
 use Rattle.mail_model.specs.Site.{closed_event}
 use Rattle.session_model.specs.Calls as calls
-use Rattle.session_model.specs.Talk.{Exchange, TalkState, Standing, IsIdle, IsOn, leave_of}
+use Rattle.session_model.specs.Talk.{Exchange, Standing, IsIdle, IsOn, leave_of}
 use Rattle.session_model.specs.Sessions.{Session, session_at, exchanges_of}
-use Rattle.session_model.specs.Acts.{Act, Acted, Did, Deed, closing}
-use Rattle.session_model.specs.Acts.Act.{Does, Faults}
+use Rattle.session_model.specs.Acts.{Acted, Did, closing}
+use Rattle.session_model.specs.Acts.Act.{Does}
 use Rattle.session_model.specs.Acts.Deed.{Hears}
-use Rattle.session_model.specs.Events.{NodeLife, turned}
-use Rattle.session_model.specs.Events.NodeLife.{Up, Down}
-use Rattle.session_model.specs.Lives.{life_after, failed_by, failed_in}
 use Rattle.session_model.specs.Logs.{Asked}
 use Rattle.session_model.specs.Turns.{Turn, IsReadyToAsk, IsAtRest, Next, to_leave, turn_after_unit}
 use Rattle.session_model.specs.Turns.Turn.{Hearing, Beginning}
 use Rattle.session_model.specs.Run.{Made, count_on}
-use Rattle.session_model.specs.Run.Stop.{OutOfMemory}
 use Rattle.call_tickets.specs.declared.call.Call.{Call}
 use Rattle.call_tickets.specs.Seen.{call_seen}
 use Rattle.call_tickets.specs.Moves.{IsWaiting, HearsNothing}
 use Rattle.node_store.specs.Disks.{View}
-use Rattle.cluster_world.specs.Outcomes.{Outcome, Awaited, made_of, asked_by_outcome, answered_by_outcome, without_node}
+use Rattle.cluster_world.specs.Outcomes.{Outcome, made_of, asked_by_outcome, answered_by_outcome}
 use Rattle.cluster_world.specs.Outcomes.Outcome.{Began, Refused, Fell, Broke}
 use Rattle.cluster_world.specs.declared.world.World.{World}
 use Rattle.drive_tape.specs.declared.cluster.Cluster.{Cluster}
-use Rattle.drive_tape.specs.declared.open_call.OpenCall.{OpenCall}
 use Rattle.drive_tape.specs.declared.sessions.After.{After}
 use Rattle.drive_tape.specs.declared.sessions.After.TheVariants.{Stays, Ends}
 use Rattle.drive_tape.specs.declared.drove.Stop.TheVariants as why
-use Rattle.drive_tape.specs.Kinds.{IsKindOf}
 use Rattle.drive_tape.specs.Moving.{has_ended, HeardAt, StaysAt, GoesOn}
-use Rattle.drive_tape.specs.Talks.{HasOwnTicket, HasTicket, TicketFits, StandsOnNode, IsUpAt, EachBut}
-use Rattle.drive_tape.specs.Worlds.{WorldIsAt, WentTo, HasGone, AreSameLives, IsDownNow, HasFailed, HasCauses, AreLives}
-use Rattle.drive_tape.specs.Points.{Point, Work, Cut, OneAct, AreLinked, IsAtOwnNode, waits_by_outcome, IsAtPoint, Stopped, WentOn}
-use Rattle.drive_tape.specs.Clusters.{HearsAt, RestsAt, IsAfter, IsSaying, IsBeginning, FaultsAt}
+use Rattle.drive_tape.specs.Talks.{HasOwnTicket, StandsOnNode, IsUpAt}
+use Rattle.drive_tape.specs.Points.{Point, OneAct, AreLinked, IsAtOwnNode, waits_by_outcome, IsAtPoint, WentOn}
+use Rattle.drive_tape.specs.Clusters.{HearsAt, RestsAt, IsAfter, IsSaying, IsBeginning}
 use Rattle.drive_tape.proofs.Talks.{at_place, asks_waits, asks_silent, says_on, says_ended, count_same, count_less, set_here, within_get, did_node}
-use Rattle.drive_tape.proofs.Works.{work_none, work_act}
-use Rattle.drive_tape.proofs.Clusters.{since_gone}
+use Rattle.drive_tape.proofs.Works.{work_none}
 use Rattle.drive_tape.proofs.Acting.{acted_does}
-use Rattle.drive_tape.proofs.Stepping.{life_more}
-use Rattle.drive_tape.proofs.Places.{NotWaiting, same_or_not, get_apart, set_at, each_set, nodes_set, ticket_none, does_plain, up_on, lives_on, same_lives, causes_on, failed_on}
+use Rattle.drive_tape.proofs.Places.{NotWaiting, each_set, nodes_set, ticket_none, does_plain, up_on, lives_on, same_lives, causes_on}
 use Rattle.drive_tape.proofs.Falling.{own_none}
 
 -- where no call is asked, a unit leads to no step

@@ -1,5 +1,5 @@
 -- What the moves of one session make of all sessions.
-use Rattle.std.proofs.Common.{zero, suc, ◌≡◌, ◌<◌, ◌-◌, ℕ, List, [], ◌∷◌, length, Option, Some, None, refl, sym, ap, ◌∙◌, subst, arith}
+use Rattle.std.proofs.Common.{zero, suc, ◌≡◌, ◌<◌, ℕ, List, [], ◌∷◌, length, Option, Some, None, refl, ap, subst, arith}
 use Rattle.std.specs.Prelude.{slice_get, slice_set}
 use Rattle.std.specs.FinMap as map
 use Rattle.mail_model.specs.Plan.{Plan}
@@ -8,17 +8,14 @@ use Rattle.session_model.specs.Talk.{IsOn}
 use Rattle.session_model.specs.Talk.Standing.{Waiting, EndedDown}
 use Rattle.session_model.specs.Sessions.{Session}
 use Rattle.session_model.specs.Acts.{Did}
-use Rattle.session_model.specs.Acts.Deed.{Hears, IsAnswered, Falls}
-use Rattle.call_tickets.specs.Moves.{HeardUnit, Replied, Due, HasEnded}
+use Rattle.session_model.specs.Acts.Deed.{Falls}
+use Rattle.call_tickets.specs.Moves.{HasEnded}
 use Rattle.call_tickets.specs.Moves.Due.{Nothing}
 use Rattle.drive_tape.specs.declared.talker.Talker.{Talker}
-use Rattle.drive_tape.specs.declared.sessions.Sessions.{Sessions}
-use Rattle.drive_tape.specs.declared.sessions.After.{After}
-use Rattle.drive_tape.specs.declared.sessions.After.TheVariants.{Stays, Ends}
 use Rattle.drive_tape.specs.Talks.{Converse}
 use Rattle.drive_tape.specs.Speakers.{Matches, talker_left}
-use Rattle.drive_tape.specs.Moving.{HeardAt, RepliesTo, StaysAt, FellAt, GoesOn, left_of, left_here}
-use Rattle.drive_tape.proofs.Talks.{matches_at, converse_set, did_node, asks_waits, set_same}
+use Rattle.drive_tape.specs.Moving.{left_of, left_here}
+use Rattle.drive_tape.proofs.Talks.{converse_set, set_same}
 
 module _ (talkers : List (Option Talker)) (sessions : List Session) (place : ℕ) (talker new : Talker) (plain : Session) where
   -- the others sit as they did

@@ -1,5 +1,5 @@
 -- The sessions of a run are those that its lines opened, in order.
-use Rattle.std.proofs.Common.{◌≡◌, ◌+◌, ◌-◌, ◌++◌, ◌∷◌, ℕ, zero, suc, List, [], map, flat_map, Option, Some, None, refl, sym, ap, ap₂, ◌∙◌, subst, arith, append_assoc}
+use Rattle.std.proofs.Common.{◌≡◌, ◌+◌, ◌-◌, ◌++◌, ◌∷◌, ℕ, zero, suc, List, [], map, flat_map, Option, Some, None, refl, sym, ap, ap₂, ◌∙◌, arith, append_assoc}
 use Rattle.std.specs.Prelude.{slice_get, slice_set}
 use Rattle.std.proofs.lemmas.List.{append-nil, map-append}
 use Rattle.std.proofs.lemmas.Grind.{flat_map-append}
@@ -7,13 +7,12 @@ use Rattle.mail_model.specs.Plan.{Plan}
 use Rattle.mail_model.specs.Tape.{Protocol, tape_order}
 use Rattle.mail_model.specs.Transcript.{Entry}
 use Rattle.mail_model.specs.Stored.{opened, opened_at}
-use Rattle.session_model.specs.Sessions.{Session, session_at}
+use Rattle.session_model.specs.Sessions.{Session}
 use Rattle.session_model.specs.Acts.{Act, Acted, ActedAll, Did, Deed, opened_by, opened_session}
 use Rattle.session_model.specs.Acts.Act.{Opens, Does, Faults, StillWaits, Leaves, Makes, Abandons}
 use Rattle.session_model.specs.Acts.Deed.{IsFed, Hears, IsAnswered, IsGivenUp, Falls, Closes}
-use Rattle.session_model.specs.Turns.{Turn}
-use Rattle.session_model.specs.Run.{Made, Stop, IsBegun, AreHandled, IsLeftOff, IsDriven}
-use Rattle.session_model.proofs.Driven.{AreMade, begun_made, handled_made, first_none}
+use Rattle.session_model.specs.Run.{Made, Stop, IsLeftOff, IsDriven}
+use Rattle.session_model.proofs.Driven.{begun_made, handled_made, first_none}
 use Rattle.drive_tape.proofs.Talks.{at_place, some_same, did_node}
 
 abbrev pub kind_of : Session → Protocol × ℕ

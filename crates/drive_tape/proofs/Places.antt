@@ -1,11 +1,11 @@
 -- What is so of each session stays so as one of them changes, and as an act is made.
-use Rattle.std.proofs.Common.{◌≡◌, ◌≢◌, ◌⊎◌, ◌+◌, ◌++◌, ◌∷◌, ◌<◌, ◌≤◌, inl, inr, ⊎_elim, ℕ, zero, suc, List, [], length, map, flat_map, Option, Some, None, refl, sym, ap, ◌∙◌, subst, arith}
+use Rattle.std.proofs.Common.{◌≡◌, ◌≢◌, ◌⊎◌, ◌+◌, ◌++◌, ◌∷◌, inl, inr, ⊎_elim, ℕ, zero, suc, List, [], Option, Some, None, refl, sym, ap, ◌∙◌, subst}
 use Rattle.std.specs.Prelude.{slice_get, slice_set}
 use Rattle.std.proofs.lemmas.List.{append-nil}
 use Rattle.std.proofs.lemmas.Grind.{flat_map-append}
 use Rattle.mail_model.specs.Plan.{Plan}
 use Rattle.session_model.specs.Calls as calls
-use Rattle.session_model.specs.Talk.{TalkState, Standing, IsOn}
+use Rattle.session_model.specs.Talk.{TalkState, Standing}
 use Rattle.session_model.specs.Talk.Standing.{Hearing, Waiting, EndedByQuit, EndedDown, EndedClosed}
 use Rattle.session_model.specs.Sessions.{Session}
 use Rattle.session_model.specs.Acts.{Act}
@@ -17,7 +17,7 @@ use Rattle.node_store.specs.Disks.{View}
 use Rattle.cluster_world.specs.Outcomes.{Awaited}
 use Rattle.cluster_world.specs.declared.world.World.{World}
 use Rattle.drive_tape.specs.declared.open_call.OpenCall.{OpenCall}
-use Rattle.drive_tape.specs.Talks.{EachSession, HasOwnTicket, TicketFits, HasTicket, StandsOnNode, nodes_of}
+use Rattle.drive_tape.specs.Talks.{EachSession, TicketFits, StandsOnNode, nodes_of}
 use Rattle.drive_tape.specs.Worlds.{AreLives, AreSameLives, HasCauses}
 use Rattle.drive_tape.proofs.Stepping.{life_more}
 use Rattle.drive_tape.proofs.Talks.{some_same}

@@ -1,6 +1,6 @@
 -- What posting, flowing and pushing make of a world.
-use Rattle.std.proofs.Common.{◌≡◌, ◌≢◌, ◌⊎◌, ⊎_elim, ℕ, Bool, true, false, List, [], ◌∷◌, ◌++◌, Option, Some, None, Result, Ok, Err, refl, sym, ap, ◌∙◌, subst, if◌then◌else◌}
-use Rattle.std.specs.Prelude.{All, ⊤}
+use Rattle.std.proofs.Common.{◌≡◌, ◌⊎◌, ⊎_elim, ℕ, Bool, true, false, List, [], ◌∷◌, ◌++◌, Option, Some, None, Result, Ok, Err, refl, sym, ap, ◌∙◌, subst, if◌then◌else◌}
+use Rattle.std.specs.Prelude.{All}
 use Rattle.std.proofs.lemmas.List.Elements.{All-nil, All-cons, All-append}
 use Rattle.object_model.specs.Lists.{Among}
 use Rattle.mail_model.specs.Plan.{Plan}
@@ -35,7 +35,7 @@ use Rattle.drive_tape.specs.declared.orders.Admitted.TheVariants.{Post}
 use Rattle.drive_tape.specs.Orders.{admitted_seen}
 use Rattle.drive_tape.specs.Denials.{stop_by}
 use Rattle.drive_tape.specs.Moved.{IsFit, Happened, MovedSo, PushesSo, PostsTo}
-use Rattle.drive_tape.proofs.Stepping.{IsCalm, AreCalm, EndsIn, steps_last, steps_more, plan_kept, calm_lives, may_fault, happens_calm, happens_after, happens, denied_after, denied, one_among}
+use Rattle.drive_tape.proofs.Stepping.{IsCalm, AreCalm, steps_last, steps_more, plan_kept, calm_lives, may_fault, happens_calm, happens_after, happens, denied_after, denied, one_among}
 
 -- the order of a line that posts
 abbrev pub post_order : Bool → ℕ → ClusterOrder

@@ -1,17 +1,15 @@
 -- The lines of a reply, written one after another.
-use Rattle.std.proofs.Common.{ap₂, ◌-◌, ⊎_elim, ◌≡◌, ◌≢◌, ◌+◌, ◌<◌, ◌++◌, ℕ, zero, suc, arith, List, [], ◌∷◌, length, take, drop, flat_map, map, All, Option, Ok, Err, Result, refl, sym, ap, ◌∙◌, subst, inl, inr, append_assoc}
+use Rattle.std.proofs.Common.{ap₂, ◌-◌, ◌≡◌, ◌≢◌, ◌+◌, ◌<◌, ◌++◌, ℕ, zero, suc, arith, List, [], ◌∷◌, length, take, drop, flat_map, All, Option, Ok, Err, Result, refl, sym, ap, ◌∙◌, subst, append_assoc}
 use Rattle.std.specs.Prelude.{slice_index}
-use native.Mathlib.Numerals.{unary_clauses}
 use Rattle.std.proofs.lemmas.List.Elements.{All-head, All-tail}
 use Rattle.std.proofs.lemmas.List.{map-append}
 use Rattle.mail_model.specs.Transcript.{said_lines, Entry, entry_line, written_of}
 use Rattle.mail_model.specs.Transcript.Entry.{Said}
 use Rattle.mail_model.proofs.Units.{one_sent_line}
 use Rattle.drive_tape.specs.Replies.{HasWritten}
-use Rattle.drive_tape.specs.Parts.{IsPart}
 use Rattle.drive_tape.proofs.Writes.{some_line}
 use Rattle.std.specs.Io.KnownBytes.{Appends}
-use Rattle.std.proofs.lemmas.List.{append-nil, take-append-drop, length-drop}
+use Rattle.std.proofs.lemmas.List.{append-nil, length-drop}
 use Rattle.std.proofs.Math.Seq.{take-length}
 use Rattle.std.proofs.lemmas.Grind.{flat_map-append}
 use Rattle.io_edge.proofs.Known.{appends_more, appends_none}

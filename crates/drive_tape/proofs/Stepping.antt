@@ -1,5 +1,5 @@
 -- What the steps of a run line make of a world.
-use Rattle.std.proofs.Common.{◌≡◌, ◌≢◌, ◌≤◌, ◌<◌, ◌⊎◌, inl, inr, ⊎_elim, ℕ, nat_eq, nat_lt, Bool, true, false, List, [], ◌∷◌, ◌++◌, Option, Some, None, Result, Ok, Err, refl, sym, ap, ◌∙◌, subst, arith}
+use Rattle.std.proofs.Common.{◌≡◌, ◌≢◌, ◌≤◌, ◌<◌, ◌⊎◌, ⊎_elim, ℕ, nat_eq, nat_lt, Bool, true, false, List, [], ◌∷◌, ◌++◌, Option, None, Result, Ok, Err, refl, sym, ap, ◌∙◌, subst, arith}
 use Rattle.std.proofs.lemmas.Bool.Decides.{nat_tests}
 use Rattle.std.specs.Prelude.{◌||◌, ⊤}
 use Rattle.object_model.specs.Lists.{Among}
@@ -11,9 +11,8 @@ use Rattle.session_model.specs.Events.{NodeLife, IsEventOf, IsUp, MayFault, life
 use Rattle.session_model.specs.Events.NodeLife.{Up}
 use Rattle.session_model.specs.Lives.{life_by, life_from, life_after}
 use Rattle.session_model.specs.Run.{IsAlwaysDone, is_no_node}
-use Rattle.cluster_model.specs.World as machine
 use Rattle.node_store.specs.Disks.{View}
-use Rattle.cluster_world.specs.Worlds.{state_of, plan_of, life_of, life_in, tells, Stands, StandsFor}
+use Rattle.cluster_world.specs.Worlds.{state_of, plan_of, life_of}
 use Rattle.cluster_world.specs.Steps.{StepDid, IsStep, WasToWork}
 use Rattle.cluster_world.specs.Turns.{life_after_step}
 use Rattle.cluster_world.specs.Outcomes.{Outcome, Awaited, StepMade, MakesSteps, AreStepsOf, fallen_in, left_after, left_after_all}
@@ -28,10 +27,10 @@ use Rattle.drive_tape.specs.declared.drove.Stop.{Stop}
 use Rattle.drive_tape.specs.declared.event.ClusterEvent.{ClusterEvent}
 use Rattle.drive_tape.specs.Denials.{stop_by}
 use Rattle.drive_tape.specs.Happenings.{event_seen, fallen_by}
-use Rattle.drive_tape.specs.Moved.{IsFit, Happened, IsDeniedBy, MovedSo}
-use Rattle.drive_tape.specs.Worlds.{WorldIsAt, WentTo, AreLives, HasFailed}
+use Rattle.drive_tape.specs.Moved.{IsFit, Happened, MovedSo}
+use Rattle.drive_tape.specs.Worlds.{WentTo}
 use Rattle.drive_tape.proofs.WholeTexts.{are_ended, front_ended}
-use Rattle.drive_tape.proofs.Chains.{Carries, carried, carries_steps, carries_more, stands_at, stands_steps, has_failed, went_more}
+use Rattle.drive_tape.proofs.Chains.{carried, carries_steps, carries_more, stands_at, stands_steps, has_failed, went_more}
 
 -- a step in which no node changes
 pub record IsCalm (one : StepMade) : Type 0 where

@@ -1,8 +1,7 @@
 -- A node that may stop, or be lost, is not refused it.
-use Rattle.std.proofs.Common.{◌≡◌, ◌<◌, ◌≤◌, ℕ, nat_eq, nat_lt, Bool, true, false, Option, Some, None, refl, sym, ap, ◌∙◌, subst, arith}
+use Rattle.std.proofs.Common.{◌≡◌, ℕ, nat_eq, nat_lt, Bool, true, false, Option, Some, None, refl, sym, ap, ◌∙◌, arith}
 use Rattle.std.proofs.lemmas.Bool.Decides.{nat_tests}
-use Rattle.std.specs.Prelude.{◌||◌, nat_le, ◌∷◌, [], List}
-use Rattle.std.specs.List.{list_all}
+use Rattle.std.specs.Prelude.{◌||◌, nat_le, List}
 use Rattle.mail_model.specs.Plan.{Plan}
 use Rattle.mail_model.specs.Site.TapeFault.{NoSuchNode}
 use Rattle.mail_model.specs.Site.{TapeFault}
@@ -17,7 +16,6 @@ use Rattle.cluster_model.specs.Steps.{is_node}
 use Rattle.cluster_world.specs.Turns.{life_refusal, node_refusal}
 use Rattle.cluster_world.specs.Worlds.{life_of}
 use Rattle.cluster_world.specs.declared.fault.StepFault.{StepFault}
-use Rattle.cluster_world.specs.declared.step.Step.{Step}
 use Rattle.cluster_world.specs.declared.step.Step.TheVariants as step
 use Rattle.cluster_world.specs.declared.world.World.{World}
 use Rattle.drive_tape.specs.Worlds.{AreLives}

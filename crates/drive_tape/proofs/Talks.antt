@@ -14,10 +14,8 @@ use Rattle.session_model.specs.Calls.Answer.{Stored, Listed, Wrong, Part, GoneAl
 use Rattle.session_model.specs.Sessions.{Session, session_at}
 use Rattle.session_model.specs.Acts.{Did, Deed}
 use Rattle.session_model.specs.Acts.Deed.{IsFed, Hears, IsAnswered, IsGivenUp, Falls, Closes}
-use Rattle.call_tickets.specs.Moves.Due.{Nothing}
 use Rattle.drive_tape.specs.declared.talker.Talker.{Talker}
 use Rattle.drive_tape.specs.Talks.{Converse, Sits}
-use Rattle.drive_tape.specs.Speakers.{Matches}
 use Rattle.std.proofs.lemmas.Bool.Decides.{nat_tests}
 
 pub some_same : {X : Type 0} (x y : X) → Some x ≡ Some y → x ≡ y

@@ -6,7 +6,7 @@ use Rattle.mail_model.specs.Lines.{sent_line, ends_in_crlf}
 use Rattle.mail_model.specs.Maildrop.{LineOutcome}
 use Rattle.mail_model.specs.Maildrop.LineOutcome.{Answered, Closed, AsksLogin, AsksMessage, AsksDeletion}
 use Rattle.mail_model.specs.Plan.{Plan}
-use Rattle.mail_model.specs.Session.{Unit as SessionUnit, Told, undotted, undotted_line, is_quit_line, is_large, reply_text}
+use Rattle.mail_model.specs.Session.{Unit as SessionUnit, undotted, undotted_line, is_quit_line, is_large}
 use Rattle.mail_model.specs.Session.Unit.{Line, Text}
 use Rattle.mail_model.specs.Tape.{ClusterOrder}
 use Rattle.mail_model.specs.Tape.{ClusterOrder as order}

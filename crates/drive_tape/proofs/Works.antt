@@ -1,23 +1,19 @@
 -- Work that goes on, and work that stops.
-use Rattle.std.proofs.Common.{◌≡◌, ◌⊎◌, ◌++◌, ◌∷◌, ◌≢◌, ℕ, List, [], length, map, flat_map, All, Option, Some, None, Result, Ok, Err, refl, sym, ap, ◌∙◌, subst, inl, inr, ⊎_elim, append_assoc}
+use Rattle.std.proofs.Common.{◌≡◌, ◌⊎◌, ◌++◌, ◌∷◌, ℕ, List, [], map, flat_map, Option, refl, sym, ap, ◌∙◌, subst, inl, inr, ⊎_elim, append_assoc}
 use Rattle.std.specs.Io.KnownBytes.{Appends}
 use Rattle.std.proofs.lemmas.List.{append-nil, map-append}
-use Rattle.std.proofs.lemmas.List.Elements.{All-nil, All-append}
 use Rattle.std.proofs.lemmas.Grind.{flat_map-append}
 use Rattle.io_edge.proofs.Known.{appends_more, appends_none}
-use Rattle.mail_model.specs.Lines.{HasNoLf, ended}
 use Rattle.mail_model.specs.Plan.{Plan}
-use Rattle.mail_model.specs.Transcript.{Entry, entry_line, written_of, all_of}
+use Rattle.mail_model.specs.Transcript.{Entry, written_of, all_of}
 use Rattle.session_model.specs.Sessions.{Session}
-use Rattle.session_model.specs.Acts.{Act, Acted}
+use Rattle.session_model.specs.Acts.{Act}
 use Rattle.session_model.specs.Logs.{Asked, asked_by, answered_by}
 use Rattle.session_model.specs.Turns as turns
-use Rattle.session_model.specs.Turns.{Turn, Next}
+use Rattle.session_model.specs.Turns.{Turn}
 use Rattle.session_model.specs.Run.{Made, Stop, made_by, MayHaveAsked}
 use Rattle.session_model.specs.Run.Stop.{SinkFailed, OutOfMemory, BehindLine, Denied}
 use Rattle.cluster_world.specs.Outcomes.{Outcome, made_of, asked_by_outcome, answered_by_outcome}
-use Rattle.drive_tape.specs.declared.entry.WriteStop.{WriteStop}
-use Rattle.drive_tape.specs.Entries.{WritesEntries}
 use Rattle.drive_tape.specs.Parts.{IsCutEntry}
 use Rattle.drive_tape.specs.Points.{Point, Work, Cut, OneAct, AreLinked, IsMissingTail, MayLack, waits_by, waits_by_outcome}
 use Rattle.drive_tape.proofs.Replies.{written_more}

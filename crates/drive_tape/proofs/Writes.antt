@@ -1,5 +1,5 @@
 -- Writing that stops after some of the entries.
-use Rattle.std.proofs.Common.{◌≡◌, ◌<◌, ◌++◌, ◌∷◌, ℕ, zero, suc, arith, List, [], slice_get, Some, length, take, drop, Option, Err, refl, sym, ap, ◌∙◌, subst, inl, inr}
+use Rattle.std.proofs.Common.{◌≡◌, ◌<◌, ◌++◌, ◌∷◌, ℕ, zero, suc, arith, List, [], slice_get, Some, length, take, drop, Option, Err, refl, sym, ap, ◌∙◌, subst}
 use Rattle.std.specs.Io.KnownBytes.{Appends}
 use Rattle.std.proofs.Common.{length-append}
 use Rattle.mail_model.specs.Transcript as transcript

@@ -1,6 +1,5 @@
 -- What the calls of a cluster begin with, and where they lead.
-use Rattle.std.specs.Prelude.{◌≡◌, ◌⊎◌, ◌+◌, ◌<◌, ◌≤◌, ℕ, Bool, true, false, List, [], ◌∷◌, ◌++◌, length, flat_map, All, ⊤, slice_get, slice_set, Option, Some, None, Result, Ok, Err, if◌then◌else◌}
-use Rattle.object_model.specs.Letters.{Number}
+use Rattle.std.specs.Prelude.{◌≡◌, ◌+◌, ◌<◌, ◌≤◌, ℕ, Bool, true, false, List, [], ◌∷◌, ◌++◌, flat_map, All, ⊤, slice_get, slice_set, Option, Some, Result, Ok, Err, if◌then◌else◌}
 use Rattle.mail_model.specs.Lines.{HasNoCrlf, sent_line}
 use Rattle.mail_model.specs.Plan.{Plan}
 use Rattle.mail_model.specs.Site.{closed_event}
@@ -13,13 +12,13 @@ use Rattle.session_model.specs.Sessions.{Session, session_at, exchanges_of}
 use Rattle.session_model.specs.Acts.{Act, Did}
 use Rattle.session_model.specs.Acts.Deed.{Hears}
 use Rattle.session_model.specs.Lives.{failed_in}
-use Rattle.session_model.specs.Turns.{Turn, IsReadyToAsk, Waits}
-use Rattle.session_model.specs.Turns.Turn.{Hearing, Beginning, Falling, Asking}
+use Rattle.session_model.specs.Turns.{IsReadyToAsk, Waits}
+use Rattle.session_model.specs.Turns.Turn.{Hearing, Beginning, Falling}
 use Rattle.session_model.specs.Run.{count_on}
 use Rattle.call_tickets.specs.Seen.{call_seen}
 use Rattle.call_tickets.specs.declared.call.Call.{Call}
 use Rattle.node_store.specs.Disks.{View}
-use Rattle.cluster_world.specs.Outcomes.{Outcome, Awaited, without_session}
+use Rattle.cluster_world.specs.Outcomes.{Outcome, without_session}
 use Rattle.cluster_world.specs.Outcomes.Outcome.{Answers}
 use Rattle.cluster_world.specs.declared.world.World.{World}
 use Rattle.drive_tape.specs.declared.cluster.Cluster.{Cluster}
@@ -29,9 +28,9 @@ use Rattle.drive_tape.specs.declared.cluster.Heard.{Heard}
 use Rattle.drive_tape.specs.declared.cluster.Heard.TheVariants as heard
 use Rattle.drive_tape.specs.Leaving.{IsLeaveOf}
 use Rattle.drive_tape.specs.Moving.{has_ended}
-use Rattle.drive_tape.specs.Points.{Point, OneAct, Work, Stopped, WentOn, IsAtPoint}
-use Rattle.drive_tape.specs.Talks.{Converse, HasOwnTicket, HasTicket, StandsOnNode, IsUpAt, EachSession, EachBut, nodes_of}
-use Rattle.drive_tape.specs.Worlds.{WorldIsAt, WentTo, AreLives, AreSameLives, HasCauses, HasFailed}
+use Rattle.drive_tape.specs.Points.{Point, OneAct, Work, Stopped, IsAtPoint}
+use Rattle.drive_tape.specs.Talks.{Converse, HasOwnTicket, HasTicket, StandsOnNode, EachSession, EachBut, nodes_of}
+use Rattle.drive_tape.specs.Worlds.{WorldIsAt, WentTo, AreLives, AreSameLives, HasCauses}
 use Rattle.call_tickets.specs.Moves.{HasEnded}
 use Rattle.drive_tape.specs.declared.drove.Stop.{Stop as Why}
 

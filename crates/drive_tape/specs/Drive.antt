@@ -1,12 +1,11 @@
 -- What driving a cluster by a tape did, over the octets that were read and those that were written.
-use Rattle.std.specs.Prelude.{◌≡◌, ◌⊎◌, ◌<◌, ◌≤◌, ◌+◌, ◌^◌, ℕ, true, List, [], ◌∷◌, ◌++◌, length, map, flat_map, All, ⊤, Option, Some, None, Result, Ok, Err}
+use Rattle.std.specs.Prelude.{◌≡◌, ◌⊎◌, ◌<◌, ◌≤◌, ◌+◌, ◌^◌, ℕ, List, [], ◌∷◌, ◌++◌, length, map, flat_map, All, ⊤, Option, Some, None, Err}
 use Rattle.std.specs.Io.KnownBytes.{Consumes, Appends, IsAtEnd}
 use Rattle.mail_model.specs.Lines.{HasNoLf, ended}
 use Rattle.mail_model.specs.Plan.{Plan}
 use Rattle.mail_model.specs.Tape.{Order, tape_order}
 use Rattle.mail_model.specs.Tape.Order.{End}
 use Rattle.mail_model.specs.Transcript.{Entry, entry_line, written_of}
-use Rattle.mail_model.specs.Site as site
 use Rattle.session_model.specs.Sessions.{Session}
 use Rattle.session_model.specs.Acts.{Act}
 use Rattle.session_model.specs.Acts.Act.{StillWaits}

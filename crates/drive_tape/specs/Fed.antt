@@ -1,5 +1,5 @@
 -- What the first act of a line needs.
-use Rattle.std.specs.Prelude.{◌≡◌, ◌≢◌, Bool, true, false, not, nat_le, ◌⊎◌, ◌+◌, ◌<◌, ◌≤◌, ℕ, List, [], ◌∷◌, ◌++◌, ⊤, length, flat_map, All, slice_get, Option, Some, None, Result, Ok, Err, if◌then◌else◌}
+use Rattle.std.specs.Prelude.{◌≡◌, ◌≢◌, Bool, true, false, not, nat_le, ◌⊎◌, ◌+◌, ◌<◌, ℕ, List, [], ◌∷◌, ◌++◌, flat_map, All, slice_get, Option, Some, None, Result, Ok, Err, if◌then◌else◌}
 use Rattle.object_model.specs.Letters.{Number}
 use Rattle.mail_model.specs.Lines.{HasNoCrlf, sent_line}
 use Rattle.mail_model.specs.Plan.{Plan}
@@ -8,22 +8,21 @@ use Rattle.mail_model.specs.Site.{closed_event}
 use Rattle.mail_model.specs.Transcript.{said_lines}
 use Rattle.mail_model.specs.Tape as tape
 use Rattle.mail_model.specs.Tape.{Order, tape_order}
-use Rattle.mail_model.specs.Tape.Order.{Open, Say, Feed, Close, GiveUp, Moves}
+use Rattle.mail_model.specs.Tape.Order.{Say, Feed, Close, GiveUp, Moves}
 use Rattle.session_model.specs.Calls as calls
 use Rattle.session_model.specs.Talk.{Exchange, TalkState, IsOn}
 use Rattle.session_model.specs.Talk.Standing.{Waiting}
-use Rattle.session_model.specs.Events.{IsEventOf, failed_by_event}
 use Rattle.session_model.specs.Events.NodeLife.{Up}
 use Rattle.session_model.specs.Acts.{Act, Acted}
-use Rattle.session_model.specs.Acts.Act.{Abandons, Makes}
-use Rattle.session_model.specs.Lives.{life_after, failed_in}
+use Rattle.session_model.specs.Acts.Act.{Abandons}
+use Rattle.session_model.specs.Lives.{failed_in}
 use Rattle.session_model.specs.Sessions.{Session}
 use Rattle.session_model.specs.Turns.{Starts, Waits}
 use Rattle.session_model.specs.Turns.Turn.{Hearing}
-use Rattle.session_model.specs.Run.{refusal, cluster_refusal, work_fault, can_serve, fault_if, is_no_node, count_on}
+use Rattle.session_model.specs.Run.{refusal, work_fault, can_serve, fault_if, is_no_node, count_on}
 use Rattle.node_store.specs.Disks.{View}
-use Rattle.cluster_world.specs.Outcomes.{Outcome, Awaited, StepMade, left_after, without_session}
-use Rattle.cluster_world.specs.Outcomes.Outcome.{GaveUp, Abandoned, KeptUp, Moved}
+use Rattle.cluster_world.specs.Outcomes.{Outcome, Awaited, without_session}
+use Rattle.cluster_world.specs.Outcomes.Outcome.{GaveUp, Abandoned, KeptUp}
 use Rattle.cluster_world.specs.Worlds.{plan_of, life_of}
 use Rattle.cluster_world.specs.declared.world.World.{World}
 use Rattle.cluster_world.specs.declared.fault.StepFault.{StepFault}
@@ -32,7 +31,6 @@ use Rattle.drive_tape.specs.declared.sessions.After.{After}
 use Rattle.drive_tape.specs.declared.drove.Stop.{Stop as Why}
 use Rattle.drive_tape.specs.declared.event.ClusterEvent.{ClusterEvent}
 use Rattle.drive_tape.specs.Faults.{tape_fault_seen}
-use Rattle.drive_tape.specs.Happenings.{event_seen, fallen_by}
 use Rattle.drive_tape.specs.Clusters.{RestsAt, MovedTo, IsAfter, IsFalling}
 use Rattle.drive_tape.specs.Denials.{stop_by}
 use Rattle.drive_tape.specs.Lines.{IsStarted, LineStopped}

@@ -1,5 +1,5 @@
 -- What handling a line of a tape did.
-use Rattle.std.specs.Prelude.{◌≡◌, ◌⊎◌, ℕ, List, [], ◌∷◌, ◌++◌, length, flat_map, Option, Some, None, Result, Ok, Err}
+use Rattle.std.specs.Prelude.{◌≡◌, ◌⊎◌, ℕ, List, [], ◌∷◌, ◌++◌, flat_map, Option, Some, None, Result, Ok, Err}
 use Rattle.std.specs.Io.KnownBytes.{Appends}
 use Rattle.mail_model.specs.Plan.{Plan}
 use Rattle.mail_model.specs.Tape.{Order, tape_order}
@@ -17,7 +17,6 @@ use Rattle.node_store.specs.Disks.{View}
 use Rattle.cluster_world.specs.Outcomes.{Outcome}
 use Rattle.cluster_world.specs.declared.world.World.{World}
 use Rattle.drive_tape.specs.declared.cluster.Cluster.{Cluster}
-use Rattle.drive_tape.specs.declared.drove.TapeFault.{TapeFault}
 use Rattle.drive_tape.specs.declared.drove.TapeFault.TheVariants.{BadLine}
 use Rattle.drive_tape.specs.declared.drove.Stop.{Stop as Why}
 use Rattle.drive_tape.specs.declared.drove.Stop.TheVariants as why

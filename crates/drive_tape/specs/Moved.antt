@@ -1,7 +1,6 @@
 -- What a run line made of the cluster.
-use Rattle.std.specs.Prelude.{◌≡◌, ◌⊎◌, ℕ, false, List, [], ◌∷◌, ◌++◌, ⊤, Option, Some, None, Result, Ok, Err}
+use Rattle.std.specs.Prelude.{◌≡◌, ◌⊎◌, ℕ, List, [], ◌∷◌, ◌++◌, ⊤, Option, Some, None, Result, Ok, Err}
 use Rattle.object_model.specs.Lists.{Among}
-use Rattle.mail_model.specs.Plan.{Plan}
 use Rattle.mail_model.specs.Tape.{ClusterOrder}
 use Rattle.session_model.specs.Acts.{Act}
 use Rattle.session_model.specs.Acts.Act.{Makes}
@@ -11,7 +10,7 @@ use Rattle.session_model.specs.Run.{IsAlwaysDone, cluster_refusal}
 use Rattle.node_store.specs.Disks.{View}
 use Rattle.cluster_world.specs.Worlds.{plan_of}
 use Rattle.cluster_world.specs.Steps.{IsStep}
-use Rattle.cluster_world.specs.Outcomes.{Outcome, Awaited, StepMade, MakesSteps, left_after}
+use Rattle.cluster_world.specs.Outcomes.{Outcome, Awaited, StepMade, left_after}
 use Rattle.cluster_world.specs.Outcomes.Outcome.{Moved}
 use Rattle.cluster_world.specs.declared.world.World.{World}
 use Rattle.cluster_world.specs.declared.step.Step.TheVariants as step

@@ -1,5 +1,5 @@
 -- Whether a run line that moves the cluster may do so.
-use Rattle.std.specs.Prelude.{◌≡◌, ℕ, true, false, List, Option, Some, None, Result, Ok, Err}
+use Rattle.std.specs.Prelude.{◌≡◌, ℕ, true, false, Option, Some, None, Result, Ok, Err}
 use Rattle.mail_model.specs.Plan.{Plan}
 use Rattle.mail_model.specs.Site as site
 use Rattle.mail_model.specs.Tape as tape

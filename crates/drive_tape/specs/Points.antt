@@ -1,14 +1,13 @@
 -- Where the work on a tape is, and how it goes from there: acts, the steps that they led to, and what they wrote.
-use Rattle.std.specs.Prelude.{◌≡◌, ◌≢◌, ◌⊎◌, ℕ, true, false, Bool, Result, Ok, Err, List, [], ◌∷◌, ◌++◌, map, flat_map, All, ⊤, Option, None}
+use Rattle.std.specs.Prelude.{◌≡◌, ◌≢◌, ◌⊎◌, ℕ, Result, Ok, Err, List, [], ◌∷◌, ◌++◌, map, flat_map, ⊤, Option}
 use Rattle.std.specs.Io.KnownBytes.{Appends}
-use Rattle.mail_model.specs.Lines.{HasNoLf}
 use Rattle.mail_model.specs.Plan.{Plan}
-use Rattle.mail_model.specs.Transcript.{Entry, entry_line, written_of, all_of}
+use Rattle.mail_model.specs.Transcript.{Entry, written_of, all_of}
 use Rattle.session_model.specs.Sessions.{Session, session_at}
 use Rattle.session_model.specs.Acts.{Act, Acted}
 use Rattle.session_model.specs.Acts.Act.{StillWaits}
 use Rattle.session_model.specs.Lives.{failed_in}
-use Rattle.session_model.specs.Logs.{Asked, Answered, asked_by, answered_by}
+use Rattle.session_model.specs.Logs.{Asked, asked_by, answered_by}
 use Rattle.session_model.specs.Turns as turns
 use Rattle.session_model.specs.Turns.{Turn, Next, IsAtNode}
 use Rattle.session_model.specs.Run.{Made, Stop, made_by, MayHaveAsked, count_on}

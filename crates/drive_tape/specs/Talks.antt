@@ -1,18 +1,17 @@
 -- The program's sessions as those of the definitions.
-use Rattle.std.specs.Prelude.{◌≡◌, ◌≢◌, ◌⊎◌, ◌+◌, ◌-◌, ◌<◌, ℕ, nat_eq, Bool, true, false, List, [], ◌∷◌, ◌++◌, map, slice_get, slice_set, ⊤, Option, Some, None, if◌then◌else◌}
-use Rattle.object_model.specs.Letters.{Number}
+use Rattle.std.specs.Prelude.{◌≡◌, ◌+◌, ◌<◌, ℕ, false, List, [], ◌∷◌, ◌++◌, map, slice_get, ⊤, Option, Some, None}
 use Rattle.object_model.specs.Lists.{Among}
 use Rattle.mail_model.specs.Plan.{Plan}
 use Rattle.session_model.specs.Calls as calls
-use Rattle.session_model.specs.Talk.{Exchange, TalkState, Standing, IsOn}
+use Rattle.session_model.specs.Talk.{Exchange, Standing, IsOn}
 use Rattle.session_model.specs.Talk.Standing.{Hearing, Waiting, EndedByQuit, EndedDown, EndedClosed}
 use Rattle.session_model.specs.Sessions.{Session, session_at}
 use Rattle.session_model.specs.Acts.{Act}
 use Rattle.session_model.specs.Lives.{life_after}
 use Rattle.session_model.specs.Events.NodeLife.{Up}
-use Rattle.session_model.specs.Run.{session_fault, giving_fault, is_no_node}
+use Rattle.session_model.specs.Run.{session_fault, is_no_node}
 use Rattle.mail_model.specs.Site.TapeFault.{NoSuchSession}
-use Rattle.call_tickets.specs.Moves.{Due, HasEnded}
+use Rattle.call_tickets.specs.Moves.{HasEnded}
 use Rattle.call_tickets.specs.Moves.Due.{Nothing}
 use Rattle.cluster_world.specs.Outcomes.{Awaited}
 use Rattle.drive_tape.specs.declared.talker.Talker.{Talker}

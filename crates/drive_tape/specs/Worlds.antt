@@ -1,5 +1,5 @@
 -- A world that made steps since it was opened.
-use Rattle.std.specs.Prelude.{◌≡◌, ◌⊎◌, ◌≤◌, ℕ, Bool, true, false, ⊤, List, [], ◌∷◌, ◌++◌, Option, Some, None, Result, Ok, Err}
+use Rattle.std.specs.Prelude.{◌≡◌, ◌⊎◌, ◌≤◌, ℕ, true, false, ⊤, List, [], ◌∷◌, ◌++◌, Option, Some, None, Result, Ok, Err}
 use Rattle.object_model.specs.Letters.{Number}
 use Rattle.io_edge.specs.Causes.{Rose}
 use Rattle.mail_model.specs.Lines.{ends_in_crlf}
@@ -9,7 +9,7 @@ use Rattle.session_model.specs.Calls.Call.{Deliver, Login, Fetch, Strike}
 use Rattle.session_model.specs.Events.{turned}
 use Rattle.session_model.specs.Events.NodeLife.{Down}
 use Rattle.session_model.specs.Acts.{Act}
-use Rattle.session_model.specs.Lives.{life_after, failed_in}
+use Rattle.session_model.specs.Lives.{life_after}
 use Rattle.session_model.specs.Run.{is_no_node}
 use Rattle.object_model.specs.Lists.{Among}
 use Rattle.mail_base.specs.declared.filing.CallKind.{CallKind}

@@ -1,5 +1,5 @@
 // The steps that sessions lead to: a call is begun, asked for or given up, and a session leaves.
-ghost use Rattle.std.specs.Prelude.{◌≡◌, true, [], ◌∷◌, ◌++◌, Some, List, ℕ, IsErrOf, OnOk};
+ghost use Rattle.std.specs.Prelude.{◌≡◌, Some, List, ℕ, IsErrOf};
 ghost use Rattle.session_model.specs.Calls as calls;
 ghost use Rattle.call_tickets.specs.Seen.{call_seen};
 ghost use Rattle.node_store.specs.Disks.{view_of};

@@ -1,8 +1,7 @@
 // A cluster and the sessions that are open at it.
-ghost use Rattle.std.specs.Prelude.{◌^◌, ◌≡◌, ◌⊎◌, ◌+◌, ◌<◌, ◌≤◌, ℕ, List, [], true, length, slice_get, slice_set, Option, Some, None, IsErrOf, OnOk, IfOk};
+ghost use Rattle.std.specs.Prelude.{◌^◌, ◌≡◌, ◌+◌, ◌<◌, ◌≤◌, ℕ, List, true, length, slice_get, slice_set, Option, Some, None, IsErrOf, OnOk, IfOk};
 ghost use Rattle.io_edge.specs.Causes.{Rose};
 ghost use Rattle.mail_model.specs.Plan.{Plan};
-ghost use Rattle.session_model.specs.Acts.{Act as AnAct};
 ghost use Rattle.call_tickets.specs.Seen.{answer_seen};
 ghost use Rattle.node_store.specs.Disks.{view_of};
 ghost use Rattle.cluster_world.specs.Worlds.{plan_of};

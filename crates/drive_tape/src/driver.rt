@@ -1,5 +1,5 @@
 // Drives a cluster by the run lines of a tape.
-ghost use Rattle.std.specs.Prelude.{◌≡◌, ◌≤◌, ◌<◌, ◌^◌, ℕ, List, [], true, length, OnOk, IsErrOf};
+ghost use Rattle.std.specs.Prelude.{◌≡◌, ◌≤◌, ◌<◌, ◌^◌, OnOk, IsErrOf};
 ghost use Rattle.io_edge.specs.Causes.{Rose};
 ghost use Rattle.node_store.specs.Disks.{view_of};
 ghost use Rattle.cluster_world.specs.Worlds.{IsReady, state_of, plan_of};

@@ -1,6 +1,5 @@
 // Lines of the transcript.
-ghost use Rattle.std.specs.Prelude.{◌≡◌, ◌++◌, ◌∷◌, ◌≤◌, ◌<◌, [], List, ℕ, IfOk, OnOk, OnErr, IsErrOf, flat_map};
-ghost use Rattle.std.specs.Fmt.{decimal};
+ghost use Rattle.std.specs.Prelude.{◌≡◌, ◌++◌, ◌∷◌, ◌≤◌, ◌<◌, [], IfOk, OnOk, IsErrOf};
 ghost use Rattle.io_edge.specs.Causes.{Rose};
 ghost use Rattle.mail_model.specs.Lines.{ended};
 ghost use Rattle.mail_model.specs.Transcript as transcript;

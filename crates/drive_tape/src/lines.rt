@@ -1,8 +1,7 @@
 // The run lines of a tape, each until nothing of it is under way.
-ghost use Rattle.std.specs.Prelude.{◌≡◌, ◌+◌, ◌<◌, ◌≤◌, ℕ, List, [], length, true, Some, Ok, IsErrOf, IfOk, OnOk, slice_get};
+ghost use Rattle.std.specs.Prelude.{◌≡◌, ◌+◌, ◌<◌, ◌≤◌, ℕ, List, length, true, Some, Ok, IsErrOf, OnOk, slice_get};
 ghost use Rattle.io_edge.specs.Causes.{Rose};
 ghost use Rattle.mail_model.specs.Tape.{tape_order, Order as AnOrder};
-ghost use Rattle.mail_model.specs.Tape as tape;
 ghost use Rattle.mail_model.specs.Plan.{Plan};
 ghost use Rattle.tape_lines.specs.Orders.{protocol_seen};
 ghost use Rattle.tape_lines.specs.ClusterOrders.{cluster_order_seen};

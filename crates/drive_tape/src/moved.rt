@@ -1,9 +1,7 @@
 // What a run line makes of the cluster: its steps, and what came of them.
-ghost use Rattle.std.specs.Prelude.{◌≡◌, ◌≤◌, ◌<◌, ℕ, List, false, None, IsErrOf, if◌then◌else◌};
-ghost use Rattle.mail_model.specs.Plan.{Plan};
+ghost use Rattle.std.specs.Prelude.{◌≡◌, ◌<◌, List, None, IsErrOf, if◌then◌else◌};
 ghost use Rattle.mail_model.specs.Tape.{ClusterOrder as order};
 ghost use Rattle.session_model.specs.Acts.{Act as AnAct};
-ghost use Rattle.session_model.specs.Run.{is_no_node};
 ghost use Rattle.node_store.specs.Disks.{view_of};
 ghost use Rattle.cluster_world.specs.Worlds.{plan_of};
 ghost use Rattle.cluster_world.specs.Outcomes.{Outcome, Awaited};

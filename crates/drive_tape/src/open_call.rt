@@ -1,7 +1,6 @@
 // A call in progress, as the session that waits for its answer keeps it.
 ghost use Rattle.std.specs.Prelude.{◌≡◌, IfSome, None, Some};
 ghost use Rattle.session_model.specs.Calls as calls;
-ghost use Rattle.session_model.specs.Calls.{IsAnswerTo};
 ghost use Rattle.call_tickets.specs.Seen.{call_seen};
 ghost use Rattle.drive_tape.specs.Kinds.{fits_kind, IsKindOf};
 

@@ -1,8 +1,8 @@
 // Whether a run line that moves the cluster may do so.
-ghost use Rattle.std.specs.Prelude.{◌≡◌, ◌≤◌};
+ghost use Rattle.std.specs.Prelude.{◌≤◌};
 ghost use Rattle.mail_model.specs.Tape.{ClusterOrder as AnOrder};
 ghost use Rattle.tape_lines.specs.ClusterOrders.{cluster_order_seen};
-ghost use Rattle.cluster_world.specs.Worlds.{plan_of, life_of};
+ghost use Rattle.cluster_world.specs.Worlds.{life_of};
 ghost use Rattle.drive_tape.specs.Orders.{AdmitsNode, AdmitsBy, AdmitsWorker, Admits};
 ghost use Rattle.drive_tape.specs.Worlds.{WorldIsReady};
 ghost use Rattle.session_model.specs.Run.{work_fault, start_fault, loss_fault};

@@ -1,8 +1,6 @@
 // Reads the plan lines of a tape, up to `go`.
-ghost use Rattle.std.specs.Prelude.{◌≡◌, ◌+◌, ◌^◌, ◌≤◌, ◌<◌, ℕ, IfOk, OnOk, IsErrOf, length};
+ghost use Rattle.std.specs.Prelude.{◌+◌, ◌^◌, ◌≤◌, ◌<◌, IfOk, OnOk, IsErrOf};
 ghost use Rattle.io_edge.specs.Causes.{Rose};
-ghost use Rattle.mail_model.specs.Tape.{planned};
-ghost use Rattle.drive_tape.specs.Drive.{stop_of, NamesLine};
 ghost use Rattle.drive_tape.specs.Plans.{PlanTurned, ReadsHead, HeadEnds, IsTapePlan};
 
 use crate::driver::{TAPE_OCTETS, at_line};

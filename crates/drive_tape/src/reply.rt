@@ -1,5 +1,5 @@
 // Replies of sessions as lines of the transcript.
-ghost use Rattle.std.specs.Prelude.{◌≡◌, ◌≤◌, ◌++◌, ◌∷◌, [], List, ℕ, true, flat_map, map, All, MatchOption, IfSome, ◌+◌, ◌<◌, ◌^◌, IfOk, IsErrOf, if◌then◌else◌};
+ghost use Rattle.std.specs.Prelude.{◌≡◌, ◌≤◌, ◌++◌, ◌∷◌, [], List, ℕ, flat_map, All, MatchOption, IfSome, ◌+◌, ◌<◌, ◌^◌, IfOk, IsErrOf, if◌then◌else◌};
 ghost use Rattle.io_edge.specs.Causes.{Rose};
 ghost use Rattle.mail_model.specs.Lines.{HasNoCrlf, sent_line};
 ghost use Rattle.mail_model.specs.Site.{closed_event};

@@ -1,15 +1,13 @@
 // All sessions of a tape, in order of `open`.
-ghost use Rattle.std.specs.Prelude.{◌≡◌, ◌⊎◌, ◌+◌, ◌-◌, ◌<◌, ◌≤◌, ◌∷◌, ◌++◌, [], List, ℕ, Bool, true, false, length, OnOk, IfOk, IfSome, if◌then◌else◌, Option, Some, None, is_some, slice_get, slice_set, MatchBool};
+ghost use Rattle.std.specs.Prelude.{◌≡◌, ◌⊎◌, ◌+◌, ◌-◌, ◌<◌, ◌≤◌, ◌∷◌, ◌++◌, [], List, ℕ, true, false, length, OnOk, IfOk, IfSome, if◌then◌else◌, Option, Some, None, slice_get, slice_set, MatchBool};
 ghost use Rattle.mail_model.specs.Lines.{HasNoCrlf, sent_line};
 ghost use Rattle.session_model.specs.Calls as calls;
 ghost use Rattle.session_model.specs.Calls.{IsReply};
-ghost use Rattle.session_model.specs.Talk.{TalkState, Standing, IsOn, entered_as};
+ghost use Rattle.session_model.specs.Talk.{TalkState, IsOn, entered_as};
 ghost use Rattle.session_model.specs.Talk.Standing.{Waiting, EndedClosed};
-ghost use Rattle.session_model.specs.Sessions.{Session, session_at, exchanges_of};
+ghost use Rattle.session_model.specs.Sessions.{Session, exchanges_of};
 ghost use Rattle.session_model.specs.Acts.{opened_session, greeting_of};
-ghost use Rattle.session_model.specs.Run.{count_on, session_fault};
-ghost use Rattle.mail_model.specs.Site.{TapeFault};
-ghost use Rattle.call_tickets.specs.Moves.{Due, Fed, HasEnded, IsBusy};
+ghost use Rattle.call_tickets.specs.Moves.{Due, HasEnded, IsBusy};
 ghost use Rattle.call_tickets.specs.Seen.{given_answer};
 ghost use Rattle.tape_lines.specs.Orders.{protocol_seen};
 ghost use Rattle.drive_tape.specs.Leaving.{IsLeaveOf};

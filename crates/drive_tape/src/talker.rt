@@ -1,5 +1,5 @@
 // One session of a tape: it speaks SMTP or POP3.
-ghost use Rattle.std.specs.Prelude.{◌≡◌, ◌≤◌, ◌<◌, ◌++◌, [], ℕ, List, Option, OnOk, IfOk, OnErr, MatchBool};
+ghost use Rattle.std.specs.Prelude.{◌≡◌, ◌≤◌, ◌<◌, ◌++◌, [], ℕ, List, Option, OnOk, IfOk, MatchBool};
 ghost use Rattle.mail_model.specs.Lines.{HasNoCrlf, sent_line};
 ghost use Rattle.session_model.specs.Calls as calls;
 ghost use Rattle.session_model.specs.Calls.{IsReply};

@@ -1,6 +1,5 @@
 // The locks of maildrops.
 ghost use Rattle.std.specs.Prelude.{◌≡◌, OnOk, OnErr};
-ghost use Rattle.std.specs.Option.{option_copied};
 ghost use Rattle.std.specs.FinMap as map;
 ghost use Rattle.drop_lock.specs.Locks.{TakesLock, released, no_locks};
 

@@ -1,5 +1,5 @@
 // What a letter says.
-ghost use Rattle.std.specs.Prelude.{◌≡◌, IfOk, length};
+ghost use Rattle.std.specs.Prelude.{◌≡◌, IfOk};
 ghost use Rattle.mail_base.specs.Bodies.{carried};
 
 use crate::{

@@ -1,6 +1,6 @@
 // A set of nodes, in one word.
 ghost use Rattle.std.specs.Prelude.{◌≡◌, ◌<◌, ◌≤◌, ◌+◌, ◌-◌, ◌^◌, ◌||◌, ◌&&◌, not, false, ℕ, nat_eq, bit_or};
-ghost use Rattle.object_model.specs.Sets.{has, with_node, without_node, count_below, count_in};
+ghost use Rattle.object_model.specs.Sets.{has, with_node, without_node, count_in};
 
 use crate::NodeNo;
 use std::marker::Model;

@@ -1,9 +1,7 @@
 // Which rows an install keeps.
 ghost use Rattle.std.specs.Prelude.{◌≡◌, ◌&&◌, true, cond, ℕ, Some, None};
 ghost use Rattle.std.specs.Option.{option_copied};
-ghost use Rattle.std.specs.BTreeMap as tree;
 ghost use Rattle.mail_map.specs.Rows.{row_at};
-ghost use Rattle.user_map.specs.Managers.{is_managed_by};
 ghost use Rattle.mail_map.specs.Installs.{was_managed_by, comes, stays};
 
 use crate::teller::Teller;

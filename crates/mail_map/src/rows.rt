@@ -1,11 +1,9 @@
 // The rows of one user.
-ghost use Rattle.std.specs.Prelude.{◌≡◌, ◌&&◌, not, cond, ℕ, nat_eq, nat_lt, Some, None, IfOk, OnOk, OnErr};
-ghost use Rattle.std.specs.Option.{option_copied};
+ghost use Rattle.std.specs.Prelude.{◌≡◌, ◌&&◌, cond, ℕ, nat_eq, Some, None, OnOk, OnErr};
 ghost use Rattle.std.specs.List.{list_any};
-ghost use Rattle.std.specs.BTreeMap as tree;
 ghost use Rattle.object_model.specs.Sets.{has};
 ghost use Rattle.maps_model.specs.Cluster.{is_full};
-ghost use Rattle.mail_map.specs.Tellers.{Teller, teller_cmp};
+ghost use Rattle.mail_map.specs.Tellers.{Teller};
 ghost use Rattle.mail_map.specs.Rows.{row_at, is_older};
 
 use crate::teller::Teller;

@@ -1,5 +1,5 @@
 -- What a contract sees of records, and how one record more is read.
-use Rattle.std.specs.Prelude.{ℕ, List, [], ◌∷◌, map, Option, Some, None}
+use Rattle.std.specs.Prelude.{List, [], ◌∷◌, map, Option, Some, None}
 use Rattle.mail_model.specs.Identity.Key.{Message, Profile}
 use Rattle.mail_model.specs.Identity.Value.{Secret}
 use Rattle.mail_model.specs.Record as spelt

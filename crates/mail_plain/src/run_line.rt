@@ -2,8 +2,7 @@
 ghost use Rattle.std.specs.Prelude.{◌≡◌, codes, option_and_then, IfOk};
 ghost use Rattle.std.specs.Option.{option_map};
 ghost use Rattle.mail_model.specs.Lines.{without_cr};
-ghost use Rattle.mail_model.specs.Tape as tape;
-ghost use Rattle.mail_model.specs.Tape.{close_line, cluster_order_of, end_line, feed_line, first_word, giveup_line, hex_octets, open_line, order_of, say_line, strip, tape_order};
+ghost use Rattle.mail_model.specs.Tape.{close_line, cluster_order_of, end_line, feed_line, giveup_line, hex_octets, open_line, order_of, say_line, strip, tape_order};
 ghost use Rattle.mail_plain.specs.SeenTape.{order_seen, protocol_seen};
 
 use crate::cluster_line::{ClusterOrder, cluster_order};

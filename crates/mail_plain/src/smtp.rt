@@ -1,9 +1,8 @@
 //! The command lines of SMTP, read by the table of its grammar (RFC 5321, section 4.1).
-ghost use Rattle.std.specs.Prelude.{◌≡◌, ◌&&◌, IfOk, codes, nat_eq, option_and_then, position};
+ghost use Rattle.std.specs.Prelude.{◌≡◌, ◌&&◌, IfOk, nat_eq, position};
 ghost use Rattle.std.specs.Option.{option_copied};
 ghost use Rattle.std.specs.List.{list_all};
-ghost use Rattle.mail_model.specs.Smtp as smtp;
-ghost use Rattle.mail_model.specs.Smtp.{alone, command_of, is_helo_name, is_path_octet, is_visible, or_bad, path_behind, path_content, recipient_in, routed, sender_in, unspaced};
+ghost use Rattle.mail_model.specs.Smtp.{alone, command_of, is_helo_name, is_path_octet, is_visible, path_behind, path_content, recipient_in, routed, sender_in, unspaced};
 ghost use Rattle.mail_plain.specs.SeenSmtp.{command_seen, helo_of, mail_of, rcpt_of, seen};
 
 use crate::pieces::{begins_with, cut_at_space, is_word, trimmed, unspaced};

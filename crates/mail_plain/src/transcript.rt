@@ -1,5 +1,5 @@
 // What the sessions of a transcript got.
-ghost use Rattle.std.specs.Prelude.{◌≡◌, ◌∷◌, ◌++◌, List, slice_index, codes, IfOk};
+ghost use Rattle.std.specs.Prelude.{◌≡◌, ◌∷◌, ◌++◌, List, slice_index, IfOk};
 ghost use Rattle.std.specs.Option.{option_copied};
 ghost use Rattle.mail_model.specs.Transcript as transcript;
 ghost use Rattle.mail_model.specs.Transcript.{ends_reply, got, has_code};

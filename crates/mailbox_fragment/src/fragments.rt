@@ -1,13 +1,12 @@
 // The messages of each user that are here.
-ghost use Rattle.std.specs.Prelude.{◌≡◌, [], List, ℕ, Bool, true, false, not, Some, None, IfOk, OnOk, OnErr, is_some};
+ghost use Rattle.std.specs.Prelude.{◌≡◌, [], List, ℕ, true, false, Some, None, IfOk, OnOk, OnErr};
 ghost use Rattle.std.specs.Ordering.{nat_cmp};
 ghost use Rattle.std.specs.Cmp.Lexicographic.{slice_cmp};
 ghost use Rattle.std.specs.List.Sorted.{IsStrictlySortedBy};
 ghost use Rattle.std.specs.BTreeSet as set;
 ghost use Rattle.std.specs.BTreeMap as tree;
-ghost use Rattle.mail_model.specs.Identity.{Id};
 ghost use Rattle.mail_base.specs.Orders.{id_cmp};
-ghost use Rattle.mailbox_fragment.specs.Here.{ids_at, ids_of, is_here_in, is_none, is_empty, SetsMessage, HasSameMessages, flips, AreIdsOf};
+ghost use Rattle.mailbox_fragment.specs.Here.{ids_of, is_none, is_empty, SetsMessage, HasSameMessages, flips, AreIdsOf};
 
 use mail_base::{Ids, MsgId, Name};
 use std::alloc::{AllocError, Global};

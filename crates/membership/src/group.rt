@@ -1,11 +1,9 @@
 // What a node keeps of the epochs that it promises, forms and enters.
-ghost use Rattle.std.specs.Prelude.{◌≡◌, ◌↔◌, ◌<◌, ◌-◌, ◌^◌, ◌++◌, max, ℕ, Some, None, IfOk, OnOk, OnErr};
+ghost use Rattle.std.specs.Prelude.{◌≡◌, ◌<◌, ◌-◌, ◌^◌, max, Some, None, IfOk, OnOk, OnErr};
 ghost use Rattle.std.specs.Option.{option_copied, option_map};
-ghost use Rattle.mail_model.specs.Identity.{EpochId as Epoch};
 ghost use Rattle.maps_model.specs.Cluster.{epoch_in, member_of};
 ghost use Rattle.maps_model.specs.Rules.{claims_from, claims_in};
-ghost use Rattle.object_model.specs.Sets.{has};
-ghost use Rattle.membership.specs.Groups.{new_group, next_epoch, own_join, promised, with_one_joined, has_joined};
+ghost use Rattle.membership.specs.Groups.{new_group, next_epoch, own_join, promised, with_one_joined};
 ghost use Rattle.membership.specs.Checks.{is_open, is_of_boot, FormsMembership};
 ghost use Rattle.membership.specs.Rounds.{StartsGroup, HearsGroup, HearsJoin, Concludes, HearsInstall, IsJoined};
 

@@ -1,5 +1,5 @@
 // A group that is open, with those who joined it.
-ghost use Rattle.std.specs.Prelude.{◌≡◌, ◌++◌, ◌∷◌, ◌<◌, [], length, map, slice_get, slice_set, flat_map, nat_eq, nat_lt, ℕ, OnOk, OnErr, IfOk};
+ghost use Rattle.std.specs.Prelude.{◌≡◌, ◌++◌, ◌∷◌, ◌<◌, [], length, map, slice_get, slice_set, flat_map, nat_eq, ℕ, OnOk, OnErr, IfOk};
 ghost use Rattle.std.specs.List.{list_any, prefix_len};
 ghost use Rattle.maps_model.specs.Assign.{IsAssigned};
 ghost use Rattle.maps_model.specs.Rules.{with_join, membership_of};

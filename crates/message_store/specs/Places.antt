@@ -1,5 +1,5 @@
 -- Where the octets of each message lie in the journal.
-use Rattle.std.specs.Prelude.{◌≡◌, ℕ, ◌+◌, ◌-◌, ◌≤◌, List, [], ◌∷◌, ◌++◌, length, take, drop, Option, Some, None, IfSome, if◌then◌else◌}
+use Rattle.std.specs.Prelude.{◌≡◌, ℕ, ◌+◌, ◌-◌, ◌≤◌, List, length, take, drop, Option, Some, None}
 use Rattle.std.specs.BTreeMap.{get}
 use Rattle.mail_model.specs.Identity.{Id}
 use Rattle.mail_model.specs.Record.{payload_of}

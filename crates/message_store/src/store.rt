@@ -1,5 +1,5 @@
 //! The octets of messages by their ids.
-ghost use Rattle.std.specs.Prelude.{◌≡◌, ◌+◌, ◌-◌, ◌≤◌, ◌++◌, ◌∷◌, [], ℕ, List, length, Some, None, IfSome, IsSome, IsOk, OnOk, OnErr, option_map, if◌then◌else◌};
+ghost use Rattle.std.specs.Prelude.{◌≡◌, ◌+◌, ◌-◌, ◌≤◌, ℕ, List, length, Some, None, IsSome, IsOk, OnOk, OnErr, option_map, if◌then◌else◌};
 ghost use Rattle.std.specs.Ordering.{eq_by_cmp};
 ghost use Rattle.io_edge.specs.Moments.{Keeps};
 ghost use Rattle.mail_model.specs.Identity.{Id};

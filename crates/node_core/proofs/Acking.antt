@@ -10,7 +10,7 @@ use Rattle.mail_model.specs.Record.{Record}
 use Rattle.mail_model.specs.Record.Record.{Retired}
 use Rattle.object_model.specs.Sets.{has, without_node}
 use Rattle.object_model.specs.States.{is_same_state}
-use Rattle.object_model.specs.UpdateLog.{Logged, cleared, is_of}
+use Rattle.object_model.specs.UpdateLog.{Logged, cleared}
 use Rattle.object_model.specs.Letters.{Letter}
 use Rattle.object_model.specs.Letters.Body.{Retire}
 use Rattle.object_model.proofs.StateLaws.{state_is}
@@ -19,7 +19,7 @@ use Rattle.update_log.specs.declared.logged.Acked.{Acked}
 use Rattle.update_log.specs.declared.logged.Acked.TheVariants.{Cleared, Emptied, Other}
 use Rattle.replica_push.specs.Rules.{retired_by}
 use Rattle.cluster_model.specs.Cluster.{Node, epoch_of}
-use Rattle.cluster_model.specs.Rules.{Reaction, idle, receivers, letters_to, shrunk, acked_at, retired_at}
+use Rattle.cluster_model.specs.Rules.{Reaction, idle, receivers, letters_to, acked_at, retired_at}
 use Rattle.node_store.specs.Changes.{retired_where}
 
 -- what is sent as a state is acknowledged

@@ -1,5 +1,5 @@
 -- A call that a node begins, for every plan whose node it is.
-use Rattle.std.proofs.Common.{◌≡◌, ◌⊎◌, ℕ, ◌+◌, List, [], ◌++◌, length, Bool, true, false, cond, not, ◌&&◌, ◌||◌, nat_lt, nat_le, Option, Some, None, refl, sym, ap, subst, ◌∙◌, ⊎_elim, append-nil}
+use Rattle.std.proofs.Common.{◌≡◌, ◌⊎◌, ℕ, ◌+◌, List, [], ◌++◌, length, Bool, true, false, not, ◌&&◌, ◌||◌, nat_lt, nat_le, Option, Some, refl, sym, ap, subst, ◌∙◌, ⊎_elim, append-nil}
 use Rattle.std.specs.Prelude.{Result, Ok, Err}
 use Rattle.io_edge.specs.Moments.{Keeps as KeepsImages}
 use Rattle.io_edge.proofs.Passing.{keeps_none}
@@ -12,15 +12,13 @@ use Rattle.mail_model.specs.Mail.{IsStored, trace_lines}
 use Rattle.mail_model.proofs.ShownFiled.{ends_front, trace_ends}
 use Rattle.object_model.specs.Sets.{nodes_in}
 use Rattle.object_model.specs.Letters.{Number}
-use Rattle.object_model.specs.Mishaps.{Mishaps, mishaps_of}
-use Rattle.cluster_model.specs.Cluster as plain
+use Rattle.object_model.specs.Mishaps.{Mishaps}
 use Rattle.cluster_model.specs.Cluster.{CallKind, members_of}
-use Rattle.cluster_model.specs.Cluster.CallKind.{Delivering}
-use Rattle.cluster_model.specs.Rules.{Reaction, begin_deliver, refuse, new_number}
+use Rattle.cluster_model.specs.Rules.{begin_deliver, refuse, new_number}
 use Rattle.cluster_model.specs.Targets.{deliver_targets}
 use Rattle.cluster_model.specs.Steps.{NodeCall, greatest, end_of_dates, mishaps_of_call, fails_at_once, ids_drawn, stamps_drawn, tickets_drawn, is_worn_for}
 use Rattle.cluster_model.specs.Steps.NodeCall.{Deliver}
-use Rattle.cluster_model.specs.Makes.{IsFiled, begun_by, kind_of_call, targets_for}
+use Rattle.cluster_model.specs.Makes.{IsFiled, begun_by, kind_of_call}
 use Rattle.node_store.specs.Disks.{View}
 use Rattle.node_store.specs.declared.fault.KeepFault.{KeepFault}
 use Rattle.node_store.specs.declared.fault.KeepFault.TheVariants as keep
@@ -28,7 +26,7 @@ use Rattle.node_core.specs.Nodes.{node_seen, CanWork, IsNodeOf}
 use Rattle.node_core.specs.Spelling.{AllCanBeTaken}
 use Rattle.node_core.specs.Works.{Rule, NodeDid, IsOnlyRead}
 use Rattle.node_core.specs.Failing.{late_seen, lacks_numbers, lacks_ids, CallRefused, RefusesCall}
-use Rattle.node_core.specs.Delivering.{next_targets, delivering, DeliveryBegun, DeliveryStopped, BeginsDelivery}
+use Rattle.node_core.specs.Delivering.{delivering, DeliveryBegun, DeliveryStopped, BeginsDelivery}
 use Rattle.node_core.specs.Beginning.{at_second, CallDid, CallBegun, CallStopped, CallFailed, NodeBegins}
 use Rattle.node_core.specs.declared.fault.NodeFault.{NodeFault}
 use Rattle.node_core.specs.declared.fault.NodeFault.TheVariants.{Disk, Worn, NoMemory}

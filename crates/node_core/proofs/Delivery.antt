@@ -1,11 +1,10 @@
 -- A delivery that a node begins.
-use Rattle.std.proofs.Common.{◌≡◌, ◌≤◌, ◌+◌, ℕ, List, [], ◌++◌, length, Bool, true, false, cond, Option, Some, None, refl, sym, ap, subst, ◌∙◌, arith, length-append}
-use Rattle.std.specs.Prelude.{All, Result, Ok, Err}
+use Rattle.std.proofs.Common.{◌≡◌, ◌≤◌, ◌+◌, ℕ, List, [], ◌++◌, length, Bool, true, false, cond, Some, None, refl, sym, ap, subst, ◌∙◌, arith, length-append}
+use Rattle.std.specs.Prelude.{All, Ok, Err}
 use Rattle.sha2.specs.Sha256.{sha256}
 use Rattle.mail_model.specs.Names.{IsLowerName}
 use Rattle.mail_model.specs.Identity.{Id, Stamp}
 use Rattle.mail_model.specs.Grammar.{IsId, IsStamp, IsCount, IsRecord}
-use Rattle.mail_model.specs.Record.{Record}
 use Rattle.mail_model.specs.Told.{Mail}
 use Rattle.mail_model.specs.Mail.{IsDate, IsStored, trace_lines}
 use Rattle.object_model.specs.Sets.{has}
@@ -13,7 +12,6 @@ use Rattle.object_model.specs.UpdateLog.{Log}
 use Rattle.object_model.specs.Letters.{Letter}
 use Rattle.object_model.specs.Letters.Body.{File}
 use Rattle.cluster_model.specs.Cluster as plain
-use Rattle.cluster_model.specs.Cluster.AskedOfNodes.{Copies}
 use Rattle.cluster_model.specs.Cluster.{epoch_of}
 use Rattle.cluster_model.specs.Store.{Store, here_updates}
 use Rattle.cluster_model.specs.Rules.{receivers, letters_to, new_number}
@@ -29,11 +27,11 @@ use Rattle.node_store.specs.declared.fault.KeepFault.TheVariants as keep
 use Rattle.node_store.specs.declared.store.NodeStore.{NodeStore}
 use Rattle.node_tickets.specs.declared.tickets.Tickets.{Tickets}
 use Rattle.node_tickets.specs.Standing.{IsOf, tickets_in}
-use Rattle.node_core.specs.Nodes.{node_seen, Keeps, IsWhole}
+use Rattle.node_core.specs.Nodes.{node_seen, IsWhole}
 use Rattle.node_core.specs.Spelling.{AllCanBeTaken, IsShort}
-use Rattle.node_core.specs.Works.{NodeDid, NodeStopped, IsLikewise, fault_of}
+use Rattle.node_core.specs.Works.{fault_of}
 use Rattle.node_core.specs.Filed.{with_filed}
-use Rattle.node_core.specs.Delivering.{next_id, next_stamp, next_targets, filed_where, delivering, DeliveryBegun, DeliveryStopped, BeginsDelivery}
+use Rattle.node_core.specs.Delivering.{next_id, next_stamp, next_targets, filed_where, delivering, DeliveryStopped, BeginsDelivery}
 use Rattle.node_core.specs.declared.outbox.Outbox.{Outbox}
 use Rattle.node_core.specs.declared.numbers.Numbers.{Numbers}
 use Rattle.node_core.specs.declared.node.Node.{Node}

@@ -1,27 +1,25 @@
 -- Work on a node's store as work of the node.
 use Rattle.std.proofs.Common.{◌≡◌, ◌<◌, ℕ, List, Some, sym, ap, subst, ◌∙◌}
-use Rattle.std.specs.Prelude.{All, Result, Ok, Err}
-use Rattle.mail_model.specs.Plan.{Plan}
+use Rattle.std.specs.Prelude.{All}
 use Rattle.mail_model.specs.Record.{Record}
 use Rattle.mail_model.specs.Grammar.{IsRecord}
 use Rattle.object_model.specs.UpdateLog.{Log}
 use Rattle.object_model.specs.Letters.{Body, Letter}
 use Rattle.cluster_model.specs.Cluster as plain
 use Rattle.cluster_model.specs.Store.{Store, Update}
-use Rattle.cluster_model.specs.Rules.{Reaction, store_of, with_updates, drawn_past}
+use Rattle.cluster_model.specs.Rules.{Reaction, with_updates, drawn_past}
 use Rattle.cluster_model.specs.Thrown.{with_stamps}
 use Rattle.disk_journal.specs.Journal.{end_of}
 use Rattle.node_store.specs.Disks.{View}
 use Rattle.node_store.specs.Appends.{AppendsRecords, StopsAfter}
-use Rattle.node_store.specs.Keeps.{KeepsRecords, seen_with, CanGoOn}
-use Rattle.node_store.specs.Writes.{Done, IsCutShort, WroteChange}
+use Rattle.node_store.specs.Keeps.{KeepsRecords, seen_with}
+use Rattle.node_store.specs.Writes.{Done, IsCutShort}
 use Rattle.node_store.specs.declared.store.NodeStore.{NodeStore}
-use Rattle.node_store.specs.declared.fault.KeepFault.{KeepFault}
 use Rattle.node_store.proofs.Works.{done_none, done_stopped}
 use Rattle.cluster_model.specs.Starts.{first_membership}
 use Rattle.node_tickets.specs.Standing.{IsOf, tickets_in}
 use Rattle.node_tickets.specs.declared.tickets.Tickets.{Tickets}
-use Rattle.node_core.specs.Nodes.{node_seen, Keeps, end_in, IsShape, IsWhole, CanWork, IsNodeOf, IsSameNode}
+use Rattle.node_core.specs.Nodes.{node_seen, Keeps, end_in, IsShape, IsWhole, CanWork, IsSameNode}
 use Rattle.node_core.specs.Spelling.{AllCanBeTaken}
 use Rattle.node_core.specs.Works.{Rule, NodeDid, NodeStopped, HasLearned, IsLikewise}
 use Rattle.node_core.specs.declared.shape.Shape.{Shape}

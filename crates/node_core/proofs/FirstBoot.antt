@@ -1,12 +1,10 @@
 -- A node that starts in its first boot.
-use Rattle.std.proofs.Common.{◌≡◌, ◌+◌, ◌<◌, ◌≤◌, ℕ, List, [], ◌∷◌, ◌++◌, Option, Some, None, refl, sym, ap, subst, ◌∙◌, arith}
+use Rattle.std.proofs.Common.{◌≡◌, ◌<◌, ◌≤◌, ℕ, List, [], ◌∷◌, Some, sym, ap, subst, ◌∙◌, arith}
 use Rattle.std.specs.FinMap as fin
 use Rattle.mail_model.specs.Plan.{Plan}
 use Rattle.mail_model.specs.Record.{Record, payloads_of}
 use Rattle.mail_model.specs.Record.Record.{Boot}
-use Rattle.cluster_model.specs.Cluster as plain
 use Rattle.cluster_model.specs.Starts.{first_membership}
-use Rattle.object_model.specs.UpdateLog.{Log}
 use Rattle.disk_journal.specs.Journal.{TellsJournal, end_of}
 use Rattle.node_store.specs.Disks.{View}
 use Rattle.node_store.specs.Changes.{IsNew, with_boot}
@@ -14,8 +12,8 @@ use Rattle.node_store.specs.Keeps.{KeepsRecords}
 use Rattle.node_store.specs.Writes.{Done}
 use Rattle.node_store.specs.declared.store.NodeStore.{NodeStore}
 use Rattle.node_tickets.specs.Standing.{IsOf, tickets_in}
-use Rattle.node_core.specs.First.{fresh_node, IsFirst}
-use Rattle.node_core.specs.Nodes.{node_seen, end_in, IsShape, IsWhole}
+use Rattle.node_core.specs.First.{IsFirst}
+use Rattle.node_core.specs.Nodes.{end_in}
 use Rattle.node_core.specs.declared.node.Node.{Node}
 
 module _ {D : Type 0} (on : View D) (plan : Plan) (own : ℕ) (before mid after : D) (store : NodeStore) (fresh : IsNew own store) (stood : TellsJournal (on.seen mid) own [] (end_of store.journal))

@@ -1,5 +1,5 @@
 -- The records that a node adds are ones that a record can spell.
-use Rattle.std.proofs.Common.{◌≡◌, ℕ, List, [], ◌∷◌, ◌++◌, Bool, true, false, cond, nat_eq, Option, Some, None, map, refl, sym, subst, ◌∙◌}
+use Rattle.std.proofs.Common.{◌≡◌, ℕ, List, [], ◌∷◌, ◌++◌, Bool, true, false, cond, nat_eq, Option, Some, None, refl, subst}
 use Rattle.std.specs.Prelude.{All}
 use Rattle.std.proofs.lemmas.List.Elements.{All-nil, All-cons, All-append, All-head, All-tail}
 use Rattle.mail_model.specs.Names.{IsLowerName}
@@ -7,7 +7,7 @@ use Rattle.mail_model.specs.Identity.{Id, Stamp, Key, State}
 use Rattle.mail_model.specs.Identity.Key.{Profile, Message}
 use Rattle.mail_model.specs.Identity.Value.{Here, Gone}
 use Rattle.mail_model.specs.Record.{Record}
-use Rattle.mail_model.specs.Record.Record.{Boot, Promise, Octets, Stated, Retired}
+use Rattle.mail_model.specs.Record.Record.{Octets, Stated, Retired}
 use Rattle.mail_model.specs.Grammar.{IsId, IsStamp, IsCount, IsKey, IsObject, IsRecord}
 use Rattle.object_model.specs.Sets.{without_node}
 use Rattle.object_model.specs.States.{join_with, is_news}

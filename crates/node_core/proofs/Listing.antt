@@ -1,20 +1,17 @@
 -- What a Login finds is the listing of its mailbox.
-use Rattle.std.proofs.Common.{◌≡◌, ◌≢◌, ◌⊎◌, inl, inr, ⊎_elim, ℕ, zero, suc, ◌+◌, ◌<◌, ◌≤◌, Bool, true, false, cond, List, [], ◌∷◌, ◌++◌, length, map, get_or, All, AllPairs, Option, Some, None, refl, sym, ap, subst, ◌∙◌, true≢false, arith}
-use Rattle.std.specs.Prelude.{◌↔◌, option_map}
+use Rattle.std.proofs.Common.{◌≡◌, ◌≢◌, inl, inr, ℕ, zero, suc, ◌+◌, ◌<◌, ◌≤◌, Bool, true, false, cond, List, [], ◌∷◌, length, map, get_or, All, AllPairs, Option, Some, None, refl, sym, ap, subst, ◌∙◌, true≢false, arith}
 use Rattle.std.specs.Ordering.{nat_cmp, is_lt, ordering_reverse, ordering_then}
 use Rattle.std.specs.declared.cmp.Ordering.{Ordering}
 use Rattle.std.specs.declared.cmp.Ordering.TheVariants.{Less, Equal, Greater}
 use Rattle.std.specs.Cmp.{IsTotalOrder, IsStrictWeakOrder, tied_itself}
 use Rattle.std.specs.FinMap as fin
 use Rattle.std.specs.List.{AllByRecursion, Contains, sum_by}
-use Rattle.std.specs.List.Sorted.{IsPermutation, IsSortedBy, IsStrictlySortedBy}
-use Rattle.std.proofs.lemmas.Bool.{and_parts}
+use Rattle.std.specs.List.Sorted.{IsPermutation, IsStrictlySortedBy}
 use Rattle.std.proofs.lemmas.Cmp.{then_total, on_total, nat_cmp_total}
 use Rattle.std.proofs.lemmas.List.Elements.{All-map}
 use Rattle.std.proofs.lemmas.List.Kept.{AllPairs-cons}
 use Rattle.std.proofs.lemmas.List.Sorted.{ranks_by, sorted_far, IsPermutation-map, IsPermutation-sym, Contains-permutation, sum_by-IsPermutation}
 use Rattle.std.proofs.lemmas.List.Sums.{sum_by-cons}
-use Rattle.std.proofs.lemmas.Map.Lookups.{exact_unsigned}
 use Rattle.mail_model.specs.Identity.{Id, State, Value}
 use Rattle.mail_model.specs.Identity.Value.{Here, Gone, Secret}
 use Rattle.mail_model.specs.Identity.Key.{Message}
@@ -37,7 +34,7 @@ use Rattle.cluster_model.proofs.Listings.{each_of}
 use Rattle.node_store.specs.Mailboxes.{AreIdsHere}
 use Rattle.node_tickets.specs.Seen.{copy_seen, found_in}
 use Rattle.node_core.specs.Nodes.{Keeps}
-use Rattle.node_core.specs.Listing.{copy_by, copy_if, copy_of, with_copy, copies_for, comes_first, AreInOrder, MailboxFound}
+use Rattle.node_core.specs.Listing.{copy_if, copy_of, with_copy, copies_for, comes_first, AreInOrder, MailboxFound}
 use Rattle.node_core.specs.declared.node.Node.{Node}
 
 -- a copy that stands in a listing, and one that does not

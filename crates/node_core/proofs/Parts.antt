@@ -1,11 +1,8 @@
 -- Calls that read the own disk alone.
-use Rattle.std.proofs.Common.{◌≡◌, ◌≢◌, ◌<◌, ◌≤◌, ◌⊎◌, inl, inr, ⊎_elim, ℕ, ◌+◌, List, [], ◌∷◌, ◌++◌, length, take, drop, Bool, true, false, cond, ◌&&◌, ◌||◌, nat_lt, Option, Some, None, is_some, refl, sym, ap, subst, ◌∙◌, append-nil, le-ltb, arith}
-use Rattle.std.specs.Prelude.{IsTrue, IfSome, option_map, Vec, Result, Ok, Err}
-use Rattle.std.specs.declared.alloc.Global.{Global}
+use Rattle.std.proofs.Common.{◌≡◌, ◌≤◌, ◌⊎◌, inl, inr, ⊎_elim, ℕ, ◌+◌, List, [], ◌++◌, length, take, drop, Bool, true, false, cond, ◌&&◌, ◌||◌, nat_lt, Option, Some, None, is_some, refl, sym, ap, subst, ◌∙◌, append-nil, le-ltb, arith}
+use Rattle.std.specs.Prelude.{IfSome, option_map, Result, Ok, Err}
 use Rattle.std.specs.FinMap as fin
 use Rattle.io_edge.specs.Causes.{Rose}
-use Rattle.io_edge.specs.Octets.{IsToldAlike}
-use Rattle.io_edge.specs.Moments.{Keeps as KeepsImages}
 use Rattle.io_edge.proofs.Passing.{weaker}
 use Rattle.mail_model.specs.Identity.{Id}
 use Rattle.mail_model.specs.Identity.Key.{Message}
@@ -13,44 +10,40 @@ use Rattle.mail_model.specs.Listing.{octets_in}
 use Rattle.mail_model.specs.Plan.{Plan}
 use Rattle.mail_model.specs.Record.{Record, IsJournal, payloads_of}
 use Rattle.object_model.specs.Said.{said}
-use Rattle.object_model.specs.Letters.{Number, Letter}
+use Rattle.object_model.specs.Letters.{Number}
 use Rattle.object_model.specs.UpdateLog.{Log}
 use Rattle.object_model.specs.Mishaps.{no_mishaps}
-use Rattle.cluster_model.specs.Cluster as plain
 use Rattle.cluster_model.specs.Cluster.{CallKind}
-use Rattle.cluster_model.specs.Cluster.CallKind.{Fetching}
-use Rattle.cluster_model.specs.Reads.{Found, IsPart, is_here_held, has_copy}
+use Rattle.cluster_model.specs.Reads.{Found, is_here_held, has_copy}
 use Rattle.cluster_model.specs.Reads.Found.{PartOf, NotThere}
-use Rattle.cluster_model.specs.Rules.{Reaction, begin_read, new_number}
-use Rattle.cluster_model.specs.Steps.{NodeCall, fails_at_once, ids_drawn, stamps_drawn, tickets_drawn, is_worn_for, greatest}
+use Rattle.cluster_model.specs.Rules.{begin_read, new_number}
+use Rattle.cluster_model.specs.Steps.{NodeCall, is_worn_for, greatest}
 use Rattle.cluster_model.specs.Steps.NodeCall.{Fetch, Leave}
-use Rattle.cluster_model.specs.Makes.{IsFetched, IsFound, kind_of_call}
+use Rattle.cluster_model.specs.Makes.{IsFound, kind_of_call}
 use Rattle.cluster_model.specs.Makes.IsFetched.{HasPart, HasNone}
 use Rattle.call_tickets.specs.declared.answer.Answer.{Answer}
-use Rattle.call_tickets.specs.declared.answer.Answer.TheVariants.{Part, GoneAlready}
+use Rattle.call_tickets.specs.declared.answer.Answer.TheVariants.{GoneAlready}
 use Rattle.disk_journal.specs.Journal.{TellsJournal, HasGate, EndsAt, end_of}
-use Rattle.disk_journal.specs.Images.{Extends, Ends}
+use Rattle.disk_journal.specs.Images.{Extends}
 use Rattle.node_store.specs.Disks.{View}
 use Rattle.node_store.specs.Appends.{AppendsRecords}
-use Rattle.node_store.specs.Keeps.{KeepsRecords, seen_with, CanGoOn}
-use Rattle.node_store.specs.Reads.{part_in, given_octets, TellsKept, GivesWanted, ReadsWanted}
+use Rattle.node_store.specs.Keeps.{KeepsRecords, CanGoOn}
+use Rattle.node_store.specs.Reads.{part_in, TellsKept, GivesWanted}
 use Rattle.node_store.specs.Writes.{Done}
 use Rattle.node_store.specs.declared.store.NodeStore.{NodeStore}
 use Rattle.node_store.specs.declared.fault.ReadFault.TheVariants as fault
 use Rattle.node_tickets.specs.Seen.{found_in}
 use Rattle.node_core.specs.Nodes.{node_seen, Keeps, end_in, CanWork, IsNodeOf, IsAsBefore}
 use Rattle.node_core.specs.Spelling.{AllCanBeTaken}
-use Rattle.node_core.specs.Works.{Rule, NodeDid, IsOnlyRead, ReadFailed, IsLikewise}
-use Rattle.node_core.specs.Failing.{lacks_numbers}
-use Rattle.node_core.specs.Reading.{copy_size, PartRead, ReadsPart, CallRead, AnswersRead}
-use Rattle.node_core.specs.Beginning.{CallDid, CallBegun, CallFailed, NodeBegins}
+use Rattle.node_core.specs.Works.{IsOnlyRead, ReadFailed}
+use Rattle.node_core.specs.Reading.{copy_size, PartRead, ReadsPart, AnswersRead}
+use Rattle.node_core.specs.Beginning.{CallDid, CallFailed, NodeBegins}
 use Rattle.node_core.specs.declared.fault.NodeFault.{NodeFault}
 use Rattle.node_core.specs.declared.fault.NodeFault.TheVariants.{Disk, Worn, NoMemory}
 use Rattle.node_core.specs.declared.outbox.Outbox.{Outbox}
 use Rattle.node_core.specs.declared.node.Node.{Node}
 use Rattle.node_core.proofs.Doing.{did_by}
 use Rattle.node_core.proofs.Sending.{none_fit}
-use Rattle.node_core.proofs.Begun.{worn_goes, untouched}
 
 pub as_it_is : (node : Node) → IsAsBefore node node
 as_it_is node = record { seen = refl; same = λ plan own p. p; keeps = λ records k. k; works = λ seen w. w; end_is = refl }

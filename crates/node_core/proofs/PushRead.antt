@@ -1,6 +1,6 @@
 -- Readings that a node makes for what it pushes.
-use Rattle.std.proofs.Common.{◌≡◌, ◌<◌, ◌≤◌, ◌+◌, ◌⊎◌, inl, inr, ⊎_elim, ℕ, List, [], ◌∷◌, ◌++◌, length, map, flat_map, replicate, Bool, true, false, cond, Option, Some, None, IfSome, option_map, refl, sym, ap, subst, ◌∙◌, arith, append_assoc, append-nil}
-use Rattle.std.specs.Prelude.{All, Result, Ok, Err}
+use Rattle.std.proofs.Common.{◌≡◌, ◌≤◌, ◌+◌, ◌⊎◌, inl, inr, ⊎_elim, ℕ, List, [], ◌∷◌, ◌++◌, length, map, replicate, Bool, true, false, cond, Option, Some, None, IfSome, option_map, refl, sym, ap, subst, ◌∙◌, arith, append_assoc}
+use Rattle.std.specs.Prelude.{Result, Ok, Err}
 use Rattle.std.specs.FinMap as fin
 use Rattle.std.proofs.lemmas.List.{map-append}
 use Rattle.std.proofs.lemmas.List.Elements.{All-nil, All-cons, All-append}
@@ -14,18 +14,17 @@ use Rattle.object_model.specs.Letters.{Letter}
 use Rattle.object_model.specs.Letters.Body.{Push}
 use Rattle.object_model.specs.Sets.{has}
 use Rattle.object_model.specs.UpdateLog.{Logged}
-use Rattle.cluster_model.specs.Cluster as plain
 use Rattle.cluster_model.specs.Cluster.{epoch_of}
 use Rattle.cluster_model.specs.Rules.{pushed_octets, push_of, push}
-use Rattle.cluster_model.specs.Room.{octets_of_all, due_to}
-use Rattle.disk_journal.specs.Journal.{TellsJournal, largest}
+use Rattle.cluster_model.specs.Room.{due_to}
+use Rattle.disk_journal.specs.Journal.{TellsJournal}
 use Rattle.node_store.specs.Disks.{View}
 use Rattle.node_store.specs.Reads.{TellsKept, GivesWanted}
-use Rattle.node_core.specs.Nodes.{node_seen, Keeps, end_in, CanWork, IsNodeOf}
-use Rattle.node_core.specs.Spelling.{IsShort, CanBeTaken, AllCanBeTaken}
-use Rattle.node_core.specs.Works.{IsOnlyRead, ReadFailed}
-use Rattle.node_core.specs.Pushing.{untold, pushed_by, keys_within, first_within, NodePushed, PushesOut}
-use Rattle.node_core.specs.PushReads.{AreShort, IsRead, Gives, Reads, ReadsOctets, ReadsLetters}
+use Rattle.node_core.specs.Nodes.{node_seen, Keeps, end_in}
+use Rattle.node_core.specs.Spelling.{CanBeTaken, AllCanBeTaken}
+use Rattle.node_core.specs.Works.{IsOnlyRead}
+use Rattle.node_core.specs.Pushing.{untold, pushed_by, keys_within, NodePushed, PushesOut}
+use Rattle.node_core.specs.PushReads.{AreShort, IsRead, Gives, Reads, ReadsLetters}
 use Rattle.node_core.specs.declared.fault.NodeFault.{NodeFault}
 use Rattle.node_core.specs.declared.fault.NodeFault.TheVariants.{Disk, Worn, NoMemory}
 use Rattle.node_core.specs.declared.outbox.Outbox.{Outbox}

@@ -1,5 +1,5 @@
 -- Which keys are pushed, and what their letters count for.
-use Rattle.std.proofs.Common.{◌≡◌, ◌<◌, ◌≤◌, ◌+◌, ◌-◌, ℕ, zero, suc, nat_lt, nat_le, nat_eq, List, [], ◌∷◌, ◌++◌, length, map, take, flat_map, filter, Bool, true, false, not, ◌&&◌, ◌||◌, cond, T, Option, Some, None, option_map, refl, sym, ap, subst, ◌∙◌, arith, lt-ltb, le-ltb, ltb-true, ltb-false, le-leb, leb-true, leb-false, true≢false, length-append}
+use Rattle.std.proofs.Common.{◌≡◌, ◌<◌, ◌≤◌, ◌+◌, ◌-◌, ℕ, zero, suc, nat_lt, nat_le, nat_eq, List, [], ◌∷◌, ◌++◌, length, map, take, flat_map, filter, Bool, true, false, not, ◌&&◌, ◌||◌, cond, T, Option, Some, None, refl, sym, ap, ◌∙◌, arith, lt-ltb, le-ltb, le-leb, leb-true, leb-false, length-append}
 use Rattle.std.specs.List.{list_any}
 use Rattle.std.proofs.lemmas.Bool.{lt-leb}
 use Rattle.std.specs.FinMap as fin
@@ -9,7 +9,7 @@ use Rattle.std.specs.Ordering.{eq_by_cmp, is_eq, is_lt, ordering_reverse}
 use Rattle.std.specs.Cmp.{tied_itself, Equal-is}
 use Rattle.std.proofs.lemmas.List.{length-replicate}
 use Rattle.std.specs.declared.cmp.Ordering.TheVariants.{Less, Equal, Greater}
-use Rattle.mail_model.specs.Identity.{Key, State}
+use Rattle.mail_model.specs.Identity.{Key}
 use Rattle.mail_model.specs.Record.{Record}
 use Rattle.object_model.specs.Keys.{key_cmp}
 use Rattle.object_model.specs.Sets.{has}
@@ -19,9 +19,9 @@ use Rattle.object_model.specs.Letters.Body.{Push}
 use Rattle.object_model.proofs.MapLaws.{key_total}
 use Rattle.cluster_model.specs.Cluster as plain
 use Rattle.cluster_model.specs.Cluster.{epoch_of, members_of}
-use Rattle.cluster_model.specs.Rules.{push_of, push, pushed_octets}
-use Rattle.cluster_model.specs.Room.{Flight, octets_of, octets_of_all, message_octets, octets_flying, most_letters, most_octets, fits, fitting, due_to, keys_pushed}
-use Rattle.node_core.specs.Pushing.{first_within, keys_within, pushed_by, zeros, untold_body, untold}
+use Rattle.cluster_model.specs.Rules.{push_of, pushed_octets}
+use Rattle.cluster_model.specs.Room.{Flight, octets_of, octets_of_all, message_octets, octets_flying, fits, fitting, due_to, keys_pushed}
+use Rattle.node_core.specs.Pushing.{first_within, keys_within, pushed_by, untold_body, untold}
 
 -- each of these entries is found under its key
 abbrev EachFound : List (Key × Logged) → List (Key × Logged) → Type 0

@@ -1,12 +1,11 @@
 -- A node that starts over what a stop of the machine left.
-use Rattle.std.proofs.Common.{◌≡◌, ◌⊎◌, inl, inr, ⊎_elim, ◌<◌, ◌≤◌, ◌^◌, ◌+◌, ◌&&◌, ℕ, max, List, [], ◌∷◌, ◌++◌, length, Bool, true, false, cond, nat_eq, Option, Some, None, IfSome, refl, sym, ap, subst, ◌∙◌, arith, append-nil, append_assoc}
-use Rattle.std.specs.Prelude.{All, Result, Err}
+use Rattle.std.proofs.Common.{◌≡◌, ◌⊎◌, inl, inr, ⊎_elim, ◌<◌, ◌≤◌, ◌+◌, ◌&&◌, ℕ, max, List, [], ◌∷◌, ◌++◌, true, false, cond, nat_eq, Option, Some, None, IfSome, refl, sym, ap, subst, ◌∙◌, arith, append-nil, append_assoc}
+use Rattle.std.specs.Prelude.{All, Err}
 use Rattle.std.specs.FinMap as fin
 use Rattle.std.proofs.lemmas.List.Elements.{All-nil, All-cons, All-append, All-head, All-tail}
 use Rattle.io_edge.specs.Causes.{Rose}
 use Rattle.io_edge.specs.Moments.{Passed, Keeps as KeepsImages, Restarts, IsOnly}
 use Rattle.io_edge.proofs.Passing.{weaker, passes}
-use Rattle.mail_model.specs.Identity.{Key, State}
 use Rattle.mail_model.specs.Record.{Record, IsJournal, payload_of, payloads_of}
 use Rattle.mail_model.specs.Record.Record.{Boot, Promise, Octets, Stated, Retired}
 use Rattle.mail_model.specs.Grammar.{IsRecord, IsCount}
@@ -19,7 +18,7 @@ use Rattle.cluster_model.specs.Starts.{drawn_on, greatest_count_on, log_after, o
 use Rattle.disk_journal.specs.Journal.{EndsAt, TellsJournal}
 use Rattle.disk_journal.specs.Images.{Extends, Adds}
 use Rattle.node_store.specs.Disks.{View}
-use Rattle.node_store.specs.Reopens.{IsReopened, KeepsNoRecords}
+use Rattle.node_store.specs.Reopens.{IsReopened}
 use Rattle.node_store.specs.declared.recovered.Recovered.{Recovered}
 use Rattle.node_store.specs.declared.store.NodeStore.{NodeStore}
 use Rattle.std.proofs.lemmas.List.{map-append}

@@ -1,5 +1,5 @@
 -- The letters that find room.
-use Rattle.std.proofs.Common.{◌≡◌, ◌≢◌, ◌<◌, ◌≤◌, ◌-◌, ◌+◌, ℕ, zero, suc, nat_le, List, [], ◌∷◌, map, take, Bool, true, false, cond, refl, sym, ap, subst, ◌∙◌, leb-true, arith}
+use Rattle.std.proofs.Common.{◌≡◌, ◌<◌, ◌-◌, ◌+◌, ℕ, zero, suc, nat_le, List, [], ◌∷◌, take, Bool, true, false, cond, refl, sym, ap, ◌∙◌, leb-true, arith}
 use Rattle.mail_model.specs.Identity.{Key}
 use Rattle.object_model.specs.Letters.{Letter}
 use Rattle.cluster_model.specs.Room.{octets_of_all}

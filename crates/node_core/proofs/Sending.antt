@@ -1,6 +1,5 @@
 -- The letters that a node sends.
-use Rattle.std.proofs.Common.{◌≡◌, ◌≤◌, ◌<◌, ℕ, zero, suc, ◌+◌, List, [], ◌∷◌, ◌++◌, length, map, Bool, true, false, cond, not, ◌&&◌, nat_eq, Option, Some, None, refl, ap, subst, sym, ◌∙◌, arith}
-use Rattle.std.specs.Prelude.{All}
+use Rattle.std.proofs.Common.{◌≡◌, ◌≤◌, ◌<◌, ℕ, zero, suc, ◌+◌, List, [], ◌∷◌, ◌++◌, length, map, Bool, true, false, cond, not, ◌&&◌, nat_eq, Option, Some, None, refl, arith}
 use Rattle.std.proofs.lemmas.List.{length-append}
 use Rattle.std.proofs.lemmas.List.Elements.{All-nil, All-cons}
 use Rattle.mail_model.specs.Identity.{EpochId, Key, State}
@@ -10,7 +9,7 @@ use Rattle.object_model.specs.Letters.Body.{File, Filed, LoginAsk, LoginTold, Li
 use Rattle.cluster_model.specs.Rules.{answer, receivers, letters_to}
 use Rattle.node_core.specs.Spelling.{CanBeTaken, AllCanBeTaken}
 use Rattle.node_core.specs.Answering.{answers_to}
-use Rattle.node_core.specs.Weights.{weight_of_body, weight_of, weight_of_all}
+use Rattle.node_core.specs.Weights.{weight_of_body, weight_of_all}
 
 -- one letter that its receiver can take
 pub one_fits : (letter : Letter) → CanBeTaken letter.body → AllCanBeTaken (letter ∷ [])

@@ -1,15 +1,13 @@
 -- A deletion that a node begins.
-use Rattle.std.proofs.Common.{◌≡◌, ℕ, suc, ◌+◌, List, [], ◌∷◌, ◌++◌, length, map, Bool, true, false, cond, nat_eq, Option, Some, None, refl, sym, ap, subst, ◌∙◌, arith}
-use Rattle.std.specs.Prelude.{All, Result, Ok, Err}
+use Rattle.std.proofs.Common.{◌≡◌, ℕ, suc, ◌+◌, List, [], ◌∷◌, ◌++◌, length, map, Bool, false, cond, nat_eq, Some, None, refl, sym, ap, subst, ◌∙◌, arith}
+use Rattle.std.specs.Prelude.{All, Ok, Err}
 use Rattle.std.specs.FinMap as fin
 use Rattle.std.proofs.lemmas.List.{length-map}
 use Rattle.mail_model.specs.Identity.{Id, EpochId}
-use Rattle.mail_model.specs.Grammar.{IsObject, IsStamp, IsRecord}
-use Rattle.mail_model.specs.Record.{Record}
+use Rattle.mail_model.specs.Grammar.{IsObject}
 use Rattle.object_model.specs.Sets.{all_nodes, nodes_in}
 use Rattle.object_model.specs.UpdateLog.{Log}
 use Rattle.object_model.specs.Letters.{Number, DeletionMark, Letter}
-use Rattle.object_model.specs.Letters.Body.{Strike}
 use Rattle.cluster_model.specs.Cluster as plain
 use Rattle.cluster_model.specs.Cluster.AskedOfNodes.{Deletion}
 use Rattle.cluster_model.specs.Cluster.{epoch_of, members_of}
@@ -27,10 +25,10 @@ use Rattle.node_store.specs.declared.fault.KeepFault.TheVariants as keep
 use Rattle.node_store.specs.declared.store.NodeStore.{NodeStore}
 use Rattle.node_tickets.specs.declared.tickets.Tickets.{Tickets}
 use Rattle.node_tickets.specs.Standing.{IsOf, tickets_in, ticket_of_deletion}
-use Rattle.node_core.specs.Nodes.{node_seen, Keeps, IsWhole}
-use Rattle.node_core.specs.Spelling.{CanBeTaken, AllCanBeTaken}
-use Rattle.node_core.specs.Works.{NodeDid, NodeStopped, fault_of}
-use Rattle.node_core.specs.Striking.{next_dated, asked_of_members, striking, StrikeBegun, StrikeStopped, BeginsStrike}
+use Rattle.node_core.specs.Nodes.{node_seen, IsWhole}
+use Rattle.node_core.specs.Spelling.{AllCanBeTaken}
+use Rattle.node_core.specs.Works.{fault_of}
+use Rattle.node_core.specs.Striking.{next_dated, asked_of_members, striking, StrikeStopped, BeginsStrike}
 use Rattle.node_core.specs.declared.outbox.Outbox.{Outbox}
 use Rattle.node_core.specs.declared.numbers.Numbers.{Numbers}
 use Rattle.node_core.specs.declared.node.Node.{Node}

@@ -1,5 +1,5 @@
 -- A deletion that a node begins, for every plan whose node it is.
-use Rattle.std.proofs.Common.{◌≡◌, ℕ, List, [], length, true, false, nat_lt, Option, Some, None, refl, sym, ap, subst, ◌∙◌}
+use Rattle.std.proofs.Common.{◌≡◌, ℕ, List, [], length, true, false, nat_lt, Option, Some, refl, ap, ◌∙◌}
 use Rattle.std.specs.Prelude.{Result, Ok, Err}
 use Rattle.mail_model.specs.Plan.{Plan}
 use Rattle.mail_model.specs.Record.{Record}

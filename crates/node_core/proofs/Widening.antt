@@ -1,5 +1,5 @@
 -- A copy that gets a target more, as the machine's node does it.
-use Rattle.std.proofs.Common.{◌≡◌, ◌<◌, ◌≤◌, ℕ, max, List, [], ◌∷◌, Bool, true, false, not, ◌&&◌, cond, Option, Some, None, is_some, refl, sym, ap, subst, ◌∙◌, arith}
+use Rattle.std.proofs.Common.{◌≡◌, ◌≤◌, ℕ, max, List, [], ◌∷◌, Bool, true, false, not, ◌&&◌, cond, Option, Some, None, is_some, refl, sym, ap, subst, ◌∙◌, arith}
 use Rattle.std.specs.Prelude.{All}
 use Rattle.std.proofs.lemmas.Nat.{le_or_l}
 use Rattle.mail_model.specs.Identity.{Key, State}
@@ -9,10 +9,9 @@ use Rattle.mail_model.specs.Record.{Record}
 use Rattle.object_model.specs.Said.{said}
 use Rattle.object_model.specs.Sets.{has, with_node, one_node}
 use Rattle.object_model.specs.UpdateLog.{Log}
-use Rattle.object_model.specs.Letters.{Letter}
 use Rattle.cluster_model.specs.Cluster as plain
 use Rattle.cluster_model.specs.Starts.{first_membership}
-use Rattle.cluster_model.specs.Store.{Store, Update, take_one, take_all}
+use Rattle.cluster_model.specs.Store.{Store, Update, take_all}
 use Rattle.cluster_model.specs.Rules.{Reaction, idle, can_widen, widened, widen, with_updates, greatest_named}
 use Rattle.replica_push.specs.Pushes.{wider}
 use Rattle.mail_base.proofs.Sets.{with_small}

@@ -1,5 +1,5 @@
 -- A call that fails at once.
-use Rattle.std.specs.Prelude.{◌≡◌, ◌+◌, ◌||◌, ℕ, Bool, true, false, nat_lt, List, [], Option, Some, None, Result, Ok, Err, if◌then◌else◌}
+use Rattle.std.specs.Prelude.{◌≡◌, ◌+◌, ◌||◌, ℕ, Bool, true, false, nat_lt, [], Option, Some, None, Result, Ok, Err, if◌then◌else◌}
 use Rattle.object_model.specs.Letters.{Number}
 use Rattle.object_model.specs.Mishaps.{Mishaps, no_mishaps, counted}
 use Rattle.object_model.specs.Mishaps.MishapKind.{FewMembers, Year}

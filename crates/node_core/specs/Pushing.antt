@@ -1,7 +1,7 @@
 -- What a node pushes, and how it widens a copy.
 use Rattle.std.specs.Prelude.{◌≡◌, ◌≤◌, ◌-◌, ℕ, zero, suc, nat_le, List, [], ◌∷◌, length, map, replicate, Bool, true, false, Option, Some, None, option_map, IfSome, Result, Ok, Err, ⊤, if◌then◌else◌}
 use Rattle.std.specs.FinMap as fin
-use Rattle.mail_model.specs.Identity.{Key, State}
+use Rattle.mail_model.specs.Identity.{Key}
 use Rattle.mail_model.specs.Record.{Record, payloads_of}
 use Rattle.object_model.specs.Said.{said}
 use Rattle.object_model.specs.Letters.{Body, Letter}

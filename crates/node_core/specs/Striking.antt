@@ -3,7 +3,6 @@ use Rattle.std.specs.Prelude.{◌≡◌, ℕ, true, false, List, map, Option, So
 use Rattle.mail_model.specs.Identity.{Id}
 use Rattle.object_model.specs.Sets.{nodes_in}
 use Rattle.object_model.specs.Letters.{Number}
-use Rattle.cluster_model.specs.Cluster as plain
 use Rattle.cluster_model.specs.Cluster.{members_of}
 use Rattle.cluster_model.specs.Rules.{StrikeItem, begin_strike, dated, new_number}
 use Rattle.cluster_model.specs.Steps.{Struck}

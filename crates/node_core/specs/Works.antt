@@ -1,5 +1,5 @@
 -- What a call makes of a node and of its disk, in the machine's words, whatever the records of the disk are.
-use Rattle.std.specs.Prelude.{◌≡◌, ◌⊎◌, ◌<◌, ◌≤◌, ◌+◌, ℕ, List, [], ◌++◌, length, All, true, false, ⊤, None, Some, Result, Ok, Err}
+use Rattle.std.specs.Prelude.{◌≡◌, ◌⊎◌, ◌≤◌, ◌+◌, ℕ, List, [], ◌++◌, All, true, false, ⊤, None, Result, Ok, Err}
 use Rattle.io_edge.specs.Causes.{Rose}
 use Rattle.io_edge.specs.Moments.{Keeps as KeepsImages}
 use Rattle.mail_model.specs.Record.{Record, payloads_of}

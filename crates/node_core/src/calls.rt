@@ -1,11 +1,7 @@
 //! The tickets of a node.
-ghost use Rattle.std.specs.Prelude.{◌≡◌, ◌&&◌, not, nat_eq, nat_lt, ℕ, length, List, is_some};
-ghost use Rattle.std.specs.List.{list_all, list_any};
+ghost use Rattle.std.specs.Prelude.{◌≡◌, ℕ, is_some};
 ghost use Rattle.std.specs.Option.{option_copied};
-ghost use Rattle.object_model.specs.Sets.{has, nodes_in};
-ghost use Rattle.object_model.specs.UpdateLog.{owes};
-ghost use Rattle.cluster_model.specs.Cluster.{members_of};
-ghost use Rattle.cluster_model.specs.Room.{due_to};
+ghost use Rattle.object_model.specs.Sets.{has};
 ghost use Rattle.node_tickets.specs.Seen.{kind_of_mishap};
 ghost use Rattle.node_tickets.specs.Standing.{filed_seen, asks_seen, asks_at, asked_out, befell_in, ticket_taken_out, waits_at, call_kind_seen, kind_of_ticket, wants_at, filing_at, done_at};
 ghost use Rattle.node_core.specs.Nodes.{node_seen, IsWhole, ChangesTickets};

@@ -1,6 +1,5 @@
 //! Letters that a node sends.
 ghost use Rattle.std.specs.Prelude.{◌≡◌, ◌∷◌, [], map, IfOk};
-ghost use Rattle.object_model.specs.Letters.{Letter as PlainLetter};
 ghost use Rattle.mail_base.specs.Bodies.{body_seen};
 ghost use Rattle.cluster_model.specs.Rules.{answer, letters_to};
 ghost use Rattle.node_core.specs.Answering.{answers_to};

@@ -1,5 +1,5 @@
 //! The members of a node's epoch, and the numbers that it draws for calls.
-ghost use Rattle.std.specs.Prelude.{◌≡◌, ◌<◌, ◌≤◌, ◌+◌, ◌-◌, ◌^◌, ◌||◌, nat_lt, length, IfOk};
+ghost use Rattle.std.specs.Prelude.{◌≡◌, ◌<◌, ◌≤◌, ◌+◌, ◌-◌, ◌||◌, nat_lt, length, IfOk};
 ghost use Rattle.mail_model.specs.Grammar.{IsStamp};
 ghost use Rattle.object_model.specs.Sets.{nodes_in};
 ghost use Rattle.cluster_model.specs.Cluster.{members_of};

@@ -1,5 +1,5 @@
 //! Sets and lists of nodes.
-ghost use Rattle.std.specs.Prelude.{◌≡◌, ◌++◌, ◌≤◌, ◌<◌, ◌-◌, ◌^◌, not, nat_lt, length, take, drop, IfOk};
+ghost use Rattle.std.specs.Prelude.{◌≡◌, ◌≤◌, ◌<◌, ◌-◌, ◌^◌, not, length, IfOk};
 ghost use Rattle.std.specs.List.{filter};
 ghost use Rattle.object_model.specs.Sets.{has, with_node, all_nodes, nodes_in};
 ghost use Rattle.cluster_model.specs.Rules.{receivers};

@@ -1,11 +1,8 @@
 //! What a node pushes to another, as far as letters find room.
-ghost use Rattle.std.specs.Prelude.{◌≡◌, ◌≤◌, ◌+◌, ℕ, List, not, ◌&&◌, nat_eq, nat_lt, Some, map, take, length, option_map, IfOk};
-ghost use Rattle.std.specs.Option.{option_copied};
+ghost use Rattle.std.specs.Prelude.{◌≡◌, ◌≤◌, ◌+◌, ℕ, List, not, ◌&&◌, nat_eq, nat_lt, Some, map, take, length, IfOk};
 ghost use Rattle.std.specs.FinMap as fin;
 ghost use Rattle.mail_model.specs.Record.{Record};
-ghost use Rattle.mail_model.specs.Listing.{octets_in};
 ghost use Rattle.object_model.specs.Sets.{has};
-ghost use Rattle.object_model.specs.UpdateLog.{Logged as PlainLogged};
 ghost use Rattle.mail_base.specs.Seen.{key_seen};
 ghost use Rattle.cluster_model.specs.Cluster.{epoch_of, members_of};
 ghost use Rattle.cluster_model.specs.Rules.{push_of, pushed_octets};

@@ -1,10 +1,9 @@
 //! Calls that read the own disk alone, and the end of a login.
-ghost use Rattle.std.specs.Prelude.{◌≡◌, ◌≤◌, ◌+◌, ℕ, List, false, length, option_map, IfOk};
+ghost use Rattle.std.specs.Prelude.{◌≡◌, ◌≤◌, ◌+◌, ℕ, List, false, length, IfOk};
 ghost use Rattle.std.specs.Option.{option_copied};
 ghost use Rattle.mail_model.specs.Plan.{Plan as PlainPlan};
 ghost use Rattle.mail_model.specs.Record.{Record};
 ghost use Rattle.mail_model.specs.Identity.Key.{Message};
-ghost use Rattle.object_model.specs.Said.{said};
 ghost use Rattle.cluster_model.specs.Reads.{is_here_held};
 ghost use Rattle.cluster_model.specs.Steps.{greatest};
 ghost use Rattle.cluster_model.specs.Steps.NodeCall.{Fetch as Fetches, Leave as Leaves};

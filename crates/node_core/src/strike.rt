@@ -1,5 +1,5 @@
 //! Copies of messages that are to be deleted.
-ghost use Rattle.std.specs.Prelude.{◌≡◌, ◌≤◌, ◌<◌, ◌+◌, ◌++◌, [], ℕ, false, Some, All, length, OnOk, IfOk};
+ghost use Rattle.std.specs.Prelude.{◌≡◌, ◌≤◌, ◌<◌, ◌+◌, ◌++◌, ℕ, false, Some, All, length, OnOk, IfOk};
 ghost use Rattle.mail_model.specs.Plan.{Plan as PlainPlan};
 ghost use Rattle.mail_model.specs.Grammar.{IsStamp, IsObject};
 ghost use Rattle.object_model.specs.Sets.{nodes_in, all_nodes};

@@ -11,10 +11,9 @@ use Rattle.object_model.specs.Sets.{has, without_node}
 use Rattle.object_model.specs.Keys.{key_cmp, is_same_key}
 use Rattle.object_model.specs.States.{join_with, is_same_state}
 use Rattle.object_model.specs.Said.{held_after, said}
-use Rattle.object_model.specs.UpdateLog.{Logged, Log, new_entry, cleared, is_of, noted, acknowledged, cleared_at, retired}
+use Rattle.object_model.specs.UpdateLog.{Logged, Log, new_entry, cleared, is_of, noted, cleared_at, retired}
 use Rattle.object_model.proofs.StateLaws.{key_is}
 use Rattle.object_model.proofs.MapLaws.{key_total, key_exact, found, left_found}
-use Rattle.update_log.specs.Answers.{answer_at}
 use Rattle.update_log.specs.declared.logged.Acked.{Acked}
 use Rattle.update_log.specs.declared.logged.Acked.TheVariants.{Cleared, Emptied, Other}
 use Rattle.replica_push.specs.Acks.{after_ack}

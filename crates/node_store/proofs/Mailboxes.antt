@@ -1,5 +1,5 @@
 -- The messages of a user that are here by a table are those by the records that it tells.
-use Rattle.std.proofs.Common.{◌≡◌, ℕ, true, false, List, Option, Some, None, refl, sym, ap, ◌∙◌, true≢false}
+use Rattle.std.proofs.Common.{◌≡◌, ℕ, true, false, List, Option, Some, None, sym, ap, ◌∙◌, true≢false}
 use Rattle.std.specs.FinMap as fin
 use Rattle.mail_model.specs.Identity.{Id, State}
 use Rattle.mail_model.specs.Identity.Key.{Message}

@@ -1,8 +1,8 @@
 //! Copies of messages that are taken, for several users or messages at once.
-ghost use Rattle.std.specs.Prelude.{◌≡◌, ◌<◌, ◌≤◌, All, IfOk, OnOk};
+ghost use Rattle.std.specs.Prelude.{◌≡◌, ◌<◌, All, IfOk, OnOk};
 ghost use Rattle.mail_model.specs.Identity.Key.{Message};
 ghost use Rattle.mail_model.specs.Identity.Value.{Here, Gone};
-ghost use Rattle.mail_model.specs.Grammar.{IsObject, IsKey, IsStamp, IsCount};
+ghost use Rattle.mail_model.specs.Grammar.{IsKey, IsStamp, IsCount};
 ghost use Rattle.cluster_model.specs.Store.{take_one, take_all, here_updates, gone_updates};
 ghost use Rattle.mail_base.specs.Seen.{key_seen};
 ghost use Rattle.node_store.specs.Disks.{view_of};

@@ -4,7 +4,6 @@ ghost use Rattle.std.specs.FinMap as fin;
 ghost use Rattle.mail_model.specs.Grammar.{IsObject};
 ghost use Rattle.mail_model.specs.Record.Record.{Boot, Stated, Retired};
 ghost use Rattle.object_model.specs.Sets.{without_node};
-ghost use Rattle.object_model.specs.UpdateLog.{retired};
 ghost use Rattle.mail_base.specs.Seen.{key_seen};
 ghost use Rattle.disk_journal.specs.Journal.{HasGate, end_of};
 ghost use Rattle.object_table.specs.Tables.{taken};

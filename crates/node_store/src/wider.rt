@@ -1,12 +1,11 @@
 //! Copies that get a target more.
 ghost use Rattle.std.specs.Prelude.{◌≡◌, ◌<◌, ◌^◌, is_some, IfOk, IfSome, OnOk};
 ghost use Rattle.std.specs.FinMap as fin;
-ghost use Rattle.mail_model.specs.Grammar.{IsObject};
 ghost use Rattle.mail_model.specs.Listing.{is_here};
 ghost use Rattle.mail_base.specs.Seen.{key_seen, value_seen};
 ghost use Rattle.replica_push.specs.Pushes.{wider, wider_of};
 ghost use Rattle.node_store.specs.Disks.{view_of};
-ghost use Rattle.node_store.specs.Keeps.{HoldsObjects, CanGoOn};
+ghost use Rattle.node_store.specs.Keeps.{CanGoOn};
 ghost use Rattle.node_store.specs.Changes.{widened_in};
 ghost use Rattle.node_store.specs.Writes.{WroteChange};
 

@@ -1,9 +1,9 @@
 //! How far a call has come.
-ghost use Rattle.std.specs.Prelude.{◌≡◌, ◌≤◌, ◌-◌, ℕ, [], ◌∷◌, length, map, not, true, false, Some, None, IfOk, vec_len, vec_capacity};
+ghost use Rattle.std.specs.Prelude.{◌≡◌, ◌≤◌, ◌-◌, ℕ, [], length, map, true, false, Some, None, vec_len, vec_capacity};
 ghost use Rattle.std.specs.Option.{option_copied};
 ghost use Rattle.std.specs.List.{list_any, list_all, filter};
 ghost use Rattle.object_model.specs.Sets.{has};
-ghost use Rattle.object_model.specs.Mishaps.{no_mishaps, counted};
+ghost use Rattle.object_model.specs.Mishaps.{no_mishaps};
 ghost use Rattle.mail_base.specs.Bodies.{body_seen};
 ghost use Rattle.cluster_model.specs.Rules.{told_want, failed_want, told_ticket};
 ghost use Rattle.cluster_model.specs.Progress.{is_confirmed, can_be_confirmed, has_failed, answer_once_confirmed, ask_of_wants, ask_of};

@@ -2,7 +2,6 @@
 ghost use Rattle.std.specs.Prelude.{◌≡◌, ◌≤◌, ◌-◌, ℕ, cond, [], ◌∷◌, map, length, Some, None, is_some, IfOk, OnOk, OnErr, vec_len, vec_capacity};
 ghost use Rattle.std.specs.Option.{option_copied};
 ghost use Rattle.std.specs.Ordering.{nat_cmp};
-ghost use Rattle.std.specs.List.{list_any};
 ghost use Rattle.std.specs.FinMap as fin;
 ghost use Rattle.std.specs.BTreeMap as tree;
 ghost use Rattle.object_model.specs.Sets.{has};

@@ -1,9 +1,8 @@
 //! Something that is asked of nodes, and how they answered.
-ghost use Rattle.std.specs.Prelude.{◌≡◌, ◌&&◌, nat_eq, bit_or, if◌then◌else◌};
+ghost use Rattle.std.specs.Prelude.{◌≡◌, ◌&&◌, if◌then◌else◌};
 ghost use Rattle.object_model.specs.Sets.{has, one_node, with_node, without_node};
 ghost use Rattle.mail_base.specs.declared.body.Body.TheVariants as body;
 ghost use Rattle.std.specs.List.{list_any};
-ghost use Rattle.std.specs.Cmp.Lexicographic.{pointwise};
 ghost use Rattle.mail_model.specs.Listing.{is_same_id};
 ghost use Rattle.mail_base.specs.Bodies.{body_seen};
 ghost use Rattle.cluster_model.specs.Rules.{tells, told_want, failed_want, new_want};

@@ -1,9 +1,7 @@
 //! How two states of one object become one.
 ghost use Rattle.std.specs.Prelude.{◌≡◌, not, IfOk, IsOk};
-ghost use Rattle.std.specs.Ordering.{nat_cmp};
-ghost use Rattle.std.specs.Cmp.Lexicographic.{slice_cmp};
 ghost use Rattle.mail_model.specs.Record.{rank_of};
-ghost use Rattle.object_model.specs.States.{secret_in, state_cmp, is_below, joined, is_same_state};
+ghost use Rattle.object_model.specs.States.{secret_in, state_cmp, joined, is_same_state};
 ghost use Rattle.mail_base.specs.Seen.{value_seen, IsOfMessage};
 
 use mail_base::{ObjState, Value};

@@ -1,5 +1,5 @@
 //! Which messages of a user are here.
-ghost use Rattle.std.specs.Prelude.{◌≡◌, ◌<◌, ◌≤◌, false, IfOk};
+ghost use Rattle.std.specs.Prelude.{◌≡◌, ◌<◌, ◌≤◌, IfOk};
 ghost use Rattle.std.specs.BTreeMap as tree;
 ghost use Rattle.std.specs.BTreeMap.Range.{entries_between, IsLeBy};
 ghost use Rattle.std.specs.declared.ops.Bound.TheVariants.{Included};
@@ -7,7 +7,7 @@ ghost use Rattle.mail_base.specs.declared.key.Key.TheVariants.{Message};
 ghost use Rattle.mail_base.specs.Seen.{key_seen};
 ghost use Rattle.mail_base.specs.KeyMaps.{entries_seen};
 ghost use Rattle.mail_base.specs.KeyOrder.{seen_cmp};
-ghost use Rattle.object_table.specs.Mailboxes.{copy_here, ids_here, AreHere, least_id, greatest_id};
+ghost use Rattle.object_table.specs.Mailboxes.{copy_here, ids_here, AreHere};
 
 use crate::states::States;
 use crate::table::ObjectTable;

@@ -1,7 +1,6 @@
 //! The users of whom a table holds something, each with the key of the profile.
 ghost use Rattle.std.specs.Prelude.{◌≡◌, List, ℕ, None, IfOk};
 ghost use Rattle.std.specs.Option.{option_copied};
-ghost use Rattle.mail_base.specs.Seen.{key_seen};
 ghost use Rattle.object_table.specs.Users.{key_in, Added, TookOut, AreNamesOf};
 
 use mail_base::{Key, Name, Names};

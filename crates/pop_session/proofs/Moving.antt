@@ -12,7 +12,6 @@ use Rattle.session_model.specs.Talk.{TalkState, Standing}
 use Rattle.session_model.specs.Talk.Standing.{Hearing, Waiting, EndedByQuit, EndedDown, EndedClosed}
 use Rattle.session_model.specs.Sessions.{Session}
 use Rattle.call_tickets.specs.Moves as moves
-use Rattle.call_tickets.specs.Moves.{IsBusy}
 use Rattle.call_tickets.specs.Moves.Due.{Nothing, Reply}
 use Rattle.call_tickets.specs.declared.step.Move.{Move}
 use Rattle.call_tickets.specs.declared.step.Move.TheVariants.{Said, Idle}

@@ -17,8 +17,8 @@ use Rattle.session_model.specs.Talk.Standing.{Hearing, EndedByQuit, EndedDown}
 use Rattle.session_model.specs.Moves.{with_answer}
 use Rattle.session_model.specs.Sessions.{Session, exchanges_of}
 use Rattle.call_tickets.specs.Moves as moves
-use Rattle.call_tickets.specs.Moves.{Moves, Fed, Fell, Replied}
-use Rattle.call_tickets.specs.Moves.Due.{Nothing, Greeting}
+use Rattle.call_tickets.specs.Moves.{Moves, Fed, Fell}
+use Rattle.call_tickets.specs.Moves.Due.{Nothing}
 use Rattle.call_tickets.specs.declared.step.Move.TheVariants.{Said}
 use Rattle.call_tickets.specs.declared.answer.Answer.{Answer}
 use Rattle.mail_base.specs.Items.{item_seen}

@@ -12,7 +12,7 @@ use Rattle.mail_model.specs.Pop.{Command, Fault, pop_command_of}
 use Rattle.mail_model.specs.Pop.Command.{User, Pass, Stat, Listing, Uidl, Retr, Dele, Quit}
 use Rattle.mail_model.specs.Pop.Fault.{UnknownVerb, BadArgument, BadNumber}
 use Rattle.mail_model.specs.PopReplies.{Item, ListingSlot, unmarked, marked_ids, size_line, id_line, stat_text, deleted_text, lines_from, last_line, ready_text, down_text}
-use Rattle.mail_model.specs.Maildrop.{Stage, LineOutcome, line_outcome, command_outcome, pass_outcome, before_login, behind_login, of_message, message_at, deletion_of, bad_order}
+use Rattle.mail_model.specs.Maildrop.{Stage, LineOutcome, line_outcome, command_outcome, pass_outcome, before_login, behind_login, of_message, message_at, deletion_of}
 use Rattle.mail_model.specs.Maildrop as drop
 use Rattle.mail_model.specs.Maildrop.Stage.{Authorization, Transaction}
 use Rattle.mail_model.specs.Maildrop.LineOutcome.{Answered, Closed, AsksLogin, AsksMessage, AsksDeletion}

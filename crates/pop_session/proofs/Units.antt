@@ -8,24 +8,22 @@ use Rattle.mail_model.specs.Lines.{HasNoCrlf, sent_line}
 use Rattle.mail_model.specs.Plan.{Plan}
 use Rattle.mail_model.specs.Tape.{or_else}
 use Rattle.mail_model.specs.PopReplies as replies
-use Rattle.mail_model.specs.PopReplies.{one_line, ready_text, listed_slots}
 use Rattle.mail_model.specs.Session.{is_long_line}
 use Rattle.mail_model.specs.Session.Unit.{Line, Text}
 use Rattle.mail_model.specs.Told.{IsUnit, HasNoUnit}
 use Rattle.mail_model.specs.Maildrop as drops
-use Rattle.mail_model.specs.Maildrop.{LineOutcome, line_outcome, after_line, named_in, deleted_in, entered_text}
+use Rattle.mail_model.specs.Maildrop.{LineOutcome, line_outcome, after_line}
 use Rattle.mail_model.specs.Pop.{pop_command_of}
 use Rattle.session_model.specs.Calls as calls
-use Rattle.session_model.specs.Calls.{IsReply, ShowsPart}
 use Rattle.session_model.specs.Talk as talks
-use Rattle.session_model.specs.Talk.{TalkState, Lead, Exchange, Standing, IsNext, IsLed, in_text, lead_of, line_lead, heard, answered, stands, stands_by, let_in, entered_as}
+use Rattle.session_model.specs.Talk.{TalkState, Lead, Exchange, Standing, IsNext, IsLed, in_text, lead_of, line_lead, heard, stands, stands_by, let_in, entered_as}
 use Rattle.session_model.specs.Talk.TalkState.{Entering, Reading}
-use Rattle.session_model.specs.Talk.Standing.{Hearing, Waiting, EndedByQuit, EndedDown}
+use Rattle.session_model.specs.Talk.Standing.{Hearing, Waiting, EndedByQuit}
 use Rattle.session_model.specs.Sessions.{Session}
 use Rattle.call_tickets.specs.Seen.{ids_in}
 use Rattle.call_tickets.specs.Moves as moves
 use Rattle.call_tickets.specs.Moves.{Moves, HearsNothing}
-use Rattle.call_tickets.specs.Moves.Due.{Nothing, Greeting}
+use Rattle.call_tickets.specs.Moves.Due.{Nothing}
 use Rattle.call_tickets.specs.declared.step.Move.{Move}
 use Rattle.call_tickets.specs.declared.step.Move.TheVariants.{Idle}
 use Rattle.dot_text.specs.Shown.{Shown, Pending, Finds, FindsNone, IsLine, behind_line}

@@ -1,5 +1,5 @@
 // The messages of a maildrop, as they were listed at the login, and what was marked since.
-ghost use Rattle.std.specs.Prelude.{◌≡◌, ◌<◌, ◌≤◌, ◌^◌, ◌∷◌, ◌++◌, [], ℕ, Some, IfSome, IfOk, slice_get, length, map, sum_by, filter, not};
+ghost use Rattle.std.specs.Prelude.{◌≡◌, ◌<◌, [], ℕ, Some, IfSome, IfOk, slice_get, length, map, sum_by, filter, not};
 ghost use Rattle.std.specs.Option.{option_copied, option_map};
 ghost use Rattle.mail_model.specs.Maildrop.{message_at, with_mark};
 ghost use Rattle.mail_base.specs.Items.{item_seen};

@@ -1,5 +1,5 @@
 // One session: octets as they come, and what each line of them leads to.
-ghost use Rattle.std.specs.Prelude.{◌≡◌, ◌<◌, ◌≤◌, ◌+◌, ◌^◌, ◌++◌, ℕ, List, None, length, map, MatchBool, IfOk, OnOk, OnErr};
+ghost use Rattle.std.specs.Prelude.{◌≡◌, ◌<◌, ◌≤◌, ◌+◌, ◌++◌, ℕ, List, None, length, map, MatchBool, IfOk, OnOk, OnErr};
 ghost use Rattle.mail_model.specs.Plan.{Plan as Plans};
 ghost use Rattle.mail_model.specs.PopReplies.{ready_text};
 ghost use Rattle.mail_model.specs.Tape.Protocol.{Pop};

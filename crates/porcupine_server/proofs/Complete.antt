@@ -1,5 +1,5 @@
 -- A good tape is handled through its line `end`.
-use Rattle.std.proofs.Common.{◌≡◌, ◌≢◌, ◌≤◌, ℕ, Bool, true, false, List, [], ◌∷◌, ◌++◌, length, flat_map, All, Option, Some, None, Ok, Err, refl, sym, ap, ◌∙◌, subst, arith, inl, inr, ⊎_elim}
+use Rattle.std.proofs.Common.{◌≡◌, ◌≤◌, ℕ, Bool, true, false, List, [], ◌∷◌, ◌++◌, length, flat_map, All, Option, Some, Err, refl, sym, ap, ◌∙◌, subst, arith, inl, inr, ⊎_elim}
 use Rattle.std.specs.Prelude.{◌⊎◌, ⊤}
 use Rattle.std.specs.Io.KnownBytes.{Appends}
 use Rattle.std.proofs.lemmas.List.{append-nil}
@@ -15,7 +15,7 @@ use Rattle.session_model.specs.Acts.{Act}
 use Rattle.session_model.specs.Acts.Act.{StillWaits}
 use Rattle.session_model.specs.Lives.{failed_by, failed_in}
 use Rattle.session_model.specs.Run.{Made, Stop, AreHandled, IsLeftOff, is_no_node}
-use Rattle.session_model.specs.Run.Stop.{BehindLine, Denied}
+use Rattle.session_model.specs.Run.Stop.{Denied}
 use Rattle.yard_stores.proofs.Taking.{as_many}
 use Rattle.node_store.specs.Disks.{View}
 use Rattle.cluster_world.specs.Worlds.{plan_of, disks_of, tells}

@@ -1,15 +1,11 @@
 -- A store that is refused is named in the last line.
-use Rattle.std.proofs.Common.{◌≡◌, ◌⊎◌, inl, inr, ⊎_elim, ℕ, List, [], ◌∷◌, ◌++◌, Option, refl, sym, ap, ◌∙◌, subst, arith, append-nil, codes}
-use Rattle.std.specs.Fmt.{decimal}
+use Rattle.std.proofs.Common.{◌≡◌, ◌⊎◌, ⊎_elim, ℕ, List, Option, refl, sym, ap, ◌∙◌, subst, arith, append-nil}
 use Rattle.std.specs.Io.KnownBytes.{Appends}
-use Rattle.mail_model.specs.Lines.{ended}
-use Rattle.mail_model.specs.Transcript.{Entry, written_of}
+use Rattle.mail_model.specs.Transcript.{written_of}
 use Rattle.node_store.specs.Disks.{View}
-use Rattle.drive_tape.specs.Parts.{IsCutEntry}
-use Rattle.drive_tape.specs.declared.drove.Drove.{Drove}
 use Rattle.porcupine_server.specs.declared.ending.Ending.{Ending}
 use Rattle.porcupine_server.specs.declared.ending.Ending.TheVariants.{Done, Line, Read, Write, Store, NoMemory}
-use Rattle.porcupine_server.specs.Endings.{ending_of, status_of, last_entries, Finishes}
+use Rattle.porcupine_server.specs.Endings.{status_of, last_entries, Finishes}
 use Rattle.porcupine_server.specs.Stores.{store_line}
 use Rattle.porcupine_server.specs.Works.{SourceAndSink, Stores, Works, NoPlan, NoStores, ServedStores, NotOpened, Ran}
 use Rattle.porcupine_server.proofs.Serving.{no_store_stop}

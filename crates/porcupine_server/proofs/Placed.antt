@@ -1,5 +1,5 @@
 -- Stores by their places: as they were taken, looked at, opened and given back.
-use Rattle.std.proofs.Common.{◌≡◌, ◌≢◌, ◌⊎◌, inl, inr, ⊎_elim, ℕ, zero, suc, ◌+◌, ◌<◌, ◌≤◌, Bool, true, false, List, [], ◌∷◌, length, Option, Some, None, refl, sym, ap, ◌∙◌, subst, arith, ◌&&◌}
+use Rattle.std.proofs.Common.{◌≡◌, ◌≢◌, ◌⊎◌, inl, inr, ⊎_elim, ℕ, zero, suc, ◌<◌, ◌≤◌, Bool, true, false, List, [], ◌∷◌, length, Option, Some, None, refl, sym, ap, ◌∙◌, subst, arith, ◌&&◌}
 use Rattle.std.specs.Prelude.{IfSome, is_some, slice_get}
 use Rattle.std.specs.List.{list_all}
 use Rattle.std.proofs.lemmas.Option.{none-some, slice_get_cases, slice_get_within}
@@ -7,9 +7,7 @@ use Rattle.io_edge.specs.Causes.{Rose}
 use Rattle.io_edge.specs.Octets.{IsToldAlike}
 use Rattle.mail_model.specs.Plan.{Plan}
 use Rattle.yard_stores.specs.Taken.{Looked, AllLooked, DiskFailed}
-use Rattle.yard_stores.proofs.Taking.{as_many}
 use Rattle.node_store.specs.Disks.{View}
-use Rattle.cluster_world.specs.Lives.{of_node}
 use Rattle.cluster_world.specs.Worlds.{disks_of, tells}
 use Rattle.cluster_world.specs.Opens.{Opened}
 use Rattle.cluster_world.specs.declared.world.World.{World}

@@ -1,6 +1,5 @@
 -- All promises are kept, over the octets that the program read and wrote and the stores that it gave back.
-use Rattle.std.proofs.Common.{◌≡◌, ◌≢◌, ◌⊎◌, inl, inr, ⊎_elim, ◌+◌, ◌<◌, ℕ, Bool, true, List, [], ◌∷◌, ◌++◌, length, drop, map, flat_map, All, Option, Some, None, Ok, Err, refl, sym, ap, ◌∙◌, subst, arith, append_assoc, length-append, codes}
-use Rattle.std.specs.Prelude.{is_some}
+use Rattle.std.proofs.Common.{◌≡◌, ◌≢◌, ◌⊎◌, inl, inr, ⊎_elim, ◌+◌, ◌<◌, ℕ, true, List, [], ◌∷◌, ◌++◌, length, drop, map, flat_map, All, Option, Some, Ok, refl, sym, ap, ◌∙◌, subst, arith, append_assoc, length-append, codes}
 use Rattle.std.specs.List.{slice_index}
 use Rattle.std.specs.Fmt.{decimal}
 use Rattle.std.specs.Io.KnownBytes.{Consumes, Appends}
@@ -25,20 +24,19 @@ use Rattle.cluster_owes.specs.Held.{filed_on}
 use Rattle.node_store.specs.Disks.{View}
 use Rattle.cluster_world.specs.Worlds.{plan_of, book_of, tells}
 use Rattle.cluster_world.specs.Outcomes.{asked_by_outcome}
-use Rattle.cluster_world.specs.declared.world.World.{World}
 use Rattle.cluster_world.proofs.Chained.{plan_stays}
 use Rattle.drive_tape.specs.declared.drove.Drove.{Drove}
 use Rattle.drive_tape.specs.declared.drove.Drove.TheVariants as drove
 use Rattle.drive_tape.specs.Faults.{tape_fault_seen}
 use Rattle.drive_tape.specs.Parts.{IsCutEntry, IsPart}
-use Rattle.drive_tape.specs.Drive.{Drives, Stops, stop_of}
+use Rattle.drive_tape.specs.Drive.{Stops, stop_of}
 use Rattle.drive_tape.specs.Plans.{ReadsHead}
 use Rattle.drive_tape.specs.Kept.{AreBlindLines}
 use Rattle.porcupine_server.specs.declared.ending.Ending.{Ending}
 use Rattle.porcupine_server.specs.declared.ending.Ending.TheVariants.{Done, Line, Read, Write, Store, NoMemory}
 use Rattle.porcupine_server.specs.Endings.{ending_of, status_of, last_entries, Finishes}
 use Rattle.porcupine_server.specs.Works.{SourceAndSink, Stores, Works, NoPlan, NoStores, ServedStores, NotOpened, Ran}
-use Rattle.porcupine_server.specs.Promises.{IsTape, IsTranscript, KeepsAll, HasKept, all_tell}
+use Rattle.porcupine_server.specs.Promises.{HasKept, all_tell}
 
 abbrev IsNoLf : ℕ → Type 0
 IsNoLf x = x ≢ 10

@@ -1,11 +1,11 @@
 -- The stores that were taken were served, or were not, and were given back.
-use Rattle.std.proofs.Common.{◌≡◌, ◌≢◌, ◌⊎◌, inl, inr, ⊎_elim, ℕ, zero, suc, ◌+◌, ◌≤◌, List, [], ◌∷◌, ◌++◌, length, map, Option, Some, None, Result, Err, arith, refl, sym, ap, ap₂, ◌∙◌, subst, append-nil}
+use Rattle.std.proofs.Common.{◌≡◌, ◌≢◌, ◌⊎◌, inl, inr, ⊎_elim, ℕ, zero, suc, ◌+◌, List, [], ◌∷◌, ◌++◌, length, map, Option, Some, None, Err, arith, refl, sym, ap, ap₂, ◌∙◌, subst, append-nil}
 use Rattle.std.specs.Prelude.{IfSome, slice_get}
 use Rattle.std.proofs.lemmas.List.{map-append}
 use Rattle.std.proofs.lemmas.Option.{none-some}
 use Rattle.io_edge.specs.Causes.{Rose}
 use Rattle.mail_model.specs.Plan.{Plan}
-use Rattle.yard_stores.specs.Taken.{with_all, numbered, TellsAll, Looked, AllLooked, DiskFailed, LastFailed, TakesSo}
+use Rattle.yard_stores.specs.Taken.{with_all, numbered, TellsAll, AllLooked, LastFailed, TakesSo}
 use Rattle.yard_stores.specs.declared.stores.TakeFault.{TakeFault}
 use Rattle.yard_stores.specs.declared.stores.TakeFault.TheVariants as take
 use Rattle.yard_stores.proofs.Taking.{as_many}
@@ -25,7 +25,7 @@ use Rattle.porcupine_server.specs.declared.ending.Ending.{Ending}
 use Rattle.porcupine_server.specs.declared.ending.Ending.TheVariants.{Done, Line, Read, Write, Store, NoMemory}
 use Rattle.porcupine_server.specs.Endings.{ending_of, ending_untaken}
 use Rattle.porcupine_server.specs.Stores.{AreStores, NodeFailed, StoreFailed}
-use Rattle.porcupine_server.specs.Works.{IsBeforeRun, SourceAndSink, Ran, ServesStores}
+use Rattle.porcupine_server.specs.Works.{IsBeforeRun, SourceAndSink, ServesStores}
 use Rattle.porcupine_server.proofs.Placed.{looked_at}
 
 -- a plan of a tape is one that a cluster can be opened for

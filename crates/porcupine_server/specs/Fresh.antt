@@ -1,5 +1,5 @@
 -- The stores of the program's own yard.
-use Rattle.std.specs.Prelude.{◌≡◌, ℕ, [], String, List}
+use Rattle.std.specs.Prelude.{◌≡◌, ℕ, []}
 use Rattle.std.specs.declared.snapshot.Snapshot.{Snapshot}
 use Rattle.io_edge.specs.declared.plain_disk.PlainDisk.{PlainDisk}
 

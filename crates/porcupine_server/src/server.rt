@@ -7,7 +7,7 @@ ghost use Rattle.cluster_world.specs.Opens.{AreEmpty};
 ghost use Rattle.drive_tape.specs.Plans.{IsTapePlan};
 ghost use Rattle.porcupine_server.specs.Words.{IsDrive, RefusesWords};
 ghost use Rattle.porcupine_server.specs.Stores.{NodeFailed, StoreFailed, store_line};
-ghost use Rattle.porcupine_server.specs.Works.{SourceAndSink, Stores, ServesStores, Works, TranscriptFollows};
+ghost use Rattle.porcupine_server.specs.Works.{ServesStores, Works, TranscriptFollows};
 ghost use Rattle.porcupine_server.specs.Complete.{IsGoodTape};
 ghost use Rattle.porcupine_server.specs.Promises.{HasKept};
 ghost use Rattle.porcupine_server.specs.declared.ending.Ending.TheVariants as endings;

@@ -1,5 +1,4 @@
 // Parts of a payload, read from its beginning: each is given with the octets after it.
-ghost use Rattle.std.specs.Prelude.{◌≡◌, length};
 ghost use Rattle.std.specs.Int.{w16, w32, w64};
 ghost use Rattle.record_form.specs.Reading.{FindsAsRead, octet_at, number_at, text_at, id_at, epoch_at, stamp_at, targets_at};
 

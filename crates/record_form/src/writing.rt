@@ -1,5 +1,5 @@
 // Entries that are written as payloads.
-ghost use Rattle.std.specs.Prelude.{◌≡◌, ◌++◌, ◌≤◌, [], length, IfOk, OnOk, OnErr};
+ghost use Rattle.std.specs.Prelude.{◌≡◌, ◌++◌, ◌≤◌, [], length, OnOk, OnErr};
 ghost use Rattle.mail_model.specs.Record.{id_octets, text_octets, key_octets, state_octets, secret_octets, rank_of, payload_of};
 ghost use Rattle.mail_model.specs.Record.Record.{Octets};
 ghost use Rattle.mail_model.specs.Grammar.{IsRecord};

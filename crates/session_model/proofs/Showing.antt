@@ -19,7 +19,7 @@ use Rattle.mail_model.specs.Maildrop.LineOutcome.{Answered, Closed, AsksLogin, A
 use Rattle.mail_model.specs.Shown.{ShowsId, ShowsSize, ShowsOctets, is_good}
 use Rattle.mail_model.specs.Told.{IsUnit}
 use Rattle.mail_model.proofs.ShownSlots.{all_items, listed_all, deleted_all}
-use Rattle.mail_model.proofs.ShownReplies.{Message, Fits, Tells, AsksNothing, items_for, exchange, bad_fits, quiet}
+use Rattle.mail_model.proofs.ShownReplies.{Message, Fits, AsksNothing, items_for, exchange, bad_fits, quiet}
 use Rattle.mail_model.proofs.ShownReplies as shown
 use Rattle.mail_model.proofs.ShownOutcomes.{LeadsBefore, LeadsBehind, before, behind, undotted_all}
 use Rattle.mail_model.specs.Tape.Protocol.{Pop}

@@ -1,5 +1,5 @@
 -- What a move does, in all that is said of it.
-use Rattle.std.proofs.Common.{◌≡◌, ◌<◌, ◌≤◌, ◌+◌, ℕ, Bool, true, false, cond, List, [], ◌∷◌, ◌++◌, length, take, drop, refl, sym, ap, subst, ◌∙◌, arith, append_assoc}
+use Rattle.std.proofs.Common.{◌≡◌, ◌<◌, ◌≤◌, ◌+◌, ℕ, Bool, true, false, List, [], ◌++◌, length, take, refl, sym, ap, subst, ◌∙◌, arith, append_assoc}
 use Rattle.std.specs.Prelude.{MatchBool, MatchOption, Option, Some, None, Result, Ok, Err, IfOk}
 use Rattle.call_tickets.specs.declared.step.Move.{Move}
 use Rattle.std.proofs.lemmas.List.{length-drop}
@@ -14,7 +14,7 @@ use Rattle.mail_model.specs.Lines.{HasNoCrlf}
 use Rattle.mail_model.specs.Session as model
 use Rattle.call_tickets.specs.Moves.{Due, Fed, Fell}
 use Rattle.smtp_session.specs.declared.session.SmtpSession.{SmtpSession}
-use Rattle.call_tickets.specs.declared.step.Move.TheVariants.{Said, Idle, Wait, End}
+use Rattle.call_tickets.specs.declared.step.Move.TheVariants.{Said, Idle}
 use Rattle.dot_text.specs.Shown.{Shown, Pending, Finds, FindsNone, behind_line, line_length}
 use Rattle.dot_text.specs.declared.undotter.Undotter.{Undotter}
 use Rattle.dot_text.specs.declared.cutter.Line.{Line as Found}
@@ -30,7 +30,7 @@ use Rattle.smtp_session.specs.Replies.{text_of}
 use Rattle.smtp_session.specs.Texts.{IsGivenText}
 use Rattle.smtp_session.specs.Talks.{talk_of}
 use Rattle.smtp_session.specs.Hears.{HearsLine, reply_in}
-use Rattle.smtp_session.specs.Follows.{Follows, Goes, Moved, Stands, WaitsFor, IsDue, Turns, IsBounded, due_count, left, held}
+use Rattle.smtp_session.specs.Follows.{Follows, Goes, Moved, Stands, WaitsFor, IsDue, Turns, due_count}
 use Rattle.smtp_session.proofs.Lines.{one_line_of}
 use Rattle.smtp_session.proofs.Units.{session, hears_none, hears_long, hears_short, said_due, text_outside}
 

@@ -1,20 +1,17 @@
 -- What a session follows after octets of a text.
-use Rattle.std.proofs.Common.{◌≡◌, ◌<◌, ◌≤◌, ◌+◌, ℕ, Bool, true, false, List, [], ◌∷◌, ◌++◌, length, take, drop, Option, Some, refl, sym, ap, ap₂, subst, ◌∙◌, arith, append_assoc}
+use Rattle.std.proofs.Common.{◌≡◌, ◌<◌, ◌≤◌, ◌+◌, ℕ, Bool, true, false, List, [], ◌∷◌, ◌++◌, length, take, drop, Option, Some, refl, sym, ap, subst, ◌∙◌, arith, append_assoc}
 use Rattle.std.specs.Prelude.{MatchBool}
 use Rattle.std.proofs.lemmas.List.{append-nil, length-append, take-append-drop, length-drop}
-use Rattle.std.proofs.Math.Seq.{drop-length, take-length, take-append_seam}
+use Rattle.std.proofs.Math.Seq.{take-length, take-append_seam}
 use Rattle.mail_model.specs.Lines.{sent_line}
 use Rattle.mail_model.specs.Plan.{Plan}
 use Rattle.mail_model.specs.Smtp.{greeting_text}
-use Rattle.mail_model.specs.Tape.Protocol.{Smtp}
 use Rattle.mail_model.specs.Session as model
-use Rattle.mail_model.specs.Session.{undotted, is_large, after_unit}
+use Rattle.mail_model.specs.Session.{undotted, after_unit}
 use Rattle.mail_model.specs.Session.Unit.{Text}
 use Rattle.mail_model.specs.Told.{IsUnit, HasNoUnit, unit_octets, mail_of}
-use Rattle.mail_model.specs.PopReplies.{one_line}
 use Rattle.session_model.specs.Calls as calls
-use Rattle.session_model.specs.Talk as talks
-use Rattle.session_model.specs.Talk.{Exchange, Standing, lead_of, let_in}
+use Rattle.session_model.specs.Talk.{Standing, let_in}
 use Rattle.session_model.specs.Talk.TalkState.{Mailing}
 use Rattle.session_model.specs.Talk.Standing.{Hearing, Waiting}
 use Rattle.session_model.specs.Sessions.{Session}

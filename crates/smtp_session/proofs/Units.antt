@@ -1,17 +1,17 @@
 -- What a session follows after a line, after octets of a text, and after what it had to say.
-use Rattle.std.proofs.Common.{◌≡◌, ◌<◌, ◌≤◌, ◌+◌, ℕ, Bool, true, false, cond, List, [], ◌∷◌, ◌++◌, length, take, drop, Option, Some, None, refl, sym, ap, ap₂, subst, ◌∙◌, arith, append_assoc}
-use Rattle.std.proofs.lemmas.List.{append-nil, length-append, take-append-drop, length-drop}
+use Rattle.std.proofs.Common.{◌≡◌, ◌<◌, ◌≤◌, ◌+◌, ℕ, Bool, true, false, cond, List, [], ◌∷◌, ◌++◌, length, take, Some, None, refl, sym, ap, ap₂, subst, ◌∙◌, arith}
+use Rattle.std.proofs.lemmas.List.{append-nil, length-append}
 use Rattle.std.proofs.lemmas.Bool.{lt-ltb, le-ltb}
 use Rattle.mail_model.specs.Lines.{HasNoCrlf, sent_line}
 use Rattle.mail_model.specs.Smtp.{greeting_text}
 use Rattle.mail_model.specs.Plan.{Plan}
 use Rattle.mail_model.specs.Session as model
-use Rattle.mail_model.specs.Session.{undotted, is_long_line, is_quit_line, is_large, reply_text, after_unit}
+use Rattle.mail_model.specs.Session.{is_long_line, is_quit_line, reply_text, after_unit}
 use Rattle.mail_model.specs.Session.Unit.{Line, Text}
-use Rattle.mail_model.specs.Told.{IsUnit, HasNoUnit, unit_octets, Mail, mail_of}
+use Rattle.mail_model.specs.Told.{IsUnit, HasNoUnit, unit_octets, Mail}
 use Rattle.mail_model.specs.PopReplies.{one_line}
 use Rattle.session_model.specs.Calls as calls
-use Rattle.session_model.specs.Talk.{TalkState, Exchange, Standing, Lead, IsNext, stands, stands_by, lead_of, IsLed, in_text, answered, let_in, entered_as}
+use Rattle.session_model.specs.Talk.{Exchange, Standing, Lead, IsNext, stands, stands_by, lead_of, IsLed, in_text, answered, let_in, entered_as}
 use Rattle.session_model.specs.Moves.{with_answer}
 use Rattle.session_model.specs.Talk as talks
 use Rattle.std.proofs.lemmas.List.Elements.{All-cons, All-nil}
@@ -20,13 +20,13 @@ use Rattle.session_model.specs.Talk.Standing.{Hearing, Waiting, EndedByQuit}
 use Rattle.session_model.specs.Sessions.{Session}
 use Rattle.call_tickets.specs.Moves as moves
 use Rattle.call_tickets.specs.Moves.{Due, Moves, HearsNothing}
-use Rattle.call_tickets.specs.Moves.Due.{Nothing, Greeting}
+use Rattle.call_tickets.specs.Moves.Due.{Nothing}
 use Rattle.call_tickets.specs.declared.step.Move.{Move}
-use Rattle.call_tickets.specs.declared.step.Move.TheVariants.{Said, Begin, Wait, Idle, End}
-use Rattle.dot_text.specs.Shown.{Shown, Pending, Finds, FindsNone, Gives, IsLine, behind_line, line_length}
-use Rattle.dot_text.specs.Places.{Undots, Feeds}
+use Rattle.call_tickets.specs.declared.step.Move.TheVariants.{Said, Idle}
+use Rattle.dot_text.specs.Shown.{Shown, Pending, Finds, FindsNone, IsLine, behind_line}
+use Rattle.dot_text.specs.Places.{Undots}
 use Rattle.dot_text.specs.declared.undotter.Undotter.{Undotter}
-use Rattle.dot_text.specs.declared.undotter.Cut.TheVariants.{More, Ended}
+use Rattle.dot_text.specs.declared.undotter.Cut.TheVariants.{Ended}
 use Rattle.dot_text.specs.declared.cutter.Line.{Line as Found}
 use Rattle.dot_text.specs.declared.cutter.Line.TheVariants.{Whole, Long}
 use Rattle.smtp_session.specs.declared.session.SmtpSession.{SmtpSession}
@@ -38,10 +38,10 @@ use Rattle.smtp_session.specs.declared.told.Heard.TheVariants.{GoesOn, Ends}
 use Rattle.smtp_session.specs.declared.reply.Reply.{Reply}
 use Rattle.smtp_session.specs.declared.reply.Reply.TheVariants.{Ready, LineTooLong}
 use Rattle.smtp_session.specs.Replies.{text_of}
-use Rattle.smtp_session.specs.Texts.{IsGivenText, SettlesText}
+use Rattle.smtp_session.specs.Texts.{IsGivenText}
 use Rattle.smtp_session.specs.Talks.{talk_of}
 use Rattle.smtp_session.specs.Hears.{HearsLine, reply_in}
-use Rattle.smtp_session.specs.Follows.{Follows, ReadsFed, Stands, Goes, EndsText, IsDue, Turns, left, held, IsBounded}
+use Rattle.smtp_session.specs.Follows.{Follows, ReadsFed, Stands, Goes, IsDue, Turns}
 use Rattle.smtp_session.proofs.Lines.{all_one, one_line_of}
 use Rattle.smtp_session.proofs.Entered.{still_nobody, answered_nobody}
 

@@ -3,7 +3,7 @@ use Rattle.std.specs.Prelude.{◌≡◌, ℕ, true, false, List, Option, if◌th
 use Rattle.mail_model.specs.Plan.{Plan}
 use Rattle.mail_model.specs.Session as model
 use Rattle.mail_model.specs.Session.{reply_text, after_unit, rcpt_text, with_path, is_accepted, is_quit_line}
-use Rattle.mail_model.specs.Session.Unit.{Line, Text}
+use Rattle.mail_model.specs.Session.Unit.{Line}
 use Rattle.smtp_session.specs.declared.told.Heard.{Heard}
 use Rattle.smtp_session.specs.declared.told.Heard.TheVariants.{GoesOn, Ends}
 use Rattle.smtp_session.specs.declared.reply.Reply.{Reply}

@@ -1,5 +1,5 @@
 -- What a session has been told, as its definition sees it.
-use Rattle.std.specs.Prelude.{◌≡◌, ℕ, false, List, Result, if◌then◌else◌}
+use Rattle.std.specs.Prelude.{◌≡◌, ℕ, false, Result, if◌then◌else◌}
 use Rattle.std.specs.Option.{option_map}
 use Rattle.mail_model.specs.Plan.{Plan}
 use Rattle.mail_model.specs.Smtp.{Command, Fault}

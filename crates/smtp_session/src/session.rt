@@ -1,5 +1,5 @@
 // One session: octets as they come, and what each unit of them leads to.
-ghost use Rattle.std.specs.Prelude.{◌≡◌, ◌<◌, ◌≤◌, ◌+◌, ◌^◌, ◌++◌, [], List, ℕ, Bool, true, false, length, MatchBool, OnOk, OnErr, IfOk};
+ghost use Rattle.std.specs.Prelude.{◌≡◌, ◌<◌, ◌≤◌, ◌+◌, ◌^◌, ◌++◌, [], List, ℕ, true, false, length, MatchBool, OnOk, OnErr, IfOk};
 ghost use Rattle.mail_model.specs.PopReplies.{one_line};
 ghost use Rattle.mail_model.specs.Session.{undotted};
 ghost use Rattle.mail_model.specs.Told.{Mail};

@@ -1,5 +1,5 @@
 // The text of a message as its octets come.
-ghost use Rattle.std.specs.Prelude.{◌≡◌, ◌≤◌, ◌++◌, ◌||◌, [], List, ℕ, Bool, true, false, nat_lt, length, take, IfOk, OnErr};
+ghost use Rattle.std.specs.Prelude.{◌≡◌, ◌++◌, ◌||◌, [], List, ℕ, Bool, true, false, nat_lt, length, take, IfOk, OnErr};
 ghost use Rattle.dot_text.specs.Places.{Undots, Feeds, IsWithin};
 ghost use Rattle.smtp_session.specs.Texts.{Grows, SettlesText};
 

@@ -9,7 +9,7 @@ ghost use Rattle.mail_model.specs.Plan.{Plan as Plans};
 ghost use Rattle.mail_model.specs.Told.{unnamed, unaddressed};
 ghost use Rattle.smtp_wire.specs.Seen.{seen, IsWithinLimits};
 ghost use Rattle.smtp_session.specs.Replies.{text_of};
-ghost use Rattle.smtp_session.specs.Talks.{talk_of, greeting_seen, envelope_of, DoesCommand};
+ghost use Rattle.smtp_session.specs.Talks.{talk_of, envelope_of, DoesCommand};
 ghost use Rattle.smtp_session.specs.Hears.{HearsLine, Addresses, reply_in};
 
 use crate::{Envelope, Greeting, Reply};

@@ -1,7 +1,7 @@
 -- What a contract sees of a command that was read.
 use Rattle.std.specs.Prelude.{◌<◌, ◌≤◌, ⊤, length, ℕ, List, Result, Ok, Err, option_and_then, if◌then◌else◌, codes}
 use Rattle.mail_model.specs.Smtp as smtp
-use Rattle.mail_model.specs.Smtp.{is_helo_name, unspaced, or_bad, alone, path_behind, sender_in, recipient_in}
+use Rattle.mail_model.specs.Smtp.{is_helo_name, unspaced, or_bad, path_behind, sender_in, recipient_in}
 use Rattle.smtp_wire.specs.declared.command.Command.{Command}
 use Rattle.smtp_wire.specs.declared.command.Command.TheVariants.{Helo, Mail, Rcpt, Data, Quit}
 use Rattle.smtp_wire.specs.declared.command.SmtpFault.{SmtpFault}

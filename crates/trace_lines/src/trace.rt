@@ -1,5 +1,5 @@
 //! The trace lines of a message: its return path, and the line that says who took it from whom (RFC 5321, section 4.4).
-ghost use Rattle.std.specs.Prelude.{◌≡◌, ◌++◌, ◌≤◌, ◌∷◌, [], OnOk, IfOk, take, codes, string_bytes};
+ghost use Rattle.std.specs.Prelude.{◌≡◌, ◌++◌, OnOk, IfOk, take, codes, string_bytes};
 ghost use Rattle.httpdate.specs.Date.{date_text};
 ghost use Rattle.mail_model.specs.Lines.{sent_line};
 ghost use Rattle.mail_model.specs.Mail.{protocol_of};

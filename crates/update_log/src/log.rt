@@ -4,7 +4,7 @@ ghost use Rattle.std.specs.Option.{option_copied};
 ghost use Rattle.std.specs.List.{list_any};
 ghost use Rattle.std.specs.FinMap as fin;
 ghost use Rattle.std.specs.BTreeMap as tree;
-ghost use Rattle.object_model.specs.UpdateLog.{noted, acknowledged, retired, is_of, owes, due, new_entry};
+ghost use Rattle.object_model.specs.UpdateLog.{noted, acknowledged, retired, is_of, owes, due};
 ghost use Rattle.object_model.specs.Sets.{has};
 ghost use Rattle.mail_base.specs.Seen.{key_seen};
 ghost use Rattle.mail_base.specs.KeyOrder.{seen_cmp};

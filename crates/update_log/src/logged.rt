@@ -1,5 +1,5 @@
 //! One entry of the log.
-ghost use Rattle.std.specs.Prelude.{◌≡◌, ◌&&◌, IfOk};
+ghost use Rattle.std.specs.Prelude.{◌≡◌, ◌&&◌};
 ghost use Rattle.object_model.specs.Sets.{has, without_node};
 ghost use Rattle.object_model.specs.States.{is_same_state};
 ghost use Rattle.object_model.specs.UpdateLog.{new_entry};

@@ -1,7 +1,7 @@
 // A map for the members of an epoch.
 ghost use Rattle.std.specs.Prelude.{◌≡◌, ◌<◌, ◌≤◌, ◌^◌, length, ℕ, IfOk};
 ghost use Rattle.maps_model.specs.Assign.{IsAssigned};
-ghost use Rattle.user_map.specs.Plain.{with_cell, claimed_loads, row_at, loads_after, placed, assigned};
+ghost use Rattle.user_map.specs.Plain.{with_cell, claimed_loads, row_at, loads_after, placed};
 ghost use Rattle.user_map.specs.Loads.{load_in};
 
 use crate::cells::claimed_cells;

@@ -1,5 +1,5 @@
 // How many buckets each node has.
-ghost use Rattle.std.specs.Prelude.{◌≡◌, ◌<◌, ◌-◌, ◌^◌, length, ℕ};
+ghost use Rattle.std.specs.Prelude.{◌≡◌, ◌<◌, ◌-◌, ◌^◌, length};
 ghost use Rattle.user_map.specs.Plain.{raised, is_less, least};
 ghost use Rattle.user_map.specs.Loads.{load_in};
 

@@ -22,7 +22,7 @@ use Rattle.maps_model.specs.Cluster as maps
 use Rattle.maps_model.specs.Moves as moves
 use Rattle.maps_model.specs.Rules as maps_rules
 use Rattle.maps_model.specs.NodeLaws as maps_laws
-use Rattle.whole_model.specs.Whole.{Slot, maps_disk_of, maps_slot}
+use Rattle.whole_model.specs.Whole.{maps_disk_of, maps_slot}
 use Rattle.whole_model.specs.Whole as whole
 use Rattle.whole_model.specs.Moves.{LeadsMaps}
 use Rattle.whole_model.specs.Rules.{IsMapsBody, promise_records}

@@ -1,7 +1,7 @@
 -- Stores that are taken, and given back, one after another.
-use Rattle.std.proofs.Common.{◌≡◌, ◌⊎◌, inl, inr, ⊎_elim, ℕ, ◌+◌, ◌≤◌, List, [], ◌∷◌, ◌++◌, length, length-append, append_assoc, append-nil, Option, Some, None, refl, sym, ap, ◌∙◌, subst, arith}
+use Rattle.std.proofs.Common.{◌≡◌, ◌⊎◌, inl, inr, ⊎_elim, ℕ, ◌+◌, ◌≤◌, List, [], ◌∷◌, ◌++◌, length, append_assoc, append-nil, Option, Some, None, refl, sym, ap, ◌∙◌, subst, arith}
 use Rattle.io_edge.specs.Yards.{TellsOneMore, with_last}
-use Rattle.std.specs.Prelude.{Result, Err}
+use Rattle.std.specs.Prelude.{Err}
 use Rattle.yard_stores.specs.Taken.{with_all, numbered, TellsAll, Looked, AllLooked, HasTaken, TakesOne, TakesSo}
 use Rattle.yard_stores.specs.declared.stores.TakeFault.{TakeFault}
 use Rattle.yard_stores.specs.declared.stores.TakeFault.TheVariants.{Store, NoMemory}

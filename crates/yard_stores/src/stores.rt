@@ -1,6 +1,5 @@
 // The stores of a plan's nodes: taken from the yard in order of node, and given back so.
-ghost use Rattle.std.specs.Prelude.{◌≡◌, ◌≢◌, ◌<◌, ◌≤◌, ◌+◌, ◌⊎◌, List, [], true, false, length, vec_len, vec_capacity, IfSome, MatchBool};
-ghost use Rattle.io_edge.specs.Causes.{Rose};
+ghost use Rattle.std.specs.Prelude.{◌≡◌, ◌<◌, ◌≤◌, ◌+◌, List, [], true, false, length, vec_len, vec_capacity, MatchBool};
 ghost use Rattle.yard_stores.specs.Taken.{with_all, numbered, TellsAll, TakesSo, TakesOne, Looked, DiskFailed};
 
 use io_edge::{Disk, Yard, YardRefusal};

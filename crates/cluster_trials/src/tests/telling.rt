@@ -1,5 +1,4 @@
 // What a cluster tells of its letters, calls and members, and several steps in one call.
-ghost use Rattle.std.specs.Prelude.{◌≡◌, IfOk};
 ghost use Rattle.cluster_world.specs.Worlds.{IsReady};
 
 use crate::tests::{first_id, make, node, opened, step_of, told};

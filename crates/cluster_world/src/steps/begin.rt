@@ -1,5 +1,5 @@
 //! A call begins at a node.
-ghost use Rattle.std.specs.Prelude.{◌≡◌, ◌+◌, ◌≤◌, ◌<◌, ◌⊎◌, ◌++◌, ◌∷◌, ℕ, true, [], length, None, Ok, IsTrue, IfOk, OnErr};
+ghost use Rattle.std.specs.Prelude.{◌≡◌, ◌+◌, ◌≤◌, ◌<◌, ◌⊎◌, ◌++◌, ◌∷◌, true, [], length, None, Ok, IsTrue, IfOk, OnErr};
 ghost use Rattle.mail_model.specs.Lines.{ends_in_crlf};
 ghost use Rattle.cluster_model.specs.Makes.{struck_entries};
 ghost use Rattle.node_store.specs.Disks.{view_of};

@@ -1,4 +1,4 @@
-use Rattle.std.proofs.Common.{rules, arith, sym, ◌∙◌, ap}
+use Rattle.std.proofs.Common.{arith, sym, ◌∙◌, ap}
 use Rattle.std.proofs.lemmas.Grind.{common_steps}
 use Rattle.cluster_world.proofs.FlightLaws.{put_more, all_rest}
 use Rattle.cluster_world.specs.Flights.{put_one}

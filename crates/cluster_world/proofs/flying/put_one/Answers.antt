@@ -1,4 +1,4 @@
-use Rattle.std.proofs.Common.{rules, sym, ◌∙◌}
+use Rattle.std.proofs.Common.{sym, ◌∙◌}
 use Rattle.cluster_world.proofs.FlightLaws.{counted_more}
 use Rattle.cluster_world.proofs.flying.put_one.Goals as goal
 

@@ -1,4 +1,4 @@
-use Rattle.std.proofs.Common.{rules, sym, ap, ◌∙◌, arith, ◌+◌}
+use Rattle.std.proofs.Common.{sym, ap, ◌∙◌, arith}
 use Rattle.cluster_model.specs.Room.{octets_of, octets_flying}
 use Rattle.cluster_world.proofs.FlightLaws.{none_taken, removed, octets_without, read_at}
 use Rattle.cluster_world.proofs.flying.take_out.Goals as goal

@@ -1,7 +1,7 @@
 use Rattle.std.proofs.Common.{◌<◌, length, arith}
 use Rattle.std.proofs.lemmas.Result.{err_from_is_err_and}
 use Rattle.node_store.specs.Disks.{view_of}
-use Rattle.cluster_world.proofs.FirstBoots.{none_opened, one_more_opened, one_more_within, not_opened}
+use Rattle.cluster_world.proofs.FirstBoots.{one_more_opened, one_more_within, not_opened}
 use Rattle.cluster_world.proofs.opening.open_all.Goals as goal
 
 pub loop-alloc-preserved : goal.loop-alloc-preserved

@@ -1,7 +1,3 @@
-use Rattle.std.proofs.Common.{◌≡◌, Some, subst}
-use Rattle.std.specs.Prelude.{IfSome}
-use Rattle.session_model.specs.Calls as calls
-use Rattle.call_tickets.specs.Seen.{call_seen}
 use Rattle.node_store.specs.Disks.{view_of}
 use Rattle.drive_tape.specs.Kinds.{IsKindOf}
 use Rattle.drive_tape.proofs.Calling.{handed_on}

@@ -1,4 +1,4 @@
-use Rattle.std.proofs.Common.{◌≡◌, ℕ, Ok, Err, subst}
+use Rattle.std.proofs.Common.{◌≡◌, ℕ, Ok, subst}
 use Rattle.node_store.specs.Disks.{view_of}
 use Rattle.cluster_world.specs.Steps.{IsStep}
 use Rattle.cluster_world.specs.declared.step.Step.TheVariants.{GiveUp}

@@ -1,4 +1,4 @@
-use Rattle.std.proofs.Common.{◌≡◌, ◌+◌, ◌≤◌, ◌^◌, length}
+use Rattle.std.proofs.Common.{◌≡◌, ◌+◌, ◌≤◌, ◌^◌}
 use Rattle.node_store.specs.Disks.{view_of}
 use Rattle.cluster_world.specs.Worlds.{plan_of}
 use Rattle.cluster_world.specs.Opens.{IsAtBeginning}

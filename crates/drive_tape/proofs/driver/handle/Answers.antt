@@ -1,4 +1,4 @@
-use Rattle.std.proofs.Common.{◌≡◌, None, Some, refl, sym, ap, ◌∙◌, inl}
+use Rattle.std.proofs.Common.{refl, sym, inl}
 use Rattle.std.proofs.lemmas.Result.{err_from_is_err_and}
 use Rattle.session_model.specs.Run.Stop.{BehindLine, OutOfMemory}
 use Rattle.drive_tape.proofs.Drives.{not_handled, behind_not_sink, behind_not_denied, memory_not_sink, memory_not_denied}

@@ -1,11 +1,11 @@
-use Rattle.std.proofs.Common.{◌≡◌, ◌+◌, ◌++◌, ◌∷◌, [], ℕ, List, Option, Result, Ok, Err, Some, None, refl, sym, ap, ◌∙◌, subst}
+use Rattle.std.proofs.Common.{ℕ, Err, refl, sym, ◌∙◌}
 use Rattle.std.proofs.lemmas.Result.{err_from_is_err_and}
 use Rattle.cluster_world.specs.Worlds.{plan_of}
 use Rattle.drive_tape.proofs.Joins.{joins}
 use Rattle.drive_tape.proofs.Clusters.{at_plan, stopped_on}
 use Rattle.drive_tape.proofs.Works.{work_more}
 use Rattle.drive_tape.proofs.Fed.{goes_on, goes_held, rests_asked}
-use Rattle.drive_tape.proofs.FedCloses.{closed_begun, closed_point, closed_shows, closed_ends}
+use Rattle.drive_tape.proofs.FedCloses.{closed_begun, closed_shows, closed_ends}
 use Rattle.drive_tape.specs.declared.cluster.Cluster.{Cluster}
 use Rattle.drive_tape.specs.Lines.{NothingIsUnderWay}
 use Rattle.drive_tape.proofs.lines.close_at.Goals as goal

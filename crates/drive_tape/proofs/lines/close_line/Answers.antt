@@ -1,4 +1,4 @@
-use Rattle.std.proofs.Common.{◌≡◌, ◌+◌, ◌++◌, ◌∷◌, [], ℕ, Bool, List, Option, Result, Ok, Err, Some, None, refl, sym, ap, ◌∙◌, subst}
+use Rattle.std.proofs.Common.{ℕ, Some, sym, ap, ◌∙◌, subst}
 use Rattle.std.proofs.lemmas.Result.{err_from_is_err_and}
 use Rattle.cluster_world.specs.Worlds.{plan_of}
 use Rattle.mail_model.specs.Tape.Order.{Close}
@@ -6,7 +6,7 @@ use Rattle.mail_model.specs.Plan.{Plan}
 use Rattle.drive_tape.proofs.Fed.{refused, since_shows, no_session}
 use Rattle.drive_tape.proofs.FedCloses.{close_in_vain, closes}
 use Rattle.drive_tape.proofs.FedMoves.{did_plan}
-use Rattle.drive_tape.specs.Fed.{LetsGo, IsClosingAt}
+use Rattle.drive_tape.specs.Fed.{IsClosingAt}
 use Rattle.drive_tape.specs.declared.drove.TapeFault.TheVariants.{NoSuchSession}
 use Rattle.node_store.specs.Disks.{view_of}
 use Rattle.drive_tape.proofs.lines.close_line.Goals as goal

@@ -1,9 +1,9 @@
-use Rattle.std.proofs.Common.{◌≡◌, ◌+◌, ◌++◌, ◌∷◌, [], ℕ, List, Option, Result, Ok, Err, Some, None, refl, sym, ap, ◌∙◌, subst}
+use Rattle.std.proofs.Common.{ℕ, Err, refl, sym}
 use Rattle.std.proofs.lemmas.Result.{err_from_is_err_and}
 use Rattle.cluster_world.specs.Worlds.{plan_of}
 use Rattle.drive_tape.proofs.Joins.{joins}
 use Rattle.drive_tape.proofs.Clusters.{at_plan}
-use Rattle.drive_tape.proofs.Fed.{not_begun, since_shows, goes_on, rests_asked, fed_point, fed_started, fed_shows, fed_hears}
+use Rattle.drive_tape.proofs.Fed.{not_begun, since_shows, goes_on, rests_asked, fed_started, fed_shows, fed_hears}
 use Rattle.drive_tape.specs.declared.cluster.Cluster.{Cluster}
 use Rattle.drive_tape.proofs.lines.feed_at.Goals as goal
 

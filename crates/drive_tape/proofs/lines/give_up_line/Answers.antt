@@ -1,4 +1,4 @@
-use Rattle.std.proofs.Common.{◌≡◌, ◌+◌, ◌++◌, ◌∷◌, [], ℕ, Bool, List, Option, Result, Ok, Err, Some, None, refl, sym, ap, ◌∙◌, subst}
+use Rattle.std.proofs.Common.{ℕ, Some, sym, ap, ◌∙◌, subst}
 use Rattle.std.proofs.lemmas.Result.{err_from_is_err_and}
 use Rattle.cluster_world.specs.Worlds.{plan_of}
 use Rattle.mail_model.specs.Tape.Order.{GiveUp}
@@ -7,7 +7,7 @@ use Rattle.session_model.specs.Sessions.{session_at}
 use Rattle.drive_tape.proofs.Fed.{refused, since_shows, no_session, no_giver}
 use Rattle.drive_tape.proofs.FedCloses.{giving_in_vain, nothing_to_give, none_since, none_causes, giving}
 use Rattle.drive_tape.proofs.FedMoves.{did_plan}
-use Rattle.drive_tape.specs.Fed.{LetsGo, IsGivingUpAt}
+use Rattle.drive_tape.specs.Fed.{IsGivingUpAt}
 use Rattle.drive_tape.specs.declared.drove.TapeFault.TheVariants.{NoSuchSession, BadLine}
 use Rattle.node_store.specs.Disks.{view_of}
 use Rattle.drive_tape.proofs.lines.give_up_line.Goals as goal

@@ -1,14 +1,13 @@
-use Rattle.std.proofs.Common.{◌≡◌, ◌+◌, ◌++◌, ◌∷◌, [], ℕ, Bool, List, Option, Result, Ok, Err, Some, None, refl, sym, ap, ◌∙◌, subst}
+use Rattle.std.proofs.Common.{ℕ, List, Option, Ok, Err, refl, sym, ap, subst}
 use Rattle.std.proofs.lemmas.Result.{err_from_is_err_and}
 use Rattle.cluster_world.specs.Worlds.{plan_of}
 use Rattle.drive_tape.specs.Happenings.{WritesOrStops}
-use Rattle.drive_tape.specs.declared.entry.WriteStop.{WriteStop}
 use Rattle.session_model.specs.Events.{event_entries}
 use Rattle.drive_tape.specs.Happenings.{event_seen}
 use Rattle.drive_tape.proofs.Joins.{joins, wrote_all}
-use Rattle.drive_tape.proofs.Clusters.{at_plan, went_plan}
+use Rattle.drive_tape.proofs.Clusters.{at_plan}
 use Rattle.drive_tape.proofs.Fed.{goes_on, rests_asked}
-use Rattle.drive_tape.proofs.FedMoves.{stops_moved, moved_started, moved_point, may_fall}
+use Rattle.drive_tape.proofs.FedMoves.{stops_moved, moved_started, may_fall}
 use Rattle.drive_tape.proofs.lines.happen.Goals as goal
 
 pub returns-in_err-write_event-clause-happened : goal.returns-in_err-write_event-clause-happened

@@ -1,14 +1,12 @@
-use Rattle.std.proofs.Common.{◌≡◌, ◌+◌, ◌++◌, ◌∷◌, [], ℕ, Bool, List, Option, Result, Ok, Err, Some, None, refl, sym, ap, ◌∙◌, subst}
+use Rattle.std.proofs.Common.{◌≡◌, Err, None, refl, sym, ◌∙◌, subst}
 use Rattle.std.proofs.lemmas.Result.{err_from_is_err_and}
 use Rattle.mail_model.specs.Plan.{Plan}
 use Rattle.mail_model.specs.Tape.{ClusterOrder}
 use Rattle.mail_model.specs.Tape.Order.{Moves}
 use Rattle.session_model.specs.Run.{refusal}
-use Rattle.cluster_world.specs.Worlds.{plan_of, life_of}
+use Rattle.cluster_world.specs.Worlds.{plan_of}
 use Rattle.tape_lines.specs.ClusterOrders.{cluster_order_seen}
-use Rattle.drive_tape.specs.Fed.{Happens}
 use Rattle.drive_tape.specs.Moved.{IsFit, Happened, MovedSo}
-use Rattle.drive_tape.specs.Orders.{admitted_seen}
 use Rattle.drive_tape.proofs.Clusters.{at_plan}
 use Rattle.drive_tape.proofs.Fed.{refused, since_shows}
 use Rattle.drive_tape.proofs.FedMoves.{refusal_alike, fit_so, did_plan, moved_in_vain}

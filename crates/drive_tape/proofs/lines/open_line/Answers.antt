@@ -1,4 +1,4 @@
-use Rattle.std.proofs.Common.{◌≡◌, ◌⊎◌, ◌+◌, ◌++◌, ◌∷◌, ◌<◌, ◌≤◌, [], length, ℕ, List, Option, Result, Ok, Err, Some, None, refl, sym, ap, ◌∙◌, subst, inl, inr}
+use Rattle.std.proofs.Common.{◌+◌, ◌∷◌, [], length, ℕ, Some, refl, sym, ap, ◌∙◌}
 use Rattle.std.proofs.lemmas.Result.{err_from_is_err_and}
 use Rattle.mail_model.specs.Tape.Order.{Open}
 use Rattle.cluster_world.specs.Worlds.{plan_of}

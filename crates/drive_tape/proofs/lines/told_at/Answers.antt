@@ -1,14 +1,13 @@
-use Rattle.std.proofs.Common.{◌≡◌, ◌+◌, ◌++◌, ◌∷◌, [], ℕ, Bool, List, Option, Result, Ok, Err, Some, None, refl, sym, ap, ◌∙◌, subst}
+use Rattle.std.proofs.Common.{ℕ, Err, refl, sym, ◌∙◌, subst}
 use Rattle.std.proofs.lemmas.Result.{err_from_is_err_and}
 use Rattle.mail_model.specs.Plan.{Plan}
 use Rattle.session_model.specs.Calls.Answer.{Failed}
-use Rattle.cluster_world.specs.Worlds.{plan_of}
 use Rattle.drive_tape.specs.Moving.{RepliesTo}
 use Rattle.drive_tape.proofs.Joins.{joins}
 use Rattle.drive_tape.proofs.Clusters.{at_plan, went_plan}
 use Rattle.drive_tape.proofs.Works.{work_more}
 use Rattle.drive_tape.proofs.Fed.{goes_on, rests_asked}
-use Rattle.drive_tape.proofs.FedTells.{untold, telling, telling_out, told_point, failed_reply}
+use Rattle.drive_tape.proofs.FedTells.{untold, telling, telling_out, failed_reply}
 use Rattle.drive_tape.specs.declared.cluster.Cluster.{Cluster}
 use Rattle.drive_tape.specs.Lines.{NothingIsUnderWay}
 use Rattle.drive_tape.proofs.lines.told_at.Goals as goal

@@ -1,4 +1,3 @@
-use Rattle.std.proofs.Common.{◌≡◌, Bool, true, false, List, Result, sym, subst}
 use Rattle.node_store.specs.Disks.{view_of}
 use Rattle.drive_tape.proofs.Posting.{post_same}
 use Rattle.drive_tape.proofs.moved.make.Goals as goal

@@ -1,9 +1,6 @@
-use Rattle.std.proofs.Common.{◌≡◌, ℕ, true, Err, refl, sym, ◌∙◌, subst, ⊎_elim}
+use Rattle.std.proofs.Common.{refl, sym, ◌∙◌, subst}
 use Rattle.std.proofs.lemmas.Result.{err_from_is_err_and}
 use Rattle.node_store.specs.Disks.{view_of}
-use Rattle.cluster_world.specs.Lives.{is_up_life}
-use Rattle.cluster_world.specs.Worlds.{life_of}
-use Rattle.drive_tape.specs.Moved.{PushesSo}
 use Rattle.drive_tape.proofs.Posting.{HasPushed, pushed_none, pushed_on, pushed, push_faulted, push_denied, pushed_nothing, push_up}
 use Rattle.drive_tape.proofs.moved.push.Goals as goal
 use Rattle.drive_tape.proofs.moved.push.Goals.{else-loop-number-test, then-loop-number-test+in_ok-letters+in-Some+else-number-number-end}

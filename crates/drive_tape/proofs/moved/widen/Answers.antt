@@ -1,7 +1,5 @@
-use Rattle.std.proofs.Common.{◌≡◌, inl, inr, ⊎_elim, ℕ, List, Option, Ok, Err, refl, sym, ap, ◌∙◌, subst}
+use Rattle.std.proofs.Common.{◌≡◌, ℕ, Ok, Err, refl, ap, subst}
 use Rattle.mail_model.specs.Tape.{ClusterOrder as order}
-use Rattle.session_model.specs.Events.NodeLife.{Down}
-use Rattle.session_model.specs.Events.{NodeLife, turned}
 use Rattle.node_store.specs.Disks.{view_of}
 use Rattle.cluster_world.specs.Steps.{IsStep}
 use Rattle.cluster_world.specs.declared.step.Step.TheVariants.{Widen}

@@ -1,6 +1,6 @@
-use Rattle.std.proofs.Common.{◌≡◌, ◌+◌, ◌<◌, ◌≤◌, ◌∙◌, List, ℕ, length, drop, take, arith, subst, sym}
+use Rattle.std.proofs.Common.{◌+◌, ◌∙◌, List, ℕ, arith, subst, sym}
 use Rattle.std.proofs.lemmas.Result.{err_from_is_err_and}
-use Rattle.drive_tape.proofs.Replies.{written_first, written_next, written_last, written_none, written_part, all_taken}
+use Rattle.drive_tape.proofs.Replies.{written_next, written_last, written_none, written_part, all_taken}
 use Rattle.std.specs.Io.KnownBytes.{Appends}
 use Rattle.drive_tape.specs.Replies.{HasWritten}
 use Rattle.drive_tape.proofs.reply.write_lines.Goals as goal

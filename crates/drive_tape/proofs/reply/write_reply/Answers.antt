@@ -1,4 +1,4 @@
-use Rattle.std.proofs.Common.{◌≡◌, List, [], ◌∷◌, Err, subst, ap}
+use Rattle.std.proofs.Common.{[], ◌∷◌, Err, subst}
 use Rattle.std.proofs.lemmas.Result.{err_from_is_err_and}
 use Rattle.mail_model.specs.Transcript.{Entry}
 use Rattle.drive_tape.specs.Entries.{WritesEntries}

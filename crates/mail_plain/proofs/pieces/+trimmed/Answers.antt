@@ -1,5 +1,4 @@
-use Rattle.std.proofs.Common.{◌≡◌, ◌∙◌, ap, sym}
-use Rattle.mail_model.specs.Smtp.{trimmed}
+use Rattle.std.proofs.Common.{◌∙◌, sym}
 use Rattle.mail_plain.proofs.Ends.{trimmed_blank, trimmed_other}
 use Rattle.mail_plain.proofs.pieces.+trimmed.Goals as goal
 

@@ -1,6 +1,6 @@
 use Rattle.std.proofs.Common.{ℕ, subst}
 use Rattle.std.proofs.lemmas.Result.{err_from_is_err_and}
-use Rattle.cluster_model.specs.Store.{Store, take_all, here_updates}
+use Rattle.cluster_model.specs.Store.{take_all, here_updates}
 use Rattle.node_store.specs.Disks.{view_of}
 use Rattle.node_store.specs.Changes.{with_stored}
 use Rattle.node_store.specs.Writes.{Done, IsCutShort}

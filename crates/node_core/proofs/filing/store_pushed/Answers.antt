@@ -1,4 +1,4 @@
-use Rattle.std.proofs.Common.{◌≡◌, Option, None, refl, sym, subst}
+use Rattle.std.proofs.Common.{◌≡◌, refl, sym, subst}
 use Rattle.mail_base.specs.Seen.{key_seen}
 use Rattle.mail_base.specs.declared.key.Key.{Key}
 use Rattle.mail_base.specs.declared.key.Key.TheVariants.{Message}

@@ -1,5 +1,4 @@
-use Rattle.std.proofs.Common.{ℕ, List, [], take, length, sym, ap, ◌∙◌, subst, ◌≡◌, arith}
-use Rattle.std.specs.Prelude.{All}
+use Rattle.std.proofs.Common.{arith}
 use Rattle.mail_model.specs.Names.{IsLowerName}
 use Rattle.node_core.proofs.Lists.{one_more_all, all_of_taken}
 use Rattle.node_core.proofs.spelling.are_names.Goals as goal

@@ -1,4 +1,4 @@
-use Rattle.std.proofs.Common.{rules, arith, refl, sym, ap, ◌∙◌}
+use Rattle.std.proofs.Common.{arith, ◌∙◌}
 use Rattle.std.proofs.lemmas.Grind.{common_steps}
 use Rattle.yard_stores.proofs.Taking.{tells_push}
 use Rattle.yard_stores.proofs.stores.give_back_all.Goals as goal

@@ -1,4 +1,4 @@
-use Rattle.std.proofs.Common.{rules, sym, ap, ◌∙◌, Some}
+use Rattle.std.proofs.Common.{sym, ap, ◌∙◌, Some}
 use Rattle.cluster_world.proofs.FlightLaws.{heard_at, read_at}
 use Rattle.cluster_world.proofs.flying.Flying.letter.Goals as goal
 

@@ -1,5 +1,4 @@
-use Rattle.std.proofs.Common.{◌≡◌, ◌∙◌, ap, refl, arith}
-use Rattle.std.specs.Prelude.{slice_set}
+use Rattle.std.proofs.Common.{◌∙◌, refl, arith}
 use Rattle.cluster_world.proofs.Changing.{up_at, asked_at}
 use Rattle.cluster_world.proofs.nodes.Nodes.ask.Goals as goal
 

@@ -1,4 +1,4 @@
-use Rattle.std.proofs.Common.{◌≡◌, refl, ap, arith}
+use Rattle.std.proofs.Common.{refl, ap, arith}
 use Rattle.cluster_world.proofs.Changing.{turned_at}
 use Rattle.cluster_world.proofs.nodes.Nodes.turn.Goals as goal
 

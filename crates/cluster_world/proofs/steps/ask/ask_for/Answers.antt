@@ -7,10 +7,9 @@ use Rattle.cluster_world.specs.Books.{entries_seen}
 use Rattle.cluster_world.specs.Lives.{of_node}
 use Rattle.cluster_world.proofs.Still.{some_same}
 use Rattle.cluster_world.specs.Worlds.{state_with}
-use Rattle.cluster_world.specs.Steps.{StepDid}
 use Rattle.cluster_world.specs.declared.step.Step.TheVariants as step
 use Rattle.cluster_world.proofs.Same.{none_done}
-use Rattle.cluster_world.proofs.Asked.{asked_did, none_stood, asked_room, asked_ready, asked_settled, up_whole, if_there, same_book, none_of}
+use Rattle.cluster_world.proofs.Asked.{asked_did, none_stood, asked_room, asked_ready, asked_settled, up_whole, if_there, same_book}
 use Rattle.cluster_world.proofs.steps.ask.ask_for.Goals as goal
 
 pub entries_at-requires : goal.entries_at-requires

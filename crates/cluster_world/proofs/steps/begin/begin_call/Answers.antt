@@ -1,4 +1,4 @@
-use Rattle.std.proofs.Common.{◌≡◌, ◌∙◌, ap, refl, subst, sym, arith}
+use Rattle.std.proofs.Common.{◌∙◌, refl, sym, arith}
 use Rattle.std.proofs.lemmas.Result.{err_from_is_err_and}
 use Rattle.node_store.specs.Disks.{view_of}
 use Rattle.node_core.specs.Beginning.{call_seen}
@@ -6,7 +6,7 @@ use Rattle.cluster_world.specs.Worlds.{state_with}
 use Rattle.cluster_world.specs.declared.step.Step.TheVariants as step
 use Rattle.cluster_world.proofs.Same.{none_done}
 use Rattle.cluster_world.proofs.Asked.{same_book}
-use Rattle.cluster_world.proofs.BeginParts.{rule_of, begin_ready, begin_heard, begin_within}
+use Rattle.cluster_world.proofs.BeginParts.{rule_of, begin_ready}
 use Rattle.cluster_world.proofs.BeginEnds.{begin_late, begun_did, concluded_ready, concluded_room, concluded_settled}
 use Rattle.cluster_world.proofs.steps.begin.begin_call.Goals as goal
 

@@ -1,4 +1,4 @@
-use Rattle.std.proofs.Common.{◌≡◌, ◌∙◌, ap, is_some, subst}
+use Rattle.std.proofs.Common.{◌∙◌, ap, is_some}
 use Rattle.node_core.specs.Standing.{ticket_standing}
 use Rattle.cluster_world.proofs.Given.{kind_tells}
 use Rattle.cluster_world.proofs.steps.give_up.stands_at.Goals as goal

@@ -1,4 +1,4 @@
-use Rattle.std.proofs.Common.{◌∙◌, refl, sym}
+use Rattle.std.proofs.Common.{◌∙◌, refl}
 use Rattle.node_store.specs.Disks.{view_of}
 use Rattle.cluster_world.proofs.Handing.{up_works, heard_in}
 use Rattle.cluster_world.proofs.steps.post.hear_in.Goals as goal

@@ -1,4 +1,4 @@
-use Rattle.std.proofs.Common.{◌≡◌, ◌∙◌, refl, sym, ap, subst, nat_le}
+use Rattle.std.proofs.Common.{◌∙◌, refl, sym, ap, nat_le}
 use Rattle.cluster_model.specs.Steps.{letters_end}
 use Rattle.node_store.specs.Disks.{view_of}
 use Rattle.cluster_world.specs.Flights.{taken_out}

@@ -1,8 +1,3 @@
-use Rattle.std.proofs.Common.{Bool, Result, Ok, Err}
-use Rattle.std.specs.Prelude.{IfOk}
-use Rattle.cluster_world.specs.Pushes.{IsCrowdedAt}
-use Rattle.cluster_world.specs.declared.life.Life.{Life}
-use Rattle.cluster_world.specs.declared.life.Life.TheVariants.{Up}
 use Rattle.cluster_world.proofs.Pushing.{crowded_at}
 use Rattle.cluster_world.proofs.steps.push.is_crowded_at.Goals as goal
 

@@ -1,4 +1,4 @@
-use Rattle.std.proofs.Common.{◌≡◌, ℕ, List, [], ◌∷◌, Result, refl}
+use Rattle.std.proofs.Common.{[], ◌∷◌, Result, refl}
 use Rattle.std.specs.List.{list_all}
 use Rattle.cluster_model.specs.Steps.{is_node}
 use Rattle.node_store.specs.Disks.{view_of}

@@ -1,4 +1,4 @@
-use Rattle.std.proofs.Common.{◌≡◌, ◌∙◌, ◌++◌, ap, refl, subst, sym, arith, Ok, Err}
+use Rattle.std.proofs.Common.{◌∙◌, ◌++◌, ap, refl, subst, sym, arith}
 use Rattle.std.proofs.lemmas.Result.{err_from_is_err_and}
 use Rattle.node_store.specs.Disks.{view_of}
 use Rattle.cluster_world.specs.Pushes.{letters_left_by, octets_left_by, IsCrowdedAt}

@@ -1,4 +1,4 @@
-use Rattle.std.proofs.Common.{◌≡◌, ℕ, Bool, List, [], ◌∷◌, Result, true, refl}
+use Rattle.std.proofs.Common.{Bool, [], ◌∷◌, Result, refl}
 use Rattle.std.specs.List.{list_all}
 use Rattle.mail_model.specs.Identity.Key.{Message}
 use Rattle.cluster_model.specs.Steps.{is_node}

@@ -1,4 +1,4 @@
-use Rattle.std.proofs.Common.{◌≡◌, Err, Ok, refl, sym, ◌∙◌, subst}
+use Rattle.std.proofs.Common.{Ok, sym, subst}
 use Rattle.node_store.specs.Disks.{view_of}
 use Rattle.cluster_world.specs.Worlds.{state_of, state_with}
 use Rattle.cluster_world.specs.Steps.{StepDid}

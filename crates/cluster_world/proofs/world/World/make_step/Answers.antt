@@ -1,8 +1,6 @@
-use Rattle.std.proofs.Common.{◌≡◌, Err, Ok, refl, sym, ◌∙◌, subst}
+use Rattle.std.proofs.Common.{sym, ◌∙◌}
 use Rattle.node_store.specs.Disks.{view_of}
-use Rattle.cluster_world.specs.Worlds.{state_of, state_with}
-use Rattle.cluster_world.specs.Steps.{StepDid}
-use Rattle.cluster_world.specs.declared.step.Said.TheVariants.{Done}
+use Rattle.cluster_world.specs.Worlds.{state_of}
 use Rattle.cluster_world.proofs.Refused.{refused_did}
 use Rattle.cluster_world.proofs.world.World.make_step.Goals as goal
 

@@ -1,8 +1,7 @@
-use Rattle.std.proofs.Common.{◌≡◌, ◌+◌, ◌<◌, ◌++◌, ◌∷◌, [], ℕ, length, List, Option, None, Err, refl, sym, ap, ◌∙◌, subst}
+use Rattle.std.proofs.Common.{◌+◌, refl, sym, ap, subst}
 use Rattle.std.proofs.lemmas.Result.{err_from_is_err_and}
 use Rattle.call_tickets.specs.Seen.{answer_seen}
 use Rattle.mail_model.specs.Plan.{Plan}
-use Rattle.cluster_world.specs.Worlds.{plan_of}
 use Rattle.drive_tape.specs.declared.sessions.Sessions.{Sessions}
 use Rattle.drive_tape.specs.Moving.{RepliesTo}
 use Rattle.drive_tape.specs.Talks.{Converse}

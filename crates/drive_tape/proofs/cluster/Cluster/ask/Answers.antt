@@ -1,4 +1,4 @@
-use Rattle.std.proofs.Common.{◌≡◌, ◌+◌, ◌<◌, ◌++◌, ◌∷◌, [], ℕ, List, Option, Some, None, Ok, Err, refl, sym, ap, ◌∙◌, subst}
+use Rattle.std.proofs.Common.{◌+◌, ℕ, refl, sym}
 use Rattle.std.proofs.lemmas.Result.{err_from_is_err_and}
 use Rattle.drive_tape.proofs.Asking.{waiter, stands, kind, waits_on, told, stops_for, answer_plan, answered_less}
 use Rattle.drive_tape.proofs.Clusters.{stopped_plan, went_plan}

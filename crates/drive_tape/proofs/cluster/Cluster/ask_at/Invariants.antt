@@ -1,4 +1,4 @@
-use Rattle.std.proofs.Common.{◌≡◌, ◌≤◌, ◌+◌, ℕ, length}
+use Rattle.std.proofs.Common.{◌≡◌, ◌≤◌, length}
 use Rattle.node_store.specs.Disks.{view_of}
 use Rattle.cluster_world.specs.Worlds.{plan_of}
 use Rattle.cluster_world.specs.declared.world.World.{World}

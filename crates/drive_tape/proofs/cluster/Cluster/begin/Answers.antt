@@ -1,5 +1,4 @@
-use Rattle.std.proofs.Common.{◌≡◌, ◌+◌, ◌++◌, ◌∷◌, ◌<◌, [], ℕ, length, List, Option, Some, Err, refl, sym, ap, ◌∙◌, subst}
-use Rattle.std.specs.Vec.{with_item}
+use Rattle.std.proofs.Common.{◌+◌, ◌<◌, ℕ, length, List, Option, refl, sym, subst}
 use Rattle.std.proofs.lemmas.Result.{err_from_is_err_and}
 use Rattle.std.proofs.lemmas.Option.{slice_get_read}
 use Rattle.node_store.specs.Disks.{view_of}
@@ -10,7 +9,7 @@ use Rattle.cluster_world.specs.Outcomes.{without_node}
 use Rattle.cluster_world.specs.Outcomes.Outcome.{Fell}
 use Rattle.drive_tape.proofs.Clusters.{stopped_on, went_on}
 use Rattle.drive_tape.proofs.Places.{node_is}
-use Rattle.drive_tape.proofs.Begins.{asks_whole, at_own, begins, begun_point, begun_work, falls, stops_beginning}
+use Rattle.drive_tape.proofs.Begins.{asks_whole, at_own, begins, begun_work, falls, stops_beginning}
 use Rattle.drive_tape.proofs.cluster.Cluster.begin.Goals as goal
 
 pub returns-in_err-open_call-clause-began : goal.returns-in_err-open_call-clause-began

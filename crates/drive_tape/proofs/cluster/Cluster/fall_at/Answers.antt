@@ -1,4 +1,4 @@
-use Rattle.std.proofs.Common.{◌≡◌, ◌+◌, ◌++◌, ◌∷◌, [], ℕ, List, Option, true, false, Err, refl, sym, ap, ◌∙◌, subst, arith}
+use Rattle.std.proofs.Common.{◌+◌, ◌∷◌, [], true, false, refl, sym, ◌∙◌}
 use Rattle.std.proofs.lemmas.Result.{err_from_is_err_and}
 use Rattle.std.proofs.lemmas.List.{append-nil}
 use Rattle.std.proofs.lemmas.List.Elements.{All-nil, All-cons}
@@ -6,7 +6,7 @@ use Rattle.mail_model.specs.Lines.{HasNoCrlf, sent_line}
 use Rattle.session_model.specs.Talk.{down_line}
 use Rattle.drive_tape.proofs.Works.{work_none}
 use Rattle.drive_tape.proofs.Clusters.{as_wrote, as_gave, stops_at_once}
-use Rattle.drive_tape.proofs.Falling.{passed_over, falls_on, falling_on, stops_falling, fallen_point}
+use Rattle.drive_tape.proofs.Falling.{passed_over, falls_on, falling_on, stops_falling}
 use Rattle.drive_tape.proofs.cluster.Cluster.fall_at.Goals as goal
 
 pub returns-in_err-fall-clause-fell : goal.returns-in_err-fall-clause-fell

@@ -1,4 +1,4 @@
-use Rattle.std.proofs.Common.{◌≡◌, ◌+◌, ℕ, refl, sym, ap, ◌∙◌, subst}
+use Rattle.std.proofs.Common.{◌+◌, refl}
 use Rattle.std.proofs.lemmas.Result.{err_from_is_err_and}
 use Rattle.drive_tape.proofs.Clusters.{stays_ended, has_left, stops_leaving}
 use Rattle.drive_tape.proofs.cluster.Cluster.leave.Goals as goal

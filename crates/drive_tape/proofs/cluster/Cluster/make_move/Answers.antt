@@ -1,15 +1,14 @@
-use Rattle.std.proofs.Common.{◌≡◌, ◌+◌, ◌++◌, ◌∷◌, [], ℕ, List, Option, Err, Some, None, refl, sym, ap, ◌∙◌, subst}
+use Rattle.std.proofs.Common.{refl, subst}
 use Rattle.std.proofs.lemmas.Result.{err_from_is_err_and}
 use Rattle.cluster_world.specs.Worlds.{plan_of}
 use Rattle.session_model.specs.Sessions.{exchanges_of}
 use Rattle.mail_model.specs.Plan.{Plan}
 use Rattle.drive_tape.specs.Moving.{MovesTo}
-use Rattle.drive_tape.specs.Points.{WentOn}
-use Rattle.drive_tape.specs.Clusters.{RestsAt, IsSaying}
+use Rattle.drive_tape.specs.Clusters.{RestsAt}
 use Rattle.drive_tape.proofs.Clusters.{stops_at_once}
 use Rattle.drive_tape.proofs.Talks.{on_not_ended}
 use Rattle.drive_tape.proofs.Moves.{saying, beginning, rests, waits_idle, waits_stays, nothing_idle, nothing_stays}
-use Rattle.drive_tape.proofs.Hearing.{saying_out, went_held, on_ok, if_ok, begun_less, said_less, stays_less, no_more}
+use Rattle.drive_tape.proofs.Hearing.{saying_out, went_held}
 use Rattle.drive_tape.proofs.cluster.Cluster.make_move.Goals as goal
 
 pub returns-in_err-did-clause-moved : goal.returns-in_err-did-clause-moved

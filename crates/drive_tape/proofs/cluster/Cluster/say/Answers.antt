@@ -1,4 +1,4 @@
-use Rattle.std.proofs.Common.{◌≡◌, ◌+◌, ◌++◌, ℕ, List, Option, true, false, Err, refl, sym, ap, ◌∙◌, subst}
+use Rattle.std.proofs.Common.{◌+◌, true, false}
 use Rattle.std.proofs.lemmas.Result.{err_from_is_err_and}
 use Rattle.drive_tape.specs.declared.sessions.After.TheVariants.{Stays, Ends}
 use Rattle.drive_tape.proofs.Clusters.{said_on, said_ends, said_work, said_shows, stops_saying, went_on, stopped_on, held_point, as_wrote, as_gave}

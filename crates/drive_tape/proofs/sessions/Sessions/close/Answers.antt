@@ -1,17 +1,9 @@
-use Rattle.std.proofs.Common.{◌≡◌, ◌<◌, ◌≤◌, ℕ, List, [], ◌∷◌, length, Option, Some, None, true, false, refl, sym, ap, ◌∙◌, subst, arith, inl, inr}
-use Rattle.std.specs.Prelude.{slice_get, slice_set}
+use Rattle.std.proofs.Common.{Option, Some, refl, sym, ap, ◌∙◌, subst}
 use Rattle.std.proofs.lemmas.Option.{slice_get_read}
-use Rattle.std.proofs.lemmas.Result.{on_ok_weaker}
-use Rattle.session_model.specs.Sessions.{Session}
-use Rattle.session_model.specs.Talk.{IsOn}
 use Rattle.session_model.specs.Talk.Standing.{EndedClosed}
-use Rattle.call_tickets.specs.Moves.{HasEnded}
-use Rattle.drive_tape.specs.Talks.{Converse, Sits}
+use Rattle.drive_tape.specs.Talks.{Sits}
 use Rattle.drive_tape.specs.declared.talker.Talker.{Talker}
-use Rattle.call_tickets.specs.Moves.Due.{Nothing}
-use Rattle.drive_tape.specs.Speakers.{Matches}
-use Rattle.drive_tape.proofs.Talks.{matches_at, found_at, sit_none, is_on_so, it_is, it_is_not, converse_more, converse_get, converse_set, none_at, at_place, set_here, set_here_with, set_length, set_same, set_twice, within_get, is_ended, on_not_ended, did_node, some_same, asks_waits}
-use Rattle.drive_tape.proofs.Moving.{seated, waits_on, left_none, left_set}
+use Rattle.drive_tape.proofs.Talks.{matches_at, sit_none, converse_set, on_not_ended}
 use Rattle.drive_tape.proofs.sessions.Sessions.close.Goals as goal
 
 pub returns-in-Some-clause-closed : goal.returns-in-Some-clause-closed

@@ -1,18 +1,12 @@
-use Rattle.std.proofs.Common.{◌++◌, ◌≡◌, ◌<◌, ◌≤◌, ℕ, List, [], ◌∷◌, length, Option, Some, None, true, false, refl, sym, ap, ◌∙◌, subst, arith, inl, inr}
-use Rattle.std.specs.Prelude.{slice_get, slice_set}
+use Rattle.std.proofs.Common.{◌++◌, ℕ, List, [], ◌∷◌, Option, Some, refl, sym, ap, ◌∙◌, subst}
+use Rattle.std.specs.Prelude.{slice_set}
 use Rattle.std.proofs.lemmas.Option.{slice_get_read}
-use Rattle.std.proofs.lemmas.Result.{on_ok_weaker}
 use Rattle.session_model.specs.Sessions.{Session}
-use Rattle.session_model.specs.Talk.{IsOn, down_line}
-use Rattle.session_model.specs.Acts.Deed.{Falls}
-use Rattle.session_model.specs.Talk.Standing.{EndedClosed}
-use Rattle.call_tickets.specs.Moves.{HasEnded}
+use Rattle.session_model.specs.Talk.{down_line}
 use Rattle.drive_tape.specs.Talks.{Converse, Sits}
 use Rattle.drive_tape.specs.declared.talker.Talker.{Talker}
-use Rattle.call_tickets.specs.Moves.Due.{Nothing}
-use Rattle.drive_tape.specs.Speakers.{Matches}
-use Rattle.drive_tape.proofs.Talks.{matches_at, found_at, sit_none, is_on_so, it_is, it_is_not, converse_more, converse_get, converse_set, none_at, at_place, set_here, set_here_with, set_length, set_same, set_twice, within_get, is_ended, on_not_ended, did_node, some_same, asks_waits}
-use Rattle.drive_tape.proofs.Moving.{seated, stays, waits_on, left_none, left_set, left_was, fell_ended, any_plan}
+use Rattle.drive_tape.proofs.Talks.{matches_at, sit_none, converse_set, set_same}
+use Rattle.drive_tape.proofs.Moving.{fell_ended, any_plan}
 use Rattle.drive_tape.proofs.sessions.Sessions.fall.Goals as goal
 
 pub returns-then-has_ended-clause-fell : goal.returns-then-has_ended-clause-fell

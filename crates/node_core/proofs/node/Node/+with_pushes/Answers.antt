@@ -1,4 +1,4 @@
-use Rattle.std.proofs.Common.{◌≡◌, List, ◌++◌, map, sym, subst}
+use Rattle.std.proofs.Common.{List, ◌++◌, map, sym, subst}
 use Rattle.std.specs.FinMap as fin
 use Rattle.mail_base.specs.declared.key.Key as code
 use Rattle.mail_base.specs.Seen.{key_seen}

@@ -1,6 +1,6 @@
 use Rattle.std.proofs.Common.{sym, subst}
 use Rattle.call_tickets.specs.declared.call.Call.{Call}
-use Rattle.call_tickets.specs.declared.call.Call.TheVariants.{Fetch, Strike, Leave}
+use Rattle.call_tickets.specs.declared.call.Call.TheVariants.{Strike}
 use Rattle.node_store.specs.Disks.{view_of}
 use Rattle.node_core.specs.Beginning.{NodeBegins, IsTextEnded, call_seen}
 use Rattle.node_core.proofs.node.Node.begin.Goals as goal

@@ -1,9 +1,9 @@
-use Rattle.std.proofs.Common.{◌≡◌, ℕ, List, length, nat_lt, nat_le, Bool, true, false, refl, sym, ap, ◌∙◌}
+use Rattle.std.proofs.Common.{◌≡◌, nat_lt, true, false, refl, sym, ap, ◌∙◌}
 use Rattle.object_model.specs.Mishaps.{Mishaps, mishaps_of}
 use Rattle.mail_base.specs.Delivers.{mail_in}
 use Rattle.cluster_model.specs.Cluster.CallKind.{Delivering}
 use Rattle.cluster_model.specs.Steps.NodeCall.{Deliver}
-use Rattle.cluster_model.specs.Steps.{fails_at_once, mishaps_of_call}
+use Rattle.cluster_model.specs.Steps.{fails_at_once}
 use Rattle.node_store.specs.Disks.{view_of}
 use Rattle.node_tickets.specs.Seen.{mishaps_seen}
 use Rattle.node_core.specs.Nodes.{node_seen}

@@ -1,4 +1,4 @@
-use Rattle.std.proofs.Common.{ℕ, ◌<◌, ◌≤◌, suc, zero, subst, sym, arith}
+use Rattle.std.proofs.Common.{ℕ, ◌<◌, subst, sym, arith}
 use Rattle.node_core.proofs.Everyone.{some_nodes}
 use Rattle.node_core.proofs.node.Node.everyone.Goals as goal
 

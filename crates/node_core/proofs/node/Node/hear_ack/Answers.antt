@@ -1,14 +1,12 @@
-use Rattle.std.proofs.Common.{◌≡◌, ◌≤◌, ℕ, List, [], None, refl, sym, ap, subst, ◌∙◌, arith}
+use Rattle.std.proofs.Common.{◌≡◌, ◌≤◌, ℕ, List, None, refl, sym, ap, subst, ◌∙◌, arith}
 use Rattle.std.specs.FinMap as fin
 use Rattle.std.proofs.lemmas.Result.{err_from_is_err_and}
 use Rattle.object_model.specs.Letters.{Letter}
 use Rattle.object_model.specs.Letters.Body.{Retire}
 use Rattle.mail_base.specs.Seen.{key_seen}
 use Rattle.update_log.specs.Answers.{answer_at}
-use Rattle.update_log.specs.declared.logged.Acked.{Acked}
 use Rattle.update_log.specs.declared.logged.Acked.TheVariants.{Cleared, Emptied, Other}
 use Rattle.replica_push.proofs.Follows.{acks_follow}
-use Rattle.cluster_model.specs.Cluster.{epoch_of}
 use Rattle.cluster_model.specs.Rules.{hear_ack, receivers, letters_to}
 use Rattle.cluster_model.specs.Starts.{first_epoch}
 use Rattle.node_store.specs.Disks.{view_of}

@@ -1,4 +1,4 @@
-use Rattle.std.proofs.Common.{◌≡◌, ◌&&◌, Bool, ap, ◌∙◌}
+use Rattle.std.proofs.Common.{◌&&◌, Bool, ap, ◌∙◌}
 use Rattle.object_model.specs.UpdateLog.{owes}
 use Rattle.node_core.specs.Nodes.{node_seen}
 use Rattle.node_core.proofs.Pushed.{is_due_is}

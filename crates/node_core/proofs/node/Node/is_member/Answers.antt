@@ -1,4 +1,4 @@
-use Rattle.std.proofs.Common.{◌≡◌, ℕ, sym, ap, ◌∙◌}
+use Rattle.std.proofs.Common.{ℕ, sym, ap, ◌∙◌}
 use Rattle.object_model.specs.Sets.{has}
 use Rattle.node_core.proofs.Everyone.{first_are_all}
 use Rattle.node_core.proofs.node.Node.is_member.Goals as goal

@@ -1,4 +1,4 @@
-use Rattle.std.proofs.Common.{◌≡◌, ℕ, List, map, take, sym, ap, ◌∙◌}
+use Rattle.std.proofs.Common.{ℕ, List, map, take, sym, ap, ◌∙◌}
 use Rattle.std.specs.FinMap as fin
 use Rattle.mail_model.specs.Identity.{Key}
 use Rattle.mail_base.specs.declared.key.Key as code

@@ -1,5 +1,4 @@
 use Rattle.std.proofs.Common.{◌∙◌, refl}
-use Rattle.node_store.specs.Disks.{view_of}
 use Rattle.node_core.specs.Beginning.{CallDid}
 use Rattle.node_core.proofs.Parts.{as_it_is, leave_fresh}
 use Rattle.node_core.proofs.node.Node.leave.Goals as goal

@@ -1,12 +1,9 @@
-use Rattle.std.proofs.Common.{◌≡◌, ℕ, List, Option, Some, sym, ap, subst, ◌∙◌, refl}
+use Rattle.std.proofs.Common.{ℕ, List, Option, Some, sym, subst, ◌∙◌, refl}
 use Rattle.std.specs.Prelude.{Vec, Err}
 use Rattle.std.specs.declared.alloc.Global.{Global}
-use Rattle.mail_model.specs.Record.{Record}
 use Rattle.node_store.specs.Disks.{view_of}
 use Rattle.node_store.specs.Reads.{part_in, given_octets, GivesWanted, ReadsWanted}
 use Rattle.node_store.specs.declared.fault.ReadFault.{ReadFault}
-use Rattle.node_core.specs.Nodes.{Keeps}
-use Rattle.node_core.specs.Reading.{copy_size}
 use Rattle.node_core.proofs.Parts.{some_read, read_other}
 use Rattle.node_core.proofs.node.Node.read_part.Goals as goal
 

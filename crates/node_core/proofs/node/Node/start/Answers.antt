@@ -1,18 +1,8 @@
-use Rattle.std.proofs.Common.{◌≡◌, ◌<◌, ◌≤◌, ◌+◌, ℕ, [], ◌∷◌, ◌++◌, Some, refl, sym, ap, subst, ◌∙◌, arith}
-use Rattle.std.specs.FinMap as fin
+use Rattle.std.proofs.Common.{◌+◌, refl, arith}
 use Rattle.std.proofs.lemmas.Result.{err_from_is_err_and}
-use Rattle.mail_model.specs.Record.Record.{Boot}
-use Rattle.object_model.specs.UpdateLog.{Log}
-use Rattle.cluster_model.specs.Cluster as plain
-use Rattle.cluster_model.specs.Claims.{boot_of}
-use Rattle.cluster_model.specs.Starts.{first_membership, recovered, drawn_on, greatest_count_on, started}
-use Rattle.cluster_model.specs.Steps.{greatest_boot}
 use Rattle.node_store.specs.Disks.{view_of}
-use Rattle.node_tickets.specs.Standing.{tickets_in}
-use Rattle.node_core.specs.Nodes.{node_seen}
-use Rattle.node_core.specs.Starting.{StartedOver, StoppedOver, WornOver}
-use Rattle.node_core.specs.declared.node.Node.{Node}
-use Rattle.node_core.proofs.Restarting.{drawn_booted, count_booted, recovered_booted, reopen_failed, after_reading, worn_over, boot_failed, has_started}
+use Rattle.node_core.specs.Starting.{WornOver}
+use Rattle.node_core.proofs.Restarting.{reopen_failed, after_reading, worn_over, boot_failed, has_started}
 use Rattle.node_core.proofs.node.Node.start.Goals as goal
 
 pub returns-in_err-store-clause-starts : goal.returns-in_err-store-clause-starts

@@ -1,4 +1,4 @@
-use Rattle.std.proofs.Common.{◌≡◌, ℕ, List, length, nat_lt, Bool, true, false, refl, sym, ap, subst, ◌∙◌}
+use Rattle.std.proofs.Common.{◌≡◌, ℕ, nat_lt, true, false, refl, sym, ap, subst, ◌∙◌}
 use Rattle.std.proofs.lemmas.List.{length-map}
 use Rattle.object_model.specs.Mishaps.{Mishaps, mishaps_of}
 use Rattle.mail_base.specs.declared.item.Item.{Item}
@@ -9,8 +9,8 @@ use Rattle.node_store.specs.Disks.{view_of}
 use Rattle.node_tickets.specs.Seen.{mishaps_seen}
 use Rattle.node_core.specs.Nodes.{node_seen}
 use Rattle.node_core.specs.Failing.{lacks_numbers}
-use Rattle.node_core.specs.Beginning.{struck_of, NodeBegins}
-use Rattle.node_core.proofs.Begun.{refuses, worn_goes}
+use Rattle.node_core.specs.Beginning.{struck_of}
+use Rattle.node_core.proofs.Begun.{refuses}
 use Rattle.node_core.proofs.StrikesBegun.{strike_mishaps, strikes}
 use Rattle.node_core.proofs.node.Node.strike.Goals as goal
 

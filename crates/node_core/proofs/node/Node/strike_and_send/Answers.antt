@@ -2,18 +2,15 @@ use Rattle.std.proofs.Common.{◌≡◌, ℕ, List, ◌+◌, sym, ap, subst, ◌
 use Rattle.std.specs.FinMap as fin
 use Rattle.std.proofs.lemmas.Result.{err_from_is_err_and}
 use Rattle.std.proofs.lemmas.List.{length-map}
-use Rattle.std.specs.Prelude.{All, Err, Ok, Some}
+use Rattle.std.specs.Prelude.{Ok, Some}
 use Rattle.mail_model.specs.Identity.{Id}
-use Rattle.mail_model.specs.Grammar.{IsObject}
 use Rattle.object_model.specs.Letters.{Number, DeletionMark}
 use Rattle.object_model.specs.Sets.{all_nodes}
 use Rattle.cluster_model.specs.Cluster.{epoch_of}
-use Rattle.cluster_model.specs.Store.{gone_updates, take_all}
+use Rattle.cluster_model.specs.Store.{gone_updates}
 use Rattle.cluster_model.specs.Rules.{marks_for, strikes_to, new_number, drawn_past}
-use Rattle.cluster_model.specs.Steps.{Struck}
 use Rattle.mail_base.specs.declared.item.Item.{Item}
 use Rattle.node_store.specs.Disks.{view_of}
-use Rattle.node_store.specs.Writes.{Done, IsCutShort}
 use Rattle.node_tickets.specs.Standing.{tickets_in, ticket_of_deletion}
 use Rattle.node_core.specs.Nodes.{node_seen}
 use Rattle.node_core.specs.Spelling.{AllCanBeTaken}

@@ -1,5 +1,4 @@
 use Rattle.std.proofs.Common.{ℕ, ◌<◌, ◌^◌, subst}
-use Rattle.std.specs.Prelude.{All}
 use Rattle.object_model.specs.Sets.{all_nodes}
 use Rattle.cluster_model.specs.Store.{take_all, gone_updates}
 use Rattle.node_store.specs.Disks.{view_of}

@@ -1,5 +1,4 @@
-use Rattle.std.proofs.Common.{◌≡◌, List, [], ◌∷◌, ◌++◌, Option, Some, sym, ap, subst, ◌∙◌}
-use Rattle.std.specs.FinMap as fin
+use Rattle.std.proofs.Common.{[], ◌∷◌, ◌++◌, Some, sym, ap, ◌∙◌}
 use Rattle.object_model.specs.UpdateLog.{Logged}
 use Rattle.object_model.specs.Letters.{Letter}
 use Rattle.mail_base.specs.Seen.{key_seen}

@@ -1,15 +1,14 @@
-use Rattle.std.proofs.Common.{◌≡◌, ℕ, Bool, List, [], ◌++◌, length, take, drop, refl, sym, ap, subst, ◌∙◌}
+use Rattle.std.proofs.Common.{◌≡◌, ℕ, List, [], length, drop, sym, ap, subst, ◌∙◌}
 use Rattle.std.proofs.lemmas.List.{append-nil}
 use Rattle.std.proofs.Math.Seq.{drop-length}
 use Rattle.dot_text.specs.Shown.{Shown}
 use Rattle.dot_text.specs.Places.{IsWithin}
-use Rattle.dot_text.specs.declared.undotter.Cut.TheVariants.{More, Ended}
+use Rattle.dot_text.specs.declared.undotter.Cut.TheVariants.{Ended}
 use Rattle.call_tickets.specs.declared.step.Move.TheVariants.{Idle}
 use Rattle.smtp_session.specs.declared.session.Turn.{Turn}
-use Rattle.smtp_session.specs.declared.session.SmtpSession.{SmtpSession}
 use Rattle.smtp_session.specs.Follows.{Moved}
 use Rattle.smtp_session.proofs.Units.{session}
-use Rattle.smtp_session.proofs.Texts.{moved_on, moved_end, ended}
+use Rattle.smtp_session.proofs.Texts.{moved_on, ended}
 use Rattle.smtp_session.proofs.session.SmtpSession.hear_text.Goals as goal
 
 pub returns-in-More-clause-ok : goal.returns-in-More-clause-ok

@@ -1,4 +1,3 @@
-use Rattle.std.proofs.Common.{refl}
 use Rattle.smtp_session.proofs.Moving.{falls}
 use Rattle.smtp_session.proofs.session.SmtpSession.node_down.Goals as goal
 

@@ -1,4 +1,3 @@
-use Rattle.std.proofs.Common.{List, ℕ}
 use Rattle.mail_model.specs.Lines.{sent_line}
 use Rattle.smtp_session.specs.Replies.{text_of}
 use Rattle.smtp_session.proofs.Moving.{moved_due}
