@@ -24,7 +24,7 @@ use Rattle.cluster_world.specs.Stands.{SlotStands}
 use Rattle.cluster_world.specs.Steps.{EveryStopKeeps}
 use Rattle.cluster_world.specs.Worlds.{State, state_with, Stands}
 use Rattle.cluster_world.specs.declared.life.Life.{Life}
-use Rattle.cluster_world.specs.declared.life.Life.TheVariants.{Up, Down, Lost}
+use Rattle.cluster_world.specs.declared.life.Life.TheVariants.{Up, Down}
 use Rattle.cluster_world.specs.declared.nodes.Nodes.{Nodes}
 use Rattle.cluster_world.proofs.Still.{if_some, images_stop}
 use Rattle.cluster_world.proofs.Worked.{passed, if_told}

@@ -20,7 +20,6 @@ use Rattle.node_store.specs.Disks.{View}
 use Rattle.node_core.specs.Beginning.{call_seen, at_second, CallDid, CallBegun}
 use Rattle.node_core.specs.Nodes.{node_seen, Keeps, end_in, IsAsBefore}
 use Rattle.node_core.specs.Works.{Rule, NodeDid, IsOnlyRead}
-use Rattle.node_core.specs.declared.fault.NodeFault.TheVariants.{Worn}
 use Rattle.node_core.specs.declared.node.Node.{Node}
 use Rattle.node_core.specs.declared.outbox.Outbox.{Outbox}
 use Rattle.call_tickets.specs.declared.call.Call.{Call}
@@ -42,7 +41,6 @@ use Rattle.cluster_world.specs.declared.life.Life.{Life}
 use Rattle.cluster_world.specs.declared.life.Life.TheVariants.{Up}
 use Rattle.cluster_world.specs.declared.nodes.Nodes.{Nodes}
 use Rattle.cluster_world.specs.declared.step.Step.TheVariants as step
-use Rattle.cluster_world.specs.declared.fault.StepFault.{StepFault}
 use Rattle.cluster_world.proofs.Still.{some_same}
 use Rattle.cluster_world.proofs.Falling.{entries_more}
 use Rattle.cluster_world.proofs.AfterWork.{work_handed, work_goes_on, work_told, work_quiet, up_slot, WorkSent, work_sent}

@@ -31,6 +31,7 @@ pub mod Owed
 pub mod PostEnds
 pub mod Posted
 pub mod Posting
+pub mod PushRoom
 pub mod Pushing
 pub mod Putting
 pub mod Quietly

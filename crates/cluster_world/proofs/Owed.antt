@@ -5,7 +5,6 @@ use Rattle.std.proofs.lemmas.List.Folds.{list_all-map}
 use Rattle.mail_model.specs.Plan.{Plan}
 use Rattle.object_model.specs.Lists.{Among}
 use Rattle.object_model.proofs.Lists.{among_front, among_behind}
-use Rattle.session_model.specs.Logs.{Asked}
 use Rattle.session_model.specs.Losses.{IsLostIn}
 use Rattle.session_model.specs.Owes.{Owes}
 use Rattle.cluster_model.specs.World as machine

@@ -10,7 +10,6 @@ use Rattle.cluster_model.specs.World.{World}
 use Rattle.cluster_model.specs.Steps.{StepFault, is_node, slot_fault, life_fault, stands_at, letters_end, is_worn_at, first_fault, step_fault}
 use Rattle.cluster_model.specs.Steps.Step.{AskFor, GiveUp, Crash, Start, Lose}
 use Rattle.cluster_model.specs.Steps.StepFault.{NoSuchNode, NoSuchTicket, Worn}
-use Rattle.session_model.specs.Events.{NodeLife as life}
 use Rattle.cluster_world.specs.declared.fault.StepFault as code
 use Rattle.cluster_world.specs.declared.fault.StepFault.TheVariants as fault
 

@@ -4,7 +4,6 @@ use Rattle.std.specs.List.{list_all}
 use Rattle.mail_model.specs.Identity.{Id}
 use Rattle.mail_model.specs.Identity.Key.{Message}
 use Rattle.mail_model.specs.Plan.{Plan}
-use Rattle.session_model.specs.Events.{NodeLife as life}
 use Rattle.cluster_model.specs.Cluster as plain
 use Rattle.cluster_model.specs.Cluster.{Slot, slot_at, with_slot}
 use Rattle.cluster_model.specs.Deeds.{slot_up}
@@ -35,7 +34,7 @@ use Rattle.cluster_world.specs.Turning.{life_left}
 use Rattle.cluster_world.specs.Turns.{life_refusal, node_refusal}
 use Rattle.cluster_world.specs.Widens.{said_of_widening, entries_of_widening, WidensAt}
 use Rattle.cluster_world.specs.Steps.{StepDid, AreSettled, WasToWork}
-use Rattle.cluster_world.specs.declared.life.Life.TheVariants.{Up, Down}
+use Rattle.cluster_world.specs.declared.life.Life.TheVariants.{Up}
 use Rattle.cluster_world.specs.declared.nodes.Nodes.{Nodes}
 use Rattle.cluster_world.specs.declared.step.Step.TheVariants as step
 use Rattle.cluster_world.specs.declared.step.Said.TheVariants as said

@@ -9,15 +9,11 @@ ghost use Rattle.node_core.specs.Spelling.{CanBeTaken, AllCanBeTaken};
 ghost use Rattle.cluster_world.specs.Flights.{AreRising, IsCounted, put_one, put_all, put_down, left_without, taken_out, HasAt, first_number};
 
 use crate::flight::{Flight, octets_of};
+use crate::limits::{LETTERS_END, MOST_LETTERS, MOST_OCTETS};
 use mail_base::Letter;
 use std::alloc::{AllocError, Global};
 use std::collections::VecDeque;
 use std::marker::Model;
-
-/// How many letters may be in flight.
-const MOST_LETTERS: usize = 65_536;
-/// How many octets they may have together.
-const MOST_OCTETS: u128 = 536_870_912;
 
 /// The letters in flight, in order of number. A contract sees their list and the number of the last letter that was sent.
 #[derive(Drop)]
@@ -42,7 +38,7 @@ impl Model for Flying {
 pub(crate) fn is_worn(sent: u64) -> bool
     ensures { result ≡ nat_le letters_end sent }
 {
-    sent >= 18_446_744_069_414_584_320
+    sent >= LETTERS_END
 }
 
 /// Where the letter of this number is.
@@ -59,7 +55,7 @@ fn place_in(flights: &VecDeque<Flight>, number: u64) -> Option<usize>
 fn finds_room(letters: usize, octets: u64, letter: &Letter) -> bool
     ensures { result ≡ fits letters octets (octets_of letter.now) }
 {
-    letters < MOST_LETTERS && u128::from(octets) + octets_of(letter) <= MOST_OCTETS
+    letters < MOST_LETTERS && u128::from(octets) + octets_of(letter) <= u128::from(MOST_OCTETS)
 }
 
 /// Takes out the letter of this number, if it is in flight, and says how many octets it had.

@@ -92,6 +92,7 @@ mod flight;
 mod flying;
 mod laws;
 mod life;
+mod limits;
 mod mishaps;
 mod nodes;
 mod opening;

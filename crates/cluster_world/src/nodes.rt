@@ -1,5 +1,5 @@
 //! The nodes of a plan with their disks.
-ghost use Rattle.std.specs.Prelude.{◌≡◌, ◌+◌, ◌≤◌, length, Some, IfSome};
+ghost use Rattle.std.specs.Prelude.{◌≡◌, ◌+◌, ◌≤◌, ◌<◌, length, Some, IfSome};
 ghost use Rattle.std.specs.Option.{option_copied};
 
 use crate::life::Life;
@@ -30,6 +30,23 @@ pub(crate) fn place_of(node: NodeNo) -> usize
     ensures { result + 1 ≡ node }
 {
     usize::from(node.number()) - 1
+}
+
+/// The node of this number.
+pub(crate) fn numbered(number: u8) -> NodeNo
+    requires above { 1 ≤ number }
+    requires within { number ≤ 16 }
+    ensures { result ≡ number }
+{
+    NodeNo::new(number).unwrap()
+}
+
+/// The node at a place in the list of all.
+pub(crate) fn node_at(place: usize) -> NodeNo
+    requires { place < 16 }
+    ensures { result ≡ place + 1 }
+{
+    numbered(place as u8 + 1)
 }
 
 /// The life is this one from now on.

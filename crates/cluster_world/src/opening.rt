@@ -7,6 +7,7 @@ ghost use Rattle.cluster_world.specs.Opens.{AreEmpty, OpensSo, OpensNext, AllOpe
 
 use crate::fault::OpenFault;
 use crate::life::Life;
+use crate::nodes::node_at;
 use io_edge::Disk;
 use mail_base::{NodeNo, Plan};
 use node_core::{Node, NodeFault};
@@ -34,14 +35,6 @@ fn open_node<D: Disk>(
         Err(NodeFault::Worn) => Err(OpenFault::NoMemory),
         Err(NodeFault::NoMemory { .. }) => Err(OpenFault::NoMemory),
     }
-}
-
-/// The number of the node whose disk is at this place.
-fn node_at(place: usize) -> NodeNo
-    requires { place < 16 }
-    ensures { result ≡ place + 1 }
-{
-    NodeNo::new(place as u8 + 1).unwrap()
 }
 
 /// Starts the next node on its disk.

@@ -12,19 +12,11 @@ ghost use Rattle.cluster_world.specs.Telling.{standing_on, standing_in};
 ghost use Rattle.cluster_world.specs.declared.life.Life.TheVariants as lives;
 
 use crate::life::Life;
+use crate::nodes::numbered;
 use crate::steps::ask::{node_of, ticket_of};
 use crate::world::World;
 use io_edge::Disk;
 use mail_base::{CallKind, Filing, NodeNo, NodeSet, Ticket};
-
-/// The node of this number.
-fn numbered(number: u8) -> NodeNo
-    requires above { 1 ≤ number }
-    requires within { number ≤ 16 }
-    ensures { result ≡ number }
-{
-    NodeNo::new(number).unwrap()
-}
 
 /// The nodes from 1 to so many.
 fn first_nodes(nodes: u8) -> NodeSet

@@ -20,7 +20,6 @@ use Rattle.call_tickets.specs.Seen.{call_seen}
 use Rattle.call_tickets.specs.Moves.{IsWaiting, HearsNothing}
 use Rattle.node_store.specs.Disks.{View}
 use Rattle.cluster_world.specs.Outcomes.{Outcome, made_of, asked_by_outcome, answered_by_outcome}
-use Rattle.cluster_world.specs.Outcomes.Outcome.{Began, Refused, Fell, Broke}
 use Rattle.cluster_world.specs.declared.world.World.{World}
 use Rattle.drive_tape.specs.declared.cluster.Cluster.{Cluster}
 use Rattle.drive_tape.specs.declared.sessions.After.{After}

@@ -18,6 +18,7 @@ ghost use Rattle.cluster_world.specs.declared.fault.StepFault.TheVariants.{NoMem
 use crate::fault::StepFault;
 use crate::flying::Flying;
 use crate::life::Life;
+use crate::limits::{MOST_LETTERS, MOST_OCTETS};
 use crate::nodes::{Nodes, place_of};
 use crate::sending::send;
 use crate::step::Said;
@@ -29,11 +30,6 @@ use mail_base::{Letter, NodeNo};
 use node_core::{NodeFault, Outbox};
 use std::alloc::{AllocError, Global};
 use world_book::Book;
-
-/// How many letters may be in flight.
-const MOST_LETTERS: usize = 65_536;
-/// How many octets they may have together.
-const MOST_OCTETS: u64 = 536_870_912;
 
 /// How many letters more may be in flight.
 fn letters_left(flying: &Flying) -> usize

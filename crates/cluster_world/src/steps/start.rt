@@ -13,7 +13,7 @@ ghost use Rattle.cluster_world.specs.declared.step.Step.TheVariants as step;
 ghost use Rattle.cluster_world.specs.declared.life.Life.TheVariants as lives;
 
 use crate::fault::StepFault;
-use crate::flying::Flying;
+use crate::flying::{Flying, is_worn};
 use crate::life::Life;
 use crate::nodes::{Nodes, put_life};
 use crate::step::Said;
@@ -23,14 +23,11 @@ use node_core::{Node, NodeFault};
 use std::alloc::Global;
 use world_book::{Book, Entry};
 
-/// From this number on no letter is sent: each step may send some.
-const LETTERS_END: u64 = 18_446_744_069_414_584_320;
-
 /// Whether the numbers of letters are used up.
 pub(crate) fn is_late(flying: &Flying) -> bool
     ensures { result ≡ nat_le letters_end flying.now.sent }
 {
-    LETTERS_END <= flying.sent()
+    is_worn(flying.sent())
 }
 
 /// Starts a node that is down over its disk. It answers its boot.

@@ -1,4 +1,4 @@
-use Rattle.std.proofs.Common.{◌+◌, length, Some, refl, sym, ap, ◌∙◌, arith}
+use Rattle.std.proofs.Common.{◌+◌, Some, refl, sym, ap, ◌∙◌, arith}
 use Rattle.std.proofs.lemmas.Result.{err_from_is_err_and}
 use Rattle.drive_tape.proofs.Works.{work_none}
 use Rattle.drive_tape.proofs.Clusters.{went_on, stopped_on, stopped_plan, went_plan, at_plan}

@@ -1,4 +1,4 @@
-use Rattle.std.proofs.Common.{true, refl, ◌∙◌}
+use Rattle.std.proofs.Common.{refl, ◌∙◌}
 use Rattle.session_model.specs.Talk.{IsOn}
 use Rattle.call_tickets.specs.Moves.{HasEnded}
 use Rattle.drive_tape.proofs.Talks.{found_at, it_is, none_at, at_place}
