@@ -6,7 +6,7 @@ use Rattle.object_model.specs.Lists.{Among}
 use Rattle.object_model.specs.Sets.{has, nodes_in}
 use Rattle.object_model.proofs.Lists.{among_either}
 use Rattle.object_model.proofs.SetLaws.{has_with, has_none}
-use Rattle.cluster_model.specs.Targets.{set_of, turned, position_of, deliver_targets, listed_members, strike_asks}
+use Rattle.cluster_model.specs.Targets.{set_of, rotated, position_of, deliver_targets, listed_members, strike_asks}
 
 pub among_set : (ms : List ℕ) (m : ℕ) → has (set_of ms) m ≡ true → Among m ms
 among_set [] m h = absurd (true≢false (sym h ∙ has_none m))
@@ -30,7 +30,7 @@ among_filter p (y ∷ xs) x m = by (λ t. among_filter p xs x t) (p y) m
     by rest true t = ⊎_elim (λ e. inl e) (λ u. inr (rest u)) t
     by rest false t = inr (rest t)
 
-pub among_turned : (k : ℕ) (xs : List ℕ) (x : ℕ) → Among x (turned k xs) → Among x xs
+pub among_turned : (k : ℕ) (xs : List ℕ) (x : ℕ) → Among x (rotated k xs) → Among x xs
 among_turned k xs x m = ⊎_elim (λ d. among_drop k xs x d) (λ t. among_take k xs x t) (among_either x (drop k xs) (take k xs) m)
 
 -- a node of the set is one of those up to n
@@ -46,10 +46,10 @@ nodes_within mask (suc k) m inside = ⊎_elim
     by false t = absurd t
 
 pub targets_are_members : (copies own seq : ℕ) (members : List ℕ) (m : ℕ) → has (deliver_targets copies own seq members) m ≡ true → Among m members
-targets_are_members copies own seq members m h = among_turned _ members m (among_take copies (turned _ members) m (among_set (take copies (turned _ members)) m h))
+targets_are_members copies own seq members m h = among_turned _ members m (among_take copies (rotated _ members) m (among_set (take copies (rotated _ members)) m h))
 
 pub asks_are_members : (confirm own listed : ℕ) (members : List ℕ) (m : ℕ) → has (strike_asks confirm own listed members) m ≡ true → Among m members
 asks_are_members confirm own listed members m h = ⊎_elim
     (λ front. among_filter (λ n. has listed n) members m front)
-    (λ behind. among_turned (position_of own members) members m (among_filter (λ n. not (has listed n)) (turned (position_of own members) members) m (among_take _ _ m behind)))
+    (λ behind. among_turned (position_of own members) members m (among_filter (λ n. not (has listed n)) (rotated (position_of own members) members) m (among_take _ _ m behind)))
     (among_either m (listed_members listed members) _ (among_set _ m h))

@@ -9,7 +9,7 @@ use Rattle.object_model.specs.Lists.{Among}
 use Rattle.object_model.specs.Sets.{has, with_node, one_node, count_below, count_in, nodes_in}
 use Rattle.object_model.proofs.Lists.{among_either}
 use Rattle.object_model.proofs.SetLaws.{has_left, has_right, has_with, one_has, has_none}
-use Rattle.cluster_model.specs.Targets.{set_of, turned, position_of, deliver_targets, listed_members, strike_asks}
+use Rattle.cluster_model.specs.Targets.{set_of, rotated, position_of, deliver_targets, listed_members, strike_asks}
 use Rattle.cluster_model.proofs.Aims.{among_set, among_take, among_drop, among_filter, among_turned}
 
 -- a set within another has no more nodes
@@ -154,7 +154,7 @@ parts_apart zero xs d x p q = q
 parts_apart (suc k) [] d x p q = q
 parts_apart (suc k) (y ∷ xs) d x p q = ⊎_elim (λ is. d.0 (subst (λ z. Among z xs) (sym is) (among_drop k xs x p))) (λ more. parts_apart k xs d.1 x p more) q
 
-distinct_turned : (k : ℕ) (xs : List ℕ) → Distinct xs → Distinct (turned k xs)
+distinct_turned : (k : ℕ) (xs : List ℕ) → Distinct xs → Distinct (rotated k xs)
 distinct_turned k xs d = distinct_both (drop k xs) (take k xs) (distinct_drop k xs d) (distinct_take k xs d) (parts_apart k xs d)
 
 distinct_filter : (p : ℕ → Bool) (xs : List ℕ) → Distinct xs → Distinct (filter p xs)
@@ -186,7 +186,7 @@ long_take (suc f) (suc k) (x ∷ xs) a b = let r = long_take f k xs (omega (arit
     less : suc f ≤ suc (length xs) → f ≤ length xs
     less le = omega (arith, le)
 
-length_turned : (k : ℕ) (xs : List ℕ) → length (turned k xs) ≡ length xs
+length_turned : (k : ℕ) (xs : List ℕ) → length (rotated k xs) ≡ length xs
 length_turned k xs = length_both (drop k xs) (take k xs) ∙ parts k xs
   where
     parts : (k : ℕ) (xs : List ℕ) → length (drop k xs) + length (take k xs) ≡ length xs
@@ -225,7 +225,7 @@ filter_both p (x ∷ xs) ys = by (filter_both p xs ys) (p x)
     by rest true = suc_first (length (filter p (xs ++ ys))) (length (filter p xs)) (length (filter p ys)) rest
     by rest false = rest
 
-filter_turned : (p : ℕ → Bool) (k : ℕ) (xs : List ℕ) → length (filter p (turned k xs)) ≡ length (filter p xs)
+filter_turned : (p : ℕ → Bool) (k : ℕ) (xs : List ℕ) → length (filter p (rotated k xs)) ≡ length (filter p xs)
 filter_turned p k xs = filter_both p (drop k xs) (take k xs) ∙ parts k xs
   where
     zero_more : (n : ℕ) → n + 0 ≡ n
@@ -283,14 +283,14 @@ module _ (confirm own mask nodes listed : ℕ) (many : confirm ≤ length (nodes
   some = listed_members listed members
 
   abbrev others : List ℕ
-  others = filter (λ m. not (has listed m)) (turned (position_of own members) members)
+  others = filter (λ m. not (has listed m)) (rotated (position_of own members) members)
 
   all_distinct : Distinct (some ++ take (confirm - length some) others)
   all_distinct = distinct_both some (take (confirm - length some) others)
       (distinct_filter (λ m. has listed m) members (nodes_distinct mask nodes))
-      (distinct_take (confirm - length some) others (distinct_filter (λ m. not (has listed m)) (turned (position_of own members) members) (distinct_turned (position_of own members) members (nodes_distinct mask nodes))))
+      (distinct_take (confirm - length some) others (distinct_filter (λ m. not (has listed m)) (rotated (position_of own members) members) (distinct_turned (position_of own members) members (nodes_distinct mask nodes))))
       (λ x p q. clash (has listed x) (filter_is (λ m. has listed m) members x p)
-      (filter_is (λ m. not (has listed m)) (turned (position_of own members) members) x (among_take (confirm - length some) others x q)))
+      (filter_is (λ m. not (has listed m)) (rotated (position_of own members) members) x (among_take (confirm - length some) others x q)))
     where
       clash : (b : Bool) → b ≡ true → not b ≡ true → ⊥
       clash true p q = absurd (true≢false (sym q))
@@ -300,7 +300,7 @@ module _ (confirm own mask nodes listed : ℕ) (many : confirm ≤ length (nodes
   all_nodes_too x m = ⊎_elim
       (λ front. are_nodes mask nodes x (among_filter (λ n. has listed n) members x front))
       (λ behind. are_nodes mask nodes x (among_turned (position_of own members) members x
-      (among_filter (λ n. not (has listed n)) (turned (position_of own members) members) x (among_take (confirm - length some) others x behind))))
+      (among_filter (λ n. not (has listed n)) (rotated (position_of own members) members) x (among_take (confirm - length some) others x behind))))
       (among_either x some (take (confirm - length some) others) m)
 
   strikes_enough : confirm ≤ count_in (strike_asks confirm own listed (nodes_in mask nodes))
@@ -318,8 +318,8 @@ pub targets_enough : (confirm copies own mask nodes : ℕ) → confirm ≤ copie
     × ((listed : ℕ) → confirm ≤ count_in (strike_asks confirm own listed (nodes_in mask nodes)))
 targets_enough confirm copies own mask nodes le many = (λ seq. delivers _, λ listed. strikes_enough confirm own mask nodes listed many)
   where
-    delivers : (at : ℕ) → confirm ≤ count_in (set_of (take copies (turned at (nodes_in mask nodes))))
+    delivers : (at : ℕ) → confirm ≤ count_in (set_of (take copies (rotated at (nodes_in mask nodes))))
     delivers at = subst (λ c. confirm ≤ c)
-        (sym (count_set (take copies (turned at (nodes_in mask nodes))) (distinct_take copies (turned at (nodes_in mask nodes)) (distinct_turned at (nodes_in mask nodes) (nodes_distinct mask nodes)))
-        (λ x m. are_nodes mask nodes x (among_turned at (nodes_in mask nodes) x (among_take copies (turned at (nodes_in mask nodes)) x m)))))
-        (long_take confirm copies (turned at (nodes_in mask nodes)) le (subst (λ c. confirm ≤ c) (sym (length_turned at (nodes_in mask nodes))) many))
+        (sym (count_set (take copies (rotated at (nodes_in mask nodes))) (distinct_take copies (rotated at (nodes_in mask nodes)) (distinct_turned at (nodes_in mask nodes) (nodes_distinct mask nodes)))
+        (λ x m. are_nodes mask nodes x (among_turned at (nodes_in mask nodes) x (among_take copies (rotated at (nodes_in mask nodes)) x m)))))
+        (long_take confirm copies (rotated at (nodes_in mask nodes)) le (subst (λ c. confirm ≤ c) (sym (length_turned at (nodes_in mask nodes))) many))

@@ -81,16 +81,16 @@ begun_by plan w own node disk (Strike user items) octets = begin_strike own plan
 begun_by plan w own node disk call octets = idle node disk
 
 -- What a Fetch finds: a part of the message where the user's copy is here with its octets, and else that it is not there.
-pub data IsFetched (tells : Bool) (user : List ℕ) (id : Id) (from most : ℕ) (disk : List Record) (found : Found) : Type 0 where
+pub data FetchFinds (tells : Bool) (user : List ℕ) (id : Id) (from most : ℕ) (disk : List Record) (found : Found) : Type 0 where
   HasPart : (octets : List ℕ) (whole : ℕ) → is_here_held (said_of (Message user id) disk) ≡ true → IsPart tells id from most disk octets whole → found ≡ PartOf octets whole
-      → IsFetched tells user id from most disk found
-  HasNone : has_copy user id disk ≡ false → found ≡ NotThere → IsFetched tells user id from most disk found
+      → FetchFinds tells user id from most disk found
+  HasNone : has_copy user id disk ≡ false → found ≡ NotThere → FetchFinds tells user id from most disk found
 
 -- What a call that reads finds on the disk of its node. A Login with a secret that is not the user's finds that alone.
 abbrev pub IsFound : Plan → Bool → List Record → NodeCall → Found → Type 0
 IsFound plan tells disk (Login user secret) found = ((opens plan user secret ≡ false) × (found ≡ WrongSecret))
     ⊎ ((opens plan user secret ≡ true) × ((items : List ListedCopy) × IsListing user disk items × (found ≡ Listed items)))
-IsFound plan tells disk (Fetch user id from most) found = IsFetched tells user id from most disk found
+IsFound plan tells disk (Fetch user id from most) found = FetchFinds tells user id from most disk found
 IsFound plan tells disk call found = ⊥
 
 -- The disk of a node fails in its work: a prefix of its records stands, and the next may.

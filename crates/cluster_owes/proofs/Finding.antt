@@ -15,8 +15,8 @@ use Rattle.cluster_model.specs.Cluster.{Node, Slot, slot_at}
 use Rattle.cluster_model.specs.Deeds.{slot_up}
 use Rattle.cluster_model.specs.Steps.{NodeCall}
 use Rattle.cluster_model.specs.Steps.NodeCall.{Deliver as DeliverCall, Login as LoginCall, Fetch as FetchCall, Strike as StrikeCall, Leave}
-use Rattle.cluster_model.specs.Makes.{IsFound, IsFetched}
-use Rattle.cluster_model.specs.Makes.IsFetched.{HasPart, HasNone}
+use Rattle.cluster_model.specs.Makes.{IsFound, FetchFinds}
+use Rattle.cluster_model.specs.Makes.FetchFinds.{HasPart, HasNone}
 use Rattle.cluster_model.proofs.Filing.{among_map, octets_stand}
 use Rattle.cluster_model.proofs.Listings.{listed_once}
 use Rattle.cluster_owes.specs.Seen.{is_whole, call_made, item_listed, found_told}
@@ -48,7 +48,7 @@ module _ (plan : Plan) (tells : Bool) (slots : List Slot) (own : ℕ) (node : No
       (λ (right, (items, listing, same)). subst (λ f. AnswerStands tells slots (Login user secret) (found_told f)) (sym same) (listed user secret items listing))
       is
 
-  fetched : (user : List ℕ) (id : Id) (from most : ℕ) (what : Found) → is_whole from most ≡ true → IsFetched tells user id from most disk what → AnswerStands tells slots (Fetch user id) (found_told what)
+  fetched : (user : List ℕ) (id : Id) (from most : ℕ) (what : Found) → is_whole from most ≡ true → FetchFinds tells user id from most disk what → AnswerStands tells slots (Fetch user id) (found_told what)
   fetched user id from most what whole (HasPart octets size here part same) = subst (λ f. AnswerStands tells slots (Fetch user id) (found_told f)) (sym same)
       (tt, λ told. (part.all, on_own id part.all part.held, part.part told ∙ from_zero (eqb-true from 0 (and_parts (nat_eq from 0) (nat_eq most greatest) whole).0) (eqb-true most greatest (and_parts (nat_eq from 0) (nat_eq most greatest) whole).1)))
     where

@@ -11,7 +11,7 @@ use Rattle.object_model.proofs.SetLaws.{has_right, one_has}
 use Rattle.cluster_model.specs.Cluster.{Want, Node, members_of}
 use Rattle.cluster_model.specs.Cluster.AskedOfNodes.{Deletion}
 use Rattle.cluster_model.specs.Rules.{new_want, dated}
-use Rattle.cluster_model.specs.Targets.{deliver_targets, strike_asks, turned, position_of, set_of}
+use Rattle.cluster_model.specs.Targets.{deliver_targets, strike_asks, rotated, position_of, set_of}
 use Rattle.cluster_model.specs.Steps.{Struck, fails_at_once, has_few_members, end_of_dates}
 use Rattle.cluster_model.specs.Steps.NodeCall.{Deliver, Strike}
 use Rattle.cluster_model.specs.Makes.{targets_for, asked_for}
@@ -44,7 +44,7 @@ one_member mask nodes confirm one sure h = ap (nodes_in mask) one ∙ by (has ma
 deliver_one : (copies seq : ℕ) → 1 ≤ copies → has (deliver_targets copies 1 seq (1 ∷ [])) 1 ≡ true
 deliver_one zero seq some = absurd (omega (arith, some))
 deliver_one (suc c) seq some =
-    subst (λ at. has (set_of (take (suc c) (turned at (1 ∷ [])))) 1 ≡ true) (sym (mod_one (position_of 1 (1 ∷ []) + (seq - 1)))) (with_first (set_of (take c [])))
+    subst (λ at. has (set_of (take (suc c) (rotated at (1 ∷ [])))) 1 ≡ true) (sym (mod_one (position_of 1 (1 ∷ []) + (seq - 1)))) (with_first (set_of (take c [])))
 
 -- and so does a deletion
 strike_one : (listed : ℕ) → has (strike_asks 1 1 listed (1 ∷ [])) 1 ≡ true

@@ -19,7 +19,7 @@ use Rattle.cluster_model.specs.Steps.Step.{Begin, AskFor, GiveUp, Post, DropLett
 use Rattle.cluster_model.specs.Steps.StepOutcome.{Says, Refused, NoMemory}
 use Rattle.cluster_model.specs.Makes.{MakesStep}
 use Rattle.cluster_model.proofs.Running.{steps_sound, steps_bring}
-use Rattle.cluster_owes.specs.Outcomes.{IsOther, BegunCall}
+use Rattle.cluster_owes.specs.Outcomes.{IsIdleStep, BegunCall}
 use Rattle.cluster_owes.proofs.WorldSteps.{OtherGoes, other_goes}
 use Rattle.cluster_owes.proofs.Growing.{ClusterGrew, step_grew}
 use Rattle.cluster_owes.proofs.Books.{AreMasked, masked_both, masked_none, book_lives, book_quiet}
@@ -66,7 +66,7 @@ known_quiet plan tells lines asked answered begun old new known kept other no_mo
 same_holds : (old new : World) → new ≡ old → HoldsNoMore old new
 same_holds old new same id octets h = subst (λ (w : World). IsHeldSomewhere w.slots (letters_of w.flying) id octets) same h
 
-other_brings : (old : World) (step : Step) (said : Said) → IsOther step (Says said) → (id : Id) (octets : List ℕ) → MayBring old step id octets → ⊥
+other_brings : (old : World) (step : Step) (said : Said) → IsIdleStep step (Says said) → (id : Id) (octets : List ℕ) → MayBring old step id octets → ⊥
 other_brings old (Begin node (Leave user)) said other id octets m = m
 other_brings old (Begin node (DeliverCall mail)) said other id octets m = other
 other_brings old (Begin node (LoginCall user secret)) said other id octets m = other
@@ -83,7 +83,7 @@ other_brings old (Start node) said other id octets m = m
 other_brings old (Lose node) said other id octets m = m
 other_brings old (Tick seconds) said other id octets m = m
 
-short_brings : (old : World) (step : Step) (n : ℕ) → IsOther step (NoMemory (Some n)) → (id : Id) (octets : List ℕ) → MayBring old step id octets → ⊥
+short_brings : (old : World) (step : Step) (n : ℕ) → IsIdleStep step (NoMemory (Some n)) → (id : Id) (octets : List ℕ) → MayBring old step id octets → ⊥
 short_brings old (Begin node (Leave user)) n other id octets m = m
 short_brings old (Begin node (DeliverCall mail)) n other id octets m = other
 short_brings old (Begin node (LoginCall user secret)) n other id octets m = other
@@ -104,7 +104,7 @@ pub no_brings : (plan : Plan) (tells : Bool) (old new : World) (step : Step) (ou
     → InPlan plan.nodes old.slots → Sound plan.confirm (cluster_of old) → HoldsNoMore old new
 no_brings plan tells old new step outcome none made p s id octets h = ⊎_elim (λ was. was) (λ may. absurd (none id octets may)) (steps_bring plan tells old new step outcome made p s id octets h)
 
-other_holds : (plan : Plan) (tells : Bool) (old new : World) (step : Step) (outcome : StepOutcome) → IsOther step outcome → MakesStep plan tells old step outcome new
+other_holds : (plan : Plan) (tells : Bool) (old new : World) (step : Step) (outcome : StepOutcome) → IsIdleStep step outcome → MakesStep plan tells old step outcome new
     → InPlan plan.nodes old.slots → Sound plan.confirm (cluster_of old) → HoldsNoMore old new
 other_holds plan tells old new step (Says said) other made p s = no_brings plan tells old new step (Says said) (other_brings old step said other) made p s
 other_holds plan tells old new step (Refused fault) other made p s = same_holds old new made.1
@@ -112,7 +112,7 @@ other_holds plan tells old new step (NoMemory None) other made p s = same_holds 
 other_holds plan tells old new step (NoMemory (Some n)) other made p s = no_brings plan tells old new step (NoMemory (Some n)) (short_brings old step n other) made p s
 
 pub known_other : (plan : Plan) (tells : Bool) (lines : List (List ℕ)) (asked : List Asked) (answered : List Answered) (begun : List BegunCall) (old new : World) (step : Step) (outcome : StepOutcome)
-    → IsOther step outcome → MakesStep plan tells old step outcome new → Known plan tells lines asked answered begun old → Known plan tells lines asked answered begun new
+    → IsIdleStep step outcome → MakesStep plan tells old step outcome new → Known plan tells lines asked answered begun old → Known plan tells lines asked answered begun new
 known_other plan tells lines asked answered begun old new step outcome other made known = known_quiet plan tells lines asked answered begun old new known
     (step_kept plan tells old new step outcome made known.in_plan known.sound)
     (other_goes plan tells old new known.sound step outcome other made)

@@ -33,7 +33,7 @@ use Rattle.cluster_model.specs.Makes.StartsUp.{Comes, FailsStarting}
 use Rattle.cluster_model.specs.Makes.RunsShort.{Beginning, Hearing, Widening, Starting}
 use Rattle.cluster_model.proofs.Slots.{read_after}
 use Rattle.cluster_model.proofs.Lives.{nothing_behind}
-use Rattle.cluster_owes.specs.Outcomes.{IsOther}
+use Rattle.cluster_owes.specs.Outcomes.{IsIdleStep}
 use Rattle.cluster_owes.proofs.Standing.{StandsAs, IsWithinCalls, SameCall, NodeGoes, NoneNew, TicketsGo, same_call, call_through, same_up, still_tickets, quiet_node, slot_quiet, slot_falls, goes_on, missed_goes, put_goes, put_keeps}
 use Rattle.cluster_owes.proofs.NodeSteps.{hear_goes, widen_goes, end_goes}
 
@@ -208,9 +208,9 @@ module _ (plan : Plan) (tells : Bool) (old new : World) (sound : Sound plan.conf
   leaves_go user node said (FailsReading own disk other id from most up one reads is new_world) = absurd (cc reads)
   leaves_go user node said (Leaves own disk other up one leaves is new_world) = same_world old new new_world
 
-  asks_go : (ticket : Number) (said : Said) → IsOther (AskFor ticket) (Says said) → AnswersAsk plan old ticket said new → OtherGoes old new
+  asks_go : (ticket : Number) (said : Said) → IsIdleStep (AskFor ticket) (Says said) → AnswersAsk plan old ticket said new → OtherGoes old new
   asks_go ticket said other (Waits node disk stood up found got wanted e is new_world) = same_world old new new_world
-  asks_go ticket said other (Ends node disk stood up found answer e is new_world) = absurd (subst (λ s. IsOther (AskFor ticket) (Says s)) is other)
+  asks_go ticket said other (Ends node disk stood up found answer e is new_world) = absurd (subst (λ s. IsIdleStep (AskFor ticket) (Says s)) is other)
 
   pub gives_up_go : (ticket : Number) (said : Said) → DoesStep plan tells old (GiveUp ticket) said new → OtherGoes old new
   gives_up_go ticket said d = subst (λ (w : World). OtherGoes old w) (sym d.new_world) (node_goes old ticket.node d.node d.disk (end_ticket ticket.seq d.node d.disk) d.up (end_goes ticket.seq d.node d.disk))
@@ -229,7 +229,7 @@ module _ (plan : Plan) (tells : Bool) (old new : World) (sound : Sound plan.conf
       (comes_goes old n disk pending node records here (sound.order.each n (record { life = Down pending; disk = disk }) here).rises plan.nodes starts)
   starts_go n said (FailsStarting disk pending next records here stops is new_world) = stops_go n disk pending next records here new_world
 
-  does_go : (step : Step) (said : Said) → IsOther step (Says said) → DoesStep plan tells old step said new → OtherGoes old new
+  does_go : (step : Step) (said : Said) → IsIdleStep step (Says said) → DoesStep plan tells old step said new → OtherGoes old new
   does_go (Begin node (Leave user)) said other d = leaves_go user node said d
   does_go (Begin node (Deliver mail)) said other d = absurd other
   does_go (Begin node (Login user secret)) said other d = absurd other
@@ -246,20 +246,20 @@ module _ (plan : Plan) (tells : Bool) (old new : World) (sound : Sound plan.conf
   does_go (Lose node) said other d = loses_go node said d
   does_go (Tick seconds) said other d = absurd other
 
-  begins_short : (n : ℕ) (call : NodeCall) (node : Node) (disk : List Record) (octets : List ℕ) → IsOther (Begin n call) (NoMemory (Some n)) → IsFiled old n node call octets → OtherGoes old new
+  begins_short : (n : ℕ) (call : NodeCall) (node : Node) (disk : List Record) (octets : List ℕ) → IsIdleStep (Begin n call) (NoMemory (Some n)) → IsFiled old n node call octets → OtherGoes old new
   begins_short n (Deliver mail) node disk octets other filed = absurd other
   begins_short n (Login user secret) node disk octets other filed = absurd other
   begins_short n (Fetch user id from most) node disk octets other filed = absurd other
   begins_short n (Strike user items) node disk octets other filed = absurd other
   begins_short n (Leave user) node disk octets other filed = absurd filed
 
-  short_goes : (step : Step) (n : ℕ) → IsOther step (NoMemory (Some n)) → RunsShort plan old step n new → OtherGoes old new
-  short_goes step n other (Beginning call node disk octets is up filed g) = begins_short n call node disk octets (subst (λ s. IsOther s (NoMemory (Some n))) is other) filed
+  short_goes : (step : Step) (n : ℕ) → IsIdleStep step (NoMemory (Some n)) → RunsShort plan old step n new → OtherGoes old new
+  short_goes step n other (Beginning call node disk octets is up filed g) = begins_short n call node disk octets (subst (λ s. IsIdleStep s (NoMemory (Some n))) is other) filed
   short_goes step n other (Hearing number keep flies node disk is at up g) = cut_goes old new n node disk g.front g.pending up g.is
   short_goes step n other (Widening user id to node disk is up g) = cut_goes old new n node disk g.front g.pending up g.is
   short_goes step n other (Starting disk pending next records is here stops new_world) = stops_go n disk pending next records here new_world
 
-  pub other_goes : (step : Step) (outcome : StepOutcome) → IsOther step outcome → MakesStep plan tells old step outcome new → OtherGoes old new
+  pub other_goes : (step : Step) (outcome : StepOutcome) → IsIdleStep step outcome → MakesStep plan tells old step outcome new → OtherGoes old new
   other_goes step (Says said) other made = does_go step said other made.1
   other_goes step (Refused fault) other made = same_world old new made.1
   other_goes step (NoMemory None) other made = same_world old new made

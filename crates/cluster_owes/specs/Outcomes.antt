@@ -63,14 +63,14 @@ IsFall (NoMemory (Some node)) = ⊤
 IsFall outcome = ⊥
 
 -- no call begins in the step but a Leave, no ticket is answered, and the clock stays
-abbrev pub IsOther : Step → StepOutcome → Type 0
-IsOther (Begin node (Leave user)) outcome = ⊤
-IsOther (Begin node call) (Refused fault) = ⊤
-IsOther (Begin node call) (NoMemory None) = ⊤
-IsOther (Begin node call) outcome = ⊥
-IsOther (AskFor ticket) (Says (AskedFor (Done answer))) = ⊥
-IsOther (Tick seconds) outcome = ⊥
-IsOther step outcome = ⊤
+abbrev pub IsIdleStep : Step → StepOutcome → Type 0
+IsIdleStep (Begin node (Leave user)) outcome = ⊤
+IsIdleStep (Begin node call) (Refused fault) = ⊤
+IsIdleStep (Begin node call) (NoMemory None) = ⊤
+IsIdleStep (Begin node call) outcome = ⊥
+IsIdleStep (AskFor ticket) (Says (AskedFor (Done answer))) = ⊥
+IsIdleStep (Tick seconds) outcome = ⊥
+IsIdleStep step outcome = ⊤
 
 -- the cluster made a step of which this came, where these calls had begun
 abbrev pub Came : Plan → Bool → Outcome → List BegunCall → World → World → Type 0
@@ -81,7 +81,7 @@ Came plan tells (Answers k asked ticket given) begun old new =
     (own : NodeAnswer) × (given ≡ answer_told own) × Among (record { ticket = ticket; session = k; call = asked }) begun
     × MakesStep plan tells old (AskFor ticket) (Says (AskedFor (Done own))) new
 Came plan tells (GaveUp k asked ticket) begun old new = MakesStep plan tells old (GiveUp ticket) (Says Finished) new
-Came plan tells (Other step outcome) begun old new = IsOther step outcome × MakesStep plan tells old step outcome new
+Came plan tells (Other step outcome) begun old new = IsIdleStep step outcome × MakesStep plan tells old step outcome new
 
 -- it made these, one after another, and no others
 abbrev pub Makes : Plan → Bool → List Outcome → List BegunCall → World → World → Type 0

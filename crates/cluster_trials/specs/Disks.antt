@@ -5,8 +5,8 @@ use Rattle.node_disk.specs.Memory.{memory_clock}
 use Rattle.node_disk.specs.declared.memory.MemoryDisk.{MemoryDisk}
 
 -- what it holds
-abbrev pub told_by : MemoryDisk → Option (List ℕ)
-told_by disk = Some disk.held.octets.items
+abbrev pub octets_told : MemoryDisk → Option (List ℕ)
+octets_told disk = Some disk.held.octets.items
 
 abbrev pub in_memory : View MemoryDisk
-in_memory = view_of told_by (λ disk. disk.faults) memory_clock
+in_memory = view_of octets_told (λ disk. disk.faults) memory_clock

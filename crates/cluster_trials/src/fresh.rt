@@ -1,7 +1,7 @@
 //! Empty disks in memory, and a cluster over them.
 ghost use Rattle.std.specs.Prelude.{◌≡◌, [], length, IfOk};
-ghost use Rattle.cluster_world.specs.Opens.{IsFit, AreEmpty, IsAtBeginning};
-ghost use Rattle.cluster_trials.specs.Disks.{told_by, in_memory};
+ghost use Rattle.cluster_world.specs.Opens.{CanBeOpened, AreEmpty, IsAtBeginning};
+ghost use Rattle.cluster_trials.specs.Disks.{octets_told, in_memory};
 
 use cluster_world::{OpenFault, World};
 use mail_base::Plan;
@@ -30,7 +30,7 @@ pub fn fresh_disks(
     call: u64,
 ) -> Result<Vec<MemoryDisk>, AllocError>
     ensures many { IfOk result (λ disks. length disks.items ≡ nodes) }
-    ensures empty { IfOk result (λ disks. AreEmpty told_by disks.items) }
+    ensures empty { IfOk result (λ disks. AreEmpty octets_told disks.items) }
 {
     if nodes == 0 {
         return Ok(Vec::new(alloc));
@@ -52,7 +52,7 @@ pub fn open_fresh(
     weak: u8,
     call: u64,
 ) -> Result<World<MemoryDisk>, OpenFault>
-    requires { IsFit plan }
+    requires { CanBeOpened plan }
     ensures { IfOk result (λ world. IsAtBeginning in_memory plan world) }
 {
     let disks = fresh_disks(alloc, plan.nodes, weak, call)?;

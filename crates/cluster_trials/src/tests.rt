@@ -1,8 +1,8 @@
 // Clusters of three nodes over disks in memory: what each step answers, and what the disk of each node then holds.
 ghost use Rattle.std.specs.Prelude.{◌≡◌, ◌≤◌, IfOk};
-ghost use Rattle.cluster_world.specs.Worlds.{IsReady};
-ghost use Rattle.cluster_world.specs.Opens.{IsFit};
-ghost use Rattle.cluster_trials.specs.Disks.{told_by};
+ghost use Rattle.cluster_world.specs.Worlds.{CanMakeSteps};
+ghost use Rattle.cluster_world.specs.Opens.{CanBeOpened};
+ghost use Rattle.cluster_trials.specs.Disks.{octets_told};
 
 mod faults;
 mod journals;
@@ -38,7 +38,7 @@ fn ann(alloc: Global) -> Result<Name, AllocError> {
 fn plan(alloc: Global, copies: u8) -> Result<Plan, AllocError>
     requires some { 2 ≤ copies }
     requires most { copies ≤ 3 }
-    ensures fit { IfOk result (λ plan. IsFit plan) }
+    ensures fit { IfOk result (λ plan. CanBeOpened plan) }
     ensures nodes { IfOk result (λ plan. plan.nodes ≡ 3) }
 {
     let mut users = Users::new(alloc);
@@ -62,7 +62,7 @@ fn opened_over(
 ) -> Result<World<MemoryDisk>, OpenFault>
     requires some { 2 ≤ copies }
     requires most { copies ≤ 3 }
-    ensures { IfOk result (λ world. IsReady told_by world) }
+    ensures { IfOk result (λ world. CanMakeSteps octets_told world) }
 {
     open_fresh(alloc, plan(alloc, copies)?, weak, call)
 }
@@ -71,7 +71,7 @@ fn opened_over(
 fn opened(alloc: Global, copies: u8) -> Result<World<MemoryDisk>, OpenFault>
     requires some { 2 ≤ copies }
     requires most { copies ≤ 3 }
-    ensures { IfOk result (λ world. IsReady told_by world) }
+    ensures { IfOk result (λ world. CanMakeSteps octets_told world) }
 {
     opened_over(alloc, copies, 0, 0)
 }
@@ -228,8 +228,8 @@ fn make<D: Disk>(
     first: u8,
     second: u8,
 ) -> Result<[u8; 2], AllocError>
-    requires { IsReady D.seen world.old }
-    ensures { IsReady D.seen world.new }
+    requires { CanMakeSteps D.seen world.old }
+    ensures { CanMakeSteps D.seen world.new }
 {
     let step = step_of(alloc, what, first, second)?;
     Ok(told(&world.step(alloc, step)))

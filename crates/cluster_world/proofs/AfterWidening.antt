@@ -19,7 +19,7 @@ use Rattle.cluster_model.specs.Makes.{IsWorkCut}
 use Rattle.cluster_model.specs.Steps.{is_node}
 use Rattle.disk_journal.specs.Journal.{TellsJournal, EndsAt}
 use Rattle.node_store.specs.Disks.{View}
-use Rattle.node_core.specs.Nodes.{node_seen, Keeps, end_in, CanWork, IsNodeOf, IsSameNode, IsAsBefore}
+use Rattle.node_core.specs.Nodes.{node_seen, NodeKeeps, end_in, CanWork, IsNodeOf, IsSameNode, IsAsBefore}
 use Rattle.node_core.specs.Starting.{MayHold}
 use Rattle.node_core.specs.Works.{Rule, NodeDid, NodeStopped, IsOnlyRead}
 use Rattle.node_core.specs.declared.fault.NodeFault.{NodeFault}
@@ -34,7 +34,7 @@ use Rattle.cluster_world.specs.Moments.{IsStopOf, StopsKeep}
 use Rattle.cluster_world.specs.Works.{slot_after, SlotTurned, SlotCut}
 use Rattle.cluster_world.specs.Turning.{TurnsBy}
 use Rattle.cluster_world.specs.Turns.{life_refusal}
-use Rattle.cluster_world.specs.Steps.{AreToldAlike, IsQuiet, AreSettled, MayMisread, HasCause}
+use Rattle.cluster_world.specs.Steps.{AreToldAlike, IsQuiet, AreSettled, MayMisread, FaultHasCause}
 use Rattle.cluster_world.specs.declared.life.Life.{Life}
 use Rattle.cluster_world.specs.declared.life.Life.TheVariants.{Up, Down, Lost}
 use Rattle.cluster_world.specs.declared.nodes.Nodes.{Nodes}
@@ -121,7 +121,7 @@ slot_up_of on nodes n node up slots st =
 -- why a disk failed that wrote
 pub caused : {D : Type 0} (on : View D) (n : ℕ) (P : Life → D → Life → D → Type 0) (old new : Nodes D) (ch : ChangesNode n P old new) (s : Step) (flying flying' : InFlight) (seconds seconds' : ℕ) (book book' : Book)
     → Rose (on.faults ch.disk) (on.faults ch.disk') ⊎ ((on.seen ch.disk ≡ None) × MayMisread s)
-    → HasCause on (Ok (Faulted n)) s (state_with old flying seconds book) (state_with new flying' seconds' book')
+    → FaultHasCause on (Ok (Faulted n)) s (state_with old flying seconds book) (state_with new flying' seconds' book')
 caused on n P old new ch s flying flying' seconds seconds' book book' why d d' e e' =
     let d_is : ch.disk ≡ d = some_same ch.disk d (sym ch.held ∙ e) in
     let d'_is : ch.disk' ≡ d' = some_same ch.disk' d' (sym (disk_there n P old new ch) ∙ e') in
@@ -233,7 +233,7 @@ module _ {D : Type 0} (on : View D) (n : ℕ) (P : Life → D → Life → D →
       pub up : slot_at slots n ≡ Some (slot_up (node_seen a) slot.disk)
       pub whole : slot ≡ slot_up (node_seen a) slot.disk
       pub stood : SlotStands on n (Up a) ch.disk slot
-      pub keeps : Keeps slot.disk a
+      pub keeps : NodeKeeps slot.disk a
       pub tells : TellsJournal (on.seen ch.disk) n (payloads_of slot.disk) (end_in a)
 
     pub found_up : FoundUp

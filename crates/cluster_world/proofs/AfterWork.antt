@@ -22,16 +22,16 @@ use Rattle.node_core.specs.Works.{Rule, NodeDid, NodeStopped}
 use Rattle.node_core.specs.declared.node.Node.{Node}
 use Rattle.world_book.specs.declared.book.Book.{Book}
 use Rattle.cluster_world.specs.Books.{booked_by}
-use Rattle.cluster_world.specs.Flights.{InFlight, PutDown, put_down, left_without, taken_out}
+use Rattle.cluster_world.specs.Flights.{InFlight, PutDown, put_down, flights_without, taken_out}
 use Rattle.cluster_world.specs.Lives.{life_seen, of_node, with_node_at, falls_left, all_falls_left, CanWorkOn}
 use Rattle.cluster_world.specs.Stands.{SlotStands, SlotsStand}
-use Rattle.cluster_world.specs.Worlds.{State, seen_life, life_among, state_with, Stands}
+use Rattle.cluster_world.specs.Worlds.{WorldState, seen_life, life_among, state_with, StateStandsFor}
 use Rattle.cluster_world.specs.Changes.{ChangesNode, IsTurnedTo}
 use Rattle.cluster_world.specs.Missing.{all_missed, OnlyTickets, SentOff}
 use Rattle.cluster_world.specs.Moments.{StopsKeep}
 use Rattle.cluster_world.specs.Works.{slot_after, SlotTurned, SlotCut}
 use Rattle.cluster_world.specs.Turns.{node_refusal, life_after_step}
-use Rattle.cluster_world.specs.Steps.{AreToldAlike, IsQuiet, AreSettled, EveryStopKeeps, StepDid, LeadsTo, HasCause, IsRefusedRight, SaysSo, FallsSo, IsLighter}
+use Rattle.cluster_world.specs.Steps.{AreToldAlike, IsQuiet, AreSettled, EveryStopKeeps, StepDid, LeadsTo, FaultHasCause, IsRefusedRight, SaysSo, FallsSo, IsLighter}
 use Rattle.cluster_world.specs.declared.step.Step.{Step}
 use Rattle.cluster_world.specs.declared.step.Said.{Said}
 use Rattle.cluster_world.specs.declared.fault.StepFault.{StepFault}
@@ -105,10 +105,10 @@ module _ {D : Type 0} (on : View D) (n : ℕ) (P : Life → D → Life → D →
   work_goes_on same m = work_lives m ∙ turned_still n m (life_among old) (life_seen ch.life') (same ∙ sym (ap seen_life ch.was))
 
   module _ (flying flying' : InFlight) (seconds : ℕ) (book book' : Book) where
-    abbrev before : State D
+    abbrev before : WorldState D
     before = state_with old flying seconds book
 
-    abbrev behind : State D
+    abbrev behind : WorldState D
     behind = state_with new flying' seconds book'
 
     of_mid : (m : ℕ) (d : D) → of_node new.disks.items m ≡ Some d → of_node mid.disks.items m ≡ Some d
@@ -142,9 +142,9 @@ module _ {D : Type 0} (on : View D) (n : ℕ) (P : Life → D → Life → D →
         (record { each = stops_kept n P old mid ch on slots slot slot' st here (λ _. keeps) })
 
     -- the world of the machine, with its slot written and the mishaps of letters noted
-    pub work_stands : (w : machine.World) → Stands on before w → (slot' : Slot) → SlotStands on n ch.life' ch.disk' slot' → (flying_is : List Flight) → flying'.flights ≡ flying_is
+    pub work_stands : (w : machine.World) → StateStandsFor on before w → (slot' : Slot) → SlotStands on n ch.life' ch.disk' slot' → (flying_is : List Flight) → flying'.flights ≡ flying_is
         → (sent_is : ℕ) → flying'.sent ≡ sent_is → (booked : List BookEntry) → booked_by book' ≡ booked
-        → Stands on behind (record w { slots = change (with_slot w.slots n slot'); flying = flying_is; sent = sent_is; book = booked })
+        → StateStandsFor on behind (record w { slots = change (with_slot w.slots n slot'); flying = flying_is; sent = sent_is; book = booked })
     work_stands w st slot' stands flying_is f sent_is s booked b = record {
       slots = only.slots (with_slot w.slots n slot') (slots_stand n P old mid ch on w.slots slot' st.slots stands);
       flying = f;
@@ -158,7 +158,7 @@ module _ {D : Type 0} (on : View D) (n : ℕ) (P : Life → D → Life → D →
         → FallsSo result old.plan.nodes step (life_among old) → ((m : ℕ) → life_among new m ≡ life_after_step result step m (life_among old m))
         → IsToldAlike (on.seen ch.disk) (on.seen ch.disk') → on.faults ch.disk ≤ on.faults ch.disk'
         → ((boot : ℕ) → life_seen ch.life ≡ life.Up boot → life_seen ch.life' ≡ life.Up boot → on.faults ch.disk' ≡ on.faults ch.disk) → IsLighter result step before behind
-        → ((w : machine.World) → Stands on before w → LeadsTo on result step before behind w) → HasCause on result step before behind → StepDid on result step before behind
+        → ((w : machine.World) → StateStandsFor on before w → LeadsTo on result step before behind w) → FaultHasCause on result step before behind → StepDid on result step before behind
     work_did result step refused kind falls lives told later same lighter leads cause = record {
       plan = work_plan;
       handed = work_handed;
@@ -188,13 +188,13 @@ no_more xs = append-nil (xs ++ []) ∙ append-nil xs
 -- The node was up. How the machine finds it, and what it makes of it.
 module _ {D : Type 0} (on : View D) (n : ℕ) (P : Life → D → Life → D → Type 0) (old mid new : Nodes D) (ch : ChangesNode n P old mid) (rule : Rule) (a : Node) (was : ch.life ≡ Up a)
     (flying flying' : InFlight) (seconds : ℕ) (book book' : Book) where
-  abbrev start : State D
+  abbrev start : WorldState D
   start = state_with old flying seconds book
 
-  abbrev final : State D
+  abbrev final : WorldState D
   final = state_with new flying' seconds book'
 
-  pub up_slot : (w : machine.World) → Stands on start w → (slot : Slot) × (slot_at w.slots n ≡ Some slot) × SlotStands on n (Up a) ch.disk slot
+  pub up_slot : (w : machine.World) → StateStandsFor on start w → (slot : Slot) × (slot_at w.slots n ≡ Some slot) × SlotStands on n (Up a) ch.disk slot
   up_slot w st =
       let (slot, here, stood) = slot_of on old.lives.items old.disks.items w.slots n ch.life ch.disk st.slots ch.was ch.held in
       (slot, here, subst (λ l. SlotStands on n l ch.disk slot) was stood)
@@ -213,11 +213,11 @@ module _ {D : Type 0} (on : View D) (n : ℕ) (P : Life → D → Life → D →
     pub up : IsUp w n node disk
     pub node_is : node ≡ node_seen a
     pub out : (rule node disk).out ≡ letters
-    pub stands : Stands on final (after (record w { flying = left; book = booked }) n (rule node disk))
+    pub stands : StateStandsFor on final (after (record w { flying = left; book = booked }) n (rule node disk))
     pub stops : EveryStopKeeps on start final w.slots (after (record w { flying = left; book = booked }) n (rule node disk)).slots
 
   pub work_sent : (b : Node) → ch.life' ≡ Up b → (letters : List Letter) → NodeDid on rule a ch.disk b ch.disk' letters → (plan : Plan) (posted : Option ℕ)
-      → SentOff on plan letters posted flying flying' mid new → (w : machine.World) → Stands on start w → (left : List Flight) → left_without posted w.flying ≡ left
+      → SentOff on plan letters posted flying flying' mid new → (w : machine.World) → StateStandsFor on start w → (left : List Flight) → flights_without posted w.flying ≡ left
       → (booked : List BookEntry) → booked_by book' ≡ booked → WorkSent letters left booked w
   work_sent b is letters did plan posted off w st left left_is booked booked_is =
       let (slot, here, stood) = up_slot w st in
@@ -227,14 +227,14 @@ module _ {D : Type 0} (on : View D) (n : ℕ) (P : Life → D → Life → D →
       let q : PutDown = put_down letters (taken_out posted flying) in
       let base : machine.World = record w { slots = written; flying = left; book = booked } in
       let q_is : q ≡ put_down (rule t.node slot.disk).out (record { flights = left; sent = w.sent }) =
-      ap (λ f. put_down letters (record { flights = f; sent = flying.sent })) (ap (left_without posted) st.flying ∙ left_is)
+      ap (λ f. put_down letters (record { flights = f; sent = flying.sent })) (ap (flights_without posted) st.flying ∙ left_is)
       ∙ ap (λ s. put_down letters (record { flights = left; sent = s })) st.sent
       ∙ ap (λ ls. put_down ls (record { flights = left; sent = w.sent })) (sym t.out) in
       let next : machine.World = after (record w { flying = left; book = booked }) n (rule t.node slot.disk) in
       let eq : with_put written base q ≡ next = ap (λ p. with_put written base p) q_is ∙ sym (put_is (rule t.node slot.disk).out base) in
       let change : List Slot → List Slot = λ slots. all_missed Crowded slots q.left in
       let only : OnlyTickets on change mid new = off.noticed.only in
-      let stands : Stands on final (with_put written base q) =
+      let stands : StateStandsFor on final (with_put written base q) =
       work_stands on n P old mid new ch change only flying flying' seconds book book' w st slot' (subst (λ l. SlotStands on n l ch.disk' slot') (sym is) t.stands)
       q.flying.flights (ap (λ (x : InFlight). x.flights) off.flies) q.flying.sent (ap (λ (x : InFlight). x.sent) off.flies) booked booked_is in
       record {
@@ -243,7 +243,7 @@ module _ {D : Type 0} (on : View D) (n : ℕ) (P : Life → D → Life → D →
         up = here ∙ ap Some t.was;
         node_is = node_of slot t.node t.was stood;
         out = t.out;
-        stands = subst (λ x. Stands on final x) eq stands;
+        stands = subst (λ x. StateStandsFor on final x) eq stands;
         stops = work_stops on n P old mid new ch change only flying flying' seconds book book' w.slots next.slots slot slot' st.slots here t.keeps
             (λ m. ap (λ (x : machine.World). kept_at (slot_at x.slots m)) (sym eq) ∙ all_kept Crowded written m q.left);
       }
@@ -260,7 +260,7 @@ module _ {D : Type 0} (on : View D) (n : ℕ) (P : Life → D → Life → D →
     pub stands : SlotStands on n Down ch.disk' (record { life = plain.Life.Down pending; disk = disk ++ front })
     pub keeps : StopsKeep on n ch.disk ch.disk' (slot_up node disk) (record { life = plain.Life.Down pending; disk = disk ++ front })
 
-  pub work_stopped : NodeStopped on rule a ch.disk ch.disk' → (w : machine.World) → Stands on start w → CutSlot w
+  pub work_stopped : NodeStopped on rule a ch.disk ch.disk' → (w : machine.World) → StateStandsFor on start w → CutSlot w
   work_stopped stopped w st =
       let (slot, here, stood) = up_slot w st in
       let c : SlotCut on n rule (Up a) ch.disk Down ch.disk' slot = cut_down on n rule a ch.disk ch.disk' slot stopped stood in
@@ -276,7 +276,7 @@ module _ {D : Type 0} (on : View D) (n : ℕ) (P : Life → D → Life → D →
         keeps = subst (λ s. StopsKeep on n ch.disk ch.disk' s (record { life = plain.Life.Down c.pending; disk = slot.disk ++ c.front })) c.was c.keeps;
       }
 
-  pub work_undone : (b : Node) (letters : List Letter) → NodeDid on rule a ch.disk b ch.disk' letters → (w : machine.World) → Stands on start w → CutSlot w
+  pub work_undone : (b : Node) (letters : List Letter) → NodeDid on rule a ch.disk b ch.disk' letters → (w : machine.World) → StateStandsFor on start w → CutSlot w
   work_undone b letters did w st =
       let (slot, here, stood) = up_slot w st in
       let t : SlotTurned on n rule (Up a) ch.disk (Up b) ch.disk' letters slot = did_turned on n rule a ch.disk ch.disk' slot b letters did stood in
@@ -300,15 +300,15 @@ module _ {D : Type 0} (on : View D) (n : ℕ) (P : Life → D → Life → D →
 
   -- and its world: the book has it, nothing is sent, and the mishaps of letters may be noted
   module _ (down : ch.life' ≡ Down) (change : List Slot → List Slot) (only : OnlyTickets on change mid new) where
-    pub cut_stands : (w : machine.World) → Stands on start w → (c : CutSlot w) → (left : List Flight) → flying'.flights ≡ left → flying'.sent ≡ flying.sent
+    pub cut_stands : (w : machine.World) → StateStandsFor on start w → (c : CutSlot w) → (left : List Flight) → flying'.flights ≡ left → flying'.sent ≡ flying.sent
         → (booked : List BookEntry) → booked_by book' ≡ booked ++ WentDown n ∷ []
-        → Stands on final (record w { slots = change (with_slot w.slots n (record { life = plain.Life.Down c.pending; disk = c.disk ++ c.front })); flying = left; book = booked ++ WentDown n ∷ [] })
+        → StateStandsFor on final (record w { slots = change (with_slot w.slots n (record { life = plain.Life.Down c.pending; disk = c.disk ++ c.front })); flying = left; book = booked ++ WentDown n ∷ [] })
     cut_stands w st c left flies sent booked booked_is =
         work_stands on n P old mid new ch change only flying flying' seconds book book' w st (record { life = plain.Life.Down c.pending; disk = c.disk ++ c.front })
         (subst (λ l. SlotStands on n l ch.disk' (record { life = plain.Life.Down c.pending; disk = c.disk ++ c.front })) (sym down) c.stands)
         left flies w.sent (sent ∙ st.sent) (booked ++ WentDown n ∷ []) booked_is
 
-    pub cut_stops : (w : machine.World) → Stands on start w → (c : CutSlot w) (slots : List Slot)
+    pub cut_stops : (w : machine.World) → StateStandsFor on start w → (c : CutSlot w) (slots : List Slot)
         → ((m : ℕ) → kept_at (slot_at slots m) ≡ kept_at (slot_at (with_slot w.slots n (record { life = plain.Life.Down c.pending; disk = c.disk ++ c.front })) m))
         → EveryStopKeeps on start final w.slots slots
     cut_stops w st c slots kept =
@@ -333,16 +333,16 @@ module _ {D : Type 0} (on : View D) (n : ℕ) (P : Life → D → Life → D →
     not_lost slot (seen, life_is, st) lost = let never : plain.Life.Up seen ≡ plain.Life.Lost = sym life_is ∙ lost in cc
 
     module _ (change : List Slot → List Slot) (only : OnlyTickets on change mid new) where
-      pub idle_stands : (w : machine.World) → Stands on start w → (left : List Flight) → flying'.flights ≡ left → flying'.sent ≡ flying.sent → book' ≡ book
-          → Stands on final (record w { slots = change w.slots; flying = left })
+      pub idle_stands : (w : machine.World) → StateStandsFor on start w → (left : List Flight) → flying'.flights ≡ left → flying'.sent ≡ flying.sent → book' ≡ book
+          → StateStandsFor on final (record w { slots = change w.slots; flying = left })
       idle_stands w st left flies sent book_is =
           let (slot, here, stood) = up_slot w st in
           let now : SlotStands on n ch.life' ch.disk' slot =
           subst (λ d. SlotStands on n ch.life' d slot) (sym untold) (subst (λ l. SlotStands on n l ch.disk slot) (sym is) (same_slot slot stood)) in
-          subst (λ slots. Stands on final (record w { slots = change slots; flying = left })) (slot_same w.slots n slot here)
+          subst (λ slots. StateStandsFor on final (record w { slots = change slots; flying = left })) (slot_same w.slots n slot here)
           (work_stands on n P old mid new ch change only flying flying' seconds book book' w st slot now left flies w.sent (sent ∙ st.sent) w.book (ap booked_by book_is ∙ st.book))
 
-      pub idle_stops : (w : machine.World) → Stands on start w → (slots : List Slot) → ((m : ℕ) → kept_at (slot_at slots m) ≡ kept_at (slot_at w.slots m)) → EveryStopKeeps on start final w.slots slots
+      pub idle_stops : (w : machine.World) → StateStandsFor on start w → (slots : List Slot) → ((m : ℕ) → kept_at (slot_at slots m) ≡ kept_at (slot_at w.slots m)) → EveryStopKeeps on start final w.slots slots
       idle_stops w st slots kept =
           let (slot, here, stood) = up_slot w st in
           work_stops on n P old mid new ch change only flying flying' seconds book book' w.slots slots slot slot st.slots here

@@ -34,9 +34,9 @@ use Rattle.cluster_world.specs.Books.{entries_seen, booked_by}
 use Rattle.cluster_world.specs.Flights.{InFlight}
 use Rattle.cluster_world.specs.Lives.{life_seen, of_node, falls_left, all_falls_left, CanWorkOn}
 use Rattle.cluster_world.specs.Stands.{SlotStands}
-use Rattle.cluster_world.specs.Worlds.{seen_life, life_among, state_with, Stands}
+use Rattle.cluster_world.specs.Worlds.{seen_life, life_among, state_with, StateStandsFor}
 use Rattle.cluster_world.specs.Changes.{ChangesNode}
-use Rattle.cluster_world.specs.Asking.{IsUpWhole, AreForTicket, confirms, IsAskedOn, IsRetold, IsRetoldOn, left_without}
+use Rattle.cluster_world.specs.Asking.{IsUpWhole, AreForTicket, confirms, IsAskedOn, IsRetold, IsRetoldOn, tickets_without}
 use Rattle.cluster_world.specs.Turns.{life_refusal, node_refusal}
 use Rattle.cluster_world.specs.Moments.{StopsKeep}
 use Rattle.cluster_world.specs.Steps.{StepDid, AreSettled, LeadsTo, AreToldAlike, IsQuiet}
@@ -162,10 +162,10 @@ module _ {D : Type 0} (on : View D) (ticket : Number) (left_of : Node → plain.
   standing = ap (λ own. ticket_at own (node_seen a.old) (Some ticket)) (sym works.0.own_is)
 
   module _ (flying : InFlight) (seconds : ℕ) (book book' : Book) where
-    abbrev before : Rattle.cluster_world.specs.Worlds.State D
+    abbrev before : Rattle.cluster_world.specs.Worlds.WorldState D
     before = state_with old flying seconds book
 
-    abbrev behind : Rattle.cluster_world.specs.Worlds.State D
+    abbrev behind : Rattle.cluster_world.specs.Worlds.WorldState D
     behind = state_with new flying seconds book'
 
     retold_told : AreToldAlike on.seen before behind
@@ -181,7 +181,7 @@ module _ {D : Type 0} (on : View D) (ticket : Number) (left_of : Node → plain.
         (λ boot up was. subst is_settled (sym ch.does.1) (was (sym retold_life ∙ up)))
 
     -- a step that leaves the machine so
-    leads_so : (s : Step) (outcome : Result Rattle.cluster_world.specs.declared.step.Said.Said StepFault) (entries : List BookEntry) → booked_by book' ≡ booked_by book ++ entries → (w : machine.World) → Stands on before w
+    leads_so : (s : Step) (outcome : Result Rattle.cluster_world.specs.declared.step.Said.Said StepFault) (entries : List BookEntry) → booked_by book' ≡ booked_by book ++ entries → (w : machine.World) → StateStandsFor on before w
         → (slot : Slot) → slot_at w.slots ticket.node ≡ Some slot → SlotStands on ticket.node ch.life ch.disk slot
         → Rattle.cluster_model.specs.Makes.MakesStep old.plan (Rattle.cluster_world.specs.Worlds.tells_in on.seen before) w (step_seen s) (Rattle.cluster_world.specs.Seen.outcome_seen outcome)
         (record w { slots = with_slot w.slots ticket.node (slot_then slot); book = w.book ++ entries })
@@ -248,7 +248,7 @@ module _ {D : Type 0} (on : View D) (ticket : Number) (left_of : Node → plain.
         booked : booked_by book' ≡ booked_by book ++ entries_seen (if confirms (ask_seen ask) then items else [])
         booked = ap entries_seen wrote ∙ entries_more (entries_of book) (if confirms (ask_seen ask) then items else [])
 
-        ask_leads : (x : progress.Ask) → ask_seen ask ≡ x → (w : machine.World) → Stands on before w → LeadsTo on (Ok (Asked ask)) (step.Ask ticket) before behind w
+        ask_leads : (x : progress.Ask) → ask_seen ask ≡ x → (w : machine.World) → StateStandsFor on before w → LeadsTo on (Ok (Asked ask)) (step.Ask ticket) before behind w
         ask_leads (progress.Ask.Pending got wanted) e w st =
             let (slot, here, stood) = slot_of on old.lives.items old.disks.items w.slots ticket.node ch.life ch.disk st.slots ch.was ch.held in
             let is = seen_there slot stood in
@@ -296,12 +296,12 @@ module _ {D : Type 0} (on : View D) (ticket : Number) (left_of : Node → plain.
 
     -- A ticket is given up.
     module _ (fit : node_refusal old.plan (life_among old) (step.GiveUp ticket) ≡ None) (stood : is_some (ticket_standing a.old ticket) ≡ true) (early : nat_le letters_end flying.sent ≡ false)
-        (left_out : left ≡ left_without ticket a.old) (same : booked_by book' ≡ booked_by book) where
+        (left_out : left ≡ tickets_without ticket a.old) (same : booked_by book' ≡ booked_by book) where
       ended : (o : Option plain.Ticket) → is_some o ≡ true → ticket_taken_out ticket.seq o (node_seen a.old).tickets ≡ fin.remove (node_seen a.old).tickets ticket.seq
       ended None e = absurd (let never : false ≡ true = e in cc)
       ended (Some t) e = refl
 
-      give_up_leads : (w : machine.World) → Stands on before w → LeadsTo on (Ok Done) (step.GiveUp ticket) before behind w
+      give_up_leads : (w : machine.World) → StateStandsFor on before w → LeadsTo on (Ok Done) (step.GiveUp ticket) before behind w
       give_up_leads w st =
           let (slot, here, stands) = slot_of on old.lives.items old.disks.items w.slots ticket.node ch.life ch.disk st.slots ch.was ch.held in
           let is = seen_there slot stands in

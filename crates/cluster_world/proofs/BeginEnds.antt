@@ -23,7 +23,7 @@ use Rattle.world_book.specs.Books.{entries_of}
 use Rattle.world_book.specs.declared.book.Book.{Book}
 use Rattle.world_book.specs.declared.entry.Entry.{Entry}
 use Rattle.world_book.specs.declared.entry.Entry.TheVariants as written
-use Rattle.cluster_world.specs.Begins.{BeginsAt, HasRule, struck_by, GoesOn, Fails, Concludes}
+use Rattle.cluster_world.specs.Begins.{BeginsAt, HasRule, strikes_of_call, GoesOn, Fails, Concludes}
 use Rattle.cluster_world.specs.Books.{entries_seen, booked_by}
 use Rattle.cluster_world.specs.Changes.{ChangesNode, IsTurnedTo}
 use Rattle.cluster_world.specs.Flights.{InFlight}
@@ -31,7 +31,7 @@ use Rattle.cluster_world.specs.Lives.{life_seen, of_node, falls_left, all_falls_
 use Rattle.cluster_world.specs.Seen.{outcome_seen}
 use Rattle.cluster_world.specs.Steps.{StepDid, AreSettled, IsRefusedRight, FallsSo}
 use Rattle.cluster_world.specs.Turns.{node_refusal, life_after_step}
-use Rattle.cluster_world.specs.Worlds.{State, seen_life, life_among, state_with, tells_in, Stands}
+use Rattle.cluster_world.specs.Worlds.{WorldState, seen_life, life_among, state_with, tells_in, StateStandsFor}
 use Rattle.cluster_world.specs.declared.life.Life.{Life}
 use Rattle.cluster_world.specs.declared.life.Life.TheVariants.{Up, Down}
 use Rattle.cluster_world.specs.declared.nodes.Nodes.{Nodes}
@@ -99,19 +99,19 @@ module _ {D : Type 0} (on : View D) (is_settled : D → Type 0) (n : ℕ) (call 
   module _ (flying : InFlight) (book : Book) (early : nat_le letters_end flying.sent ≡ false) where
     -- The node is as it was.
     module _ (book' : Book) (wrote : entries_of book' ≡ entries_of book ++ []) where
-      abbrev start : State D
+      abbrev start : WorldState D
       start = state_with old flying seconds book
 
-      abbrev final : State D
+      abbrev final : WorldState D
       final = state_with mid flying seconds book'
 
-      booked : (w : machine.World) → Stands on start w → booked_by book' ≡ w.book
+      booked : (w : machine.World) → StateStandsFor on start w → booked_by book' ≡ w.book
       booked w st = ap entries_seen (wrote ∙ append-nil (entries_of book)) ∙ st.book
 
       idle_did : (why : StepFault) → IsRefusedRight (Err why) (node_refusal old.plan (life_among old) (step.Begin n call)) → FallsSo (Err why) old.plan.nodes (step.Begin n call) (life_among old)
           → ((m : ℕ) → life_after_step (Err why) (step.Begin n call) m (life_among old m) ≡ life_among old m) → ch.life' ≡ Up b → IsAsBefore a b → IsOnlyRead on ch.disk ch.disk'
           → on.faults ch.disk' ≡ on.faults ch.disk
-          → ((w : machine.World) → Stands on start w → MakesStep old.plan (tells_in on.seen start) w (steps.Step.Begin n (call_seen call)) (outcome_seen (Err why)) w)
+          → ((w : machine.World) → StateStandsFor on start w → MakesStep old.plan (tells_in on.seen start) w (steps.Step.Begin n (call_seen call)) (outcome_seen (Err why)) w)
           → StepDid on (Err why) (step.Begin n call) start final
       idle_did why refused falls lives is same read quiet made = record {
         plan = ch.plan;
@@ -133,7 +133,7 @@ module _ {D : Type 0} (on : View D) (is_settled : D → Type 0) (n : ℕ) (call 
         cause = λ w st. tt;
       }
 
-      worn_made : is_worn_for old.plan seconds (node_seen a) (call_seen call) ≡ true → (w : machine.World) → Stands on start w
+      worn_made : is_worn_for old.plan seconds (node_seen a) (call_seen call) ≡ true → (w : machine.World) → StateStandsFor on start w
           → MakesStep old.plan (tells_in on.seen start) w (steps.Step.Begin n (call_seen call)) (outcome_seen (Err fault.Worn)) w
       worn_made worn w st =
           let (slot, here, stood) = up_slot on n B old mid mid ch (λ x d. idle x d) a ch.does.0.was flying flying seconds book book w st in
@@ -154,7 +154,7 @@ module _ {D : Type 0} (on : View D) (is_settled : D → Type 0) (n : ℕ) (call 
           idle_did (fault.NoMemory None) tt tt (λ m. refl) (begin_life on is_settled n call seconds old mid fit ready began ch (Err (NoMemory false)) e) did.0 did.1 did.2 (λ w st. refl)
 
     -- Whatever the node did, and whatever came of it.
-    module _ (rule : HasRule old.plan.nodes (call_seen call)) (entries : List Entry) (struck : entries_seen entries ≡ struck_by (call_seen call)) (roomy : Book) (same_book : entries_of roomy ≡ entries_of book)
+    module _ (rule : HasRule old.plan.nodes (call_seen call)) (entries : List Entry) (struck : entries_seen entries ≡ strikes_of_call (call_seen call)) (roomy : Book) (same_book : entries_of roomy ≡ entries_of book)
         (new : Nodes D) (flying' : InFlight) (book' : Book) (result : Result Said StepFault) where
       abbrev Done : Type 0
       Done = StepDid on result (step.Begin n call) (state_with old flying seconds book) (state_with new flying' seconds book')

@@ -20,7 +20,7 @@ use Rattle.disk_journal.specs.Journal.{TellsJournal}
 use Rattle.node_store.specs.Disks.{View}
 use Rattle.node_store.specs.declared.fault.KeepFault.TheVariants as keep
 use Rattle.node_core.specs.Beginning.{call_seen, at_second, CallDid, CallStopped, CallFailed}
-use Rattle.node_core.specs.Nodes.{node_seen, Keeps, end_in}
+use Rattle.node_core.specs.Nodes.{node_seen, NodeKeeps, end_in}
 use Rattle.node_core.specs.Works.{Rule, NodeDid, IsOnlyRead}
 use Rattle.node_core.specs.declared.fault.NodeFault.TheVariants.{Disk, NoMemory}
 use Rattle.node_core.specs.declared.node.Node.{Node}
@@ -31,15 +31,15 @@ use Rattle.world_book.specs.Books.{entries_of}
 use Rattle.world_book.specs.declared.book.Book.{Book}
 use Rattle.world_book.specs.declared.entry.Entry.{Entry}
 use Rattle.world_book.specs.declared.entry.Entry.TheVariants as written
-use Rattle.cluster_world.specs.Begins.{BeginsAt, HasRule, struck_by}
+use Rattle.cluster_world.specs.Begins.{BeginsAt, HasRule, strikes_of_call}
 use Rattle.cluster_world.specs.Books.{entries_seen, booked_by}
 use Rattle.cluster_world.specs.Changes.{ChangesNode, IsTurnedTo}
 use Rattle.cluster_world.specs.Flights.{InFlight}
 use Rattle.cluster_world.specs.Lives.{life_seen, CanWorkOn}
 use Rattle.cluster_world.specs.Seen.{outcome_seen}
-use Rattle.cluster_world.specs.Steps.{StepDid, LeadsTo, HasCause, MayReadAmiss, WasToWork, IsRefusedRight, SaysSo, FallsSo, IsLighter, MayMisread}
+use Rattle.cluster_world.specs.Steps.{StepDid, LeadsTo, FaultHasCause, MayReadAmiss, WasToWork, IsRefusedRight, SaysSo, FallsSo, IsLighter, MayMisread}
 use Rattle.cluster_world.specs.Turns.{node_refusal, life_after_step}
-use Rattle.cluster_world.specs.Worlds.{State, life_among, state_with, tells_in, Stands}
+use Rattle.cluster_world.specs.Worlds.{WorldState, life_among, state_with, tells_in, StateStandsFor}
 use Rattle.cluster_world.specs.declared.life.Life.{Life}
 use Rattle.cluster_world.specs.declared.life.Life.TheVariants.{Up, Down}
 use Rattle.cluster_world.specs.declared.nodes.Nodes.{Nodes}
@@ -58,7 +58,7 @@ use Rattle.cluster_world.proofs.BeginParts.{Began, begin_named, begin_life, begi
 
 amiss : (call : Call) (user : List ℕ) (id : _) (from most : ℕ) → call_seen call ≡ Fetch user id from most → MayReadAmiss call
 amiss (kind.Deliver deliver) user id from most e = let never : Deliver (Rattle.mail_base.specs.Delivers.mail_in deliver) ≡ Fetch user id from most = e in cc
-amiss (kind.Login name proof) user id from most e = let never : Login name (Rattle.node_core.specs.Beginning.secret_in proof) ≡ Fetch user id from most = e in cc
+amiss (kind.Login name proof) user id from most e = let never : Login name (Rattle.node_core.specs.Beginning.secret_of_proof proof) ≡ Fetch user id from most = e in cc
 amiss (kind.Fetch name other holders first top) user id from most e = tt
 amiss (kind.Strike name items) user id from most e = let never : Strike name (Rattle.node_core.specs.Beginning.struck_of items) ≡ Fetch user id from most = e in cc
 amiss (kind.Leave name login manager) user id from most e = let never : Leave name ≡ Fetch user id from most = e in cc
@@ -73,37 +73,37 @@ fetch_kind call user id from most e none = let never : Some CallKind.Fetching �
 module _ {D : Type 0} (on : View D) (n : ℕ) (call : Call) (seconds : ℕ) (old new : Nodes D) (fit : node_refusal old.plan (life_among old) (step.Begin n call) ≡ None)
     (P : Life → D → Life → D → Type 0) (ch : ChangesNode n P old new) (a : Node) (was : ch.life ≡ Up a) (down : ch.life' ≡ Down) (worked : WasToWork old.plan.nodes (step.Begin n call) (life_among old n) n)
     (told : IsToldAlike (on.seen ch.disk) (on.seen ch.disk')) (later : on.faults ch.disk ≤ on.faults ch.disk')
-    (flying : InFlight) (book book' : Book) (entries : List Entry) (struck : entries_seen entries ≡ struck_by (call_seen call)) (wrote : entries_of book' ≡ entries_of book ++ (entries ++ written.Down n ∷ [])) where
+    (flying : InFlight) (book book' : Book) (entries : List Entry) (struck : entries_seen entries ≡ strikes_of_call (call_seen call)) (wrote : entries_of book' ≡ entries_of book ++ (entries ++ written.Down n ∷ [])) where
   abbrev c : NodeCall
   c = call_seen call
 
-  abbrev start : State D
+  abbrev start : WorldState D
   start = state_with old flying seconds book
 
-  abbrev final : State D
+  abbrev final : WorldState D
   final = state_with new flying seconds book'
 
   abbrev Cut : Rule → machine.World → Type 0
   Cut rule w = CutSlot on n P old new new ch rule a was flying flying seconds book book' w
 
-  booked : (w : machine.World) → Stands on start w → booked_by book' ≡ (w.book ++ struck_by c) ++ WentDown n ∷ []
+  booked : (w : machine.World) → StateStandsFor on start w → booked_by book' ≡ (w.book ++ strikes_of_call c) ++ WentDown n ∷ []
   booked w st =
       ap entries_seen wrote
       ∙ entries_more (entries_of book) (entries ++ written.Down n ∷ [])
       ∙ ap (λ xs. booked_by book ++ xs) (entries_more entries (written.Down n ∷ []))
       ∙ ap (λ xs. booked_by book ++ (xs ++ WentDown n ∷ [])) struck
-      ∙ sym (append_assoc (booked_by book) (struck_by c) (WentDown n ∷ []))
-      ∙ ap (λ xs. (xs ++ struck_by c) ++ WentDown n ∷ []) st.book
+      ∙ sym (append_assoc (booked_by book) (strikes_of_call c) (WentDown n ∷ []))
+      ∙ ap (λ xs. (xs ++ strikes_of_call c) ++ WentDown n ∷ []) st.book
 
   -- the machine's world, once it went down
   abbrev down_world : (w : machine.World) (disk front pending : List Record) → machine.World
   down_world w disk front pending = cut_world (struck_world w c) n disk front pending
 
-  fell_leads : (result : Result Said StepFault) (rule : Rule) (w : machine.World) → Stands on start w → (k : Cut rule w)
+  fell_leads : (result : Result Said StepFault) (rule : Rule) (w : machine.World) → StateStandsFor on start w → (k : Cut rule w)
       → MakesStep old.plan (tells_in on.seen start) w (steps.Step.Begin n c) (outcome_seen result) (down_world w k.disk k.front k.pending) → LeadsTo on result (step.Begin n call) start final w
   fell_leads result rule w st k made = record {
     next = down_world w k.disk k.front k.pending;
-    stands = cut_stands on n P old new new ch rule a was flying flying seconds book book' down (λ slots. slots) (nothing_else on new) w st k w.flying st.flying refl (w.book ++ struck_by c) (booked w st);
+    stands = cut_stands on n P old new new ch rule a was flying flying seconds book book' down (λ slots. slots) (nothing_else on new) w st k w.flying st.flying refl (w.book ++ strikes_of_call c) (booked w st);
     made = made;
     stops = cut_stops on n P old new new ch rule a was flying flying seconds book book' down (λ slots. slots) (nothing_else on new) w st k (down_world w k.disk k.front k.pending).slots (λ m. refl);
   }
@@ -112,7 +112,7 @@ module _ {D : Type 0} (on : View D) (n : ℕ) (call : Call) (seconds : ℕ) (old
   abbrev begin_rule : List ℕ → Rule
   begin_rule octets = λ x d. begun_by old.plan (at_second seconds) n x d c octets
 
-  goes_down : (octets : List ℕ) (w : machine.World) → Stands on start w → (k : Cut (begin_rule octets) w)
+  goes_down : (octets : List ℕ) (w : machine.World) → StateStandsFor on start w → (k : Cut (begin_rule octets) w)
       → NodeGoesDown (with_struck w c) n k.disk (begun_by old.plan w n (node_seen a) k.disk c octets).disk (down_world w k.disk k.front k.pending)
   goes_down octets w st k = record {
     front = k.front;
@@ -124,13 +124,13 @@ module _ {D : Type 0} (on : View D) (n : ℕ) (call : Call) (seconds : ℕ) (old
     is = ap (λ x. cut_world x n k.disk k.front k.pending) (sym (with_struck_is w c));
   }
 
-  filed_now : (octets : List ℕ) (w : machine.World) → Stands on start w → IsFiled (at_second seconds) n (node_seen a) c octets → IsFiled w n (node_seen a) c octets
+  filed_now : (octets : List ℕ) (w : machine.World) → StateStandsFor on start w → IsFiled (at_second seconds) n (node_seen a) c octets → IsFiled w n (node_seen a) c octets
   filed_now octets w st filed = filed_in w n (node_seen a) c octets (subst (λ s. IsFiled (at_second s) n (node_seen a) c octets) st.seconds filed)
 
   up_now : (rule : Rule) (w : machine.World) (k : Cut rule w) → IsUp w n (node_seen a) k.disk
   up_now rule w k = subst (λ x. IsUp w n x k.disk) k.node_is k.up
 
-  goes_now : nat_le letters_end flying.sent ≡ false → is_worn_for old.plan seconds (node_seen a) c ≡ false → (w : machine.World) → Stands on start w → (disk : List Record) → IsUp w n (node_seen a) disk
+  goes_now : nat_le letters_end flying.sent ≡ false → is_worn_for old.plan seconds (node_seen a) c ≡ false → (w : machine.World) → StateStandsFor on start w → (disk : List Record) → IsUp w n (node_seen a) disk
       → steps.step_fault old.plan (steps.Step.Begin n c) w ≡ None
   goes_now early fresh w st disk up =
       begin_goes old.plan w n c (slot_up (node_seen a) disk) (node_seen a) (begin_named n call old fit) up refl (ap (nat_le letters_end) (sym st.sent) ∙ early)
@@ -138,8 +138,8 @@ module _ {D : Type 0} (on : View D) (n : ℕ) (call : Call) (seconds : ℕ) (old
 
   fell_did : (result : Result Said StepFault) → IsRefusedRight result (node_refusal old.plan (life_among old) (step.Begin n call)) → IfOk result (SaysSo (step.Begin n call))
       → FallsSo result old.plan.nodes (step.Begin n call) (life_among old) → ((m : ℕ) → life_after_step result (step.Begin n call) m (life_among old m) ≡ turned n life.Down m (life_among old m))
-      → IsLighter result (step.Begin n call) start final → ((w : machine.World) → Stands on start w → LeadsTo on result (step.Begin n call) start final w)
-      → ((w : machine.World) → Stands on start w → HasCause on result (step.Begin n call) start final) → StepDid on result (step.Begin n call) start final
+      → IsLighter result (step.Begin n call) start final → ((w : machine.World) → StateStandsFor on start w → LeadsTo on result (step.Begin n call) start final w)
+      → ((w : machine.World) → StateStandsFor on start w → FaultHasCause on result (step.Begin n call) start final) → StepDid on result (step.Begin n call) start final
   fell_did result refused kind_so falls lives lighter leads cause = record {
     plan = ch.plan;
     handed = as_many n P old new ch;
@@ -155,7 +155,7 @@ module _ {D : Type 0} (on : View D) (n : ℕ) (call : Call) (seconds : ℕ) (old
   }
 
   -- Memory ran out once its work had begun.
-  pub short_did : ((w : machine.World) → Stands on start w → (octets : List ℕ) × IsFiled (at_second seconds) n (node_seen a) c octets × Cut (begin_rule octets) w)
+  pub short_did : ((w : machine.World) → StateStandsFor on start w → (octets : List ℕ) × IsFiled (at_second seconds) n (node_seen a) c octets × Cut (begin_rule octets) w)
       → StepDid on (Err (fault.NoMemory (Some n))) (step.Begin n call) start final
   short_did cuts = fell_did (Err (fault.NoMemory (Some n))) tt tt worked (λ m. refl) tt
       (λ w st.
@@ -164,7 +164,7 @@ module _ {D : Type 0} (on : View D) (n : ℕ) (call : Call) (seconds : ℕ) (old
       (RunsShort.Beginning c (node_seen a) k.disk octets refl (up_now (begin_rule octets) w k) (filed_now octets w st filed) (goes_down octets w st k)))
       (λ w st. tt)
 
-  caused : (risen : Rose (on.faults ch.disk) (on.faults ch.disk') ⊎ ((on.seen ch.disk ≡ None) × MayMisread (step.Begin n call))) → HasCause on (Ok (said.Faulted n)) (step.Begin n call) start final
+  caused : (risen : Rose (on.faults ch.disk) (on.faults ch.disk') ⊎ ((on.seen ch.disk ≡ None) × MayMisread (step.Begin n call))) → FaultHasCause on (Ok (said.Faulted n)) (step.Begin n call) start final
   caused risen = λ d d' e e'.
       let d_is : ch.disk ≡ d = some_same ch.disk d (sym ch.held ∙ e) in
       let d'_is : ch.disk' ≡ d' = some_same ch.disk' d' (sym (disk_there n P old new ch) ∙ e') in
@@ -173,7 +173,7 @@ module _ {D : Type 0} (on : View D) (n : ℕ) (call : Call) (seconds : ℕ) (old
 
   -- Its disk failed as it wrote.
   pub failed_did : nat_le letters_end flying.sent ≡ false → is_worn_for old.plan seconds (node_seen a) c ≡ false → Rose (on.faults ch.disk) (on.faults ch.disk')
-      → (octets : List ℕ) → IsFiled (at_second seconds) n (node_seen a) c octets → ((w : machine.World) → Stands on start w → Cut (begin_rule octets) w)
+      → (octets : List ℕ) → IsFiled (at_second seconds) n (node_seen a) c octets → ((w : machine.World) → StateStandsFor on start w → Cut (begin_rule octets) w)
       → StepDid on (Ok (said.Faulted n)) (step.Begin n call) start final
   failed_did early fresh rose octets filed cuts = fell_did (Ok (said.Faulted n)) (sym fit) (fault_so call n (λ none. filed_kind (at_second seconds) n (node_seen a) c octets filed none)) worked (λ m. refl) tt
       (λ w st.
@@ -186,7 +186,7 @@ module _ {D : Type 0} (on : View D) (n : ℕ) (call : Call) (seconds : ℕ) (old
   -- Its disk failed as it was read.
   pub unread_did : nat_le letters_end flying.sent ≡ false → HasRule old.plan.nodes c → is_worn_for old.plan seconds (node_seen a) c ≡ false → (user : List ℕ) (id : _) (from most : ℕ) → c ≡ Fetch user id from most
       → IsOnlyRead on ch.disk ch.disk' → (on.seen ch.disk ≡ None) ⊎ Rose (on.faults ch.disk) (on.faults ch.disk')
-      ⊎ ((records : List Record) → Keeps records a → TellsJournal (on.seen ch.disk) n (payloads_of records) (end_in a) → ⊥)
+      ⊎ ((records : List Record) → NodeKeeps records a → TellsJournal (on.seen ch.disk) n (payloads_of records) (end_in a) → ⊥)
       → StepDid on (Ok (said.Faulted n)) (step.Begin n call) start final
   unread_did early rule fresh user id from most called read cause = fell_did (Ok (said.Faulted n)) (sym fit) (fault_so call n (fetch_kind c user id from most called)) worked (λ m. refl) tt
       (λ w st.
@@ -197,7 +197,7 @@ module _ {D : Type 0} (on : View D) (n : ℕ) (call : Call) (seconds : ℕ) (old
         goes_now early fresh w st k.disk up,
         BeginsCall.FailsReading (node_seen a) k.disk user id from most up (fetch_rule old.plan.nodes c user id from most called rule) called refl
             (ap (λ xs. cut_world (struck_world w c) n k.disk xs k.pending) f.front_is ∙ ap (λ xs. cut_world (struck_world w c) n k.disk [] xs) f.pending_is
-            ∙ ap (λ (x : machine.World). cut_world x n k.disk [] []) (ap (λ (bk : List BookEntry). record w { book = bk }) (ap (λ xs. w.book ++ xs) (ap struck_by called) ∙ append-nil w.book))),
+            ∙ ap (λ (x : machine.World). cut_world x n k.disk [] []) (ap (λ (bk : List BookEntry). record w { book = bk }) (ap (λ xs. w.book ++ xs) (ap strikes_of_call called) ∙ append-nil w.book))),
       ))
       (λ w st.
       let (slot, here, stood) = up_slot on n P old new new ch (λ x d. idle x d) a was flying flying seconds book book' w st in
@@ -208,7 +208,7 @@ module _ {D : Type 0} (on : View D) (n : ℕ) (call : Call) (seconds : ℕ) (old
 module _ {D : Type 0} (on : View D) (is_settled : D → Type 0) (n : ℕ) (call : Call) (seconds : ℕ) (old mid : Nodes D)
     (fit : node_refusal old.plan (life_among old) (step.Begin n call) ≡ None) (ready : CanWorkOn on.seen old.plan old.lives.items old.disks.items) (began : Began)
     (ch : ChangesNode n (BeginsAt on is_settled old.plan n seconds (call_seen call) began) old mid)
-    (flying : InFlight) (book book' : Book) (entries : List Entry) (struck : entries_seen entries ≡ struck_by (call_seen call)) (wrote : entries_of book' ≡ entries_of book ++ (entries ++ written.Down n ∷ [])) where
+    (flying : InFlight) (book book' : Book) (entries : List Entry) (struck : entries_seen entries ≡ strikes_of_call (call_seen call)) (wrote : entries_of book' ≡ entries_of book ++ (entries ++ written.Down n ∷ [])) where
   abbrev B : Life → D → Life → D → Type 0
   B = BeginsAt on is_settled old.plan n seconds (call_seen call) began
 
@@ -235,7 +235,7 @@ module _ {D : Type 0} (on : View D) (is_settled : D → Type 0) (n : ℕ) (call 
     Short w = (octets : List ℕ) × IsFiled (at_second seconds) n (node_seen a) (call_seen call) octets
         × CutSlot on n (AreThese ch.life Down ch.disk ch.disk') old new new both (λ x d. begun_by old.plan (at_second seconds) n x d (call_seen call) octets) a both_was flying flying seconds book book' w
 
-    unsent_cut : (ticket : Option Number) (letters : List Letter) → 1 ≤ length letters → (w : machine.World) → Stands on (state_with old flying seconds book) w
+    unsent_cut : (ticket : Option Number) (letters : List Letter) → 1 ≤ length letters → (w : machine.World) → StateStandsFor on (state_with old flying seconds book) w
         → CallDid on old.plan n seconds (call_seen call) a ch.disk b ch.disk' ticket letters → Short w
     unsent_cut ticket letters some w st (CallDid.AtOnce kind of_kind fails t did) =
         let (slot, here, stood) = up_slot on n B old mid mid ch (λ x d. idle x d) a ch.does.0.was flying flying seconds book book w st in

@@ -22,7 +22,7 @@ use Rattle.cluster_world.specs.Missing.{OnlyTickets}
 use Rattle.cluster_world.specs.Moments.{IsStopOf, StopsKeep}
 use Rattle.cluster_world.specs.Stands.{SlotStands}
 use Rattle.cluster_world.specs.Steps.{EveryStopKeeps}
-use Rattle.cluster_world.specs.Worlds.{State, state_with, Stands}
+use Rattle.cluster_world.specs.Worlds.{WorldState, state_with, StateStandsFor}
 use Rattle.cluster_world.specs.declared.life.Life.{Life}
 use Rattle.cluster_world.specs.declared.life.Life.TheVariants.{Up, Down}
 use Rattle.cluster_world.specs.declared.nodes.Nodes.{Nodes}
@@ -92,18 +92,18 @@ module _ {D : Type 0} (on : View D) (n : ℕ) (a : Node) (before after : D) (rea
 
 module _ {D : Type 0} (on : View D) (n : ℕ) (P : Life → D → Life → D → Type 0) (old mid new : Nodes D) (ch : ChangesNode n P old mid) (only : OnlyTickets on (λ slots. slots) mid new) (a : Node)
     (was : ch.life ≡ Up a) (read : IsOnlyRead on ch.disk ch.disk') (flying flying' : InFlight) (seconds : ℕ) (book book' : Book) where
-  abbrev start : State D
+  abbrev start : WorldState D
   start = state_with old flying seconds book
 
-  abbrev final : State D
+  abbrev final : WorldState D
   final = state_with new flying' seconds book'
 
-  module _ (b : Node) (is : ch.life' ≡ Up b) (same : IsAsBefore a b) (flies : flying' ≡ flying) (w : machine.World) (st : Stands on start w) (booked : booked_by book' ≡ w.book) where
+  module _ (b : Node) (is : ch.life' ≡ Up b) (same : IsAsBefore a b) (flies : flying' ≡ flying) (w : machine.World) (st : StateStandsFor on start w) (booked : booked_by book' ≡ w.book) where
     -- the world stands for the same world of the machine
-    pub read_stands : Stands on final w
+    pub read_stands : StateStandsFor on final w
     read_stands =
         let (slot, here, stood) = up_slot on n P old mid new ch (λ x d. idle x d) a was flying flying' seconds book book' w st in
-        subst (λ slots. Stands on final (record w { slots = slots })) (slot_same w.slots n slot here)
+        subst (λ slots. StateStandsFor on final (record w { slots = slots })) (slot_same w.slots n slot here)
         (work_stands on n P old mid new ch (λ slots. slots) only flying flying' seconds book book' w st slot
         (subst (λ l. SlotStands on n l ch.disk' slot) (sym is) (read_slot on n a ch.disk ch.disk' read slot stood b same))
         w.flying (ap (λ (x : InFlight). x.flights) flies ∙ st.flying) w.sent (ap (λ (x : InFlight). x.sent) flies ∙ st.sent) w.book booked)
@@ -120,7 +120,7 @@ module _ {D : Type 0} (on : View D) (n : ℕ) (P : Life → D → Life → D →
     pub front_is : cut.front ≡ []
     pub pending_is : cut.pending ≡ []
 
-  pub read_fell : (w : machine.World) → Stands on start w → FellIdle w
+  pub read_fell : (w : machine.World) → StateStandsFor on start w → FellIdle w
   read_fell w st =
       let (slot, here, stood) = up_slot on n P old mid new ch (λ x d. idle x d) a was flying flying' seconds book book' w st in
       let (seen, life_is, s) = stood in

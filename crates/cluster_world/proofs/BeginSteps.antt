@@ -18,7 +18,7 @@ use Rattle.cluster_model.specs.Makes.{IsUp, IsFound, BeginsCall, after, with_str
 use Rattle.disk_journal.specs.Journal.{TellsJournal}
 use Rattle.node_store.specs.Disks.{View}
 use Rattle.node_core.specs.Beginning.{call_seen, at_second, CallDid, CallBegun}
-use Rattle.node_core.specs.Nodes.{node_seen, Keeps, end_in, IsAsBefore}
+use Rattle.node_core.specs.Nodes.{node_seen, NodeKeeps, end_in, IsAsBefore}
 use Rattle.node_core.specs.Works.{Rule, NodeDid, IsOnlyRead}
 use Rattle.node_core.specs.declared.node.Node.{Node}
 use Rattle.node_core.specs.declared.outbox.Outbox.{Outbox}
@@ -26,7 +26,7 @@ use Rattle.call_tickets.specs.declared.call.Call.{Call}
 use Rattle.world_book.specs.Books.{entries_of}
 use Rattle.world_book.specs.declared.book.Book.{Book}
 use Rattle.world_book.specs.declared.entry.Entry.{Entry}
-use Rattle.cluster_world.specs.Begins.{BeginsAt, HasRule, struck_by, said_of_begin}
+use Rattle.cluster_world.specs.Begins.{BeginsAt, HasRule, strikes_of_call, said_of_begin}
 use Rattle.cluster_world.specs.Books.{entries_seen, booked_by}
 use Rattle.cluster_world.specs.Changes.{ChangesNode}
 use Rattle.cluster_world.specs.Flights.{InFlight}
@@ -34,9 +34,9 @@ use Rattle.cluster_world.specs.Lives.{of_node, CanWorkOn}
 use Rattle.cluster_world.specs.Missing.{SentOff}
 use Rattle.cluster_world.specs.Seen.{said_seen}
 use Rattle.cluster_world.specs.Stands.{SlotStands}
-use Rattle.cluster_world.specs.Steps.{StepDid, LeadsTo, HasCause, FallsSo, BeginsSo}
+use Rattle.cluster_world.specs.Steps.{StepDid, LeadsTo, FaultHasCause, FallsSo, BeginsSo}
 use Rattle.cluster_world.specs.Turns.{node_refusal, life_after_step}
-use Rattle.cluster_world.specs.Worlds.{State, life_among, state_with, tells_in, Stands}
+use Rattle.cluster_world.specs.Worlds.{WorldState, life_among, state_with, tells_in, StateStandsFor}
 use Rattle.cluster_world.specs.declared.life.Life.{Life}
 use Rattle.cluster_world.specs.declared.life.Life.TheVariants.{Up}
 use Rattle.cluster_world.specs.declared.nodes.Nodes.{Nodes}
@@ -78,8 +78,8 @@ found_strikes plan tells records (Leave user) found w is = absurd is
 leave_rule : (nodes : ℕ) (call : NodeCall) (user : List ℕ) → call ≡ Leave user → HasRule nodes call → nodes ≡ 1
 leave_rule nodes call user e rule = subst (HasRule nodes) e rule
 
-leave_strikes : (call : NodeCall) (user : List ℕ) → call ≡ Leave user → struck_by call ≡ []
-leave_strikes call user e = ap struck_by e
+leave_strikes : (call : NodeCall) (user : List ℕ) → call ≡ Leave user → strikes_of_call call ≡ []
+leave_strikes call user e = ap strikes_of_call e
 
 -- what is said of a call that has begun
 said_goes : (ticket : Option Number) (nodes n : ℕ) (call : Call) (lives : ℕ → NodeLife) → FallsSo (Ok (said_of_begin ticket)) nodes (step.Begin n call) lives
@@ -90,7 +90,7 @@ said_stays : (ticket : Option Number) (n : ℕ) (call : Call) (m : ℕ) (was : N
 said_stays (Some ticket) n call m was = refl
 said_stays None n call m was = refl
 
-said_causes : {D : Type 0} (on : View D) (ticket : Option Number) (n : ℕ) (call : Call) (old new : State D) → HasCause on (Ok (said_of_begin ticket)) (step.Begin n call) old new
+said_causes : {D : Type 0} (on : View D) (ticket : Option Number) (n : ℕ) (call : Call) (old new : WorldState D) → FaultHasCause on (Ok (said_of_begin ticket)) (step.Begin n call) old new
 said_causes on (Some ticket) n call old new = tt
 said_causes on None n call old new = tt
 
@@ -117,21 +117,21 @@ module _ {D : Type 0} (on : View D) (is_settled : D → Type 0) (n : ℕ) (call 
 
   -- how the machine has the node, and what it does at the seconds of its world
   module _ (flying : InFlight) (book : Book) (early : nat_le letters_end flying.sent ≡ false) (rule : HasRule old.plan.nodes c) where
-    abbrev start : State D
+    abbrev start : WorldState D
     start = state_with old flying seconds book
 
     abbrev tells : Bool
     tells = tells_in on.seen start
 
-    fresh_in : (w : machine.World) → Stands on start w → (worn : Bool) → is_worn_for old.plan seconds (node_seen a) c ≡ worn → is_worn_for old.plan w.seconds (node_seen a) c ≡ worn
+    fresh_in : (w : machine.World) → StateStandsFor on start w → (worn : Bool) → is_worn_for old.plan seconds (node_seen a) c ≡ worn → is_worn_for old.plan w.seconds (node_seen a) c ≡ worn
     fresh_in w st worn e = ap (λ s. is_worn_for old.plan s (node_seen a) c) (sym st.seconds) ∙ e
 
-    goes : (w : machine.World) → Stands on start w → (disk : List Record) → IsUp w n (node_seen a) disk → is_worn_for old.plan seconds (node_seen a) c ≡ false
+    goes : (w : machine.World) → StateStandsFor on start w → (disk : List Record) → IsUp w n (node_seen a) disk → is_worn_for old.plan seconds (node_seen a) c ≡ false
         → steps.step_fault old.plan (steps.Step.Begin n c) w ≡ None
     goes w st disk up fresh =
         begin_goes old.plan w n c (slot_up (node_seen a) disk) (node_seen a) named up refl (ap (nat_le letters_end) (sym st.sent) ∙ early) (fresh_in w st false fresh)
 
-    is_worn : (w : machine.World) → Stands on start w → (disk : List Record) → IsUp w n (node_seen a) disk → is_worn_for old.plan seconds (node_seen a) c ≡ true
+    is_worn : (w : machine.World) → StateStandsFor on start w → (disk : List Record) → IsUp w n (node_seen a) disk → is_worn_for old.plan seconds (node_seen a) c ≡ true
         → steps.step_fault old.plan (steps.Step.Begin n c) w ≡ Some steps.StepFault.Worn
     is_worn w st disk up worn =
         begin_is_worn old.plan w n c (slot_up (node_seen a) disk) (node_seen a) named up refl (ap (nat_le letters_end) (sym st.sent) ∙ early) (fresh_in w st true worn)
@@ -141,10 +141,10 @@ module _ {D : Type 0} (on : View D) (is_settled : D → Type 0) (n : ℕ) (call 
 
     -- the records that the node keeps, and what its disk tells of them
     record Kept (disk : List Record) : Type 0 where
-      keeps : Keeps disk a
+      keeps : NodeKeeps disk a
       tells_them : TellsJournal (on.seen ch.disk) n (payloads_of disk) (end_in a)
 
-    kept_of : (w : machine.World) → Stands on start w → (node : plain.Node) (disk : List Record) → IsUp w n node disk → Kept disk
+    kept_of : (w : machine.World) → StateStandsFor on start w → (node : plain.Node) (disk : List Record) → IsUp w n node disk → Kept disk
     kept_of w st node disk up =
         let (slot, here, stood) = up_slot on n B old mid mid ch (λ x d. idle x d) a was flying flying seconds book book w st in
         let same : slot ≡ slot_up node disk = some_same slot (slot_up node disk) (sym here ∙ up) in
@@ -152,23 +152,23 @@ module _ {D : Type 0} (on : View D) (is_settled : D → Type 0) (n : ℕ) (call 
         record { keeps = s.keeps; tells_them = s.tells }
 
     -- It has begun, and its letters are in flight.
-    module _ (new : Nodes D) (flying' : InFlight) (book' : Book) (entries : List Entry) (struck : entries_seen entries ≡ struck_by c)
+    module _ (new : Nodes D) (flying' : InFlight) (book' : Book) (entries : List Entry) (struck : entries_seen entries ≡ strikes_of_call c)
         (wrote : entries_of book' ≡ entries_of book ++ entries) where
-      abbrev final : State D
+      abbrev final : WorldState D
       final = state_with new flying' seconds book'
 
-      booked_more : (w : machine.World) → Stands on start w → booked_by book' ≡ w.book ++ struck_by c
-      booked_more w st = ap entries_seen wrote ∙ entries_more (entries_of book) entries ∙ ap (λ xs. booked_by book ++ xs) struck ∙ ap (λ xs. xs ++ struck_by c) st.book
+      booked_more : (w : machine.World) → StateStandsFor on start w → booked_by book' ≡ w.book ++ strikes_of_call c
+      booked_more w st = ap entries_seen wrote ∙ entries_more (entries_of book) entries ∙ ap (λ xs. booked_by book ++ xs) struck ∙ ap (λ xs. xs ++ strikes_of_call c) st.book
 
       -- a call that has a rule, as what it is said to be
       went : (ticket : Option Number) (letters : List Letter) (r : Rule) → ch.life' ≡ Up b → is_worn_for old.plan seconds (node_seen a) c ≡ false → NodeDid on r a ch.disk b ch.disk' letters
-          → SentOff on mid.plan letters None flying flying' mid new → (w : machine.World) → Stands on start w
+          → SentOff on mid.plan letters None flying flying' mid new → (w : machine.World) → StateStandsFor on start w
           → ((node : plain.Node) (disk : List Record) → node ≡ node_seen a → IsUp w n node disk
           → BeginsCall old.plan tells w n c (said_seen (said_of_begin ticket)) (after (struck_world w c) n (r node disk)))
           → LeadsTo on (Ok (said_of_begin ticket)) (step.Begin n call) start final w
       went ticket letters r is fresh did off w st made =
-          let s : WorkSent on n B old mid new ch r a was flying flying' seconds book book' letters w.flying (w.book ++ struck_by c) w =
-          work_sent on n B old mid new ch r a was flying flying' seconds book book' b is letters did mid.plan None off w st w.flying refl (w.book ++ struck_by c) (booked_more w st) in
+          let s : WorkSent on n B old mid new ch r a was flying flying' seconds book book' letters w.flying (w.book ++ strikes_of_call c) w =
+          work_sent on n B old mid new ch r a was flying flying' seconds book book' b is letters did mid.plan None off w st w.flying refl (w.book ++ strikes_of_call c) (booked_more w st) in
           record {
             next = after (struck_world w c) n (r s.node s.disk);
             stands = s.stands;
@@ -178,7 +178,7 @@ module _ {D : Type 0} (on : View D) (is_settled : D → Type 0) (n : ℕ) (call 
 
       -- where nothing was written, and nothing sent
       left : (ticket : Option Number) → ch.life' ≡ Up b → is_worn_for old.plan seconds (node_seen a) c ≡ false → IsAsBefore a b → ch.disk' ≡ ch.disk → (user : List ℕ) → c ≡ Leave user → ticket ≡ None
-          → SentOff on mid.plan [] None flying flying' mid new → (w : machine.World) → Stands on start w → LeadsTo on (Ok (said_of_begin ticket)) (step.Begin n call) start final w
+          → SentOff on mid.plan [] None flying flying' mid new → (w : machine.World) → StateStandsFor on start w → LeadsTo on (Ok (said_of_begin ticket)) (step.Begin n call) start final w
       left ticket is fresh same disk user called none off w st =
           let read : IsOnlyRead on ch.disk ch.disk' = read_none on ch.disk ch.disk' disk in
           let booked : booked_by book' ≡ w.book = booked_more w st ∙ ap (λ xs. w.book ++ xs) (leave_strikes c user called) ∙ append-nil w.book in
@@ -194,7 +194,7 @@ module _ {D : Type 0} (on : View D) (is_settled : D → Type 0) (n : ℕ) (call 
             stops = read_stops on n B old mid new ch off.noticed.only a was read flying flying' seconds book book' b is same flies w st booked;
           }
 
-      did_leads : (ticket : Option Number) (letters : List Letter) → ch.life' ≡ Up b → is_worn_for old.plan seconds (node_seen a) c ≡ false → (w : machine.World) → Stands on start w
+      did_leads : (ticket : Option Number) (letters : List Letter) → ch.life' ≡ Up b → is_worn_for old.plan seconds (node_seen a) c ≡ false → (w : machine.World) → StateStandsFor on start w
           → CallDid on old.plan n w.seconds c a ch.disk b ch.disk' ticket letters
           → SentOff on mid.plan letters None flying flying' mid new → LeadsTo on (Ok (said_of_begin ticket)) (step.Begin n call) start final w
       did_leads ticket letters is fresh w st (CallDid.AtOnce kind of_kind fails t did) off =

@@ -18,7 +18,7 @@ use Rattle.cluster_model.specs.Makes.{IsFiled, begun_by, with_struck, kind_of_ca
 use Rattle.node_core.specs.Beginning.{at_second, call_seen}
 use Rattle.call_tickets.specs.declared.call.Call.{Call}
 use Rattle.call_tickets.specs.declared.call.Call.TheVariants as kind
-use Rattle.cluster_world.specs.Begins.{struck_by}
+use Rattle.cluster_world.specs.Begins.{strikes_of_call}
 use Rattle.cluster_world.specs.Steps.{BeginsSo}
 use Rattle.cluster_world.specs.declared.step.Said.TheVariants as said
 use Rattle.cluster_world.proofs.Refusing.{none_at_all, fifth_fault, named_well}
@@ -34,7 +34,7 @@ crlf_at (x ∷ y ∷ z ∷ zs) (suc k) e a b = crlf_at (y ∷ z ∷ zs) k (omega
 
 -- a world whose book has what the call is to delete
 abbrev pub struck_world : World → NodeCall → World
-struck_world w call = record w { book = w.book ++ struck_by call }
+struck_world w call = record w { book = w.book ++ strikes_of_call call }
 
 pub with_struck_is : (w : World) (call : NodeCall) → with_struck w call ≡ struck_world w call
 with_struck_is w (Deliver mail) = ap (λ b. record w { book = b }) (sym (append-nil w.book))
@@ -81,7 +81,7 @@ begun_so (kind.Leave user login manager) own ticket e some = some refl
 
 pub noted_so : (call : Call) (own : ℕ) (user : List ℕ) → call_seen call ≡ Leave user → BeginsSo call own said.Noted
 noted_so (kind.Deliver deliver) own user e = let never : Deliver (Rattle.mail_base.specs.Delivers.mail_in deliver) ≡ Leave user = e in cc
-noted_so (kind.Login name proof) own user e = let never : Login name (Rattle.node_core.specs.Beginning.secret_in proof) ≡ Leave user = e in cc
+noted_so (kind.Login name proof) own user e = let never : Login name (Rattle.node_core.specs.Beginning.secret_of_proof proof) ≡ Leave user = e in cc
 noted_so (kind.Fetch name id holders from most) own user e = let never : Fetch name id from most ≡ Leave user = e in cc
 noted_so (kind.Strike name items) own user e = let never : Strike name (Rattle.node_core.specs.Beginning.struck_of items) ≡ Leave user = e in cc
 noted_so (kind.Leave name login manager) own user e = tt

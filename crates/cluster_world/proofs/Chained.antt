@@ -6,7 +6,7 @@ use Rattle.std.proofs.lemmas.Option.{slice_get_within, slice_get_cases}
 use Rattle.std.proofs.Math.Nat.{min-eq_left, min-eq_right, min-le_right}
 use Rattle.std.proofs.lemmas.Bool.{cases_lt}
 use Rattle.node_store.specs.Disks.{View}
-use Rattle.cluster_world.specs.Worlds.{plan_of, disks_of, disk_at, steps_of, tells}
+use Rattle.cluster_world.specs.Worlds.{plan_of, disks_of, disk_of_node, steps_of, disks_tell}
 use Rattle.cluster_world.specs.Steps.{IsStep}
 use Rattle.cluster_world.specs.Outcomes.{Outcome, Awaited, StepMade, MakesSteps, Came, Makes}
 use Rattle.cluster_world.specs.Chains.{MakesMore, StepsAreCounted, PlanStays, LaterAfter, steps_in, all_steps_in}
@@ -44,8 +44,8 @@ tells_alike seen (x ∷ xs) (y ∷ ys) same each =
 pub record Stays {D : Type 0} (on : View D) (old new : World D) : Type 0 where
   pub plan : plan_of new ≡ plan_of old
   pub handed : length (disks_of new) ≡ length (disks_of old)
-  pub told : tells on.seen new ≡ tells on.seen old
-  pub later : (n : ℕ) (disk disk' : D) → disk_at old n ≡ Some disk → disk_at new n ≡ Some disk' → on.faults disk ≤ on.faults disk'
+  pub told : disks_tell on.seen new ≡ disks_tell on.seen old
+  pub later : (n : ℕ) (disk disk' : D) → disk_of_node old n ≡ Some disk → disk_of_node new n ≡ Some disk' → on.faults disk ≤ on.faults disk'
 
 some_same : {X : Type 0} (a : Option X) (x y : X) → a ≡ Some x → a ≡ Some y → x ≡ y
 some_same a x y p q = let e : Some x ≡ Some y = sym p ∙ q in cc
@@ -56,10 +56,10 @@ module _ {D : Type 0} (on : View D) where
     plan = refl;
     handed = refl;
     told = refl;
-    later = λ n disk disk' was is. omega (arith, ap on.faults (some_same (disk_at world n) disk disk' was is));
+    later = λ n disk disk' was is. omega (arith, ap on.faults (some_same (disk_of_node world n) disk disk' was is));
   }
 
-  later_both : (a b c : World D) → Stays on a b → Stays on b c → (n : ℕ) (disk disk' : D) → disk_at a n ≡ Some disk → disk_at c n ≡ Some disk' → on.faults disk ≤ on.faults disk'
+  later_both : (a b c : World D) → Stays on a b → Stays on b c → (n : ℕ) (disk disk' : D) → disk_of_node a n ≡ Some disk → disk_of_node c n ≡ Some disk' → on.faults disk ≤ on.faults disk'
   later_both a b c p q zero disk disk' was is = absurd (let never : ◌≡◌ {A = Option D} None (Some disk) = was in cc)
   later_both a b c p q (suc k) disk disk' was is =
       let mid = has_too (disks_of a) (disks_of b) k disk p.handed was in

@@ -7,7 +7,7 @@ use Rattle.cluster_model.specs.Cluster.{Tickets}
 use Rattle.node_core.specs.declared.node.Node.{Node}
 use Rattle.call_tickets.specs.declared.answer.Ask as code
 use Rattle.cluster_world.specs.Lives.{of_node}
-use Rattle.cluster_world.specs.Asking.{IsUpWhole, IsAsked, IsAskedOn, IsRetold, IsRetoldOn}
+use Rattle.cluster_world.specs.Asking.{IsUpWhole, AsksNode, IsAskedOn, IsRetold, IsRetoldOn}
 use Rattle.cluster_world.specs.Changes.{ChangesNode, IsTurnedTo}
 use Rattle.cluster_world.specs.declared.life.Life.{Life}
 use Rattle.cluster_world.specs.declared.nodes.Nodes.{Nodes}
@@ -60,7 +60,7 @@ up_at lives n k l d at within read up =
     subst (λ o. IfSome o (λ life. IsUpWhole life)) here up
 
 pub asked_at : {D : Type 0} (ticket : Number) (result : Option code.Ask) (k : ℕ) (old new : Nodes D) (l l' d : Life) → k + 1 ≡ ticket.node → k < length old.lives.items → k < length old.disks.items
-    → l ≡ get_or old.lives.items k d → new.plan ≡ old.plan → new.lives.items ≡ slice_set old.lives.items k l' → new.disks.items ≡ old.disks.items → IsAsked ticket result l l'
+    → l ≡ get_or old.lives.items k d → new.plan ≡ old.plan → new.lives.items ≡ slice_set old.lives.items k l' → new.disks.items ≡ old.disks.items → AsksNode ticket result l l'
     → ChangesNode ticket.node (IsAskedOn ticket result) old new
 asked_at ticket result k old new l l' d at a b read p e f asked =
     let (x, held) = there old.disks.items k b in

@@ -18,7 +18,7 @@ use Rattle.world_book.specs.declared.entry.Entry.TheVariants as written
 use Rattle.cluster_world.specs.Flights.{InFlight}
 use Rattle.cluster_world.specs.Lives.{life_seen, of_node, falls_left, all_falls_left, CanWorkOn}
 use Rattle.cluster_world.specs.Stands.{SlotStands}
-use Rattle.cluster_world.specs.Worlds.{seen_life, life_among, state_with, Stands}
+use Rattle.cluster_world.specs.Worlds.{seen_life, life_among, state_with, StateStandsFor}
 use Rattle.cluster_world.specs.Changes.{ChangesNode, IsTurnedTo}
 use Rattle.cluster_world.specs.Turns.{life_refusal, node_refusal}
 use Rattle.cluster_world.specs.Steps.{StepDid, AreSettled, LeadsTo}
@@ -110,7 +110,7 @@ module _ {D : Type 0} (on : View D) (n : ℕ) (old new : Nodes D) (book book' : 
         cause = λ w st. tt;
       }
         where
-          crash_leads : entries_of book' ≡ entries_of book ++ written.Down n ∷ [] → (w : machine.World) → Stands on (state_with old flying seconds book) w
+          crash_leads : entries_of book' ≡ entries_of book ++ written.Down n ∷ [] → (w : machine.World) → StateStandsFor on (state_with old flying seconds book) w
               → LeadsTo on (Ok Done) (step.Crash n) (state_with old flying seconds book) (state_with new flying seconds book') w
           crash_leads wrote w st =
               let (slot, here, stood) = slot_of on old.lives.items old.disks.items w.slots n ch.life ch.disk st.slots ch.was ch.held in

@@ -19,7 +19,7 @@ use Rattle.cluster_world.specs.Books.{entries_seen}
 use Rattle.cluster_world.specs.Flights.{InFlight}
 use Rattle.cluster_world.specs.Lives.{life_seen}
 use Rattle.cluster_world.specs.Stands.{SlotStands}
-use Rattle.cluster_world.specs.Worlds.{state_with, Stands}
+use Rattle.cluster_world.specs.Worlds.{state_with, StateStandsFor}
 use Rattle.cluster_world.specs.Changes.{ChangesNode, IsTurnedTo}
 use Rattle.cluster_world.specs.Turns.{life_refusal}
 use Rattle.cluster_world.specs.Moments.{StopsKeep}
@@ -81,9 +81,9 @@ module _ {D : Type 0} (on : View D) (n : ℕ) (now : Life) (plain_now : plain.Li
   fall_told seen = ap (λ d. is_some (seen d)) same_disk
 
   -- the slots of the machine, once it fell
-  pub fall_leads : (said : steps.Said) (s : Step) (entry : Entry) → entries_of book' ≡ entries_of book ++ entry ∷ [] → (w : machine.World) → Stands on (state_with old flying seconds book) w
+  pub fall_leads : (said : steps.Said) (s : Step) (entry : Entry) → entries_of book' ≡ entries_of book ++ entry ∷ [] → (w : machine.World) → StateStandsFor on (state_with old flying seconds book) w
       → (slot : Slot) → slot_at w.slots n ≡ Some slot → slot.life ≢ plain.Life.Lost → SlotStands on n ch.life ch.disk slot → SlotStands on n now ch.disk (record slot { life = plain_now })
-      → ((next : machine.World) × Stands on (state_with new flying seconds book') next
+      → ((next : machine.World) × StateStandsFor on (state_with new flying seconds book') next
       × (next ≡ record w { slots = with_slot w.slots n (record slot { life = plain_now }); book = w.book ++ entries_seen (entry ∷ []) })
       × Rattle.cluster_world.specs.Steps.EveryStopKeeps on (state_with old flying seconds book) (state_with new flying seconds book') w.slots next.slots)
   fall_leads said s entry wrote w st slot here alive stood falls =

@@ -17,7 +17,7 @@ use Rattle.node_core.specs.Spelling.{CanBeTaken, AllCanBeTaken}
 use Rattle.cluster_model.specs.Room.{Flight, octets_of, octets_flying, fits, most_letters, most_octets}
 use Rattle.cluster_model.specs.Steps.{letter_at}
 use Rattle.cluster_model.specs.Plain.{without_letter}
-use Rattle.cluster_world.specs.Flights.{AreAbove, AreRising, AreUpTo, AllCanBeHeard, IsCounted, HasAt, PutDown, left_without, put_one, put_all}
+use Rattle.cluster_world.specs.Flights.{AreAbove, NumbersRise, AreUpTo, AllCanBeHeard, FlightIsCounted, HasAt, PutDown, flights_without, put_one, put_all}
 
 eq_self : (n : ℕ) → nat_eq n n ≡ true
 eq_self n = grind arith
@@ -35,7 +35,7 @@ above_at n (f ∷ fs) h zero d within = h.0
 above_at n (f ∷ fs) h (suc k) d within = above_at n fs h.1 k d (omega (arith, within))
 
 -- each number is below those behind it
-rising_at : (fs : List Flight) → AreRising fs → (i j : ℕ) (d : Flight) → i < j → j < length fs → (get_or fs i d).number < (get_or fs j d).number
+rising_at : (fs : List Flight) → NumbersRise fs → (i j : ℕ) (d : Flight) → i < j → j < length fs → (get_or fs i d).number < (get_or fs j d).number
 rising_at [] h i j d below within = absurd (omega (arith, within))
 rising_at (f ∷ fs) h zero zero d below within = absurd (omega (arith, below))
 rising_at (f ∷ fs) h zero (suc j) d below within = above_at f.number fs h.0 j d (omega (arith, within))
@@ -48,7 +48,7 @@ all_above n fs h k g e = subst (λ (x : Flight). n < x.number) (get_or_from_slic
 same_some : {A : Type 0} (a b : A) → Some a ≡ Some b → a ≡ b
 same_some a b e = cc
 
-pub has_at : (fs : List Flight) (k : ℕ) (f : Flight) → AreRising fs → slice_get fs k ≡ Some f → HasAt fs f.number k
+pub has_at : (fs : List Flight) (k : ℕ) (f : Flight) → NumbersRise fs → slice_get fs k ≡ Some f → HasAt fs f.number k
 has_at [] k f h e = absurd (let never : None ≡ Some f = e in cc)
 has_at (g ∷ fs) zero f h e = subst (λ (x : Flight). HasAt (g ∷ fs) x.number 0) (same_some g f e) (record {
   letter = g.letter;
@@ -79,7 +79,7 @@ has_none [] n h = refl
 has_none (f ∷ fs) n h =
     ap (λ b. if b then Some f.letter else letter_at n fs) (eq_apart f.number n (h 0 f refl)) ∙ has_none fs n (λ k g e. h (suc k) g e)
 
-module _ (fs : List Flight) (n : ℕ) (rising : AreRising fs) where
+module _ (fs : List Flight) (n : ℕ) (rising : NumbersRise fs) where
   -- the numbers rise along the list, as a search asks
   numbers_rise : IsNonDecreasingBy (λ (f : Flight). ordering_index (nat_cmp f.number n)) fs
   numbers_rise i j d le within =
@@ -119,9 +119,9 @@ above_without : (m n : ℕ) (fs : List Flight) → AreAbove m fs → AreAbove m 
 above_without m n [] h = tt
 above_without m n (f ∷ fs) h = either_list (AreAbove m) (nat_eq f.number n) fs (f ∷ without_letter n fs) h.1 (h.0, above_without m n fs h.1)
 
-rising_without : (n : ℕ) (fs : List Flight) → AreRising fs → AreRising (without_letter n fs)
+rising_without : (n : ℕ) (fs : List Flight) → NumbersRise fs → NumbersRise (without_letter n fs)
 rising_without n [] h = tt
-rising_without n (f ∷ fs) h = either_list AreRising (nat_eq f.number n) fs (f ∷ without_letter n fs) h.1 (above_without f.number n fs h.0, rising_without n fs h.1)
+rising_without n (f ∷ fs) h = either_list NumbersRise (nat_eq f.number n) fs (f ∷ without_letter n fs) h.1 (above_without f.number n fs h.0, rising_without n fs h.1)
 
 up_to_without : (m n : ℕ) (fs : List Flight) → AreUpTo m fs → AreUpTo m (without_letter n fs)
 up_to_without m n [] h = tt
@@ -131,8 +131,8 @@ heard_without : (n : ℕ) (fs : List Flight) → AllCanBeHeard fs → AllCanBeHe
 heard_without n [] h = tt
 heard_without n (f ∷ fs) h = either_list AllCanBeHeard (nat_eq f.number n) fs (f ∷ without_letter n fs) h.1 (h.0, heard_without n fs h.1)
 
-pub counted_without : (octets less sent n : ℕ) (fs : List Flight) → IsCounted octets sent fs → less + octets_flying (without_letter n fs) ≡ octets_flying fs
-    → IsCounted (octets - less) sent (without_letter n fs)
+pub counted_without : (octets less sent n : ℕ) (fs : List Flight) → FlightIsCounted octets sent fs → less + octets_flying (without_letter n fs) ≡ octets_flying fs
+    → FlightIsCounted (octets - less) sent (without_letter n fs)
 counted_without octets less sent n fs h e = record {
   rising = rising_without n fs h.rising;
   drawn = up_to_without sent n fs h.drawn;
@@ -194,7 +194,7 @@ above_more : (m : ℕ) (fs : List Flight) (f : Flight) → m < f.number → AreA
 above_more m [] f lt h = (lt, tt)
 above_more m (g ∷ gs) f lt h = (h.0, above_more m gs f lt h.1)
 
-rising_more : (fs : List Flight) (f : Flight) (sent : ℕ) → sent < f.number → AreUpTo sent fs → AreRising fs → AreRising (fs ++ f ∷ [])
+rising_more : (fs : List Flight) (f : Flight) (sent : ℕ) → sent < f.number → AreUpTo sent fs → NumbersRise fs → NumbersRise (fs ++ f ∷ [])
 rising_more [] f sent lt up h = (tt, tt)
 rising_more (g ∷ gs) f sent lt up h = (above_more g.number gs f (omega (arith, lt, up.0)) h.0, rising_more gs f sent lt up.1 h.1)
 
@@ -206,8 +206,8 @@ heard_more : (fs : List Flight) (f : Flight) → AllCanBeHeard fs → CanBeTaken
 heard_more [] f h one = (one, tt)
 heard_more (g ∷ gs) f h one = (h.0, heard_more gs f h.1 one)
 
-pub counted_more : (octets sent letters : ℕ) (fs : List Flight) (letter : Letter) → IsCounted octets sent fs → CanBeTaken letter.body → fits letters octets (octets_of letter) ≡ true
-    → IsCounted (octets + octets_of letter) (sent + 1) (fs ++ record { number = sent + 1; letter = letter } ∷ [])
+pub counted_more : (octets sent letters : ℕ) (fs : List Flight) (letter : Letter) → FlightIsCounted octets sent fs → CanBeTaken letter.body → fits letters octets (octets_of letter) ≡ true
+    → FlightIsCounted (octets + octets_of letter) (sent + 1) (fs ++ record { number = sent + 1; letter = letter } ∷ [])
 counted_more octets sent letters fs letter h one room =
     let f : Flight = record { number = sent + 1; letter = letter } in
     let within = and_parts (nat_lt letters most_letters) (nat_le (octets + octets_of letter) most_octets) room in
@@ -231,9 +231,9 @@ pub put_more : (xs : List Letter) (x : Letter) (p : PutDown) → put_all (xs ++ 
 put_more [] x p = refl
 put_more (y ∷ ys) x p = put_more ys x (put_one y p)
 
-pub counted_left : (octets less sent : ℕ) (posted : Option ℕ) (fs : List Flight) → IsCounted octets sent fs → less + octets_flying (left_without posted fs) ≡ octets_flying fs
-    → IsCounted (octets - less) sent (left_without posted fs)
-counted_left octets less sent None fs h e = subst (λ n. IsCounted n sent fs) (omega (arith, e)) h
+pub counted_left : (octets less sent : ℕ) (posted : Option ℕ) (fs : List Flight) → FlightIsCounted octets sent fs → less + octets_flying (flights_without posted fs) ≡ octets_flying fs
+    → FlightIsCounted (octets - less) sent (flights_without posted fs)
+counted_left octets less sent None fs h e = subst (λ n. FlightIsCounted n sent fs) (omega (arith, e)) h
 counted_left octets less sent (Some n) fs h e = counted_without octets less sent n fs h e
 
 pub all_rest : (x : Letter) (xs ys : List Letter) → ys ≡ x ∷ xs → AllCanBeTaken ys → AllCanBeTaken xs

@@ -17,9 +17,9 @@ use Rattle.node_core.specs.declared.node.Node.{Node}
 use Rattle.world_book.specs.declared.book.Book.{Book}
 use Rattle.cluster_world.specs.Flights.{InFlight}
 use Rattle.cluster_world.specs.Lives.{of_node, falls_left, all_falls_left, CanWorkOn}
-use Rattle.cluster_world.specs.Worlds.{seen_life, life_among, state_with, Stands}
+use Rattle.cluster_world.specs.Worlds.{seen_life, life_among, state_with, StateStandsFor}
 use Rattle.cluster_world.specs.Changes.{ChangesNode}
-use Rattle.cluster_world.specs.Asking.{IsUpWhole, IsRetoldOn, left_without}
+use Rattle.cluster_world.specs.Asking.{IsUpWhole, IsRetoldOn, tickets_without}
 use Rattle.cluster_world.specs.Turns.{life_refusal, node_refusal}
 use Rattle.cluster_world.specs.Steps.{StepDid, AreSettled}
 use Rattle.cluster_world.specs.declared.life.Life.{Life}
@@ -71,7 +71,7 @@ module _ {D : Type 0} (on : View D) (ticket : Number) (nodes : Nodes D) (fit : n
       is : slot.life ≡ plain.Life.Up (node_seen node)
       stands : stands_at ticket (slot_at w.slots ticket.node) ≡ is_some (ticket_standing node ticket)
 
-    finds : (w : machine.World) → Stands on (state_with nodes flying seconds book) w → Finds w
+    finds : (w : machine.World) → StateStandsFor on (state_with nodes flying seconds book) w → Finds w
     finds w st =
         let (disk, held) = disk_of nodes.disks.items nodes.lives.items ticket.node (Up node) (nodes.all ∙ sym nodes.disk_each) up in
         let (slot, here, stood) = slot_of on nodes.lives.items nodes.disks.items w.slots ticket.node (Up node) disk st.slots up held in
@@ -127,21 +127,21 @@ module _ {D : Type 0} (on : View D) (ticket : Number) (nodes : Nodes D) (fit : n
       cause = λ w st. tt;
     }
 
-  module _ (new : Nodes D) (ch : ChangesNode ticket.node (IsRetoldOn (left_without ticket)) nodes new) where
+  module _ (new : Nodes D) (ch : ChangesNode ticket.node (IsRetoldOn (tickets_without ticket)) nodes new) where
     pub given_ready : CanWorkOn on.seen new.plan new.lives.items new.disks.items
-    given_ready = retold_ready on ticket (left_without ticket) nodes new named ready ch
+    given_ready = retold_ready on ticket (tickets_without ticket) nodes new named ready ch
 
     pub given_falls : all_falls_left new.lives.items ≡ all_falls_left nodes.lives.items
     given_falls =
-        let same : all_falls_left new.lives.items + falls_left ch.life ≡ all_falls_left nodes.lives.items + falls_left ch.life' = falls_now ticket.node (IsRetoldOn (left_without ticket)) nodes new ch in
+        let same : all_falls_left new.lives.items + falls_left ch.life ≡ all_falls_left nodes.lives.items + falls_left ch.life' = falls_now ticket.node (IsRetoldOn (tickets_without ticket)) nodes new ch in
         omega (arith, same, ap falls_left ch.does.0.was, ap falls_left ch.does.0.is)
 
     pub given_settled : (flying : InFlight) (seconds : ℕ) (book : Book) (is_settled : D → Type 0) → AreSettled is_settled (state_with nodes flying seconds book) → AreSettled is_settled (state_with new flying seconds book)
-    given_settled flying seconds book is_settled = retold_settled on ticket (left_without ticket) nodes new named ready ch flying seconds book book is_settled
+    given_settled flying seconds book is_settled = retold_settled on ticket (tickets_without ticket) nodes new named ready ch flying seconds book book is_settled
 
     pub given_did : (flying : InFlight) (seconds : ℕ) (book : Book) → is_some (ticket_standing ch.does.0.old ticket) ≡ true → nat_le letters_end flying.sent ≡ false
         → StepDid on (Ok Done) (step.GiveUp ticket) (state_with nodes flying seconds book) (state_with new flying seconds book)
-    given_did flying seconds book stood early = give_up_done on ticket (left_without ticket) nodes new named ready ch flying seconds book book fit stood early refl refl
+    given_did flying seconds book stood early = give_up_done on ticket (tickets_without ticket) nodes new named ready ch flying seconds book book fit stood early refl refl
 
 pub up_same : (x y : Node) → Up x ≡ Up y → x ≡ y
 up_same x y e = cc

@@ -15,7 +15,7 @@ use Rattle.cluster_world.specs.Lives.{life_seen, is_up_life, of_node, CanWorkOn}
 use Rattle.cluster_world.specs.Worlds.{seen_life, life_among}
 use Rattle.cluster_world.specs.Changes.{ChangesNode}
 use Rattle.cluster_world.specs.Turning.{TurnsBy}
-use Rattle.cluster_world.specs.Posts.{HearsAt}
+use Rattle.cluster_world.specs.Posts.{HearsAtNode}
 use Rattle.cluster_world.specs.declared.life.Life.{Life}
 use Rattle.cluster_world.specs.declared.life.Life.TheVariants.{Up, Down, Lost}
 use Rattle.cluster_world.specs.declared.nodes.Nodes.{Nodes}
@@ -60,7 +60,7 @@ module _ {D : Type 0} (nodes : Nodes D) (n k : ℕ) (at : k + 1 ≡ n) (up : is_
     pub heard_in : (on : View D) (is_settled : D → Type 0) (letter : Letter) (result : Result Outbox NodeFault) (new : Nodes D) (l' : Life) (d' : D) → CanWorkOn on.seen nodes.plan nodes.lives.items nodes.disks.items
         → new.plan ≡ nodes.plan → new.lives.items ≡ slice_set nodes.lives.items k l' → new.disks.items ≡ slice_set nodes.disks.items k d'
         → TurnsBy (λ result old before new after. (plan : Plan) (own : ℕ) → IsNodeOf plan own old → HearsLetter on own plan.nodes letter old before new after result) result l d l' d'
-        → (LeavesUp result → is_settled d → is_settled d') → ChangesNode n (HearsAt on is_settled nodes.plan n letter result) nodes new
+        → (LeavesUp result → is_settled d → is_settled d') → ChangesNode n (HearsAtNode on is_settled nodes.plan n letter result) nodes new
     heard_in on is_settled letter result new l' d' works p e f t settled =
-        changed_at n k (HearsAt on is_settled nodes.plan n letter result) nodes new l l' d d' at life_here disk_here p e f
+        changed_at n k (HearsAtNode on is_settled nodes.plan n letter result) nodes new l l' d d' at life_here disk_here p e f
         (record { old = t.old; new = t.new; was = t.was; did = t.did nodes.plan n (of_both on.seen works t.old t.was).0; is = t.is }, settled)

@@ -17,7 +17,7 @@ use Rattle.world_book.specs.declared.book.Book.{Book}
 use Rattle.cluster_world.specs.Flights.{InFlight}
 use Rattle.cluster_world.specs.Missing.{all_missed, OnlyTickets}
 use Rattle.cluster_world.specs.Steps.{AreToldAlike, IsQuiet, AreSettled, EveryStopKeeps}
-use Rattle.cluster_world.specs.Worlds.{State, state_with}
+use Rattle.cluster_world.specs.Worlds.{WorldState, state_with}
 use Rattle.cluster_world.specs.Lives.{of_node}
 use Rattle.cluster_world.specs.declared.nodes.Nodes.{Nodes}
 use Rattle.cluster_world.proofs.Still.{some_same}
@@ -74,7 +74,7 @@ there_too (Some slot) slot' e = (slot, refl, some_same (all_records slot') (all_
 
 module _ {D : Type 0} (on : View D) where
   -- what was kept is kept where slots have the same records, and the disks are the same
-  pub stops_on : (old mid new : State D) (before between after : List plain.Slot) → new.disks ≡ mid.disks → ((n : ℕ) → kept_at (slot_at after n) ≡ kept_at (slot_at between n))
+  pub stops_on : (old mid new : WorldState D) (before between after : List plain.Slot) → new.disks ≡ mid.disks → ((n : ℕ) → kept_at (slot_at after n) ≡ kept_at (slot_at between n))
       → EveryStopKeeps on old mid before between → EveryStopKeeps on old new before after
   stops_on old mid new before between after same kept h = record {
     each = λ n disk disk' slot slot' e f a b here.

@@ -21,7 +21,7 @@ use Rattle.cluster_world.specs.Books.{entries_seen}
 use Rattle.cluster_world.specs.Flights.{InFlight}
 use Rattle.cluster_world.specs.Lives.{life_seen}
 use Rattle.cluster_world.specs.Stands.{SlotStands}
-use Rattle.cluster_world.specs.Worlds.{seen_life, life_among, state_with, Stands}
+use Rattle.cluster_world.specs.Worlds.{seen_life, life_among, state_with, StateStandsFor}
 use Rattle.cluster_world.specs.Changes.{ChangesNode, IsTurnedTo}
 use Rattle.cluster_world.specs.Turns.{life_refusal, node_refusal}
 use Rattle.cluster_world.specs.Moments.{StopsKeep}
@@ -112,7 +112,7 @@ module _ {D : Type 0} (on : View D) (n : ℕ) (old new : Nodes D) (book book' : 
   was_here : ((node : Node) × (ch.life ≡ Up node)) ⊎ (ch.life ≡ Down)
   was_here = lose_here n ch.life (ap (life_refusal (step.Lose n)) (sym (ap seen_life ch.was)) ∙ (fit_of (list_all (is_node old.plan) (n ∷ [])) (life_refusal (step.Lose n) (life_among old n)) fit).1)
 
-  lose_leads : entries_of book' ≡ entries_of book ++ written.Lost n ∷ [] → (w : machine.World) → Stands on (state_with old flying seconds book) w
+  lose_leads : entries_of book' ≡ entries_of book ++ written.Lost n ∷ [] → (w : machine.World) → StateStandsFor on (state_with old flying seconds book) w
       → LeadsTo on (Ok Done) (step.Lose n) (state_with old flying seconds book) (state_with new flying seconds book') w
   lose_leads wrote w st =
       let (slot, here, stood) = slot_of on old.lives.items old.disks.items w.slots n ch.life ch.disk st.slots ch.was ch.held in

@@ -53,7 +53,7 @@ fewer_after : (fallen : Option ℕ) (awaited : List Awaited) (one : Awaited) →
 fewer_after None awaited one m = m
 fewer_after (Some node) awaited one m = kept_among (λ one. not (nat_eq one.ticket.node node)) awaited one m
 
-leave_quiet : (user : List ℕ) (node : ℕ) (begun : WorldCall) (outcome : steps.StepOutcome) → IsLeave user begun → owes.IsOther (steps.Step.Begin node (machine_call begun)) outcome
+leave_quiet : (user : List ℕ) (node : ℕ) (begun : WorldCall) (outcome : steps.StepOutcome) → IsLeave user begun → owes.IsIdleStep (steps.Step.Begin node (machine_call begun)) outcome
 leave_quiet user node (calls.Leave name login manager) outcome is = tt
 leave_quiet user node (calls.Deliver deliver) outcome is = absurd is
 leave_quiet user node (calls.Login name proof) outcome is = absurd is
@@ -84,7 +84,7 @@ module _ {D : Type 0} (on : View D) (plan : Plan) (told : Bool) where
     makes result made known ended is = led on plan told result made old new of known ended is w stands
 
     -- no session hears of it
-    quietly : (outcomes : List Outcome) (result : Result Said StepFault) (made : Step) → Knows made → IsEnded made → Leads result made → owes.IsOther (step_seen made) (outcome_seen result)
+    quietly : (outcomes : List Outcome) (result : Result Said StepFault) (made : Step) → Knows made → IsEnded made → Leads result made → owes.IsIdleStep (step_seen made) (outcome_seen result)
         → flat_map asked_by outcomes ≡ [] → flat_map answered_by outcomes ≡ [] → ((one : Awaited) → Among one left → Among one awaited) → Mirrored on plan told outcomes left begun w new
     quietly outcomes result made known ended is other no_asked no_answer fewer = quiet_one on plan told outcomes awaited left begun w new result made (makes result made known ended is) other no_asked no_answer within fewer
 
@@ -214,7 +214,7 @@ module _ {D : Type 0} (on : View D) (plan : Plan) (told : Bool) where
   module _ (awaited left : List Awaited) (begun : List owes.BegunCall) (w : machine.World) (old new : World D) (of : IsOf on plan told old) (stands : StandsFor on old w) (within : HaveBegun awaited begun)
       (fit : AnswersFitAt plan told begun w) (lines : List (List ℕ)) where
     abbrev Quiets : List Outcome → Result Said StepFault → Step → Type 0
-    Quiets outcomes result made = Knows made → IsEnded made → IsStep on result made old new → owes.IsOther (step_seen made) (outcome_seen result)
+    Quiets outcomes result made = Knows made → IsEnded made → IsStep on result made old new → owes.IsIdleStep (step_seen made) (outcome_seen result)
         → flat_map asked_by outcomes ≡ [] → flat_map answered_by outcomes ≡ [] → ((one : Awaited) → Among one left → Among one awaited) → Mirrored on plan told outcomes left begun w new
 
     abbrev silent : (outcomes : List Outcome) (result : Result Said StepFault) (made : Step) → Quiets outcomes result made

@@ -9,7 +9,7 @@ use Rattle.cluster_model.specs.World as machine
 use Rattle.cluster_model.specs.Makes.{MakesStep}
 use Rattle.cluster_owes.specs.Outcomes as owes
 use Rattle.node_store.specs.Disks.{View}
-use Rattle.cluster_world.specs.Worlds.{plan_of, tells, StandsFor}
+use Rattle.cluster_world.specs.Worlds.{plan_of, disks_tell, StandsFor}
 use Rattle.cluster_world.specs.Seen.{step_seen, outcome_seen}
 use Rattle.cluster_world.specs.Ended.{IsEnded}
 use Rattle.cluster_world.specs.Steps.{IsBlind, IsStep}
@@ -31,10 +31,10 @@ abbrev pub begun_with : List owes.BegunCall → List owes.Outcome → List owes.
 begun_with begun outs = begun ++ flat_map owes.begun_by_outcome outs
 
 -- what the machine makes of these outcomes
-pub record Mirrored {D : Type 0} (on : View D) (plan : Plan) (tells : Bool) (outcomes : List Outcome) (left : List Awaited) (begun : List owes.BegunCall) (w : machine.World) (new : World D) : Type 0 where
+pub record Mirrored {D : Type 0} (on : View D) (plan : Plan) (disks_tell : Bool) (outcomes : List Outcome) (left : List Awaited) (begun : List owes.BegunCall) (w : machine.World) (new : World D) : Type 0 where
   pub outs : List owes.Outcome
   pub next : machine.World
-  pub makes : owes.Makes plan tells outs begun w next
+  pub makes : owes.Makes plan disks_tell outs begun w next
   pub stands : StandsFor on new next
   pub asked : flat_map owes.asked_by_outcome outs ≡ flat_map asked_by_outcome outcomes
   pub answered : flat_map owes.answered_by_outcome outs ≡ flat_map answered_by_outcome outcomes
@@ -42,16 +42,16 @@ pub record Mirrored {D : Type 0} (on : View D) (plan : Plan) (tells : Bool) (out
   pub sessions : (lines : List (List ℕ)) → AreOfSessions lines outcomes → owes.AreOfSessions lines outs
 
 -- what the machine makes of one step
-pub record Led {D : Type 0} (on : View D) (plan : Plan) (tells : Bool) (result : Result Said StepFault) (step : Step) (w : machine.World) (new : World D) : Type 0 where
+pub record Led {D : Type 0} (on : View D) (plan : Plan) (disks_tell : Bool) (result : Result Said StepFault) (step : Step) (w : machine.World) (new : World D) : Type 0 where
   pub next : machine.World
   pub stands : StandsFor on new next
-  pub made : MakesStep plan tells w (step_seen step) (outcome_seen result) next
+  pub made : MakesStep plan disks_tell w (step_seen step) (outcome_seen result) next
 
 module _ {D : Type 0} (on : View D) (plan : Plan) (told : Bool) where
   -- the world is of this plan, and its disks tell so
   pub record IsOf (world : World D) : Type 0 where
     pub plan_is : plan_of world ≡ plan
-    pub told_is : tells on.seen world ≡ told
+    pub told_is : disks_tell on.seen world ≡ told
 
   pub led : (result : Result Said StepFault) (step : Step) (old new : World D) → IsOf old → (told ≡ true) ⊎ IsBlind plan.nodes step → IsEnded step → IsStep on result step old new
       → (w : machine.World) → StandsFor on old w → Led on plan told result step w new
@@ -61,12 +61,12 @@ module _ {D : Type 0} (on : View D) (plan : Plan) (told : Bool) where
         next = l.next;
         stands = l.stands;
         made = subst (λ t. MakesStep plan t w (step_seen step) (outcome_seen result) l.next) of.told_is
-            (subst (λ (p : Plan). MakesStep p (tells on.seen old) w (step_seen step) (outcome_seen result) l.next) of.plan_is l.made);
+            (subst (λ (p : Plan). MakesStep p (disks_tell on.seen old) w (step_seen step) (outcome_seen result) l.next) of.plan_is l.made);
       }
 
   -- one step of which no session hears
   pub quiet_one : (outcomes : List Outcome) (awaited left : List Awaited) (begun : List owes.BegunCall) (w : machine.World) (new : World D) (result : Result Said StepFault) (step : Step)
-      → Led on plan told result step w new → owes.IsOther (step_seen step) (outcome_seen result) → flat_map asked_by_outcome outcomes ≡ [] → flat_map answered_by_outcome outcomes ≡ []
+      → Led on plan told result step w new → owes.IsIdleStep (step_seen step) (outcome_seen result) → flat_map asked_by_outcome outcomes ≡ [] → flat_map answered_by_outcome outcomes ≡ []
       → HaveBegun awaited begun → ((one : Awaited) → Among one left → Among one awaited) → Mirrored on plan told outcomes left begun w new
   quiet_one outcomes awaited left begun w new result step l other no_asked no_answer within fewer = record {
     outs = owes.Outcome.Other (step_seen step) (outcome_seen result) ∷ [];

@@ -15,7 +15,7 @@ use Rattle.cluster_owes.specs.Held.{filed_on}
 use Rattle.cluster_owes.proofs.Owed.{cluster_owes, answers_fit}
 use Rattle.cluster_owes.proofs.Sure.{none_waits}
 use Rattle.node_store.specs.Disks.{View}
-use Rattle.cluster_world.specs.Worlds.{disks_of, lives_of, tells}
+use Rattle.cluster_world.specs.Worlds.{disks_of, lives_of, disks_tell}
 use Rattle.cluster_world.specs.Outcomes.{Outcome, Awaited, Came, Makes, asked_by_outcome, answered_by_outcome}
 use Rattle.cluster_world.specs.Outcomes.Outcome.{StillPending}
 use Rattle.cluster_world.specs.Seen.{step_seen, outcome_seen}
@@ -99,7 +99,7 @@ module _ {D : Type 0} (on : View D) where
       let p = parted (StillPending k ticket) outcomes among in
       let apart = made_apart p.0 (StillPending k ticket) p.1 [] left start last (subst (λ o. Makes on o [] start left last) p.2 makes) in
       let s = stays on p.0 [] apart.between start apart.mid apart.makes in
-      let told = tells on.seen start in
+      let told = disks_tell on.seen start in
       let few : plan.nodes ≤ 64 = omega (arith, one) in
       let m = mirror_all plan told lines few p.0 [] [] apart.between start apart.mid (record { plan_is = begins.plan_is; told_is = refl })
       (record { outs = []; next = opening_world plan.nodes; makes = refl; stands = begins.stands; asked = refl; answered = refl; within = λ one k. absurd k; sessions = λ lines of. tt })
@@ -115,7 +115,7 @@ module _ {D : Type 0} (on : View D) where
   pub world_owes : TellsImages on → WorldOwes on
   world_owes images plan stop lines entries outcomes left start last begins known makes sessions losses =
       let s = stays on outcomes [] left start last makes in
-      let told = tells on.seen last in
+      let told = disks_tell on.seen last in
       let few : plan.nodes ≤ 64 = omega (arith, start.nodes.few, ap (λ (p : Plan). p.nodes) begins.plan_is) in
       let m = mirror_all plan told lines few outcomes [] [] left start last (record { plan_is = begins.plan_is; told_is = sym s.told })
       (record { outs = []; next = opening_world plan.nodes; makes = refl; stands = begins.stands; asked = refl; answered = refl; within = λ one k. absurd k; sessions = λ lines of. tt })

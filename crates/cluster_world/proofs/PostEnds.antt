@@ -33,7 +33,7 @@ use Rattle.cluster_world.specs.Lives.{life_seen, is_up_life, of_node, falls_left
 use Rattle.cluster_world.specs.Worlds.{life_among, state_with}
 use Rattle.cluster_world.specs.Changes.{ChangesNode}
 use Rattle.cluster_world.specs.Missing.{OnlyTickets, Noticed}
-use Rattle.cluster_world.specs.Posts.{out_of, HearsAt, mishap_of_thrown, mishap_of, IsEntered, IsNotedIf, AnswersSent, EndsHeard, EndsStopped, EndsPost}
+use Rattle.cluster_world.specs.Posts.{out_of, HearsAtNode, mishap_of_thrown, mishap_of, IsEntered, IsNotedIf, AnswersSent, EndsHeard, EndsStopped, EndsPost}
 use Rattle.cluster_world.specs.Steps.{StepDid, AreSettled}
 use Rattle.cluster_world.specs.declared.life.Life.{Life}
 use Rattle.cluster_world.specs.declared.life.Life.TheVariants.{Up, Down}
@@ -102,7 +102,7 @@ module _ {D : Type 0} (on : View D) (is_settled : D → Type 0) (number : ℕ) (
 
   module _ (mid : Nodes D) where
     abbrev Handed : Result Outbox NodeFault → Type 0
-    Handed heard = ChangesNode letter.to (HearsAt on is_settled old.plan letter.to letter heard) old mid
+    Handed heard = ChangesNode letter.to (HearsAtNode on is_settled old.plan letter.to letter heard) old mid
 
     abbrev rule : Rule
     rule = λ node disk. hear letter.to old.plan.nodes node disk letter
@@ -152,7 +152,7 @@ module _ {D : Type 0} (on : View D) (is_settled : D → Type 0) (number : ℕ) (
     handed_within heard ch = let (above, within) = up_within old.lives.items letter.to ch.life ch.was in (above, subst (λ k. letter.to ≤ k) old.all within)
 
     pub handed_room : (heard : Result Outbox NodeFault) → Handed heard → 0 < spare_of book
-    handed_room heard ch = omega (arith, room, some_falls (HearsAt on is_settled old.plan letter.to letter heard) ch ch.does.0.old ch.does.0.was)
+    handed_room heard ch = omega (arith, room, some_falls (HearsAtNode on is_settled old.plan letter.to letter heard) ch ch.does.0.old ch.does.0.was)
 
     -- what it sends can be heard
     fit_by : (o : Option Why) (letters : List Letter) (a b : Node) (d d' : D) → HeardOrThrown on letter.to old.plan.nodes letter a d b d' o letters → AllCanBeTaken letters
@@ -177,7 +177,7 @@ module _ {D : Type 0} (on : View D) (is_settled : D → Type 0) (number : ℕ) (
     handed_ready (Err (NoMemory true)) ch = ready_down _ ch ch.does.0.old ch.does.0.was ch.does.0.is
     handed_ready (Err (NoMemory false)) ch =
         let (alike, same) = ch.does.0.did in
-        let was = was_ready (HearsAt on is_settled old.plan letter.to letter (Err (NoMemory false))) ch ch.does.0.old ch.does.0.was in
+        let was = was_ready (HearsAtNode on is_settled old.plan letter.to letter (Err (NoMemory false))) ch ch.does.0.old ch.does.0.was in
         ready_up _ ch ch.does.0.old ch.does.0.was ch.does.0.new ch.does.0.is (alike.same old.plan letter.to was.0)
         (subst (λ d. CanWork (on.seen d) ch.does.0.new) (sym same) (alike.works (on.seen ch.disk) was.1))
 

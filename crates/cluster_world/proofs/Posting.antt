@@ -30,10 +30,10 @@ use Rattle.world_book.specs.Books.{entries_of}
 use Rattle.world_book.specs.declared.book.Book.{Book}
 use Rattle.world_book.specs.declared.entry.Entry.TheVariants as written
 use Rattle.cluster_world.specs.Books.{entries_seen, booked_by}
-use Rattle.cluster_world.specs.Flights.{InFlight, left_without, taken_out, put_down, weight_of_flights}
+use Rattle.cluster_world.specs.Flights.{InFlight, flights_without, taken_out, put_down, weight_of_flights}
 use Rattle.cluster_world.specs.Lives.{life_seen, is_up_life, of_node}
 use Rattle.cluster_world.specs.Stands.{SlotStands}
-use Rattle.cluster_world.specs.Worlds.{State, seen_life, life_among, state_with, Stands}
+use Rattle.cluster_world.specs.Worlds.{WorldState, seen_life, life_among, state_with, StateStandsFor}
 use Rattle.cluster_world.specs.Changes.{ChangesNode}
 use Rattle.cluster_world.specs.Missing.{OnlyTickets, Noticed, SentOff}
 use Rattle.cluster_world.specs.Posts.{out_of, IsEntered}
@@ -65,7 +65,7 @@ abbrev flies_of : (w : machine.World) (number : ℕ) (letter : Letter) → Stand
 flies_of w number letter s = record { front = s.front; letter = letter; back = s.back; is = s.is }
 
 flies_left : (w : machine.World) (number : ℕ) (letter : Letter) (s : Standing w.flying number letter) (keep : Bool)
-    → left_without (out_of number keep) w.flying ≡ flies_on w number (flies_of w number letter s) keep
+    → flights_without (out_of number keep) w.flying ≡ flies_on w number (flies_of w number letter s) keep
 flies_left w number letter s true = refl
 flies_left w number letter s false = s.left
 
@@ -88,7 +88,7 @@ two_reasons false true x e = inr (one x e)
 two_reasons false false x e = absurd (let never : None ≡ Some x = e in cc)
 
 module _ {D : Type 0} (on : View D) (old : Nodes D) (flying : InFlight) (seconds : ℕ) (book : Book) (number : ℕ) (keep : Bool) where
-  abbrev before : State D
+  abbrev before : WorldState D
   before = state_with old flying seconds book
 
   pub no_letter_posted : letter_at number flying.flights ≡ None → StepDid on (Err fault.NoSuchLetter) (step.Post number keep) before before
@@ -112,7 +112,7 @@ module _ {D : Type 0} (on : View D) (old : Nodes D) (flying : InFlight) (seconds
   }
 
   module _ (letter : Letter) (here : letter_at number flying.flights ≡ Some letter) where
-    there : (w : machine.World) → Stands on before w → letter_at number w.flying ≡ Some letter
+    there : (w : machine.World) → StateStandsFor on before w → letter_at number w.flying ≡ Some letter
     there w st = ap (letter_at number) (sym st.flying) ∙ here
 
     pub worn_posted : nat_le letters_end flying.sent ≡ true → StepDid on (Err fault.Worn) (step.Post number keep) before before
@@ -150,15 +150,15 @@ module _ {D : Type 0} (on : View D) (old : Nodes D) (flying : InFlight) (seconds
         (omega (arith, weight_taken flying.flights number letter here, less, weight_put letters (record { flying = taken_out (Some number) flying; left = [] })))
 
     module _ (early : nat_le letters_end flying.sent ≡ false) where
-      goes : (w : machine.World) → Stands on before w → step_fault old.plan (steps.Step.Post number keep) w ≡ None
+      goes : (w : machine.World) → StateStandsFor on before w → step_fault old.plan (steps.Step.Post number keep) w ≡ None
       goes w st = post_fault old.plan w number keep (Some letter) false (there w st) (ap (nat_le letters_end) (sym st.sent) ∙ early)
 
       -- what is left in flight of the machine
-      left_is : (w : machine.World) → Stands on before w → (s : Standing w.flying number letter) (flying' : InFlight) → flying' ≡ taken_out (out_of number keep) flying
+      left_is : (w : machine.World) → StateStandsFor on before w → (s : Standing w.flying number letter) (flying' : InFlight) → flying' ≡ taken_out (out_of number keep) flying
           → flying'.flights ≡ flies_on w number (flies_of w number letter s) keep
-      left_is w st s flying' e = ap (λ (f : InFlight). f.flights) e ∙ ap (left_without (out_of number keep)) st.flying ∙ flies_left w number letter s keep
+      left_is w st s flying' e = ap (λ (f : InFlight). f.flights) e ∙ ap (flights_without (out_of number keep)) st.flying ∙ flies_left w number letter s keep
 
-      nobody_there : (n : ℕ) → is_up_life (life_among old n) ≡ false → (w : machine.World) → Stands on before w → (node : plain.Node) (disk : List Record) → IsUp w n node disk → ⊥
+      nobody_there : (n : ℕ) → is_up_life (life_among old n) ≡ false → (w : machine.World) → StateStandsFor on before w → (node : plain.Node) (disk : List Record) → IsUp w n node disk → ⊥
       nobody_there zero down w st node disk up = let never : None ≡ Some (slot_up node disk) = up in cc
       nobody_there (suc k) down w st node disk up =
           let (l, there_is) = both_at old.lives.items w.slots k (slot_up node disk) st.slots.count up in
@@ -301,8 +301,8 @@ module _ {D : Type 0} (on : View D) (old : Nodes D) (flying : InFlight) (seconds
         -- it went down in it
         module _ (down : ch.life' ≡ Down) (taken : thrown_by letter.to (node_seen a) letter ≡ None) (told : is_some (on.seen ch.disk') ≡ is_some (on.seen ch.disk)) (later : on.faults ch.disk ≤ on.faults ch.disk')
             (above : 1 ≤ letter.to) (within : letter.to ≤ old.plan.nodes) (new : Nodes D) (flying' : InFlight) (book' : Book) (entered : IsEntered letter.to book book')
-            (cut : (w : machine.World) → Stands on before w → CutSlot on letter.to P old mid new ch rule a was flying flying' seconds book book' w) where
-          booked_is : (w : machine.World) → Stands on before w → booked_by book' ≡ w.book ++ WentDown letter.to ∷ []
+            (cut : (w : machine.World) → StateStandsFor on before w → CutSlot on letter.to P old mid new ch rule a was flying flying' seconds book book' w) where
+          booked_is : (w : machine.World) → StateStandsFor on before w → booked_by book' ≡ w.book ++ WentDown letter.to ∷ []
           booked_is w st = ap entries_seen entered.wrote ∙ entries_more (entries_of book) (written.Down letter.to ∷ []) ∙ ap (λ b. b ++ WentDown letter.to ∷ []) st.book
 
           was_to_work : WasToWork old.plan.nodes (step.Post number keep) (life_among old letter.to) letter.to

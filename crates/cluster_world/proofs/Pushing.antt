@@ -19,7 +19,7 @@ use Rattle.cluster_model.specs.Steps.{is_node, letters_end, is_crowded_slot, ste
 use Rattle.cluster_model.specs.Makes.{Pushes, cut_world}
 use Rattle.disk_journal.specs.Journal.{TellsJournal}
 use Rattle.node_store.specs.Disks.{View}
-use Rattle.node_core.specs.Nodes.{node_seen, Keeps, end_in, IsAsBefore}
+use Rattle.node_core.specs.Nodes.{node_seen, NodeKeeps, end_in, IsAsBefore}
 use Rattle.node_core.specs.Pushing.{first_within, keys_within, PushesOut}
 use Rattle.node_core.specs.Works.{IsOnlyRead}
 use Rattle.node_core.specs.declared.fault.NodeFault.{NodeFault}
@@ -33,15 +33,16 @@ use Rattle.cluster_world.specs.Books.{entries_seen}
 use Rattle.cluster_world.specs.Flights.{InFlight, put_down, taken_out}
 use Rattle.cluster_world.specs.Lives.{life_seen, of_node, all_falls_left, CanWorkOn}
 use Rattle.cluster_world.specs.Stands.{SlotsStand}
-use Rattle.cluster_world.specs.Worlds.{State, seen_life, life_among, state_with, Stands}
+use Rattle.cluster_world.specs.Worlds.{WorldState, seen_life, life_among, state_with, StateStandsFor}
 use Rattle.cluster_world.specs.Asking.{IsUpWhole}
 use Rattle.cluster_world.specs.Changes.{ChangesNode}
 use Rattle.cluster_world.specs.Missing.{all_missed, SentOff}
 use Rattle.cluster_world.specs.Turning.{life_left}
 use Rattle.cluster_world.specs.Turns.{life_refusal, node_refusal}
-use Rattle.cluster_world.specs.Widens.{said_of_fault, entries_of_fault}
+use Rattle.cluster_world.specs.Unfinished.{said_of_fault}
+use Rattle.cluster_world.specs.Widens.{entries_of_fault}
 use Rattle.cluster_world.specs.Pushes.{letters_left_by, octets_left_by, IsCrowdedAt, PushesAt}
-use Rattle.cluster_world.specs.Steps.{StepDid, AreSettled, LeadsTo, WasToWork, IsKnown, EveryStopKeeps}
+use Rattle.cluster_world.specs.Steps.{StepDid, AreSettled, LeadsTo, WasToWork, StepIsKnown, EveryStopKeeps}
 use Rattle.cluster_world.specs.declared.life.Life.{Life}
 use Rattle.cluster_world.specs.declared.life.Life.TheVariants.{Up}
 use Rattle.cluster_world.specs.declared.nodes.Nodes.{Nodes}
@@ -73,7 +74,7 @@ module _ {D : Type 0} (on : View D) (n to : ℕ) (old : Nodes D) (fit : node_ref
     record Here (slots : List Slot) : Type 0 where
       disk : List Record
       at : slot_at slots n ≡ Some (slot_up (node_seen node) disk)
-      keeps : Keeps disk node
+      keeps : NodeKeeps disk node
       own : node.store.own ≡ n
 
     here : (slots : List Slot) → SlotsStand on old.lives.items old.disks.items slots → Here slots
@@ -90,12 +91,12 @@ module _ {D : Type 0} (on : View D) (n to : ℕ) (old : Nodes D) (fit : node_ref
 
     -- whether it is crowded, as the machine finds it
     crowds : (flights : List Flight) (crowded : Bool) (life : Life) → of_node old.lives.items n ≡ Some life → IsCrowdedAt to (letters_left_by flights) (octets_left_by flights) crowded life
-        → (records : List Record) → Keeps records node → node.store.own ≡ n → is_crowded_slot flights n to (slot_up (node_seen node) records) (plain.Life.Up (node_seen node)) ≡ crowded
+        → (records : List Record) → NodeKeeps records node → node.store.own ≡ n → is_crowded_slot flights n to (slot_up (node_seen node) records) (plain.Life.Up (node_seen node)) ≡ crowded
     crowds flights crowded life there c records keeps own =
         let same : node ≡ c.node = the_node node c.node (some_same (Up node) (Up c.node) (sym up ∙ there ∙ ap Some c.up)) in
         let is : crowded ≡ (nat_lt 0 (length (due_to node.store.own to (node_seen node))) && nat_eq (length (keys_within (letters_left_by flights) (octets_left_by flights) node.store.own to (node_seen node) records)) 0) =
         subst (λ (m : Node). crowded ≡ (nat_lt 0 (length (due_to m.store.own to (node_seen m))) && nat_eq (length (keys_within (letters_left_by flights) (octets_left_by flights) m.store.own to (node_seen m) records)) 0)) (sym same)
-        (c.is records (subst (λ m. Keeps records m) same keeps)) in
+        (c.is records (subst (λ m. NodeKeeps records m) same keeps)) in
         sym (
         is ∙ ap (λ o. nat_lt 0 (length (due_to o to (node_seen node))) && nat_eq (length (keys_within (letters_left_by flights) (octets_left_by flights) o to (node_seen node) records)) 0) own
         ∙ ap (λ ks. nat_lt 0 (length (due_to n to (node_seen node))) && nat_eq (length ks) 0) (keys_same flights n to (node_seen node) records)
@@ -106,7 +107,7 @@ module _ {D : Type 0} (on : View D) (n to : ℕ) (old : Nodes D) (fit : node_ref
 
   -- It is refused before it begins.
   module _ (flying : InFlight) (seconds : ℕ) (book : Book) where
-    abbrev before : State D
+    abbrev before : WorldState D
     before = state_with old flying seconds book
 
     pub push_late : nat_le letters_end flying.sent ≡ true → StepDid on (Err fault.Worn) (step.Push n to) before before
@@ -223,10 +224,10 @@ module _ {D : Type 0} (on : View D) (n to : ℕ) (old : Nodes D) (fit : node_ref
     pushed_falls (Err (NoMemory false)) e = omega (arith, stays_falls on n P old mid ch ready a was b (stays (read_out (comes (Err (NoMemory false)) e))))
 
     module _ (seconds : ℕ) (book book' : Book) where
-      abbrev first : State D
+      abbrev first : WorldState D
       first = state_with old flying seconds book
 
-      abbrev between : State D
+      abbrev between : WorldState D
       between = state_with mid flying seconds book'
 
       pub pushed_settled : (r : Result Outbox NodeFault) → pushed ≡ r → AreSettled is_settled first → AreSettled is_settled between
@@ -245,13 +246,13 @@ module _ {D : Type 0} (on : View D) (n to : ℕ) (old : Nodes D) (fit : node_ref
         found_slot : Slot
         disk : List Record
         up : slot_at w.slots n ≡ Some (slot_up (node_seen a) disk)
-        keeps : Keeps disk a
+        keeps : NodeKeeps disk a
         tells : TellsJournal (on.seen ch.disk) n (payloads_of disk) (end_in a)
         same : with_slot w.slots n (slot_up (node_seen a) disk) ≡ w.slots
         slots : SlotsStand on mid.lives.items mid.disks.items w.slots
         stops : EveryStopKeeps on first between w.slots w.slots
 
-      unmoved : ReadAlone → (w : machine.World) → Stands on first w → Unmoved w
+      unmoved : ReadAlone → (w : machine.World) → StateStandsFor on first w → Unmoved w
       unmoved r w st =
           let f = found_up on n P old mid ch ready a was w.slots st.slots in
           let m = read_there on n P old mid ch ready a was w.slots st.slots r.read f b r.is r.as_before in
@@ -296,7 +297,7 @@ module _ {D : Type 0} (on : View D) (n to : ℕ) (old : Nodes D) (fit : node_ref
 
       module _ (life : Life) (there : of_node old.lives.items n ≡ Some life) (early : nat_le letters_end flying.sent ≡ false)
           (room : IsCrowdedAt to (letters_left_by flying.flights) (octets_left_by flying.flights) false life) where
-        goes : (w : machine.World) → Stands on first w → (disk : List Record) → slot_at w.slots n ≡ Some (slot_up (node_seen a) disk) → Keeps disk a → step_fault old.plan (steps.Step.PushTo n to) w ≡ None
+        goes : (w : machine.World) → StateStandsFor on first w → (disk : List Record) → slot_at w.slots n ≡ Some (slot_up (node_seen a) disk) → NodeKeeps disk a → step_fault old.plan (steps.Step.PushTo n to) w ≡ None
         goes w st disk up keeps =
             let a_up : of_node old.lives.items n ≡ Some (Up a) = ch.was ∙ ap Some was in
             let own : a.store.own ≡ n = (ready_of on.seen old.plan old.lives.items old.disks.items ready n a ch.disk a_up ch.held).0.own_is in
@@ -356,7 +357,7 @@ module _ {D : Type 0} (on : View D) (n to : ℕ) (old : Nodes D) (fit : node_ref
           abbrev change : List Slot → List Slot
           change slots = all_missed Crowded slots (put_down letters (taken_out None flying)).left
 
-          abbrev last : State D
+          abbrev last : WorldState D
           last = state_with new flying' seconds book'
 
           abbrev r : ReadAlone
@@ -366,7 +367,7 @@ module _ {D : Type 0} (on : View D) (n to : ℕ) (old : Nodes D) (fit : node_ref
           same_disk k d f = ap (λ ds. of_node ds k) (sym off.noticed.only.disks) ∙ f
 
           -- what the machine has it send
-          out_is : (w : machine.World) → Stands on first w → IsKnown on.seen first (step.Push n to) → (disk : List Record) → Keeps disk a → TellsJournal (on.seen ch.disk) n (payloads_of disk) (end_in a)
+          out_is : (w : machine.World) → StateStandsFor on first w → StepIsKnown on.seen first (step.Push n to) → (disk : List Record) → NodeKeeps disk a → TellsJournal (on.seen ch.disk) n (payloads_of disk) (end_in a)
               → (push n to (keys_pushed w.flying n to (node_seen a) disk) (node_seen a) disk).out ≡ letters
           out_is w st known disk keeps tells =
               let c = (comes (Ok outbox) e).0.1 in
@@ -385,7 +386,7 @@ module _ {D : Type 0} (on : View D) (n to : ℕ) (old : Nodes D) (fit : node_ref
               ap (λ ks. (push n to ks (node_seen a) disk).out) (sym keys ∙ nothing) ∙ sym (none_long letters (c.count disk keeps ∙ ap length nothing)))
               known
 
-          sent_leads : IsKnown on.seen first (step.Push n to) → (w : machine.World) → Stands on first w → LeadsTo on (Ok (said.Sent (length letters))) (step.Push n to) first last w
+          sent_leads : StepIsKnown on.seen first (step.Push n to) → (w : machine.World) → StateStandsFor on first w → LeadsTo on (Ok (said.Sent (length letters))) (step.Push n to) first last w
           sent_leads known w st =
               let u = unmoved r w st in
               let out : (push n to (keys_pushed w.flying n to (node_seen a) u.disk) (node_seen a) u.disk).out ≡ letters = out_is w st known u.disk u.keeps u.tells in
@@ -499,7 +500,7 @@ push_whole on n to nodes fit ready l there =
     record { node = node; up = is; whole = (ready_of on.seen nodes.plan nodes.lives.items nodes.disks.items ready n node disk up held).1.whole }
 
 pub crowded_at : {E : Type 0} (to most room : ℕ) (life : Life) (node : Node) → life ≡ Up node → (r : Result Bool E)
-    → IfOk r (λ crowded. (records : List Record) → Keeps records node
+    → IfOk r (λ crowded. (records : List Record) → NodeKeeps records node
     → crowded ≡ (nat_lt 0 (length (due_to node.store.own to (node_seen node))) && nat_eq (length (keys_within most room node.store.own to (node_seen node) records)) 0))
     → IfOk r (λ crowded. IsCrowdedAt to most room crowded life)
 crowded_at to most room life node up (Ok crowded) is = record { node = node; up = up; is = is }

@@ -11,10 +11,10 @@ use Rattle.call_tickets.specs.Seen.{answer_seen}
 use Rattle.call_tickets.specs.declared.answer.Answer.{Answer}
 use Rattle.call_tickets.specs.declared.answer.Ask.TheVariants as ask
 use Rattle.cluster_model.specs.Steps as machine
-use Rattle.cluster_owes.specs.Outcomes.{IsOther}
+use Rattle.cluster_owes.specs.Outcomes.{IsIdleStep}
 use Rattle.cluster_world.specs.Seen.{step_seen, outcome_seen}
 use Rattle.cluster_world.specs.Ended.{IsEnded}
-use Rattle.cluster_world.specs.Outcomes.{StepMade, IsPost, IsPushOf, AreOne, AreStepsOf, IsRefusal, IsUntold}
+use Rattle.cluster_world.specs.Outcomes.{StepMade, IsPost, IsPushOf, AreOne, AreStepsOf, IsRefusal, LeavesUnanswered}
 use Rattle.cluster_world.specs.declared.step.Step.{Step}
 use Rattle.cluster_world.specs.declared.step.Step.TheVariants as step
 use Rattle.cluster_world.specs.declared.step.Said.{Said}
@@ -24,16 +24,16 @@ use Rattle.cluster_world.specs.declared.fault.StepFault.TheVariants as fault
 
 -- whatever comes of the step, no session hears of it; and it hands no message in
 abbrev pub IsQuietStep : Step → Type 0
-IsQuietStep step = ((outcome : machine.StepOutcome) → IsOther (step_seen step) outcome) × IsEnded step
+IsQuietStep step = ((outcome : machine.StepOutcome) → IsIdleStep (step_seen step) outcome) × IsEnded step
 
-pub refused_begins : (node : ℕ) (call : machine.NodeCall) (fault : machine.StepFault) → IsOther (machine.Step.Begin node call) (machine.StepOutcome.Refused fault)
+pub refused_begins : (node : ℕ) (call : machine.NodeCall) (fault : machine.StepFault) → IsIdleStep (machine.Step.Begin node call) (machine.StepOutcome.Refused fault)
 refused_begins node (machine.NodeCall.Deliver mail) fault = tt
 refused_begins node (machine.NodeCall.Login user secret) fault = tt
 refused_begins node (machine.NodeCall.Fetch user id from most) fault = tt
 refused_begins node (machine.NodeCall.Strike user items) fault = tt
 refused_begins node (machine.NodeCall.Leave user) fault = tt
 
-short_begins : (node : ℕ) (call : machine.NodeCall) → IsOther (machine.Step.Begin node call) (machine.StepOutcome.NoMemory None)
+short_begins : (node : ℕ) (call : machine.NodeCall) → IsIdleStep (machine.Step.Begin node call) (machine.StepOutcome.NoMemory None)
 short_begins node (machine.NodeCall.Deliver mail) = tt
 short_begins node (machine.NodeCall.Login user secret) = tt
 short_begins node (machine.NodeCall.Fetch user id from most) = tt
@@ -41,7 +41,7 @@ short_begins node (machine.NodeCall.Strike user items) = tt
 short_begins node (machine.NodeCall.Leave user) = tt
 
 -- a call is refused
-pub refusal_quiet : (node : ℕ) (call : machine.NodeCall) (why : StepFault) → IsRefusal why → IsOther (machine.Step.Begin node call) (outcome_seen (Err why))
+pub refusal_quiet : (node : ℕ) (call : machine.NodeCall) (why : StepFault) → IsRefusal why → IsIdleStep (machine.Step.Begin node call) (outcome_seen (Err why))
 refusal_quiet node call fault.NoSuchNode is = refused_begins node call machine.StepFault.NoSuchNode
 refusal_quiet node call fault.NodeLost is = refused_begins node call machine.StepFault.NodeLost
 refusal_quiet node call fault.NodeDown is = refused_begins node call machine.StepFault.NodeDown
@@ -54,7 +54,7 @@ refusal_quiet node call (fault.NoMemory None) is = short_begins node call
 refusal_quiet node call (fault.NoMemory (Some failed)) is = absurd is
 
 -- an ask is refused
-refused_asks : (ticket : Number) (why : StepFault) → IsOther (machine.Step.AskFor ticket) (outcome_seen (Err why))
+refused_asks : (ticket : Number) (why : StepFault) → IsIdleStep (machine.Step.AskFor ticket) (outcome_seen (Err why))
 refused_asks ticket fault.NoSuchNode = tt
 refused_asks ticket fault.NodeLost = tt
 refused_asks ticket fault.NodeDown = tt
@@ -72,7 +72,7 @@ pub record AnswersAmiss (asked : model.Call) (result : Result Said StepFault) : 
   pub amiss : IsAnswerTo asked (answer_seen own) → ⊥
 
 -- an ask tells the session nothing, or gives an answer that does not fit
-pub untold_quiet : (asked : model.Call) (ticket : Number) (result : Result Said StepFault) → IsUntold asked result → IsOther (machine.Step.AskFor ticket) (outcome_seen result) ⊎ AnswersAmiss asked result
+pub untold_quiet : (asked : model.Call) (ticket : Number) (result : Result Said StepFault) → LeavesUnanswered asked result → IsIdleStep (machine.Step.AskFor ticket) (outcome_seen result) ⊎ AnswersAmiss asked result
 untold_quiet asked ticket (Ok (said.Begun number stirs)) is = inl tt
 untold_quiet asked ticket (Ok said.Noted) is = inl tt
 untold_quiet asked ticket (Ok (said.Asked (ask.Pending got wanted))) is = absurd is

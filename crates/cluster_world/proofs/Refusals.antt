@@ -15,7 +15,7 @@ use Rattle.node_store.specs.Disks.{View}
 use Rattle.node_core.specs.Nodes.{node_seen}
 use Rattle.cluster_world.specs.Lives.{life_seen, of_node}
 use Rattle.cluster_world.specs.Stands.{SlotStands}
-use Rattle.cluster_world.specs.Worlds.{State, seen_life, life_in, Stands}
+use Rattle.cluster_world.specs.Worlds.{WorldState, seen_life, life_in, StateStandsFor}
 use Rattle.cluster_world.specs.Seen.{step_seen, fault_seen}
 use Rattle.cluster_world.specs.Turns.{life_refusal, actor_refusal, node_refusal}
 use Rattle.cluster_world.proofs.Still.{some_same, both_at}
@@ -81,28 +81,28 @@ module _ {D : Type 0} (on : View D) where
   slot_alike own Lost disk slot (is, fit, holds) = subst (λ l. IsLifeOf life.Lost l) (sym is) tt
 
   -- the slot of a node that there is
-  pub record HasSlot (state : State D) (w : machine.World) (n : ℕ) (one : Life) : Type 0 where
+  pub record HasSlot (state : WorldState D) (w : machine.World) (n : ℕ) (one : Life) : Type 0 where
     pub disk : D
     pub slot : plain.Slot
     pub disk_here : of_node state.disks n ≡ Some disk
     pub slot_here : plain.slot_at w.slots n ≡ Some slot
     pub stands : SlotStands on n one disk slot
 
-  pub has_slot : (state : State D) (w : machine.World) → length state.disks ≡ length state.lives → Stands on state w → (n : ℕ) (one : Life) → of_node state.lives n ≡ Some one → HasSlot state w n one
+  pub has_slot : (state : WorldState D) (w : machine.World) → length state.disks ≡ length state.lives → StateStandsFor on state w → (n : ℕ) (one : Life) → of_node state.lives n ≡ Some one → HasSlot state w n one
   has_slot state w even s zero one e = absurd (let never : None ≡ Some one = e in cc)
   has_slot state w even s (suc k) one e =
       let (disk, d) = both_at state.disks state.lives k one (sym even) e in
       let (slot, p) = both_at w.slots state.lives k one (sym s.slots.count) e in
       record { disk = disk; slot = slot; disk_here = d; slot_here = p; stands = s.slots.each k one disk slot e d p }
 
-  no_slot : (state : State D) (w : machine.World) → Stands on state w → (n : ℕ) → of_node state.lives n ≡ None → plain.slot_at w.slots n ≡ None
+  no_slot : (state : WorldState D) (w : machine.World) → StateStandsFor on state w → (n : ℕ) → of_node state.lives n ≡ None → plain.slot_at w.slots n ≡ None
   no_slot state w s zero e = refl
   no_slot state w s (suc k) e = ⊎_elim
       (λ (slot, within, here, read). let (one, f) = both_at state.lives w.slots k slot s.slots.count here in absurd (let never : None ≡ Some one = sym e ∙ f in cc))
       (λ (past, none). none)
       (slice_get_cases w.slots k).1
 
-  module _ (plan : Plan) (state : State D) (w : machine.World) (even : length state.disks ≡ length state.lives) (s : Stands on state w) where
+  module _ (plan : Plan) (state : WorldState D) (w : machine.World) (even : length state.disks ≡ length state.lives) (s : StateStandsFor on state w) where
     -- A node that a step names is one of the plan's, where it is one of the plan's at all
     actor_alike : (step : Step) (actor : Option ℕ) → ((n : ℕ) → actor ≡ Some n → (one : Life) × (of_node state.lives n ≡ Some one))
         → AreAlike (actor_refusal step (life_in state) actor) (actor_fault (step_seen step) w.slots actor)

@@ -9,7 +9,7 @@ use Rattle.cluster_model.specs.Makes.{MakesStep}
 use Rattle.node_store.specs.Disks.{View}
 use Rattle.cluster_world.specs.Seen.{step_seen, fault_seen}
 use Rattle.cluster_world.specs.Turns.{life_refusal, actor_refusal, node_refusal}
-use Rattle.cluster_world.specs.Worlds.{State, life_in, tells_in, Stands}
+use Rattle.cluster_world.specs.Worlds.{WorldState, life_in, tells_in, StateStandsFor}
 use Rattle.cluster_world.specs.Steps.{StepDid}
 use Rattle.cluster_world.specs.declared.step.Step.{Step}
 use Rattle.cluster_world.specs.declared.step.Step.TheVariants.{Begin, Ask, GiveUp, Post, Drop, Push, Widen, Crash, Start, Lose}
@@ -64,8 +64,8 @@ refusal_of_node plan lives step = by (list_all (is_node plan) (nodes_named (step
     by true = actor_of_node step lives (actor_of (step_seen step))
     by false = tt
 
-module _ {D : Type 0} (on : View D) (state : State D) (even : length state.disks ≡ length state.lives) (within : length state.lives ≡ state.plan.nodes) (step : Step) where
-  made_refused : (f : StepFault) (w : machine.World) → Stands on state w → node_refusal state.plan (life_in state) step ≡ Some f → MakesStep state.plan (tells_in on.seen state) w (step_seen step) (fault_seen f) w
+module _ {D : Type 0} (on : View D) (state : WorldState D) (even : length state.disks ≡ length state.lives) (within : length state.lives ≡ state.plan.nodes) (step : Step) where
+  made_refused : (f : StepFault) (w : machine.World) → StateStandsFor on state w → node_refusal state.plan (life_in state) step ≡ Some f → MakesStep state.plan (tells_in on.seen state) w (step_seen step) (fault_seen f) w
   made_refused f w s e =
       let (g, is, first) = named_fault on state.plan state w even s within step _ f e in
       subst (λ o. MakesStep state.plan (tells_in on.seen state) w (step_seen step) o w) (sym is) (inl first, refl)

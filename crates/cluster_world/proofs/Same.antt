@@ -3,18 +3,18 @@ use Rattle.std.proofs.Common.{◌≡◌, ℕ, ◌≤◌, Some, None, Err, refl, 
 use Rattle.std.specs.Prelude.{is_some}
 use Rattle.cluster_model.specs.World as machine
 use Rattle.node_store.specs.Disks.{View}
-use Rattle.cluster_world.specs.Worlds.{State, disk_in, Stands}
+use Rattle.cluster_world.specs.Worlds.{WorldState, disk_in, StateStandsFor}
 use Rattle.cluster_world.specs.Steps.{AreToldAlike, IsQuiet, EveryStopKeeps, StepDid}
 use Rattle.cluster_world.proofs.Still.{some_same, all_untouched}
 use Rattle.cluster_world.specs.Moments.{StopsKeep}
 use Rattle.cluster_world.specs.declared.step.Step.{Step}
 use Rattle.cluster_world.specs.declared.fault.StepFault.TheVariants as fault
 
-module _ {D : Type 0} (on : View D) (state : State D) where
+module _ {D : Type 0} (on : View D) (state : WorldState D) where
   same_disk : (n : ℕ) (disk disk' : D) → disk_in state n ≡ Some disk → disk_in state n ≡ Some disk' → disk' ≡ disk
   same_disk n disk disk' e f = some_same disk' disk (sym f ∙ e)
 
-  pub same_stops : (w : machine.World) → Stands on state w → EveryStopKeeps on state state w.slots w.slots
+  pub same_stops : (w : machine.World) → StateStandsFor on state w → EveryStopKeeps on state state w.slots w.slots
   same_stops w s = record {
     each = λ n disk disk' slot slot' e f a b here.
         let one = all_untouched on state.lives state.disks w.slots s.slots n disk slot e a here in

@@ -33,13 +33,13 @@ use Rattle.cluster_world.specs.Books.{entries_seen, booked_by}
 use Rattle.cluster_world.specs.Flights.{InFlight}
 use Rattle.cluster_world.specs.Lives.{life_seen, of_node, falls_left, all_falls_left, CanWorkOn}
 use Rattle.cluster_world.specs.Stands.{SlotStands}
-use Rattle.cluster_world.specs.Worlds.{State, seen_life, life_among, state_with, tells_in, Stands}
+use Rattle.cluster_world.specs.Worlds.{WorldState, seen_life, life_among, state_with, tells_in, StateStandsFor}
 use Rattle.cluster_world.specs.Changes.{ChangesNode}
 use Rattle.cluster_world.specs.Starting.{said_of_start, entries_of_start, IsUpIn, ComesToThis, HasStarted}
 use Rattle.cluster_world.specs.Seen.{outcome_seen}
 use Rattle.cluster_world.specs.Turns.{life_refusal, node_refusal, life_after_step}
 use Rattle.cluster_world.specs.Moments.{IsStopOf, StopsKeep}
-use Rattle.cluster_world.specs.Steps.{StepDid, AreSettled, LeadsTo, IsKnown, IsRefusedRight, SaysSo, FallsSo, WasToWork, HasCause}
+use Rattle.cluster_world.specs.Steps.{StepDid, AreSettled, LeadsTo, StepIsKnown, IsRefusedRight, SaysSo, FallsSo, WasToWork, FaultHasCause}
 use Rattle.cluster_world.specs.declared.life.Life.{Life}
 use Rattle.cluster_world.specs.declared.life.Life.TheVariants.{Up, Down, Lost}
 use Rattle.cluster_world.specs.declared.nodes.Nodes.{Nodes}
@@ -144,10 +144,10 @@ module _ {D : Type 0} (on : View D) (is_settled : D → Type 0) (only : (disk : 
 
   module _ (flying : InFlight) (seconds : ℕ) (book book' : Book) (early : nat_le letters_end flying.sent ≡ false)
       (wrote : entries_of book' ≡ entries_of book ++ entries_of_start n started) where
-    abbrev before : State D
+    abbrev before : WorldState D
     before = state_with old flying seconds book
 
-    abbrev behind : State D
+    abbrev behind : WorldState D
     behind = state_with new flying seconds book'
 
     -- what the machine has of the node
@@ -160,22 +160,22 @@ module _ {D : Type 0} (on : View D) (is_settled : D → Type 0) (only : (disk : 
       fit_all : All IsRecord (slot.disk ++ pending)
       holds : IfSome (on.seen ch.disk) (λ _. MayHold on ch.disk n slot.disk pending)
 
-    found : (w : machine.World) → Stands on before w → Found w
+    found : (w : machine.World) → StateStandsFor on before w → Found w
     found w st =
         let (slot, here, stood) = slot_of on old.lives.items old.disks.items w.slots n ch.life ch.disk st.slots ch.was ch.held in
         let down : SlotStands on n Down ch.disk slot = subst (λ l. SlotStands on n l ch.disk slot) was_down stood in
         let (pending, is, fit_all, holds) = down in
         record { slot = slot; pending = pending; here = here; is = is; whole = ap (λ l. record { life = l; disk = slot.disk }) is; fit_all = fit_all; holds = holds }
 
-    told_here : IsKnown on.seen before (step.Start n) → is_some (on.seen ch.disk) ≡ true
+    told_here : StepIsKnown on.seen before (step.Start n) → is_some (on.seen ch.disk) ≡ true
     told_here known = ⊎_elim (λ all. told_at on.seen old.disks.items n ch.disk all ch.held) (λ blind. absurd blind) known
 
     -- what the start is known to have done
-    over : (Q : List Record → List Record → Type 0) → IsKnown on.seen before (step.Start n) → (w : machine.World) (f : Found w) → WhereItHolds on ch.disk n Q → Q f.slot.disk f.pending
+    over : (Q : List Record → List Record → Type 0) → StepIsKnown on.seen before (step.Start n) → (w : machine.World) (f : Found w) → WhereItHolds on ch.disk n Q → Q f.slot.disk f.pending
     over Q known w f h = where_told (on.seen ch.disk) (Q f.slot.disk f.pending) (told_here known)
         (if_both (on.seen ch.disk) _ _ _ (λ (holds : MayHold on ch.disk n f.slot.disk f.pending) all. all f.slot.disk f.pending holds) f.holds h)
 
-    start_goes_now : (w : machine.World) → Stands on before w → (f : Found w) → steps.step_fault old.plan (steps.Step.Start n) w ≡ None
+    start_goes_now : (w : machine.World) → StateStandsFor on before w → (f : Found w) → steps.step_fault old.plan (steps.Step.Start n) w ≡ None
     start_goes_now w st f = start_goes old.plan w n f.slot named f.here f.pending f.is (ap (nat_le letters_end) (sym st.sent) ∙ early)
 
     keeps_so : (w : machine.World) (f : Found w) (slot' : Slot) (all : List Record) → all_records slot' ≡ all → StartKeeps on old.plan n ch.disk ch.disk' f.slot.disk f.pending all
@@ -195,7 +195,7 @@ module _ {D : Type 0} (on : View D) (is_settled : D → Type 0) (only : (disk : 
       }) k.moments);
     }
 
-    leads_so : (outcome : Result Said StepFault) (entries : List BookEntry) → booked_by book' ≡ booked_by book ++ entries → (w : machine.World) → Stands on before w → (f : Found w)
+    leads_so : (outcome : Result Said StepFault) (entries : List BookEntry) → booked_by book' ≡ booked_by book ++ entries → (w : machine.World) → StateStandsFor on before w → (f : Found w)
         → (slot' : Slot) → SlotStands on n ch.life' ch.disk' slot' → StopsKeep on n ch.disk ch.disk' f.slot slot'
         → MakesStep old.plan (tells_in on.seen before) w (steps.Step.Start n) (outcome_seen outcome) (record w { slots = with_slot w.slots n slot'; book = w.book ++ entries })
         → LeadsTo on outcome (step.Start n) before behind w
@@ -216,8 +216,8 @@ module _ {D : Type 0} (on : View D) (is_settled : D → Type 0) (only : (disk : 
     down_did : (why : NodeFault) → ch.life' ≡ Down → IsRefusedRight (said_of_start n (Err why)) (node_refusal old.plan (life_among old) (step.Start n))
         → IfOk (said_of_start n (Err why)) (SaysSo (step.Start n)) → FallsSo (said_of_start n (Err why)) old.plan.nodes (step.Start n) (life_among old)
         → ((m : ℕ) → life_after_step (said_of_start n (Err why)) (step.Start n) m (life_among old m) ≡ turned n life.Down m (life_among old m))
-        → (IsKnown on.seen before (step.Start n) → (w : machine.World) → Stands on before w → LeadsTo on (said_of_start n (Err why)) (step.Start n) before behind w)
-        → ((w : machine.World) → Stands on before w → HasCause on (said_of_start n (Err why)) (step.Start n) before behind)
+        → (StepIsKnown on.seen before (step.Start n) → (w : machine.World) → StateStandsFor on before w → LeadsTo on (said_of_start n (Err why)) (step.Start n) before behind w)
+        → ((w : machine.World) → StateStandsFor on before w → FaultHasCause on (said_of_start n (Err why)) (step.Start n) before behind)
         → StepDid on (said_of_start n (Err why)) (step.Start n) before behind
     down_did why down refused kind falls lives leads cause = record {
       plan = ch.plan;

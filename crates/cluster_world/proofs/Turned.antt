@@ -18,7 +18,7 @@ use Rattle.cluster_world.specs.Flights.{InFlight}
 use Rattle.cluster_model.specs.World as machine
 use Rattle.mail_model.specs.Book.{BookEntry}
 use Rattle.cluster_world.specs.Books.{booked_by}
-use Rattle.cluster_world.specs.Worlds.{seen_life, state_with, Stands}
+use Rattle.cluster_world.specs.Worlds.{seen_life, state_with, StateStandsFor}
 use Rattle.cluster_world.specs.Steps.{AreToldAlike, IsQuiet, AreSettled}
 use Rattle.cluster_world.specs.Changes.{ChangesNode}
 use Rattle.cluster_world.specs.Moments.{StopsKeep}
@@ -205,8 +205,8 @@ module _ {D : Type 0} (n : ℕ) (P : Life → D → Life → D → Type 0) (old 
 
   -- the world of the machine, once the slot was written and the book has these entries more
   pub stands_now : (on : View D) (flying : InFlight) (seconds : ℕ) (book book' : Book) (entries : List BookEntry) → booked_by book' ≡ booked_by book ++ entries
-      → (w : machine.World) → Stands on (state_with old flying seconds book) w → (slot' : Slot) → SlotStands on n ch.life' ch.disk' slot'
-      → Stands on (state_with new flying seconds book') (record w { slots = with_slot w.slots n slot'; book = w.book ++ entries })
+      → (w : machine.World) → StateStandsFor on (state_with old flying seconds book) w → (slot' : Slot) → SlotStands on n ch.life' ch.disk' slot'
+      → StateStandsFor on (state_with new flying seconds book') (record w { slots = with_slot w.slots n slot'; book = w.book ++ entries })
   stands_now on flying seconds book book' entries wrote w st slot' stands = record {
     slots = slots_stand on w.slots slot' st.slots stands;
     flying = st.flying;

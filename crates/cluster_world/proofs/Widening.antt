@@ -28,7 +28,7 @@ use Rattle.cluster_world.specs.Books.{entries_seen, booked_by}
 use Rattle.cluster_world.specs.Flights.{InFlight}
 use Rattle.cluster_world.specs.Lives.{life_seen, of_node, all_falls_left, CanWorkOn}
 use Rattle.cluster_world.specs.Stands.{SlotsStand}
-use Rattle.cluster_world.specs.Worlds.{State, seen_life, life_among, state_with, Stands}
+use Rattle.cluster_world.specs.Worlds.{WorldState, seen_life, life_among, state_with, StateStandsFor}
 use Rattle.cluster_world.specs.Changes.{ChangesNode}
 use Rattle.cluster_world.specs.Turning.{life_left}
 use Rattle.cluster_world.specs.Turns.{life_refusal, node_refusal}
@@ -128,10 +128,10 @@ module _ {D : Type 0} (on : View D) (n to : ℕ) (user : List ℕ) (id : Id) (ol
     widened_falls (Err (NoMemory false)) e = omega (arith, stays_falls on n P old new ch ready a was b (stays_out (comes (Err (NoMemory false)) e)))
 
     module _ (flying : InFlight) (seconds : ℕ) (book book' : Book) where
-      abbrev before : State D
+      abbrev before : WorldState D
       before = state_with old flying seconds book
 
-      abbrev behind : State D
+      abbrev behind : WorldState D
       behind = state_with new flying seconds book'
 
       pub widened_settled : (r : Result Bool NodeFault) → done ≡ r → AreSettled is_settled before → AreSettled is_settled behind
@@ -149,7 +149,7 @@ module _ {D : Type 0} (on : View D) (n to : ℕ) (user : List ℕ) (id : Id) (ol
         booked : (r : Result Bool NodeFault) → done ≡ r → booked_by book' ≡ booked_by book ++ entries_seen (entries_of_widening n r)
         booked r e = ap entries_seen wrote ∙ entries_more (entries_of book) (entries_of_widening n done) ∙ ap (λ x. booked_by book ++ entries_seen (entries_of_widening n x)) e
 
-        goes : (w : machine.World) (st : Stands on before w) → (f : FoundUp on n P old new ch ready a was w.slots st.slots) → step_fault old.plan (steps.Step.Widen n user id to) w ≡ None
+        goes : (w : machine.World) (st : StateStandsFor on before w) → (f : FoundUp on n P old new ch ready a was w.slots st.slots) → step_fault old.plan (steps.Step.Widen n user id to) w ≡ None
         goes w st f = widen_goes old.plan w n to user id (slot_up (node_seen a) f.slot.disk) (node_seen a) named f.up refl (ap (nat_le letters_end) (sym st.sent) ∙ early)
 
         -- It did its work.
@@ -181,8 +181,8 @@ module _ {D : Type 0} (on : View D) (n to : ℕ) (user : List ℕ) (id : Id) (ol
         }
 
         -- It went down.
-        cut_stands : (r : Result Bool NodeFault) → done ≡ r → entries_of_widening n r ≡ written.Down n ∷ [] → (w : machine.World) (st : Stands on before w) (f : FoundUp on n P old new ch ready a was w.slots st.slots)
-            → (t : CutThere on n P old new ch ready a was w.slots st.slots widens f) → Stands on behind (cut_world w n f.slot.disk t.front t.pending)
+        cut_stands : (r : Result Bool NodeFault) → done ≡ r → entries_of_widening n r ≡ written.Down n ∷ [] → (w : machine.World) (st : StateStandsFor on before w) (f : FoundUp on n P old new ch ready a was w.slots st.slots)
+            → (t : CutThere on n P old new ch ready a was w.slots st.slots widens f) → StateStandsFor on behind (cut_world w n f.slot.disk t.front t.pending)
         cut_stands r e down w st f t = record {
           slots = t.moved.stand;
           flying = st.flying;

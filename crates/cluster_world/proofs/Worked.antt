@@ -12,7 +12,7 @@ use Rattle.disk_journal.specs.Journal.{EndsAt, TellsJournal}
 use Rattle.disk_journal.specs.Images.{Extends, Adds, AddsAll}
 use Rattle.node_store.specs.Disks.{View}
 use Rattle.node_store.specs.Appends.{IsEither}
-use Rattle.node_core.specs.Nodes.{node_seen, Keeps, end_in}
+use Rattle.node_core.specs.Nodes.{node_seen, NodeKeeps, end_in}
 use Rattle.node_core.specs.Works.{Rule, NodeDid, NodeStopped}
 use Rattle.node_core.specs.Starting.{MayHold}
 use Rattle.node_core.specs.declared.node.Node.{Node}
@@ -116,7 +116,7 @@ module _ {D : Type 0} (on : View D) (own : ℕ) (rule : Rule) (old : Node) (befo
           refl,
           record {
             seen_is = sym (did.node slot.disk st.keeps);
-            keeps = subst (λ xs. Keeps xs new) (sym grew) (did.keeps slot.disk st.keeps);
+            keeps = subst (λ xs. NodeKeeps xs new) (sym grew) (did.keeps slot.disk st.keeps);
             tells = subst (λ xs. TellsJournal (on.seen after) own (payloads_of xs) (end_in new)) (sym grew) (did.appends.stand own slot.disk st.tells);
             images = subst (λ xs. IfSome (on.seen after) (λ _. Later (end_in new) xs)) (sym grew)
                 (if_told (on.seen before) (on.seen after) _ did.appends.told (if_both (on.seen before) _ _ _ (images_after did.added (end_in new)) st.images did.appends.images));

@@ -37,7 +37,7 @@ AreForTicket ticket Down entries = entries ≡ []
 AreForTicket ticket Lost entries = entries ≡ []
 
 -- the node was asked
-pub record IsAsked (ticket : Number) (result : Option code.Ask) (life life' : Life) : Type 0 where
+pub record AsksNode (ticket : Number) (result : Option code.Ask) (life life' : Life) : Type 0 where
   pub old : Node
   pub new : Node
   pub was : life ≡ Up old
@@ -47,7 +47,7 @@ pub record IsAsked (ticket : Number) (result : Option code.Ask) (life life' : Li
 
 -- and its disk was not touched
 abbrev pub IsAskedOn : {D : Type 0} → Number → Option code.Ask → Life → D → Life → D → Type 0
-IsAskedOn ticket result life disk life' disk' = IsAsked ticket result life life' × (disk' ≡ disk)
+IsAskedOn ticket result life disk life' disk' = AsksNode ticket result life life' × (disk' ≡ disk)
 
 -- A node that is up has these tickets in place of its own, and nothing else is changed.
 pub record IsRetold (left_of : Node → plain.Tickets) (life life' : Life) : Type 0 where
@@ -61,11 +61,11 @@ abbrev pub IsRetoldOn : {D : Type 0} → (Node → plain.Tickets) → Life → D
 IsRetoldOn left_of life disk life' disk' = IsRetold left_of life life' × (disk' ≡ disk)
 
 -- what is left of its tickets once one is given up, where it stands
-abbrev pub left_without : Number → Node → plain.Tickets
-left_without ticket node = ticket_taken_out ticket.seq (ticket_standing node ticket) (node_seen node).tickets
+abbrev pub tickets_without : Number → Node → plain.Tickets
+tickets_without ticket node = ticket_taken_out ticket.seq (ticket_standing node ticket) (node_seen node).tickets
 
 -- whether a ticket stands at a node that is up
-pub record StandsAt (ticket : Number) (stands : Bool) (life : Life) : Type 0 where
+pub record TicketStands (ticket : Number) (stands : Bool) (life : Life) : Type 0 where
   pub node : Node
   pub up : life ≡ Up node
   pub is : stands ≡ is_some (ticket_standing node ticket)

@@ -20,6 +20,7 @@ use Rattle.cluster_world.specs.Changes.{ChangesNode, IsTurnedTo}
 use Rattle.cluster_world.specs.Flights.{InFlight}
 use Rattle.cluster_world.specs.Missing.{SentOff}
 use Rattle.cluster_world.specs.Turning.{TurnsBy}
+use Rattle.cluster_world.specs.Unfinished.{said_of_fault}
 use Rattle.cluster_world.specs.declared.life.Life.{Life}
 use Rattle.cluster_world.specs.declared.life.Life.TheVariants as lives
 use Rattle.cluster_world.specs.declared.nodes.Nodes.{Nodes}
@@ -41,28 +42,21 @@ HasRule nodes (Strike user items) = ⊤
 HasRule nodes call = nodes ≡ 1
 
 -- the entries of the book for what the call is to delete
-abbrev pub struck_by : NodeCall → List BookEntry
-struck_by (Strike user items) = struck_entries user items
-struck_by call = []
+abbrev pub strikes_of_call : NodeCall → List BookEntry
+strikes_of_call (Strike user items) = struck_entries user items
+strikes_of_call call = []
 
 -- what is said of a call that has begun: a Leave has no ticket
 abbrev pub said_of_begin : Option Number → Said
 said_of_begin (Some ticket) = said.Begun ticket 0
 said_of_begin None = said.Noted
 
--- and of one that node n did not begin, or did not end beginning
-abbrev pub said_of_fault : ℕ → NodeFault → Result Said StepFault
-said_of_fault n Disk = Ok (said.Faulted n)
-said_of_fault n Worn = Err fault.Worn
-said_of_fault n (NoMemory true) = Err (fault.NoMemory (Some n))
-said_of_fault n (NoMemory false) = Err (fault.NoMemory None)
-
--- what the book then has: what is to be deleted, where that may be on the disk, and that the node went down
-abbrev pub entries_of_fault : ℕ → List Entry → NodeFault → List Entry
-entries_of_fault n entries Disk = entries ++ entry.Down n ∷ []
-entries_of_fault n entries Worn = []
-entries_of_fault n entries (NoMemory true) = entries ++ entry.Down n ∷ []
-entries_of_fault n entries (NoMemory false) = []
+-- what the book has of a call that node n did not begin, or did not end beginning: what is to be deleted, where that may be on the disk, and that the node went down
+abbrev pub entries_of_failure : ℕ → List Entry → NodeFault → List Entry
+entries_of_failure n entries Disk = entries ++ entry.Down n ∷ []
+entries_of_failure n entries Worn = []
+entries_of_failure n entries (NoMemory true) = entries ++ entry.Down n ∷ []
+entries_of_failure n entries (NoMemory false) = []
 
 module _ {D : Type 0} (on : View D) (n : ℕ) (entries : List Entry) (result : Result Said StepFault) (old : Nodes D) (flying : InFlight) (book : Book) (new : Nodes D) (flying' : InFlight) (book' : Book) where
   -- A call has begun: its letters are in flight. Or memory ran out for them, and its node is down.
@@ -76,7 +70,7 @@ module _ {D : Type 0} (on : View D) (n : ℕ) (entries : List Entry) (result : R
     pub said_is : result ≡ said_of_fault n why
     pub nodes_are : new ≡ old
     pub flies : flying' ≡ flying
-    pub wrote : entries_of book' ≡ entries_of book ++ entries_of_fault n entries why
+    pub wrote : entries_of book' ≡ entries_of book ++ entries_of_failure n entries why
 
   -- what comes of what the node did
   abbrev pub Concludes : Result (Option Number × Outbox) NodeFault → Type 0

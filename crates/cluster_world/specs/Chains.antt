@@ -2,7 +2,7 @@
 use Rattle.std.specs.Prelude.{◌≡◌, ℕ, ◌+◌, ◌-◌, ◌^◌, ◌≤◌, min, List, [], ◌∷◌, ◌++◌, length, Some}
 use Rattle.mail_model.specs.Plan.{Plan}
 use Rattle.node_store.specs.Disks.{View}
-use Rattle.cluster_world.specs.Worlds.{plan_of, disks_of, disk_at, steps_of, tells}
+use Rattle.cluster_world.specs.Worlds.{plan_of, disks_of, disk_of_node, steps_of, disks_tell}
 use Rattle.cluster_world.specs.Opens.{IsAtBeginning}
 use Rattle.cluster_world.specs.Outcomes.{Outcome, Awaited, Came, Makes}
 use Rattle.cluster_world.specs.Outcomes.Outcome.{Moved}
@@ -30,9 +30,9 @@ StepsAreCounted {D} on = (plan : Plan) (outcomes : List Outcome) (left : List Aw
 -- The plan and the number of disks stay, and whether they all tell what they hold.
 abbrev pub PlanStays : {D : Type 0} → View D → Type 0
 PlanStays {D} on = (outcomes : List Outcome) (awaited left : List Awaited) (old new : World D) → Makes on outcomes awaited old left new
-    → (plan_of new ≡ plan_of old) × (length (disks_of new) ≡ length (disks_of old)) × (tells on.seen new ≡ tells on.seen old)
+    → (plan_of new ≡ plan_of old) × (length (disks_of new) ≡ length (disks_of old)) × (disks_tell on.seen new ≡ disks_tell on.seen old)
 
 -- No disk's count of faults falls.
 abbrev pub LaterAfter : {D : Type 0} → View D → Type 0
 LaterAfter {D} on = (outcomes : List Outcome) (awaited left : List Awaited) (old new : World D) (n : ℕ) (disk disk' : D) → Makes on outcomes awaited old left new
-    → disk_at old n ≡ Some disk → disk_at new n ≡ Some disk' → on.faults disk ≤ on.faults disk'
+    → disk_of_node old n ≡ Some disk → disk_of_node new n ≡ Some disk' → on.faults disk ≤ on.faults disk'

@@ -17,9 +17,9 @@ abbrev pub AreAbove : ℕ → List Flight → Type 0
 AreAbove n [] = ⊤
 AreAbove n (flight ∷ flights) = (n < flight.number) × AreAbove n flights
 
-abbrev pub AreRising : List Flight → Type 0
-AreRising [] = ⊤
-AreRising (flight ∷ flights) = AreAbove flight.number flights × AreRising flights
+abbrev pub NumbersRise : List Flight → Type 0
+NumbersRise [] = ⊤
+NumbersRise (flight ∷ flights) = AreAbove flight.number flights × NumbersRise flights
 
 -- none has a number above this
 abbrev pub AreUpTo : ℕ → List Flight → Type 0
@@ -32,8 +32,8 @@ AllCanBeHeard [] = ⊤
 AllCanBeHeard (flight ∷ flights) = CanBeTaken flight.letter.body × AllCanBeHeard flights
 
 -- The numbers rise and none is above the last; so many octets are in flight; and each letter can be heard.
-pub record IsCounted (octets sent : ℕ) (flights : List Flight) : Type 0 where
-  pub rising : AreRising flights
+pub record FlightIsCounted (octets sent : ℕ) (flights : List Flight) : Type 0 where
+  pub rising : NumbersRise flights
   pub drawn : AreUpTo sent flights
   pub sum : octets ≡ octets_flying flights
   pub few : octets < 2 ^ 30
@@ -63,12 +63,12 @@ abbrev pub put_down : List Letter → InFlight → PutDown
 put_down letters flying = put_all letters (record { flying = flying; left = [] })
 
 -- the letter of this number leaves, if one is named
-abbrev pub left_without : Option ℕ → List Flight → List Flight
-left_without None flights = flights
-left_without (Some number) flights = without_letter number flights
+abbrev pub flights_without : Option ℕ → List Flight → List Flight
+flights_without None flights = flights
+flights_without (Some number) flights = without_letter number flights
 
 abbrev pub taken_out : Option ℕ → InFlight → InFlight
-taken_out posted flying = record { flights = left_without posted flying.flights; sent = flying.sent }
+taken_out posted flying = record { flights = flights_without posted flying.flights; sent = flying.sent }
 
 -- the letter of this number stands at this place
 pub record HasAt (flights : List Flight) (number k : ℕ) : Type 0 where

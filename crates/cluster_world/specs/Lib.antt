@@ -22,6 +22,7 @@ pub mod Flows
 pub mod Chains
 pub mod Owing
 pub mod Begins
+pub mod Unfinished
 pub mod Widens
 pub mod Pushes
 pub mod Posts

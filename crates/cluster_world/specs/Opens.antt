@@ -8,7 +8,7 @@ use Rattle.node_store.specs.Disks.{View}
 use Rattle.node_core.specs.First.{IsFirst}
 use Rattle.node_core.specs.declared.node.Node.{Node}
 use Rattle.cluster_world.specs.Lives.{of_node}
-use Rattle.cluster_world.specs.Worlds.{state_of, plan_of, disks_of, steps_of, IsReady, StandsFor}
+use Rattle.cluster_world.specs.Worlds.{state_of, plan_of, disks_of, steps_of, CanMakeSteps, StandsFor}
 use Rattle.cluster_world.specs.Steps.{AreSettled}
 use Rattle.cluster_world.specs.declared.life.Life.{Life}
 use Rattle.cluster_world.specs.declared.life.Life.TheVariants.{Up}
@@ -17,7 +17,7 @@ use Rattle.cluster_world.specs.declared.fault.OpenFault.{OpenFault}
 use Rattle.cluster_world.specs.declared.fault.OpenFault.TheVariants.{DiskFault, NoMemory}
 
 -- a plan that a cluster can be opened for
-pub record IsFit (plan : Plan) : Type 0 where
+pub record CanBeOpened (plan : Plan) : Type 0 where
   pub some : 1 ≤ plan.nodes
   pub few : plan.nodes ≤ 16
   pub confirmed : 1 ≤ plan.confirm
@@ -38,7 +38,7 @@ pub record IsAtBeginning {D : Type 0} (on : View D) (plan : Plan) (world : World
   pub plan_is : plan_of world ≡ plan
   pub steps : steps_of world ≡ 0
   pub stands : StandsFor on world (opening_world plan.nodes)
-  pub ready : IsReady on.seen world
+  pub ready : CanMakeSteps on.seen world
 
 -- a world was opened over the disks of its plan
 pub record Opened {D : Type 0} (on : View D) (is_settled : D → Type 0) (plan : Plan) (disks : List D) (world : World D) : Type 0 where

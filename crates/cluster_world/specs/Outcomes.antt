@@ -104,8 +104,8 @@ abbrev pub without_session : ℕ → List Awaited → List Awaited
 without_session k awaited = filter (λ one. not (nat_eq one.session k)) awaited
 
 -- those at other nodes than this
-abbrev pub without_node : ℕ → List Awaited → List Awaited
-without_node n awaited = filter (λ one. not (nat_eq one.ticket.node n)) awaited
+abbrev pub awaited_elsewhere : ℕ → List Awaited → List Awaited
+awaited_elsewhere n awaited = filter (λ one. not (nat_eq one.ticket.node n)) awaited
 
 -- the node that goes down in a step, or is lost
 abbrev pub fallen_in : Step → Result Said StepFault → Option ℕ
@@ -118,7 +118,7 @@ fallen_in step result = None
 -- what is still awaited once a node went down, if one did
 abbrev pub left_after : Option ℕ → List Awaited → List Awaited
 left_after None awaited = awaited
-left_after (Some node) awaited = without_node node awaited
+left_after (Some node) awaited = awaited_elsewhere node awaited
 
 -- and after some steps
 abbrev pub left_after_all : List StepMade → List Awaited → List Awaited
@@ -155,10 +155,10 @@ IsRefusal (fault.NoMemory (Some failed)) = ⊥
 IsRefusal why = ⊤
 
 -- what an ask said that leaves the session with no answer: none that fits its call
-abbrev pub IsUntold : Call → Result Said StepFault → Type 0
-IsUntold asked (Ok (said.Asked (ask.Done own))) = IsAnswerTo asked (answer_seen own) → ⊥
-IsUntold asked (Ok (said.Asked (ask.Pending got wanted))) = ⊥
-IsUntold asked result = ⊤
+abbrev pub LeavesUnanswered : Call → Result Said StepFault → Type 0
+LeavesUnanswered asked (Ok (said.Asked (ask.Done own))) = IsAnswerTo asked (answer_seen own) → ⊥
+LeavesUnanswered asked (Ok (said.Asked (ask.Pending got wanted))) = ⊥
+LeavesUnanswered asked result = ⊤
 
 -- the world made a step of which this came, and these calls are then awaited
 abbrev pub Came : {D : Type 0} → View D → Outcome → List Awaited → World D → List Awaited → World D → Type 0
@@ -168,17 +168,17 @@ Came on (Began k node asked ticket) awaited old left new =
 Came on (Refused k node asked) awaited old left new =
     (begun : WorldCall) × (why : StepFault) × (call_seen begun ≡ Some asked) × IsRefusal why × IsStep on (Err why) (step.Begin node begun) old new × (left ≡ awaited)
 Came on (Fell k node asked) awaited old left new =
-    (begun : WorldCall) × (call_seen begun ≡ Some asked) × IsStep on (Ok (said.Faulted node)) (step.Begin node begun) old new × (left ≡ without_node node awaited)
+    (begun : WorldCall) × (call_seen begun ≡ Some asked) × IsStep on (Ok (said.Faulted node)) (step.Begin node begun) old new × (left ≡ awaited_elsewhere node awaited)
 Came on (Broke k node asked) awaited old left new =
     (begun : WorldCall) × (failed : ℕ) × (call_seen begun ≡ Some asked) × IsStep on (Err (fault.NoMemory (Some failed))) (step.Begin node begun) old new
-    × (left ≡ without_node failed awaited)
+    × (left ≡ awaited_elsewhere failed awaited)
 Came on (Answers k asked ticket given) awaited old left new =
     (own : WorldAnswer) × (given ≡ answer_seen own) × Among (record { ticket = ticket; session = k; call = asked }) awaited
     × IsStep on (Ok (said.Asked (ask.Done own))) (step.Ask ticket) old new × (left ≡ without_session k awaited)
 Came on (StillPending k ticket) awaited old left new =
     (got : ℕ) × (wanted : ℕ) × IsStep on (Ok (said.Asked (ask.Pending got wanted))) (step.Ask ticket) old new × (left ≡ awaited)
 Came on (Unanswered k asked ticket) awaited old left new =
-    (result : Result Said StepFault) × Among (record { ticket = ticket; session = k; call = asked }) awaited × IsUntold asked result
+    (result : Result Said StepFault) × Among (record { ticket = ticket; session = k; call = asked }) awaited × LeavesUnanswered asked result
     × IsStep on result (step.Ask ticket) old new × (left ≡ left_after (fallen_in (step.Ask ticket) result) awaited)
 Came on (GaveUp k asked ticket) awaited old left new =
     Among (record { ticket = ticket; session = k; call = asked }) awaited × IsStep on (Ok said.Done) (step.GiveUp ticket) old new × (left ≡ without_session k awaited)

@@ -13,7 +13,7 @@ use Rattle.session_model.specs.Owes.{Owes}
 use Rattle.cluster_owes.specs.Held.{filed_on}
 use Rattle.cluster_owes.specs.Outcomes.{IsTakenAt}
 use Rattle.node_store.specs.Disks.{View}
-use Rattle.cluster_world.specs.Worlds.{plan_of, disks_of, book_of, life_of, tells}
+use Rattle.cluster_world.specs.Worlds.{plan_of, disks_of, book_of, life_of, disks_tell}
 use Rattle.cluster_world.specs.Steps.{IsBlind}
 use Rattle.cluster_world.specs.Opens.{IsAtBeginning}
 use Rattle.cluster_world.specs.Outcomes.{Outcome, Awaited, StepMade, Makes, asked_by_outcome, answered_by_outcome}
@@ -36,7 +36,7 @@ AllBlind nodes (outcome ∷ more) = IsOfBlind nodes outcome × AllBlind nodes mo
 
 -- The disks tell what they hold, or no step needs it.
 abbrev pub AreKnown : {D : Type 0} → View D → World D → List Outcome → Type 0
-AreKnown on start outcomes = (tells on.seen start ≡ true) ⊎ AllBlind (plan_of start).nodes outcomes
+AreKnown on start outcomes = (disks_tell on.seen start ≡ true) ⊎ AllBlind (plan_of start).nodes outcomes
 
 -- A call that has begun, or whose node fell in it, is one that a session of that node makes. A call that was refused tells a message whole, too.
 abbrev pub IsOfSession : List (List ℕ) → Outcome → Type 0
@@ -58,7 +58,7 @@ AreLost world lost = (n : ℕ) → 1 ≤ n → n ≤ (plan_of world).nodes → l
 abbrev pub WorldOwes : {D : Type 0} → View D → Type 0
 WorldOwes {D} on = (plan : Plan) (stop : Stop) (lines : List (List ℕ)) (entries : List Entry) (outcomes : List Outcome) (left : List Awaited) (start last : World D)
     → IsAtBeginning on plan start → AreKnown on start outcomes → Makes on outcomes [] start left last → AreOfSessions lines outcomes → AreLost last (IsLostIn stop lines entries)
-    → (disks : List (List Record)) × Owes plan (tells on.seen last) lines (IsLostIn stop lines entries) (map on.seen (disks_of last)) disks (filed_on disks)
+    → (disks : List (List Record)) × Owes plan (disks_tell on.seen last) lines (IsLostIn stop lines entries) (map on.seen (disks_of last)) disks (filed_on disks)
     (flat_map asked_by_outcome outcomes) (flat_map answered_by_outcome outcomes) (book_of last)
 
 -- In a plan of one node no call that has begun ever waits: it is done as it is asked for.

@@ -33,8 +33,8 @@ out_of number true = None
 out_of number false = Some number
 
 -- node n, which is up, heard the letter with its disk, or threw it, or its work stopped
-abbrev pub HearsAt : {D : Type 0} → View D → (D → Type 0) → Plan → ℕ → Letter → Result Outbox NodeFault → Life → D → Life → D → Type 0
-HearsAt on is_settled plan n letter result life disk life' disk' =
+abbrev pub HearsAtNode : {D : Type 0} → View D → (D → Type 0) → Plan → ℕ → Letter → Result Outbox NodeFault → Life → D → Life → D → Type 0
+HearsAtNode on is_settled plan n letter result life disk life' disk' =
     TurnsBy (λ result old before new after. HearsLetter on n plan.nodes letter old before new after result) result life disk life' disk'
     × (LeavesUp result → is_settled disk → is_settled disk')
 

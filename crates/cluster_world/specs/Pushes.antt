@@ -3,7 +3,7 @@ use Rattle.std.specs.Prelude.{◌≡◌, ℕ, ◌-◌, ◌&&◌, nat_lt, nat_le,
 use Rattle.mail_model.specs.Record.{Record}
 use Rattle.cluster_model.specs.Room.{Flight, octets_flying, most_letters, most_octets, due_to}
 use Rattle.node_store.specs.Disks.{View}
-use Rattle.node_core.specs.Nodes.{node_seen, Keeps}
+use Rattle.node_core.specs.Nodes.{node_seen, NodeKeeps}
 use Rattle.node_core.specs.Pushing.{keys_within, PushesOut}
 use Rattle.node_core.specs.declared.fault.NodeFault.{NodeFault}
 use Rattle.node_core.specs.declared.node.Node.{Node}
@@ -30,7 +30,7 @@ octets_left_by flights = octets_left (octets_flying flights)
 pub record IsCrowdedAt (to most room : ℕ) (crowded : Bool) (life : Life) : Type 0 where
   pub node : Node
   pub up : life ≡ Up node
-  pub is : (records : List Record) → Keeps records node
+  pub is : (records : List Record) → NodeKeeps records node
       → crowded ≡ (nat_lt 0 (length (due_to node.store.own to (node_seen node))) && nat_eq (length (keys_within most room node.store.own to (node_seen node) records)) 0)
 
 -- node n, which is up, pushed to another

@@ -5,7 +5,7 @@ use Rattle.mail_model.specs.Grammar.{IsRecord}
 use Rattle.cluster_model.specs.Cluster as plain
 use Rattle.disk_journal.specs.Journal.{TellsJournal, EndsAt}
 use Rattle.node_store.specs.Disks.{View}
-use Rattle.node_core.specs.Nodes.{node_seen, Keeps, end_in}
+use Rattle.node_core.specs.Nodes.{node_seen, NodeKeeps, end_in}
 use Rattle.node_core.specs.Starting.{MayHold}
 use Rattle.node_core.specs.declared.node.Node.{Node}
 use Rattle.cluster_world.specs.declared.life.Life.{Life}
@@ -15,7 +15,7 @@ module _ {D : Type 0} (on : View D) (own : ℕ) where
   -- The node is this one of the machine, and keeps these records. Where its disk tells what it holds, these are its records, and each stop of the machine would leave them.
   pub record StandsUp (node : Node) (disk : D) (seen : plain.Node) (records : List Record) : Type 0 where
     pub seen_is : node_seen node ≡ seen
-    pub keeps : Keeps records node
+    pub keeps : NodeKeeps records node
     pub tells : TellsJournal (on.seen disk) own (payloads_of records) (end_in node)
     pub images : IfSome (on.seen disk) (λ _. (c : List ℕ) → on.clock.is_image disk c → EndsAt own c (payloads_of records) (end_in node))
 

@@ -12,7 +12,7 @@ use Rattle.call_tickets.specs.declared.call.Call.TheVariants.{Fetch, Leave}
 use Rattle.session_model.specs.Events.{NodeLife}
 use Rattle.session_model.specs.Events.NodeLife.{Up}
 use Rattle.cluster_world.specs.Flights.{weight_of_flights}
-use Rattle.cluster_world.specs.Worlds.{State, state_of, life_in, disk_in, tells_in, steps_of, one_more, Stands}
+use Rattle.cluster_world.specs.Worlds.{WorldState, state_of, life_in, disk_in, tells_in, steps_of, one_more, StateStandsFor}
 use Rattle.cluster_world.specs.Seen.{step_seen, outcome_seen}
 use Rattle.cluster_world.specs.Ended.{IsEnded}
 use Rattle.cluster_world.specs.Turns.{node_refusal, refused_for_node, life_after_step}
@@ -32,27 +32,27 @@ IsBlind nodes (Start node) = ⊥
 IsBlind nodes step = ⊤
 
 -- What the machine does in the step is known: the disks tell what they hold, or the step needs nothing of that.
-abbrev pub IsKnown : {D : Type 0} → (D → Option (List ℕ)) → State D → Step → Type 0
-IsKnown seen state step = (tells_in seen state ≡ true) ⊎ IsBlind state.plan.nodes step
+abbrev pub StepIsKnown : {D : Type 0} → (D → Option (List ℕ)) → WorldState D → Step → Type 0
+StepIsKnown seen state step = (tells_in seen state ≡ true) ⊎ IsBlind state.plan.nodes step
 
 -- The disk of each node that is not lost keeps what it held, whenever the machine stops.
-pub record EveryStopKeeps {D : Type 0} (on : View D) (old new : State D) (before after : List plain.Slot) : Type 0 where
+pub record EveryStopKeeps {D : Type 0} (on : View D) (old new : WorldState D) (before after : List plain.Slot) : Type 0 where
   pub each : (n : ℕ) (disk disk' : D) (slot slot' : plain.Slot) → disk_in old n ≡ Some disk → disk_in new n ≡ Some disk' → slot_at before n ≡ Some slot → slot_at after n ≡ Some slot' → slot.life ≢ plain.Life.Lost
       → StopsKeep on n disk disk' slot slot'
 
 -- The step leads from a world of the machine to one for which the new world stands.
-pub record LeadsTo {D : Type 0} (on : View D) (result : Result Said StepFault) (step : Step) (old new : State D) (w : machine.World) : Type 0 where
+pub record LeadsTo {D : Type 0} (on : View D) (result : Result Said StepFault) (step : Step) (old new : WorldState D) (w : machine.World) : Type 0 where
   pub next : machine.World
-  pub stands : Stands on new next
+  pub stands : StateStandsFor on new next
   pub made : MakesStep old.plan (tells_in on.seen old) w (step_seen step) (outcome_seen result) next
   pub stops : EveryStopKeeps on old new w.slots next.slots
 
 -- whether each disk tells what it holds has not changed
-pub record AreToldAlike {D : Type 0} (seen : D → Option (List ℕ)) (old new : State D) : Type 0 where
+pub record AreToldAlike {D : Type 0} (seen : D → Option (List ℕ)) (old new : WorldState D) : Type 0 where
   pub each : (n : ℕ) (disk disk' : D) → disk_in old n ≡ Some disk → disk_in new n ≡ Some disk' → IsToldAlike (seen disk) (seen disk')
 
 -- No count of faults falls. A node that was up in the same boot and still is has the count that its disk had.
-pub record IsQuiet {D : Type 0} (faults : D → ℕ) (old new : State D) : Type 0 where
+pub record IsQuiet {D : Type 0} (faults : D → ℕ) (old new : WorldState D) : Type 0 where
   pub later : (n : ℕ) (disk disk' : D) → disk_in old n ≡ Some disk → disk_in new n ≡ Some disk' → faults disk ≤ faults disk'
   pub same : (n boot : ℕ) (disk disk' : D) → life_in old n ≡ Up boot → life_in new n ≡ Up boot → disk_in old n ≡ Some disk → disk_in new n ≡ Some disk' → faults disk' ≡ faults disk
 
@@ -76,13 +76,13 @@ MayMisread (Lose node) = ⊥
 
 -- That a disk failed is said only where its count rose, or where it does not tell what it holds and was read. The octets of a disk that tells them are those of its node's
 -- records, as long as the world stands for one of the machine.
-abbrev pub HasCause : {D : Type 0} → View D → Result Said StepFault → Step → State D → State D → Type 0
-HasCause on (Ok (Faulted n)) step old new = (disk disk' : _) → disk_in old n ≡ Some disk → disk_in new n ≡ Some disk'
+abbrev pub FaultHasCause : {D : Type 0} → View D → Result Said StepFault → Step → WorldState D → WorldState D → Type 0
+FaultHasCause on (Ok (Faulted n)) step old new = (disk disk' : _) → disk_in old n ≡ Some disk → disk_in new n ≡ Some disk'
     → Rose (on.faults disk) (on.faults disk') ⊎ ((on.seen disk ≡ None) × MayMisread step)
-HasCause on result step old new = ⊤
+FaultHasCause on result step old new = ⊤
 
 -- the disk of each node that is up is settled
-pub record AreSettled {D : Type 0} (is_settled : D → Type 0) (state : State D) : Type 0 where
+pub record AreSettled {D : Type 0} (is_settled : D → Type 0) (state : WorldState D) : Type 0 where
   pub each : (n boot : ℕ) (disk : D) → life_in state n ≡ Up boot → disk_in state n ≡ Some disk → is_settled disk
 
 -- Out of memory may come before a refusal is found; any other answer is a refusal for the sake of a node exactly where it has to be.
@@ -129,12 +129,12 @@ FallsSo (Err (NoMemory (Some n))) nodes step lives = WasToWork nodes step (lives
 FallsSo result nodes step lives = ⊤
 
 -- A letter that was posted and does not stay in flight leaves less to be done there.
-abbrev pub IsLighter : {D : Type 0} → Result Said StepFault → Step → State D → State D → Type 0
+abbrev pub IsLighter : {D : Type 0} → Result Said StepFault → Step → WorldState D → WorldState D → Type 0
 IsLighter (Ok said) (Post letter false) old new = weight_of_flights new.flying.flights < weight_of_flights old.flying.flights
 IsLighter result step old new = ⊤
 
 -- What a step does, whatever comes of it.
-pub record StepDid {D : Type 0} (on : View D) (result : Result Said StepFault) (step : Step) (old new : State D) : Type 0 where
+pub record StepDid {D : Type 0} (on : View D) (result : Result Said StepFault) (step : Step) (old new : WorldState D) : Type 0 where
   pub plan : new.plan ≡ old.plan
   pub handed : length new.disks ≡ length old.disks
   pub refused : IsRefusedRight result (node_refusal old.plan (life_in old) step)
@@ -144,8 +144,8 @@ pub record StepDid {D : Type 0} (on : View D) (result : Result Said StepFault) (
   pub told : AreToldAlike on.seen old new
   pub quiet : IsQuiet on.faults old new
   pub lighter : IsLighter result step old new
-  pub leads : IsKnown on.seen old step → IsEnded step → (w : machine.World) → Stands on old w → LeadsTo on result step old new w
-  pub cause : (w : machine.World) → Stands on old w → HasCause on result step old new
+  pub leads : StepIsKnown on.seen old step → IsEnded step → (w : machine.World) → StateStandsFor on old w → LeadsTo on result step old new w
+  pub cause : (w : machine.World) → StateStandsFor on old w → FaultHasCause on result step old new
 
 -- What is known of a step: what it did, and that it was counted.
 pub record IsStep {D : Type 0} (on : View D) (result : Result Said StepFault) (step : Step) (old new : World D) : Type 0 where

@@ -1,5 +1,5 @@
 -- A copy that gets a target more at a node of the world.
-use Rattle.std.specs.Prelude.{ℕ, List, [], ◌∷◌, Bool, true, false, Some, None, Result, Ok, Err}
+use Rattle.std.specs.Prelude.{ℕ, List, [], ◌∷◌, Bool, true, false, Result, Ok, Err}
 use Rattle.mail_model.specs.Identity.{Key}
 use Rattle.node_store.specs.Disks.{View}
 use Rattle.node_core.specs.Pushing.{WidensCopy}
@@ -9,20 +9,13 @@ use Rattle.node_core.specs.declared.fault.NodeFault.TheVariants.{Disk, Worn, NoM
 use Rattle.world_book.specs.declared.entry.Entry.{Entry}
 use Rattle.world_book.specs.declared.entry.Entry.TheVariants as entry
 use Rattle.cluster_world.specs.Turning.{TurnsBy}
+use Rattle.cluster_world.specs.Unfinished.{said_of_fault}
 use Rattle.cluster_world.specs.declared.life.Life.{Life}
 use Rattle.cluster_world.specs.declared.step.Said.{Said}
-use Rattle.cluster_world.specs.declared.step.Said.TheVariants.{Widened, Faulted}
+use Rattle.cluster_world.specs.declared.step.Said.TheVariants.{Widened}
 use Rattle.cluster_world.specs.declared.fault.StepFault.{StepFault}
-use Rattle.cluster_world.specs.declared.fault.StepFault.TheVariants as fault
 
--- what is said where node n did not do its work
-abbrev pub said_of_fault : ℕ → NodeFault → Result Said StepFault
-said_of_fault n Disk = Ok (Faulted n)
-said_of_fault n Worn = Err fault.Worn
-said_of_fault n (NoMemory true) = Err (fault.NoMemory (Some n))
-said_of_fault n (NoMemory false) = Err (fault.NoMemory None)
-
--- and what the book has of it: that the node went down, where it did
+-- what the book has of node n that did not do its work: that it went down, where it did
 abbrev pub entries_of_fault : ℕ → NodeFault → List Entry
 entries_of_fault n Disk = entry.Down n ∷ []
 entries_of_fault n Worn = []

@@ -16,7 +16,7 @@ use Rattle.cluster_world.specs.declared.nodes.Nodes.{Nodes}
 use Rattle.cluster_world.specs.declared.world.World.{World}
 
 -- what a world holds: the plan, its nodes with their disks, what is in flight, the seconds and what the book says
-pub record State (D : Type 0) : Type 0 where
+pub record WorldState (D : Type 0) : Type 0 where
   pub plan : Plan
   pub lives : List Life
   pub disks : List D
@@ -24,7 +24,7 @@ pub record State (D : Type 0) : Type 0 where
   pub seconds : ℕ
   pub book : List BookEntry
 
-abbrev pub state_with : {D : Type 0} → Nodes D → InFlight → ℕ → Book → State D
+abbrev pub state_with : {D : Type 0} → Nodes D → InFlight → ℕ → Book → WorldState D
 state_with nodes flying seconds book = record {
   plan = nodes.plan;
   lives = nodes.lives.items;
@@ -34,7 +34,7 @@ state_with nodes flying seconds book = record {
   book = booked_by book;
 }
 
-abbrev pub state_of : {D : Type 0} → World D → State D
+abbrev pub state_of : {D : Type 0} → World D → WorldState D
 state_of world = state_with world.nodes world.flying world.seconds world.book
 
 -- the life of a node; whoever is no node of the plan is as one that is lost
@@ -45,14 +45,14 @@ seen_life (Some one) = life_seen one
 abbrev pub life_among : {D : Type 0} → Nodes D → ℕ → NodeLife
 life_among nodes n = seen_life (of_node nodes.lives.items n)
 
-abbrev pub life_in : {D : Type 0} → State D → ℕ → NodeLife
+abbrev pub life_in : {D : Type 0} → WorldState D → ℕ → NodeLife
 life_in state n = seen_life (of_node state.lives n)
 
-abbrev pub disk_in : {D : Type 0} → State D → ℕ → Option D
+abbrev pub disk_in : {D : Type 0} → WorldState D → ℕ → Option D
 disk_in state n = of_node state.disks n
 
 -- whether all disks tell what they hold
-abbrev pub tells_in : {D : Type 0} → (D → Option (List ℕ)) → State D → Bool
+abbrev pub tells_in : {D : Type 0} → (D → Option (List ℕ)) → WorldState D → Bool
 tells_in seen state = list_all (λ disk. is_some (seen disk)) state.disks
 
 abbrev pub plan_of : {D : Type 0} → World D → Plan
@@ -65,14 +65,14 @@ lives_of world = (state_of world).lives
 abbrev pub disks_of : {D : Type 0} → World D → List D
 disks_of world = (state_of world).disks
 
-abbrev pub disk_at : {D : Type 0} → World D → ℕ → Option D
-disk_at world n = disk_in (state_of world) n
+abbrev pub disk_of_node : {D : Type 0} → World D → ℕ → Option D
+disk_of_node world n = disk_in (state_of world) n
 
 abbrev pub life_of : {D : Type 0} → World D → ℕ → NodeLife
 life_of world n = life_in (state_of world) n
 
-abbrev pub tells : {D : Type 0} → (D → Option (List ℕ)) → World D → Bool
-tells seen world = tells_in seen (state_of world)
+abbrev pub disks_tell : {D : Type 0} → (D → Option (List ℕ)) → World D → Bool
+disks_tell seen world = tells_in seen (state_of world)
 
 -- what the book says
 abbrev pub book_of : {D : Type 0} → World D → List BookEntry
@@ -86,11 +86,11 @@ abbrev pub one_more : ℕ → ℕ
 one_more steps = min (steps + 1) (2 ^ 64 - 1)
 
 -- What a world needs for its steps, and each of them keeps: a node that is up is its node of the plan, and can work with its disk.
-abbrev pub IsReady : {D : Type 0} → (D → Option (List ℕ)) → World D → Type 0
-IsReady seen world = CanWorkOn seen (plan_of world) (lives_of world) (disks_of world)
+abbrev pub CanMakeSteps : {D : Type 0} → (D → Option (List ℕ)) → World D → Type 0
+CanMakeSteps seen world = CanWorkOn seen (plan_of world) (lives_of world) (disks_of world)
 
 -- It stands for a world of the machine: nodes and disks for slots, letters, numbers, seconds and book as they are.
-pub record Stands {D : Type 0} (on : View D) (state : State D) (w : machine.World) : Type 0 where
+pub record StateStandsFor {D : Type 0} (on : View D) (state : WorldState D) (w : machine.World) : Type 0 where
   pub slots : SlotsStand on state.lives state.disks w.slots
   pub flying : state.flying.flights ≡ w.flying
   pub sent : state.flying.sent ≡ w.sent
@@ -98,4 +98,4 @@ pub record Stands {D : Type 0} (on : View D) (state : State D) (w : machine.Worl
   pub book : state.book ≡ w.book
 
 abbrev pub StandsFor : {D : Type 0} → View D → World D → machine.World → Type 0
-StandsFor on world w = Stands on (state_of world) w
+StandsFor on world w = StateStandsFor on (state_of world) w

@@ -6,7 +6,7 @@ ghost use Rattle.cluster_model.specs.Room.{fits, octets_flying, octets_of};
 ghost use Rattle.cluster_model.specs.Steps.{letter_at, letters_end};
 ghost use Rattle.cluster_model.specs.Plain.{without_letter};
 ghost use Rattle.node_core.specs.Spelling.{CanBeTaken, AllCanBeTaken};
-ghost use Rattle.cluster_world.specs.Flights.{AreRising, IsCounted, put_one, put_all, put_down, left_without, taken_out, HasAt, first_number};
+ghost use Rattle.cluster_world.specs.Flights.{NumbersRise, FlightIsCounted, put_one, put_all, put_down, flights_without, taken_out, HasAt, first_number};
 
 use crate::flight::{Flight, octets_of};
 use crate::limits::{LETTERS_END, MOST_LETTERS, MOST_OCTETS};
@@ -25,13 +25,13 @@ pub(crate) struct Flying {
 }
 
 impl Model for Flying {
-    ghost use Rattle.cluster_world.specs.Flights.{InFlight, IsCounted};
+    ghost use Rattle.cluster_world.specs.Flights.{InFlight, FlightIsCounted};
 
     ghost Value = { InFlight };
 
     ghost view = { λ f. record { flights = f.flights.items; sent = f.sent } };
 
-    ghost invariant = { λ f. IsCounted f.octets f.sent f.flights.items };
+    ghost invariant = { λ f. FlightIsCounted f.octets f.sent f.flights.items };
 }
 
 /// Whether no letter is sent any more once this was the last number.
@@ -43,7 +43,7 @@ pub(crate) fn is_worn(sent: u64) -> bool
 
 /// Where the letter of this number is.
 fn place_in(flights: &VecDeque<Flight>, number: u64) -> Option<usize>
-    requires rising { AreRising flights.now.items }
+    requires rising { NumbersRise flights.now.items }
     ensures place { MatchOption result (letter_at number flights.now.items ≡ None) (λ k. HasAt flights.now.items number k) }
 {
     flights
@@ -60,7 +60,7 @@ fn finds_room(letters: usize, octets: u64, letter: &Letter) -> bool
 
 /// Takes out the letter of this number, if it is in flight, and says how many octets it had.
 fn take_out(flights: &mut VecDeque<Flight>, number: u64) -> u64
-    requires rising { AreRising flights.old.items }
+    requires rising { NumbersRise flights.old.items }
     requires few { octets_flying flights.old.items < 2 ^ 30 }
     ensures items { flights.new.items ≡ without_letter number flights.old.items }
     ensures octets { result + octets_flying flights.new.items ≡ octets_flying flights.old.items }
@@ -78,9 +78,9 @@ fn take_out(flights: &mut VecDeque<Flight>, number: u64) -> u64
 
 /// The same of a letter that may be named.
 fn take_out_named(flights: &mut VecDeque<Flight>, posted: Option<u64>) -> u64
-    requires rising { AreRising flights.old.items }
+    requires rising { NumbersRise flights.old.items }
     requires few { octets_flying flights.old.items < 2 ^ 30 }
-    ensures items { flights.new.items ≡ left_without posted flights.old.items }
+    ensures items { flights.new.items ≡ flights_without posted flights.old.items }
     ensures octets { result + octets_flying flights.new.items ≡ octets_flying flights.old.items }
     ensures len { deque_len flights.new ≤ deque_len flights.old }
     ensures capacity { deque_capacity flights.new ≡ deque_capacity flights.old }
@@ -110,12 +110,12 @@ fn put_one(
     letter: Letter,
     left: &mut Vec<Letter>,
 )
-    requires counted { IsCounted octets.old sent.old flights.old.items }
+    requires counted { FlightIsCounted octets.old sent.old flights.old.items }
     requires numbers { sent.old + 1 < 2 ^ 64 }
     requires room { deque_len flights.old < deque_capacity flights.old }
     requires spare { vec_len left.old < vec_capacity left.old }
     requires heard { CanBeTaken letter.body }
-    ensures counted { IsCounted octets.new sent.new flights.new.items }
+    ensures counted { FlightIsCounted octets.new sent.new flights.new.items }
     ensures put { (record { flying = record { flights = flights.new.items; sent = sent.new }; left = left.new.items }) ≡ put_one letter (record { flying = record { flights = flights.old.items; sent = sent.old }; left = left.old.items }) }
     ensures len { deque_len flights.new ≤ deque_len flights.old + 1 }
     ensures capacity { deque_capacity flights.new ≡ deque_capacity flights.old }
@@ -140,12 +140,12 @@ fn put_all(
     letters: Vec<Letter>,
     left: &mut Vec<Letter>,
 )
-    requires counted { IsCounted octets.old sent.old flights.old.items }
+    requires counted { FlightIsCounted octets.old sent.old flights.old.items }
     requires numbers { sent.old + length letters.items < 2 ^ 64 }
     requires room { deque_len flights.old + length letters.items ≤ deque_capacity flights.old }
     requires spare { vec_len left.old + length letters.items ≤ vec_capacity left.old }
     requires heard { AllCanBeTaken letters.items }
-    ensures counted { IsCounted octets.new sent.new flights.new.items }
+    ensures counted { FlightIsCounted octets.new sent.new flights.new.items }
     ensures put { (record { flying = record { flights = flights.new.items; sent = sent.new }; left = left.new.items }) ≡ put_all letters.items (record { flying = record { flights = flights.old.items; sent = sent.old }; left = left.old.items }) }
 {
     for letter in letters {

@@ -58,7 +58,7 @@ pub(crate) fn put_life(life: &mut Life, now: Life)
 
 impl<D> Nodes<D> {
     ghost use Rattle.cluster_world.specs.Lives.{of_node, all_falls_left};
-    ghost use Rattle.cluster_world.specs.Asking.{IsUpWhole, IsAskedOn, IsRetoldOn, left_without};
+    ghost use Rattle.cluster_world.specs.Asking.{IsUpWhole, IsAskedOn, IsRetoldOn, tickets_without};
     ghost use Rattle.cluster_world.specs.Changes.{ChangesNode, IsTurnedTo};
 
     /// The plan.
@@ -112,7 +112,7 @@ impl<D> Nodes<D> {
     pub(crate) fn give_up(&mut self, ticket: &Ticket)
         requires within { ticket.now.node ≤ self.old.plan.nodes }
         requires up { IfSome (of_node self.old.lives.items ticket.now.node) (λ life. IsUpWhole life) }
-        ensures { ChangesNode ticket.now.node (IsRetoldOn (left_without ticket.now)) self.old self.new }
+        ensures { ChangesNode ticket.now.node (IsRetoldOn (tickets_without ticket.now)) self.old self.new }
     {
         give_up_at(&mut self.lives[place_of(node_of(ticket))], ticket)
     }

@@ -7,7 +7,7 @@ ghost use Rattle.node_core.specs.declared.node.Node.{Node as ANode};
 ghost use Rattle.node_tickets.specs.Standing.{call_kind_seen, kind_of_ticket, filed_seen, filing_at};
 ghost use Rattle.cluster_world.specs.Flights.{first_number};
 ghost use Rattle.cluster_world.specs.Lives.{is_up_life};
-ghost use Rattle.cluster_world.specs.Worlds.{state_of, plan_of, life_of, IsReady};
+ghost use Rattle.cluster_world.specs.Worlds.{state_of, plan_of, life_of, CanMakeSteps};
 ghost use Rattle.cluster_world.specs.Telling.{standing_on, standing_in};
 ghost use Rattle.cluster_world.specs.declared.life.Life.TheVariants as lives;
 
@@ -81,7 +81,7 @@ impl<D: Disk> World<D> {
 
     /// The kind of the call for which the ticket stands; none exactly where it stands at no node that is up. It takes no memory.
     pub fn kind(&self, ticket: &Ticket) -> Option<CallKind>
-        requires ready { IsReady D.seen self.now }
+        requires ready { CanMakeSteps D.seen self.now }
         ensures { call_kind_seen result ≡ kind_of_ticket (standing_in self.now ticket.now) }
     {
         match self.nodes.life(node_of(ticket)) {
@@ -93,7 +93,7 @@ impl<D: Disk> World<D> {
     /// What the delivery filed for which the ticket stands; none where no delivery stands under it at a node that is up, or one
     /// that failed at once. It takes no memory.
     pub fn filing(&self, ticket: &Ticket) -> Option<&Filing>
-        requires ready { IsReady D.seen self.now }
+        requires ready { CanMakeSteps D.seen self.now }
         ensures { filed_seen (option_copied result) ≡ filing_at (standing_in self.now ticket.now) }
     {
         match self.nodes.life(node_of(ticket)) {

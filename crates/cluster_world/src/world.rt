@@ -70,7 +70,7 @@ fn opened<D>(alloc: Global, plan: Plan, lives: Vec<Life>, disks: Vec<D>, book: B
 impl<D: Disk> World<D> {
     ghost use Rattle.std.specs.Prelude.{◌≡◌, length, Option, None, IfOk, IfErr};
     ghost use Rattle.node_store.specs.Disks.{view_of};
-    ghost use Rattle.cluster_world.specs.Worlds.{state_of, life_of, plan_of, disks_of, book_of, IsReady};
+    ghost use Rattle.cluster_world.specs.Worlds.{state_of, life_of, plan_of, disks_of, book_of, CanMakeSteps};
     ghost use Rattle.cluster_world.specs.Books.{booked_by};
     ghost use Rattle.cluster_world.specs.Steps.{IsStep, StepDid, AreSettled};
     ghost use Rattle.cluster_world.specs.Sure.{IsSurelyDone};
@@ -80,12 +80,12 @@ impl<D: Disk> World<D> {
     ghost use Rattle.cluster_world.specs.Flows.{HasFlowed};
     ghost use Rattle.cluster_world.specs.Turns.{node_refusal};
     ghost use Rattle.cluster_world.specs.declared.step.Step.TheVariants.{Begin};
-    ghost use Rattle.cluster_world.specs.Opens.{IsFit, AreEmpty, Opened, Refused};
+    ghost use Rattle.cluster_world.specs.Opens.{CanBeOpened, AreEmpty, Opened, Refused};
 
     /// A new world on empty disks, one for each node of the plan, in order: a journal each, and the record of each node's
     /// first boot. A refusal hands the disks back.
     pub fn open(alloc: Global, plan: Plan, disks: Vec<D>) -> Result<World<D>, (OpenFault, Vec<D>)>
-        requires fit { IsFit plan }
+        requires fit { CanBeOpened plan }
         requires one_each { length disks.items ≡ plan.nodes }
         requires empty { AreEmpty D.seen disks.items }
         ensures opened { IfOk result (λ world. Opened (view_of D.seen D.faults D.clock) D.settled plan disks.items world) }
@@ -128,8 +128,8 @@ impl<D: Disk> World<D> {
     // A step that begins no call.
     fn make_other(&mut self, alloc: Global, step: &Step) -> Result<Said, StepFault>
         requires fit { node_refusal (plan_of self.old) (life_of self.old) step.now ≡ None }
-        requires ready { IsReady D.seen self.old }
-        ensures ready { IsReady D.seen self.new }
+        requires ready { CanMakeSteps D.seen self.old }
+        ensures ready { CanMakeSteps D.seen self.new }
         ensures did { StepDid (view_of D.seen D.faults D.clock) result step.now (state_of self.old) (state_of self.new) }
         ensures settled { AreSettled D.settled (state_of self.old) → AreSettled D.settled (state_of self.new) }
         ensures steps { self.new.steps ≡ self.old.steps }
@@ -184,8 +184,8 @@ impl<D: Disk> World<D> {
     // A call begins.
     fn begin(&mut self, alloc: Global, node: NodeNo, call: Call) -> Result<Said, StepFault>
         requires fit { node_refusal (plan_of self.old) (life_of self.old) (Begin node call) ≡ None }
-        requires ready { IsReady D.seen self.old }
-        ensures ready { IsReady D.seen self.new }
+        requires ready { CanMakeSteps D.seen self.old }
+        ensures ready { CanMakeSteps D.seen self.new }
         ensures did { StepDid (view_of D.seen D.faults D.clock) result (Begin node call) (state_of self.old) (state_of self.new) }
         ensures settled { AreSettled D.settled (state_of self.old) → AreSettled D.settled (state_of self.new) }
         ensures steps { self.new.steps ≡ self.old.steps }
@@ -204,8 +204,8 @@ impl<D: Disk> World<D> {
     // A step that is not refused for the sake of a node.
     fn make_fit(&mut self, alloc: Global, step: Step) -> Result<Said, StepFault>
         requires fit { node_refusal (plan_of self.old) (life_of self.old) step ≡ None }
-        requires ready { IsReady D.seen self.old }
-        ensures ready { IsReady D.seen self.new }
+        requires ready { CanMakeSteps D.seen self.old }
+        ensures ready { CanMakeSteps D.seen self.new }
         ensures did { StepDid (view_of D.seen D.faults D.clock) result step (state_of self.old) (state_of self.new) }
         ensures settled { AreSettled D.settled (state_of self.old) → AreSettled D.settled (state_of self.new) }
         ensures steps { self.new.steps ≡ self.old.steps }
@@ -219,8 +219,8 @@ impl<D: Disk> World<D> {
 
     /// The step, which is not counted here.
     fn make_step(&mut self, alloc: Global, step: Step) -> Result<Said, StepFault>
-        requires ready { IsReady D.seen self.old }
-        ensures ready { IsReady D.seen self.new }
+        requires ready { CanMakeSteps D.seen self.old }
+        ensures ready { CanMakeSteps D.seen self.new }
         ensures did { StepDid (view_of D.seen D.faults D.clock) result step (state_of self.old) (state_of self.new) }
         ensures settled { AreSettled D.settled (state_of self.old) → AreSettled D.settled (state_of self.new) }
         ensures steps { self.new.steps ≡ self.old.steps }
@@ -234,8 +234,8 @@ impl<D: Disk> World<D> {
 
     /// Makes one step.
     pub fn step(&mut self, alloc: Global, step: Step) -> Result<Said, StepFault>
-        requires ready { IsReady D.seen self.old }
-        ensures ready { IsReady D.seen self.new }
+        requires ready { CanMakeSteps D.seen self.old }
+        ensures ready { CanMakeSteps D.seen self.new }
         ensures is { IsStep (view_of D.seen D.faults D.clock) result step self.old self.new }
         ensures settled { AreSettled D.settled (state_of self.old) → AreSettled D.settled (state_of self.new) }
         ensures sure { IsSurelyDone step result (node_refusal (plan_of self.old) (life_of self.old) step) }
@@ -281,8 +281,8 @@ impl<D: Disk> World<D> {
     ///
     /// `Worn` and `NoMemory`; what was posted before stays posted.
     pub fn flow(&mut self, alloc: Global) -> Result<Option<NodeNo>, StepFault>
-        requires ready { IsReady D.seen self.old }
-        ensures ready { IsReady D.seen self.new }
+        requires ready { CanMakeSteps D.seen self.old }
+        ensures ready { CanMakeSteps D.seen self.new }
         ensures flowed { HasFlowed (view_of D.seen D.faults D.clock) result self.old self.new }
         ensures settled { AreSettled D.settled (state_of self.old) → AreSettled D.settled (state_of self.new) }
     {

@@ -41,7 +41,7 @@ use Rattle.drive_tape.specs.Moving.{has_ended, RepliesTo, GoesOn, left_at, call_
 use Rattle.drive_tape.specs.Worlds.{WentTo, HasGone, AskedSo, AreSameLives, HasCauses}
 use Rattle.drive_tape.specs.Points.{Point, OneAct, IsAtPoint, Stopped, WentOn}
 use Rattle.drive_tape.specs.Talks.{HasOwnTicket, HasTicket, TicketFits, StandsOnNode, IsUpAt}
-use Rattle.drive_tape.specs.Clusters.{RestsAt, IsAfter, IsSaying, AsksFrom, HasAnswer}
+use Rattle.drive_tape.specs.Clusters.{RestsAt, IsAfter, IsSaying, AsksFrom, CallHasAnswer}
 use Rattle.drive_tape.specs.Lines.{NothingIsUnderWay}
 use Rattle.drive_tape.proofs.Talks.{at_place, count_same, count_less, converse_length, found_at, set_here, within_get, some_same, did_node, replies_on, replies_ended}
 use Rattle.drive_tape.proofs.Works.{work_act, cut_act}
@@ -198,7 +198,7 @@ module _ (p : Point) (place : ℕ) (asks : AsksFrom place p) (plain : Session) (
     since = since_gone on start old _ last gone;
   }
 
-module _ {D : Type 0} (on : View D) (start : World D) (plan : Plan) (p : Point) (place : ℕ) (answer : calls.Answer) (old : Cluster D) (a : HasAnswer on start plan p place answer old) where
+module _ {D : Type 0} (on : View D) (start : World D) (plan : Plan) (p : Point) (place : ℕ) (answer : calls.Answer) (old : Cluster D) (a : CallHasAnswer on start plan p place answer old) where
   abbrev pub came : List Outcome
   came = Answers (place + 1) a.call a.has.open_call.ticket answer ∷ []
 
@@ -337,7 +337,7 @@ module _ {D : Type 0} (on : View D) (start : World D) (plan : Plan) (p : Point) 
   waits_on E new same so = still_waits p place asks w.plain w.here w.state w.call w.waits on start plan old new open_call.ticket held is_held shows same so.0 so.1
 
   pub told : (E : Type 0) (answer : Answer) (new : Cluster D) → new.sessions ≡ old.sessions → AskedSo {E = E} on start p.outcomes p.awaited (place + 1) w.call open_call (Ok (Some answer)) old.world new.world
-      → HasAnswer on start plan p place (answer_seen answer) new
+      → CallHasAnswer on start plan p place (answer_seen answer) new
   told E answer new same so =
       let reply = own_reply open_call.kind w.call answer kind so.0 in
       record {
@@ -419,8 +419,8 @@ all_asked on start plan p place cluster shows asks all = (asks.from, asks.ready,
         none (Some s) is w = let inside = within_get p.sessions i s is in omega (arith, inside, length_is, all, more)
 
 -- the plan stays
-pub answer_plan : {D : Type 0} (on : View D) (start : World D) (plan other : Plan) (p : Point) (place : ℕ) (answer : calls.Answer) (cluster : Cluster D) → plan ≡ other → HasAnswer on start plan p place answer cluster → HasAnswer on start other p place answer cluster
-answer_plan on start plan other p place answer cluster is has = subst (λ (pl : Plan). HasAnswer on start pl p place answer cluster) is has
+pub answer_plan : {D : Type 0} (on : View D) (start : World D) (plan other : Plan) (p : Point) (place : ℕ) (answer : calls.Answer) (cluster : Cluster D) → plan ≡ other → CallHasAnswer on start plan p place answer cluster → CallHasAnswer on start other p place answer cluster
+answer_plan on start plan other p place answer cluster is has = subst (λ (pl : Plan). CallHasAnswer on start pl p place answer cluster) is has
 
 -- a call that was answered is less to do
 pub answered_less : (old new : Sessions) (place : ℕ) (open_call : OpenCall) → slice_get old.calls.items place ≡ Some (Some open_call) → new.calls.items ≡ slice_set old.calls.items place None

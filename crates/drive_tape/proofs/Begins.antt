@@ -22,7 +22,7 @@ use Rattle.session_model.specs.Run.{Made}
 use Rattle.session_model.specs.Run.Stop.{OutOfMemory}
 use Rattle.call_tickets.specs.declared.call.Call.{Call}
 use Rattle.node_store.specs.Disks.{View}
-use Rattle.cluster_world.specs.Outcomes.{Outcome, Awaited, made_of, asked_by_outcome, answered_by_outcome, without_node}
+use Rattle.cluster_world.specs.Outcomes.{Outcome, Awaited, made_of, asked_by_outcome, answered_by_outcome, awaited_elsewhere}
 use Rattle.cluster_world.specs.Outcomes.Outcome.{Began, Refused, Fell, Broke}
 use Rattle.cluster_world.specs.declared.world.World.{World}
 use Rattle.drive_tape.specs.declared.cluster.Cluster.{Cluster}
@@ -79,7 +79,7 @@ not_at a b other = by (nat_eq a b) refl
     by true is = absurd (other (grind (arith, nat_tests, is)))
 
 -- and as another node goes down
-pub ticket_apart : (kept : Option (Option OpenCall)) (s : Session) (k node : ℕ) (awaited : List Awaited) (standing : Standing) → s.node ≢ node → TicketFits kept s k awaited standing → TicketFits kept s k (without_node node awaited) standing
+pub ticket_apart : (kept : Option (Option OpenCall)) (s : Session) (k node : ℕ) (awaited : List Awaited) (standing : Standing) → s.node ≢ node → TicketFits kept s k awaited standing → TicketFits kept s k (awaited_elsewhere node awaited) standing
 ticket_apart kept s k node awaited (Standing.Waiting state call) other t =
     record {
       open_call = t.open_call;
@@ -167,8 +167,8 @@ module _ {D : Type 0} (on : View D) (start : World D) (plan : Plan) (p : Point) 
 
   -- the node failed
   pub falls : (new : Cluster D) → IsDownNow b.plain.node old.world new.world → HasFailed on start new.world b.plain.node
-      → WentTo on start old.world (p.outcomes ++ Fell (place + 1) b.plain.node b.asked ∷ []) (without_node b.plain.node p.awaited) new.world → new.sessions ≡ old.sessions
-      → FaultsAt on start plan (begun_point (Fell (place + 1) b.plain.node b.asked) (without_node b.plain.node p.awaited)) place onward b.plain.node new
+      → WentTo on start old.world (p.outcomes ++ Fell (place + 1) b.plain.node b.asked ∷ []) (awaited_elsewhere b.plain.node p.awaited) new.world → new.sessions ≡ old.sessions
+      → FaultsAt on start plan (begun_point (Fell (place + 1) b.plain.node b.asked) (awaited_elsewhere b.plain.node p.awaited)) place onward b.plain.node new
   falls new down failed went same =
       let waits = asks_waits plan b.plain b.one b.one.reply b.after b.asked b.did b.asks in
       let one = does_plain (place + 1) (Hears b.one) in
@@ -198,7 +198,7 @@ module _ {D : Type 0} (on : View D) (start : World D) (plan : Plan) (p : Point) 
           (λ (at : i ≡ place). absurd (other (ap (λ (x : Session). x.node) (sym (set_at p.sessions place b.after s (subst (λ (j : ℕ). slice_get (slice_set p.sessions place b.after) j ≡ Some s) at is))) ∙ same_node)))
           (λ (away : i ≢ place). sym (get_apart p.sessions place i b.after away) ∙ is) (same_or_not i place)
 
-      apart_ticket : (i : ℕ) (s : Session) → slice_get (slice_set p.sessions place b.after) i ≡ Some s → s.node ≢ b.plain.node → HasOwnTicket new.sessions.calls.items (without_node b.plain.node p.awaited) i s
+      apart_ticket : (i : ℕ) (s : Session) → slice_get (slice_set p.sessions place b.after) i ≡ Some s → s.node ≢ b.plain.node → HasOwnTicket new.sessions.calls.items (awaited_elsewhere b.plain.node p.awaited) i s
       apart_ticket i s is other = rw same (ticket_apart _ s (i + 1) b.plain.node p.awaited s.standing other (b.tickets i s (apart i s is other)))
 
       other_life : (n : ℕ) (life : NodeLife) → n ≢ b.plain.node → turned b.plain.node Down n life ≡ life

@@ -11,7 +11,7 @@ use Rattle.mail_base.specs.declared.filing.CallKind.{CallKind}
 use Rattle.node_store.specs.Disks.{View}
 use Rattle.cluster_world.specs.Worlds.{state_of}
 use Rattle.cluster_world.specs.Steps.{IsStep}
-use Rattle.cluster_world.specs.Outcomes.{Outcome, Awaited, IsLeave, IsUntold, fallen_in, left_after, without_node, without_session}
+use Rattle.cluster_world.specs.Outcomes.{Outcome, Awaited, IsLeave, LeavesUnanswered, fallen_in, left_after, awaited_elsewhere, without_session}
 use Rattle.cluster_world.specs.Outcomes.Outcome.{Began, Refused, Fell, Broke, Answers, StillPending, Unanswered, GaveUp, Abandoned, KeptUp, Left}
 use Rattle.cluster_world.specs.declared.world.World.{World}
 use Rattle.cluster_world.specs.declared.step.Step.{Step}
@@ -37,7 +37,7 @@ module _ {D : Type 0} (on : View D) (start old new : World D) (outcomes : List O
   -- memory ran out for a beginning
   broke_off : {E : Type 0} (node : ℕ) (call : Call) (asked : calls.Call) (why : StepFault) (e : E) → call_seen call ≡ Some asked → IsWholeCall asked → IsStep on (Err why) (step.Begin node call) old new
       → BeganSo on start outcomes awaited k node asked (Err e) old new
-  broke_off node call asked (fault.NoMemory (Some failed)) e seen whole is = inr (without_node failed awaited, went_more on start outcomes awaited old at (Broke k node asked) (without_node failed awaited) new (call, failed, seen, is, refl) whole)
+  broke_off node call asked (fault.NoMemory (Some failed)) e seen whole is = inr (awaited_elsewhere failed awaited, went_more on start outcomes awaited old at (Broke k node asked) (awaited_elsewhere failed awaited) new (call, failed, seen, is, refl) whole)
   broke_off node call asked (fault.NoMemory None) e seen whole is = inl (awaited, went_more on start outcomes awaited old at (Refused k node asked) awaited new (call, fault.NoMemory None, seen, tt, is, refl) whole)
   broke_off node call asked fault.NoSuchNode e seen whole is = inl (awaited, went_more on start outcomes awaited old at (Refused k node asked) awaited new (call, fault.NoSuchNode, seen, tt, is, refl) whole)
   broke_off node call asked fault.NodeLost e seen whole is = inl (awaited, went_more on start outcomes awaited old at (Refused k node asked) awaited new (call, fault.NodeLost, seen, tt, is, refl) whole)
@@ -52,7 +52,7 @@ module _ {D : Type 0} (on : View D) (start old new : World D) (outcomes : List O
   call_fell : (E : Type 0) (node : ℕ) (call : Call) (asked : calls.Call) → call_seen call ≡ Some asked → IsWholeCall asked → IsStep on (Ok (said.Faulted node)) (step.Begin node call) old new
       → BeganSo {E = E} on start outcomes awaited k node asked (Ok None) old new
   call_fell E node call asked seen whole is =
-      (λ n. is.did.lives n, failed_now (step.Begin node call) node is, went_more on start outcomes awaited old at (Fell k node asked) (without_node node awaited) new (call, seen, is, refl) whole)
+      (λ n. is.did.lives n, failed_now (step.Begin node call) node is, went_more on start outcomes awaited old at (Fell k node asked) (awaited_elsewhere node awaited) new (call, seen, is, refl) whole)
 
   -- it has begun
   call_began : (E : Type 0) (node : ℕ) (call : Call) (asked : calls.Call) (given : OpenCall) (stirs : ℕ) → call_seen call ≡ Some asked → IsWholeCall asked → IsKindOf given.kind asked → given.ticket.node ≡ node
@@ -101,14 +101,14 @@ module _ {D : Type 0} (on : View D) (start old new : World D) (outcomes : List O
   call_waits E asked open_call got wanted is = (λ n. is.did.lives n, went_more on start outcomes awaited old at (StillPending k open_call.ticket) awaited new (got, wanted, is, refl) tt)
 
   -- it was asked for in vain
-  pub call_untold : (asked : calls.Call) (open_call : OpenCall) (result : Result Said StepFault) → IsUntold asked result → Among (record { ticket = open_call.ticket; session = k; call = asked }) awaited
+  pub call_untold : (asked : calls.Call) (open_call : OpenCall) (result : Result Said StepFault) → LeavesUnanswered asked result → Among (record { ticket = open_call.ticket; session = k; call = asked }) awaited
       → IsStep on result (step.Ask open_call.ticket) old new → HasGone on start old (outcomes ++ Unanswered k asked open_call.ticket ∷ []) new
   call_untold asked open_call result untold among is =
       let left = left_after (fallen_in (step.Ask open_call.ticket) result) awaited in
       (left, went_more on start outcomes awaited old at (Unanswered k asked open_call.ticket) left new (result, among, untold, is, refl) tt)
 
   -- its answer is none of its own
-  pub not_its_own : (asked : calls.Call) (open_call : OpenCall) (given : Answer) → fits_kind open_call.kind given ≡ false → IsKindOf open_call.kind asked → IsUntold asked (Ok (said.Asked (ask.Done given)))
+  pub not_its_own : (asked : calls.Call) (open_call : OpenCall) (given : Answer) → fits_kind open_call.kind given ≡ false → IsKindOf open_call.kind asked → LeavesUnanswered asked (Ok (said.Asked (ask.Done given)))
   not_its_own asked open_call given other kind own = absurd (let never : true ≡ false = sym (kind.only given own) ∙ other in cc)
 
   -- it was given up

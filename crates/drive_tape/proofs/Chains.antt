@@ -7,7 +7,7 @@ use Rattle.io_edge.specs.Octets.{IsToldAlike}
 use Rattle.cluster_model.specs.World as machine
 use Rattle.node_store.specs.Disks.{View}
 use Rattle.cluster_world.specs.Lives.{of_node}
-use Rattle.cluster_world.specs.Worlds.{State, state_of, disk_in, disk_at, tells, tells_in, Stands, StandsFor}
+use Rattle.cluster_world.specs.Worlds.{WorldState, state_of, disk_in, disk_of_node, disks_tell, tells_in, StateStandsFor, StandsFor}
 use Rattle.cluster_world.specs.Steps.{StepDid}
 use Rattle.cluster_world.specs.Outcomes.{Outcome, Awaited, StepMade, Came, Makes, MakesSteps}
 use Rattle.cluster_world.specs.Outcomes.Outcome.{Began, Refused, Fell, Broke, Answers, StillPending, Unanswered, GaveUp, Abandoned, KeptUp, Left, Moved}
@@ -21,7 +21,7 @@ use Rattle.cluster_world.specs.Ended.{IsEnded}
 use Rattle.drive_tape.specs.Worlds.{IsWholeOutcome, AreWhole, WorldIsAt, WentTo, HasFailed, HasCauses}
 
 -- as many disks, told alike, whose counts have not fallen
-pub record Carries {D : Type 0} (on : View D) (old new : State D) : Type 0 where
+pub record Carries {D : Type 0} (on : View D) (old new : WorldState D) : Type 0 where
   pub handed : length new.disks ≡ length old.disks
   pub told : (n : ℕ) (disk disk' : D) → disk_in old n ≡ Some disk → disk_in new n ≡ Some disk' → IsToldAlike (on.seen disk) (on.seen disk')
   pub later : (n : ℕ) (disk disk' : D) → disk_in old n ≡ Some disk → disk_in new n ≡ Some disk' → on.faults disk ≤ on.faults disk'
@@ -45,14 +45,14 @@ there_too xs ys zero x same is = absurd (let no : ◌≡◌ {A = Option _} None 
 there_too xs ys (suc k) x same is = let within : k < length xs = get_within xs k x is in get_there ys k (omega (arith, within, same))
 
 module _ {D : Type 0} (on : View D) where
-  pub carries_none : (state : State D) → Carries on state state
+  pub carries_none : (state : WorldState D) → Carries on state state
   carries_none state = record {
     handed = refl;
     told = λ n disk disk' was is. ap (λ (d : D). is_some (on.seen d)) (some_same disk' disk (sym is ∙ was));
     later = λ n disk disk' was is. subst (λ (d : D). on.faults disk ≤ on.faults d) (some_same disk disk' (sym was ∙ is)) (omega arith);
   }
 
-  pub carries_more : (old mid new : State D) → Carries on old mid → Carries on mid new → Carries on old new
+  pub carries_more : (old mid new : WorldState D) → Carries on old mid → Carries on mid new → Carries on old new
   carries_more old mid new one two = record {
     handed = two.handed ∙ one.handed;
     told = λ n disk disk' was is.
@@ -64,7 +64,7 @@ module _ {D : Type 0} (on : View D) where
         let second = two.later n between.0 disk' between.1 is in omega (arith, first, second);
   }
 
-  pub carries_step : (result : Result Said StepFault) (step : Step) (old new : State D) → StepDid on result step old new → Carries on old new
+  pub carries_step : (result : Result Said StepFault) (step : Step) (old new : WorldState D) → StepDid on result step old new → Carries on old new
   carries_step result step old new did = record { handed = did.handed; told = did.told.each; later = did.quiet.later }
 
   pub carries_steps : (steps : List StepMade) (old new : World D) → MakesSteps on steps old new → Carries on (state_of old) (state_of new)
@@ -108,18 +108,18 @@ module _ {D : Type 0} (on : View D) where
       let more = tells_lists xs ys (omega (arith, same)) (λ n. told (suc n)) in
       ap (λ (b : Bool). b && list_all (λ (d : D). is_some (on.seen d)) ys) first ∙ ap (λ (b : Bool). is_some (on.seen x) && b) more
 
-  pub tells_same : (old new : State D) → Carries on old new → tells_in on.seen new ≡ tells_in on.seen old
+  pub tells_same : (old new : WorldState D) → Carries on old new → tells_in on.seen new ≡ tells_in on.seen old
   tells_same old new carries = tells_lists old.disks new.disks carries.handed (λ n. carries.told (suc n))
 
-  stands_step : (result : Result Said StepFault) (step : Step) (old new : State D) → StepDid on result step old new → IsEnded step → tells_in on.seen old ≡ true → ((w : machine.World) × Stands on old w) → ((w : machine.World) × Stands on new w)
+  stands_step : (result : Result Said StepFault) (step : Step) (old new : WorldState D) → StepDid on result step old new → IsEnded step → tells_in on.seen old ≡ true → ((w : machine.World) × StateStandsFor on old w) → ((w : machine.World) × StateStandsFor on new w)
   stands_step result step old new did ended told stands = let led = did.leads (inl told) ended stands.0 stands.1 in (led.next, led.stands)
 
-  pub stands_steps : (steps : List StepMade) (old new : World D) → MakesSteps on steps old new → AreEnded steps → tells on.seen old ≡ true → ((w : machine.World) × StandsFor on old w) → ((w : machine.World) × StandsFor on new w)
+  pub stands_steps : (steps : List StepMade) (old new : World D) → MakesSteps on steps old new → AreEnded steps → disks_tell on.seen old ≡ true → ((w : machine.World) × StandsFor on old w) → ((w : machine.World) × StandsFor on new w)
   stands_steps [] old new is ended told stands = subst (λ (world : World D). (w : machine.World) × StandsFor on world w) (sym is) stands
   stands_steps (one ∷ more) old new made ended told stands =
       stands_steps more made.0 new made.2 ended.1 (tells_same _ _ (carries_step _ _ _ _ made.1.did) ∙ told) (stands_step _ _ _ _ made.1.did ended.0 told stands)
 
-  stands_came : (outcome : Outcome) (awaited left : List Awaited) (old new : World D) → Came on outcome awaited old left new → IsWholeOutcome outcome → tells on.seen old ≡ true → ((w : machine.World) × StandsFor on old w) → ((w : machine.World) × StandsFor on new w)
+  stands_came : (outcome : Outcome) (awaited left : List Awaited) (old new : World D) → Came on outcome awaited old left new → IsWholeOutcome outcome → disks_tell on.seen old ≡ true → ((w : machine.World) × StandsFor on old w) → ((w : machine.World) × StandsFor on new w)
   stands_came (Began k node asked ticket) awaited left old new came whole = stands_step _ _ _ _ came.3.did (whole_ended came.0 asked came.2 whole)
   stands_came (Refused k node asked) awaited left old new came whole = stands_step _ _ _ _ came.4.did (whole_ended came.0 asked came.2 whole)
   stands_came (Fell k node asked) awaited left old new came whole = stands_step _ _ _ _ came.2.did (whole_ended came.0 asked came.1 whole)
@@ -133,7 +133,7 @@ module _ {D : Type 0} (on : View D) where
   stands_came (Left k node user) awaited left old new came whole = stands_step _ _ _ _ came.3.did (leave_ended user came.0 came.2)
   stands_came (Moved order steps) awaited left old new came whole = stands_steps steps old new came.1 (are_ended order steps came.0)
 
-  stands_makes : (outcomes : List Outcome) (awaited left : List Awaited) (old new : World D) → Makes on outcomes awaited old left new → AreWhole outcomes → tells on.seen old ≡ true → ((w : machine.World) × StandsFor on old w)
+  stands_makes : (outcomes : List Outcome) (awaited left : List Awaited) (old new : World D) → Makes on outcomes awaited old left new → AreWhole outcomes → disks_tell on.seen old ≡ true → ((w : machine.World) × StandsFor on old w)
       → ((w : machine.World) × StandsFor on new w)
   stands_makes [] awaited left old new made whole told stands = subst (λ (world : World D). (w : machine.World) × StandsFor on world w) (sym made.1) stands
   stands_makes (outcome ∷ more) awaited left old new made whole told stands =
@@ -144,7 +144,7 @@ module _ {D : Type 0} (on : View D) where
     carried = carries_makes outcomes [] awaited start old at.made
 
     -- it stands for a world of the machine, where its disks tell what they hold
-    pub stands_at : tells on.seen start ≡ true → (tells on.seen old ≡ true) × ((w : machine.World) × StandsFor on old w)
+    pub stands_at : disks_tell on.seen start ≡ true → (disks_tell on.seen old ≡ true) × ((w : machine.World) × StandsFor on old w)
     stands_at told = (tells_same _ _ carried ∙ told, stands_makes outcomes [] awaited start old at.made at.whole told (at.stands told))
 
     -- one step more
@@ -152,10 +152,10 @@ module _ {D : Type 0} (on : View D) where
     world_more outcome left new came whole = record { stands = at.stands; made = makes_more outcomes outcome [] awaited left start old new at.made came; whole = whole_more outcomes outcome at.whole whole }
 
     -- a node that failed in a step has its cause
-    pub has_failed : (step : Step) (n : ℕ) (new : State D) → (old' : State D) → Carries on (state_of start) old' → (tells on.seen start ≡ true → ((w : machine.World) × Stands on old' w))
-        → StepDid on (Ok (said.Faulted n)) step old' new → (disk disk' : D) → disk_at start n ≡ Some disk → disk_in new n ≡ Some disk'
-        → Rose (on.faults disk) (on.faults disk') ⊎ (on.seen disk ≡ None) ⊎ (tells on.seen start ≡ false)
-    has_failed step n new old' before stands did disk disk' was is = by (tells on.seen start) refl
+    pub has_failed : (step : Step) (n : ℕ) (new : WorldState D) → (old' : WorldState D) → Carries on (state_of start) old' → (disks_tell on.seen start ≡ true → ((w : machine.World) × StateStandsFor on old' w))
+        → StepDid on (Ok (said.Faulted n)) step old' new → (disk disk' : D) → disk_of_node start n ≡ Some disk → disk_in new n ≡ Some disk'
+        → Rose (on.faults disk) (on.faults disk') ⊎ (on.seen disk ≡ None) ⊎ (disks_tell on.seen start ≡ false)
+    has_failed step n new old' before stands did disk disk' was is = by (disks_tell on.seen start) refl
       where
         between : (d : D) × (disk_in old' n ≡ Some d)
         between = there_too (state_of start).disks old'.disks n disk before.handed was
@@ -167,7 +167,7 @@ module _ {D : Type 0} (on : View D) where
             by_told None so = refl
             by_told (Some held) so = absurd (let never : true ≡ false = so in cc)
 
-        by : (b : Bool) → tells on.seen start ≡ b → Rose (on.faults disk) (on.faults disk') ⊎ (on.seen disk ≡ None) ⊎ (tells on.seen start ≡ false)
+        by : (b : Bool) → disks_tell on.seen start ≡ b → Rose (on.faults disk) (on.faults disk') ⊎ (on.seen disk ≡ None) ⊎ (disks_tell on.seen start ≡ false)
         by false told = inr (inr told)
         by true told =
             let w = stands told in

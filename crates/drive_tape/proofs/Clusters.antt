@@ -34,7 +34,7 @@ use Rattle.drive_tape.specs.Leaving.{IsLeaveOf}
 use Rattle.drive_tape.specs.Moving.{has_ended}
 use Rattle.drive_tape.specs.Worlds.{WorldIsAt, IsSince, AreSameLives, HasCauses, WentTo, HasGone}
 use Rattle.drive_tape.specs.Points.{Point, Work, Cut, OneAct, IsAtPoint, Stopped, WentOn, WorkGoes, MayLack}
-use Rattle.drive_tape.specs.Clusters.{HearsAt, RestsAt, IsSaying, SessionEndsAt}
+use Rattle.drive_tape.specs.Clusters.{SessionHears, RestsAt, IsSaying, SessionEndsAt}
 use Rattle.drive_tape.proofs.Talks.{at_place}
 use Rattle.drive_tape.proofs.Works.{work_none, work_act, work_more, work_cut, cut_act, cut_none}
 use Rattle.drive_tape.proofs.Places.{leaves_plain, up_on, lives_on, causes_on}
@@ -180,7 +180,7 @@ module _ {D : Type 0} (on : View D) (start : World D) (plan : Plan) (p q : Point
 module _ {D : Type 0} (on : View D) (start : World D) (plan : Plan) (p q : Point) (place onward : ℕ) (out : List ℕ) (cluster : Cluster D) (held : Option (List ℕ)) where
   -- it hears on
   pub said_on : (saying : IsSaying on start plan p q place onward Stays out cluster) → Appends p.held held (written_of (said_lines (place + 1) saying.said ++ []))
-      → WentOn on start plan p (HearsAt place onward) held cluster
+      → WentOn on start plan p (SessionHears place onward) held cluster
   said_on saying gave = record {
     q = held_point q held;
     work = said_work on start plan p q place onward Stays out cluster saying held gave;

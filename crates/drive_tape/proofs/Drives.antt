@@ -38,7 +38,7 @@ use Rattle.drive_tape.specs.declared.reader.LineStop.TheVariants as line
 use Rattle.drive_tape.specs.Drive.{Stops, NamesLine, MayLackOne, Drives, EndsDenied, stop_of}
 use Rattle.drive_tape.specs.Faults.{tape_fault_seen}
 use Rattle.drive_tape.specs.Lines.{IsWhy, LineStopped}
-use Rattle.drive_tape.specs.Parts.{IsCutEntry, IsPart}
+use Rattle.drive_tape.specs.Parts.{IsCutEntry, IsPartOfLine}
 use Rattle.drive_tape.specs.Points.{Point, AreLinked, AreAtOwnNodes, IsAtPoint}
 use Rattle.drive_tape.specs.Reads.{ReadsLine}
 use Rattle.drive_tape.specs.Runs.{Progress, Turned}
@@ -239,7 +239,7 @@ halt_line on start plan p line reason held world s = record {
 -- where the cluster denied an order, nothing of it was written
 none_part : (missing : List Entry) (cut : List ℕ) → missing ≡ [] → IsCutEntry missing cut → cut ≡ []
 none_part missing cut none part = ⊎_elim (λ (empty : cut ≡ []). empty)
-    (λ (some : IsPart missing cut). absurd (let never : some.entry ∷ some.more ≡ [] = sym some.are ∙ none in cc)) part
+    (λ (some : IsPartOfLine missing cut). absurd (let never : some.entry ∷ some.more ≡ [] = sym some.are ∙ none in cc)) part
 
 none_behind : (xs ys : List Entry) → xs ++ ys ≡ [] → ys ≡ []
 none_behind [] ys none = none
@@ -277,7 +277,7 @@ missing_lines (entry ∷ front) missing all = missing_lines front missing (All-t
 
 cut_line : (missing : List Entry) (cut : List ℕ) → IsCutEntry missing cut → All HasNoLf (map entry_line missing) → HasNoLf cut
 cut_line missing cut part all = ⊎_elim (λ (none : cut ≡ []). subst HasNoLf (sym none) (All-nil _))
-    (λ (some : IsPart missing cut). front_of_line (entry_line some.entry) cut some.rest
+    (λ (some : IsPartOfLine missing cut). front_of_line (entry_line some.entry) cut some.rest
     (All-head HasNoLf (entry_line some.entry) (map entry_line some.more) (subst (λ (es : List Entry). All HasNoLf (map entry_line es)) some.are all)) some.some some.whole)
     part
 

@@ -35,10 +35,10 @@ use Rattle.drive_tape.specs.Denials.{stop_by}
 use Rattle.drive_tape.specs.Drive.{MayLackOne, IsDenied}
 use Rattle.drive_tape.specs.Faults.{tape_fault_seen}
 use Rattle.drive_tape.specs.Fed.{IsFeeding, IsFeedingAt}
-use Rattle.drive_tape.specs.Talks.{Converse, HasOwnTicket, TicketFits, StandsOnNode, IsFound}
+use Rattle.drive_tape.specs.Talks.{Converse, HasOwnTicket, TicketFits, StandsOnNode, SessionIsFound}
 use Rattle.drive_tape.specs.Worlds.{IsSince, HasCauses}
 use Rattle.drive_tape.specs.Points.{Point, Work, waits_by_outcome, IsAtOwnNode, IsAtPoint, WorkGoes}
-use Rattle.drive_tape.specs.Clusters.{HearsAt, RestsAt, AsksFrom}
+use Rattle.drive_tape.specs.Clusters.{SessionHears, RestsAt, AsksFrom}
 use Rattle.drive_tape.specs.Lines.{IsStarted, LineStopped, IsWhy}
 use Rattle.drive_tape.proofs.Talks.{is_spoken_to, at_place, count_same, set_here, within_get}
 use Rattle.drive_tape.proofs.Acting.{acted_does}
@@ -135,7 +135,7 @@ pub since_shows : {D : Type 0} (on : View D) (start : World D) (plan : Plan) (cl
 since_shows on start plan cluster p shows = (p.awaited, shows.at)
 
 -- no session of this number is spoken to
-pub no_session : (p : Point) (k : ℕ) → IsFound k None p.sessions → session_fault (session_at p.sessions k) ≡ Some (tape_fault_seen tape.NoSuchSession)
+pub no_session : (p : Point) (k : ℕ) → SessionIsFound k None p.sessions → session_fault (session_at p.sessions k) ≡ Some (tape_fault_seen tape.NoSuchSession)
 no_session p k found = found
 
 no_giving : (standing : Standing) → (is_on standing ≡ false) → waiting_fault standing ≡ Some site.NoSuchSession
@@ -236,5 +236,5 @@ module _ {D : Type 0} (on : View D) (start : World D) (plan : Plan) (p : Point) 
         causes = causes_on on start new.world p.been act one (rw world shows.causes);
       }
 
-  pub fed_hears : HearsAt place 1 fed_point
+  pub fed_hears : SessionHears place 1 fed_point
   fed_hears = record { turn = refl; plain = fed; here = set_here p.sessions place fed (within_get p.sessions place f.plain f.here); on = f.on }

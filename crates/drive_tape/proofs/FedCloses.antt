@@ -29,7 +29,7 @@ use Rattle.cluster_world.specs.declared.world.World.{World}
 use Rattle.drive_tape.specs.declared.cluster.Cluster.{Cluster}
 use Rattle.drive_tape.specs.declared.open_call.OpenCall.{OpenCall}
 use Rattle.drive_tape.specs.declared.drove.Stop.{Stop as Why}
-use Rattle.drive_tape.specs.Fed.{IsFreed, IsGivenUpFirst, IsClosingAt, IsGivingUpAt, IsLetGo, HadNone, IsKeptUp, LetsGo}
+use Rattle.drive_tape.specs.Fed.{IsFreed, IsGivenUpFirst, IsClosingAt, IsGivingUpAt, IsLetGo, HadNone, IsKeptUp, GaveUpCall}
 use Rattle.drive_tape.specs.Leaving.{IsLeaveOf}
 use Rattle.drive_tape.specs.Lines.{IsStarted, LineStopped}
 use Rattle.drive_tape.specs.Points.{Point, Work, AreLinked, AreAtOwnNodes, IsAtPoint}
@@ -225,7 +225,7 @@ module _ {D : Type 0} (on : View D) (start : World D) (plan : Plan) (p : Point) 
   pub giving : tape_order line ≡ Some (GiveUp (place + 1)) → IsLetGo on start plan p place cluster → IsGivingUpAt on start plan p line place cluster
   giving spelled g = record { spelled = spelled; call = g.call; ticket = g.ticket; freed = g.told; state = g.state; waits = g.waits; before = g.before; last = g.last; heard = g.heard }
 
-  pub closes : tape_order line ≡ Some (Close (place + 1)) → (had : Bool) → LetsGo on start plan p place (Ok had) cluster → IsClosingAt on start plan p line place cluster
+  pub closes : tape_order line ≡ Some (Close (place + 1)) → (had : Bool) → GaveUpCall on start plan p place (Ok had) cluster → IsClosingAt on start plan p line place cluster
   closes spelled false h = record { spelled = spelled; been = []; outcomes = []; awaited = p.awaited; freed = h.freed; first = inl (refl, refl, refl, h.quiet) }
   closes spelled true g = record {
     spelled = spelled;

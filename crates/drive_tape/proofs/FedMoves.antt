@@ -37,7 +37,7 @@ use Rattle.drive_tape.specs.declared.drove.Stop.{Stop as Why}
 use Rattle.drive_tape.specs.Fed.{MayFallBy, Happens}
 use Rattle.drive_tape.specs.Happenings.{event_seen, fallen_by, WritesOrStops}
 use Rattle.drive_tape.specs.Lines.{IsStarted, LineDid, LineStopped}
-use Rattle.drive_tape.specs.Moved.{IsFit, MovedSo}
+use Rattle.drive_tape.specs.Moved.{OrderIsFit, MovedSo}
 use Rattle.drive_tape.specs.Orders.{admitted_seen}
 use Rattle.drive_tape.specs.Points.{Point, AreLinked, IsAtPoint}
 use Rattle.drive_tape.specs.Stops.{of_write}
@@ -69,7 +69,7 @@ refusal_alike plan been world lives (order.Widen node user id to) = ap (λ (rest
     both false false is = ap work_fault (lives node is)
 
 pub fit_so : {D : Type 0} (on : View D) (start : World D) (cluster : Cluster D) (p : Point) (admitted : Admitted) (one : tape.ClusterOrder) → IsAtPoint on start (plan_of cluster.world) cluster p → admitted_seen admitted ≡ one
-    → cluster_refusal (plan_of cluster.world) (life_of cluster.world) one ≡ None → IsFit on start p.outcomes p.awaited p.been one cluster.world
+    → cluster_refusal (plan_of cluster.world) (life_of cluster.world) one ≡ None → OrderIsFit on start p.outcomes p.awaited p.been one cluster.world
 fit_so on start cluster p admitted one shows same accepted =
     record { at = shows.at; lives = shows.lives; accepted = sym (refusal_alike (plan_of cluster.world) p.been cluster.world shows.lives one) ∙ accepted }
 

@@ -37,7 +37,7 @@ use Rattle.drive_tape.specs.declared.entry.WriteStop.{WriteStop}
 use Rattle.drive_tape.specs.declared.drove.Stop.{Stop as Why}
 use Rattle.drive_tape.specs.declared.drove.Stop.TheVariants as why
 use Rattle.drive_tape.specs.Entries.{WritesEntries}
-use Rattle.drive_tape.specs.Fed.{IsTelling, HasTold, IsGivingUpAt}
+use Rattle.drive_tape.specs.Fed.{IsTelling, WasFed, IsGivingUpAt}
 use Rattle.drive_tape.specs.Lines.{IsStarted, LineStopped}
 use Rattle.drive_tape.specs.Moving.{has_ended, RepliesTo, GoesOn}
 use Rattle.drive_tape.specs.Points.{Point, AreLinked, IsAtPoint, WentOn, Stopped}
@@ -94,7 +94,7 @@ module _ {D : Type 0} (on : View D) (start : World D) (plan : Plan) (p q : Point
 
 module _ {D : Type 0} (on : View D) (start : World D) (plan : Plan) (p q : Point) (line : List ℕ) (place : ℕ) (out : List ℕ) (cluster : Cluster D) (held : Option (List ℕ)) where
   -- it hears on
-  pub told_on : (t : IsTelling on start plan p q line place Stays out cluster) → Appends p.held held (written_of (said_lines (place + 1) t.said ++ [])) → HasTold on start plan p line place true held cluster
+  pub told_on : (t : IsTelling on start plan p q line place Stays out cluster) → Appends p.held held (written_of (said_lines (place + 1) t.said ++ [])) → WasFed on start plan p line place true held cluster
   told_on t gave = record {
     q = held_point q held;
     order = t.order;
@@ -114,7 +114,7 @@ module _ {D : Type 0} (on : View D) (start : World D) (plan : Plan) (p q : Point
   told_ends leave t = record { turn = t.turn; plain = t.plain; here = t.here; idle = rw t.is_after.0 tt; leaves_as = ap (leave_of (exchanges_of t.plain)) t.is_after.0; leaves = t.is_after.1 }
 
   pub told_left : (leave : Option Call) (t : IsTelling on start plan p q line place (Ends leave) out cluster) (new : Cluster D) (last : Option (List ℕ))
-      → Appends p.held held (written_of (said_lines (place + 1) t.said ++ closed_event (place + 1) ∷ [])) → WentOn on start plan (held_point q held) (RestsAt 1) last new → HasTold on start plan p line place false last new
+      → Appends p.held held (written_of (said_lines (place + 1) t.said ++ closed_event (place + 1) ∷ [])) → WentOn on start plan (held_point q held) (RestsAt 1) last new → WasFed on start plan p line place false last new
   told_left leave t new last gave went = record {
     q = held_point q held;
     order = t.order;

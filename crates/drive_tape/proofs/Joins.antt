@@ -26,7 +26,7 @@ use Rattle.drive_tape.specs.Drive.{MayLackOne}
 use Rattle.drive_tape.specs.Entries.{WritesEntries}
 use Rattle.drive_tape.specs.Happenings.{WritesOrStops}
 use Rattle.drive_tape.specs.Lines.{NothingIsUnderWay, IsStarted, IsWhy, LineDid, LineWent, LineStopped}
-use Rattle.drive_tape.specs.Parts.{IsCutEntry, IsPart}
+use Rattle.drive_tape.specs.Parts.{IsCutEntry, IsPartOfLine}
 use Rattle.drive_tape.specs.Points.{Point, AreLinked, AreAtOwnNodes, IsMissingTail, MayLack, IsStop, Stopped, WentOn, WorkGoes}
 use Rattle.drive_tape.specs.Stops.{of_write}
 use Rattle.drive_tape.specs.Worlds.{IsSince, HasCauses}
@@ -115,7 +115,7 @@ nothing_asked Denied turn sessions = refl
 nothing_asked SinkFailed turn sessions = refl
 nothing_asked OutOfMemory turn sessions = inl refl
 
-part_some : (missing : List Entry) (cut : List ℕ) → IsPart missing cut → missing ≢ []
+part_some : (missing : List Entry) (cut : List ℕ) → IsPartOfLine missing cut → missing ≢ []
 part_some missing cut part none = absurd (let never : part.entry ∷ part.more ≡ [] = sym part.are ∙ none in cc)
 
 -- ---- a line that begins

@@ -38,7 +38,7 @@ use Rattle.session_model.proofs.Kept.{owed_is_kept}
 use Rattle.cluster_owes.specs.Held.{filed_on}
 use Rattle.cluster_owes.specs.Outcomes.{IsTakenAt}
 use Rattle.node_store.specs.Disks.{View}
-use Rattle.cluster_world.specs.Worlds.{plan_of, disks_of, book_of, tells}
+use Rattle.cluster_world.specs.Worlds.{plan_of, disks_of, book_of, disks_tell}
 use Rattle.cluster_world.specs.Opens.{IsAtBeginning}
 use Rattle.cluster_world.specs.Owing.{AreBlind, IsOfBlind, AllBlind, AreKnown, AreOfSessions, AreLost, WorldOwes}
 use Rattle.cluster_world.specs.Outcomes.{Outcome, Awaited, StepMade, Came, Makes, AreStepsOf, IsPost, IsPushOf, made_of, asked_by_outcome, answered_by_outcome}
@@ -249,9 +249,9 @@ module _ {D : Type 0} (on : View D) (start last : World D) (begins : IsAtBeginni
       let owed = owing plan stop lines (entries ++ ending) outcomes awaited start last begins (known told) steps of_sessions (lost same ending) in
       record {
         records = owed.0;
-        promises = owed_is_kept plan (tells on.seen last) stop handled midst acts behind made entries ending sessions (map on.seen (disks_of last)) owed.0 (filed_on owed.0) begun (book_of last) driven ends
+        promises = owed_is_kept plan (disks_tell on.seen last) stop handled midst acts behind made entries ending sessions (map on.seen (disks_of last)) owed.0 (filed_on owed.0) begun (book_of last) driven ends
             (were_begun stop (flat_map asked_by done) begun lacking asked_are lack)
-            (subst (λ (l : List Answered). Owes plan (tells on.seen last) lines (IsLostIn stop lines (entries ++ ending)) (map on.seen (disks_of last)) owed.0 (filed_on owed.0) begun l (book_of last)) (sym answered_are) owed.1);
+            (subst (λ (l : List Answered). Owes plan (disks_tell on.seen last) lines (IsLostIn stop lines (entries ++ ending)) (map on.seen (disks_of last)) owed.0 (filed_on owed.0) begun l (book_of last)) (sym answered_are) owed.1);
       }
 
   -- where one node is all there is, no session waits

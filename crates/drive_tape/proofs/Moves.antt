@@ -28,7 +28,7 @@ use Rattle.drive_tape.specs.declared.drove.Stop.TheVariants as why
 use Rattle.drive_tape.specs.Moving.{has_ended, HeardAt, StaysAt, GoesOn}
 use Rattle.drive_tape.specs.Talks.{HasOwnTicket, StandsOnNode, IsUpAt}
 use Rattle.drive_tape.specs.Points.{Point, OneAct, AreLinked, IsAtOwnNode, waits_by_outcome, IsAtPoint, WentOn}
-use Rattle.drive_tape.specs.Clusters.{HearsAt, RestsAt, IsAfter, IsSaying, IsBeginning}
+use Rattle.drive_tape.specs.Clusters.{SessionHears, RestsAt, IsAfter, IsSaying, IsBeginning}
 use Rattle.drive_tape.proofs.Talks.{at_place, asks_waits, asks_silent, says_on, says_ended, count_same, count_less, set_here, within_get, did_node}
 use Rattle.drive_tape.proofs.Works.{work_none}
 use Rattle.drive_tape.proofs.Acting.{acted_does}
@@ -158,7 +158,7 @@ counts_after sessions place plain new Stays standing now here on count goes = go
 counts_after sessions place plain new (Ends leave) standing now here on count goes = goes.2 ∙ ap (λ (n : ℕ). n - 1) count ∙ sym (count_less sessions place plain new here on goes.0)
 
 module _ {D : Type 0} (on : View D) (start : World D) (plan : Plan) (p : Point) (place onward : ℕ) (old new : Cluster D)
-    (shows : IsAtPoint on start plan old p) (hears : HearsAt place onward p) (world : new.world ≡ old.world) (nodes : new.sessions.nodes ≡ old.sessions.nodes) (kept : new.sessions.calls ≡ old.sessions.calls) where
+    (shows : IsAtPoint on start plan old p) (hears : SessionHears place onward p) (world : new.world ≡ old.world) (nodes : new.sessions.nodes ≡ old.sessions.nodes) (kept : new.sessions.calls ≡ old.sessions.calls) where
   abbrev pub heard_point : Exchange → Session → Point
   heard_point one after = record p { turn = Hearing (place + 1) onward; sessions = slice_set p.sessions place after; been = p.been ++ Does (place + 1) (Hears one) ∷ [] }
 

@@ -34,7 +34,7 @@ use Rattle.drive_tape.specs.declared.orders.Admitted.{Admitted}
 use Rattle.drive_tape.specs.declared.orders.Admitted.TheVariants.{Post}
 use Rattle.drive_tape.specs.Orders.{admitted_seen}
 use Rattle.drive_tape.specs.Denials.{stop_by}
-use Rattle.drive_tape.specs.Moved.{IsFit, Happened, MovedSo, PushesSo, PostsTo}
+use Rattle.drive_tape.specs.Moved.{OrderIsFit, Happened, MovedSo, PushesSo, PostsTo}
 use Rattle.drive_tape.proofs.Stepping.{IsCalm, AreCalm, steps_last, steps_more, plan_kept, calm_lives, may_fault, happens_calm, happens_after, happens, denied_after, denied, one_among}
 
 -- the order of a line that posts
@@ -133,7 +133,7 @@ module _ {D : Type 0} (on : View D) (old : World D) where
       ⊎_elim (λ (same : new ≡ now). subst (λ (w : World D). HasPushed from w) (sym same) has) (λ (to : (to : ℕ) × IsStep on (Ok (said.Sent letters)) (step.Push from to) now new). pushed_more from to.0 letters now new has to.1) pushes
 
 module _ {D : Type 0} (on : View D) (start old : World D) (outcomes : List Outcome) (awaited : List Awaited) (been : List Act) where
-  module _ (order : ClusterOrder) (fit : IsFit on start outcomes awaited been order old) where
+  module _ (order : ClusterOrder) (fit : OrderIsFit on start outcomes awaited been order old) where
     -- a node failed in the last of the steps
     pub faults_after : (new mid : World D) (front : List StepMade) (one : StepMade) (node : ℕ) → MakesSteps on front old mid → AreCalm front → IsStep on one.result one.step mid new → AreStepsOf order (front ++ one ∷ [])
         → one.result ≡ Ok (said.Faulted node) → IsEventOf (plan_of old) (life_after been) order (plain.ClusterEvent.HasFaulted node) → Happened on start outcomes awaited been old order (HasFaulted node) new
@@ -149,7 +149,7 @@ module _ {D : Type 0} (on : View D) (start old : World D) (outcomes : List Outco
         may_fault on start old outcomes awaited been order fit one.step node mid (plan_kept on front old mid before) (calm_lives on front old mid before calm) falls
         (λ starts. absurd (let never : step.Post letter keep ≡ step.Start node = sym post ∙ starts in cc))
 
-  module _ (fit : IsFit on start outcomes awaited been order.Flow old) where
+  module _ (fit : OrderIsFit on start outcomes awaited been order.Flow old) where
     -- all letters were posted
     pub flowed : (new : World D) (result : Result (Option ℕ) StepFault) → HasFlowed on result old new → result ≡ Ok None → Happened on start outcomes awaited been old order.Flow FlowedEvent new
     flowed new result has is =
@@ -171,7 +171,7 @@ module _ {D : Type 0} (on : View D) (start old : World D) (outcomes : List Outco
         let ends = steps_last on so.0 so.1 old new (subst (λ (s : List StepMade). MakesSteps on s old new) so.2 has.made) in
         denied_after on start old outcomes awaited been order.Flow fit new ends.mid so.0 so.1 why stop ends.before ends.last (posts_and_one so.0 so.1 so.3 so.4) so.5 stops (λ always. always)
 
-  module _ (from : ℕ) (fit : IsFit on start outcomes awaited been (order.Push from) old) (up : IsUp (life_after been from)) where
+  module _ (from : ℕ) (fit : OrderIsFit on start outcomes awaited been (order.Push from) old) (up : IsUp (life_after been from)) where
     pub pushed : (count : ℕ) (new : World D) → HasPushed on old from new → Happened on start outcomes awaited been old (order.Push from) (HasSent count) new
     pushed count new has =
         happens_calm on start old outcomes awaited been (order.Push from) fit new has.steps (HasSent count) has.made has.calm has.all refl (λ none. absurd (none up)) (λ n was. refl) (λ n among. absurd among)
@@ -188,12 +188,12 @@ module _ {D : Type 0} (on : View D) (start old : World D) (outcomes : List Outco
         denied_after on start old outcomes awaited been (order.Push from) fit new mid has.steps one why stop has.made is (pushes_and_one from has.steps one has.all (to, refl)) refl stops (λ always. always)
 
   -- a node that is not up sends nothing
-  pub pushed_nothing : (from : ℕ) (fit : IsFit on start outcomes awaited been (order.Push from) old) → Happened on start outcomes awaited been old (order.Push from) (HasSent 0) old
+  pub pushed_nothing : (from : ℕ) (fit : OrderIsFit on start outcomes awaited been (order.Push from) old) → Happened on start outcomes awaited been old (order.Push from) (HasSent 0) old
   pushed_nothing from fit =
       happens_calm on start old outcomes awaited been (order.Push from) fit old [] (HasSent 0) refl tt (All-nil (IsPushOf from)) refl (λ none. refl) (λ n was. refl) (λ n among. absurd among)
 
   -- a node that may push is up
-  pub push_up : (from : ℕ) (fit : IsFit on start outcomes awaited been (order.Push from) old) → is_up_life (life_of old from) ≡ true → IsUp (life_after been from)
+  pub push_up : (from : ℕ) (fit : OrderIsFit on start outcomes awaited been (order.Push from) old) → is_up_life (life_of old from) ≡ true → IsUp (life_after been from)
   push_up from fit is = subst IsUp (fit.lives from (there (is_no_node (plan_of old) from) fit.accepted)) (up (life_of old from) is)
     where
       there : (b : Bool) → fault_if b NoSuchNode ≡ None → b ≡ false
@@ -206,7 +206,7 @@ module _ {D : Type 0} (on : View D) (start old : World D) (outcomes : List Outco
       up plain.NodeLife.Lost so = absurd (let never : false ≡ true = so in cc)
 
   -- what came of posting a letter
-  module _ (keep : Bool) (letter : ℕ) (fit : IsFit on start outcomes awaited been (post_order keep letter) old) (new : World D) where
+  module _ (keep : Bool) (letter : ℕ) (fit : OrderIsFit on start outcomes awaited been (post_order keep letter) old) (new : World D) where
     posted_so : (r : Result Said StepFault) (happened event : ClusterEvent) → IsStep on r (step.Post letter keep) old new → happened ≡ event → fallen_in (step.Post letter keep) r ≡ fallen_by (event_seen event)
         → IsEventOf (plan_of old) (life_after been) (post_order keep letter) (event_seen event) → ((n : ℕ) (was : NodeLife) → life_after_step r (step.Post letter keep) n was ≡ plain.life_by_event (event_seen event) n was)
         → ((n : ℕ) → Among n (plain.failed_by_event (event_seen event)) → r ≡ Ok (said.Faulted n)) → MovedSo on start outcomes awaited been old (post_order keep letter) (Ok happened) new
@@ -240,11 +240,11 @@ module _ {D : Type 0} (on : View D) (start old : World D) (outcomes : List Outco
 
   -- the order of a line that posts, as it was admitted
   pub post_same : (admitted : Admitted) (letter : ℕ) (keep : Bool) → admitted ≡ Post letter keep → (handed : Result ClusterEvent Stop) (new : World D)
-      → (IsFit on start outcomes awaited been (post_order keep letter) old → MovedSo on start outcomes awaited been old (post_order keep letter) handed new)
-      → IsFit on start outcomes awaited been (admitted_seen admitted) old → MovedSo on start outcomes awaited been old (admitted_seen admitted) handed new
+      → (OrderIsFit on start outcomes awaited been (post_order keep letter) old → MovedSo on start outcomes awaited been old (post_order keep letter) handed new)
+      → OrderIsFit on start outcomes awaited been (admitted_seen admitted) old → MovedSo on start outcomes awaited been old (admitted_seen admitted) handed new
   post_same admitted letter keep is handed new moved fit =
       let same : admitted_seen admitted ≡ post_order keep letter = ap admitted_seen is ∙ by keep in
-      subst (λ (o : ClusterOrder). MovedSo on start outcomes awaited been old o handed new) (sym same) (moved (subst (λ (o : ClusterOrder). IsFit on start outcomes awaited been o old) same fit))
+      subst (λ (o : ClusterOrder). MovedSo on start outcomes awaited been old o handed new) (sym same) (moved (subst (λ (o : ClusterOrder). OrderIsFit on start outcomes awaited been o old) same fit))
     where
       by : (k : Bool) → admitted_seen (Post letter k) ≡ post_order k letter
       by true = refl

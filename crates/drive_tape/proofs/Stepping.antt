@@ -27,7 +27,7 @@ use Rattle.drive_tape.specs.declared.drove.Stop.{Stop}
 use Rattle.drive_tape.specs.declared.event.ClusterEvent.{ClusterEvent}
 use Rattle.drive_tape.specs.Denials.{stop_by}
 use Rattle.drive_tape.specs.Happenings.{event_seen, fallen_by}
-use Rattle.drive_tape.specs.Moved.{IsFit, Happened, MovedSo}
+use Rattle.drive_tape.specs.Moved.{OrderIsFit, Happened, MovedSo}
 use Rattle.drive_tape.specs.Worlds.{WentTo}
 use Rattle.drive_tape.proofs.WholeTexts.{are_ended, front_ended}
 use Rattle.drive_tape.proofs.Chains.{carried, carries_steps, carries_more, stands_at, stands_steps, has_failed, went_more}
@@ -89,7 +89,7 @@ module _ {D : Type 0} (on : View D) where
   calm_lives [] old new made calm n = ap (λ (w : World D). life_of w n) made
   calm_lives (one ∷ more) old new made calm n = calm_lives more made.0 new made.2 calm.1 n ∙ made.1.did.lives n ∙ calm.0.lives n (life_of old n)
 
-  module _ (start old : World D) (outcomes : List Outcome) (awaited : List Awaited) (been : List Act) (order : ClusterOrder) (fit : IsFit on start outcomes awaited been order old) where
+  module _ (start old : World D) (outcomes : List Outcome) (awaited : List Awaited) (been : List Act) (order : ClusterOrder) (fit : OrderIsFit on start outcomes awaited been order old) where
     -- a node that failed as it worked may fail
     pub may_fault : (one : Step) (n : ℕ) (mid : World D) → plan_of mid ≡ plan_of old → ((i : ℕ) → life_of mid i ≡ life_of old i) → WasToWork (plan_of mid).nodes one (life_of mid n) n → one ≢ step.Start n
         → MayFault (plan_of old) (life_after been) n

@@ -9,7 +9,7 @@ use Rattle.object_model.specs.Lists.{Among}
 use Rattle.session_model.specs.Events.{NodeLife, turned}
 use Rattle.session_model.specs.Events.NodeLife.{Up, Down, Lost}
 use Rattle.node_store.specs.Disks.{View}
-use Rattle.cluster_world.specs.Worlds.{life_of, disk_at, disks_of}
+use Rattle.cluster_world.specs.Worlds.{life_of, disk_of_node, disks_of}
 use Rattle.cluster_world.specs.Steps.{IsStep}
 use Rattle.cluster_world.specs.Turns.{life_after_step}
 use Rattle.cluster_world.specs.Outcomes.{Outcome, Awaited, StepMade, Came, Makes, MakesSteps, AreStepsOf, AreOne, IsPost, IsPushOf}
@@ -21,7 +21,7 @@ use Rattle.cluster_world.specs.declared.step.Said.{Said}
 use Rattle.cluster_world.specs.declared.step.Said.TheVariants as said
 use Rattle.cluster_world.specs.declared.fault.StepFault.{StepFault}
 use Rattle.cluster_world.specs.declared.fault.StepFault.TheVariants as fault
-use Rattle.drive_tape.specs.Drive.{Restarts, StaysWhole}
+use Rattle.drive_tape.specs.Drive.{StartsAgain, StaysWhole}
 use Rattle.drive_tape.proofs.Chains.{there_too}
 
 -- a node that is up was so, or has started
@@ -108,7 +108,7 @@ pushes_start node (first ∷ steps) one n all among starts = ⊎_elim
     (λ (same : first ≡ one). let is : IsPushOf node one = subst (IsPushOf node) same (All-head (IsPushOf node) first steps all) in let never : step.Push node is.0 ≡ step.Start n = sym is.1 ∙ starts in cc)
     (λ (rest : Among one steps). pushes_start node steps one n (All-tail (IsPushOf node) first steps all) rest starts) among
 
-order_starts : (asked : ClusterOrder) (steps : List StepMade) (one : StepMade) (n : ℕ) → AreStepsOf asked steps → Among one steps → one.step ≡ step.Start n → Restarts n (Moved asked steps)
+order_starts : (asked : ClusterOrder) (steps : List StepMade) (one : StepMade) (n : ℕ) → AreStepsOf asked steps → Among one steps → one.step ≡ step.Start n → StartsAgain n (Moved asked steps)
 order_starts (order.Crash node) steps one n are among starts = absurd (let never : step.Crash node ≡ step.Start n = one_starts (step.Crash node) steps one n are among starts in cc)
 order_starts (order.Lose node) steps one n are among starts = absurd (let never : step.Lose node ≡ step.Start n = one_starts (step.Lose node) steps one n are among starts in cc)
 order_starts (order.Start node) steps one n are among starts = start_same node n (one_starts (step.Start node) steps one n are among starts)
@@ -125,7 +125,7 @@ order_starts (order.Widen at user id to) steps one n are among starts = absurd (
 -- a node that is up now was so, in the same boot, and its disk has not failed since
 pub record IsWhole {D : Type 0} (on : View D) (n now : ℕ) (old new : World D) : Type 0 where
   pub was : life_of old n ≡ Up now
-  pub same : (disk disk' : D) → disk_at old n ≡ Some disk → disk_at new n ≡ Some disk' → on.faults disk' ≡ on.faults disk
+  pub same : (disk disk' : D) → disk_of_node old n ≡ Some disk → disk_of_node new n ≡ Some disk' → on.faults disk' ≡ on.faults disk
 
 module _ {D : Type 0} (on : View D) (n now : ℕ) where
   whole_none : (world : World D) → life_of world n ≡ Up now → IsWhole on n now world world
@@ -150,7 +150,7 @@ module _ {D : Type 0} (on : View D) (n now : ℕ) where
   whole_steps (first ∷ steps) old mid new (next, is, more) other later =
       whole_step first.result first.step old next new is (λ e. other first (inl refl) e) (whole_steps steps next mid new more (λ one among. other one (inr among)) later)
 
-  whole_came : (outcome : Outcome) (awaited left : List Awaited) (old mid new : World D) → Came on outcome awaited old left mid → (Restarts n outcome → ⊥) → IsWhole on n now mid new → IsWhole on n now old new
+  whole_came : (outcome : Outcome) (awaited left : List Awaited) (old mid new : World D) → Came on outcome awaited old left mid → (StartsAgain n outcome → ⊥) → IsWhole on n now mid new → IsWhole on n now old new
   whole_came (Began k node asked ticket) awaited left old mid new came other later = whole_step _ _ old mid new came.3 (λ e. cc) later
   whole_came (Refused k node asked) awaited left old mid new came other later = whole_step _ _ old mid new came.4 (λ e. cc) later
   whole_came (Fell k node asked) awaited left old mid new came other later = whole_step _ _ old mid new came.2 (λ e. cc) later
@@ -164,7 +164,7 @@ module _ {D : Type 0} (on : View D) (n now : ℕ) where
   whole_came (Left k node user) awaited left old mid new came other later = whole_step _ _ old mid new came.3 (λ e. cc) later
   whole_came (Moved asked steps) awaited left old mid new came other later = whole_steps steps old mid new came.1 (λ one among starts. other (order_starts asked steps one n came.0 among starts)) later
 
-  whole_makes : (outcomes : List Outcome) (awaited left : List Awaited) (old new : World D) → Makes on outcomes awaited old left new → ((outcome : Outcome) → Among outcome outcomes → Restarts n outcome → ⊥)
+  whole_makes : (outcomes : List Outcome) (awaited left : List Awaited) (old new : World D) → Makes on outcomes awaited old left new → ((outcome : Outcome) → Among outcome outcomes → StartsAgain n outcome → ⊥)
       → life_of new n ≡ Up now → IsWhole on n now old new
   whole_makes [] awaited left old new (same, is) other up = subst (λ (w : World D). IsWhole on n now old w) (sym is) (whole_none old (subst (λ (w : World D). life_of w n ≡ Up now) is up))
   whole_makes (outcome ∷ more) awaited left old new (between, mid, came, makes) other up =

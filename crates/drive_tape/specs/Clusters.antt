@@ -35,7 +35,7 @@ use Rattle.call_tickets.specs.Moves.{HasEnded}
 use Rattle.drive_tape.specs.declared.drove.Stop.{Stop as Why}
 
 -- the session at this place hears on
-pub record HearsAt (place onward : ℕ) (p : Point) : Type 0 where
+pub record SessionHears (place onward : ℕ) (p : Point) : Type 0 where
   pub turn : p.turn ≡ Hearing (place + 1) onward
   pub plain : Session
   pub here : slice_get p.sessions place ≡ Some plain
@@ -47,7 +47,7 @@ RestsAt onward p = IsReadyToAsk p.turn p.sessions onward
 
 -- it hears on, or rests
 abbrev pub MovedTo : {E : Type 0} → ℕ → ℕ → Result Bool E → Point → Type 0
-MovedTo place onward (Ok true) p = HearsAt place onward p
+MovedTo place onward (Ok true) p = SessionHears place onward p
 MovedTo place onward (Ok false) p = RestsAt onward p
 MovedTo place onward (Err _) p = ⊤
 
@@ -157,7 +157,7 @@ pub record AsksFrom (place : ℕ) (p : Point) : Type 0 where
   pub none : (j : ℕ) → from ≤ j → j < place + 1 → Waits (session_at p.sessions j) → ⊥
 
 -- The call of the session at this place, which is the next that is to be asked, was answered so, and nothing else was done since.
-pub record HasAnswer {D : Type 0} (on : View D) (start : World D) (plan : Plan) (p : Point) (place : ℕ) (answer : calls.Answer) (cluster : Cluster D) : Type 0 where
+pub record CallHasAnswer {D : Type 0} (on : View D) (start : World D) (plan : Plan) (p : Point) (place : ℕ) (answer : calls.Answer) (cluster : Cluster D) : Type 0 where
   pub old : Cluster D
   pub shows : IsAtPoint on start plan old p
   pub asks : AsksFrom place p
@@ -175,7 +175,7 @@ pub record HasAnswer {D : Type 0} (on : View D) (start : World D) (plan : Plan) 
 
 -- how the session at this place is that was asked for: it hears on, or rests, or still waits
 abbrev pub HeardSo : {E : Type 0} → ℕ → Result Heard E → Point → Type 0
-HeardSo place (Ok heard.On) p = HearsAt place (place + 1) p
+HeardSo place (Ok heard.On) p = SessionHears place (place + 1) p
 HeardSo place (Ok heard.Rests) p = RestsAt (place + 1) p
 HeardSo place (Ok heard.StillWaits) p = RestsAt (place + 1 + 1) p
 HeardSo place (Err _) p = ⊤

@@ -19,7 +19,7 @@ use Rattle.cluster_world.specs.Outcomes.{Outcome, Awaited, StepMade, Makes, made
 use Rattle.cluster_world.specs.Outcomes.Outcome.{Moved, KeptUp}
 use Rattle.session_model.specs.Events.NodeLife.{Up}
 use Rattle.mail_model.specs.Tape.{ClusterOrder as order}
-use Rattle.cluster_world.specs.Worlds.{plan_of, disk_at, life_of}
+use Rattle.cluster_world.specs.Worlds.{plan_of, disk_of_node, life_of}
 use Rattle.cluster_world.specs.declared.fault.StepFault.{StepFault}
 use Rattle.object_model.specs.Lists.{Among}
 use Rattle.cluster_world.specs.declared.world.World.{World}
@@ -98,14 +98,14 @@ MayLackOne OutOfMemory lacking = (lacking ≡ []) ⊎ ((one : Asked) × (lacking
 MayLackOne stop lacking = lacking ≡ []
 
 -- a run line started the node
-abbrev pub Restarts : ℕ → Outcome → Type 0
-Restarts n (Moved (order.Start node) steps) = node ≡ n
-Restarts n outcome = ⊥
+abbrev pub StartsAgain : ℕ → Outcome → Type 0
+StartsAgain n (Moved (order.Start node) steps) = node ≡ n
+StartsAgain n outcome = ⊥
 
 -- A node that was up at first, is up at last and was not started again has a disk that has not failed.
 abbrev pub StaysWhole : {D : Type 0} → View D → World D → List Outcome → World D → Type 0
-StaysWhole {D} on start outcomes last = (n first now : ℕ) (disk disk' : D) → life_of start n ≡ Up first → life_of last n ≡ Up now → ((outcome : Outcome) → Among outcome outcomes → Restarts n outcome → ⊥)
-    → disk_at start n ≡ Some disk → disk_at last n ≡ Some disk' → on.faults disk' ≡ on.faults disk
+StaysWhole {D} on start outcomes last = (n first now : ℕ) (disk disk' : D) → life_of start n ≡ Up first → life_of last n ≡ Up now → ((outcome : Outcome) → Among outcome outcomes → StartsAgain n outcome → ⊥)
+    → disk_of_node start n ≡ Some disk → disk_of_node last n ≡ Some disk' → on.faults disk' ≡ on.faults disk
 
 -- The whole: the octets that were read begin with the lines that were handled, and the one in whose midst the work stopped, if there is one; the run of these
 -- lines is this; what was written is its entries, the last line of them perhaps in part; the world made its steps and no others; the answer says why it
@@ -149,7 +149,7 @@ pub record Drives {D : Type 0} (on : View D) (start : World D) (left0 left1 held
   pub number : NamesLine answer (from + length handled + 1)
   pub whole : (IsCutShort stop → ⊥) → cut ≡ []
   -- a count of faults never falls; a node that failed has its cause, and one that was never turned has the count that it had
-  pub later : (n : ℕ) (disk disk' : D) → disk_at start n ≡ Some disk → disk_at last n ≡ Some disk' → on.faults disk ≤ on.faults disk'
+  pub later : (n : ℕ) (disk disk' : D) → disk_of_node start n ≡ Some disk → disk_of_node last n ≡ Some disk' → on.faults disk ≤ on.faults disk'
   pub fallen : (n : ℕ) → Among n (failed_in (flat_map (λ a. a) (acts ++ behind))) → HasFailed on start last n
   pub quiet : StaysWhole on start outcomes last
   -- all promises are kept by the disks and the book of the world that came back, whatever line then says why the program ended

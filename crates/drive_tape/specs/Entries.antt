@@ -3,7 +3,7 @@ use Rattle.std.specs.Prelude.{◌≡◌, ℕ, List, ◌++◌, map, Option, Resul
 use Rattle.std.specs.Io.KnownBytes.{Appends}
 use Rattle.mail_model.specs.Transcript as transcript
 use Rattle.mail_model.specs.Transcript.{written_of}
-use Rattle.drive_tape.specs.Parts.{IsPart}
+use Rattle.drive_tape.specs.Parts.{IsPartOfLine}
 use Rattle.drive_tape.specs.declared.entry.Entry.{Entry}
 use Rattle.drive_tape.specs.declared.entry.Entry.TheVariants.{Said, Event, Refused}
 
@@ -19,4 +19,4 @@ transcript_entries entries = map transcript_entry entries
 abbrev pub WritesEntries : {E : Type 0} → Option (List ℕ) → Option (List ℕ) → Result (Unit {0}) E → List transcript.Entry → Type 0
 WritesEntries old new (Ok _) entries = Appends old new (written_of entries)
 WritesEntries old new (Err _) entries = (front : List transcript.Entry) × (missing : List transcript.Entry) × (cut : List ℕ)
-    × (entries ≡ front ++ missing) × IsPart missing cut × Appends old new (written_of front ++ cut)
+    × (entries ≡ front ++ missing) × IsPartOfLine missing cut × Appends old new (written_of front ++ cut)

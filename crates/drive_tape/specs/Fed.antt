@@ -120,10 +120,10 @@ pub record IsKeptUp {D : Type 0} (on : View D) (start : World D) (p : Point) (pl
   pub causes : HasCauses on start (failed_in p.been) world
 
 -- whether it had a call that was given up
-abbrev pub LetsGo : {D : Type 0} → View D → World D → Plan → Point → ℕ → Result Bool Why → Cluster D → Type 0
-LetsGo on start plan p place (Ok true) cluster = IsLetGo on start plan p place cluster
-LetsGo on start plan p place (Ok false) cluster = HadNone on start plan p place cluster
-LetsGo on start plan p place (Err stop) cluster = IsKeptUp on start p place stop cluster.world
+abbrev pub GaveUpCall : {D : Type 0} → View D → World D → Plan → Point → ℕ → Result Bool Why → Cluster D → Type 0
+GaveUpCall on start plan p place (Ok true) cluster = IsLetGo on start plan p place cluster
+GaveUpCall on start plan p place (Ok false) cluster = HadNone on start plan p place cluster
+GaveUpCall on start plan p place (Err stop) cluster = IsKeptUp on start p place stop cluster.world
 
 -- a line closes the session at this place, whose call is not in progress any more
 pub record IsClosingAt {D : Type 0} (on : View D) (start : World D) (plan : Plan) (p : Point) (line : List ℕ) (place : ℕ) (cluster : Cluster D) : Type 0 where
@@ -170,7 +170,7 @@ pub record IsTelling {D : Type 0} (on : View D) (start : World D) (plan : Plan) 
   pub is_after : IsAfter after plain
 
 -- it was made, and its session hears on or rests
-pub record HasTold {D : Type 0} (on : View D) (start : World D) (plan : Plan) (p : Point) (line : List ℕ) (place : ℕ) (goes_on : Bool) (held : Option (List ℕ)) (cluster : Cluster D) : Type 0 where
+pub record WasFed {D : Type 0} (on : View D) (start : World D) (plan : Plan) (p : Point) (line : List ℕ) (place : ℕ) (goes_on : Bool) (held : Option (List ℕ)) (cluster : Cluster D) : Type 0 where
   pub q : Point
   pub order : Order
   pub spelled : tape_order line ≡ Some order
@@ -178,7 +178,7 @@ pub record HasTold {D : Type 0} (on : View D) (start : World D) (plan : Plan) (p
   pub went : WentOn on start plan q (MovedTo {E = Why} place 1 (Ok goes_on)) held cluster
 
 abbrev pub TellsSo : {D : Type 0} → View D → World D → Plan → Point → List ℕ → ℕ → Result Bool Why → Option (List ℕ) → Cluster D → Type 0
-TellsSo on start plan p line place (Ok goes_on) held cluster = HasTold on start plan p line place goes_on held cluster
+TellsSo on start plan p line place (Ok goes_on) held cluster = WasFed on start plan p line place goes_on held cluster
 TellsSo on start plan p line place (Err reason) held cluster = LineStopped on start plan p line reason held cluster.world
 
 -- the sessions of this node are to fall, or of none

@@ -34,9 +34,9 @@ event_seen (HasWidened did) = plain.ClusterEvent.HasWidened did
 event_seen (HasFaulted node) = plain.ClusterEvent.HasFaulted node
 
 -- the line of this text, where there is one
-abbrev pub entries_of : Option (List ℕ) → List Entry
-entries_of None = []
-entries_of (Some text) = Event text ∷ []
+abbrev pub entries_of_event : Option (List ℕ) → List Entry
+entries_of_event None = []
+entries_of_event (Some text) = Event text ∷ []
 
 -- the node whose sessions fall
 abbrev pub fallen_by : plain.ClusterEvent → Option ℕ

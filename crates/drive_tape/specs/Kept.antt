@@ -12,7 +12,7 @@ use Rattle.session_model.specs.Run.{Stop}
 use Rattle.session_model.specs.Kept.{KeepsPromises}
 use Rattle.cluster_owes.specs.Held.{filed_on}
 use Rattle.node_store.specs.Disks.{View}
-use Rattle.cluster_world.specs.Worlds.{plan_of, disks_of, book_of, tells}
+use Rattle.cluster_world.specs.Worlds.{plan_of, disks_of, book_of, disks_tell}
 use Rattle.cluster_world.specs.declared.world.World.{World}
 
 -- The order needs nothing that a disk tells: it starts no node, and has none push to another.
@@ -26,9 +26,9 @@ AreBlindLines nodes lines = All (λ line. IsBlindOrder nodes (tape_order line)) 
 
 -- The disks tell what they hold, or no line needs it.
 abbrev pub AreToldOrBlind : {D : Type 0} → View D → World D → List (List ℕ) → Type 0
-AreToldOrBlind on start lines = (tells on.seen start ≡ true) ⊎ AreBlindLines (plan_of start).nodes lines
+AreToldOrBlind on start lines = (disks_tell on.seen start ≡ true) ⊎ AreBlindLines (plan_of start).nodes lines
 
 -- All promises are kept, by the records that the disks of this world hold and by its own book; what is filed of a message is what the first of the disks has that has any.
 pub record KeptIn {D : Type 0} (on : View D) (world : World D) (plan : Plan) (stop : Stop) (lines : List (List ℕ)) (entries : List Entry) (acts : List Act) (begun : List Asked) : Type 0 where
   pub records : List (List Record)
-  pub promises : KeepsPromises plan (tells on.seen world) stop lines entries (map on.seen (disks_of world)) records (filed_on records) (book_of world) acts begun
+  pub promises : KeepsPromises plan (disks_tell on.seen world) stop lines entries (map on.seen (disks_of world)) records (filed_on records) (book_of world) acts begun

@@ -25,7 +25,7 @@ use Rattle.drive_tape.specs.Happenings.{event_seen, fallen_by}
 use Rattle.drive_tape.specs.Worlds.{WorldIsAt, WentTo, HasGone, AreLives, HasFailed}
 
 -- The order is not refused to a world that the acts so far left.
-pub record IsFit {D : Type 0} (on : View D) (start : World D) (outcomes : List Outcome) (awaited : List Awaited) (been : List Act) (order : ClusterOrder) (world : World D) : Type 0 where
+pub record OrderIsFit {D : Type 0} (on : View D) (start : World D) (outcomes : List Outcome) (awaited : List Awaited) (been : List Act) (order : ClusterOrder) (world : World D) : Type 0 where
   pub at : WorldIsAt on start outcomes awaited world
   pub lives : AreLives (plan_of world) been world
   pub accepted : cluster_refusal (plan_of world) (life_after been) order ≡ None

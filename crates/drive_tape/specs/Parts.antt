@@ -4,7 +4,7 @@ use Rattle.mail_model.specs.Lines.{ended}
 use Rattle.mail_model.specs.Transcript.{Entry, entry_line}
 
 -- a prefix of the line of the first of these entries, which may be empty and is not the whole of it
-pub record IsPart (entries : List Entry) (cut : List ℕ) : Type 0 where
+pub record IsPartOfLine (entries : List Entry) (cut : List ℕ) : Type 0 where
   pub entry : Entry
   pub more : List Entry
   pub rest : List ℕ
@@ -14,4 +14,4 @@ pub record IsPart (entries : List Entry) (cut : List ℕ) : Type 0 where
 
 -- nothing, or such a prefix
 abbrev pub IsCutEntry : List Entry → List ℕ → Type 0
-IsCutEntry entries cut = (cut ≡ []) ⊎ IsPart entries cut
+IsCutEntry entries cut = (cut ≡ []) ⊎ IsPartOfLine entries cut

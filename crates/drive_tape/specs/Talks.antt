@@ -74,6 +74,6 @@ abbrev pub EachBut : ℕ → ℕ → (ℕ → Session → Type 0) → List Sessi
 EachBut node from so sessions = (place : ℕ) (session : Session) → slice_get sessions place ≡ Some session → (session.node ≡ node → place < from) → so place session
 
 -- the session of this number is at this place and has not ended; or there is none that has not
-abbrev pub IsFound : ℕ → Option ℕ → List Session → Type 0
-IsFound number (Some place) sessions = (plain : Session) × (slice_get sessions place ≡ Some plain) × (session_at sessions number ≡ Some plain) × IsOn plain.standing
-IsFound number None sessions = session_fault (session_at sessions number) ≡ Some NoSuchSession
+abbrev pub SessionIsFound : ℕ → Option ℕ → List Session → Type 0
+SessionIsFound number (Some place) sessions = (plain : Session) × (slice_get sessions place ≡ Some plain) × (session_at sessions number ≡ Some plain) × IsOn plain.standing
+SessionIsFound number None sessions = session_fault (session_at sessions number) ≡ Some NoSuchSession

@@ -17,8 +17,8 @@ use Rattle.call_tickets.specs.declared.answer.Answer.{Answer}
 use Rattle.call_tickets.specs.Seen.{answer_seen}
 use Rattle.cluster_model.specs.World as plain
 use Rattle.node_store.specs.Disks.{View}
-use Rattle.cluster_world.specs.Worlds.{IsReady, state_of, plan_of, life_of, disk_at, tells, StandsFor}
-use Rattle.cluster_world.specs.Outcomes.{Outcome, Awaited, Makes, without_node, without_session}
+use Rattle.cluster_world.specs.Worlds.{CanMakeSteps, state_of, plan_of, life_of, disk_of_node, disks_tell, StandsFor}
+use Rattle.cluster_world.specs.Outcomes.{Outcome, Awaited, Makes, awaited_elsewhere, without_session}
 use Rattle.cluster_world.specs.Outcomes.Outcome.{Began, Refused, Fell, Broke, Answers, StillPending, Unanswered, GaveUp, Abandoned, KeptUp, Left}
 use Rattle.cluster_world.specs.Steps.{AreSettled}
 use Rattle.cluster_world.specs.declared.step.Said.{Said}
@@ -51,7 +51,7 @@ AreWhole (outcome ∷ outcomes) = IsWholeOutcome outcome × AreWhole outcomes
 
 -- A world began here, and made these steps since and no others; these calls are awaited. Where the disks tell what they hold, it began as one of the machine.
 pub record WorldIsAt {D : Type 0} (on : View D) (start : World D) (outcomes : List Outcome) (awaited : List Awaited) (world : World D) : Type 0 where
-  pub stands : tells on.seen start ≡ true → (w : plain.World) × StandsFor on start w
+  pub stands : disks_tell on.seen start ≡ true → (w : plain.World) × StandsFor on start w
   pub made : Makes on outcomes [] start awaited world
   pub whole : AreWhole outcomes
 
@@ -73,8 +73,8 @@ IsDownNow node old new = (n : ℕ) → life_of new n ≡ turned node Down n (lif
 
 -- The disk of the node has failed since; or it does not tell what it holds.
 abbrev pub HasFailed : {D : Type 0} → View D → World D → World D → ℕ → Type 0
-HasFailed {D} on start world node = (disk disk' : D) → disk_at start node ≡ Some disk → disk_at world node ≡ Some disk'
-    → Rose (on.faults disk) (on.faults disk') ⊎ (on.seen disk ≡ None) ⊎ (tells on.seen start ≡ false)
+HasFailed {D} on start world node = (disk disk' : D) → disk_of_node start node ≡ Some disk → disk_of_node world node ≡ Some disk'
+    → Rose (on.faults disk) (on.faults disk') ⊎ (on.seen disk ≡ None) ⊎ (disks_tell on.seen start ≡ false)
 
 -- so it is of each node that failed in these acts
 abbrev pub HasCauses : {D : Type 0} → View D → World D → List ℕ → World D → Type 0
@@ -91,7 +91,7 @@ HasGone on start old outcomes new = (awaited : List Awaited) × WentTo on start 
 -- a world of few nodes, and the disk of each that is up is settled
 pub record WorldIsReady {D : Type 0} (seen : D → Option (List ℕ)) (is_settled : D → Type 0) (world : World D) : Type 0 where
   pub few : (plan_of world).nodes ≤ 16
-  pub ready : IsReady seen world
+  pub ready : CanMakeSteps seen world
   pub settled : AreSettled is_settled (state_of world)
 
 -- what is handed on of what a step said that began a call of this kind
@@ -109,7 +109,7 @@ BeganSo on start outcomes awaited k node call (Ok (Some given)) old new =
     (given.ticket.node ≡ node) × IsKindOf given.kind call × AreSameLives old new
     × WentTo on start old (outcomes ++ Began k node call given.ticket ∷ []) (awaited ++ record { ticket = given.ticket; session = k; call = call } ∷ []) new
 BeganSo on start outcomes awaited k node call (Ok None) old new =
-    IsDownNow node old new × HasFailed on start new node × WentTo on start old (outcomes ++ Fell k node call ∷ []) (without_node node awaited) new
+    IsDownNow node old new × HasFailed on start new node × WentTo on start old (outcomes ++ Fell k node call ∷ []) (awaited_elsewhere node awaited) new
 BeganSo on start outcomes awaited k node call (Err _) old new =
     HasGone on start old (outcomes ++ Refused k node call ∷ []) new ⊎ HasGone on start old (outcomes ++ Broke k node call ∷ []) new
 

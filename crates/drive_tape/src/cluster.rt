@@ -11,7 +11,7 @@ ghost use Rattle.drive_tape.specs.Lines.{NothingIsUnderWay};
 ghost use Rattle.drive_tape.specs.Fed.{IsTelling, TellsSo};
 ghost use Rattle.drive_tape.specs.Worlds.{WorldIsReady};
 ghost use Rattle.drive_tape.specs.Moving.{left_at, work_at, AreEven};
-ghost use Rattle.drive_tape.specs.Clusters.{HearsAt, RestsAt, MovedTo, IsSaying, SessionEndsAt, IsBeginning, FaultsAt, IsToFall, IsFalling, FellOn, AsksFrom, HasAnswer, HeardSo, IsLess};
+ghost use Rattle.drive_tape.specs.Clusters.{SessionHears, RestsAt, MovedTo, IsSaying, SessionEndsAt, IsBeginning, FaultsAt, IsToFall, IsFalling, FellOn, AsksFrom, CallHasAnswer, HeardSo, IsLess};
 
 use crate::Stop;
 use crate::calls::{ask, begin, leave};
@@ -65,7 +65,7 @@ impl<D: Disk> Cluster<D> {
         requires even { AreEven self.old.sessions }
         ensures ready { WorldIsReady D.seen D.settled self.new.world }
         ensures plan { plan_of self.new.world ≡ plan_of self.old.world }
-        ensures moved { (start : AWorld D) (p : Point) (onward : ℕ) → IsAtPoint (view_of D.seen D.faults D.clock) start (plan_of self.old.world) self.old p → p.held ≡ K.contents sink.old → HearsAt place onward p
+        ensures moved { (start : AWorld D) (p : Point) (onward : ℕ) → IsAtPoint (view_of D.seen D.faults D.clock) start (plan_of self.old.world) self.old p → p.held ≡ K.contents sink.old → SessionHears place onward p
             → WorkGoes (view_of D.seen D.faults D.clock) start (plan_of self.old.world) p (MovedTo place onward result) result (K.contents sink.new) self.new }
         ensures length { length self.new.sessions.talkers.items ≡ length self.old.sessions.talkers.items }
         ensures even { AreEven self.new.sessions }
@@ -94,7 +94,7 @@ impl<D: Disk> Cluster<D> {
         requires even { AreEven self.old.sessions }
         ensures ready { WorldIsReady D.seen D.settled self.new.world }
         ensures plan { plan_of self.new.world ≡ plan_of self.old.world }
-        ensures heard { (start : AWorld D) (p : Point) (onward : ℕ) → IsAtPoint (view_of D.seen D.faults D.clock) start (plan_of self.old.world) self.old p → p.held ≡ K.contents sink.old → HearsAt place onward p
+        ensures heard { (start : AWorld D) (p : Point) (onward : ℕ) → IsAtPoint (view_of D.seen D.faults D.clock) start (plan_of self.old.world) self.old p → p.held ≡ K.contents sink.old → SessionHears place onward p
             → WorkGoes (view_of D.seen D.faults D.clock) start (plan_of self.old.world) p (RestsAt onward) result (K.contents sink.new) self.new }
         ensures length { length self.new.sessions.talkers.items ≡ length self.old.sessions.talkers.items }
         ensures even { AreEven self.new.sessions }
@@ -133,7 +133,7 @@ impl<D: Disk> Cluster<D> {
         requires even { AreEven self.old.sessions }
         ensures ready { WorldIsReady D.seen D.settled self.new.world }
         ensures plan { plan_of self.new.world ≡ plan_of self.old.world }
-        ensures answered { (start : AWorld D) (p : Point) → HasAnswer (view_of D.seen D.faults D.clock) start (plan_of self.old.world) p place (answer_seen answer) self.old → p.held ≡ K.contents sink.old
+        ensures answered { (start : AWorld D) (p : Point) → CallHasAnswer (view_of D.seen D.faults D.clock) start (plan_of self.old.world) p place (answer_seen answer) self.old → p.held ≡ K.contents sink.old
             → WorkGoes (view_of D.seen D.faults D.clock) start (plan_of self.old.world) p (MovedTo place (place + 1) result) result (K.contents sink.new) self.new }
         ensures length { length self.new.sessions.talkers.items ≡ length self.old.sessions.talkers.items }
         ensures even { AreEven self.new.sessions }

@@ -2,7 +2,7 @@
 ghost use Rattle.std.specs.Prelude.{◌≡◌, ◌≤◌, ◌<◌, ◌^◌, OnOk, IsErrOf};
 ghost use Rattle.io_edge.specs.Causes.{Rose};
 ghost use Rattle.node_store.specs.Disks.{view_of};
-ghost use Rattle.cluster_world.specs.Worlds.{IsReady, state_of, plan_of};
+ghost use Rattle.cluster_world.specs.Worlds.{CanMakeSteps, state_of, plan_of};
 ghost use Rattle.cluster_world.specs.Steps.{AreSettled};
 ghost use Rattle.cluster_world.specs.Opens.{IsAtBeginning};
 ghost use Rattle.cluster_world.specs.declared.world.World.{World as AWorld};
@@ -153,11 +153,11 @@ pub fn drive<S: Source, K: Sink, D: Disk>(
     from: u64,
 ) -> (Drove, World<D>)
     requires nodes { (plan_of world).nodes ≤ 16 }
-    requires ready { IsReady D.seen world }
+    requires ready { CanMakeSteps D.seen world }
     requires settled { AreSettled D.settled (state_of world) }
     requires few { from < 2 ^ 63 }
     ensures drives { IsAtBeginning (view_of D.seen D.faults D.clock) (plan_of world) world → Drives (view_of D.seen D.faults D.clock) world (S.left source.old) (S.left source.new) (K.contents sink.old) (K.contents sink.new) result.0 from result.1 }
-    ensures ready { IsReady D.seen result.1 }
+    ensures ready { CanMakeSteps D.seen result.1 }
     ensures settled { AreSettled D.settled (state_of result.1) }
     ensures plan { plan_of result.1 ≡ plan_of world }
     ensures read_later { S.faults source.old ≤ S.faults source.new }

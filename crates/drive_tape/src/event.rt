@@ -4,7 +4,7 @@ ghost use Rattle.std.specs.Fmt.{decimal};
 ghost use Rattle.io_edge.specs.Causes.{Rose};
 ghost use Rattle.mail_model.specs.Transcript.{why_word};
 ghost use Rattle.session_model.specs.Events.{event_entries, widened_text};
-ghost use Rattle.drive_tape.specs.Happenings.{why_seen, event_seen, entries_of, fallen_by, WritesOrStops};
+ghost use Rattle.drive_tape.specs.Happenings.{why_seen, event_seen, entries_of_event, fallen_by, WritesOrStops};
 
 use crate::entry::Entry;
 use crate::{WriteStop, write_entries};
@@ -133,7 +133,7 @@ fn faulted(alloc: Global, node: NodeNo) -> Result<Octets, AllocError>
 impl ClusterEvent {
     // The text of its line; none where it has no line.
     fn text(&self, alloc: Global) -> Result<Option<Octets>, AllocError>
-        ensures { IfOk result (λ text. entries_of text ≡ event_entries (event_seen self.now)) }
+        ensures { IfOk result (λ text. entries_of_event text ≡ event_entries (event_seen self.now)) }
     {
         match self {
             ClusterEvent::WentDown(node) => Ok(Some(of_node(alloc, *node, b" down")?)),

@@ -12,7 +12,7 @@ ghost use Rattle.drive_tape.specs.Clusters.{RestsAt, MovedTo};
 ghost use Rattle.drive_tape.specs.declared.drove.Stop.{Stop as Why};
 ghost use Rattle.drive_tape.specs.Points.{Point, IsAtPoint, WorkGoes};
 ghost use Rattle.drive_tape.specs.Lines.{LineDid};
-ghost use Rattle.drive_tape.specs.Fed.{IsFeedingAt, AdmitsSession, LetsGo, IsGivingUpAt, IsClosingAt, MayFallBy, Happens};
+ghost use Rattle.drive_tape.specs.Fed.{IsFeedingAt, AdmitsSession, GaveUpCall, IsGivingUpAt, IsClosingAt, MayFallBy, Happens};
 ghost use Rattle.session_model.specs.Talk.{IsOn};
 ghost use Rattle.session_model.specs.Sessions.{Session};
 ghost use Rattle.drive_tape.specs.Worlds.{WorldIsReady};
@@ -181,7 +181,7 @@ fn let_go<D: Disk>(cluster: &mut Cluster<D>, alloc: Global, place: usize) -> Res
     ensures even { AreEven cluster.new.sessions }
     ensures length { length cluster.new.sessions.talkers.items ≡ length cluster.old.sessions.talkers.items }
     ensures let_go { (start : AWorld D) (p : Point) (plain : Session) → IsAtPoint (view_of D.seen D.faults D.clock) start (plan_of cluster.old.world) cluster.old p → slice_get p.sessions place ≡ Some plain → IsOn plain.standing
-        → LetsGo (view_of D.seen D.faults D.clock) start (plan_of cluster.old.world) p place result cluster.new }
+        → GaveUpCall (view_of D.seen D.faults D.clock) start (plan_of cluster.old.world) p place result cluster.new }
     ensures why { IsErrOf result Stop.WriteFault → ⊥ }
 {
     let Some(open_call) = cluster.sessions.calls[place].take() else {

@@ -8,7 +8,7 @@ ghost use Rattle.cluster_world.specs.Outcomes.{Outcome, Awaited};
 ghost use Rattle.cluster_world.specs.declared.world.World.{World as AWorld};
 ghost use Rattle.drive_tape.specs.Orders.{admitted_seen};
 ghost use Rattle.drive_tape.specs.Worlds.{WorldIsReady};
-ghost use Rattle.drive_tape.specs.Moved.{MovedSo, IsFit, PushedSo, PushesSo, PostsTo};
+ghost use Rattle.drive_tape.specs.Moved.{MovedSo, OrderIsFit, PushedSo, PushesSo, PostsTo};
 
 use crate::Stop;
 use crate::denial::stop_by;
@@ -25,7 +25,7 @@ fn crash<D: Disk>(world: &mut World<D>, alloc: Global, node: NodeNo) -> Result<C
     ensures ready { WorldIsReady D.seen D.settled world.new }
     ensures plan { plan_of world.new ≡ plan_of world.old }
     ensures moved { (start : AWorld D) (outcomes : List Outcome) (awaited : List Awaited) (been : List AnAct)
-        → IsFit (view_of D.seen D.faults D.clock) start outcomes awaited been (order.Crash node) world.old → MovedSo (view_of D.seen D.faults D.clock) start outcomes awaited been world.old (order.Crash node) result world.new }
+        → OrderIsFit (view_of D.seen D.faults D.clock) start outcomes awaited been (order.Crash node) world.old → MovedSo (view_of D.seen D.faults D.clock) start outcomes awaited been world.old (order.Crash node) result world.new }
     ensures why { IsErrOf result Stop.WriteFault → ⊥ }
 {
     match world.step(alloc, Step::Crash { node }) {
@@ -42,7 +42,7 @@ fn start<D: Disk>(world: &mut World<D>, alloc: Global, node: NodeNo) -> Result<C
     ensures ready { WorldIsReady D.seen D.settled world.new }
     ensures plan { plan_of world.new ≡ plan_of world.old }
     ensures moved { (start : AWorld D) (outcomes : List Outcome) (awaited : List Awaited) (been : List AnAct)
-        → IsFit (view_of D.seen D.faults D.clock) start outcomes awaited been (order.Start node) world.old → MovedSo (view_of D.seen D.faults D.clock) start outcomes awaited been world.old (order.Start node) result world.new }
+        → OrderIsFit (view_of D.seen D.faults D.clock) start outcomes awaited been (order.Start node) world.old → MovedSo (view_of D.seen D.faults D.clock) start outcomes awaited been world.old (order.Start node) result world.new }
     ensures why { IsErrOf result Stop.WriteFault → ⊥ }
 {
     match world.step(alloc, Step::Start { node }) {
@@ -60,7 +60,7 @@ fn lose<D: Disk>(world: &mut World<D>, alloc: Global, node: NodeNo) -> Result<Cl
     ensures ready { WorldIsReady D.seen D.settled world.new }
     ensures plan { plan_of world.new ≡ plan_of world.old }
     ensures moved { (start : AWorld D) (outcomes : List Outcome) (awaited : List Awaited) (been : List AnAct)
-        → IsFit (view_of D.seen D.faults D.clock) start outcomes awaited been (order.Lose node) world.old → MovedSo (view_of D.seen D.faults D.clock) start outcomes awaited been world.old (order.Lose node) result world.new }
+        → OrderIsFit (view_of D.seen D.faults D.clock) start outcomes awaited been (order.Lose node) world.old → MovedSo (view_of D.seen D.faults D.clock) start outcomes awaited been world.old (order.Lose node) result world.new }
     ensures why { IsErrOf result Stop.WriteFault → ⊥ }
 {
     match world.step(alloc, Step::Lose { node }) {
@@ -97,7 +97,7 @@ fn post<D: Disk>(
     ensures ready { WorldIsReady D.seen D.settled world.new }
     ensures plan { plan_of world.new ≡ plan_of world.old }
     ensures moved { (start : AWorld D) (outcomes : List Outcome) (awaited : List Awaited) (been : List AnAct)
-        → IsFit (view_of D.seen D.faults D.clock) start outcomes awaited been (if keep then order.Again letter else order.Post letter) world.old → MovedSo (view_of D.seen D.faults D.clock) start outcomes awaited been world.old (if keep then order.Again letter else order.Post letter) result world.new }
+        → OrderIsFit (view_of D.seen D.faults D.clock) start outcomes awaited been (if keep then order.Again letter else order.Post letter) world.old → MovedSo (view_of D.seen D.faults D.clock) start outcomes awaited been world.old (if keep then order.Again letter else order.Post letter) result world.new }
     ensures why { IsErrOf result Stop.WriteFault → ⊥ }
 {
     let said = world.step(alloc, Step::Post { letter, keep });
@@ -114,7 +114,7 @@ fn drop_letter<D: Disk>(
     ensures ready { WorldIsReady D.seen D.settled world.new }
     ensures plan { plan_of world.new ≡ plan_of world.old }
     ensures moved { (start : AWorld D) (outcomes : List Outcome) (awaited : List Awaited) (been : List AnAct)
-        → IsFit (view_of D.seen D.faults D.clock) start outcomes awaited been (order.Drop letter) world.old → MovedSo (view_of D.seen D.faults D.clock) start outcomes awaited been world.old (order.Drop letter) result world.new }
+        → OrderIsFit (view_of D.seen D.faults D.clock) start outcomes awaited been (order.Drop letter) world.old → MovedSo (view_of D.seen D.faults D.clock) start outcomes awaited been world.old (order.Drop letter) result world.new }
     ensures why { IsErrOf result Stop.WriteFault → ⊥ }
 {
     match world.step(alloc, Step::Drop { letter }) {
@@ -138,7 +138,7 @@ fn widen<D: Disk>(
     ensures ready { WorldIsReady D.seen D.settled world.new }
     ensures plan { plan_of world.new ≡ plan_of world.old }
     ensures moved { (start : AWorld D) (outcomes : List Outcome) (awaited : List Awaited) (been : List AnAct)
-        → IsFit (view_of D.seen D.faults D.clock) start outcomes awaited been (order.Widen at user id to) world.old → MovedSo (view_of D.seen D.faults D.clock) start outcomes awaited been world.old (order.Widen at user id to) result world.new }
+        → OrderIsFit (view_of D.seen D.faults D.clock) start outcomes awaited been (order.Widen at user id to) world.old → MovedSo (view_of D.seen D.faults D.clock) start outcomes awaited been world.old (order.Widen at user id to) result world.new }
     ensures why { IsErrOf result Stop.WriteFault → ⊥ }
 {
     match world.step(alloc, Step::Widen { at, user, id, to }) {
@@ -156,7 +156,7 @@ fn flow<D: Disk>(world: &mut World<D>, alloc: Global) -> Result<ClusterEvent, St
     ensures ready { WorldIsReady D.seen D.settled world.new }
     ensures plan { plan_of world.new ≡ plan_of world.old }
     ensures moved { (start : AWorld D) (outcomes : List Outcome) (awaited : List Awaited) (been : List AnAct)
-        → IsFit (view_of D.seen D.faults D.clock) start outcomes awaited been (order.Flow) world.old → MovedSo (view_of D.seen D.faults D.clock) start outcomes awaited been world.old (order.Flow) result world.new }
+        → OrderIsFit (view_of D.seen D.faults D.clock) start outcomes awaited been (order.Flow) world.old → MovedSo (view_of D.seen D.faults D.clock) start outcomes awaited been world.old (order.Flow) result world.new }
     ensures why { IsErrOf result Stop.WriteFault → ⊥ }
 {
     match world.flow(alloc) {
@@ -216,7 +216,7 @@ fn push<D: Disk>(world: &mut World<D>, alloc: Global, from: NodeNo) -> Result<Cl
     ensures ready { WorldIsReady D.seen D.settled world.new }
     ensures plan { plan_of world.new ≡ plan_of world.old }
     ensures moved { (start : AWorld D) (outcomes : List Outcome) (awaited : List Awaited) (been : List AnAct)
-        → IsFit (view_of D.seen D.faults D.clock) start outcomes awaited been (order.Push from) world.old → MovedSo (view_of D.seen D.faults D.clock) start outcomes awaited been world.old (order.Push from) result world.new }
+        → OrderIsFit (view_of D.seen D.faults D.clock) start outcomes awaited been (order.Push from) world.old → MovedSo (view_of D.seen D.faults D.clock) start outcomes awaited been world.old (order.Push from) result world.new }
     ensures why { IsErrOf result Stop.WriteFault → ⊥ }
 {
     let mut sent: u64 = 0;
@@ -246,7 +246,7 @@ pub(crate) fn make<D: Disk>(
     ensures ready { WorldIsReady D.seen D.settled world.new }
     ensures plan { plan_of world.new ≡ plan_of world.old }
     ensures moved { (start : AWorld D) (outcomes : List Outcome) (awaited : List Awaited) (been : List AnAct)
-        → IsFit (view_of D.seen D.faults D.clock) start outcomes awaited been (admitted_seen admitted) world.old → MovedSo (view_of D.seen D.faults D.clock) start outcomes awaited been world.old (admitted_seen admitted) result world.new }
+        → OrderIsFit (view_of D.seen D.faults D.clock) start outcomes awaited been (admitted_seen admitted) world.old → MovedSo (view_of D.seen D.faults D.clock) start outcomes awaited been world.old (admitted_seen admitted) result world.new }
     ensures why { IsErrOf result Stop.WriteFault → ⊥ }
 {
     match admitted {

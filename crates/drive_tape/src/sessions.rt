@@ -11,7 +11,7 @@ ghost use Rattle.call_tickets.specs.Moves.{Due, HasEnded, IsBusy};
 ghost use Rattle.call_tickets.specs.Seen.{given_answer};
 ghost use Rattle.tape_lines.specs.Orders.{protocol_seen};
 ghost use Rattle.drive_tape.specs.Leaving.{IsLeaveOf};
-ghost use Rattle.drive_tape.specs.Talks.{Converse, IsFound};
+ghost use Rattle.drive_tape.specs.Talks.{Converse, SessionIsFound};
 ghost use Rattle.drive_tape.specs.Speakers.{Matches};
 ghost use Rattle.drive_tape.specs.Moving.{MovesTo, RepliesTo, FallsTo, GoesOn, left_at};
 
@@ -86,7 +86,7 @@ impl Sessions {
     /// The place of the session of this number, where it was opened and has not ended.
     pub fn find(&self, number: u64) -> Option<usize>
         ensures some { IfSome result (λ place. (number ≡ place + 1) × (place < length self.now.talkers.items)) }
-        ensures found { (sessions : List Session) → Converse self.now.talkers.items sessions → IsFound number result sessions }
+        ensures found { (sessions : List Session) → Converse self.now.talkers.items sessions → SessionIsFound number result sessions }
     {
         match self.place_of(number) {
             Some(place) => { if self.is_on(place) { Some(place) } else { None } }

@@ -12,7 +12,7 @@ use Rattle.std.specs.BTreeMap as tree
 use Rattle.object_model.specs.Letters.{Row}
 use Rattle.object_model.specs.Lists.{Among}
 use Rattle.mail_map.specs.Tellers.{Teller, teller_cmp, teller_total}
-use Rattle.mail_map.specs.Rows.{row_at}
+use Rattle.mail_map.specs.Rows.{row_of_teller}
 use Rattle.mail_map.specs.Profiles.{Profile, profile_cmp, profile_total, IsGreatest, is_above, greater_of, profile_in}
 use Rattle.mail_map.proofs.Retained.{same_teller}
 
@@ -118,10 +118,10 @@ none_above : (a : Option Profile) → is_above a None ≡ false → a ≡ None
 none_above None e = refl
 none_above (Some p) e = absurd (true≢false e)
 
-pub greatest_is : (rows : BTreeMap Teller Row) → tree.IsOrdered teller_cmp rows → IsGreatest (λ n boot. row_at (Some rows) n boot) (profile_in (fold greater_of None (tree.values rows)))
+pub greatest_is : (rows : BTreeMap Teller Row) → tree.IsOrdered teller_cmp rows → IsGreatest (λ n boot. row_of_teller (Some rows) n boot) (profile_in (fold greater_of None (tree.values rows)))
 greatest_is rows ordered = by rows.entries refl
   where
-    by : (es : List (Teller × Row)) → rows.entries ≡ es → IsGreatest (λ n boot. row_at (Some rows) n boot) (profile_in (fold greater_of None (values_of rows.entries)))
+    by : (es : List (Teller × Row)) → rows.entries ≡ es → IsGreatest (λ n boot. row_of_teller (Some rows) n boot) (profile_in (fold greater_of None (values_of rows.entries)))
     by [] is = subst (λ (l : List (Teller × Row)). IsGreatest (λ n boot. lookup (is_at (teller_cmp (record { node = n; boot = boot }))) l) (profile_in (fold greater_of None (values_of l)))) (sym is)
         (λ n k row e. absurd (true≢false (sym (ap is_some e))))
     by (e ∷ es) is = subst (λ (l : List (Teller × Row)). IsGreatest (λ n boot. lookup (is_at (teller_cmp (record { node = n; boot = boot }))) l) (profile_in (fold greater_of None (values_of l)))) (sym is)
@@ -149,12 +149,12 @@ greatest_is rows ordered = by rows.entries refl
                 })
 
 -- of a user without rows nothing is known
-pub none_is : IsGreatest (λ n boot. row_at None n boot) None
+pub none_is : IsGreatest (λ n boot. row_of_teller None n boot) None
 none_is n k row e = absurd (true≢false (sym (ap is_some e)))
 
 -- what a user's rows were found to have as the greatest
 pub greatest_at : (rows : BTreeMap Teller Row) (held : Option (BTreeMap Teller Row)) (profile : Option Profile) → Some rows ≡ held → profile ≡ profile_in (fold greater_of None (tree.values rows)) → tree.IsOrdered teller_cmp rows
-    → IsGreatest (λ n boot. row_at held n boot) profile
+    → IsGreatest (λ n boot. row_of_teller held n boot) profile
 greatest_at rows held profile found is ordered =
-    subst (λ (o : Option (BTreeMap Teller Row)). IsGreatest (λ n boot. row_at o n boot) profile) found
-    (subst (IsGreatest (λ n boot. row_at (Some rows) n boot)) (sym is) (greatest_is rows ordered))
+    subst (λ (o : Option (BTreeMap Teller Row)). IsGreatest (λ n boot. row_of_teller o n boot) profile) found
+    (subst (IsGreatest (λ n boot. row_of_teller (Some rows) n boot)) (sym is) (greatest_is rows ordered))

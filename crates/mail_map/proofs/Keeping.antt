@@ -10,7 +10,7 @@ use Rattle.maps_model.specs.Rules.RowAt.{Keeps, Drops}
 use Rattle.maps_model.proofs.Telling.{one_boot}
 use Rattle.user_map.proofs.Managed.{node_is, is_node, epoch_is, is_epoch}
 use Rattle.user_map.specs.Managers.{is_managed_by}
-use Rattle.mail_map.specs.Installs.{comes_from, comes, stays, kept}
+use Rattle.mail_map.specs.Installs.{comes_from, comes, stays, kept_rows}
 use Rattle.mail_map.specs.Laws.{map_in}
 
 all_true : (a b c : Bool) → a ≡ true → b ≡ true → c ≡ true → ((a && b) && c) ≡ true
@@ -59,13 +59,13 @@ module _ (own : ℕ) (node : Node) (membership : Membership) (n boot : ℕ) (use
   stays_now = stays own (map_in node.installed) membership.map (epoch_of node) membership.members n boot user
 
   pub row_at : (disk : Disk) → NamesNode membership own node.boot → (n ≡ own → boot ≡ node.boot → manager_of membership user ≡ Some own → IsRowDue node disk membership user → ⊥)
-      → RowAt own node disk membership n boot user (kept own (map_in node.installed) membership.map (epoch_of node) membership.members node.rows n boot user)
+      → RowAt own node disk membership n boot user (kept_rows own (map_in node.installed) membership.map (epoch_of node) membership.members node.rows n boot user)
   row_at disk names untold = by stays_now refl
     where
       again : IsRowKept own node membership n boot user → n ≡ own → IsRowDue node disk membership user → ⊥
       again k mine due = untold mine (one_boot membership own boot node.boot
           (subst (λ x. NamesNode membership x boot) mine (record { member = k.comes.member; is = k.comes.is; same = k.comes.same })) names) k.manages due
 
-      by : (t : Bool) → stays_now ≡ t → RowAt own node disk membership n boot user (kept own (map_in node.installed) membership.map (epoch_of node) membership.members node.rows n boot user)
+      by : (t : Bool) → stays_now ≡ t → RowAt own node disk membership n boot user (kept_rows own (map_in node.installed) membership.map (epoch_of node) membership.members node.rows n boot user)
       by true e = let k = if_stays e in Keeps k (again k) (ap (λ t. cond t (node.rows n boot user) None) e)
       by false e = Drops (λ k. true≢false (sym (only_if_stays k) ∙ e)) untold (ap (λ t. cond t (node.rows n boot user) None) e)

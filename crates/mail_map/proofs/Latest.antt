@@ -8,7 +8,7 @@ use Rattle.object_model.specs.Letters.{Row, Member}
 use Rattle.maps_model.specs.Cluster.{Node, is_full}
 use Rattle.maps_model.specs.Laws.{named}
 use Rattle.mail_map.specs.Rows.{Rows, is_older, told_row, is_named}
-use Rattle.mail_map.specs.Laws.{told_all, no_rows, is_of, IsLatest}
+use Rattle.mail_map.specs.Laws.{told_all, no_rows, is_row_of, IsLatestOf}
 use Rattle.mail_map.proofs.OneUser.{same_user}
 
 among_either : (row : Row) (xs ys : List Row) → Among row (xs ++ ys) → Among row xs ⊎ Among row ys
@@ -26,7 +26,7 @@ is_below : (a b : ℕ) → nat_lt a b ≡ true → a < b
 is_below a b e = grind (arith, nat_tests, e)
 
 -- one row more of the same node, boot and user
-one_more : (seen : List Row) (row : Row) (held : Option Row) → IsLatest seen held → (t : Bool) → is_older held row.version ≡ t → IsLatest (seen ++ row ∷ []) (cond t held (Some row))
+one_more : (seen : List Row) (row : Row) (held : Option Row) → IsLatestOf seen held → (t : Bool) → is_older held row.version ≡ t → IsLatestOf (seen ++ row ∷ []) (cond t held (Some row))
 one_more seen row None none true e = absurd (true≢false (sym e))
 one_more seen row None none false e = record {
   before = seen;
@@ -64,17 +64,17 @@ one_more seen row (Some latest) is false e = record {
 
 module _ (n boot : ℕ) (user : List ℕ) where
   -- rows of another node, boot or user change nothing
-  other_row : (row : Row) (rows : Rows) → is_of n boot user row ≡ false → told_row row rows n boot user ≡ rows n boot user
+  other_row : (row : Row) (rows : Rows) → is_row_of n boot user row ≡ false → told_row row rows n boot user ≡ rows n boot user
   other_row row rows e = by (is_older (rows row.node row.boot row.user) row.version)
     where
-      by : (t : Bool) → cond t (rows n boot user) (cond (is_of n boot user row) (Some row) (rows n boot user)) ≡ rows n boot user
+      by : (t : Bool) → cond t (rows n boot user) (cond (is_row_of n boot user row) (Some row) (rows n boot user)) ≡ rows n boot user
       by true = refl
       by false = ap (λ b. cond b (Some row) (rows n boot user)) e
 
   -- a row of this node, boot and user
-  own_row : (row : Row) (rows : Rows) → is_of n boot user row ≡ true → told_row row rows n boot user ≡ cond (is_older (rows n boot user) row.version) (rows n boot user) (Some row)
+  own_row : (row : Row) (rows : Rows) → is_row_of n boot user row ≡ true → told_row row rows n boot user ≡ cond (is_older (rows n boot user) row.version) (rows n boot user) (Some row)
   own_row row rows e =
-      ap (λ (o : Option Row). cond (is_older o row.version) (rows n boot user) (cond (is_of n boot user row) (Some row) (rows n boot user))) held
+      ap (λ (o : Option Row). cond (is_older o row.version) (rows n boot user) (cond (is_row_of n boot user row) (Some row) (rows n boot user))) held
       ∙ ap (λ b. cond (is_older (rows n boot user) row.version) (rows n boot user) (cond b (Some row) (rows n boot user))) e
     where
       parts : (a b c : Bool) → (a && b && c) ≡ true → (a ≡ true) × (b ≡ true) × (c ≡ true)
@@ -90,25 +90,25 @@ module _ (n boot : ℕ) (user : List ℕ) where
       held = ap (λ m. rows m row.boot row.user) (sym (same_number n row.node all.0)) ∙ ap (λ k. rows n k row.user) (sym (same_number boot row.boot all.1))
           ∙ ap (λ (u : List ℕ). rows n boot u) (sym (same_user user row.user (sym (texts_ties user row.user) ∙ all.2)))
 
-  stands_after : (list seen : List Row) (rows : Rows) → IsLatest seen (rows n boot user) → IsLatest (seen ++ filter (is_of n boot user) list) (told_all list rows n boot user)
-  stands_after [] seen rows is = subst (λ (l : List Row). IsLatest l (rows n boot user)) (sym (append-nil seen)) is
+  stands_after : (list seen : List Row) (rows : Rows) → IsLatestOf seen (rows n boot user) → IsLatestOf (seen ++ filter (is_row_of n boot user) list) (told_all list rows n boot user)
+  stands_after [] seen rows is = subst (λ (l : List Row). IsLatestOf l (rows n boot user)) (sym (append-nil seen)) is
   stands_after (row ∷ more) seen rows is =
-      by (is_of n boot user row) refl (stands_after more seen (told_row row rows)) (stands_after more (seen ++ row ∷ []) (told_row row rows))
+      by (is_row_of n boot user row) refl (stands_after more seen (told_row row rows)) (stands_after more (seen ++ row ∷ []) (told_row row rows))
     where
       of : List Row → Type 0
-      of l = IsLatest l (told_all more (told_row row rows) n boot user)
+      of l = IsLatestOf l (told_all more (told_row row rows) n boot user)
 
-      by : (t : Bool) → is_of n boot user row ≡ t
-          → (IsLatest seen (told_row row rows n boot user) → IsLatest (seen ++ filter (is_of n boot user) more) (told_all more (told_row row rows) n boot user))
-          → (IsLatest (seen ++ row ∷ []) (told_row row rows n boot user) → IsLatest ((seen ++ row ∷ []) ++ filter (is_of n boot user) more) (told_all more (told_row row rows) n boot user))
-          → IsLatest (seen ++ cond (is_of n boot user row) (row ∷ filter (is_of n boot user) more) (filter (is_of n boot user) more)) (told_all more (told_row row rows) n boot user)
-      by false e apart own = subst (λ b. IsLatest (seen ++ cond b (row ∷ filter (is_of n boot user) more) (filter (is_of n boot user) more)) (told_all more (told_row row rows) n boot user)) (sym e)
-          (apart (subst (IsLatest seen) (sym (other_row row rows e)) is))
-      by true e apart own = subst (λ b. IsLatest (seen ++ cond b (row ∷ filter (is_of n boot user) more) (filter (is_of n boot user) more)) (told_all more (told_row row rows) n boot user)) (sym e)
-          (subst (λ (l : List Row). IsLatest l (told_all more (told_row row rows) n boot user)) (append_assoc seen (row ∷ []) (filter (is_of n boot user) more))
-          (own (subst (IsLatest (seen ++ row ∷ [])) (sym (own_row row rows e)) (one_more seen row (rows n boot user) is (is_older (rows n boot user) row.version) refl))))
+      by : (t : Bool) → is_row_of n boot user row ≡ t
+          → (IsLatestOf seen (told_row row rows n boot user) → IsLatestOf (seen ++ filter (is_row_of n boot user) more) (told_all more (told_row row rows) n boot user))
+          → (IsLatestOf (seen ++ row ∷ []) (told_row row rows n boot user) → IsLatestOf ((seen ++ row ∷ []) ++ filter (is_row_of n boot user) more) (told_all more (told_row row rows) n boot user))
+          → IsLatestOf (seen ++ cond (is_row_of n boot user row) (row ∷ filter (is_row_of n boot user) more) (filter (is_row_of n boot user) more)) (told_all more (told_row row rows) n boot user)
+      by false e apart own = subst (λ b. IsLatestOf (seen ++ cond b (row ∷ filter (is_row_of n boot user) more) (filter (is_row_of n boot user) more)) (told_all more (told_row row rows) n boot user)) (sym e)
+          (apart (subst (IsLatestOf seen) (sym (other_row row rows e)) is))
+      by true e apart own = subst (λ b. IsLatestOf (seen ++ cond b (row ∷ filter (is_row_of n boot user) more) (filter (is_row_of n boot user) more)) (told_all more (told_row row rows) n boot user)) (sym e)
+          (subst (λ (l : List Row). IsLatestOf l (told_all more (told_row row rows) n boot user)) (append_assoc seen (row ∷ []) (filter (is_row_of n boot user) more))
+          (own (subst (IsLatestOf (seen ++ row ∷ [])) (sym (own_row row rows e)) (one_more seen row (rows n boot user) is (is_older (rows n boot user) row.version) refl))))
 
-pub latest_stands : (rows : List Row) (n boot : ℕ) (user : List ℕ) → IsLatest (filter (is_of n boot user) rows) (told_all rows no_rows n boot user)
+pub latest_stands : (rows : List Row) (n boot : ℕ) (user : List ℕ) → IsLatestOf (filter (is_row_of n boot user) rows) (told_all rows no_rows n boot user)
 latest_stands rows n boot user = stands_after n boot user rows [] no_rows refl
 
 pub named_as : (node : Node) (user : List ℕ) (members : List Member) (n : ℕ) → is_named node.rows user members n ≡ list_any (nat_eq n) (named node user members)

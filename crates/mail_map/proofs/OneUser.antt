@@ -12,7 +12,7 @@ use Rattle.object_model.specs.Letters.{Row, Member}
 use Rattle.maps_model.specs.Cluster.{is_full}
 use Rattle.maps_model.specs.Rules.{set_row}
 use Rattle.mail_map.specs.Tellers.{Teller}
-use Rattle.mail_map.specs.Rows.{row_at}
+use Rattle.mail_map.specs.Rows.{row_of_teller}
 
 is_equal : (o : Ordering) → is_eq o ≡ true → o ≡ Equal
 is_equal Less e = absurd (true≢false (sym e))
@@ -34,16 +34,16 @@ one_user old new user now up P there other q = by (eq_by_cmp (slice_cmp nat_cmp)
 
 -- the rows of one user once a row was told
 abbrev pub IsToldAt : Row → Bool → Option (BTreeMap Teller Row) → Option (BTreeMap Teller Row) → Type 0
-IsToldAt row b old new = (n boot : ℕ) → row_at new n boot ≡ cond (b && (nat_eq n row.node && nat_eq boot row.boot)) (Some row) (row_at old n boot)
+IsToldAt row b old new = (n boot : ℕ) → row_of_teller new n boot ≡ cond (b && (nat_eq n row.node && nat_eq boot row.boot)) (Some row) (row_of_teller old n boot)
 
 pub set_one : (old new : List ℕ → Option (BTreeMap Teller Row)) (user : List ℕ) (row : Row) (now : Option (BTreeMap Teller Row)) → ((q : List ℕ) → new q ≡ cond (is_at (slice_cmp nat_cmp user) q) now (old q))
-    → IsToldAt row true (old user) now → (n boot : ℕ) (q : List ℕ) → row_at (new q) n boot ≡ set_row (λ m k u. row_at (old u) m k) row.node row.boot user row n boot q
+    → IsToldAt row true (old user) now → (n boot : ℕ) (q : List ℕ) → row_of_teller (new q) n boot ≡ set_row (λ m k u. row_of_teller (old u) m k) row.node row.boot user row n boot q
 set_one old new user row now up there n boot q =
     one_user old new user now up (IsToldAt row) there (λ x m k. refl) q n boot
-    ∙ ap (λ t. cond (t && (nat_eq n row.node && nat_eq boot row.boot)) (Some row) (row_at (old q) n boot)) ((eq_by_cmp_equiv nat_list_cmp_total).symm user q ∙ sym (texts_ties q user))
+    ∙ ap (λ t. cond (t && (nat_eq n row.node && nat_eq boot row.boot)) (Some row) (row_of_teller (old q) n boot)) ((eq_by_cmp_equiv nat_list_cmp_total).symm user q ∙ sym (texts_ties q user))
     ∙ turned (nat_eq n row.node) (nat_eq boot row.boot) (pointwise nat_eq q user)
   where
-    turned : (a b t : Bool) → cond (t && (a && b)) (Some row) (row_at (old q) n boot) ≡ cond (a && b && t) (Some row) (row_at (old q) n boot)
+    turned : (a b t : Bool) → cond (t && (a && b)) (Some row) (row_of_teller (old q) n boot) ≡ cond (a && b && t) (Some row) (row_of_teller (old q) n boot)
     turned true true true = refl
     turned true true false = refl
     turned true false true = refl
@@ -53,14 +53,14 @@ set_one old new user row now up there n boot q =
 
 -- one user has the same rows as before, and all others are untouched
 pub kept_one : (old new : List ℕ → Option (BTreeMap Teller Row)) (user : List ℕ) (now : Option (BTreeMap Teller Row)) → ((q : List ℕ) → new q ≡ cond (is_at (slice_cmp nat_cmp user) q) now (old q))
-    → ((n boot : ℕ) → row_at now n boot ≡ row_at (old user) n boot) → (n boot : ℕ) (q : List ℕ) → row_at (new q) n boot ≡ row_at (old q) n boot
-kept_one old new user now up same n boot q = one_user old new user now up (λ b x y. (m k : ℕ) → row_at y m k ≡ row_at x m k) same (λ x m k. refl) q n boot
+    → ((n boot : ℕ) → row_of_teller now n boot ≡ row_of_teller (old user) n boot) → (n boot : ℕ) (q : List ℕ) → row_of_teller (new q) n boot ≡ row_of_teller (old q) n boot
+kept_one old new user now up same n boot q = one_user old new user now up (λ b x y. (m k : ℕ) → row_of_teller y m k ≡ row_of_teller x m k) same (λ x m k. refl) q n boot
 
 -- nobody is named of a user without rows
-pub names_none : (rows : Option (BTreeMap Teller Row)) → None ≡ rows → (members : List Member) (n : ℕ) → list_any (λ (member : Member). nat_eq n member.node && is_full (row_at rows member.node member.boot)) members ≡ false
+pub names_none : (rows : Option (BTreeMap Teller Row)) → None ≡ rows → (members : List Member) (n : ℕ) → list_any (λ (member : Member). nat_eq n member.node && is_full (row_of_teller rows member.node member.boot)) members ≡ false
 names_none rows none [] n = refl
 names_none rows none (member ∷ members) n =
-    ap (λ b. b || list_any (λ (m : Member). nat_eq n m.node && is_full (row_at rows m.node m.boot)) members) (ap (λ o. nat_eq n member.node && is_full (row_at o member.node member.boot)) (sym none) ∙ never (nat_eq n member.node))
+    ap (λ b. b || list_any (λ (m : Member). nat_eq n m.node && is_full (row_of_teller rows m.node m.boot)) members) (ap (λ o. nat_eq n member.node && is_full (row_of_teller o member.node member.boot)) (sym none) ∙ never (nat_eq n member.node))
     ∙ names_none rows none members n
   where
     never : (b : Bool) → (b && false) ≡ false

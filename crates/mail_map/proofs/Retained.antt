@@ -12,7 +12,7 @@ use Rattle.std.specs.Map.Calls.{RetainsPairs}
 use Rattle.std.specs.BTreeMap.{BTreeMap, is_at}
 use Rattle.object_model.specs.Letters.{Row}
 use Rattle.mail_map.specs.Tellers.{Teller, teller_cmp}
-use Rattle.mail_map.specs.Rows.{row_at}
+use Rattle.mail_map.specs.Rows.{row_of_teller}
 use Rattle.mail_map.proofs.OneUser.{same_user}
 
 -- tellers who tie are one
@@ -46,37 +46,37 @@ nothing false = refl
 
 -- a call leaves of a user's rows those that stay, or forgets the user where none does
 abbrev pub Leaves : (ℕ → ℕ → List ℕ → Bool) → List ℕ → BTreeMap Teller Row → Bool → BTreeMap Teller Row → Type 0
-Leaves stays user old b new = (n boot : ℕ) → row_at (cond b (Some new) None) n boot ≡ cond (stays n boot user) (row_at (Some old) n boot) None
+Leaves stays user old b new = (n boot : ℕ) → row_of_teller (cond b (Some new) None) n boot ≡ cond (stays n boot user) (row_of_teller (Some old) n boot) None
 
 module _ {F : Type 0} (T : F → List ℕ → BTreeMap Teller Row → Bool → BTreeMap Teller Row → F → Type 0) (stays : ℕ → ℕ → List ℕ → Bool) (f : F)
     (calls : (k : List ℕ) (v : BTreeMap Teller Row) (b : Bool) (w : BTreeMap Teller Row) (f' : F) → T f k v b w f' → Leaves stays k v b w × (f' ≡ f)) where
   pub retained : (es kept : List (List ℕ × BTreeMap Teller Row)) → IsStrictlySortedBy (slice_cmp nat_cmp) (map (λ e. e.0) es) → RetainsPairs T f es kept → (q : List ℕ) (n boot : ℕ)
-      → row_at (lookup (is_at (slice_cmp nat_cmp q)) kept) n boot ≡ cond (stays n boot q) (row_at (lookup (is_at (slice_cmp nat_cmp q)) es) n boot) None
-  retained [] kept sorted is q n boot = ap (λ (l : List (List ℕ × BTreeMap Teller Row)). row_at (lookup (is_at (slice_cmp nat_cmp q)) l) n boot) is ∙ sym (nothing (stays n boot q))
+      → row_of_teller (lookup (is_at (slice_cmp nat_cmp q)) kept) n boot ≡ cond (stays n boot q) (row_of_teller (lookup (is_at (slice_cmp nat_cmp q)) es) n boot) None
+  retained [] kept sorted is q n boot = ap (λ (l : List (List ℕ × BTreeMap Teller Row)). row_of_teller (lookup (is_at (slice_cmp nat_cmp q)) l) n boot) is ∙ sym (nothing (stays n boot q))
   retained (e ∷ es) kept sorted (b, w, f', rest, call, more, is) q n boot =
-      ap (λ (l : List (List ℕ × BTreeMap Teller Row)). row_at (lookup (is_at (slice_cmp nat_cmp q)) l) n boot) is
+      ap (λ (l : List (List ℕ × BTreeMap Teller Row)). row_of_teller (lookup (is_at (slice_cmp nat_cmp q)) l) n boot) is
       ∙ by (is_at (slice_cmp nat_cmp q) e.0) refl b ((calls e.0 e.1 b w f' call).0 n boot)
       (retained es rest (later_sorted e es sorted) (subst (λ g. RetainsPairs T g es rest) (calls e.0 e.1 b w f' call).1 more) q n boot)
     where
-      by : (t : Bool) → is_at (slice_cmp nat_cmp q) e.0 ≡ t → (c : Bool) → row_at (cond c (Some w) None) n boot ≡ cond (stays n boot e.0) (row_at (Some e.1) n boot) None
-          → row_at (lookup (is_at (slice_cmp nat_cmp q)) rest) n boot ≡ cond (stays n boot q) (row_at (lookup (is_at (slice_cmp nat_cmp q)) es) n boot) None
-          → row_at (lookup (is_at (slice_cmp nat_cmp q)) (cond c ((e.0, w) ∷ rest) rest)) n boot ≡ cond (stays n boot q) (row_at (cond (is_at (slice_cmp nat_cmp q) e.0) (Some e.1) (lookup (is_at (slice_cmp nat_cmp q)) es)) n boot) None
+      by : (t : Bool) → is_at (slice_cmp nat_cmp q) e.0 ≡ t → (c : Bool) → row_of_teller (cond c (Some w) None) n boot ≡ cond (stays n boot e.0) (row_of_teller (Some e.1) n boot) None
+          → row_of_teller (lookup (is_at (slice_cmp nat_cmp q)) rest) n boot ≡ cond (stays n boot q) (row_of_teller (lookup (is_at (slice_cmp nat_cmp q)) es) n boot) None
+          → row_of_teller (lookup (is_at (slice_cmp nat_cmp q)) (cond c ((e.0, w) ∷ rest) rest)) n boot ≡ cond (stays n boot q) (row_of_teller (cond (is_at (slice_cmp nat_cmp q) e.0) (Some e.1) (lookup (is_at (slice_cmp nat_cmp q)) es)) n boot) None
       by true at true step before =
-          ap (λ t. row_at (cond t (Some w) (lookup (is_at (slice_cmp nat_cmp q)) rest)) n boot) at
+          ap (λ t. row_of_teller (cond t (Some w) (lookup (is_at (slice_cmp nat_cmp q)) rest)) n boot) at
           ∙ step
-          ∙ ap (λ (u : List ℕ). cond (stays n boot u) (row_at (Some e.1) n boot) None) (sym (same_user q e.0 at))
-          ∙ sym (ap (λ t. cond (stays n boot q) (row_at (cond t (Some e.1) (lookup (is_at (slice_cmp nat_cmp q)) es)) n boot) None) at)
+          ∙ ap (λ (u : List ℕ). cond (stays n boot u) (row_of_teller (Some e.1) n boot) None) (sym (same_user q e.0 at))
+          ∙ sym (ap (λ t. cond (stays n boot q) (row_of_teller (cond t (Some e.1) (lookup (is_at (slice_cmp nat_cmp q)) es)) n boot) None) at)
       by true at false step before =
           before
-          ∙ ap (λ (o : Option (BTreeMap Teller Row)). cond (stays n boot q) (row_at o n boot) None) (none_later e es q sorted (same_user q e.0 at))
+          ∙ ap (λ (o : Option (BTreeMap Teller Row)). cond (stays n boot q) (row_of_teller o n boot) None) (none_later e es q sorted (same_user q e.0 at))
           ∙ nothing (stays n boot q)
           ∙ step
-          ∙ ap (λ (u : List ℕ). cond (stays n boot u) (row_at (Some e.1) n boot) None) (sym (same_user q e.0 at))
-          ∙ sym (ap (λ t. cond (stays n boot q) (row_at (cond t (Some e.1) (lookup (is_at (slice_cmp nat_cmp q)) es)) n boot) None) at)
+          ∙ ap (λ (u : List ℕ). cond (stays n boot u) (row_of_teller (Some e.1) n boot) None) (sym (same_user q e.0 at))
+          ∙ sym (ap (λ t. cond (stays n boot q) (row_of_teller (cond t (Some e.1) (lookup (is_at (slice_cmp nat_cmp q)) es)) n boot) None) at)
       by false at true step before =
-          ap (λ t. row_at (cond t (Some w) (lookup (is_at (slice_cmp nat_cmp q)) rest)) n boot) at
+          ap (λ t. row_of_teller (cond t (Some w) (lookup (is_at (slice_cmp nat_cmp q)) rest)) n boot) at
           ∙ before
-          ∙ sym (ap (λ t. cond (stays n boot q) (row_at (cond t (Some e.1) (lookup (is_at (slice_cmp nat_cmp q)) es)) n boot) None) at)
+          ∙ sym (ap (λ t. cond (stays n boot q) (row_of_teller (cond t (Some e.1) (lookup (is_at (slice_cmp nat_cmp q)) es)) n boot) None) at)
       by false at false step before =
           before
-          ∙ sym (ap (λ t. cond (stays n boot q) (row_at (cond t (Some e.1) (lookup (is_at (slice_cmp nat_cmp q)) es)) n boot) None) at)
+          ∙ sym (ap (λ t. cond (stays n boot q) (row_of_teller (cond t (Some e.1) (lookup (is_at (slice_cmp nat_cmp q)) es)) n boot) None) at)

@@ -25,5 +25,5 @@ abbrev pub stays : ℕ → Option (List MapRow) → List MapRow → EpochId → 
 stays own old new was members n boot user = (was_managed_by old own user && is_managed_by new own user) && comes members n boot was
 
 -- the rows that an install leaves
-abbrev pub kept : ℕ → Option (List MapRow) → List MapRow → EpochId → List Member → Rows → Rows
-kept own old new was members rows n boot user = if stays own old new was members n boot user then rows n boot user else None
+abbrev pub kept_rows : ℕ → Option (List MapRow) → List MapRow → EpochId → List Member → Rows → Rows
+kept_rows own old new was members rows n boot user = if stays own old new was members n boot user then rows n boot user else None

@@ -8,7 +8,7 @@ use Rattle.maps_model.specs.Cluster.{Node, Disk, epoch_of, NamesNode, manager_of
 use Rattle.maps_model.specs.Laws.{named}
 use Rattle.maps_model.specs.Rules.{IsRowKept, IsRowDue, RowAt}
 use Rattle.mail_map.specs.Rows.{Rows, told_row, is_named}
-use Rattle.mail_map.specs.Installs.{stays, kept}
+use Rattle.mail_map.specs.Installs.{stays, kept_rows}
 
 -- the rows once these were told, one after another
 abbrev pub told_all : List Row → Rows → Rows
@@ -19,8 +19,8 @@ abbrev pub no_rows : Rows
 no_rows n boot user = None
 
 -- whether the row is of this node, boot and user
-abbrev pub is_of : ℕ → ℕ → List ℕ → Row → Bool
-is_of n boot user row = nat_eq n row.node && nat_eq boot row.boot && pointwise nat_eq user row.user
+abbrev pub is_row_of : ℕ → ℕ → List ℕ → Row → Bool
+is_row_of n boot user row = nat_eq n row.node && nat_eq boot row.boot && pointwise nat_eq user row.user
 
 -- One of these: none before it is of a greater version, and all after it are of lesser ones.
 pub record IsLatestRow (rows : List Row) (latest : Row) : Type 0 where
@@ -31,13 +31,13 @@ pub record IsLatestRow (rows : List Row) (latest : Row) : Type 0 where
   pub below : (row : Row) → Among row after → row.version < latest.version
 
 -- the row of greatest version, the later told among equals
-abbrev pub IsLatest : List Row → Option Row → Type 0
-IsLatest rows None = rows ≡ []
-IsLatest rows (Some latest) = IsLatestRow rows latest
+abbrev pub IsLatestOf : List Row → Option Row → Type 0
+IsLatestOf rows None = rows ≡ []
+IsLatestOf rows (Some latest) = IsLatestRow rows latest
 
 -- whatever was told, the latest row of each node, boot and user stands
 abbrev pub LatestStands : Type 0
-LatestStands = (rows : List Row) (n boot : ℕ) (user : List ℕ) → IsLatest (filter (is_of n boot user) rows) (told_all rows no_rows n boot user)
+LatestStands = (rows : List Row) (n boot : ℕ) (user : List ℕ) → IsLatestOf (filter (is_row_of n boot user) rows) (told_all rows no_rows n boot user)
 
 -- those are named whom the machine names
 abbrev pub NamesAsMachine : Type 0
@@ -57,4 +57,4 @@ KeepsAsMachine = (own : ℕ) (node : Node) (membership : Membership) (n boot : �
 abbrev pub InstallsAsMachine : Type 0
 InstallsAsMachine = (own : ℕ) (node : Node) (disk : Disk) (membership : Membership) → NamesNode membership own node.boot → (n boot : ℕ) (user : List ℕ)
     → (n ≡ own → boot ≡ node.boot → manager_of membership user ≡ Some own → IsRowDue node disk membership user → ⊥)
-    → RowAt own node disk membership n boot user (kept own (map_in node.installed) membership.map (epoch_of node) membership.members node.rows n boot user)
+    → RowAt own node disk membership n boot user (kept_rows own (map_in node.installed) membership.map (epoch_of node) membership.members node.rows n boot user)

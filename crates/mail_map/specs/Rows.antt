@@ -16,12 +16,12 @@ abbrev pub Rows : Type 0
 Rows = ℕ → ℕ → List ℕ → Option Row
 
 -- among the rows of one user
-abbrev pub row_at : Option (BTreeMap Teller Row) → ℕ → ℕ → Option Row
-row_at None n boot = None
-row_at (Some rows) n boot = tree.get teller_cmp rows (record { node = n; boot = boot })
+abbrev pub row_of_teller : Option (BTreeMap Teller Row) → ℕ → ℕ → Option Row
+row_of_teller None n boot = None
+row_of_teller (Some rows) n boot = tree.get teller_cmp rows (record { node = n; boot = boot })
 
 abbrev pub rows_of : MailMap → Rows
-rows_of map n boot user = row_at (tree.get (slice_cmp nat_cmp) map.users user) n boot
+rows_of map n boot user = row_of_teller (tree.get (slice_cmp nat_cmp) map.users user) n boot
 
 -- a row of this version is older than the one that stands
 abbrev pub is_older : Option Row → ℕ → Bool

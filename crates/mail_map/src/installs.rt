@@ -1,7 +1,7 @@
 // Which rows an install keeps.
 ghost use Rattle.std.specs.Prelude.{◌≡◌, ◌&&◌, true, cond, ℕ, Some, None};
 ghost use Rattle.std.specs.Option.{option_copied};
-ghost use Rattle.mail_map.specs.Rows.{row_at};
+ghost use Rattle.mail_map.specs.Rows.{row_of_teller};
 ghost use Rattle.mail_map.specs.Installs.{was_managed_by, comes, stays};
 
 use crate::teller::Teller;
@@ -33,13 +33,13 @@ fn comes(members: &[Member], teller: Teller, was: EpochId) -> bool
 
 // Keeps the rows of those who come from that epoch.
 fn keep_rows(rows: &mut BTreeMap<Teller, Row>, members: &[Member], was: EpochId)
-    ensures { (n boot : ℕ) → row_at (Some rows.new) n boot ≡ cond (comes members.now n boot was) (row_at (Some rows.old) n boot) None }
+    ensures { (n boot : ℕ) → row_of_teller (Some rows.new) n boot ≡ cond (comes members.now n boot was) (row_of_teller (Some rows.old) n boot) None }
 {
     rows.retain(|teller, _| comes(members, *teller, was));
 }
 
 fn has_none(rows: &BTreeMap<Teller, Row>) -> bool
-    ensures { result ≡ true → (n boot : ℕ) → row_at (Some rows.now) n boot ≡ None }
+    ensures { result ≡ true → (n boot : ℕ) → row_of_teller (Some rows.now) n boot ≡ None }
 {
     rows.is_empty()
 }
@@ -54,7 +54,7 @@ pub(crate) fn keep_user(
     user: &Name,
     rows: &mut BTreeMap<Teller, Row>,
 ) -> bool
-    ensures { (n boot : ℕ) → row_at (cond result (Some rows.new) None) n boot ≡ cond (stays own (option_copied old.entry) new.now was members.now n boot user.now) (row_at (Some rows.old) n boot) None }
+    ensures { (n boot : ℕ) → row_of_teller (cond result (Some rows.new) None) n boot ≡ cond (stays own (option_copied old.entry) new.now was members.now n boot user.now) (row_of_teller (Some rows.old) n boot) None }
 {
     if !(managed(old, own, user) && manages(new, own, user)) {
         return false;

@@ -7,7 +7,7 @@ ghost use Rattle.std.specs.BTreeMap as tree;
 ghost use Rattle.object_model.specs.Sets.{has};
 ghost use Rattle.mail_map.specs.Rows.{rows_of, is_older, told_row, HasSameRows, is_named};
 ghost use Rattle.maps_model.specs.Rules.{set_row};
-ghost use Rattle.mail_map.specs.Installs.{kept};
+ghost use Rattle.mail_map.specs.Installs.{kept_rows};
 ghost use Rattle.mail_map.specs.Profiles.{IsGreatest};
 
 use crate::installs::keep_user;
@@ -110,7 +110,7 @@ impl MailMap {
         was: EpochId,
         members: &[Member],
     )
-        ensures { (n boot : ℕ) (user : List ℕ) → rows_of self.new n boot user ≡ kept own (option_copied old.entry) new.now was members.now (rows_of self.old) n boot user }
+        ensures { (n boot : ℕ) (user : List ℕ) → rows_of self.new n boot user ≡ kept_rows own (option_copied old.entry) new.now was members.now (rows_of self.old) n boot user }
     {
         self.users.retain(|user, rows| keep_user(own, old, new, was, members, user, rows));
     }

@@ -4,7 +4,7 @@ ghost use Rattle.std.specs.List.{list_any};
 ghost use Rattle.object_model.specs.Sets.{has};
 ghost use Rattle.maps_model.specs.Cluster.{is_full};
 ghost use Rattle.mail_map.specs.Tellers.{Teller};
-ghost use Rattle.mail_map.specs.Rows.{row_at, is_older};
+ghost use Rattle.mail_map.specs.Rows.{row_of_teller, is_older};
 
 use crate::teller::Teller;
 use mail_base::{Member, NodeSet, Row};
@@ -13,7 +13,7 @@ use std::collections::BTreeMap;
 
 // Puts the row in place of its teller's.
 pub(crate) fn put(rows: &mut BTreeMap<Teller, Row>, row: Row) -> Result<(), AllocError>
-    ensures ok { OnOk result ((n boot : ℕ) → row_at (Some rows.new) n boot ≡ cond (nat_eq n row.node && nat_eq boot row.boot) (Some row) (row_at (Some rows.old) n boot)) }
+    ensures ok { OnOk result ((n boot : ℕ) → row_of_teller (Some rows.new) n boot ≡ cond (nat_eq n row.node && nat_eq boot row.boot) (Some row) (row_of_teller (Some rows.old) n boot)) }
     ensures err { OnErr result (rows.new.entries ≡ rows.old.entries) }
 {
     rows.insert(Teller::new(row.node, row.boot), row)?;
@@ -22,7 +22,7 @@ pub(crate) fn put(rows: &mut BTreeMap<Teller, Row>, row: Row) -> Result<(), Allo
 
 // Whether a row is older than the one that stands of its teller.
 pub(crate) fn has_newer(rows: &BTreeMap<Teller, Row>, row: &Row) -> bool
-    ensures { result ≡ is_older (row_at (Some rows.now) row.now.node row.now.boot) row.now.version }
+    ensures { result ≡ is_older (row_of_teller (Some rows.now) row.now.node row.now.boot) row.now.version }
 {
     match rows.get(&Teller::new(row.node, row.boot)) {
         Some(stood) => row.version < stood.version,
@@ -32,7 +32,7 @@ pub(crate) fn has_newer(rows: &BTreeMap<Teller, Row>, row: &Row) -> bool
 
 // Whether the member has a row that says full.
 fn says_full(rows: &BTreeMap<Teller, Row>, member: Member) -> bool
-    ensures { result ≡ is_full (row_at (Some rows.now) member.node member.boot) }
+    ensures { result ≡ is_full (row_of_teller (Some rows.now) member.node member.boot) }
 {
     match rows.get(&Teller::new(member.node, member.boot)) {
         Some(row) => row.full,
@@ -42,7 +42,7 @@ fn says_full(rows: &BTreeMap<Teller, Row>, member: Member) -> bool
 
 // The members with a row that says full.
 pub(crate) fn named_in(rows: &BTreeMap<Teller, Row>, members: &[Member]) -> NodeSet
-    ensures { (n : ℕ) → has result n ≡ list_any (λ member. nat_eq n member.node && is_full (row_at (Some rows.now) member.node member.boot)) members.now }
+    ensures { (n : ℕ) → has result n ≡ list_any (λ member. nat_eq n member.node && is_full (row_of_teller (Some rows.now) member.node member.boot)) members.now }
 {
     let mut named = NodeSet::empty();
     for member in members {

@@ -27,8 +27,8 @@ seen (Err fault) = Err (fault_seen fault)
 abbrev pub helo_of : List ℕ → Result smtp.Command smtp.Fault
 helo_of rest = if is_helo_name (unspaced rest) then Ok (smtp.Command.Helo (unspaced rest)) else Err smtp.Fault.BadArgument
 
-abbrev pub mail_of : List ℕ → Result smtp.Command smtp.Fault
-mail_of rest = or_bad smtp.Command.Mail (option_and_then sender_in (path_behind (codes "FROM:") rest))
+abbrev pub mail_command_of : List ℕ → Result smtp.Command smtp.Fault
+mail_command_of rest = or_bad smtp.Command.Mail (option_and_then sender_in (path_behind (codes "FROM:") rest))
 
 abbrev pub rcpt_of : List ℕ → Result smtp.Command smtp.Fault
 rcpt_of rest = or_bad smtp.Command.Rcpt (option_and_then recipient_in (path_behind (codes "TO:") rest))

@@ -3,7 +3,7 @@ ghost use Rattle.std.specs.Prelude.{◌≡◌, ◌&&◌, IfOk, nat_eq, position}
 ghost use Rattle.std.specs.Option.{option_copied};
 ghost use Rattle.std.specs.List.{list_all};
 ghost use Rattle.mail_model.specs.Smtp.{alone, command_of, is_helo_name, is_path_octet, is_visible, path_behind, path_content, recipient_in, routed, sender_in, unspaced};
-ghost use Rattle.mail_plain.specs.SeenSmtp.{command_seen, helo_of, mail_of, rcpt_of, seen};
+ghost use Rattle.mail_plain.specs.SeenSmtp.{command_seen, helo_of, mail_command_of, rcpt_of, seen};
 
 use crate::pieces::{begins_with, cut_at_space, is_word, trimmed, unspaced};
 use std::alloc::{AllocError, Global};
@@ -150,7 +150,7 @@ fn helo(rest: &[u8]) -> Result<Command<'_>, Fault>
 }
 
 fn mail(alloc: Global, rest: &[u8]) -> Result<Result<Command<'_>, Fault>, AllocError>
-    ensures { IfOk result (λ reading. seen reading ≡ mail_of rest.now) }
+    ensures { IfOk result (λ reading. seen reading ≡ mail_command_of rest.now) }
 {
     match path_behind(alloc, b"FROM:", rest)?.and_then(sender_in) {
         Some(sender) => Ok(Ok(Command::Mail { sender })),

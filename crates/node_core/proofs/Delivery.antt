@@ -21,7 +21,7 @@ use Rattle.node_store.specs.Disks.{View}
 use Rattle.node_store.specs.Appends.{Fails}
 use Rattle.node_store.specs.Keeps.{seen_with}
 use Rattle.node_store.specs.Changes.{with_stored}
-use Rattle.node_store.specs.Writes.{Done, IsCutShort}
+use Rattle.node_store.specs.Writes.{Done, WorkIsCutShort}
 use Rattle.node_store.specs.declared.fault.KeepFault.{KeepFault}
 use Rattle.node_store.specs.declared.fault.KeepFault.TheVariants as keep
 use Rattle.node_store.specs.declared.store.NodeStore.{NodeStore}
@@ -81,7 +81,7 @@ module _ {D : Type 0} (on : View D) (mail : Mail) (seconds : ℕ) (old : Node) (
 
   -- its work stopped
   pub delivery_stopped : (new : Node) (fault : KeepFault) → IsStored mail (next_id old) seconds octets → IsId (next_id old) → IsStamp (next_stamp old) → IsCount 16 (next_targets old)
-      → All IsLowerName mail.mailboxes → IsCutShort on change old.store before after → Fails fault (on.faults before) (on.faults after)
+      → All IsLowerName mail.mailboxes → WorkIsCutShort on change old.store before after → Fails fault (on.faults before) (on.faults after)
       → BeginsDelivery on mail seconds old before new after (Err (fault_of fault))
   delivery_stopped new fault stored i t c n cut fails = by fault (record {
     octets = octets;

@@ -13,13 +13,13 @@ use Rattle.disk_journal.specs.Journal.{end_of}
 use Rattle.node_store.specs.Disks.{View}
 use Rattle.node_store.specs.Appends.{AppendsRecords, StopsAfter}
 use Rattle.node_store.specs.Keeps.{KeepsRecords, seen_with}
-use Rattle.node_store.specs.Writes.{Done, IsCutShort}
+use Rattle.node_store.specs.Writes.{Done, WorkIsCutShort}
 use Rattle.node_store.specs.declared.store.NodeStore.{NodeStore}
 use Rattle.node_store.proofs.Works.{done_none, done_stopped}
 use Rattle.cluster_model.specs.Starts.{first_membership}
 use Rattle.node_tickets.specs.Standing.{IsOf, tickets_in}
 use Rattle.node_tickets.specs.declared.tickets.Tickets.{Tickets}
-use Rattle.node_core.specs.Nodes.{node_seen, Keeps, end_in, IsShape, IsWhole, CanWork, IsSameNode}
+use Rattle.node_core.specs.Nodes.{node_seen, NodeKeeps, end_in, IsShape, IsWhole, CanWork, IsSameNode}
 use Rattle.node_core.specs.Spelling.{AllCanBeTaken}
 use Rattle.node_core.specs.Works.{Rule, NodeDid, NodeStopped, HasLearned, IsLikewise}
 use Rattle.node_core.specs.declared.shape.Shape.{Shape}
@@ -53,9 +53,9 @@ same_node old new own shape plan n p = record {
 module _ {D : Type 0} (on : View D) where
   pub did_by : (rule : Rule) (f : Store → Store) (old : Node) (before : D) (new : Node) (after : D) (sent : List Letter)
       → Done on f old.store before new.store after
-      → ((records : List Record) → Keeps records old → (rule (node_seen old) records).disk ≡ (f (seen_with old.store records)).disk)
-      → ((records : List Record) → Keeps records old → (rule (node_seen old) records).node ≡ record (node_seen new) { log = (f (seen_with old.store records)).log })
-      → ((records : List Record) → Keeps records old → (rule (node_seen old) records).out ≡ sent)
+      → ((records : List Record) → NodeKeeps records old → (rule (node_seen old) records).disk ≡ (f (seen_with old.store records)).disk)
+      → ((records : List Record) → NodeKeeps records old → (rule (node_seen old) records).node ≡ record (node_seen new) { log = (f (seen_with old.store records)).log })
+      → ((records : List Record) → NodeKeeps records old → (rule (node_seen old) records).out ≡ sent)
       → IsLikewise old new → IsWhole old → AllCanBeTaken sent → NodeDid on rule old before new after sent
   did_by rule f old before new after sent d disk node out like whole fits = record {
     added = d.added;
@@ -71,9 +71,9 @@ module _ {D : Type 0} (on : View D) where
   }
 
   pub stopped_by : (rule : Rule) (f : Store → Store) (old : Node) (before after : D)
-      → IsCutShort on f old.store before after
-      → ((records : List Record) → Keeps records old → (rule (node_seen old) records).disk ≡ (f (seen_with old.store records)).disk)
-      → ((records : List Record) → Keeps records old → All IsRecord (f (seen_with old.store records)).disk)
+      → WorkIsCutShort on f old.store before after
+      → ((records : List Record) → NodeKeeps records old → (rule (node_seen old) records).disk ≡ (f (seen_with old.store records)).disk)
+      → ((records : List Record) → NodeKeeps records old → All IsRecord (f (seen_with old.store records)).disk)
       → NodeStopped on rule old before after
   stopped_by rule f old before after d disk fit = record {
     front = d.front;
@@ -125,7 +125,7 @@ module _ {D : Type 0} (on : View D) where
 
   -- a node that was done with its work may stop all the same
   pub all_stopped : (rule : Rule) (f : Store → Store) (old : Node) (before : D) (store : NodeStore) (after : D) → Done on f old.store before store after
-      → ((records : List Record) → Keeps records old → (rule (node_seen old) records).disk ≡ (f (seen_with old.store records)).disk)
+      → ((records : List Record) → NodeKeeps records old → (rule (node_seen old) records).disk ≡ (f (seen_with old.store records)).disk)
       → NodeStopped on rule old before after
   all_stopped rule f old before store after d disk =
       stopped_by rule f old before after (done_stopped on f old.store before store after d) disk
@@ -133,7 +133,7 @@ module _ {D : Type 0} (on : View D) where
 
   -- it learned the stamps of a letter first
   module _ (rule : Rule) (body : Body) (old mid : Node) (learned : HasLearned body old mid) (before after : D) where
-    kept : (records : List Record) → Keeps records old → Keeps records mid
+    kept : (records : List Record) → NodeKeeps records old → NodeKeeps records mid
     kept records k = subst (KeepsRecords records) (sym learned.store) k
 
     end_is : end_in mid ≡ end_in old
@@ -194,5 +194,5 @@ module _ {D : Type 0} (on : View D) where
     pub takes_stopped :
         ((records : List Record) → rule (node_seen old) records
         ≡ record { node = with_updates old.store.own (node_seen old) updates (f (seen_with old.store records)); disk = (f (seen_with old.store records)).disk; out = sent })
-        → IsCutShort on f old.store before after → ((records : List Record) → Keeps records old → All IsRecord (f (seen_with old.store records)).disk) → NodeStopped on rule old before after
+        → WorkIsCutShort on f old.store before after → ((records : List Record) → NodeKeeps records old → All IsRecord (f (seen_with old.store records)).disk) → NodeStopped on rule old before after
     takes_stopped is d fit = stopped_by rule f old before after d (λ records k. ap (λ (r : Reaction). r.disk) (is records)) fit

@@ -6,7 +6,7 @@ use Rattle.object_model.specs.Sets.{has, with_node, one_node, all_nodes, nodes_i
 use Rattle.object_model.proofs.SetLaws.{all_has}
 use Rattle.cluster_model.specs.Cluster.{set_of_members}
 use Rattle.cluster_model.specs.Starts.{first_members}
-use Rattle.cluster_model.specs.Targets.{turned}
+use Rattle.cluster_model.specs.Targets.{rotated}
 
 pub some_nodes : (n : ℕ) → 1 ≤ n → 0 < all_nodes n
 some_nodes zero some = absurd (omega arith)
@@ -27,5 +27,5 @@ pub with_some : (mask node : ℕ) → 1 ≤ node → (set : ℕ) → set ≡ wit
 with_some mask zero some set is = absurd (omega arith)
 with_some mask (suc k) some set is = omega (arith, is, le_or_r mask (one_node (suc k)), pow_pos k)
 
-pub length-turned : (at : ℕ) (xs : List ℕ) → at < length xs → length (turned at xs) ≡ length xs
+pub length-turned : (at : ℕ) (xs : List ℕ) → at < length xs → length (rotated at xs) ≡ length xs
 length-turned at xs within = omega (arith, length-append (drop at xs) (take at xs), length-drop at xs, length-take at xs)

@@ -17,7 +17,7 @@ use Rattle.node_store.specs.declared.fault.KeepFault.TheVariants as keep
 use Rattle.node_core.specs.Nodes.{node_seen, CanWork, IsNodeOf}
 use Rattle.node_core.specs.Spelling.{AllCanBeTaken}
 use Rattle.node_core.specs.Answering.{answers_to}
-use Rattle.node_core.specs.Works.{Rule, NodeDid, NodeStopped, NodeFailed, SentLetters, HasLearned, HasTold, fault_of}
+use Rattle.node_core.specs.Works.{Rule, NodeDid, NodeStopped, NodeFailed, SentLetters, HasLearned, TicketsAreTold, fault_of}
 use Rattle.node_core.specs.Hearing.{LetterHeard, HearsLetter}
 use Rattle.node_core.specs.declared.node.Node.{Node}
 use Rattle.node_store.specs.declared.store.NodeStore.{NodeStore}
@@ -122,7 +122,7 @@ module _ {D : Type 0} (on : View D) (letter : Letter) (old : Node) where
   told_parts node records None = (refl, refl, refl)
   told_parts node records (Some ticket) = (refl, refl, refl)
 
-  pub told_did : (new : Node) (disk : D) → CanWork (on.seen disk) old → HasTold letter old new → (inside : code.Body) → letter.body ≡ body_seen inside
+  pub told_did : (new : Node) (disk : D) → CanWork (on.seen disk) old → TicketsAreTold letter old new → (inside : code.Body) → letter.body ≡ body_seen inside
       → (answers : List Letter) → answers ≡ answers_to letter letter.body → (body : code.Body) → inside ≡ body
       → ((node : plain.Node) (records : List Record) → hear_told old.store.own node records letter ≡ hear_body old.store.own old.shape.nodes node records letter (body_seen body))
       → answers_to letter (body_seen body) ≡ [] → NodeDid on rule_of old disk new disk answers

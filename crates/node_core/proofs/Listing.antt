@@ -33,7 +33,7 @@ use Rattle.cluster_model.proofs.Filing.{octets_stand}
 use Rattle.cluster_model.proofs.Listings.{each_of}
 use Rattle.node_store.specs.Mailboxes.{AreIdsHere}
 use Rattle.node_tickets.specs.Seen.{copy_seen, found_in}
-use Rattle.node_core.specs.Nodes.{Keeps}
+use Rattle.node_core.specs.Nodes.{NodeKeeps}
 use Rattle.node_core.specs.Listing.{copy_if, copy_of, with_copy, copies_for, comes_first, AreInOrder, MailboxFound}
 use Rattle.node_core.specs.declared.node.Node.{Node}
 
@@ -247,7 +247,7 @@ module _ (users : Users) (user secret : List ℕ) (node : Node) where
 
   -- and one that is
   pub listing_found : (answer : Answer) (items : List ListedCopy) → found_in answer ≡ Some (Listed items) → is_that (fin.get users user) secret ≡ true
-      → ((records : List Record) → Keeps records node → IsListing user records items) → MailboxFound users user secret node answer
+      → ((records : List Record) → NodeKeeps records node → IsListing user records items) → MailboxFound users user secret node answer
   listing_found answer items is right listing = record {
     found = Listed items;
     is = is;

@@ -20,7 +20,7 @@ use Rattle.cluster_model.specs.Rules.{begin_read, new_number}
 use Rattle.cluster_model.specs.Steps.{NodeCall, is_worn_for, greatest}
 use Rattle.cluster_model.specs.Steps.NodeCall.{Fetch, Leave}
 use Rattle.cluster_model.specs.Makes.{IsFound, kind_of_call}
-use Rattle.cluster_model.specs.Makes.IsFetched.{HasPart, HasNone}
+use Rattle.cluster_model.specs.Makes.FetchFinds.{HasPart, HasNone}
 use Rattle.call_tickets.specs.declared.answer.Answer.{Answer}
 use Rattle.call_tickets.specs.declared.answer.Answer.TheVariants.{GoneAlready}
 use Rattle.disk_journal.specs.Journal.{TellsJournal, HasGate, EndsAt, end_of}
@@ -33,7 +33,7 @@ use Rattle.node_store.specs.Writes.{Done}
 use Rattle.node_store.specs.declared.store.NodeStore.{NodeStore}
 use Rattle.node_store.specs.declared.fault.ReadFault.TheVariants as fault
 use Rattle.node_tickets.specs.Seen.{found_in}
-use Rattle.node_core.specs.Nodes.{node_seen, Keeps, end_in, CanWork, IsNodeOf, IsAsBefore}
+use Rattle.node_core.specs.Nodes.{node_seen, NodeKeeps, end_in, CanWork, IsNodeOf, IsAsBefore}
 use Rattle.node_core.specs.Spelling.{AllCanBeTaken}
 use Rattle.node_core.specs.Works.{IsOnlyRead, ReadFailed}
 use Rattle.node_core.specs.Reading.{copy_size, PartRead, ReadsPart, AnswersRead}
@@ -76,7 +76,7 @@ unsized user id records is = by (is_here_held (said (Message user id) records)) 
     by false o e = refl
 
 module _ {D : Type 0} (on : View D) (user : List ℕ) (id : Id) (start most : ℕ) (node : Node) (before after : D) where
-  pub none_read : IsOnlyRead on before after → on.faults after ≡ on.faults before → ((records : List Record) → Keeps records node → None ≡ copy_size user id records)
+  pub none_read : IsOnlyRead on before after → on.faults after ≡ on.faults before → ((records : List Record) → NodeKeeps records node → None ≡ copy_size user id records)
       → PartRead on user id start most node before after GoneAlready
   none_read read quiet none = record {
     found = NotThere;
@@ -87,14 +87,14 @@ module _ {D : Type 0} (on : View D) (user : List ℕ) (id : Id) (start most : �
   }
 
   -- the octets that were read are the part, where the disk tells what it holds
-  part_is : (seen : Option (List ℕ)) (octets all : List ℕ) (records : List Record) → octets_in id records ≡ Some all → Keeps records node → TellsJournal seen node.store.own (payloads_of records) (end_in node)
+  part_is : (seen : Option (List ℕ)) (octets all : List ℕ) (records : List Record) → octets_in id records ≡ Some all → NodeKeeps records node → TellsJournal seen node.store.own (payloads_of records) (end_in node)
       → IfSome seen (λ held. (rs : List Record) → TellsKept node.store held rs → Some octets ≡ part_in id start most rs) → is_some seen ≡ true → octets ≡ take most (drop start all)
   part_is None octets all records held k t those tells = absurd (cc tells)
   part_is (Some c) octets all records held k t those tells =
       let e : Some octets ≡ option_map (λ o. take most (drop start o)) (Some all) = those records (k, t.journal) ∙ ap (option_map (λ o. take most (drop start o))) held in
       cc e
 
-  pub some_read : IsOnlyRead on before after → on.faults after ≡ on.faults before → (octets : List ℕ) (whole : ℕ) → ((records : List Record) → Keeps records node → Some whole ≡ copy_size user id records)
+  pub some_read : IsOnlyRead on before after → on.faults after ≡ on.faults before → (octets : List ℕ) (whole : ℕ) → ((records : List Record) → NodeKeeps records node → Some whole ≡ copy_size user id records)
       → GivesWanted (on.seen before) node.store (part_in id start most) (Some octets)
       → (answer : Answer) → found_in answer ≡ Some (PartOf octets whole) → PartRead on user id start most node before after answer
   some_read read quiet octets whole size given answer is = record {
@@ -108,7 +108,7 @@ module _ {D : Type 0} (on : View D) (user : List ℕ) (id : Id) (start most : �
   }
 
   -- a copy that has a size has octets
-  pub never_none : IsOnlyRead on before after → on.faults after ≡ on.faults before → (whole : ℕ) → ((records : List Record) → Keeps records node → Some whole ≡ copy_size user id records)
+  pub never_none : IsOnlyRead on before after → on.faults after ≡ on.faults before → (whole : ℕ) → ((records : List Record) → NodeKeeps records node → Some whole ≡ copy_size user id records)
       → GivesWanted (on.seen before) node.store (part_in id start most) None → PartRead on user id start most node before after GoneAlready
   never_none read quiet whole size given = record {
     found = NotThere;
@@ -126,7 +126,7 @@ module _ {D : Type 0} (on : View D) (user : List ℕ) (id : Id) (start most : �
   read_rose read later rose = record { as_before = as_it_is node; read = read; later = later; cause = inr (inl rose) }
 
   not_journal : (seen : Option (List ℕ)) → IfSome seen (λ held. (records : List Record) → TellsKept node.store held records → ⊥)
-      → (seen ≡ None) ⊎ ((records : List Record) → Keeps records node → TellsJournal seen node.store.own (payloads_of records) (end_in node) → ⊥)
+      → (seen ≡ None) ⊎ ((records : List Record) → NodeKeeps records node → TellsJournal seen node.store.own (payloads_of records) (end_in node) → ⊥)
   not_journal None none = inl refl
   not_journal (Some held) none = inr (λ records k t. none records (k, t.journal))
 
@@ -179,7 +179,7 @@ module _ {D : Type 0} (on : View D) where
   module _ (plan : Plan) (own seconds : ℕ) (old : Node) (before : D) (p : IsNodeOf plan own old) (works : CanWork (on.seen before) old) (call : NodeCall) (kind : CallKind)
       (of_kind : kind_of_call call ≡ Some kind) (goes : is_worn_for plan seconds (node_seen old) call ≡ false) (new : Node) (after : D) where
     pub reads : (found : Found) (given : Option Found) → given ≡ Some found
-        → ((records : List Record) → Keeps records old → TellsJournal (on.seen before) old.store.own (payloads_of records) (end_in old) → IsFound plan (is_some (on.seen before)) records call found)
+        → ((records : List Record) → NodeKeeps records old → TellsJournal (on.seen before) old.store.own (payloads_of records) (end_in old) → IsFound plan (is_some (on.seen before)) records call found)
         → IsOnlyRead on before after → on.faults after ≡ on.faults before
         → (result : Result (Option Number × Outbox) NodeFault) → AnswersRead kind given result old new → NodeBegins on plan own seconds call old before new after result
     reads found given is those read quiet (Ok begun) r = record {

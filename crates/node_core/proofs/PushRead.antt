@@ -20,11 +20,11 @@ use Rattle.cluster_model.specs.Room.{due_to}
 use Rattle.disk_journal.specs.Journal.{TellsJournal}
 use Rattle.node_store.specs.Disks.{View}
 use Rattle.node_store.specs.Reads.{TellsKept, GivesWanted}
-use Rattle.node_core.specs.Nodes.{node_seen, Keeps, end_in}
+use Rattle.node_core.specs.Nodes.{node_seen, NodeKeeps, end_in}
 use Rattle.node_core.specs.Spelling.{CanBeTaken, AllCanBeTaken}
 use Rattle.node_core.specs.Works.{IsOnlyRead}
 use Rattle.node_core.specs.Pushing.{untold, pushed_by, keys_within, NodePushed, PushesOut}
-use Rattle.node_core.specs.PushReads.{AreShort, IsRead, Gives, Reads, ReadsLetters}
+use Rattle.node_core.specs.PushReads.{OctetsAreShort, IsRead, Gives, Reads, ReadsLetters}
 use Rattle.node_core.specs.declared.fault.NodeFault.{NodeFault}
 use Rattle.node_core.specs.declared.fault.NodeFault.TheVariants.{Disk, Worn, NoMemory}
 use Rattle.node_core.specs.declared.outbox.Outbox.{Outbox}
@@ -63,13 +63,13 @@ module _ {D : Type 0} (on : View D) (node : Node) where
 
   -- a first reading, and then one more
   pub reads_on : {T U : Type 0} (form : T → U) (Fits : T → Type 0) (before mid after : D) (wanted wanted' : List Record → T) → IsRead on node before mid
-      → IfSome (on.seen before) (λ _. (records : List Record) → Keeps records node → TellsJournal (on.seen before) node.store.own (payloads_of records) (end_in node) → wanted records ≡ wanted' records)
-      → ((records : List Record) → Keeps records node → form (wanted records) ≡ form (wanted' records))
+      → IfSome (on.seen before) (λ _. (records : List Record) → NodeKeeps records node → TellsJournal (on.seen before) node.store.own (payloads_of records) (end_in node) → wanted records ≡ wanted' records)
+      → ((records : List Record) → NodeKeeps records node → form (wanted records) ≡ form (wanted' records))
       → (result : Result T NodeFault) → Reads on node mid after form Fits wanted' result → Reads on node before after form Fits wanted result
   reads_on {T} form Fits before mid after wanted wanted' first told alike (Ok given) r = (
     record {
       told = both_some (on.seen before) (λ a b records k t. a records k t ∙ b records k t) told
-          (subst (λ (o : Option (List ℕ)). IfSome o (λ _. (records : List Record) → Keeps records node → TellsJournal o node.store.own (payloads_of records) (end_in node) → wanted' records ≡ given)) first.read.seen r.0.told);
+          (subst (λ (o : Option (List ℕ)). IfSome o (λ _. (records : List Record) → NodeKeeps records node → TellsJournal o node.store.own (payloads_of records) (end_in node) → wanted' records ≡ given)) first.read.seen r.0.told);
       alike = λ records k. alike records k ∙ r.0.alike records k;
       is_read = read_on before mid after first r.0.is_read;
     },
@@ -93,7 +93,7 @@ module _ {D : Type 0} (on : View D) (node : Node) where
     gives_octets quiet id given g = record { told = tells (on.seen before) g.those; alike = λ records k. sym (g.sized records k); is_read = record { read = read; quiet = quiet } }
       where
         tells : (seen : Option (List ℕ)) → IfSome seen (λ held. (records : List Record) → TellsKept node.store held records → given ≡ octets_in id records)
-            → IfSome seen (λ _. (records : List Record) → Keeps records node → TellsJournal seen node.store.own (payloads_of records) (end_in node) → octets_in id records ≡ given)
+            → IfSome seen (λ _. (records : List Record) → NodeKeeps records node → TellsJournal seen node.store.own (payloads_of records) (end_in node) → octets_in id records ≡ given)
         tells None those = tt
         tells (Some held) those = λ records k t. sym (those records (k, t.journal))
 
@@ -118,11 +118,11 @@ module _ {D : Type 0} (on : View D) (node : Node) where
         untold_of : ℕ → Letter
         untold_of n = record { from = node.store.own; to = to; epoch = epoch_of (node_seen node); ticket = None; body = Push key entry.state (Some (replicate n 0)) }
 
-    fit_letter : (octets : Option (List ℕ)) → IsObject key entry.state → AreShort octets → CanBeTaken (Push key entry.state octets)
+    fit_letter : (octets : Option (List ℕ)) → IsObject key entry.state → OctetsAreShort octets → CanBeTaken (Push key entry.state octets)
     fit_letter None object short = object
     fit_letter (Some octets) object short = (object, short)
 
-    pub one_pushed : (letters all : List Letter) (octets : Option (List ℕ)) → Gives on node before after (option_map length) (pushed_octets key entry.state.value) octets → AreShort octets → IsObject key entry.state
+    pub one_pushed : (letters all : List Letter) (octets : Option (List ℕ)) → Gives on node before after (option_map length) (pushed_octets key entry.state.value) octets → OctetsAreShort octets → IsObject key entry.state
         → AllCanBeTaken letters → all ≡ letters ++ letter_with octets ∷ []
         → Gives on node before after (map untold) (λ records. letters ++ push_of node.store.own to (epoch_of (node_seen node)) records key (fin.get node.store.log key)) all × AllCanBeTaken all
     one_pushed letters all octets given short object fits is = (
@@ -154,8 +154,8 @@ module _ {D : Type 0} (on : View D) (node : Node) where
         ∙ sym (map-append untold sent (more records))) result r
 
   -- what is pushed in all
-  module _ (to most room : ℕ) (before after : D) (keys : List Key) (keys_are : (records : List Record) → Keeps records node → keys ≡ keys_within most room node.store.own to (node_seen node) records) where
-    out_is : (records : List Record) → Keeps records node → pushed_by node.store.own to most room (node_seen node) records ≡ (push node.store.own to keys (node_seen node) records).out
+  module _ (to most room : ℕ) (before after : D) (keys : List Key) (keys_are : (records : List Record) → NodeKeeps records node → keys ≡ keys_within most room node.store.own to (node_seen node) records) where
+    out_is : (records : List Record) → NodeKeeps records node → pushed_by node.store.own to most room (node_seen node) records ≡ (push node.store.own to keys (node_seen node) records).out
     out_is records k = ap (λ (ks : List Key). (push node.store.own to ks (node_seen node) records).out) (sym (keys_are records k))
 
     all_pushed : (sent : List Letter) → Gives on node before after (map untold) (λ records. (push node.store.own to keys (node_seen node) records).out) sent → AllCanBeTaken sent → NodePushed on node.store.own to most room node before node after sent
@@ -176,7 +176,7 @@ module _ {D : Type 0} (on : View D) (node : Node) where
           quiet = g.is_read.quiet;
         }
       where
-        alike : (records : List Record) → Keeps records node → map untold (pushed_by node.store.own to most room (node_seen node) records) ≡ map untold sent
+        alike : (records : List Record) → NodeKeeps records node → map untold (pushed_by node.store.own to most room (node_seen node) records) ≡ map untold sent
         alike records k = ap (map untold) (out_is records k) ∙ g.alike records k
 
     pub pushed_out : (outbox : Outbox) (sent : List Letter) → outbox.letters ≡ sent → outbox.thrown ≡ None → ReadsLetters on node before after (λ records. (push node.store.own to keys (node_seen node) records).out) (Ok sent)

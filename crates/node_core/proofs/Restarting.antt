@@ -35,7 +35,7 @@ use Rattle.node_tickets.specs.Standing.{IsOf, tickets_in}
 use Rattle.node_tickets.specs.declared.tickets.Tickets.{Tickets}
 use Rattle.node_store.specs.Keeps.{KeepsRecords}
 use Rattle.node_store.specs.Changes.{with_boot}
-use Rattle.node_store.specs.Writes.{Done, IsCutShort}
+use Rattle.node_store.specs.Writes.{Done, WorkIsCutShort}
 use Rattle.node_core.specs.Nodes.{node_seen, end_in}
 use Rattle.node_core.specs.Starting.{MayHold, WhereItHolds, IsStartStop, StartKeeps, StartedOver, StoppedOver, WornOver, NodeStarts, NodeStarted, HasReopened, HoldsNoJournal, ReopensStore}
 use Rattle.node_core.specs.Works.{fault_of}
@@ -219,7 +219,7 @@ module _ {D : Type 0} (on : View D) (plan : Plan) (own : ℕ) (before : D) (reco
       }
 
       -- the record of the boot was cut
-      pub boot_cut : IsCutShort on (with_boot boot) store mid after → StoppedOver on plan own before after records pending
+      pub boot_cut : WorkIsCutShort on (with_boot boot) store mid after → StoppedOver on plan own before after records pending
       boot_cut d =
           let cut = d.cut r.records r.keeps in
           let all : Boot boot ∷ [] ≡ (d.front ++ d.pending) ++ cut.missing = cancel r.records (Boot boot ∷ []) ((d.front ++ d.pending) ++ cut.missing) cut.is in
@@ -318,16 +318,16 @@ module _ {D : Type 0} (on : View D) (plan : Plan) (own : ℕ) (before mid : D) (
   boot_fits : IsCount 32 boot
   boot_fits = (omega (arith, boot_is), omega (arith, boot_is, small))
 
-  stopped_over : IsCutShort on (with_boot boot) store mid after → WhereItHolds on before own (StoppedOver on plan own before after)
+  stopped_over : WorkIsCutShort on (with_boot boot) store mid after → WhereItHolds on before own (StoppedOver on plan own before after)
   stopped_over cut = after_reading on plan own before mid store found r only (StoppedOver on plan own before after)
       (λ records pending holds held seen was alone. boot_cut on plan own before records pending holds mid held seen was kept alone store found r.reopened boot boot_next boot_fits after cut)
 
-  stopped_and_rose : IsCutShort on (with_boot boot) store mid after → Rose (on.faults before) (on.faults after)
+  stopped_and_rose : WorkIsCutShort on (with_boot boot) store mid after → Rose (on.faults before) (on.faults after)
       → WhereItHolds on before own (λ records pending. StoppedOver on plan own before after records pending × Rose (on.faults before) (on.faults after))
   stopped_and_rose cut rose = after_reading on plan own before mid store found r only (λ records pending. StoppedOver on plan own before after records pending × Rose (on.faults before) (on.faults after))
       (λ records pending holds held seen was alone. (boot_cut on plan own before records pending holds mid held seen was kept alone store found r.reopened boot boot_next boot_fits after cut, rose))
 
-  pub boot_failed : (fault : KeepFault) → IsCutShort on (with_boot boot) store mid after → Fails fault (on.faults mid) (on.faults after) → NodeStarts on plan own before after (Err (fault_of fault))
+  pub boot_failed : (fault : KeepFault) → WorkIsCutShort on (with_boot boot) store mid after → Fails fault (on.faults mid) (on.faults after) → NodeStarts on plan own before after (Err (fault_of fault))
   boot_failed keep.Disk cut fails = stopped_and_rose cut (subst (λ (n : ℕ). Rose n (on.faults after)) r.quiet fails.1)
   boot_failed keep.NoMemory cut fails = stopped_over cut
 

@@ -19,7 +19,7 @@ use Rattle.cluster_model.specs.TicketLaws.{deletion_ticket}
 use Rattle.node_store.specs.Disks.{View}
 use Rattle.node_store.specs.Appends.{Fails}
 use Rattle.node_store.specs.Keeps.{seen_with}
-use Rattle.node_store.specs.Writes.{Done, IsCutShort}
+use Rattle.node_store.specs.Writes.{Done, WorkIsCutShort}
 use Rattle.node_store.specs.declared.fault.KeepFault.{KeepFault}
 use Rattle.node_store.specs.declared.fault.KeepFault.TheVariants as keep
 use Rattle.node_store.specs.declared.store.NodeStore.{NodeStore}
@@ -86,10 +86,10 @@ module _ {D : Type 0} (on : View D) (user : List ℕ) (items : List Struck) (old
 
   -- its work stopped
   pub strike_stopped : (new : Node) (fault : KeepFault) → All (λ u. IsObject u.key u.state) (gone_updates user (all_nodes old.shape.nodes) marks)
-      → IsCutShort on (take_all old.store.own (gone_updates user (all_nodes old.shape.nodes) marks)) old.store before after → Fails fault (on.faults before) (on.faults after)
+      → WorkIsCutShort on (take_all old.store.own (gone_updates user (all_nodes old.shape.nodes) marks)) old.store before after → Fails fault (on.faults before) (on.faults after)
       → BeginsStrike on user items old before new after (Err (fault_of fault))
   strike_stopped new fault fits cut fails = by fault (record {
-    stopped = stopped_by on (striking user items old) (change own_marks) old before after (subst (λ (ms : List DeletionMark). IsCutShort on (change ms) old.store before after) marked cut) (λ records k. refl)
+    stopped = stopped_by on (striking user items old) (change own_marks) old before after (subst (λ (ms : List DeletionMark). WorkIsCutShort on (change ms) old.store before after) marked cut) (λ records k. refl)
         (λ records k. all_fit old.store.own (updates own_marks) (seen_with old.store records) k.fit (subst (λ (ms : List DeletionMark). All (λ u. IsObject u.key u.state) (updates ms)) marked fits));
     fails = fails;
   })

@@ -18,11 +18,11 @@ use Rattle.mail_base.proofs.Sets.{with_small}
 use Rattle.node_store.specs.Disks.{View}
 use Rattle.node_store.specs.Keeps.{seen_with}
 use Rattle.node_store.specs.Changes.{take_wider, widened_in}
-use Rattle.node_store.specs.Writes.{Done, IsCutShort}
+use Rattle.node_store.specs.Writes.{Done, WorkIsCutShort}
 use Rattle.node_store.proofs.Logged.{said_fits}
 use Rattle.node_tickets.specs.Standing.{IsOf, tickets_in}
 use Rattle.node_tickets.specs.declared.tickets.Tickets.{Tickets}
-use Rattle.node_core.specs.Nodes.{node_seen, Keeps, IsWhole}
+use Rattle.node_core.specs.Nodes.{node_seen, NodeKeeps, IsWhole}
 use Rattle.node_core.specs.Works.{NodeDid, NodeStopped}
 use Rattle.node_core.specs.declared.numbers.Numbers.{Numbers}
 use Rattle.node_core.specs.declared.shape.Shape.{Shape}
@@ -110,12 +110,12 @@ module _ {D : Type 0} (on : View D) (to : ℕ) (key : Key) (old : Node) (before 
   abbrev own : ℕ
   own = old.store.own
 
-  pub widen_stopped : 1 ≤ to → to ≤ 16 → IsCutShort on (widened_in own key to) old.store before after → NodeStopped on (λ node disk. widen own to key node disk) old before after
+  pub widen_stopped : 1 ≤ to → to ≤ 16 → WorkIsCutShort on (widened_in own key to) old.store before after → NodeStopped on (λ node disk. widen own to key node disk) old before after
   widen_stopped low high cut = stopped_by on (λ node disk. widen own to key node disk) (widened_in own key to) old before after cut
       (λ records k. widened_disk own to key (node_seen old) records (said key records))
       (λ records k. widened_fits own to key low high (seen_with old.store records) k.fit)
 
-  pub widen_did : (new : Node) (did : Bool) → ((records : List Record) → Keeps records old → did ≡ can_widen to (said key records))
+  pub widen_did : (new : Node) (did : Bool) → ((records : List Record) → NodeKeeps records old → did ≡ can_widen to (said key records))
       → Done on (widened_in own key to) old.store before new.store after
       → new.numbers ≡ record old.numbers { drawn = cond did (max old.numbers.drawn (greatest_named own old.numbers.boot key)) old.numbers.drawn }
       → new.shape ≡ old.shape → new.tickets ≡ old.tickets → IsWhole old → NodeDid on (λ node disk. widen own to key node disk) old before new after []

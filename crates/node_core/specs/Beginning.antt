@@ -22,7 +22,7 @@ use Rattle.node_store.specs.Disks.{View}
 use Rattle.node_store.specs.Appends.{Fails}
 use Rattle.node_store.specs.declared.fault.KeepFault.{KeepFault}
 use Rattle.node_store.specs.declared.fault.KeepFault.TheVariants as keep
-use Rattle.node_core.specs.Nodes.{node_seen, Keeps, end_in, IsAsBefore}
+use Rattle.node_core.specs.Nodes.{node_seen, NodeKeeps, end_in, IsAsBefore}
 use Rattle.node_core.specs.Works.{NodeDid, NodeStopped, IsOnlyRead, ReadFailed}
 use Rattle.node_core.specs.declared.fault.NodeFault.{NodeFault}
 use Rattle.node_core.specs.declared.fault.NodeFault.TheVariants.{Disk, Worn, NoMemory}
@@ -37,13 +37,13 @@ at_second seconds = record { slots = []; flying = []; sent = 0; seconds = second
 abbrev pub struck_of : List Item → List Struck
 struck_of items = map (λ item. record { id = item.id; targets = item.targets }) items
 
-abbrev pub secret_in : Proof → List ℕ
-secret_in (Pass octets) = octets
+abbrev pub secret_of_proof : Proof → List ℕ
+secret_of_proof (Pass octets) = octets
 
 -- a call of the code in the machine's words
 abbrev pub call_seen : code.Call → NodeCall
 call_seen (kind.Deliver deliver) = Deliver (mail_in deliver)
-call_seen (kind.Login user proof) = Login user (secret_in proof)
+call_seen (kind.Login user proof) = Login user (secret_of_proof proof)
 call_seen (kind.Fetch user id holders from most) = Fetch user id from most
 call_seen (kind.Strike user items) = Strike user (struck_of items)
 call_seen (kind.Leave user login manager) = Leave user
@@ -63,7 +63,7 @@ module _ {D : Type 0} (on : View D) (plan : Plan) (own seconds : ℕ) (call : No
         → ticket ≡ Some (new_number own (node_seen old))
         → NodeDid on (λ node disk. begun_by plan (at_second seconds) own node disk call octets) old before new after sent → CallDid ticket sent
     Reads : (kind : CallKind) (found : Found) → kind_of_call call ≡ Some kind
-        → ((records : List Record) → Keeps records old → TellsJournal (on.seen before) own (payloads_of records) (end_in old) → IsFound plan (is_some (on.seen before)) records call found)
+        → ((records : List Record) → NodeKeeps records old → TellsJournal (on.seen before) own (payloads_of records) (end_in old) → IsFound plan (is_some (on.seen before)) records call found)
         → ticket ≡ Some (new_number own (node_seen old)) → NodeDid on (begin_read kind found) old before new after sent → CallDid ticket sent
     Leaves : (user : List ℕ) → call ≡ Leave user → ticket ≡ None → sent ≡ [] → IsAsBefore old new → after ≡ before → CallDid ticket sent
 

@@ -9,7 +9,7 @@ use Rattle.cluster_model.specs.Cluster as plain
 use Rattle.cluster_model.specs.Starts.{first_membership}
 use Rattle.disk_journal.specs.Journal.{TellsJournal}
 use Rattle.node_store.specs.Disks.{View}
-use Rattle.node_core.specs.Nodes.{node_seen, Keeps, end_in, CanWork, IsNodeOf}
+use Rattle.node_core.specs.Nodes.{node_seen, NodeKeeps, end_in, CanWork, IsNodeOf}
 use Rattle.node_core.specs.declared.fault.NodeFault.{NodeFault}
 use Rattle.node_core.specs.declared.fault.NodeFault.TheVariants.{Disk, Worn, NoMemory}
 use Rattle.node_core.specs.declared.node.Node.{Node}
@@ -24,7 +24,7 @@ module _ {D : Type 0} (on : View D) (plan : Plan) (own : ℕ) (before after : D)
     pub seen_is : node_seen node ≡ fresh_node plan.nodes
     pub of_plan : IsNodeOf plan own node
     pub works : CanWork (on.seen after) node
-    pub keeps : Keeps (Boot 1 ∷ []) node
+    pub keeps : NodeKeeps (Boot 1 ∷ []) node
     pub tells : TellsJournal (on.seen after) own (payloads_of (Boot 1 ∷ [])) (end_in node)
     pub quiet : on.faults after ≡ on.faults before
 

@@ -14,7 +14,7 @@ use Rattle.cluster_model.specs.Reads.{ListedCopy, Found, copy_cmp}
 use Rattle.cluster_model.specs.Steps.NodeCall.{Login}
 use Rattle.cluster_model.specs.Makes.{IsFound}
 use Rattle.node_tickets.specs.Seen.{copy_seen, found_in}
-use Rattle.node_core.specs.Nodes.{Keeps}
+use Rattle.node_core.specs.Nodes.{NodeKeeps}
 use Rattle.node_core.specs.declared.node.Node.{Node}
 
 -- a message of a listing, where this state says that the user's copy is here
@@ -50,4 +50,4 @@ AreInOrder items = IsSortedBy comes_first items
 pub record MailboxFound (users : Users) (user secret : List ℕ) (node : Node) (answer : Answer) : Type 0 where
   pub found : Found
   pub is : found_in answer ≡ Some found
-  pub those : (plan : Plan) → users ≡ plan.users → (tells : Bool) (records : List Record) → Keeps records node → IsFound plan tells records (Login user secret) found
+  pub those : (plan : Plan) → users ≡ plan.users → (tells : Bool) (records : List Record) → NodeKeeps records node → IsFound plan tells records (Login user secret) found

@@ -23,8 +23,8 @@ node_seen node = record {
 }
 
 -- these are the records of its disk, as far as the node can tell
-abbrev pub Keeps : List Record → Node → Type 0
-Keeps records node = KeepsRecords records node.store
+abbrev pub NodeKeeps : List Record → Node → Type 0
+NodeKeeps records node = KeepsRecords records node.store
 
 -- where its journal ends
 abbrev pub end_in : Node → ℕ
@@ -63,7 +63,7 @@ IsSameNode old new = (plan : Plan) (own : ℕ) → IsNodeOf plan own old → IsN
 pub record IsAsBefore (old new : Node) : Type 0 where
   pub seen : node_seen new ≡ node_seen old
   pub same : IsSameNode old new
-  pub keeps : (records : List Record) → Keeps records old → Keeps records new
+  pub keeps : (records : List Record) → NodeKeeps records old → NodeKeeps records new
   pub works : (seen : Option (List ℕ)) → CanWork seen old → CanWork seen new
   pub end_is : end_in new ≡ end_in old
 
@@ -71,6 +71,6 @@ pub record IsAsBefore (old new : Node) : Type 0 where
 pub record ChangesTickets (tickets : plain.Tickets) (old new : Node) : Type 0 where
   pub seen : node_seen new ≡ record (node_seen old) { tickets = tickets }
   pub same : IsSameNode old new
-  pub keeps : (records : List Record) → Keeps records old → Keeps records new
+  pub keeps : (records : List Record) → NodeKeeps records old → NodeKeeps records new
   pub works : (seen : Option (List ℕ)) → CanWork seen old → CanWork seen new
   pub end_is : end_in new ≡ end_in old

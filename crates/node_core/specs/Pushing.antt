@@ -12,7 +12,7 @@ use Rattle.cluster_model.specs.Rules.{push_of, push, can_widen, widen}
 use Rattle.cluster_model.specs.Room.{octets_of_all, due_to}
 use Rattle.disk_journal.specs.Journal.{TellsJournal}
 use Rattle.node_store.specs.Disks.{View}
-use Rattle.node_core.specs.Nodes.{node_seen, Keeps, end_in, IsAsBefore}
+use Rattle.node_core.specs.Nodes.{node_seen, NodeKeeps, end_in, IsAsBefore}
 use Rattle.node_core.specs.Spelling.{AllCanBeTaken}
 use Rattle.node_core.specs.Works.{NodeDid, NodeFailed, IsOnlyRead, ReadFailed}
 use Rattle.node_core.specs.declared.fault.NodeFault.{NodeFault}
@@ -56,12 +56,12 @@ module _ {D : Type 0} (on : View D) (own to most room : ℕ) (old : Node) (befor
   -- The letters are those of the rule, where the disk tells what it holds. What a disk gives that tells nothing is not known: there they are those of the rule but for the
   -- octets, of which it is known how many they are.
   pub record NodePushed (sent : List Letter) : Type 0 where
-    pub told : IfSome (on.seen before) (λ _. (records : List Record) → Keeps records old → TellsJournal (on.seen before) own (payloads_of records) (end_in old)
+    pub told : IfSome (on.seen before) (λ _. (records : List Record) → NodeKeeps records old → TellsJournal (on.seen before) own (payloads_of records) (end_in old)
         → pushed_by own to most room (node_seen old) records ≡ sent)
-    pub alike : (records : List Record) → Keeps records old → map untold (pushed_by own to most room (node_seen old) records) ≡ map untold sent
-    pub count : (records : List Record) → Keeps records old → length sent ≡ length (keys_within most room own to (node_seen old) records)
-    pub few : (records : List Record) → Keeps records old → length sent ≤ most
-    pub small : (records : List Record) → Keeps records old → octets_of_all sent ≤ room
+    pub alike : (records : List Record) → NodeKeeps records old → map untold (pushed_by own to most room (node_seen old) records) ≡ map untold sent
+    pub count : (records : List Record) → NodeKeeps records old → length sent ≡ length (keys_within most room own to (node_seen old) records)
+    pub few : (records : List Record) → NodeKeeps records old → length sent ≤ most
+    pub small : (records : List Record) → NodeKeeps records old → octets_of_all sent ≤ room
     pub fits : AllCanBeTaken sent
     pub as_before : IsAsBefore old new
     pub read : IsOnlyRead on before after
@@ -77,5 +77,5 @@ module _ {D : Type 0} (on : View D) (own to most room : ℕ) (old : Node) (befor
 module _ {D : Type 0} (on : View D) (own to : ℕ) (key : Key) (old : Node) (before : D) (new : Node) (after : D) where
   -- a copy gets a target more, where it is here and has not that target
   abbrev pub WidensCopy : Result Bool NodeFault → Type 0
-  WidensCopy (Ok did) = ((records : List Record) → Keeps records old → did ≡ can_widen to (said key records)) × NodeDid on (λ node disk. widen own to key node disk) old before new after []
+  WidensCopy (Ok did) = ((records : List Record) → NodeKeeps records old → did ≡ can_widen to (said key records)) × NodeDid on (λ node disk. widen own to key node disk) old before new after []
   WidensCopy (Err fault) = NodeFailed on (λ node disk. widen own to key node disk) ⊤ fault old before new after

@@ -11,12 +11,12 @@ use Rattle.object_model.specs.Mishaps.{no_mishaps}
 use Rattle.cluster_model.specs.Cluster.{CallKind}
 use Rattle.cluster_model.specs.Reads.{Found, is_here_held}
 use Rattle.cluster_model.specs.Rules.{new_number}
-use Rattle.cluster_model.specs.Makes.{IsFetched}
+use Rattle.cluster_model.specs.Makes.{FetchFinds}
 use Rattle.call_tickets.specs.declared.answer.Answer.{Answer}
 use Rattle.disk_journal.specs.Journal.{TellsJournal}
 use Rattle.node_store.specs.Disks.{View}
 use Rattle.node_tickets.specs.Seen.{found_in}
-use Rattle.node_core.specs.Nodes.{node_seen, Keeps, end_in, IsAsBefore}
+use Rattle.node_core.specs.Nodes.{node_seen, NodeKeeps, end_in, IsAsBefore}
 use Rattle.node_core.specs.Works.{IsLikewise, IsOnlyRead, ReadFailed}
 use Rattle.node_core.specs.declared.fault.NodeFault.{NodeFault}
 use Rattle.node_core.specs.declared.fault.NodeFault.TheVariants.{Disk, Worn, NoMemory}
@@ -32,8 +32,8 @@ module _ {D : Type 0} (on : View D) (user : List ℕ) (id : Id) (start most : �
   pub record PartRead (answer : Answer) : Type 0 where
     pub found : Found
     pub is : found_in answer ≡ Some found
-    pub those : (records : List Record) → Keeps records node → TellsJournal (on.seen before) node.store.own (payloads_of records) (end_in node)
-        → IsFetched (is_some (on.seen before)) user id start most records found
+    pub those : (records : List Record) → NodeKeeps records node → TellsJournal (on.seen before) node.store.own (payloads_of records) (end_in node)
+        → FetchFinds (is_some (on.seen before)) user id start most records found
     pub read : IsOnlyRead on before after
     pub quiet : on.faults after ≡ on.faults before
 

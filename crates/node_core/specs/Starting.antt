@@ -13,7 +13,7 @@ use Rattle.node_store.specs.Disks.{View}
 use Rattle.node_store.specs.Reopens.{IsReopened, KeepsNoRecords}
 use Rattle.node_store.specs.declared.recovered.Recovered.{Recovered}
 use Rattle.node_store.specs.declared.store.NodeStore.{NodeStore}
-use Rattle.node_core.specs.Nodes.{node_seen, Keeps, end_in, CanWork, IsNodeOf}
+use Rattle.node_core.specs.Nodes.{node_seen, NodeKeeps, end_in, CanWork, IsNodeOf}
 use Rattle.node_core.specs.declared.fault.NodeFault.{NodeFault}
 use Rattle.node_core.specs.declared.fault.NodeFault.TheVariants.{Disk, Worn, NoMemory}
 use Rattle.node_core.specs.declared.node.Node.{Node}
@@ -49,7 +49,7 @@ module _ {D : Type 0} (on : View D) (plan : Plan) (own : ℕ) (before after : D)
   pub record StartedOver (node : Node) (records pending : List Record) : Type 0 where
     pub new : List Record
     pub starts : StartsNode own plan.nodes records pending (node_seen node) new
-    pub keeps : Keeps new node
+    pub keeps : NodeKeeps new node
     pub tells : TellsJournal (on.seen after) own (payloads_of new) (end_in node)
     pub stops_keep : StartKeeps records pending new
 
@@ -74,7 +74,7 @@ module _ {D : Type 0} (on : View D) (plan : Plan) (own : ℕ) (before after : D)
     pub works : CanWork (on.seen after) node
     pub quiet : on.faults after ≡ on.faults before
     pub over : WhereItHolds on before own (StartedOver node)
-    pub some : (records : List Record) × Keeps records node
+    pub some : (records : List Record) × NodeKeeps records node
 
   -- What a start leaves. Out of memory that comes before the boot is recorded leaves the disk as a restart does.
   abbrev pub NodeStarts : Result Node NodeFault → Type 0

@@ -15,7 +15,7 @@ use Rattle.node_store.specs.declared.fault.KeepFault.{KeepFault}
 use Rattle.node_store.specs.declared.fault.KeepFault.TheVariants as keep
 use Rattle.cluster_model.specs.Thrown.{with_stamps}
 use Rattle.node_tickets.specs.Standing.{IsOf}
-use Rattle.node_core.specs.Nodes.{node_seen, Keeps, end_in, IsWhole, CanWork, IsSameNode, IsAsBefore}
+use Rattle.node_core.specs.Nodes.{node_seen, NodeKeeps, end_in, IsWhole, CanWork, IsSameNode, IsAsBefore}
 use Rattle.node_core.specs.Spelling.{AllCanBeTaken}
 use Rattle.node_core.specs.declared.fault.NodeFault.{NodeFault}
 use Rattle.node_core.specs.declared.fault.NodeFault.TheVariants.{Disk, Worn, NoMemory}
@@ -33,10 +33,10 @@ Rule = plain.Node → List Record → Reaction
 -- It was done. Whatever records the node's disk had, the node, its records and its letters are those of the rule, and what was added stands on the disk.
 pub record NodeDid {D : Type 0} (on : View D) (rule : Rule) (old : Node) (before : D) (new : Node) (after : D) (sent : List Letter) : Type 0 where
   pub added : List Record
-  pub disk : (records : List Record) → Keeps records old → (rule (node_seen old) records).disk ≡ records ++ added
-  pub node : (records : List Record) → Keeps records old → (rule (node_seen old) records).node ≡ node_seen new
-  pub out : (records : List Record) → Keeps records old → (rule (node_seen old) records).out ≡ sent
-  pub keeps : (records : List Record) → Keeps records old → Keeps (records ++ added) new
+  pub disk : (records : List Record) → NodeKeeps records old → (rule (node_seen old) records).disk ≡ records ++ added
+  pub node : (records : List Record) → NodeKeeps records old → (rule (node_seen old) records).node ≡ node_seen new
+  pub out : (records : List Record) → NodeKeeps records old → (rule (node_seen old) records).out ≡ sent
+  pub keeps : (records : List Record) → NodeKeeps records old → NodeKeeps (records ++ added) new
   pub boot : (node_seen new).boot ≡ (node_seen old).boot
   pub same : IsSameNode old new
   pub works : CanWork (on.seen after) new
@@ -47,9 +47,9 @@ pub record NodeDid {D : Type 0} (on : View D) (rule : Rule) (old : Node) (before
 pub record NodeStopped {D : Type 0} (on : View D) (rule : Rule) (old : Node) (before after : D) : Type 0 where
   pub front : List Record
   pub pending : List Record
-  pub cut : (records : List Record) → Keeps records old → IsWorkCut records (rule (node_seen old) records).disk front pending
+  pub cut : (records : List Record) → NodeKeeps records old → IsWorkCut records (rule (node_seen old) records).disk front pending
   pub stops : StopsAfter on before after (end_in old) front pending
-  pub fit : (records : List Record) → Keeps records old → All IsRecord (rule (node_seen old) records).disk
+  pub fit : (records : List Record) → NodeKeeps records old → All IsRecord (rule (node_seen old) records).disk
 
 -- the disk was read, and no more
 pub record IsOnlyRead {D : Type 0} (on : View D) (before after : D) : Type 0 where
@@ -62,7 +62,7 @@ pub record ReadFailed {D : Type 0} (on : View D) (own : ℕ) (old : Node) (befor
   pub read : IsOnlyRead on before after
   pub later : on.faults before ≤ on.faults after
   pub cause : (on.seen before ≡ None) ⊎ Rose (on.faults before) (on.faults after)
-      ⊎ ((records : List Record) → Keeps records old → TellsJournal (on.seen before) own (payloads_of records) (end_in old) → ⊥)
+      ⊎ ((records : List Record) → NodeKeeps records old → TellsJournal (on.seen before) own (payloads_of records) (end_in old) → ⊥)
 
 -- the node may stay up after such an answer
 abbrev pub LeavesUp : {T : Type 0} → Result T NodeFault → Type 0
@@ -104,7 +104,7 @@ pub record IsLikewise (old new : Node) : Type 0 where
   pub tickets : (own boot confirm : ℕ) → IsOf own boot confirm old.tickets → IsOf own boot confirm new.tickets
 
 -- the tickets were told a letter, and nothing else is changed
-pub record HasTold (letter : Letter) (old new : Node) : Type 0 where
+pub record TicketsAreTold (letter : Letter) (old new : Node) : Type 0 where
   pub seen : node_seen new ≡ (hear_told old.store.own (node_seen old) [] letter).node
   pub store : new.store ≡ old.store
   pub like : IsLikewise old new

@@ -15,7 +15,7 @@ ghost use Rattle.node_core.specs.Nodes.{node_seen, IsWhole, CanWork, IsNodeOf};
 ghost use Rattle.node_core.specs.Spelling.{CanBeTaken, IsShort};
 ghost use Rattle.node_core.specs.Answering.{answers_to};
 ghost use Rattle.node_core.specs.Weights.{weight_of, weight_of_all};
-ghost use Rattle.node_core.specs.Works.{LeavesUp, WroteNode, SentLetters, HasLearned, HasTold};
+ghost use Rattle.node_core.specs.Works.{LeavesUp, WroteNode, SentLetters, HasLearned, TicketsAreTold};
 ghost use Rattle.node_core.specs.Hearing.{HearsLetter};
 
 use crate::fault::NodeFault;
@@ -191,7 +191,7 @@ impl Node {
     // Something that a ticket asked for was done.
     fn hear_told(&mut self, letter: &Letter)
         requires whole { IsWhole self.old }
-        ensures { HasTold letter.now self.old self.new }
+        ensures { TicketsAreTold letter.now self.old self.new }
     {
         match &letter.ticket {
             Some(ticket) => {

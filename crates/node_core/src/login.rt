@@ -8,9 +8,9 @@ ghost use Rattle.cluster_model.specs.Reads.{IsListing, copy_cmp};
 ghost use Rattle.cluster_model.specs.Steps.NodeCall.{Login as Logins};
 ghost use Rattle.node_store.specs.Disks.{view_of};
 ghost use Rattle.node_tickets.specs.Seen.{copy_seen};
-ghost use Rattle.node_core.specs.Nodes.{Keeps, CanWork, IsNodeOf};
+ghost use Rattle.node_core.specs.Nodes.{NodeKeeps, CanWork, IsNodeOf};
 ghost use Rattle.node_core.specs.Works.{LeavesUp};
-ghost use Rattle.node_core.specs.Beginning.{NodeBegins, secret_in};
+ghost use Rattle.node_core.specs.Beginning.{NodeBegins, secret_of_proof};
 ghost use Rattle.node_core.specs.Listing.{copy_by, copy_of, copies_for, AreInOrder, MailboxFound};
 
 use crate::fault::NodeFault;
@@ -27,7 +27,7 @@ use std::cmp::Ordering;
 
 // Whether the proof has the secret of the user.
 fn opens(users: &Users, user: &Name, proof: &Proof) -> bool
-    ensures { result ≡ is_that (fin.get users.now user.now) (secret_in proof.now) }
+    ensures { result ≡ is_that (fin.get users.now user.now) (secret_of_proof proof.now) }
 {
     let Proof::Pass(given) = proof;
     match users.secret(user) {
@@ -87,7 +87,7 @@ fn items_of(alloc: Global, items: &[Item]) -> Result<Items, AllocError>
 impl Node {
     // The message of a listing, where the user's copy is here with its octets.
     fn item(&self, user: &Name, id: MsgId) -> Result<Option<Item>, AllocError>
-        ensures { IfOk result (λ item. (records : List Record) → Keeps records self.now → option_map copy_seen item ≡ copy_of user.now records id) }
+        ensures { IfOk result (λ item. (records : List Record) → NodeKeeps records self.now → option_map copy_seen item ≡ copy_of user.now records id) }
     {
         let key = Key::Message(user.copy()?, id);
         let Some(state) = self.store.state(&key) else {
@@ -101,7 +101,7 @@ impl Node {
 
     // Those of these messages of which the user's copies are here with their octets.
     fn items(&self, alloc: Global, user: &Name, ids: &[MsgId]) -> Result<Vec<Item>, AllocError>
-        ensures { IfOk result (λ items. (records : List Record) → Keeps records self.now → map copy_seen items.items ≡ copies_for user.now records ids.now) }
+        ensures { IfOk result (λ items. (records : List Record) → NodeKeeps records self.now → map copy_seen items.items ≡ copies_for user.now records ids.now) }
     {
         let mut items = Vec::new(alloc);
         for id in ids {
@@ -114,7 +114,7 @@ impl Node {
 
     // The listing of the user's mailbox.
     fn listing(&self, alloc: Global, user: &Name) -> Result<Items, AllocError>
-        ensures { IfOk result (λ items. (records : List Record) → Keeps records self.now → IsListing user.now records (map copy_seen items)) }
+        ensures { IfOk result (λ items. (records : List Record) → NodeKeeps records self.now → IsListing user.now records (map copy_seen items)) }
     {
         let ids = self.store.ids(alloc, user)?;
         let mut items = self.items(alloc, user, ids.as_slice())?;
@@ -131,7 +131,7 @@ impl Node {
         proof: &Proof,
         login: Ticket,
     ) -> Result<Answer, AllocError>
-        ensures { IfOk result (λ answer. MailboxFound users.now user.now (secret_in proof.now) self.now answer) }
+        ensures { IfOk result (λ answer. MailboxFound users.now user.now (secret_of_proof proof.now) self.now answer) }
     {
         if !opens(users, user, proof) {
             // No node made the secrets of the plan.
@@ -158,7 +158,7 @@ impl Node {
         proof: &Proof,
     ) -> Result<(Option<Ticket>, Outbox), NodeFault>
         requires works { CanWork (D.seen disk.old) self.old }
-        ensures begins { (plan : PlainPlan) (own seconds : ℕ) → IsNodeOf plan own self.old → users.now ≡ plan.users → NodeBegins (view_of D.seen D.faults D.clock) plan own seconds (Logins user.now (secret_in proof.now)) self.old disk.old self.new disk.new result }
+        ensures begins { (plan : PlainPlan) (own seconds : ℕ) → IsNodeOf plan own self.old → users.now ≡ plan.users → NodeBegins (view_of D.seen D.faults D.clock) plan own seconds (Logins user.now (secret_of_proof proof.now)) self.old disk.old self.new disk.new result }
         ensures settled { LeavesUp result → D.settled disk.old → D.settled disk.new }
     {
         if self.numbers.lack(0, 0) {

@@ -3,7 +3,7 @@ ghost use Rattle.std.specs.Prelude.{◌≡◌, ◌≤◌, ◌<◌, ◌-◌, ◌^
 ghost use Rattle.std.specs.List.{filter};
 ghost use Rattle.object_model.specs.Sets.{has, with_node, all_nodes, nodes_in};
 ghost use Rattle.cluster_model.specs.Rules.{receivers};
-ghost use Rattle.cluster_model.specs.Targets.{set_of, turned, position_of};
+ghost use Rattle.cluster_model.specs.Targets.{set_of, rotated, position_of};
 
 use mail_base::{NodeNo, NodeSet};
 use std::alloc::{AllocError, Global};
@@ -105,7 +105,7 @@ pub(crate) fn turned(
     members: &[NodeNo],
 ) -> Result<Vec<NodeNo>, AllocError>
     requires { at ≤ length members.now }
-    ensures { IfOk result (λ list. list.items ≡ turned at members.now) }
+    ensures { IfOk result (λ list. list.items ≡ rotated at members.now) }
 {
     let mut list = Vec::new(alloc);
     list.extend_from_slice(&members[at..])?;

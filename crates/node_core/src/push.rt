@@ -12,7 +12,7 @@ ghost use Rattle.cluster_model.specs.Cluster.{epoch_of};
 ghost use Rattle.cluster_model.specs.Rules.{can_widen, widen, pushed_octets, push_of, push};
 ghost use Rattle.node_store.specs.Disks.{view_of};
 ghost use Rattle.node_store.specs.Keeps.{HoldsLogged};
-ghost use Rattle.node_core.specs.Nodes.{node_seen, CanWork, IsNodeOf, Keeps};
+ghost use Rattle.node_core.specs.Nodes.{node_seen, CanWork, IsNodeOf, NodeKeeps};
 ghost use Rattle.node_core.specs.Spelling.{AllCanBeTaken};
 ghost use Rattle.node_core.specs.Works.{LeavesUp, WroteNode};
 ghost use Rattle.node_core.specs.Pushing.{PushesOut, WidensCopy};
@@ -174,7 +174,7 @@ impl Node {
         to: NodeNo,
     ) -> Result<bool, KeepFault>
         requires works { CanWork (D.seen disk.old) self.old }
-        ensures answer { IfOk result (λ did. (records : List Record) → Keeps records self.old → did ≡ can_widen to (said (key_seen key.now) records)) }
+        ensures answer { IfOk result (λ did. (records : List Record) → NodeKeeps records self.old → did ≡ can_widen to (said (key_seen key.now) records)) }
         ensures wrote { WroteNode (view_of D.seen D.faults D.clock) (λ node disk. widen self.old.store.own to (key_seen key.now) node disk) [] result self.old disk.old self.new disk.new }
         ensures settled { OnOk result (D.settled disk.old → D.settled disk.new) }
     {

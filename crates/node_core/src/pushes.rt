@@ -7,7 +7,7 @@ ghost use Rattle.mail_base.specs.Seen.{key_seen};
 ghost use Rattle.cluster_model.specs.Cluster.{epoch_of, members_of};
 ghost use Rattle.cluster_model.specs.Rules.{push_of, pushed_octets};
 ghost use Rattle.cluster_model.specs.Room.{octets_of_all, due_to};
-ghost use Rattle.node_core.specs.Nodes.{node_seen, Keeps, IsWhole};
+ghost use Rattle.node_core.specs.Nodes.{node_seen, NodeKeeps, IsWhole};
 ghost use Rattle.node_core.specs.Pushing.{first_within, keys_within, pushed_size};
 
 use crate::node::Node;
@@ -17,7 +17,7 @@ use std::alloc::{AllocError, Global};
 impl Node {
     // How many octets of a message go with a state that is pushed.
     fn pushed_size(&self, key: &Key, state: &ObjState) -> u64
-        ensures { (records : List Record) → Keeps records self.now → result ≡ pushed_size (pushed_octets (key_seen key.now) state.now.value records) }
+        ensures { (records : List Record) → NodeKeeps records self.now → result ≡ pushed_size (pushed_octets (key_seen key.now) state.now.value records) }
     {
         let Key::Message(_, id) = key else {
             return 0;
@@ -30,7 +30,7 @@ impl Node {
 
     // What the letter with this entry counts for, if it is due to the node.
     fn push_size(&self, to: NodeNo, key: &Key) -> u128
-        ensures { (own : ℕ) (records : List Record) → Keeps records self.now → result ≡ octets_of_all (push_of own to (epoch_of (node_seen self.now)) records (key_seen key.now) (fin.get self.now.store.log (key_seen key.now))) }
+        ensures { (own : ℕ) (records : List Record) → NodeKeeps records self.now → result ≡ octets_of_all (push_of own to (epoch_of (node_seen self.now)) records (key_seen key.now) (fin.get self.now.store.log (key_seen key.now))) }
     {
         match self.store.entry(key) {
             Some(entry) => {
@@ -46,7 +46,7 @@ impl Node {
 
     // How many of these keys find room with their letters.
     fn count_within(&self, to: NodeNo, keys: &[Key], most: usize, room: u128) -> usize
-        ensures first { (own : ℕ) (records : List Record) → Keeps records self.now → map key_seen (take result keys.now)
+        ensures first { (own : ℕ) (records : List Record) → NodeKeeps records self.now → map key_seen (take result keys.now)
             ≡ first_within (λ key. push_of own to (epoch_of (node_seen self.now)) records key (fin.get self.now.store.log key)) most room (map key_seen keys.now) }
         ensures bound { result ≤ length keys.now }
     {
@@ -112,7 +112,7 @@ impl Node {
         room: u64,
     ) -> Result<bool, AllocError>
         requires whole { IsWhole self.now }
-        ensures { IfOk result (λ crowded. (records : List Record) → Keeps records self.now → crowded ≡ (nat_lt 0 (length (due_to self.now.store.own to (node_seen self.now))) && nat_eq (length (keys_within most room self.now.store.own to (node_seen self.now) records)) 0)) }
+        ensures { IfOk result (λ crowded. (records : List Record) → NodeKeeps records self.now → crowded ≡ (nat_lt 0 (length (due_to self.now.store.own to (node_seen self.now))) && nat_eq (length (keys_within most room self.now.store.own to (node_seen self.now) records)) 0)) }
     {
         if !self.is_due(to) {
             return Ok(false);
@@ -130,7 +130,7 @@ impl Node {
         room: u64,
     ) -> Result<Vec<Key>, AllocError>
         requires whole { IsWhole self.now }
-        ensures { IfOk result (λ keys. (records : List Record) → Keeps records self.now → map key_seen keys.items ≡ keys_within most room self.now.store.own to (node_seen self.now) records) }
+        ensures { IfOk result (λ keys. (records : List Record) → NodeKeeps records self.now → map key_seen keys.items ≡ keys_within most room self.now.store.own to (node_seen self.now) records) }
     {
         let mut keys = self.due_keys(alloc, to)?;
         let count = self.count_within(to, &keys, most, u128::from(room));

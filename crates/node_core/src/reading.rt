@@ -9,7 +9,7 @@ ghost use Rattle.cluster_model.specs.Steps.{greatest};
 ghost use Rattle.cluster_model.specs.Steps.NodeCall.{Fetch as Fetches, Leave as Leaves};
 ghost use Rattle.node_store.specs.Disks.{view_of};
 ghost use Rattle.node_tickets.specs.Seen.{kind_seen, found_in, IsRead};
-ghost use Rattle.node_core.specs.Nodes.{Keeps, IsWhole, CanWork, IsNodeOf};
+ghost use Rattle.node_core.specs.Nodes.{NodeKeeps, IsWhole, CanWork, IsNodeOf};
 ghost use Rattle.node_core.specs.Works.{LeavesUp};
 ghost use Rattle.node_core.specs.Failing.{lacks_numbers};
 ghost use Rattle.node_core.specs.Reading.{copy_size, ReadsPart, AnswersRead};
@@ -52,7 +52,7 @@ impl Numbers {
 impl Node {
     // How many octets the user's copy of the message has; nothing exactly where it is not here with its octets.
     fn copy_size(&self, user: &Name, id: MsgId) -> Result<Option<u64>, AllocError>
-        ensures { IfOk result (λ size. (records : List Record) → Keeps records self.now → size ≡ copy_size user.now id records) }
+        ensures { IfOk result (λ size. (records : List Record) → NodeKeeps records self.now → size ≡ copy_size user.now id records) }
     {
         let key = Key::Message(user.copy()?, id);
         if !is_here(self.store.state(&key)) {

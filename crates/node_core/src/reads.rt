@@ -9,7 +9,7 @@ ghost use Rattle.object_model.specs.UpdateLog.{owes};
 ghost use Rattle.mail_base.specs.Seen.{key_seen};
 ghost use Rattle.cluster_model.specs.Cluster.{epoch_of, members_of};
 ghost use Rattle.node_store.specs.Mailboxes.{AreIdsHere};
-ghost use Rattle.node_core.specs.Nodes.{node_seen, Keeps, IsWhole};
+ghost use Rattle.node_core.specs.Nodes.{node_seen, NodeKeeps, IsWhole};
 
 use crate::node::Node;
 use crate::nodes::node_of;
@@ -40,7 +40,7 @@ impl Node {
 
     /// What the disk says of the object. It takes no memory, and asks nothing of the disk.
     pub fn state(&self, key: &Key) -> Option<&ObjState>
-        ensures { (records : List Record) → Keeps records self.now → option_copied result ≡ said (key_seen key.now) records }
+        ensures { (records : List Record) → NodeKeeps records self.now → option_copied result ≡ said (key_seen key.now) records }
     {
         self.store.state(key)
     }
@@ -52,7 +52,7 @@ impl Node {
     ///
     /// Only out of memory.
     pub fn ids(&self, alloc: Global, user: &Name) -> Result<Ids, AllocError>
-        ensures { IfOk result (λ ids. (records : List Record) → Keeps records self.now → AreIdsHere user.now records ids) }
+        ensures { IfOk result (λ ids. (records : List Record) → NodeKeeps records self.now → AreIdsHere user.now records ids) }
     {
         self.store.ids(alloc, user)
     }

@@ -3,7 +3,7 @@ use Rattle.std.proofs.Common.{◌≡◌, ℕ, ◌+◌, ◌<◌, List, [], ◌∷
 use Rattle.std.proofs.lemmas.List.{map-append, take_more, take-append-drop}
 use Rattle.cluster_model.specs.Store.{Store, Update, take_one, take_all}
 use Rattle.node_store.specs.Disks.{View}
-use Rattle.node_store.specs.Writes.{Done, IsCutShort}
+use Rattle.node_store.specs.Writes.{Done, WorkIsCutShort}
 use Rattle.node_store.specs.declared.store.NodeStore.{NodeStore}
 use Rattle.node_store.proofs.Works.{done_more, done_same, stopped_more, stopped_before, stopped_same, take_all-append}
 use Rattle.node_store.proofs.Grown.{all_grow}
@@ -30,9 +30,9 @@ module _ {X : Type 0} (make : X → Update) (xs : List X) where
         (subst (λ (n : ℕ). Done on (take_one n (make x)) mid at new after) d.own one))
 
     -- one was not taken
-    pub listed_stopped : IsCutShort on (take_one mid.own (make x)) mid at after → IsCutShort on (take_all old.own (map make xs)) old before after
+    pub listed_stopped : WorkIsCutShort on (take_one mid.own (make x)) mid at after → WorkIsCutShort on (take_all old.own (map make xs)) old before after
     listed_stopped one = stopped_same on _ _ old before after (taken_all old.own (i + 1))
         (stopped_before on (take_all old.own (map make (take (i + 1) xs))) (take_all old.own (map make (drop (i + 1) xs))) old before after (all_grow old.own (map make (drop (i + 1) xs)))
         (stopped_same on _ _ old before after (taken_more old.own i x within is)
         (stopped_more on (take_all old.own (map make (take i xs))) (take_one old.own (make x)) old before mid at after d
-        (subst (λ (n : ℕ). IsCutShort on (take_one n (make x)) mid at after) d.own one))))
+        (subst (λ (n : ℕ). WorkIsCutShort on (take_one n (make x)) mid at after) d.own one))))

@@ -25,7 +25,7 @@ use Rattle.update_log.specs.Answers.{answer_at}
 use Rattle.update_log.specs.declared.logged.Acked.{Acked}
 use Rattle.update_log.specs.declared.logged.Acked.TheVariants.{Cleared, Emptied, Other}
 use Rattle.replica_push.specs.Rules.{retired_by}
-use Rattle.node_store.specs.Writes.{Done, IsCutShort}
+use Rattle.node_store.specs.Writes.{Done, WorkIsCutShort}
 use Rattle.node_store.specs.declared.store.NodeStore.{NodeStore}
 use Rattle.node_store.proofs.Placed.{HasNone, still_placed}
 use Rattle.node_store.proofs.Taking.{ends_more}
@@ -65,7 +65,7 @@ module _ {D : Type 0} (on : View D) (f : Store → Store) (added : List Record) 
 
   -- they were to be recorded
   pub silent_stopped : ((records : List Record) → KeepsRecords records old → (f (seen_with old records)).disk ≡ records ++ added) → StopsWithin on before after (end_of old.journal) added
-      → IsCutShort on f old before after
+      → WorkIsCutShort on f old before after
   silent_stopped whole s = record {
     front = s.front;
     pending = s.pending;
@@ -74,7 +74,7 @@ module _ {D : Type 0} (on : View D) (f : Store → Store) (added : List Record) 
   }
 
 -- nothing was begun of what only adds records
-pub nothing_stopped : {D : Type 0} (on : View D) (f : Store → Store) (old : NodeStore) (disk : D) → ((s : Store) → Grows f s) → IsCutShort on f old disk disk
+pub nothing_stopped : {D : Type 0} (on : View D) (f : Store → Store) (old : NodeStore) (disk : D) → ((s : Store) → Grows f s) → WorkIsCutShort on f old disk disk
 nothing_stopped on f old disk grows = record {
   front = [];
   pending = [];
@@ -90,7 +90,7 @@ boot_done on boot old new before after fits sound own messages objects log appen
     silent_done on (with_boot boot) (Boot boot ∷ []) old before after new (λ records k. refl) (λ records k. sym log) (λ key held. refl) (λ id at. refl)
     (All-cons IsRecord (Boot boot) [] fits (All-nil IsRecord)) (subst HoldsLogged (sym log) sound.logged) sound own messages objects appends
 
-pub boot_stopped : {D : Type 0} (on : View D) (boot : ℕ) (old : NodeStore) (before after : D) → StopsWithin on before after (end_of old.journal) (Boot boot ∷ []) → IsCutShort on (with_boot boot) old before after
+pub boot_stopped : {D : Type 0} (on : View D) (boot : ℕ) (old : NodeStore) (before after : D) → StopsWithin on before after (end_of old.journal) (Boot boot ∷ []) → WorkIsCutShort on (with_boot boot) old before after
 boot_stopped on boot old before after s = silent_stopped on (with_boot boot) (Boot boot ∷ []) old before after (λ records k. refl) s
 
 -- a store with an empty table, an empty log and no places
@@ -134,7 +134,7 @@ module _ {D : Type 0} (on : View D) (key : Key) (state : State) (f : Store → S
   retired_done new log one logged sound own messages objects a =
       silent_done on f (retired_where key state b) old before after new adds log (retired_silent key state b) (retired_placed key state b) (retired_fit key state b one) logged sound own messages objects a
 
-  pub retired_stopped : StopsWithin on before after (end_of old.journal) (retired_where key state b) → IsCutShort on f old before after
+  pub retired_stopped : StopsWithin on before after (end_of old.journal) (retired_where key state b) → WorkIsCutShort on f old before after
   retired_stopped s = silent_stopped on f (retired_where key state b) old before after adds s
 
 pub acked_adds : (key : Key) (state : State) (by : ℕ) (acked : Acked) (old : NodeStore) → acked ≡ answer_at state by (fin.get old.log key)

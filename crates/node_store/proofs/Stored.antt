@@ -30,7 +30,7 @@ use Rattle.node_store.specs.Places.{Span, span_of, first, span_in}
 use Rattle.node_store.specs.Keeps.{KeepsRecords, HoldsObjects, HoldsLogged, CanGoOn}
 use Rattle.node_store.specs.Changes.{with_stored}
 use Rattle.node_store.specs.Wanted.{wants_octets}
-use Rattle.node_store.specs.Writes.{Done, IsCutShort}
+use Rattle.node_store.specs.Writes.{Done, WorkIsCutShort}
 use Rattle.node_store.specs.declared.store.NodeStore.{NodeStore}
 use Rattle.node_store.proofs.Journals.{frames_of, none_appended, all_stops}
 use Rattle.node_store.proofs.Placed.{span_in-append}
@@ -106,7 +106,7 @@ module _ {D : Type 0} (on : View D) (id : Id) (users : List (List ℕ)) (octets 
 
   -- they were not recorded
   pub stored_stopped : (after : D) → wants_octets id users old.objects (place_of old.messages id) ≡ true → StopsWithin on before after (end_of old.journal) (Octets id octets ∷ [])
-      → IsCutShort on (with_stored id users octets) old before after
+      → WorkIsCutShort on (with_stored id users octets) old before after
   stored_stopped after wanted s = record {
     front = s.front;
     pending = s.pending;
@@ -116,7 +116,7 @@ module _ {D : Type 0} (on : View D) (id : Id) (users : List (List ℕ)) (octets 
 
   -- they were recorded, and their place was not noted
   pub stored_lost : (after : D) (end' : ℕ) → wants_octets id users old.objects (place_of old.messages id) ≡ true → AppendsRecords on before after (end_of old.journal) end' (Octets id octets ∷ [])
-      → IsCutShort on (with_stored id users octets) old before after
+      → WorkIsCutShort on (with_stored id users octets) old before after
   stored_lost after end' wanted a = record {
     front = Octets id octets ∷ [];
     pending = [];

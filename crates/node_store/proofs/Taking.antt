@@ -21,7 +21,7 @@ use Rattle.replica_push.proofs.Follows.{pushes_follow}
 use Rattle.node_store.specs.Disks.{View}
 use Rattle.node_store.specs.Appends.{AppendsRecords, StopsWithin}
 use Rattle.node_store.specs.Keeps.{KeepsRecords, seen_with, HoldsObjects, HoldsLogged, CanGoOn}
-use Rattle.node_store.specs.Writes.{Done, IsCutShort}
+use Rattle.node_store.specs.Writes.{Done, WorkIsCutShort}
 use Rattle.node_store.specs.declared.store.NodeStore.{NodeStore}
 use Rattle.node_store.proofs.Journals.{frames_of, length-frames-append}
 use Rattle.node_store.proofs.Objects.{news_object, taken_objects}
@@ -78,7 +78,7 @@ module _ {D : Type 0} (on : View D) (key : Key) (state : State) (old : NodeStore
     appends = appends;
   }
 
-  pub take_stopped : StopsWithin on before after (end_of old.journal) (records_of old.own key news) → IsCutShort on (take_one old.own (update_of key state)) old before after
+  pub take_stopped : StopsWithin on before after (end_of old.journal) (records_of old.own key news) → WorkIsCutShort on (take_one old.own (update_of key state)) old before after
   take_stopped s = record {
     front = s.front;
     pending = s.pending;

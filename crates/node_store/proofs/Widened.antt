@@ -13,7 +13,7 @@ use Rattle.replica_push.specs.Pushes.{wider, wider_of}
 use Rattle.node_store.specs.Disks.{View}
 use Rattle.node_store.specs.Keeps.{KeepsRecords, seen_with, HoldsObjects, CanGoOn}
 use Rattle.node_store.specs.Changes.{take_wider, widened_in}
-use Rattle.node_store.specs.Writes.{Done, IsCutShort}
+use Rattle.node_store.specs.Writes.{Done, WorkIsCutShort}
 use Rattle.node_store.specs.declared.store.NodeStore.{NodeStore}
 use Rattle.node_store.proofs.Works.{done_none, done_like, stopped_like}
 
@@ -58,6 +58,6 @@ module _ {D : Type 0} (on : View D) (key : Key) (to : ℕ) (old : NodeStore) (be
       → Done on (widened_in old.own key to) old before new after
   wider_done next new is d = done_like on (take_one old.own (record { key = key; state = next })) (widened_in old.own key to) old before new after (same_at (Some next) is) d
 
-  pub wider_stopped : (next : State) → Some next ≡ wider (fin.get old.objects key) to → IsCutShort on (take_one old.own (record { key = key; state = next })) old before after
-      → IsCutShort on (widened_in old.own key to) old before after
+  pub wider_stopped : (next : State) → Some next ≡ wider (fin.get old.objects key) to → WorkIsCutShort on (take_one old.own (record { key = key; state = next })) old before after
+      → WorkIsCutShort on (widened_in old.own key to) old before after
   wider_stopped next is d = stopped_like on (take_one old.own (record { key = key; state = next })) (widened_in old.own key to) old before after (same_at (Some next) is) d

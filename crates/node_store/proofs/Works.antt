@@ -6,7 +6,7 @@ use Rattle.cluster_model.specs.Store.{Store, Update, take_one, take_all}
 use Rattle.disk_journal.specs.Journal.{end_of}
 use Rattle.node_store.specs.Disks.{View}
 use Rattle.node_store.specs.Keeps.{KeepsRecords, seen_with, CanGoOn}
-use Rattle.node_store.specs.Writes.{Done, IsCutShort}
+use Rattle.node_store.specs.Writes.{Done, WorkIsCutShort}
 use Rattle.node_store.specs.declared.store.NodeStore.{NodeStore}
 use Rattle.node_store.proofs.Journals.{none_appended, appends_more, stops_more, all_stops}
 
@@ -46,7 +46,7 @@ module _ {D : Type 0} (on : View D) where
     appends = d.appends;
   }
 
-  pub stopped_same : (f g : Store → Store) (old : NodeStore) (before after : D) → ((s : Store) → f s ≡ g s) → IsCutShort on f old before after → IsCutShort on g old before after
+  pub stopped_same : (f g : Store → Store) (old : NodeStore) (before after : D) → ((s : Store) → f s ≡ g s) → WorkIsCutShort on f old before after → WorkIsCutShort on g old before after
   stopped_same f g old before after same d = record {
     front = d.front;
     pending = d.pending;
@@ -71,7 +71,7 @@ module _ {D : Type 0} (on : View D) where
   }
 
   pub stopped_like : (f g : Store → Store) (old : NodeStore) (before after : D)
-      → ((records : List Record) → KeepsRecords records old → f (seen_with old records) ≡ g (seen_with old records)) → IsCutShort on f old before after → IsCutShort on g old before after
+      → ((records : List Record) → KeepsRecords records old → f (seen_with old records) ≡ g (seen_with old records)) → WorkIsCutShort on f old before after → WorkIsCutShort on g old before after
   stopped_like f g old before after same d = record {
     front = d.front;
     pending = d.pending;
@@ -101,8 +101,8 @@ module _ {D : Type 0} (on : View D) where
   }
 
   -- one, and then the other stopped
-  pub stopped_more : (f g : Store → Store) (old : NodeStore) (before : D) (mid : NodeStore) (at after : D) → Done on f old before mid at → IsCutShort on g mid at after
-      → IsCutShort on (λ s. g (f s)) old before after
+  pub stopped_more : (f g : Store → Store) (old : NodeStore) (before : D) (mid : NodeStore) (at after : D) → Done on f old before mid at → WorkIsCutShort on g mid at after
+      → WorkIsCutShort on (λ s. g (f s)) old before after
   stopped_more f g old before mid at after a b = record {
     front = a.added ++ b.front;
     pending = b.pending;
@@ -116,7 +116,7 @@ module _ {D : Type 0} (on : View D) where
   }
 
   -- the first stopped, and the other was not begun
-  pub stopped_before : (f g : Store → Store) (old : NodeStore) (before after : D) → ((s : Store) → Grows g s) → IsCutShort on f old before after → IsCutShort on (λ s. g (f s)) old before after
+  pub stopped_before : (f g : Store → Store) (old : NodeStore) (before after : D) → ((s : Store) → Grows g s) → WorkIsCutShort on f old before after → WorkIsCutShort on (λ s. g (f s)) old before after
   stopped_before f g old before after grows d = record {
     front = d.front;
     pending = d.pending;
@@ -131,7 +131,7 @@ module _ {D : Type 0} (on : View D) where
   }
 
   -- all was recorded, and then it stopped
-  pub done_stopped : (f : Store → Store) (old : NodeStore) (before : D) (new : NodeStore) (after : D) → Done on f old before new after → IsCutShort on f old before after
+  pub done_stopped : (f : Store → Store) (old : NodeStore) (before : D) (new : NodeStore) (after : D) → Done on f old before new after → WorkIsCutShort on f old before after
   done_stopped f old before new after d = record {
     front = d.added;
     pending = [];

@@ -21,7 +21,7 @@ pub record Done {D : Type 0} (on : View D) (f : Store → Store) (old : NodeStor
   pub appends : AppendsRecords on before after (end_of old.journal) (end_of new.journal) added
 
 -- It stopped. Of the records that the function makes the first stand on the disk, and one more may: the front, and what is pending.
-pub record IsCutShort {D : Type 0} (on : View D) (f : Store → Store) (old : NodeStore) (before after : D) : Type 0 where
+pub record WorkIsCutShort {D : Type 0} (on : View D) (f : Store → Store) (old : NodeStore) (before after : D) : Type 0 where
   pub front : List Record
   pub pending : List Record
   pub cut : (records : List Record) → KeepsRecords records old → IsWorkCut records (f (seen_with old records)).disk front pending
@@ -30,4 +30,4 @@ pub record IsCutShort {D : Type 0} (on : View D) (f : Store → Store) (old : No
 -- What was done, or how it stopped. After it stopped the node goes down, so nothing is said of the store.
 abbrev pub WroteChange : {T D : Type 0} → View D → (Store → Store) → Result T KeepFault → NodeStore → D → NodeStore → D → Type 0
 WroteChange on f (Ok _) old before new after = Done on f old before new after
-WroteChange on f (Err fault) old before new after = IsCutShort on f old before after × Fails fault (on.faults before) (on.faults after)
+WroteChange on f (Err fault) old before new after = WorkIsCutShort on f old before after × Fails fault (on.faults before) (on.faults after)

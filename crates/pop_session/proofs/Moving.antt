@@ -32,7 +32,7 @@ use Rattle.pop_session.specs.declared.due.Due.{Due}
 use Rattle.pop_session.specs.declared.due.Due.TheVariants as dues
 use Rattle.pop_session.specs.declared.due.Text.{Text}
 use Rattle.pop_session.specs.Slots.{items_of_slots, listed_slot}
-use Rattle.pop_session.specs.Shown.{login_in, listed_in, name_in, slots_in, state_of, reply_in, IsOwn, HearsLine}
+use Rattle.pop_session.specs.Shown.{login_in, listed_in, name_in, slots_in, talk_state_of, reply_in, IsOwn, HearsLine}
 use Rattle.pop_session.specs.Dues.{text_of, IsAsked, Says, items_told}
 use Rattle.pop_session.specs.Follows.{Follows, Goes, Moved, LeadsTurn, IsOwnMove, due_count, left, told_login, told_items, login_of, items_of}
 use Rattle.pop_session.proofs.Units.{session, hears_none, hears_line}
@@ -180,7 +180,7 @@ takes_answer node boot number seconds now stage cutter asked due_it answer plain
       pends = follows.pends;
       others = follows.others;
       entered = follows.entered;
-      stands = (answer, waits, refl, says (state_of stage) waits.call reply follows.stands.2 (subst Of same replied));
+      stands = (answer, waits, refl, says (talk_state_of stage) waits.call reply follows.stands.2 (subst Of same replied));
     }
 
 -- what holds by any plan holds by this one

@@ -34,7 +34,7 @@ use Rattle.pop_session.specs.declared.due.Due.TheVariants as dues
 use Rattle.pop_session.specs.declared.due.Text.{Text}
 use Rattle.pop_session.specs.declared.due.Text.TheVariants.{Wrong, Later, Gone, Bye, Remaining}
 use Rattle.pop_session.specs.Slots.{listed_slot}
-use Rattle.pop_session.specs.Shown.{state_of, login_in}
+use Rattle.pop_session.specs.Shown.{talk_state_of, login_in}
 use Rattle.pop_session.specs.Dues.{text_of, Says, items_told}
 use Rattle.pop_session.specs.Follows.{Follows, WaitsFor, Stands, Goes, user_of_login}
 use Rattle.pop_session.proofs.Messages.{text}
@@ -57,7 +57,7 @@ pub record SaysSo (reply : List (List ℕ)) (call : calls.Call) (answer : calls.
   pub leaves : (state : TalkState) → answered state call answer ≡ standing state
 
 -- who was let in once the answer came
-module _ (stage : Stage) (plain : Session) (entered : entered_as plain.whole ≡ user_of_login (login_in stage)) (waits : WaitsFor (state_of stage) plain) where
+module _ (stage : Stage) (plain : Session) (entered : entered_as plain.whole ≡ user_of_login (login_in stage)) (waits : WaitsFor (talk_state_of stage) plain) where
   before_it : entered_as waits.before ≡ user_of_login (login_in stage)
   before_it =
       let all : entered_as plain.whole ≡ or_else (entered_as waits.before) (let_in waits.one.call waits.one.answer) = ap entered_as waits.whole ∙ entered_more waits.before waits.one in
@@ -89,8 +89,8 @@ module _ (plan : Plan) (node boot number seconds : ℕ) (stage : Stage) (cutter 
 
   -- a reply after which the session stands so
   pub says_reply : (reply : List (List ℕ)) (due_it : Due) (now : Turn) (standing : TalkState → Standing) → All HasNoCrlf reply
-      → ((call : calls.Call) (answer : calls.Answer) → Says due_it (state_of stage) call answer → SaysSo reply call answer standing)
-      → ((plain : Session) → Stands now (state_of stage) (record plain { standing = standing (state_of stage) }) Nothing)
+      → ((call : calls.Call) (answer : calls.Answer) → Says due_it (talk_state_of stage) call answer → SaysSo reply call answer standing)
+      → ((plain : Session) → Stands now (talk_state_of stage) (record plain { standing = standing (talk_state_of stage) }) Nothing)
       → Goes plan (now_at (turn.Replies due_it)) Said (flat_map sent_line reply) (now_at now)
   says_reply reply due_it now standing lines is stands plain due follows =
       let answer = follows.stands.0 in
@@ -98,12 +98,12 @@ module _ (plan : Plan) (node boot number seconds : ℕ) (stage : Stage) (cutter 
       let says = is waits.call answer follows.stands.3 in
       let At : moves.Due → Type 0 = λ d. Moves (Follows (now_at now)) (ready_text node boot number seconds) plan plain d Said (flat_map sent_line reply) in
       let whole : List Exchange = waits.before ++ with_answer waits.one answer reply ∷ [] in
-      let Of : Standing → Type 0 = λ s. Stands now (state_of stage) (record plain { whole = whole; standing = s }) Nothing in
+      let Of : Standing → Type 0 = λ s. Stands now (talk_state_of stage) (record plain { whole = whole; standing = s }) Nothing in
       subst At (sym follows.stands.2) (record {
         call = waits.call;
         reply = reply;
-        after = record plain { whole = whole; standing = answered (state_of stage) waits.call answer };
-        did = (waits.before, waits.one, state_of stage, waits.whole, waits.standing, says.reply_is, refl, refl);
+        after = record plain { whole = whole; standing = answered (talk_state_of stage) waits.call answer };
+        did = (waits.before, waits.one, talk_state_of stage, waits.whole, waits.standing, says.reply_is, refl, refl);
         says = refl;
         lines = lines;
         goes_on = record {
@@ -113,7 +113,7 @@ module _ (plan : Plan) (node boot number seconds : ℕ) (stage : Stage) (cutter 
           pends = follows.pends;
           others = follows.others;
           entered = then_entered stage plain follows.entered waits answer reply ∙ ap (or_else (user_of_login (login_in stage))) says.nobody ∙ else_none (user_of_login (login_in stage));
-          stands = subst Of (sym (says.leaves (state_of stage))) (stands (record plain { whole = whole }));
+          stands = subst Of (sym (says.leaves (talk_state_of stage))) (stands (record plain { whole = whole }));
         };
       })
 
@@ -141,7 +141,7 @@ module _ (plan : Plan) (node boot number seconds : ℕ) (stage : Stage) (cutter 
           subst Of (sym is) (subst With (sym of_part) (record { reply_is = part; nobody = refl; leaves = λ state. refl }))
 
 -- nobody was let in before
-no_login : (stage : Stage) (named : Option (List ℕ)) → state_of stage ≡ Entering named → user_of_login (login_in stage) ≡ None
+no_login : (stage : Stage) (named : Option (List ℕ)) → talk_state_of stage ≡ Entering named → user_of_login (login_in stage) ≡ None
 no_login (Authorization user) named is = refl
 no_login (Transaction login listing) named is = cc
 
@@ -157,7 +157,7 @@ enters plan node boot number seconds stage cutter login listed plain due follows
     let After : PopSession = session node boot number seconds turn.Hears (Transaction login (map listed_slot (items_told listed))) cutter in
     let At : moves.Due → Type 0 = λ d. Moves (Follows (session node boot number seconds turn.Hears (Transaction login (map listed_slot (items_told listed))) cutter)) (ready_text node boot number seconds) plan plain d Said
     (flat_map sent_line (one_line entered_text)) in
-    let IsTold : calls.Call → calls.Answer → Type 0 = λ c a. IsReply c a (one_line entered_text) × (answered (state_of stage) c a ≡ Hearing (Reading login.user (listed_slots (map item_seen (items_told listed)))))
+    let IsTold : calls.Call → calls.Answer → Type 0 = λ c a. IsReply c a (one_line entered_text) × (answered (talk_state_of stage) c a ≡ Hearing (Reading login.user (listed_slots (map item_seen (items_told listed)))))
     × (let_in (Some c) (Some a) ≡ Some login.user) in
     let told : IsTold waits.call answer =
     subst (λ c. IsTold c answer) (sym says.1.1) (subst (λ a. IsTold (calls.Call.Login login.user secret) a) (sym says.2) (refl, refl, refl)) in
@@ -165,8 +165,8 @@ enters plan node boot number seconds stage cutter login listed plain due follows
     subst At (sym follows.stands.2) (record {
       call = waits.call;
       reply = one_line entered_text;
-      after = record plain { whole = whole; standing = answered (state_of stage) waits.call answer };
-      did = (waits.before, waits.one, state_of stage, waits.whole, waits.standing, told.0, refl, refl);
+      after = record plain { whole = whole; standing = answered (talk_state_of stage) waits.call answer };
+      did = (waits.before, waits.one, talk_state_of stage, waits.whole, waits.standing, told.0, refl, refl);
       says = refl;
       lines = All-cons HasNoCrlf entered_text [] (text (codes "+OK maildrop open") refl) (All-nil HasNoCrlf);
       goes_on = record {
@@ -206,7 +206,7 @@ is_fed node boot number seconds now stage old new piece plain due limit pends fo
   pends = pends plain.rest follows.pends;
   others = follows.others;
   entered = follows.entered;
-  stands = stands_fed now (state_of stage) plain due piece follows.stands;
+  stands = stands_fed now (talk_state_of stage) plain due piece follows.stands;
 }
   where
     waits : (state : TalkState) (plain : Session) (piece : List ℕ) → WaitsFor state plain → WaitsFor state (record plain { octets = plain.octets ++ piece; rest = plain.rest ++ piece })

@@ -2,7 +2,7 @@
 use Rattle.std.proofs.Common.{◌≡◌, ℕ, ◌+◌, zero, suc, Bool, true, false, List, [], ◌∷◌, ◌++◌, length, take, Some, None, option_and_then, unwrap_or, refl, ◌∙◌, ap, arith, slice_get, length-append}
 use Rattle.mail_model.specs.PopReplies.{Item, ListingSlot, unmarked, lines_from, last_line}
 use Rattle.mail_model.specs.Maildrop.{message_at, unmarked_in, marked_at, with_mark, of_message}
-use Rattle.pop_session.specs.Laws.{NumberedAlike, ListedOnce, NumbersStay, MarkedIsNone}
+use Rattle.pop_session.specs.Laws.{NumberedAlike, ListsUnmarkedOnce, NumbersStay, MarkedIsNone}
 
 -- a slot of its parts
 abbrev slot_of : Item → Bool → ListingSlot
@@ -49,7 +49,7 @@ counted line (slot ∷ slots) n = by_mark slot.item slot.marked (counted line sl
     by_mark held true behind = behind
     by_mark held false behind = ap suc behind
 
-pub listed_once : ListedOnce
+pub listed_once : ListsUnmarkedOnce
 listed_once first line slots = grind (arith, length-append, counted line slots 1)
 
 -- another slot stays

@@ -37,7 +37,7 @@ use Rattle.pop_session.specs.declared.stage.Stage.TheVariants.{Authorization, Tr
 use Rattle.pop_session.specs.declared.stage.Heard.{Heard}
 use Rattle.pop_session.specs.declared.stage.Heard.TheVariants as hears
 use Rattle.pop_session.specs.Slots.{slots_seen}
-use Rattle.pop_session.specs.Shown.{stage_of, state_of, login_in, listed_in, reply_in, name_in, told_long, HearsLine}
+use Rattle.pop_session.specs.Shown.{stage_of, talk_state_of, login_in, listed_in, reply_in, name_in, told_long, HearsLine}
 use Rattle.pop_session.specs.Follows.{Follows, Stands, Goes, LeadsTurn, user_of_login, opening_line}
 use Rattle.pop_session.proofs.Tables.{AreLines, outcome_lines}
 use Rattle.pop_session.proofs.Logins.{asks_at}
@@ -82,11 +82,11 @@ still_entered before one none =
     entered_more before one ∙ ap (or_else (entered_as before)) (ap (let_in one.call) none ∙ let_none one.call) ∙ else_none (entered_as before)
 
 -- what the line leads to, by what the session was told
-pub lead_is : (plan : Plan) (node : ℕ) (stage : Stage) (line : List ℕ) → lead_of plan node (state_of stage) (Line line) ≡ line_lead (name_in stage) (line_outcome plan (stage_of stage) line)
+pub lead_is : (plan : Plan) (node : ℕ) (stage : Stage) (line : List ℕ) → lead_of plan node (talk_state_of stage) (Line line) ≡ line_lead (name_in stage) (line_outcome plan (stage_of stage) line)
 lead_is plan node (Authorization user) line = refl
 lead_is plan node (Transaction login listing) line = refl
 
-pub no_text : (stage : Stage) → in_text (state_of stage) ≡ false
+pub no_text : (stage : Stage) → in_text (talk_state_of stage) ≡ false
 no_text (Authorization user) = refl
 no_text (Transaction login listing) = refl
 
@@ -105,7 +105,7 @@ login_user (Some login) = login.user
 
 -- and what it was told once the line was heard
 pub heard_is : (plan : Plan) (old new : Stage) (line : List ℕ) (reply : List (List ℕ)) → stage_of new ≡ after_line (stage_of old) line → login_in new ≡ login_in old
-    → state_of new ≡ heard plan (state_of old) (Line line) reply
+    → talk_state_of new ≡ heard plan (talk_state_of old) (Line line) reply
 unfolding user_in slots_of login_user
 heard_is plan (Authorization user) (Authorization later) line reply told login = ap (λ s. Entering (user_in s)) told
 heard_is plan (Authorization user) (Transaction known listing) line reply told login = absurd (cc)
@@ -193,7 +193,7 @@ at_nothing follows greeting plan plain due move octets is did =
 
 -- only a session that was not let in asks to be
 entering : (plan : Plan) (stage later : Stage) (line user secret : List ℕ) → line_outcome plan (stage_of stage) line ≡ drops.LineOutcome.AsksLogin user secret
-    → stage_of later ≡ after_line (stage_of stage) line → (named : Option (List ℕ)) × (state_of later ≡ Entering named)
+    → stage_of later ≡ after_line (stage_of stage) line → (named : Option (List ℕ)) × (talk_state_of later ≡ Entering named)
 entering plan stage (Authorization user) line name secret asks told = (user, refl)
 entering plan stage (Transaction login listing) line name secret asks told =
     let stands = (asks_at plan (stage_of stage) (is_long_line line) (pop_command_of line) name secret _ asks).asks.stands in
@@ -205,7 +205,7 @@ module _ (plan : Plan) (node boot number seconds : ℕ) (stage later : Stage) (o
   abbrev before : PopSession
   before = session node boot number seconds turn.Hears stage old
 
-  is_line : (line : List ℕ) → HasNoCrlf line → IsUnit (in_text (state_of stage)) (Line line)
+  is_line : (line : List ℕ) → HasNoCrlf line → IsUnit (in_text (talk_state_of stage)) (Line line)
   is_line line none = let Of : Bool → Type 0 = λ b. IsUnit b (Line line) in subst Of (sym (no_text stage)) none
 
   -- no line is whole
@@ -214,7 +214,7 @@ module _ (plan : Plan) (node boot number seconds : ℕ) (stage later : Stage) (o
       let stays = finds.stays plain.rest follows.pends in
       let At : Standing → Type 0 = λ s. HearsNothing s plain.rest in
       at_nothing _ _ plan plain due Idle [] follows.stands.0 (
-        subst At (sym follows.stands.1) (no_unit (in_text (state_of stage)) plain.rest (no_text stage) stays.no_line),
+        subst At (sym follows.stands.1) (no_unit (in_text (talk_state_of stage)) plain.rest (no_text stage) stays.no_line),
         refl,
         record {
           speaks = follows.speaks;
@@ -244,10 +244,10 @@ module _ (plan : Plan) (node boot number seconds : ℕ) (stage later : Stage) (o
 
     -- what the session then is, whatever it asked
     behind : (now : Turn) (plain after : Session) (due : moves.Due) (one : Exchange) → Follows before plain due → after ≡ record after { protocol = plain.protocol; node = plain.node; whole = plain.whole ++ one ∷ []; others = plain.others; rest = rest }
-        → one.answer ≡ None → login_in later ≡ login_in stage → Stands now (state_of later) after Nothing → Follows (session node boot number seconds now later new) after Nothing
+        → one.answer ≡ None → login_in later ≡ login_in stage → Stands now (talk_state_of later) after Nothing → Follows (session node boot number seconds now later new) after Nothing
     behind now plain after due one follows is none login stands =
         let At : Session → Type 0 = λ s. Follows (session node boot number seconds now later new) s Nothing in
-        let Of : Session → Type 0 = λ s. Stands now (state_of later) s Nothing in
+        let Of : Session → Type 0 = λ s. Stands now (talk_state_of later) s Nothing in
         subst At (sym is) (record {
           speaks = follows.speaks;
           node = follows.node;
@@ -264,41 +264,41 @@ module _ (plan : Plan) (node boot number seconds : ℕ) (stage later : Stage) (o
     hears_line (hears.Said reply) now did octets begins says means plain due follows =
         let gives = finds.gives plain.rest follows.pends in
         let meaning = means gives.line gives.first gives.is follows.limit in
-        let leads : lead_of plan plain.node (state_of stage) (Line gives.line) ≡ talks.Lead.Says reply =
+        let leads : lead_of plan plain.node (talk_state_of stage) (Line gives.line) ≡ talks.Lead.Says reply =
         lead_is plan plain.node stage gives.line ∙ ap (line_lead (name_in stage)) (sym meaning.outcome) in
         let At : Move → Type 0 = λ m. Moves (Follows (session node boot number seconds now later new)) (opening_line before) plan plain Nothing m octets in
         at_nothing _ _ plan plain due did octets follows.stands.0 (subst At (sym begins.1)
-        (heard_says plan plain (state_of stage) gives.line rest octets (Follows (session node boot number seconds now later new)) follows.stands.1 (is_line gives.line gives.first) gives.octets
+        (heard_says plan plain (talk_state_of stage) gives.line rest octets (Follows (session node boot number seconds now later new)) follows.stands.1 (is_line gives.line gives.first) gives.octets
         reply leads (subst AreLines (sym meaning.outcome) (outcome_lines plan (stage_of stage) gives.line)) says (λ one none.
-        let after : Session = record plain { whole = plain.whole ++ one ∷ []; standing = Hearing (heard plan (state_of stage) (Line gives.line) reply); rest = rest } in
-        let Now : Turn → Type 0 = λ t. Stands t (state_of later) after Nothing in
+        let after : Session = record plain { whole = plain.whole ++ one ∷ []; standing = Hearing (heard plan (talk_state_of stage) (Line gives.line) reply); rest = rest } in
+        let Now : Turn → Type 0 = λ t. Stands t (talk_state_of later) after Nothing in
         behind now plain after due one follows refl none meaning.login
         (subst Now (sym begins.0) (refl, ap Hearing (sym (heard_is plan stage later gives.line reply meaning.told meaning.login)))))))
     hears_line (hears.Ended reply) now did octets begins says means plain due follows =
         let gives = finds.gives plain.rest follows.pends in
         let meaning = means gives.line gives.first gives.is follows.limit in
-        let leads : lead_of plan plain.node (state_of stage) (Line gives.line) ≡ talks.Lead.Ends reply =
+        let leads : lead_of plan plain.node (talk_state_of stage) (Line gives.line) ≡ talks.Lead.Ends reply =
         lead_is plan plain.node stage gives.line ∙ ap (line_lead (name_in stage)) (sym meaning.outcome) in
         let At : Move → Type 0 = λ m. Moves (Follows (session node boot number seconds now later new)) (opening_line before) plan plain Nothing m octets in
         at_nothing _ _ plan plain due did octets follows.stands.0 (subst At (sym begins.1)
-        (heard_ends plan plain (state_of stage) gives.line rest octets (Follows (session node boot number seconds now later new)) follows.stands.1 (is_line gives.line gives.first) gives.octets
+        (heard_ends plan plain (talk_state_of stage) gives.line rest octets (Follows (session node boot number seconds now later new)) follows.stands.1 (is_line gives.line gives.first) gives.octets
         reply leads (subst AreLines (sym meaning.outcome) (outcome_lines plan (stage_of stage) gives.line)) says (λ one none.
         let after : Session = record plain { whole = plain.whole ++ one ∷ []; standing = EndedByQuit; rest = rest } in
-        let Now : Turn → Type 0 = λ t. Stands t (state_of later) after Nothing in
+        let Now : Turn → Type 0 = λ t. Stands t (talk_state_of later) after Nothing in
         behind now plain after due one follows refl none meaning.login (subst Now (sym begins.0) (refl, tt)))))
     hears_line (hears.LogsIn user kept secret) now did octets begins says means plain due follows =
         let gives = finds.gives plain.rest follows.pends in
         let meaning = means gives.line gives.first gives.is follows.limit in
-        let leads : lead_of plan plain.node (state_of stage) (Line gives.line) ≡ talks.Lead.Asks (calls.Call.Login user secret) =
+        let leads : lead_of plan plain.node (talk_state_of stage) (Line gives.line) ≡ talks.Lead.Asks (calls.Call.Login user secret) =
         lead_is plan plain.node stage gives.line ∙ ap (line_lead (name_in stage)) (sym meaning.outcome) in
         let At : Move → Type 0 = λ m. Moves (Follows (session node boot number seconds now later new)) (opening_line before) plan plain Nothing m octets in
         at_nothing _ _ plan plain due did octets follows.stands.0 (subst At (sym begins.1) (
           calls.Call.Login user secret,
           refl,
-          heard_asks plan plain (state_of stage) gives.line rest octets (Follows (session node boot number seconds now later new)) follows.stands.1 (is_line gives.line gives.first) gives.octets
+          heard_asks plan plain (talk_state_of stage) gives.line rest octets (Follows (session node boot number seconds now later new)) follows.stands.1 (is_line gives.line gives.first) gives.octets
               (calls.Call.Login user secret) leads says (λ one none asks.
-              let after : Session = record plain { whole = plain.whole ++ one ∷ []; standing = Waiting (heard plan (state_of stage) (Line gives.line) []) (calls.Call.Login user secret); rest = rest } in
-              let Now : Turn → Type 0 = λ t. Stands t (state_of later) after Nothing in
+              let after : Session = record plain { whole = plain.whole ++ one ∷ []; standing = Waiting (heard plan (talk_state_of stage) (Line gives.line) []) (calls.Call.Login user secret); rest = rest } in
+              let Now : Turn → Type 0 = λ t. Stands t (talk_state_of later) after Nothing in
               behind now plain after due one follows refl none meaning.login (subst Now (sym begins.0) (
                 record {
                   call = calls.Call.Login user secret;
@@ -317,16 +317,16 @@ module _ (plan : Plan) (node boot number seconds : ℕ) (stage later : Stage) (o
         let gives = finds.gives plain.rest follows.pends in
         let meaning = means gives.line gives.first gives.is follows.limit in
         let call : calls.Call = calls.Call.Fetch (name_in stage) item.id in
-        let leads : lead_of plan plain.node (state_of stage) (Line gives.line) ≡ talks.Lead.Asks (calls.Call.Fetch (name_in stage) item.id) =
+        let leads : lead_of plan plain.node (talk_state_of stage) (Line gives.line) ≡ talks.Lead.Asks (calls.Call.Fetch (name_in stage) item.id) =
         lead_is plan plain.node stage gives.line ∙ ap (line_lead (name_in stage)) (sym meaning.outcome) in
         let At : Move → Type 0 = λ m. Moves (Follows (session node boot number seconds now later new)) (opening_line before) plan plain Nothing m octets in
         at_nothing _ _ plan plain due did octets follows.stands.0 (subst At (sym begins.1) (
           call,
           ap (λ n. Some (calls.Call.Fetch n item.id)) meaning.own.0,
-          heard_asks plan plain (state_of stage) gives.line rest octets (Follows (session node boot number seconds now later new)) follows.stands.1 (is_line gives.line gives.first) gives.octets
+          heard_asks plan plain (talk_state_of stage) gives.line rest octets (Follows (session node boot number seconds now later new)) follows.stands.1 (is_line gives.line gives.first) gives.octets
               call leads says (λ one none asks.
-              let after : Session = record plain { whole = plain.whole ++ one ∷ []; standing = Waiting (heard plan (state_of stage) (Line gives.line) []) (calls.Call.Fetch (name_in stage) item.id); rest = rest } in
-              let Now : Turn → Type 0 = λ t. Stands t (state_of later) after Nothing in
+              let after : Session = record plain { whole = plain.whole ++ one ∷ []; standing = Waiting (heard plan (talk_state_of stage) (Line gives.line) []) (calls.Call.Fetch (name_in stage) item.id); rest = rest } in
+              let Now : Turn → Type 0 = λ t. Stands t (talk_state_of later) after Nothing in
               behind now plain after due one follows refl none meaning.login (subst Now (sym begins.0) (
                 record {
                   call = call;
@@ -345,16 +345,16 @@ module _ (plan : Plan) (node boot number seconds : ℕ) (stage later : Stage) (o
         let gives = finds.gives plain.rest follows.pends in
         let meaning = means gives.line gives.first gives.is follows.limit in
         let call : calls.Call = calls.Call.Strike (name_in stage) (ids_in items) in
-        let leads : lead_of plan plain.node (state_of stage) (Line gives.line) ≡ talks.Lead.Asks (calls.Call.Strike (name_in stage) (ids_in items)) =
+        let leads : lead_of plan plain.node (talk_state_of stage) (Line gives.line) ≡ talks.Lead.Asks (calls.Call.Strike (name_in stage) (ids_in items)) =
         lead_is plan plain.node stage gives.line ∙ ap (line_lead (name_in stage)) (sym meaning.outcome) in
         let At : Move → Type 0 = λ m. Moves (Follows (session node boot number seconds now later new)) (opening_line before) plan plain Nothing m octets in
         at_nothing _ _ plan plain due did octets follows.stands.0 (subst At (sym begins.1) (
           call,
           ap (λ n. Some (calls.Call.Strike n (ids_in items))) meaning.own.0,
-          heard_asks plan plain (state_of stage) gives.line rest octets (Follows (session node boot number seconds now later new)) follows.stands.1 (is_line gives.line gives.first) gives.octets
+          heard_asks plan plain (talk_state_of stage) gives.line rest octets (Follows (session node boot number seconds now later new)) follows.stands.1 (is_line gives.line gives.first) gives.octets
               call leads says (λ one none asks.
-              let after : Session = record plain { whole = plain.whole ++ one ∷ []; standing = Waiting (heard plan (state_of stage) (Line gives.line) []) (calls.Call.Strike (name_in stage) (ids_in items)); rest = rest } in
-              let Now : Turn → Type 0 = λ t. Stands t (state_of later) after Nothing in
+              let after : Session = record plain { whole = plain.whole ++ one ∷ []; standing = Waiting (heard plan (talk_state_of stage) (Line gives.line) []) (calls.Call.Strike (name_in stage) (ids_in items)); rest = rest } in
+              let Now : Turn → Type 0 = λ t. Stands t (talk_state_of later) after Nothing in
               behind now plain after due one follows refl none meaning.login (subst Now (sym begins.0) (
                 record {
                   call = call;

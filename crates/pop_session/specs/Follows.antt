@@ -31,7 +31,7 @@ use Rattle.pop_session.specs.declared.due.Asked.TheVariants as asked
 use Rattle.mail_base.specs.declared.proof.Proof.TheVariants.{Pass}
 use Rattle.call_tickets.specs.declared.step.Move.TheVariants as move
 use Rattle.pop_session.specs.Slots.{marked_items}
-use Rattle.pop_session.specs.Shown.{state_of, login_in, listed_in, slots_in}
+use Rattle.pop_session.specs.Shown.{talk_state_of, login_in, listed_in, slots_in}
 use Rattle.pop_session.specs.Dues.{IsAsked, Says, due_login, due_items, taken_login, taken_items}
 
 -- it waits for the answer to a call
@@ -64,7 +64,7 @@ pub record Follows (session : PopSession) (plain : Session) (due : moves.Due) : 
   pub pends : Pending session.cutter plain.rest
   pub others : plain.others ≡ []
   pub entered : entered_as plain.whole ≡ user_of_login (login_in session.stage)
-  pub stands : Stands session.turn (state_of session.stage) plain due
+  pub stands : Stands session.turn (talk_state_of session.stage) plain due
 
 -- the line that it opens with
 abbrev pub opening_line : PopSession → List ℕ

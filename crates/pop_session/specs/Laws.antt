@@ -15,8 +15,8 @@ NumberedAlike = (first : List ℕ) (line : ℕ → Item → List ℕ) (slots : L
     message_at slots n ≡ Some item → slice_get (listing_reply first line slots) (length (unmarked (take n slots))) ≡ Some (line n item)
 
 -- a line for each message that is not marked, and two more
-abbrev pub ListedOnce : Type 0
-ListedOnce = (first : List ℕ) (line : ℕ → Item → List ℕ) (slots : List ListingSlot) → length (listing_reply first line slots) ≡ length (unmarked slots) + 2
+abbrev pub ListsUnmarkedOnce : Type 0
+ListsUnmarkedOnce = (first : List ℕ) (line : ℕ → Item → List ℕ) (slots : List ListingSlot) → length (listing_reply first line slots) ≡ length (unmarked slots) + 2
 
 -- In both listings the number has the same message, or none, and what a command leads to that names it is the same.
 pub record IsShownAlike (old new : List ListingSlot) (n : ℕ) : Type 0 where

@@ -23,9 +23,9 @@ stage_of (Authorization user) = model.Stage.Authorization user
 stage_of (Transaction login listing) = model.Stage.Transaction (slots_seen listing)
 
 -- and as a session does
-abbrev pub state_of : Stage → TalkState
-state_of (Authorization user) = Entering user
-state_of (Transaction login listing) = Reading login.user (slots_seen listing)
+abbrev pub talk_state_of : Stage → TalkState
+talk_state_of (Authorization user) = Entering user
+talk_state_of (Transaction login listing) = Reading login.user (slots_seen listing)
 
 -- the login, from TRANSACTION on
 abbrev pub login_in : Stage → Option Login

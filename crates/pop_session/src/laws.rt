@@ -1,5 +1,5 @@
 // Laws over the definition of a session, each a function that does nothing.
-ghost use Rattle.pop_session.specs.Laws.{NumberedAlike, ListedOnce, NumbersStay, MarkedIsNone, AsksBehindUser};
+ghost use Rattle.pop_session.specs.Laws.{NumberedAlike, ListsUnmarkedOnce, NumbersStay, MarkedIsNone, AsksBehindUser};
 
 /// LIST and UIDL show of each message that is not marked what they show of it alone, under its number.
 pub fn numbered_alike()
@@ -8,7 +8,7 @@ pub fn numbered_alike()
 
 /// LIST and UIDL show each message of the listing that is not marked once, and no others.
 pub fn listed_once()
-    ensures { ListedOnce }
+    ensures { ListsUnmarkedOnce }
 {}
 
 /// DELE shifts no numbers: what is shown of each other message is as before (RFC 1939, section 5).

@@ -18,7 +18,7 @@ use Rattle.session_model.specs.Run.{Made, Stop, AreHandled, IsLeftOff, is_no_nod
 use Rattle.session_model.specs.Run.Stop.{Denied}
 use Rattle.yard_stores.proofs.Taking.{as_many}
 use Rattle.node_store.specs.Disks.{View}
-use Rattle.cluster_world.specs.Worlds.{plan_of, disks_of, tells}
+use Rattle.cluster_world.specs.Worlds.{plan_of, disks_of, disks_tell}
 use Rattle.cluster_world.specs.declared.world.World.{World}
 use Rattle.cluster_world.proofs.Chained.{plan_stays}
 use Rattle.drive_tape.specs.declared.drove.Drove.{Drove}
@@ -32,7 +32,7 @@ use Rattle.porcupine_server.specs.declared.ending.Ending.{Ending}
 use Rattle.porcupine_server.specs.declared.ending.Ending.TheVariants.{Done, Line, Read, Write, Store, NoMemory}
 use Rattle.porcupine_server.specs.Complete.{IsGoodTape, NobodyWaits}
 use Rattle.porcupine_server.specs.Endings.{ending_of, status_of, last_entries, Finishes}
-use Rattle.porcupine_server.specs.Stores.{NodeFailed, StoreFailed}
+use Rattle.porcupine_server.specs.Stores.{NodeStoreFailed, StoreFailed}
 use Rattle.porcupine_server.specs.Works.{SourceAndSink, Stores, Works, NoPlan, NoStores, ServedStores, NotOpened, Ran, IsBeforeRun}
 use Rattle.porcupine_server.proofs.GoodPlan.{run_part, no_plan_fault, reads_good_plan}
 use Rattle.porcupine_server.proofs.GoodRun.{no_run_fault, no_denial}
@@ -143,13 +143,13 @@ module _ (tape : List ℕ) (good : IsGoodTape tape) where
         let plan = reads_good_plan tape good ends.left0 served.between served.plan served.count told served.reads in
         subst NamesNone (sym ran.is) (handled on ran.start ran.last served.between ends.left1 ends.held0 ends.held1 ran.answer served.count (ran.opened.begins.plan_is ∙ plan.1) plan.0 ran.drives never alone)
       where
-        stays : (plan_of ran.last ≡ plan_of ran.start) × (length (disks_of ran.last) ≡ length (disks_of ran.start)) × (tells on.seen ran.last ≡ tells on.seen ran.start)
+        stays : (plan_of ran.last ≡ plan_of ran.start) × (length (disks_of ran.last) ≡ length (disks_of ran.start)) × (disks_tell on.seen ran.last ≡ disks_tell on.seen ran.start)
         stays = plan_stays on ran.drives.outcomes [] ran.drives.awaited ran.start ran.last ran.drives.steps
 
-        no_failure : (node : ℕ) × NodeFailed on.seen on.faults node served.taken served.given → ⊥
+        no_failure : (node : ℕ) × NodeStoreFailed on.seen on.faults node served.taken served.given → ⊥
         no_failure one = stands one.0 (record { taken = served.taken; given = served.given; are = served.are; cause = inr one.1 })
 
-        all_told : (b : Bool) → tells on.seen ran.start ≡ b → b ≡ true
+        all_told : (b : Bool) → disks_tell on.seen ran.start ≡ b → b ≡ true
         all_told true is = refl
         all_told false is = absurd (no_failure (untold_store on is_settled served.plan served.taken served.disks served.given ran.start ran.last served.looked ran.opened ran.stores stays.1 is))
 
@@ -161,7 +161,7 @@ module _ (tape : List ℕ) (good : IsGoodTape tape) where
             (omega (arith, ends_at.1, ap (λ (p : Plan). p.nodes) ran.opened.begins.plan_is, served.one_each, many, ran.opened.handed.count)) cause)
 
         alone : (plan_of ran.start).nodes ≡ 1 → NobodyWaits (flat_map (λ a. a) (ran.drives.acts ++ ran.drives.behind))
-        alone one = ran.drives.none_waits (inl (all_told (tells on.seen ran.start) refl)) one
+        alone one = ran.drives.none_waits (inl (all_told (disks_tell on.seen ran.start) refl)) one
             (omega (arith, one, nodes_are, confirm_is, served.fits.confirmed, served.fits.copied, served.fits.spread))
             (omega (arith, one, nodes_are, copies_are, served.fits.confirmed, served.fits.copied, served.fits.spread))
           where

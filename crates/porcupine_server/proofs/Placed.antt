@@ -8,11 +8,11 @@ use Rattle.io_edge.specs.Octets.{IsToldAlike}
 use Rattle.mail_model.specs.Plan.{Plan}
 use Rattle.yard_stores.specs.Taken.{Looked, AllLooked, DiskFailed}
 use Rattle.node_store.specs.Disks.{View}
-use Rattle.cluster_world.specs.Worlds.{disks_of, tells}
+use Rattle.cluster_world.specs.Worlds.{disks_of, disks_tell}
 use Rattle.cluster_world.specs.Opens.{Opened}
 use Rattle.cluster_world.specs.declared.world.World.{World}
 use Rattle.drive_tape.specs.Worlds.{HasFailed}
-use Rattle.porcupine_server.specs.Stores.{NodeFailed}
+use Rattle.porcupine_server.specs.Stores.{NodeStoreFailed}
 
 -- what stands at a place within the list
 pub has_place : {X : Type 0} (xs : List X) (k : ℕ) → k < length xs → (x : X) × (slice_get xs k ≡ Some x)
@@ -82,11 +82,11 @@ module _ {D : Type 0} (on : View D) (is_settled : D → Type 0) (plan : Plan) (t
         quiet = opened.quiet k disk.0 first.0 disk.1 first.1 ∙ was.2.quiet;
       }
 
-  failed : (k : ℕ) (a : At k) → DiskFailed on.seen on.faults a.was a.is → NodeFailed on.seen on.faults (suc k) taken given
+  failed : (k : ℕ) (a : At k) → DiskFailed on.seen on.faults a.was a.is → NodeStoreFailed on.seen on.faults (suc k) taken given
   failed k a cause = record { old = a.was; new = a.is; was = a.taken_at; is = a.given_at; failed = cause }
 
   -- a store that did not tell what it holds
-  pub untold_store : tells on.seen start ≡ false → (node : ℕ) × NodeFailed on.seen on.faults node taken given
+  pub untold_store : disks_tell on.seen start ≡ false → (node : ℕ) × NodeStoreFailed on.seen on.faults node taken given
   untold_store none =
       let one = one_untold on.seen (disks_of start) none in
       let a = at one.0 (slice_get_within (disks_of start) one.0 one.1 one.2) in
@@ -95,7 +95,7 @@ module _ {D : Type 0} (on : View D) (is_settled : D → Type 0) (plan : Plan) (t
       (suc one.0, failed one.0 a (inr (untold (on.seen a.was) (on.seen a.first) a.alike (ap on.seen first ∙ one.3))))
 
   -- a node that failed has its cause
-  pub fell : (n : ℕ) → n ≢ 0 → n ≤ length (disks_of start) → HasFailed on start last n → (node : ℕ) × NodeFailed on.seen on.faults node taken given
+  pub fell : (n : ℕ) → n ≢ 0 → n ≤ length (disks_of start) → HasFailed on start last n → (node : ℕ) × NodeStoreFailed on.seen on.faults node taken given
   fell zero some within cause = absurd (some refl)
   fell (suc k) some within cause =
       let a = at k (omega (arith, within)) in

@@ -6,7 +6,7 @@ use Rattle.std.specs.Io.KnownBytes.{Consumes, Appends}
 use Rattle.std.proofs.lemmas.List.{append-nil, map-append}
 use Rattle.std.proofs.lemmas.List.Concat.{flat_map-append}
 use Rattle.std.proofs.lemmas.List.Elements.{All-nil, All-cons, All-head, All-tail, All-append}
-use Rattle.yard_stores.specs.Taken.{numbered, TellsAll}
+use Rattle.yard_stores.specs.Taken.{numbered_stores, TellsAll}
 use Rattle.io_edge.proofs.Known.{consumes_more, appends_more}
 use Rattle.mail_model.specs.Lines.{HasNoLf, ended}
 use Rattle.mail_model.specs.Plan.{Plan}
@@ -22,13 +22,13 @@ use Rattle.session_model.specs.Kept.{KeepsPromises, IsEnding}
 use Rattle.session_model.specs.Run.{IsCutShort}
 use Rattle.cluster_owes.specs.Held.{filed_on}
 use Rattle.node_store.specs.Disks.{View}
-use Rattle.cluster_world.specs.Worlds.{plan_of, book_of, tells}
+use Rattle.cluster_world.specs.Worlds.{plan_of, book_of, disks_tell}
 use Rattle.cluster_world.specs.Outcomes.{asked_by_outcome}
 use Rattle.cluster_world.proofs.Chained.{plan_stays}
 use Rattle.drive_tape.specs.declared.drove.Drove.{Drove}
 use Rattle.drive_tape.specs.declared.drove.Drove.TheVariants as drove
 use Rattle.drive_tape.specs.Faults.{tape_fault_seen}
-use Rattle.drive_tape.specs.Parts.{IsCutEntry, IsPart}
+use Rattle.drive_tape.specs.Parts.{IsCutEntry, IsPartOfLine}
 use Rattle.drive_tape.specs.Drive.{Stops, stop_of}
 use Rattle.drive_tape.specs.Plans.{ReadsHead}
 use Rattle.drive_tape.specs.Kept.{AreBlindLines}
@@ -120,7 +120,7 @@ front_of_line (x ∷ line) (y ∷ cut) rest none some parts =
 
 cut_line : (missing : List Entry) (cut : List ℕ) → IsCutEntry missing cut → All HasNoLf (map entry_line missing) → HasNoLf cut
 cut_line missing cut part all = ⊎_elim (λ (none : cut ≡ []). subst HasNoLf (sym none) (All-nil _))
-    (λ (some : IsPart missing cut). front_of_line (entry_line some.entry) cut some.rest
+    (λ (some : IsPartOfLine missing cut). front_of_line (entry_line some.entry) cut some.rest
     (All-head HasNoLf (entry_line some.entry) (map entry_line some.more) (subst (λ (es : List Entry). All HasNoLf (map entry_line es)) some.are all)) some.some some.whole)
     part
 
@@ -159,7 +159,7 @@ lasts held0 held1 ending status finishes = ⊎_elim
     finishes
   where
     nothing : (front missing : List Entry) (cut : List ℕ) → front ++ missing ≡ [] → IsCutEntry missing cut → (front ≡ []) × (cut ≡ [])
-    nothing [] [] cut is part = (refl, ⊎_elim (λ (none : cut ≡ []). none) (λ (some : IsPart [] cut). absurd (omega (arith, ap length some.are))) part)
+    nothing [] [] cut is part = (refl, ⊎_elim (λ (none : cut ≡ []). none) (λ (some : IsPartOfLine [] cut). absurd (omega (arith, ap length some.are))) part)
     nothing [] (entry ∷ missing) cut is part = absurd (omega (arith, ap length is))
     nothing (entry ∷ front) missing cut is part = absurd (omega (arith, ap length is))
 
@@ -184,7 +184,7 @@ kept_nothing seen stores ends middle ending read took none last = record {
 
 -- run lines were handled
 module _ {D : Type 0} (on : View D) (is_settled : D → Type 0) (stores : Stores D) (ends : SourceAndSink) (between middle : Option (List ℕ)) (plan : Plan) (count : ℕ) (ending : Ending)
-    (disks given : List D) (reads : ReadsHead ends.left0 between (Ok (plan, count))) (back : TellsAll stores.returned0 stores.returned1 (numbered 1 given))
+    (disks given : List D) (reads : ReadsHead ends.left0 between (Ok (plan, count))) (back : TellsAll stores.returned0 stores.returned1 (numbered_stores 1 given))
     (ran : Ran on is_settled (record ends { left0 = between; held1 = middle }) plan count ending disks given) (last : Last middle ends.held1 ending) where
   abbrev lines : List (List ℕ)
   lines = ran.drives.handled ++ ran.drives.midst
@@ -196,7 +196,7 @@ module _ {D : Type 0} (on : View D) (is_settled : D → Type 0) (stores : Stores
   begun = flat_map asked_by_outcome ran.drives.outcomes
 
   -- all stores told what they held at first, if they do at last
-  told : all_tell on.seen given ≡ true → tells on.seen ran.start ≡ true
+  told : all_tell on.seen given ≡ true → disks_tell on.seen ran.start ≡ true
   told all = sym (plan_stays on ran.drives.outcomes [] ran.drives.awaited ran.start ran.last ran.drives.steps).2 ∙ ap (all_tell on.seen) (sym ran.stores) ∙ all
 
   -- the promises, with this last line

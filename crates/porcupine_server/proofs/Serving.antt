@@ -5,7 +5,7 @@ use Rattle.std.proofs.lemmas.List.{map-append}
 use Rattle.std.proofs.lemmas.Option.{none-some}
 use Rattle.io_edge.specs.Causes.{Rose}
 use Rattle.mail_model.specs.Plan.{Plan}
-use Rattle.yard_stores.specs.Taken.{with_all, numbered, TellsAll, AllLooked, LastFailed, TakesSo}
+use Rattle.yard_stores.specs.Taken.{with_all, numbered_stores, TellsAll, AllLooked, LastFailed, TakesSo}
 use Rattle.yard_stores.specs.declared.stores.TakeFault.{TakeFault}
 use Rattle.yard_stores.specs.declared.stores.TakeFault.TheVariants as take
 use Rattle.yard_stores.proofs.Taking.{as_many}
@@ -13,7 +13,7 @@ use Rattle.node_store.specs.Disks.{View}
 use Rattle.cluster_world.specs.Lives.{of_node}
 use Rattle.cluster_world.specs.Worlds.{state_of, plan_of, disks_of}
 use Rattle.cluster_world.specs.Steps.{AreSettled}
-use Rattle.cluster_world.specs.Opens.{IsFit, AreEmpty, IsAtBeginning, Opened}
+use Rattle.cluster_world.specs.Opens.{CanBeOpened, AreEmpty, IsAtBeginning, Opened}
 use Rattle.cluster_world.specs.declared.world.World.{World}
 use Rattle.cluster_world.proofs.Chained.{plan_stays}
 use Rattle.drive_tape.specs.declared.drove.Drove.{Drove}
@@ -24,12 +24,12 @@ use Rattle.drive_tape.specs.Plans.{IsTapePlan}
 use Rattle.porcupine_server.specs.declared.ending.Ending.{Ending}
 use Rattle.porcupine_server.specs.declared.ending.Ending.TheVariants.{Done, Line, Read, Write, Store, NoMemory}
 use Rattle.porcupine_server.specs.Endings.{ending_of, ending_untaken}
-use Rattle.porcupine_server.specs.Stores.{AreStores, NodeFailed, StoreFailed}
+use Rattle.porcupine_server.specs.Stores.{AreStores, NodeStoreFailed, StoreFailed}
 use Rattle.porcupine_server.specs.Works.{IsBeforeRun, SourceAndSink, ServesStores}
 use Rattle.porcupine_server.proofs.Placed.{looked_at}
 
 -- a plan of a tape is one that a cluster can be opened for
-pub fits : (plan : Plan) → IsTapePlan plan → IsFit plan
+pub fits : (plan : Plan) → IsTapePlan plan → CanBeOpened plan
 fits plan is = record { some = is.some; few = is.few; confirmed = is.confirmed; copied = is.copied; spread = is.spread }
 
 -- stores that were looked at are empty
@@ -68,10 +68,10 @@ none_taken {D} handed returned = record { out = by handed; back = refl }
     by (Some list) = ap Some (sym (append-nil list))
 
 -- these were taken, and these given back
-pub are_stores : {D : Type 0} (handed0 handed1 handed2 returned0 returned1 returned2 : Option (List (ℕ × ℕ × D))) (taken given : List D) → handed1 ≡ with_all handed0 (numbered 1 taken) → handed2 ≡ handed1
-    → returned1 ≡ returned0 → TellsAll returned1 returned2 (numbered 1 given) → AreStores handed0 handed2 returned0 returned2 taken given
+pub are_stores : {D : Type 0} (handed0 handed1 handed2 returned0 returned1 returned2 : Option (List (ℕ × ℕ × D))) (taken given : List D) → handed1 ≡ with_all handed0 (numbered_stores 1 taken) → handed2 ≡ handed1
+    → returned1 ≡ returned0 → TellsAll returned1 returned2 (numbered_stores 1 given) → AreStores handed0 handed2 returned0 returned2 taken given
 are_stores handed0 handed1 handed2 returned0 returned1 returned2 taken given out same kept back =
-    record { out = same ∙ out; back = subst (λ told. TellsAll told returned2 (numbered 1 given)) kept back }
+    record { out = same ∙ out; back = subst (λ told. TellsAll told returned2 (numbered_stores 1 given)) kept back }
 
 -- the last of a list
 at_end : {X : Type 0} (front : List X) (x : X) → slice_get (front ++ x ∷ []) (length front) ≡ Some x
@@ -83,7 +83,7 @@ node_at_end xs front x zero is count = absurd (omega (arith, count))
 node_at_end xs front x (suc k) is count =
     ap (λ l. slice_get l k) is ∙ ap (slice_get (front ++ x ∷ [])) (let same : k ≡ length front = omega (arith, count) in same) ∙ at_end front x
 
-last_node : {D : Type 0} (seen : D → Option (List ℕ)) (faults : D → ℕ) (node : ℕ) (taken disks : List D) → LastFailed seen faults node taken disks → NodeFailed seen faults node taken disks
+last_node : {D : Type 0} (seen : D → Option (List ℕ)) (faults : D → ℕ) (node : ℕ) (taken disks : List D) → LastFailed seen faults node taken disks → NodeStoreFailed seen faults node taken disks
 last_node seen faults node taken disks last =
     let many = as_many seen faults last.front last.looked last.each in
     record {
@@ -106,15 +106,15 @@ module _ {D : Type 0} (seen : D → Option (List ℕ)) (faults : D → ℕ) (han
         given = given;
         are = are;
         cause = ⊎_elim (λ yard. inl (subst (Rose before) (sym later) yard.0, let many = as_many seen faults taken given yard.1 in omega (arith, many, yard.2, same)))
-            (λ last. inr (subst (λ n. NodeFailed seen faults n taken given) same (last_node seen faults number taken given last))) so;
+            (λ last. inr (subst (λ n. NodeStoreFailed seen faults n taken given) same (last_node seen faults number taken given last))) so;
       }
   untaken_failed nodes before mid now node take.NoMemory later so is = absurd (let never : NoMemory ≡ Store node = is in cc)
 
   -- one of those that were served failed
-  pub served_failed : (disks : List D) (before now node : ℕ) → AllLooked seen faults taken disks → NodeFailed seen faults node disks given → StoreFailed seen faults handed0 handed1 returned0 returned1 before now node
+  pub served_failed : (disks : List D) (before now node : ℕ) → AllLooked seen faults taken disks → NodeStoreFailed seen faults node disks given → StoreFailed seen faults handed0 handed1 returned0 returned1 before now node
   served_failed disks before now node looked failed = record { taken = taken; given = given; are = are; cause = inr (was_taken node failed) }
     where
-      was_taken : (n : ℕ) → NodeFailed seen faults n disks given → NodeFailed seen faults n taken given
+      was_taken : (n : ℕ) → NodeStoreFailed seen faults n disks given → NodeStoreFailed seen faults n taken given
       was_taken zero one = absurd (none-some one.old one.was)
       was_taken (suc k) one =
           let was = looked_at seen faults taken disks looked k one.old one.was in
@@ -156,10 +156,10 @@ no_store_stop (drove.NoMemory n) node is = absurd (let never : NoMemory ≡ Stor
 
 -- the store of this node failed as it was opened
 pub store_named : {D : Type 0} (seen : D → Option (List ℕ)) (faults : D → ℕ) (number node : ℕ) (old new : List D) → Store number ≡ Store node
-    → (disk : D) × (disk' : D) × (of_node old number ≡ Some disk) × (of_node new number ≡ Some disk') × Rose (faults disk) (faults disk') → NodeFailed seen faults node old new
+    → (disk : D) × (disk' : D) × (of_node old number ≡ Some disk) × (of_node new number ≡ Some disk') × Rose (faults disk) (faults disk') → NodeStoreFailed seen faults node old new
 store_named seen faults number node old new is (disk, disk', was, now, rose) =
     let same : number ≡ node = cc in
-    subst (λ n. NodeFailed seen faults n old new) same (record { old = disk; new = disk'; was = was; is = now; failed = inl rose })
+    subst (λ n. NodeStoreFailed seen faults n old new) same (record { old = disk; new = disk'; was = was; is = now; failed = inl rose })
 
 -- as many disks come back as were handed in
 pub come_back : {D : Type 0} (on : View D) (is_settled : D → Type 0) (plan : Plan) (count : ℕ) (disks : List D) (start last : World D) (answer : Drove) (left0 left1 held0 held1 : Option (List ℕ))

@@ -2,7 +2,7 @@
 use Rattle.std.specs.Prelude.{◌≡◌, ◌⊎◌, ℕ, Bool, true, List, [], ◌++◌, flat_map, map, All, Option, Some, is_some}
 use Rattle.std.specs.List.{list_all}
 use Rattle.std.specs.Io.KnownBytes.{Consumes, Appends}
-use Rattle.yard_stores.specs.Taken.{numbered, TellsAll}
+use Rattle.yard_stores.specs.Taken.{numbered_stores, TellsAll}
 use Rattle.mail_model.specs.Lines.{HasNoLf, ended}
 use Rattle.mail_model.specs.Plan.{Plan}
 use Rattle.mail_model.specs.Tape.{Draft, empty_draft, planned, tape_plan_line}
@@ -67,4 +67,4 @@ pub record HasKept {D : Type 0} (seen : D → Option (List ℕ)) (stores : Store
   pub gave : Appends ends.held0 ends.held1 written
   pub transcript : IsTranscript written entries
   pub promise : ((k : ℕ) → lines_to k entries ≡ [])
-      ⊎ ((given : List D) × TellsAll stores.returned0 stores.returned1 (numbered 1 given) × KeepsAll seen given read entries)
+      ⊎ ((given : List D) × TellsAll stores.returned0 stores.returned1 (numbered_stores 1 given) × KeepsAll seen given read entries)

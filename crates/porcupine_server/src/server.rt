@@ -6,7 +6,7 @@ ghost use Rattle.node_store.specs.Disks.{view_of};
 ghost use Rattle.cluster_world.specs.Opens.{AreEmpty};
 ghost use Rattle.drive_tape.specs.Plans.{IsTapePlan};
 ghost use Rattle.porcupine_server.specs.Words.{IsDrive, RefusesWords};
-ghost use Rattle.porcupine_server.specs.Stores.{NodeFailed, StoreFailed, store_line};
+ghost use Rattle.porcupine_server.specs.Stores.{NodeStoreFailed, StoreFailed, store_line};
 ghost use Rattle.porcupine_server.specs.Works.{ServesStores, Works, TranscriptFollows};
 ghost use Rattle.porcupine_server.specs.Complete.{IsGoodTape};
 ghost use Rattle.porcupine_server.specs.Promises.{HasKept};
@@ -42,7 +42,7 @@ fn serve<S: Source, K: Sink, D: Disk + Drop>(
     ensures write_later { K.faults sink.old ≤ K.faults sink.new }
     ensures read_fault { result.0 ≡ endings.Read → Rose (S.faults source.old) (S.faults source.new) }
     ensures write_fault { result.0 ≡ endings.Write → Rose (K.faults sink.old) (K.faults sink.new) }
-    ensures store_fault { (node : ℕ) → result.0 ≡ endings.Store node → NodeFailed D.seen D.faults node disks.items (result.1).items }
+    ensures store_fault { (node : ℕ) → result.0 ≡ endings.Store node → NodeStoreFailed D.seen D.faults node disks.items (result.1).items }
 {
     match World::open(alloc, plan, disks) {
         Err((fault, disks)) => (Ending::unopened(&fault), disks),

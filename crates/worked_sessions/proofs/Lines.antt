@@ -33,7 +33,7 @@ use Rattle.session_model.specs.Turns.{Waits, IsAtRest, IsFirst, IsNone, to_leave
 use Rattle.session_model.specs.Turns.Turn.{Hearing as Hears_on, Beginning, Asking}
 use Rattle.session_model.specs.Run.{IsHandled, refusal}
 use Rattle.worked_sessions.specs.OneMessage.{small_plan, greeted, sending, addressed, texting, small_text, small_mail, at_once, waiting, fed_with, heard_with, at_open, at_helo, at_mail, at_rcpt, at_data, at_subject, at_gap, at_hello, at_wait, said_once}
-use Rattle.worked_sessions.specs.OneMessage.{plan_of}
+use Rattle.worked_sessions.specs.OneMessage.{plan_of_nodes}
 use Rattle.worked_sessions.specs.ThreeNodes.{heard_in_vain, waits_first}
 
 -- lines without a CR
@@ -116,12 +116,12 @@ text_lines = (whole_line (codes "Subject: hi") refl, refl, (whole_line [] refl, 
 module _ (n : ℕ) (been : List Act) where
   -- one that is answered at once
   pub answered : (old new : Session) (line text reply : List ℕ) (state : TalkState) (entries : List Entry) → tape_order line ≡ Some (Say 1 text)
-      → refusal (plan_of n) been (old ∷ []) (Say 1 text) ≡ None → IsOn old.standing → closing 1 (IsFed (sent_line text)) old.standing ≡ [] → old.standing ≡ Hearing state
-      → IsNext (plan_of n) old.node state (old.rest ++ sent_line text) (at_once text reply) []
-      → new ≡ record (fed_with old text) { whole = old.whole ++ at_once text reply ∷ []; standing = stands_by (plan_of n) old.node state (at_once text reply); rest = [] }
+      → refusal (plan_of_nodes n) been (old ∷ []) (Say 1 text) ≡ None → IsOn old.standing → closing 1 (IsFed (sent_line text)) old.standing ≡ [] → old.standing ≡ Hearing state
+      → IsNext (plan_of_nodes n) old.node state (old.rest ++ sent_line text) (at_once text reply) []
+      → new ≡ record (fed_with old text) { whole = old.whole ++ at_once text reply ∷ []; standing = stands_by (plan_of_nodes n) old.node state (at_once text reply); rest = [] }
       → entries ≡ said_lines 1 (one_line reply) ++ closing 1 (Hears (at_once text reply)) new.standing
       → IsAtRest (Some new) → to_leave (Some new) ≡ None → (Waits (Some new) → ⊥)
-      → IsHandled (plan_of n) been (old ∷ []) line (Does 1 (IsFed (sent_line text)) ∷ Does 1 (Hears (at_once text reply)) ∷ []) ([] ∷ entries ∷ []) (new ∷ [])
+      → IsHandled (plan_of_nodes n) been (old ∷ []) line (Does 1 (IsFed (sent_line text)) ∷ Does 1 (Hears (at_once text reply)) ∷ []) ([] ∷ entries ∷ []) (new ∷ [])
   answered old new line text reply state entries spelled accepted on quiet hears next is says rests leaves never = record {
     last = Hears_on 1 1;
     begun = record {
@@ -145,9 +145,9 @@ module _ (n : ℕ) (been : List Act) where
 
   -- one of a text
   fed_only : (old : Session) (line text : List ℕ) (state : TalkState) → tape_order line ≡ Some (Say 1 text)
-      → refusal (plan_of n) been (old ∷ []) (Say 1 text) ≡ None → IsOn old.standing → closing 1 (IsFed (sent_line text)) old.standing ≡ [] → old.standing ≡ Hearing state
+      → refusal (plan_of_nodes n) been (old ∷ []) (Say 1 text) ≡ None → IsOn old.standing → closing 1 (IsFed (sent_line text)) old.standing ≡ [] → old.standing ≡ Hearing state
       → IsAtRest (Some (fed_with old text)) → to_leave (Some (fed_with old text)) ≡ None
-      → IsHandled (plan_of n) been (old ∷ []) line (Does 1 (IsFed (sent_line text)) ∷ []) ([] ∷ []) (fed_with old text ∷ [])
+      → IsHandled (plan_of_nodes n) been (old ∷ []) line (Does 1 (IsFed (sent_line text)) ∷ []) ([] ∷ []) (fed_with old text ∷ [])
   fed_only old line text state spelled accepted on quiet hears rests leaves = record {
     last = Hears_on 1 1;
     begun = record {
@@ -169,35 +169,35 @@ module _ (n : ℕ) (been : List Act) where
     done = (1, (refl, rests, leaves), nobody (fed_with old text) (never_waits (fed_with old text) state hears));
   }
 
-  pub helo : IsHandled (plan_of n) been (at_open ∷ []) (codes "say 1 HELO c.example") (said_once (codes "HELO c.example") (helo_text 1)) ([] ∷ (Said 1 (helo_text 1) ∷ []) ∷ []) (at_helo ∷ [])
+  pub helo : IsHandled (plan_of_nodes n) been (at_open ∷ []) (codes "say 1 HELO c.example") (said_once (codes "HELO c.example") (helo_text 1)) ([] ∷ (Said 1 (helo_text 1) ∷ []) ∷ []) (at_helo ∷ [])
   helo = answered at_open at_helo (codes "say 1 HELO c.example") (codes "HELO c.example") (helo_text 1) (Mailing silent) (Said 1 (helo_text 1) ∷ []) refl refl tt refl refl
       (record { is_unit = whole_line (codes "HELO c.example") refl; whole = refl; led = (refl, refl, refl) }) refl refl idle_line refl (never_waits at_helo (Mailing greeted) refl)
 
-  pub mail : IsHandled (plan_of n) been (at_helo ∷ []) (codes "say 1 MAIL FROM:<bob@b.example>") (said_once (codes "MAIL FROM:<bob@b.example>") (codes "250 sender ok")) ([] ∷ (Said 1 (codes "250 sender ok") ∷ []) ∷ []) (at_mail ∷ [])
+  pub mail : IsHandled (plan_of_nodes n) been (at_helo ∷ []) (codes "say 1 MAIL FROM:<bob@b.example>") (said_once (codes "MAIL FROM:<bob@b.example>") (codes "250 sender ok")) ([] ∷ (Said 1 (codes "250 sender ok") ∷ []) ∷ []) (at_mail ∷ [])
   mail = answered at_helo at_mail (codes "say 1 MAIL FROM:<bob@b.example>") (codes "MAIL FROM:<bob@b.example>") (codes "250 sender ok") (Mailing greeted) (Said 1 (codes "250 sender ok") ∷ []) refl refl tt refl refl
       (record { is_unit = whole_line (codes "MAIL FROM:<bob@b.example>") refl; whole = refl; led = (refl, refl, refl) }) refl refl idle_line refl (never_waits at_mail (Mailing sending) refl)
 
-  pub rcpt : IsHandled (plan_of n) been (at_mail ∷ []) (codes "say 1 RCPT TO:<alice>") (said_once (codes "RCPT TO:<alice>") (codes "250 recipient ok")) ([] ∷ (Said 1 (codes "250 recipient ok") ∷ []) ∷ []) (at_rcpt ∷ [])
+  pub rcpt : IsHandled (plan_of_nodes n) been (at_mail ∷ []) (codes "say 1 RCPT TO:<alice>") (said_once (codes "RCPT TO:<alice>") (codes "250 recipient ok")) ([] ∷ (Said 1 (codes "250 recipient ok") ∷ []) ∷ []) (at_rcpt ∷ [])
   rcpt = answered at_mail at_rcpt (codes "say 1 RCPT TO:<alice>") (codes "RCPT TO:<alice>") (codes "250 recipient ok") (Mailing sending) (Said 1 (codes "250 recipient ok") ∷ []) refl refl tt refl refl
       (record { is_unit = whole_line (codes "RCPT TO:<alice>") refl; whole = refl; led = (refl, refl, sym (ap reply_where has_alice)) })
       (sym (ap (λ (b : Bool). heard_with (fed_with at_mail (codes "RCPT TO:<alice>")) (at_once (codes "RCPT TO:<alice>") (codes "250 recipient ok")) (told_where b)) has_alice)) refl idle_line refl (never_waits at_rcpt (Mailing addressed) refl)
 
-  pub data_line : IsHandled (plan_of n) been (at_rcpt ∷ []) (codes "say 1 DATA") (said_once (codes "DATA") (codes "354 end with a line that is a single period")) ([] ∷ (Said 1 (codes "354 end with a line that is a single period") ∷ []) ∷ []) (at_data ∷ [])
+  pub data_line : IsHandled (plan_of_nodes n) been (at_rcpt ∷ []) (codes "say 1 DATA") (said_once (codes "DATA") (codes "354 end with a line that is a single period")) ([] ∷ (Said 1 (codes "354 end with a line that is a single period") ∷ []) ∷ []) (at_data ∷ [])
   data_line = answered at_rcpt at_data (codes "say 1 DATA") (codes "DATA") (codes "354 end with a line that is a single period") (Mailing addressed) (Said 1 (codes "354 end with a line that is a single period") ∷ []) refl refl tt refl refl
       (record { is_unit = whole_line (codes "DATA") refl; whole = refl; led = (refl, refl, refl) }) refl refl (idle_text [] tt) refl (never_waits at_data (Mailing texting) refl)
 
-  pub subject : IsHandled (plan_of n) been (at_data ∷ []) (codes "say 1 Subject: hi") (Does 1 (IsFed (sent_line (codes "Subject: hi"))) ∷ []) ([] ∷ []) (at_subject ∷ [])
+  pub subject : IsHandled (plan_of_nodes n) been (at_data ∷ []) (codes "say 1 Subject: hi") (Does 1 (IsFed (sent_line (codes "Subject: hi"))) ∷ []) ([] ∷ []) (at_subject ∷ [])
   subject = fed_only at_data (codes "say 1 Subject: hi") (codes "Subject: hi") (Mailing texting) refl refl tt refl refl (idle_text (codes "Subject: hi" ∷ []) subject_line) refl
 
-  pub gap : IsHandled (plan_of n) been (at_subject ∷ []) (codes "say 1") (Does 1 (IsFed (sent_line [])) ∷ []) ([] ∷ []) (at_gap ∷ [])
+  pub gap : IsHandled (plan_of_nodes n) been (at_subject ∷ []) (codes "say 1") (Does 1 (IsFed (sent_line [])) ∷ []) ([] ∷ []) (at_gap ∷ [])
   gap = fed_only at_subject (codes "say 1") [] (Mailing texting) refl refl tt refl refl
       (idle_text (codes "Subject: hi" ∷ [] ∷ []) (whole_line (codes "Subject: hi") refl, refl, (whole_line [] refl, refl, tt))) refl
 
-  pub hello : IsHandled (plan_of n) been (at_gap ∷ []) (codes "say 1 hello") (Does 1 (IsFed (sent_line (codes "hello"))) ∷ []) ([] ∷ []) (at_hello ∷ [])
+  pub hello : IsHandled (plan_of_nodes n) been (at_gap ∷ []) (codes "say 1 hello") (Does 1 (IsFed (sent_line (codes "hello"))) ∷ []) ([] ∷ []) (at_hello ∷ [])
   hello = fed_only at_gap (codes "say 1 hello") (codes "hello") (Mailing texting) refl refl tt refl refl (idle_text small_text text_lines) refl
 
   -- the period: the message is asked to be stored, and the session waits
-  pub waits_line : IsHandled (plan_of n) been (at_hello ∷ []) (codes "say 1 .") waits_first ([] ∷ [] ∷ [] ∷ []) (at_wait ∷ [])
+  pub waits_line : IsHandled (plan_of_nodes n) been (at_hello ∷ []) (codes "say 1 .") waits_first ([] ∷ [] ∷ [] ∷ []) (at_wait ∷ [])
   waits_line = record {
     last = Asking 2;
     begun = record {
@@ -234,9 +234,9 @@ module _ (n : ℕ) (been : List Act) where
   }
 
   -- a letter is heard, and it still waits
-  pub heard_line : (line : List ℕ) (order : ClusterOrder) (letter : ℕ) → tape_order line ≡ Some (Moves order) → refusal (plan_of n) been (at_wait ∷ []) (Moves order) ≡ None
-      → IsEventOf (plan_of n) (life_after been) order (WasHeard letter)
-      → IsHandled (plan_of n) been (at_wait ∷ []) line (heard_in_vain order letter) (event_entries (WasHeard letter) ∷ [] ∷ []) (at_wait ∷ [])
+  pub heard_line : (line : List ℕ) (order : ClusterOrder) (letter : ℕ) → tape_order line ≡ Some (Moves order) → refusal (plan_of_nodes n) been (at_wait ∷ []) (Moves order) ≡ None
+      → IsEventOf (plan_of_nodes n) (life_after been) order (WasHeard letter)
+      → IsHandled (plan_of_nodes n) been (at_wait ∷ []) line (heard_in_vain order letter) (event_entries (WasHeard letter) ∷ [] ∷ []) (at_wait ∷ [])
   heard_line line order letter spelled accepted comes = record {
     last = Asking 2;
     begun = record {

@@ -36,11 +36,11 @@ use Rattle.session_model.specs.OneNode.{Served, asked_of}
 use Rattle.session_model.specs.Kept.{KeepsPromises}
 
 -- so many nodes, each of which has a copy and confirms it, and one user
-abbrev pub plan_of : ℕ → Plan
-plan_of n = record { nodes = n; copies = n; confirm = n; buckets = 1; users = map.insert map.empty (codes "alice") (codes "tanstaaf"); postmaster = codes "alice" }
+abbrev pub plan_of_nodes : ℕ → Plan
+plan_of_nodes n = record { nodes = n; copies = n; confirm = n; buckets = 1; users = map.insert map.empty (codes "alice") (codes "tanstaaf"); postmaster = codes "alice" }
 
 abbrev pub small_plan : Plan
-small_plan = plan_of 1
+small_plan = plan_of_nodes 1
 
 -- what the session was told, unit by unit
 abbrev pub greeted : Told

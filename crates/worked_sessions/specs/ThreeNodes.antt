@@ -28,11 +28,11 @@ use Rattle.session_model.specs.Run.{Made, IsDriven}
 use Rattle.session_model.specs.Run.Made.{Begins, Asks, Moves}
 use Rattle.session_model.specs.Run.Stop.{BehindLine}
 use Rattle.session_model.specs.Kept.{KeepsPromises}
-use Rattle.worked_sessions.specs.OneMessage.{plan_of, small_mail, small_octets, waiting, at_stored, told_lines, text_acts, text_entries, tells_stored}
+use Rattle.worked_sessions.specs.OneMessage.{plan_of_nodes, small_mail, small_octets, waiting, at_stored, told_lines, text_acts, text_entries, tells_stored}
 
 -- each message has three copies, and all of them are to be confirmed
 abbrev pub three_nodes : Plan
-three_nodes = plan_of 3
+three_nodes = plan_of_nodes 3
 
 -- Letters 1 and 2 carry the message to nodes 2 and 3. Node 2 answers letter 1 by letter 3 and, as it hears it again, by letter 4; node 3 answers letter 2 by letter 5.
 abbrev pub posted_lines : List (List ℕ)

@@ -11,9 +11,9 @@ with_all None more = None
 with_all (Some xs) more = Some (xs ++ more)
 
 -- the stores of the nodes from this one on, each with its shard and node
-abbrev pub numbered : {D : Type 0} → ℕ → List D → List (ℕ × ℕ × D)
-numbered node [] = []
-numbered node (disk ∷ disks) = (0, node, disk) ∷ numbered (node + 1) disks
+abbrev pub numbered_stores : {D : Type 0} → ℕ → List D → List (ℕ × ℕ × D)
+numbered_stores node [] = []
+numbered_stores node (disk ∷ disks) = (0, node, disk) ∷ numbered_stores (node + 1) disks
 
 -- the told list grew by these, one after another, or is told no more
 abbrev pub TellsAll : {X : Type 0} → Option (List X) → Option (List X) → List X → Type 0
@@ -60,7 +60,7 @@ TakesOne {D} seen faults node before now handed0 handed1 old new (Err NoMemory) 
 -- these were taken, are empty, and are kept
 pub record HasTaken {D : Type 0} (seen : D → Option (List ℕ)) (faults : D → ℕ) (handed0 handed1 : Option (List (ℕ × ℕ × D))) (disks : List D) : Type 0 where
   pub taken : List D
-  pub out : handed1 ≡ with_all handed0 (numbered 1 taken)
+  pub out : handed1 ≡ with_all handed0 (numbered_stores 1 taken)
   pub looked : AllLooked seen faults taken disks
 
 -- what taking them came to: all are there and empty; or the yard failed at the store of the next node, or the last of them did

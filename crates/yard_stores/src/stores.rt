@@ -1,6 +1,6 @@
 // The stores of a plan's nodes: taken from the yard in order of node, and given back so.
 ghost use Rattle.std.specs.Prelude.{◌≡◌, ◌<◌, ◌≤◌, ◌+◌, List, [], true, false, length, vec_len, vec_capacity, MatchBool};
-ghost use Rattle.yard_stores.specs.Taken.{with_all, numbered, TellsAll, TakesSo, TakesOne, Looked, DiskFailed};
+ghost use Rattle.yard_stores.specs.Taken.{with_all, numbered_stores, TellsAll, TakesSo, TakesOne, Looked, DiskFailed};
 
 use io_edge::{Disk, Yard, YardRefusal};
 
@@ -56,7 +56,7 @@ pub fn take_stores<Y: Yard>(
     requires none { disks.old.items ≡ [] }
     requires few { nodes ≤ 16 }
     requires room { nodes ≤ vec_capacity disks.old }
-    ensures taken { (taken : List Y.Store) × (Y.handed yard.new ≡ with_all (Y.handed yard.old) (numbered 1 taken))
+    ensures taken { (taken : List Y.Store) × (Y.handed yard.new ≡ with_all (Y.handed yard.old) (numbered_stores 1 taken))
         × TakesSo Y.Store.seen Y.Store.faults nodes (Y.faults yard.old) (Y.faults yard.new) taken disks.new.items result }
     ensures returned { Y.returned yard.new ≡ Y.returned yard.old }
     ensures few { length disks.new.items ≤ nodes }
@@ -73,7 +73,7 @@ pub fn take_stores<Y: Yard>(
 /// Gives all of them back, in order of node.
 pub fn give_back_all<Y: Yard>(yard: &mut Y, disks: Vec<Y::Store>)
     requires few { length disks.items ≤ 16 }
-    ensures returned { TellsAll (Y.returned yard.old) (Y.returned yard.new) (numbered 1 disks.items) }
+    ensures returned { TellsAll (Y.returned yard.old) (Y.returned yard.new) (numbered_stores 1 disks.items) }
     ensures handed { Y.handed yard.new ≡ Y.handed yard.old }
     ensures faults { Y.faults yard.new ≡ Y.faults yard.old }
 {

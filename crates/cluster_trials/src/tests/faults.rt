@@ -1,6 +1,6 @@
 // Each disk call of a delivery to three nodes fails in turn: only that node goes down, and what was answered stands on the others.
-ghost use Rattle.cluster_world.specs.Worlds.{IsReady};
-ghost use Rattle.cluster_trials.specs.Disks.{told_by};
+ghost use Rattle.cluster_world.specs.Worlds.{CanMakeSteps};
+ghost use Rattle.cluster_trials.specs.Disks.{octets_told};
 
 use crate::tests::steps::holds;
 use crate::tests::{make, node, opened_over};
@@ -52,8 +52,8 @@ fn says_down(entries: &[Entry], which: u8) -> bool {
 
 /// All letters are posted. It says which node went down.
 fn flow<D: Disk>(alloc: Global, world: &mut World<D>) -> Result<Option<NodeNo>, StepFault>
-    requires { IsReady D.seen world.old }
-    ensures { IsReady D.seen world.new }
+    requires { CanMakeSteps D.seen world.old }
+    ensures { CanMakeSteps D.seen world.new }
 {
     let fell = world.flow(alloc)?;
     if fell.is_some() && world.flow(alloc)?.is_some() {
@@ -64,7 +64,7 @@ fn flow<D: Disk>(alloc: Global, world: &mut World<D>) -> Result<Option<NodeNo>, 
 
 /// What the first message of node 1 comes to, and whether all that is as it is to be, where that node's disk fails at this call.
 fn delivers(alloc: Global, world: World<MemoryDisk>, which: u8) -> Result<Option<When>, StepFault>
-    requires ready { IsReady told_by world }
+    requires ready { CanMakeSteps octets_told world }
 {
     let mut world = world;
     let begun = make(alloc, &mut world, b'D', b'1', b'.')?;

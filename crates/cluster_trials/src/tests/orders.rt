@@ -1,6 +1,6 @@
 // All orders of the first six letters of one message, with every drop.
 ghost use Rattle.std.specs.Prelude.{◌≤◌};
-ghost use Rattle.cluster_world.specs.Worlds.{IsReady};
+ghost use Rattle.cluster_world.specs.Worlds.{CanMakeSteps};
 
 use crate::tests::steps::holds;
 use crate::tests::{digit, make, opened};
@@ -172,8 +172,8 @@ fn settle<D: Disk>(
     letter: Known,
     drops: bool,
 ) -> Result<bool, AllocError>
-    requires { IsReady D.seen world.old }
-    ensures { IsReady D.seen world.new }
+    requires { CanMakeSteps D.seen world.old }
+    ensures { CanMakeSteps D.seen world.new }
 {
     let number = digit(letter.number);
     if drops {
@@ -192,8 +192,8 @@ fn drive<D: Disk>(
     code: u32,
     left: u8,
 ) -> Result<bool, AllocError>
-    requires { IsReady D.seen world.old }
-    ensures { IsReady D.seen world.new }
+    requires { CanMakeSteps D.seen world.old }
+    ensures { CanMakeSteps D.seen world.new }
 {
     let count = course.flying.len();
     if left == 0 || count == 0 {
@@ -240,8 +240,8 @@ fn begun(alloc: Global, copies: u8) -> Result<Course, AllocError> {
 
 /// The same in a world.
 fn begin<D: Disk>(alloc: Global, world: &mut World<D>, copies: u8) -> Result<bool, AllocError>
-    requires { IsReady D.seen world.old }
-    ensures { IsReady D.seen world.new }
+    requires { CanMakeSteps D.seen world.old }
+    ensures { CanMakeSteps D.seen world.new }
 {
     Ok(
         make(alloc, world, b'D', b'1', b'.')? == *b"B1"

@@ -1,6 +1,6 @@
 // Each step on its happy path, and each refusal.
 ghost use Rattle.std.specs.Prelude.{◌<◌};
-ghost use Rattle.cluster_world.specs.Worlds.{IsReady};
+ghost use Rattle.cluster_world.specs.Worlds.{CanMakeSteps};
 
 use crate::tests::journals::journal;
 use crate::tests::{make, opened};
@@ -36,8 +36,8 @@ fn left_of<D: Disk>(
     world: &mut World<D>,
     rows: &[[u8; 6]],
 ) -> Result<usize, AllocError>
-    requires { IsReady D.seen world.old }
-    ensures { IsReady D.seen world.new }
+    requires { CanMakeSteps D.seen world.old }
+    ensures { CanMakeSteps D.seen world.new }
 {
     let Some((row, others)) = rows.split_first() else {
         return Ok(0);
@@ -81,8 +81,8 @@ fn each_step_answers(rt: HostRuntime) -> Result<(), Fail> {
 
 /// Posts the letter of this number so often, and keeps it.
 fn post_again<D: Disk>(alloc: Global, world: &mut World<D>, times: u32) -> Result<bool, AllocError>
-    requires { IsReady D.seen world.old }
-    ensures { IsReady D.seen world.new }
+    requires { CanMakeSteps D.seen world.old }
+    ensures { CanMakeSteps D.seen world.new }
 {
     for _ in 0..times {
         if make(alloc, world, b'K', b'1', b'.')? != *b"H." {

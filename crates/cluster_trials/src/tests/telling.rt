@@ -1,5 +1,5 @@
 // What a cluster tells of its letters, calls and members, and several steps in one call.
-ghost use Rattle.cluster_world.specs.Worlds.{IsReady};
+ghost use Rattle.cluster_world.specs.Worlds.{CanMakeSteps};
 
 use crate::tests::{first_id, make, node, opened, step_of, told};
 use cluster_world::{Step, World};
@@ -25,8 +25,8 @@ fn run<D: Disk>(
     world: &mut World<D>,
     rows: &[[u8; 3]],
 ) -> Result<Vec<u8>, AllocError>
-    requires { IsReady D.seen world.old }
-    ensures { IsReady D.seen world.new }
+    requires { CanMakeSteps D.seen world.old }
+    ensures { CanMakeSteps D.seen world.new }
 {
     let steps = steps_of(alloc, rows)?;
     let mut letters = Vec::new(alloc);
@@ -43,7 +43,7 @@ fn run<D: Disk>(
 
 /// What stands under the first ticket of node 1: nothing, or a delivery of its first message.
 fn delivery_stands<D: Disk>(world: &World<D>) -> Option<bool>
-    requires { IsReady D.seen world.now }
+    requires { CanMakeSteps D.seen world.now }
 {
     let ticket = Ticket::new(node(1), 1, 1);
     let kind = world.kind(&ticket)?;

@@ -7,7 +7,7 @@ ghost use Rattle.cluster_world.specs.Flights.{InFlight};
 ghost use Rattle.cluster_world.specs.Lives.{all_falls_left, CanWorkOn};
 ghost use Rattle.cluster_world.specs.Worlds.{state_with, life_among};
 ghost use Rattle.cluster_world.specs.Turns.{node_refusal};
-ghost use Rattle.cluster_world.specs.Asking.{IsUpWhole, AreForTicket, confirms, IsAsked};
+ghost use Rattle.cluster_world.specs.Asking.{IsUpWhole, AreForTicket, confirms, AsksNode};
 ghost use Rattle.cluster_world.specs.Steps.{StepDid, AreSettled};
 ghost use Rattle.cluster_world.specs.declared.step.Step.TheVariants as step;
 
@@ -56,7 +56,7 @@ fn entries_at(alloc: Global, life: &Life, ticket: &Ticket) -> Result<Vec<Entry>,
 /// Asks a node that is up.
 pub(crate) fn ask_at(life: &mut Life, ticket: &Ticket) -> Option<Ask>
     requires up { IsUpWhole life.old }
-    ensures { IsAsked ticket.now result life.old life.new }
+    ensures { AsksNode ticket.now result life.old life.new }
 {
     match life {
         Life::Up(node) => node.ask(ticket_of(ticket)),

@@ -11,7 +11,8 @@ ghost use Rattle.cluster_world.specs.Lives.{all_falls_left, CanWorkOn};
 ghost use Rattle.cluster_world.specs.Books.{entries_seen};
 ghost use Rattle.cluster_world.specs.Worlds.{state_with, life_among};
 ghost use Rattle.cluster_world.specs.Turns.{node_refusal};
-ghost use Rattle.cluster_world.specs.Begins.{BeginsAt, HasRule, struck_by, said_of_begin, said_of_fault, entries_of_fault, GoesOn, Concludes};
+ghost use Rattle.cluster_world.specs.Unfinished.{said_of_fault};
+ghost use Rattle.cluster_world.specs.Begins.{BeginsAt, HasRule, strikes_of_call, said_of_begin, entries_of_failure, GoesOn, Concludes};
 ghost use Rattle.cluster_world.specs.Missing.{SentOff};
 ghost use Rattle.cluster_world.specs.Changes.{ChangesNode};
 ghost use Rattle.cluster_world.specs.Steps.{StepDid, AreSettled};
@@ -95,7 +96,7 @@ fn all_struck(alloc: Global, user: &Name, items: &[Item]) -> Result<Vec<Entry>, 
 
 /// The entries of the book for what the call is to delete.
 fn struck_in(alloc: Global, call: &Call) -> Result<Vec<Entry>, AllocError>
-    ensures { IfOk result (λ entries. entries_seen entries.items ≡ struck_by (call_seen call.now)) }
+    ensures { IfOk result (λ entries. entries_seen entries.items ≡ strikes_of_call (call_seen call.now)) }
 {
     match call {
         Call::Strike { user, items } => all_struck(alloc, user, items.as_slice()),
@@ -178,7 +179,7 @@ fn tell_fault(
 ) -> Result<Said, StepFault>
     requires room { length entries.items < spare_of book.old }
     ensures said { result ≡ said_of_fault node why }
-    ensures entries { all_of book.new ≡ all_of book.old ++ entries_of_fault node entries.items why }
+    ensures entries { all_of book.new ≡ all_of book.old ++ entries_of_failure node entries.items why }
     ensures spare { spare_of book.old ≤ spare_of book.new + length entries.items + 1 }
 {
     match why {

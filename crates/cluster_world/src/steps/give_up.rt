@@ -5,7 +5,7 @@ ghost use Rattle.world_book.specs.declared.book.Book.{Book as ABook};
 ghost use Rattle.cluster_world.specs.Lives.{all_falls_left, CanWorkOn};
 ghost use Rattle.cluster_world.specs.Worlds.{state_with, life_among};
 ghost use Rattle.cluster_world.specs.Turns.{node_refusal};
-ghost use Rattle.cluster_world.specs.Asking.{IsUpWhole, IsRetold, StandsAt, left_without};
+ghost use Rattle.cluster_world.specs.Asking.{IsUpWhole, IsRetold, TicketStands, tickets_without};
 ghost use Rattle.cluster_world.specs.Steps.{StepDid, AreSettled};
 ghost use Rattle.cluster_world.specs.declared.step.Step.TheVariants as step;
 
@@ -22,7 +22,7 @@ use mail_base::Ticket;
 /// Whether the ticket stands at a node that is up.
 fn stands_at(life: &Life, ticket: &Ticket) -> bool
     requires up { IsUpWhole life.now }
-    ensures { StandsAt ticket.now result life.now }
+    ensures { TicketStands ticket.now result life.now }
 {
     match life {
         Life::Up(node) => node.kind(ticket_of(ticket)).is_some(),
@@ -33,7 +33,7 @@ fn stands_at(life: &Life, ticket: &Ticket) -> bool
 /// Gives a ticket up at a node that is up.
 pub(crate) fn give_up_at(life: &mut Life, ticket: &Ticket)
     requires up { IsUpWhole life.old }
-    ensures { IsRetold (left_without ticket.now) life.old life.new }
+    ensures { IsRetold (tickets_without ticket.now) life.old life.new }
 {
     match life {
         Life::Up(node) => {

@@ -8,7 +8,7 @@ ghost use Rattle.cluster_world.specs.Flights.{taken_out};
 ghost use Rattle.cluster_world.specs.Lives.{is_up_life, all_falls_left, CanWorkOn};
 ghost use Rattle.cluster_world.specs.Worlds.{life_among, state_with};
 ghost use Rattle.cluster_world.specs.Changes.{ChangesNode, IsTurnedTo};
-ghost use Rattle.cluster_world.specs.Posts.{out_of, HearsAt, mishap_of_thrown, mishap_of, IsEntered, IsNotedIf, AnswersSent, EndsHeard, EndsStopped, EndsPost};
+ghost use Rattle.cluster_world.specs.Posts.{out_of, HearsAtNode, mishap_of_thrown, mishap_of, IsEntered, IsNotedIf, AnswersSent, EndsHeard, EndsStopped, EndsPost};
 ghost use Rattle.cluster_world.specs.Steps.{StepDid, AreSettled};
 ghost use Rattle.cluster_world.specs.declared.life.Life.TheVariants as lives;
 ghost use Rattle.cluster_world.specs.declared.step.Step.TheVariants as step;
@@ -79,7 +79,7 @@ fn hear_in<D: Disk>(
     requires up { is_up_life (life_among nodes.old letter.now.to) ≡ true }
     requires works { CanWorkOn D.seen nodes.old.plan nodes.old.lives.items nodes.old.disks.items }
     requires spelt { CanBeTaken letter.now.body }
-    ensures hears { ChangesNode letter.now.to (HearsAt (view_of D.seen D.faults D.clock) D.settled nodes.old.plan letter.now.to letter.now result) nodes.old nodes.new }
+    ensures hears { ChangesNode letter.now.to (HearsAtNode (view_of D.seen D.faults D.clock) D.settled nodes.old.plan letter.now.to letter.now result) nodes.old nodes.new }
     ensures light { IfOk result (λ outbox. weight_of_all outbox.letters < weight_of letter.now) }
 {
     let place = place_of(receiver_of(letter));

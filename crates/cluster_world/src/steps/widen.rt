@@ -7,7 +7,8 @@ ghost use Rattle.cluster_world.specs.Lives.{all_falls_left, CanWorkOn};
 ghost use Rattle.cluster_world.specs.Worlds.{state_with, life_among};
 ghost use Rattle.cluster_world.specs.Turns.{node_refusal};
 ghost use Rattle.cluster_world.specs.Changes.{ChangesNode};
-ghost use Rattle.cluster_world.specs.Widens.{said_of_fault, entries_of_fault, said_of_widening, entries_of_widening, WidensAt};
+ghost use Rattle.cluster_world.specs.Unfinished.{said_of_fault};
+ghost use Rattle.cluster_world.specs.Widens.{entries_of_fault, said_of_widening, entries_of_widening, WidensAt};
 ghost use Rattle.cluster_world.specs.Steps.{StepDid, AreSettled};
 ghost use Rattle.cluster_world.specs.declared.step.Step.TheVariants as step;
 

@@ -3,7 +3,7 @@ use Rattle.std.proofs.lemmas.Result.{err_from_is_err_and}
 use Rattle.cluster_model.specs.Store.{take_all, here_updates}
 use Rattle.node_store.specs.Disks.{view_of}
 use Rattle.node_store.specs.Changes.{with_stored}
-use Rattle.node_store.specs.Writes.{Done, IsCutShort}
+use Rattle.node_store.specs.Writes.{Done, WorkIsCutShort}
 use Rattle.node_store.proofs.Journals.{fails_after}
 use Rattle.node_store.proofs.Grown.{all_grow}
 use Rattle.node_store.proofs.Works.{done_more, stopped_more, stopped_before}
@@ -30,7 +30,7 @@ returns-in_err-take_here-clause-wrote g c =
     rw (p.1, p.2) (
       stopped_more on (with_stored c.args.id c.args.users.now c.args.octets.now) (take_all c.args.store.now.own updates) c.args.store.now c.args.disk.now c.store_octets.new.self c.store_octets.new.disk
           c.take_here.new.disk first
-          (subst (λ (n : ℕ). IsCutShort on (take_all n updates) c.store_octets.new.self c.store_octets.new.disk c.take_here.new.disk) first.own w.0),
+          (subst (λ (n : ℕ). WorkIsCutShort on (take_all n updates) c.store_octets.new.self c.store_octets.new.disk c.take_here.new.disk) first.own w.0),
       fails_after _ _ _ _ first.appends.quiet w.1,
     )
 

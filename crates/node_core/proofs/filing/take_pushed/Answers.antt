@@ -3,7 +3,7 @@ use Rattle.std.proofs.lemmas.Result.{err_from_is_err_and}
 use Rattle.mail_base.specs.Seen.{key_seen}
 use Rattle.cluster_model.specs.Store.{Update, take_one}
 use Rattle.node_store.specs.Disks.{view_of}
-use Rattle.node_store.specs.Writes.{Done, IsCutShort}
+use Rattle.node_store.specs.Writes.{Done, WorkIsCutShort}
 use Rattle.node_store.proofs.Journals.{fails_after}
 use Rattle.node_store.proofs.Grown.{one_grows}
 use Rattle.node_store.proofs.Works.{done_more, stopped_more, stopped_before}
@@ -31,7 +31,7 @@ returns-in_err-take-clause-wrote g c =
     rw (p.1, p.2) (
       stopped_more on (with_pushed_octets (key_seen c.args.key.now) c.args.octets.now) (take_one c.args.store.now.own update) c.args.store.now c.args.disk.now c.store_pushed.new.store c.store_pushed.new.disk
           c.take.new.disk first
-          (subst (λ (n : ℕ). IsCutShort on (take_one n update) c.store_pushed.new.store c.store_pushed.new.disk c.take.new.disk) first.own w.0),
+          (subst (λ (n : ℕ). WorkIsCutShort on (take_one n update) c.store_pushed.new.store c.store_pushed.new.disk c.take.new.disk) first.own w.0),
       fails_after _ _ _ _ first.appends.quiet w.1,
     )
 

@@ -1,6 +1,6 @@
 use Rattle.std.proofs.Common.{refl, subst}
 use Rattle.node_core.specs.Nodes.{ChangesTickets}
-use Rattle.cluster_world.specs.Asking.{left_without}
+use Rattle.cluster_world.specs.Asking.{tickets_without}
 use Rattle.cluster_world.proofs.steps.give_up.give_up_at.Goals as goal
 
 pub returns-in-Up : goal.returns-in-Up
@@ -11,5 +11,5 @@ returns-in-Up c =
       new = c.give_up.new.self;
       was = c.in-Up.is;
       is = refl;
-      tickets = subst (λ t. ChangesTickets (left_without t node) node c.give_up.new.self) c.ticket_of.ensures c.give_up.ensures.tickets;
+      tickets = subst (λ t. ChangesTickets (tickets_without t node) node c.give_up.new.self) c.ticket_of.ensures c.give_up.ensures.tickets;
     }

@@ -13,7 +13,7 @@ use Rattle.cluster_model.specs.Rules.{letters_to, receivers, new_number}
 use Rattle.cluster_model.specs.Targets.{deliver_targets}
 use Rattle.cluster_model.specs.TicketLaws.{delivery_ticket}
 use Rattle.node_store.specs.Disks.{view_of}
-use Rattle.node_store.specs.Writes.{Done, IsCutShort}
+use Rattle.node_store.specs.Writes.{Done, WorkIsCutShort}
 use Rattle.node_tickets.specs.Seen.{filing_seen}
 use Rattle.node_tickets.specs.Standing.{tickets_in}
 use Rattle.node_core.specs.Nodes.{node_seen}
@@ -41,9 +41,9 @@ returns-in_err-file_where-clause-begins g c =
     ∙ ap (deliver_targets old.shape.copies old.store.own (old.numbers.drawn + 1)) c.requires.members in
     let users = subst (All IsLowerName) c.as_slice.ensures c.are_names.ensures in
     let count = subst (IsCount 16) targets (c.in_ok-targets.ensures.some c.requires.works.whole.shape.copies, c.in_ok-targets.ensures.bound) in
-    let cut = subst (λ (t : ℕ). IsCutShort on (filed_where old.store.own (next_id old) (next_stamp old) t mail.mailboxes octets) old.store c.args.disk.now c.file_where.new.disk) targets
-    (subst (λ (s : Stamp). IsCutShort on (filed_where old.store.own (next_id old) s c.in_ok-targets.targets mail.mailboxes octets) old.store c.args.disk.now c.file_where.new.disk) stamp.value
-    (subst (λ (i : Id). IsCutShort on (filed_where old.store.own i c.next_stamp-stamp.result c.in_ok-targets.targets mail.mailboxes octets) old.store c.args.disk.now c.file_where.new.disk) id w.0)) in
+    let cut = subst (λ (t : ℕ). WorkIsCutShort on (filed_where old.store.own (next_id old) (next_stamp old) t mail.mailboxes octets) old.store c.args.disk.now c.file_where.new.disk) targets
+    (subst (λ (s : Stamp). WorkIsCutShort on (filed_where old.store.own (next_id old) s c.in_ok-targets.targets mail.mailboxes octets) old.store c.args.disk.now c.file_where.new.disk) stamp.value
+    (subst (λ (i : Id). WorkIsCutShort on (filed_where old.store.own i c.next_stamp-stamp.result c.in_ok-targets.targets mail.mailboxes octets) old.store c.args.disk.now c.file_where.new.disk) id w.0)) in
     rw (p.1, p.2) (delivery_stopped on mail c.args.seconds old c.args.disk.now c.file_where.new.disk octets _ c.in_err-file_where.field-0.0
     (subst (λ (i : Id). IsStored mail i c.args.seconds octets) id c.in_ok-octets.ensures.stored) (subst IsId id c.is_id.ensures) (subst IsStamp stamp.value stamp.fits) count users cut w.1)
 

@@ -6,7 +6,7 @@ use Rattle.cluster_model.specs.Store.{take_all, gone_updates}
 use Rattle.cluster_model.specs.Rules.{hear_strike, drawn_past}
 use Rattle.node_store.specs.Disks.{view_of}
 use Rattle.node_store.specs.Keeps.{seen_with}
-use Rattle.node_store.specs.Writes.{Done, IsCutShort}
+use Rattle.node_store.specs.Writes.{Done, WorkIsCutShort}
 use Rattle.node_core.specs.Answering.{answers_to}
 use Rattle.node_core.proofs.Doing.{takes_did, takes_stopped}
 use Rattle.node_core.proofs.Fitting.{all_fit, gone_objects}
@@ -25,7 +25,7 @@ returns-in_err-take_gone-clause-wrote g c =
     let updates = gone_updates c.args.user.now (all_nodes nodes) c.args.marks.now in
     let everyone = c.everyone-targets.ensures in
     let w = c.in_err-take_gone.ensures.wrote in
-    let cut = subst (λ (t : ℕ). IsCutShort on (take_all own (gone_updates c.args.user.now t c.args.marks.now)) c.args.self.now.store c.args.disk.now c.take_gone.new.disk) everyone.value w.0 in
+    let cut = subst (λ (t : ℕ). WorkIsCutShort on (take_all own (gone_updates c.args.user.now t c.args.marks.now)) c.args.self.now.store c.args.disk.now c.take_gone.new.disk) everyone.value w.0 in
     let some = subst (λ (t : ℕ). (0 < t) × (t < 2 ^ 16)) everyone.value (everyone.some, everyone.bound) in
     λ letter. rw (p.1, p.2) (
       takes_stopped on (λ node disk. hear_strike own nodes node disk letter c.args.user.now c.args.marks.now) (take_all own updates) updates (answers_to letter (Strike c.args.user.now c.args.marks.now))

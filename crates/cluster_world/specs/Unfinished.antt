@@ -1,0 +1,14 @@
+-- What is said where a node did not do its work, or did not end it.
+use Rattle.std.specs.Prelude.{ℕ, true, false, Some, None, Result, Ok, Err}
+use Rattle.node_core.specs.declared.fault.NodeFault.{NodeFault}
+use Rattle.node_core.specs.declared.fault.NodeFault.TheVariants.{Disk, Worn, NoMemory}
+use Rattle.cluster_world.specs.declared.step.Said.{Said}
+use Rattle.cluster_world.specs.declared.step.Said.TheVariants.{Faulted}
+use Rattle.cluster_world.specs.declared.fault.StepFault.{StepFault}
+use Rattle.cluster_world.specs.declared.fault.StepFault.TheVariants as fault
+
+abbrev pub said_of_fault : ℕ → NodeFault → Result Said StepFault
+said_of_fault n Disk = Ok (Faulted n)
+said_of_fault n Worn = Err fault.Worn
+said_of_fault n (NoMemory true) = Err (fault.NoMemory (Some n))
+said_of_fault n (NoMemory false) = Err (fault.NoMemory None)
