@@ -145,8 +145,6 @@ mod reply;
 mod row;
 mod sessions;
 mod talker;
-#[cfg(test)]
-mod tests;
 
 pub use driver::{TAPE_OCTETS, drive};
 pub use drove::{Drove, Stop, TapeFault};

@@ -85,6 +85,3 @@ mod throwing;
 pub use fault::NodeFault;
 pub use node::Node;
 pub use outbox::{Outbox, Why};
-
-#[cfg(test)]
-mod tests;

@@ -81,8 +81,6 @@ mod listing;
 mod reply;
 mod session;
 mod stage;
-#[cfg(test)]
-mod tests;
 mod text;
 
 pub use laws::{asks_behind_user, listed_once, marked_is_none, numbered_alike, numbers_stay};

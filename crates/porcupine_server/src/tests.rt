@@ -5,6 +5,7 @@ mod clusters;
 mod command_line;
 mod crashes;
 mod deletions;
+mod driving;
 mod examples;
 mod faults;
 mod maildrops;

@@ -72,8 +72,6 @@
 mod envelope;
 mod reply;
 mod session;
-#[cfg(test)]
-mod tests;
 mod text;
 mod told;
 

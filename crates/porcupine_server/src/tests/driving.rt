@@ -1,10 +1,10 @@
-// Small tapes with what the description of tapes gives for them, and each public call once.
+// Small tapes over a cluster that is open already, with what the description of tapes gives for them, what the book then has,
+// and how lines are written.
 ghost use Rattle.std.specs.Prelude.{◌≡◌, IfSome, IfOk, []};
 ghost use Rattle.cluster_world.specs.Opens.{AreEmpty};
 
-use crate::reader::next_line;
-use crate::{Drove, Entry, LineStop, Row, TapeFault, drive, read_drive_head, write_entries};
 use cluster_world::World;
+use drive_tape::{Drove, Entry, Row, TapeFault, drive, read_drive_head, write_entries};
 use io_edge::faulty::{FaultySink, FaultySource};
 use io_edge::{Disk, PlainDisk, Sink, SliceSource, Source, VecSink};
 use mail_base::Octets;
@@ -302,23 +302,17 @@ fn streams_fail(rt: HostRuntime) -> Result<(), Fail> {
 }
 
 #[test]
-fn lines_are_cut(rt: HostRuntime) -> Result<(), Fail> {
-    let mut source = SliceSource::new(b"ab\r\ncd");
-    let mut room = 6;
-    match next_line(rt.alloc(), &mut source, &mut room) {
-        Ok(line) => assert_eq!(rt; line.octets(), b"ab\r".as_slice()),
-        Err(_) => panic!(rt; "no line"),
-    }
-    assert_eq!(rt; room, 2);
-    assert!(rt;
-        next_line(rt.alloc(), &mut source, &mut room).is_err_and(|why| why == LineStop::TooLong)
+fn a_line_needs_its_lf(rt: HostRuntime) -> Result<(), Fail> {
+    let alloc = rt.alloc();
+    let tape = joined(alloc, PLAN, b"open smtp 1\nsay 1 QUIT")?;
+    let mut sink = VecSink::new(alloc);
+    let disks = alone(alloc, PlainDisk::new(alloc))?;
+    let (answer, _) = run(alloc, &mut SliceSource::new(&tape), &mut sink, disks);
+    assert_eq!(rt; answer, Drove::BadTape(9, TapeFault::BadLine));
+    assert_eq!(rt;
+        sink.held.as_slice(),
+        b"1 220 node1 Porcupine ready\n".as_slice()
     );
-    let mut more = 3;
-    assert!(rt;
-        next_line(rt.alloc(), &mut SliceSource::new(b"cd"), &mut more).is_err_and(|why| why
-            == LineStop::EndedEarly)
-    );
-    assert_eq!(rt; more, 1);
     Ok(())
 }
 

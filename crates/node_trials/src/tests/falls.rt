@@ -1,7 +1,7 @@
 // A disk that fails in the midst of a node's work, and the node that starts again over what is left; and journals that are there.
 use super::lines::node_at;
 use super::{acts, plays, started};
-use crate::{Node, NodeFault};
+use node_core::{Node, NodeFault};
 use node_disk::{Image, MemoryDisk};
 use std::alloc::Global;
 use std::process::Abort;

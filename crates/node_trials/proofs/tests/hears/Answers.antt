@@ -2,7 +2,7 @@ use Rattle.std.specs.Prelude.{Ok, Err}
 use Rattle.std.proofs.lemmas.Result.{err_from_is_err_and}
 use Rattle.node_store.specs.Disks.{view_of}
 use Rattle.node_core.proofs.Going.{hearing_goes_on}
-use Rattle.node_core.proofs.tests.hears.Goals as goal
+use Rattle.node_trials.proofs.tests.hears.Goals as goal
 
 pub returns-in_err-outbox : goal.returns-in_err-outbox
 returns-in_err-outbox g c =

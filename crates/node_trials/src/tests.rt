@@ -31,7 +31,6 @@ ghost use Rattle.node_core.specs.Nodes.{CanWork, IsWhole};
 ghost use Rattle.node_core.specs.Spelling.{CanBeTaken};
 ghost use Rattle.node_core.specs.Works.{LeavesUp};
 
-use crate::{Node, NodeFault};
 use call_tickets::Call;
 use io_edge::Disk;
 use lines::{
@@ -39,6 +38,7 @@ use lines::{
     node_at, room_at, secret_of, ticket_at,
 };
 use mail_base::{Letter, MsgId, Name, NodeNo, Plan, Users};
+use node_core::{Node, NodeFault};
 use node_disk::MemoryDisk;
 use node_tickets::MishapKind;
 use says::{one, say_ask, say_ids, say_outbox, say_state, say_ticket, say_whether};

@@ -2,11 +2,11 @@
 ghost use Rattle.node_core.specs.Nodes.{IsWhole};
 
 use super::lines::{ROW, id_at, named, node_at, object_at};
-use crate::{Node, Outbox, Why};
 use call_tickets::{Answer, Ask};
 use mail_base::{
     Body, CallKind, Items, Key, Letter, MsgId, ObjState, Octets, Stamp, Ticket, Value,
 };
+use node_core::{Node, Outbox, Why};
 use std::alloc::{AllocError, Global};
 
 pub(super) fn one(number: u64) -> u8 {

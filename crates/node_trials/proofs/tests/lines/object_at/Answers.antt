@@ -2,7 +2,7 @@ use Rattle.std.proofs.Common.{sym, subst}
 use Rattle.mail_model.specs.Identity.{State}
 use Rattle.mail_model.specs.Identity.Key.{Profile, Message}
 use Rattle.mail_model.specs.Grammar.{IsObject}
-use Rattle.node_core.proofs.tests.lines.object_at.Goals as goal
+use Rattle.node_trials.proofs.tests.lines.object_at.Goals as goal
 
 pub returns-then-at-eq120 : goal.returns-then-at-eq120
 returns-then-at-eq120 c =

@@ -3,7 +3,7 @@ use Rattle.std.proofs.lemmas.Result.{err_from_is_err_and}
 use Rattle.node_core.specs.Beginning.{call_seen}
 use Rattle.node_store.specs.Disks.{view_of}
 use Rattle.node_core.proofs.Going.{beginning_goes_on}
-use Rattle.node_core.proofs.tests.begins.Goals as goal
+use Rattle.node_trials.proofs.tests.begins.Goals as goal
 
 pub returns-in_err-begun : goal.returns-in_err-begun
 returns-in_err-begun g c =

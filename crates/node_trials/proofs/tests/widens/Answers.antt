@@ -3,7 +3,7 @@ use Rattle.std.proofs.lemmas.Result.{err_from_is_err_and}
 use Rattle.mail_model.specs.Identity.Key.{Message}
 use Rattle.node_store.specs.Disks.{view_of}
 use Rattle.node_core.proofs.Going.{widening_goes_on}
-use Rattle.node_core.proofs.tests.widens.Goals as goal
+use Rattle.node_trials.proofs.tests.widens.Goals as goal
 
 pub returns-in_err-did : goal.returns-in_err-did
 returns-in_err-did g c =

@@ -1,7 +1,7 @@
 // A client of node 1, and the node that stores its messages.
-use crate::SmtpSession;
 use call_tickets::{Answer, Call, Mishaps, Move};
 use mail_base::{Deliver, MsgId, Name, NodeNo, NodeSet, Plan, Secret, Users};
+use smtp_session::SmtpSession;
 use std::alloc::{AllocError, Global};
 use std::process::Abort;
 use std::test::Fail;

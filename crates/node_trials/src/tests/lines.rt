@@ -1,14 +1,13 @@
 // What the lines of a table say.
 ghost use Rattle.std.specs.Prelude.{◌≡◌, ◌<◌, ◌≤◌, ◌^◌, length, true, IfOk, IsTrue};
-ghost use Rattle.mail_model.specs.Grammar.{IsObject, IsStamp};
-ghost use Rattle.mail_model.specs.Names.{is_secret};
+ghost use Rattle.mail_model.specs.Grammar.{IsId, IsObject, IsStamp};
+ghost use Rattle.mail_model.specs.Names.{IsLowerName, is_secret};
 ghost use Rattle.mail_model.specs.Lines.{ends_in_crlf};
 ghost use Rattle.mail_base.specs.Bodies.{body_seen};
 ghost use Rattle.mail_base.specs.Seen.{key_seen};
 ghost use Rattle.node_core.specs.Beginning.{IsTextEnded, call_seen};
 ghost use Rattle.node_core.specs.Spelling.{CanBeTaken};
 
-use crate::spelling::{is_id, is_name, stamp_of};
 use call_tickets::Call;
 use mail_base::{
     Body, Deliver, EpochId, Ids, Item, Items, Key, Letter, MsgId, Name, Names, NodeNo, NodeSet,
@@ -51,7 +50,7 @@ pub(super) fn id_at(line: &[u8]) -> MsgId {
 fn stamp_at(line: &[u8]) -> Stamp
     ensures { IsStamp result }
 {
-    stamp_of(u64::from(digit(line, 8)), 1, node_at(line, 9))
+    Stamp::new(u64::from(digit(line, 8)), 1, node_at(line, 9).number())
 }
 
 fn targets_at(line: &[u8]) -> NodeSet
@@ -95,6 +94,22 @@ fn is_fit(secret: &Secret)
     ensures { IsTrue (is_secret secret.now) }
 {
     let _octets = secret.octets();
+}
+
+// A name is in lower case.
+fn is_name(name: &Name)
+    ensures { IsLowerName name.now }
+{
+    let _octets = name.octets();
+}
+
+// An id is within its limits.
+fn is_id(id: MsgId)
+    ensures { IsId id }
+{
+    let _node = id.node().number();
+    let _boot = id.boot();
+    let _seq = id.seq();
 }
 
 /// Ann's copy of the message, or her profile.

@@ -1,10 +1,10 @@
 // A client, and the node that answers its calls.
 use super::{FIRST_MESSAGE, Message};
-use crate::PopSession;
 use call_tickets::{Answer, Call, Mishaps, Move};
 use mail_base::{
     Item, Items, MsgId, Name, NodeNo, NodeSet, Octets, Plan, Proof, Secret, Stamp, Ticket, Users,
 };
+use pop_session::PopSession;
 use std::alloc::{AllocError, Global};
 use std::process::Abort;
 use std::test::Fail;

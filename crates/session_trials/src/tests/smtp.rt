@@ -3,9 +3,9 @@
 mod client;
 mod tables;
 
-use crate::Reply;
 use client::{Client, has_said, is_said, user};
 use mail_base::NodeNo;
+use smtp_session::Reply;
 use std::alloc::{AllocError, Global};
 use std::process::Abort;
 use std::test::Fail;

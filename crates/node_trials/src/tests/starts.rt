@@ -3,8 +3,8 @@ ghost use Rattle.std.specs.Prelude.{◌≤◌, length};
 
 use super::lines::node_at;
 use super::{plays, started};
-use crate::NodeFault;
 use io_edge::PlainDisk;
+use node_core::NodeFault;
 use std::alloc::{AllocError, Global};
 use std::process::Abort;
 use std::test::Fail;

@@ -1,0 +1,3 @@
+//! Tests of sessions, each kind by tables.
+mod pop;
+mod smtp;
