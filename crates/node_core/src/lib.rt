@@ -28,8 +28,8 @@
 //! A letter is heard by reference: where it is refused for want of memory it can be heard again. Octets are moved into the
 //! journal's write, and are not copied for each user.
 //!
-//! `state`, `ids`, `is_settled`, `kind`, `wants`, `waiting`, `filing`, `is_done`, `own`, `boot` and `epoch` tell what the node has,
-//! and change nothing.
+//! `state`, `ids`, `is_settled`, `kind`, `wants`, `waiting`, `filing`, `is_done`, `own`, `boot`, `epoch` and `store` tell what
+//! the node has, and change nothing.
 //!
 //! DIAGNOSTICS
 //!

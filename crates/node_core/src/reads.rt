@@ -14,6 +14,7 @@ ghost use Rattle.node_core.specs.Nodes.{node_seen, NodeKeeps, IsWhole};
 use crate::node::Node;
 use crate::nodes::node_of;
 use mail_base::{EpochId, Ids, Key, Name, NodeNo, NodeSet, ObjState};
+use node_store::NodeStore;
 use std::alloc::{AllocError, Global};
 
 impl Node {
@@ -36,6 +37,13 @@ impl Node {
         ensures { result ≡ epoch_of (node_seen self.now) }
     {
         EpochId::new(1, 1)
+    }
+
+    /// What the node keeps: its journal, the octets of messages, the states of objects and to whom they are owed.
+    pub fn store(&self) -> &NodeStore
+        ensures { result.now ≡ self.now.store }
+    {
+        &self.store
     }
 
     /// What the disk says of the object. It takes no memory, and asks nothing of the disk.

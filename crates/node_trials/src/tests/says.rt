@@ -217,12 +217,12 @@ pub(super) fn say_state(
     out.push(b' ')?;
     out.extend_from_slice(&row[4..14])?;
     out.push(b' ')?;
-    out.push(if node.store.length(id_at(line)).is_some() {
+    out.push(if node.store().length(id_at(line)).is_some() {
         b'o'
     } else {
         b'-'
     })?;
-    if let Some(entry) = node.store.entry(&key) {
+    if let Some(entry) = node.store().entry(&key) {
         for number in [b'1', b'2', b'3'] {
             if entry.remaining.has(node_at(&[number], 0)) {
                 out.push(number)?;
