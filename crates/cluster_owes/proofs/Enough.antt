@@ -3,14 +3,15 @@ use Rattle.std.proofs.Common.{◌≡◌, ◌⊎◌, inl, inr, ⊎_elim, ◌≤�
 use Rattle.std.specs.Prelude.{slice_get}
 use Rattle.mail_model.specs.Identity.{Id}
 use Rattle.mail_model.specs.Identity.Key.{Message}
+use Rattle.mail_model.specs.Deleted.{IsCopyOf}
 use Rattle.mail_model.specs.Plan.{Plan}
 use Rattle.mail_model.specs.Record.{Record, SaysGone}
-use Rattle.mail_model.specs.Book.{Acked, BookEntry}
+use Rattle.mail_model.specs.Book.{Acked, BookEntry, acked_in, struck_in}
 use Rattle.mail_model.specs.Book.BookEntry.{Acknowledged, Struck, Dropped, WentDown, CameUp, WasLost}
 use Rattle.object_model.specs.Lists.{Among}
 use Rattle.object_model.specs.Sets.{has, count_in, nodes_in}
 use Rattle.session_model.specs.Copies.{OnNode, OnEnough, AreGoneOn, DroppedAreGone}
-use Rattle.session_model.specs.Books.{IsConfirmed, AreConfirmed}
+use Rattle.session_model.specs.Books.{IsConfirmed, AreConfirmed, IsAsBooked, AreAsBooked}
 use Rattle.cluster_model.specs.Cluster.{Slot, slot_at}
 use Rattle.cluster_model.specs.Cluster.Life.{Lost}
 use Rattle.cluster_model.specs.Laws.{KeepsCopyOf, LacksCopy}
@@ -71,6 +72,34 @@ module _ (plan : Plan) (lost : ℕ → Type 0) (disks : List (List Record)) (w :
         rising = list_rises copy.confirmers 64 plan.nodes (λ n h. let s : KeepsCopyOf copy w.slots n = k.1 n h in (in_plan n s.slot s.here).within);
         enough = subst (λ c. plan.confirm ≤ c) (sym (count_is copy.confirmers 64)) k.0;
       }
+
+  -- it stands as the book says on each node that confirmed it, where the book has each copy that is gone among those that were to be deleted
+  module _ (whole : List BookEntry)
+      (struck : (m : ℕ) (slot : Slot) → slot_at w.slots m ≡ Some slot → (user : List ℕ) (id : Id) → SaysGone (Message user id) slot.disk → IsCopyOf user id (struck_in whole)) where
+    acked_on : (copy : Acked) → Among (Acknowledged copy) w.book → OnEnough plan lost disks (IsAsBooked whole copy) (nodes_in copy.confirmers 64)
+    acked_on copy m =
+        let k = acknowledged_kept plan.confirm (cluster_of w) sound copy m in
+        on_enough (IsAsBooked whole copy) copy.confirmers k.0 (λ n h. let s : KeepsCopyOf copy w.slots n = k.1 n h in
+        record {
+          slot = s.slot;
+          here = s.here;
+          so = ⊎_elim
+              (λ gone. inl gone)
+              (λ other. inr (⊎_elim (λ stands. inl stands) (λ gone. inr (gone, struck n s.slot s.here copy.user copy.id gone)) other))
+              s.stands;
+        })
+
+    pub all_stand : (book : List BookEntry) → AreMasked book → ((entry : BookEntry) → Among entry book → Among entry w.book) → AreAsBooked plan lost disks whole (acked_in book)
+    all_stand [] masked within = tt
+    all_stand (Acknowledged copy ∷ book) masked within = (
+      (nodes_in copy.confirmers 64, sym (mask_is 64 copy.confirmers (le_refl 64) masked.0), acked_on copy (within (Acknowledged copy) (inl refl))),
+      all_stand book masked.1 (λ entry m. within entry (inr m)),
+    )
+    all_stand (Dropped user id confirmers ∷ book) masked within = all_stand book masked.1 (λ entry m. within entry (inr m))
+    all_stand (Struck user id ∷ book) masked within = all_stand book masked (λ entry m. within entry (inr m))
+    all_stand (WentDown node ∷ book) masked within = all_stand book masked (λ entry m. within entry (inr m))
+    all_stand (CameUp node boot ∷ book) masked within = all_stand book masked (λ entry m. within entry (inr m))
+    all_stand (WasLost node ∷ book) masked within = all_stand book masked (λ entry m. within entry (inr m))
 
   pub all_confirmed : (book : List BookEntry) → AreMasked book → ((entry : BookEntry) → Among entry book → Among entry w.book) → AreConfirmed plan book
   all_confirmed [] masked within = tt

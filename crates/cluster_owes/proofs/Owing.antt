@@ -10,7 +10,8 @@ use Rattle.mail_model.specs.Mail.{IsStored}
 use Rattle.mail_model.specs.Plan.{Plan}
 use Rattle.mail_model.specs.Record.{Record, SaysHere, SaysGone, HoldsOctets}
 use Rattle.mail_model.specs.Record.Record.{Octets, Stated}
-use Rattle.mail_model.specs.Book.{Acked, acked_in, copies_acked}
+use Rattle.mail_model.specs.Deleted.{IsCopyOf}
+use Rattle.mail_model.specs.Book.{Acked, acked_in, struck_in, copies_acked}
 use Rattle.mail_model.specs.Book.BookEntry.{Acknowledged, Struck, Dropped}
 use Rattle.mail_model.specs.Lines.{closed}
 use Rattle.mail_model.specs.Stored.{Ack}
@@ -38,7 +39,7 @@ use Rattle.cluster_owes.specs.Held.{IsHeld, AreHeld, AreCounted, IsLostAt, filed
 use Rattle.cluster_owes.proofs.Settled.{IsSettled, settle, held_at, disk_at}
 use Rattle.cluster_owes.proofs.Known.{IsOnDisk, greatest, AckStands, Known}
 use Rattle.cluster_owes.proofs.Lookups.{got_among, in_grammar, filed_found, holds_among, acked_among, struck_among, dropped_among, copies_of_ack, struck_call, dropped_answer, taken_all, closed_is}
-use Rattle.cluster_owes.proofs.Enough.{SoOn, on_enough, gone_on, all_gone, all_confirmed}
+use Rattle.cluster_owes.proofs.Enough.{SoOn, on_enough, gone_on, all_gone, all_stand, all_confirmed}
 
 module _ (plan : Plan) (tells : Bool) (lines : List (List ℕ)) (asked : List Asked) (answered : List Answered) (begun : List BegunCall) (last : World) (known : Known plan tells lines asked answered begun last)
     (lost : ℕ → Type 0) (lost_so : (n : ℕ) → IsLostAt last.slots n → lost n) (stores : List (Option (List ℕ))) (disks : List (List Record)) (held : AreHeld last.slots disks) (are : AreDisks 1 stores disks)
@@ -163,15 +164,18 @@ module _ (plan : Plan) (tells : Bool) (lines : List (List ℕ)) (asked : List As
   owes_stored = record { stand = each_stands (flat_map acks_by answered) (λ ack m. m); other_ids = known.other_ids }
 
   -- deletions
-  asked_for : (n : ℕ) (user : List ℕ) (id : Id) → IsGoneIn disks n user id → Among (Struck user id) last.book
-  asked_for n user id (records, e, gone) =
-      let s = slot_of n records e in
+  struck_on : (m : ℕ) (slot : Slot) → slot_at w.slots m ≡ Some slot → (user : List ℕ) (id : Id) → SaysGone (Message user id) slot.disk → Among (Struck user id) last.book
+  struck_on m slot at user id gone =
       let one = Stated (Message user id) (record { value = Gone; stamp = gone.stamp; targets = gone.targets }) in
-      subst (Among (Struck user id)) settled.book (sound.deletions.disks (suc n) s.0 s.1 user id (inl (record {
+      subst (Among (Struck user id)) settled.book (sound.deletions.disks m slot at user id (inl (record {
         one = one;
-        inside = among_front one s.0.disk (pending_of s.0.life) (subst (Among one) (sym s.2) (among_of one records gone.gone));
+        inside = among_front one slot.disk (pending_of slot.life) (among_of one slot.disk gone.gone);
         speaks = record { state = record { value = Gone; stamp = gone.stamp; targets = gone.targets }; is = inl refl; gone = refl };
       })))
+
+  asked_for : (n : ℕ) (user : List ℕ) (id : Id) → IsGoneIn disks n user id → Among (Struck user id) last.book
+  asked_for n user id (records, e, gone) =
+      let s = slot_of n records e in struck_on (suc n) s.0 s.1 user id (subst (SaysGone (Message user id)) (sym s.2) gone)
 
   pub owes_deletions : OwesDeletions plan lost disks asked answered
   owes_deletions = record {
@@ -209,9 +213,16 @@ module _ (plan : Plan) (tells : Bool) (lines : List (List ℕ)) (asked : List As
   }
 
   -- the book
+  copy_among : (user : List ℕ) (id : Id) (copies : List (List ℕ × Id)) → Among (user, id) copies → IsCopyOf user id copies
+  copy_among user id [] m = m
+  copy_among user id (copy ∷ copies) m = ⊎_elim (λ same. inl same) (λ later. inr (copy_among user id copies later)) m
+
   pub owes_book : OwesBook plan lines lost disks asked answered last.book
   owes_book = record {
     is_book = known.book_is;
     confirmed = all_confirmed plan lost disks w sound in_plan at_disk lost_is last.book known.masked (λ entry m. subst (Among entry) (sym settled.book) m);
+    stand = all_stand plan lost disks w sound in_plan at_disk lost_is last.book
+        (λ m slot at user id gone. copy_among user id (struck_in last.book) (struck_among last.book user id (struck_on m slot at user id gone)))
+        last.book known.masked (λ entry m. subst (Among entry) (sym settled.book) m);
     dropped = all_gone plan lost disks w sound in_plan at_disk lost_is last.book known.masked (λ entry m. subst (Among entry) (sym settled.book) m);
   }

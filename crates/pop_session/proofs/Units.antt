@@ -12,7 +12,7 @@ use Rattle.mail_model.specs.Session.{is_long_line}
 use Rattle.mail_model.specs.Session.Unit.{Line, Text}
 use Rattle.mail_model.specs.Told.{IsUnit, HasNoUnit}
 use Rattle.mail_model.specs.Maildrop as drops
-use Rattle.mail_model.specs.Maildrop.{LineOutcome, line_outcome, after_line}
+use Rattle.mail_model.specs.Maildrop.{line_outcome, after_line}
 use Rattle.mail_model.specs.Pop.{pop_command_of}
 use Rattle.session_model.specs.Calls as calls
 use Rattle.session_model.specs.Talk as talks

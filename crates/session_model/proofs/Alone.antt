@@ -222,7 +222,7 @@ dropped_gone plan lost disks (Dropped user id confirmers ∷ book) one sure gone
     ((1 ∷ [], by_one.0, subst (AreGoneOn plan lost disks user id) alone first.1), dropped_gone plan lost disks book one sure (λ name other copy. gone name other (inr copy)) by_one.1)
 
 pub one_node_promises : OneNodePromises
-one_node_promises plan tells stop handled left acts others made entries ending sessions served last store book one sure driven ends serves records holds were answered is_book by_one =
+one_node_promises plan tells stop handled left acts others made entries ending sessions served last store book one sure driven ends serves records holds were answered is_book by_one stand =
     owed_is_kept plan tells stop handled left acts others made entries ending sessions (store ∷ []) (last.records ∷ []) (λ id. octets_in id last.records) (asked_of served) book driven ends were
     (subst (λ (l : List Answered). Owes plan tells lines lost (store ∷ []) (last.records ∷ []) (λ id. octets_in id last.records) (asked_of served) l book) answered owes)
   where
@@ -254,6 +254,7 @@ one_node_promises plan tells stop handled left acts others made entries ending s
       books = record {
         is_book = is_book;
         confirmed = confirmed_by_one plan book one sure by_one;
+        stand = stand;
         dropped = dropped_gone plan lost (last.records ∷ []) book one sure (λ user id copy.
             let found = dropped_answered user id (answered_of served) (subst (IsCopyOf user id) is_book.dropped copy) in node.0.gone found.0 user found.1 id found.2 found.3) by_one;
       };

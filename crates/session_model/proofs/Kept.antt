@@ -286,6 +286,7 @@ owed_is_kept plan tells stop handled left acts others made entries ending last s
     of_sessions = λ k session at. ap (mails_in k) acked.are ∙ of_session plan lines (entries ++ ending) done sessions shows k session at;
   };
   struck_as_marked = struck plan lines (entries ++ ending) done sessions shows stop disks begun book facts were owes.books.is_book;
+  acknowledged_stand = owes.books.stand;
   dropped_are_gone = owes.books.dropped;
 }
   where

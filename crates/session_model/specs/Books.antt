@@ -1,15 +1,18 @@
 -- The book of a cluster, against what the clients of a tape did and were told.
 use Rattle.std.specs.Prelude.{◌≡◌, ◌⊎◌, ℕ, ◌≤◌, List, [], ◌∷◌, ◌++◌, length, flat_map, map, ⊤, Some}
+use Rattle.sha2.specs.Sha256.{sha256}
 use Rattle.mail_model.specs.Identity.{Id}
+use Rattle.mail_model.specs.Identity.Key.{Message}
 use Rattle.mail_model.specs.Plan.{Plan}
 use Rattle.mail_model.specs.Tape.Protocol.{Pop}
 use Rattle.mail_model.specs.Transcript.{Entry}
 use Rattle.mail_model.specs.PopReplies.{one_line}
 use Rattle.mail_model.specs.Maildrop.{bye_text}
 use Rattle.mail_model.specs.Stored.{Ack, HaveOtherIds, AreRising, mails_in}
-use Rattle.mail_model.specs.Book.{BookEntry, AreCopies, acked_in, struck_in, dropped_in}
+use Rattle.mail_model.specs.Record.{Record, SaysHere, SaysGone, HoldsOctets}
+use Rattle.mail_model.specs.Book.{Acked, BookEntry, AreCopies, acked_in, struck_in, dropped_in}
 use Rattle.mail_model.specs.Book.BookEntry.{Acknowledged}
-use Rattle.mail_model.specs.Deleted.{IsMarked, mask_of}
+use Rattle.mail_model.specs.Deleted.{IsMarked, IsCopyOf, mask_of}
 use Rattle.session_model.specs.Calls.{Call, Answer}
 use Rattle.session_model.specs.Calls.Call.{Strike}
 use Rattle.session_model.specs.Calls.Answer.{Dropped}
@@ -18,6 +21,7 @@ use Rattle.session_model.specs.Mailing.{filing_of, filings}
 use Rattle.session_model.specs.Reading.{IsQuitUnit, all_seen}
 use Rattle.session_model.specs.Sessions.{Session, session_at, exchanges_of}
 use Rattle.session_model.specs.Facts.{ack_of}
+use Rattle.session_model.specs.Copies.{OnEnough}
 use Rattle.session_model.specs.Promises.{Deletes}
 use Rattle.session_model.specs.Logs.{Asked, Answered}
 use Rattle.session_model.specs.Run.{Stop}
@@ -55,6 +59,22 @@ abbrev pub AreConfirmed : Plan → List BookEntry → Type 0
 AreConfirmed plan [] = ⊤
 AreConfirmed plan (Acknowledged copy ∷ book) = IsConfirmed plan copy.confirmers × AreConfirmed plan book
 AreConfirmed plan (entry ∷ book) = AreConfirmed plan book
+
+-- The copy is here with octets of the size and of the digest that the book has; or it is gone, and the book has it among those that were to be deleted.
+abbrev pub IsAsBooked : List BookEntry → Acked → List Record → Type 0
+IsAsBooked book copy records =
+    (SaysHere (Message copy.user copy.id) records × ((octets : List ℕ) × HoldsOctets copy.id octets records × (copy.size ≡ length octets) × (copy.digest ≡ sha256 octets)))
+    ⊎ (SaysGone (Message copy.user copy.id) records × IsCopyOf copy.user copy.id (struck_in book))
+
+-- so is each of these copies, on each node that confirmed it
+abbrev pub AreAsBooked : Plan → (ℕ → Type 0) → List (List Record) → List BookEntry → List Acked → Type 0
+AreAsBooked plan lost disks book [] = ⊤
+AreAsBooked plan lost disks book (copy ∷ copies) =
+    ((nodes : List ℕ) × (copy.confirmers ≡ mask_of nodes) × OnEnough plan lost disks (IsAsBooked book copy) nodes) × AreAsBooked plan lost disks book copies
+
+-- Each copy that the book says was acknowledged stands as the book says on each node that confirmed it, and these are as many as the plan confirms or more.
+abbrev pub AcknowledgedStand : Plan → (ℕ → Type 0) → List (List Record) → List BookEntry → Type 0
+AcknowledgedStand plan lost disks book = AreAsBooked plan lost disks book (acked_in book)
 
 -- what was asked was begun; where memory ran out, the last call may not have been
 abbrev pub AreBegun : Stop → List Asked → List Asked → Type 0

@@ -14,7 +14,7 @@ use Rattle.session_model.specs.Logs.{Asked, asked_by, answered_by}
 use Rattle.session_model.specs.Run.{Stop, Made, IsDriven}
 use Rattle.session_model.specs.Runs.{Shows}
 use Rattle.session_model.specs.Promises.{StoredStands, DeletedByQuit, ShownAsFiled, ShownOnce}
-use Rattle.session_model.specs.Books.{AcknowledgedAsTold, StruckAsMarked, AreBegun}
+use Rattle.session_model.specs.Books.{AcknowledgedAsTold, AcknowledgedStand, StruckAsMarked, AreBegun}
 use Rattle.session_model.specs.Owes.{Owes}
 use Rattle.session_model.specs.Losses.{IsLostIn}
 
@@ -35,6 +35,7 @@ pub record KeepsPromises (plan : Plan) (tells : Bool) (stop : Stop) (lines : Lis
   pub shown_as_filed : tells ≡ true → ShownAsFiled filed sessions
   pub shown_once : ShownOnce sessions
   pub acknowledged_as_told : AcknowledgedAsTold plan stop lines sessions acks unwritten book
+  pub acknowledged_stand : AcknowledgedStand plan (IsLostIn stop lines entries) disks book
   pub struck_as_marked : StruckAsMarked stop entries sessions (flat_map asked_by acts) begun (flat_map answered_by acts) book
   pub dropped_are_gone : DroppedAreGone plan (IsLostIn stop lines entries) disks book
 

@@ -16,7 +16,7 @@ use Rattle.session_model.specs.Sessions.{Session}
 use Rattle.session_model.specs.Facts.{IsIn, IsGoneIn, DroppedAreTrue, ListingsAreTrue, PartsAreTrue}
 use Rattle.session_model.specs.Acts.{Act}
 use Rattle.session_model.specs.Logs.{Asked, Answered, asked_by, answered_by}
-use Rattle.session_model.specs.Books.{Among, AmongAnswers, IsBookOf, AreConfirmed, acks_by}
+use Rattle.session_model.specs.Books.{Among, AmongAnswers, IsBookOf, AreConfirmed, AcknowledgedStand, acks_by}
 use Rattle.session_model.specs.Run.{Stop}
 use Rattle.session_model.specs.Losses.{IsLostIn}
 use Rattle.session_model.specs.Runs.{Shows}
@@ -43,11 +43,12 @@ pub record OwesParts (filed : Id → Option (List ℕ)) (answered : List Answere
   pub parts : (k : ℕ) (user : List ℕ) (id : Id) (part : List ℕ) → AmongAnswers (record { session = k; call = Fetch user id; answer = Part part }) answered
       → (filed id ≡ Some part) × (closed part ≡ part)
 
--- Its entries are those of the calls that were begun and that were answered, in their order, and no others; they are confirmed by enough nodes, and each copy whose
--- deletion was confirmed is gone.
+-- Its entries are those of the calls that were begun and that were answered, in their order, and no others; they are confirmed by enough nodes, each copy that was
+-- acknowledged stands on those that confirmed it, and each copy whose deletion was confirmed is gone.
 pub record OwesBook (plan : Plan) (lines : List (List ℕ)) (lost : ℕ → Type 0) (disks : List (List Record)) (begun : List Asked) (answered : List Answered) (book : List BookEntry) : Type 0 where
   pub is_book : IsBookOf lines begun answered book
   pub confirmed : AreConfirmed plan book
+  pub stand : AcknowledgedStand plan lost disks book
   pub dropped : DroppedAreGone plan lost disks book
 
 -- All that a cluster owes of the calls that it began and that it answered, where these of its nodes are lost for good. The octets of a message are told by

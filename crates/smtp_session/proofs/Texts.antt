@@ -20,7 +20,6 @@ use Rattle.call_tickets.specs.Moves.Due.{Nothing}
 use Rattle.call_tickets.specs.declared.step.Move.{Move}
 use Rattle.call_tickets.specs.declared.step.Move.TheVariants.{Said, Begin, Wait, Idle, End}
 use Rattle.call_tickets.specs.declared.call.Call.TheVariants as tickets
-use Rattle.mail_base.specs.declared.deliver.Deliver.{Deliver}
 use Rattle.dot_text.specs.Shown.{Shown, Pending}
 use Rattle.dot_text.specs.Places.{Undots, Feeds, IsWithin}
 use Rattle.dot_text.specs.declared.undotter.Undotter.{Undotter}

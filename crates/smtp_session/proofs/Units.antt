@@ -11,7 +11,7 @@ use Rattle.mail_model.specs.Session.Unit.{Line, Text}
 use Rattle.mail_model.specs.Told.{IsUnit, HasNoUnit, unit_octets, Mail}
 use Rattle.mail_model.specs.PopReplies.{one_line}
 use Rattle.session_model.specs.Calls as calls
-use Rattle.session_model.specs.Talk.{Exchange, Standing, Lead, IsNext, stands, stands_by, lead_of, IsLed, in_text, answered, let_in, entered_as}
+use Rattle.session_model.specs.Talk.{Exchange, Standing, Lead, IsNext, stands, stands_by, lead_of, IsLed, answered, let_in, entered_as}
 use Rattle.session_model.specs.Moves.{with_answer}
 use Rattle.session_model.specs.Talk as talks
 use Rattle.std.proofs.lemmas.List.Elements.{All-cons, All-nil}
@@ -26,7 +26,6 @@ use Rattle.call_tickets.specs.declared.step.Move.TheVariants.{Said, Idle}
 use Rattle.dot_text.specs.Shown.{Shown, Pending, Finds, FindsNone, IsLine, behind_line}
 use Rattle.dot_text.specs.Places.{Undots}
 use Rattle.dot_text.specs.declared.undotter.Undotter.{Undotter}
-use Rattle.dot_text.specs.declared.undotter.Cut.TheVariants.{Ended}
 use Rattle.dot_text.specs.declared.cutter.Line.{Line as Found}
 use Rattle.dot_text.specs.declared.cutter.Line.TheVariants.{Whole, Long}
 use Rattle.smtp_session.specs.declared.session.SmtpSession.{SmtpSession}

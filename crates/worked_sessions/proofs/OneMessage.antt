@@ -3,14 +3,15 @@ use Rattle.std.proofs.Common.{◌≡◌, inl, inr, ◌+◌, ◌<◌, ◌^◌, �
 use Rattle.std.specs.Prelude.{unwrap_or}
 use Rattle.std.proofs.lemmas.Fmt.{decimal_digit}
 use Rattle.std.proofs.lemmas.List.Elements.{All-nil, All-cons}
+use Rattle.sha2.specs.Sha256.{sha256}
 use Rattle.mail_model.specs.Identity.Key.{Message}
 use Rattle.mail_model.specs.Identity.Value.{Here, Gone}
 use Rattle.mail_model.specs.Identity.{Stamp, Value}
 use Rattle.mail_model.specs.Grammar.{IsId, IsRecord}
 use Rattle.mail_model.specs.Lines.{sent_line}
 use Rattle.mail_model.specs.Mail.{IsStored}
-use Rattle.mail_model.specs.Record.{Record, IsAmongRecords, payload_of}
-use Rattle.mail_model.specs.Book.{copies_acked}
+use Rattle.mail_model.specs.Record.{Record, IsAmongRecords, SaysHere, HoldsOctets, payload_of}
+use Rattle.mail_model.specs.Book.{Acked, copies_acked}
 use Rattle.mail_model.specs.Record.Record.{Boot, Octets, Stated}
 use Rattle.mail_model.specs.Smtp.{helo_text, closing_text, greeting_text, stored_text}
 use Rattle.mail_model.specs.PopReplies.{one_line}
@@ -29,7 +30,9 @@ use Rattle.session_model.specs.Acts.Deed.{IsFed, Hears, IsAnswered}
 use Rattle.session_model.specs.Turns.Turn.{Hearing as Hears_on, Beginning, Asking}
 use Rattle.session_model.specs.Run.{IsHandled, IsDriven}
 use Rattle.session_model.specs.Run.Stop.{BehindLine, Denied, SinkFailed}
-use Rattle.session_model.specs.Books.{IsBookOf}
+use Rattle.session_model.specs.Copies.{OnNode}
+use Rattle.session_model.specs.Losses.{IsLostIn}
+use Rattle.session_model.specs.Books.{IsBookOf, IsAsBooked, AcknowledgedStand}
 use Rattle.session_model.specs.OneNode.{NodeState, ServesAll, first_node, asked_of, answered_of}
 use Rattle.worked_sessions.specs.OneMessage.{OneMessageKept, small_plan, greeted, texting, small_mail, small_octets, waiting, fed_with, at_open, at_helo, at_mail, at_rcpt, at_data, at_subject, at_gap, at_hello, at_wait, at_stored, at_quit, said_once, small_lines, small_acts, small_made, small_entries, small_served, small_records, small_store, small_book}
 use Rattle.session_model.specs.Acts.{Act}
@@ -216,13 +219,39 @@ book = record {
   );
 }
 
+says_here : SaysHere (Message (codes "alice") (nth_id 1)) small_records
+says_here = record { stamp = nth_stamp 1; targets = 1; here = inr (inr (inl refl)); not_gone = not_gone }
+
+has_octets : HoldsOctets (nth_id 1) small_octets small_records
+has_octets = inr (λ other is. absurd (let never : Boot 1 ≡ Octets (nth_id 1) other = is in cc), inl refl)
+
+-- the copy that the book says was acknowledged
+abbrev small_copy : Acked
+small_copy = record { user = codes "alice"; id = nth_id 1; seconds = 0; size = length small_octets; digest = sha256 small_octets; confirmers = 1 }
+
+stand : (lost : ℕ → Type 0) → AcknowledgedStand small_plan lost (small_records ∷ []) small_book
+stand lost = (
+  (
+    1 ∷ [],
+    refl,
+    record {
+      rising = (omega arith, omega arith, tt);
+      enough = omega arith;
+      each = All-cons (OnNode lost (small_records ∷ []) (IsAsBooked small_book small_copy)) 1 []
+          (inr (small_records, refl, inl (says_here, (small_octets, has_octets, refl, refl))))
+          (All-nil (OnNode lost (small_records ∷ []) (IsAsBooked small_book small_copy)));
+    },
+  ),
+  tt,
+)
+
 pub one_message_kept : OneMessageKept
 one_message_kept = record {
   driven = driven;
   kept = one_node_promises small_plan true BehindLine small_lines [] small_acts [] small_made small_entries [] (at_quit ∷ []) small_served small_node (Some small_store) small_book refl refl
-      driven tt served grammar holds refl refl book (refl, tt);
+      driven tt served grammar holds refl refl book (refl, tt) (stand (IsLostIn BehindLine (small_lines ++ []) (small_entries ++ [])));
   told = ap (λ (b : Bool). record small_mail { mailboxes = (unwrap_or (told_where b).envelope (record { sender = []; mailboxes = [] })).mailboxes } ∷ []) has_alice;
   size = size;
-  stands = record { stamp = nth_stamp 1; targets = 1; here = inr (inr (inl refl)); not_gone = not_gone };
-  holds = inr (λ other is. absurd (let never : Boot 1 ≡ Octets (nth_id 1) other = is in cc), inl refl);
+  stands = says_here;
+  holds = has_octets;
 }

@@ -1,15 +1,16 @@
 -- A tape of three nodes that meets every premise.
-use Rattle.std.proofs.Common.{◌≡◌, inl, inr, ◌+◌, ℕ, zero, suc, true, List, [], ◌∷◌, ◌++◌, map, flat_map, All, Some, refl, sym, ap, subst, arith, codes, slice_get}
+use Rattle.std.proofs.Common.{◌≡◌, inl, inr, ◌+◌, ℕ, zero, suc, true, List, [], ◌∷◌, ◌++◌, map, flat_map, length, All, Some, refl, sym, ap, subst, arith, codes, slice_get}
 use Rattle.std.proofs.lemmas.List.Elements.{All-nil, All-cons}
 use Rattle.std.proofs.lemmas.Option.{none-some}
+use Rattle.sha2.specs.Sha256.{sha256}
 use Rattle.mail_model.specs.Identity.{Id, Stamp, Value}
 use Rattle.mail_model.specs.Identity.Key.{Message}
 use Rattle.mail_model.specs.Identity.Value.{Here, Gone}
 use Rattle.mail_model.specs.Grammar.{IsRecord}
-use Rattle.mail_model.specs.Record.{Record, IsJournal, IsAmongRecords, payloads_of}
+use Rattle.mail_model.specs.Record.{Record, IsJournal, IsAmongRecords, SaysHere, HoldsOctets, payloads_of}
 use Rattle.mail_model.specs.Record.Record.{Boot, Octets, Stated}
 use Rattle.mail_model.specs.Listing.{octets_in}
-use Rattle.mail_model.specs.Book.{copies_acked}
+use Rattle.mail_model.specs.Book.{Acked, copies_acked}
 use Rattle.mail_model.specs.Site.{nth_id, nth_stamp}
 use Rattle.mail_model.specs.Smtp.{greeting_text, helo_text, stored_text}
 use Rattle.mail_model.specs.PopReplies.{one_line}
@@ -34,7 +35,7 @@ use Rattle.session_model.specs.Turns.Turn.{Hearing as Hears_on, Asking}
 use Rattle.session_model.specs.Run.{IsHandled, AreHandled, IsDriven}
 use Rattle.session_model.specs.Run.Stop.{BehindLine, Denied, SinkFailed}
 use Rattle.session_model.specs.Losses.{IsLostIn}
-use Rattle.session_model.specs.Books.{AmongAnswers}
+use Rattle.session_model.specs.Books.{AmongAnswers, IsAsBooked}
 use Rattle.session_model.specs.Owes.{Owes}
 use Rattle.session_model.proofs.Kept.{owed_is_kept}
 use Rattle.worked_sessions.specs.OneMessage.{small_mail, small_octets, greeted, waiting, at_open, at_helo, at_mail, at_rcpt, at_data, at_subject, at_gap, at_hello, at_wait, at_stored, text_acts, tells_stored}
@@ -191,18 +192,30 @@ none_gone n user id (records, at, gone) = not_gone user id gone.stamp gone.targe
     same (suc (suc zero)) there = cc
     same (suc (suc (suc i))) there = absurd (none-some records there)
 
+says_here : SaysHere (Message (codes "alice") (nth_id 1)) node_records
+says_here = record { stamp = nth_stamp 1; targets = 7; here = inr (inr (inl refl)); not_gone = not_gone (codes "alice") (nth_id 1) }
+
+has_octets : HoldsOctets (nth_id 1) small_octets node_records
+has_octets = inr (λ other is. absurd (let never : Boot 1 ≡ Octets (nth_id 1) other = is in cc), inl refl)
+
+-- the copy that the book says was acknowledged
+abbrev posted_copy : Acked
+posted_copy = record { user = codes "alice"; id = nth_id 1; seconds = 0; size = length small_octets; digest = sha256 small_octets; confirmers = 7 }
+
 module _ (lost : ℕ → Type 0) where
+  -- what is so of the records of each node is so on all three
+  on_all : (so : List Record → Type 0) → so node_records → All (OnNode lost three_disks so) (1 ∷ 2 ∷ 3 ∷ [])
+  on_all so is =
+      All-cons (OnNode lost three_disks so) 1 (2 ∷ 3 ∷ []) (inr (node_records, refl, is))
+      (All-cons (OnNode lost three_disks so) 2 (3 ∷ []) (inr (node_records, refl, is))
+      (All-cons (OnNode lost three_disks so) 3 [] (inr (node_records, refl, is)) (All-nil (OnNode lost three_disks so))))
+
+  booked_on_each : All (OnNode lost three_disks (IsAsBooked posted_book posted_copy)) (1 ∷ 2 ∷ 3 ∷ [])
+  booked_on_each = on_all (IsAsBooked posted_book posted_copy) (inl (says_here, (small_octets, has_octets, refl, refl)))
+
   on_each : All (OnNode lost three_disks (KeepsCopy (ack_of 1 (record { mail = small_mail; id = nth_id 1 })) (codes "alice"))) (1 ∷ 2 ∷ 3 ∷ [])
   on_each =
-      let keeps : KeepsCopy (ack_of 1 (record { mail = small_mail; id = nth_id 1 })) (codes "alice") node_records =
-      inl (
-        record { stamp = nth_stamp 1; targets = 7; here = inr (inr (inl refl)); not_gone = not_gone (codes "alice") (nth_id 1) },
-        (small_octets, stored, inr (λ other is. absurd (let never : Boot 1 ≡ Octets (nth_id 1) other = is in cc), inl refl)),
-      ) in
-      let so = KeepsCopy (ack_of 1 (record { mail = small_mail; id = nth_id 1 })) (codes "alice") in
-      All-cons (OnNode lost three_disks so) 1 (2 ∷ 3 ∷ []) (inr (node_records, refl, keeps))
-      (All-cons (OnNode lost three_disks so) 2 (3 ∷ []) (inr (node_records, refl, keeps))
-      (All-cons (OnNode lost three_disks so) 3 [] (inr (node_records, refl, keeps)) (All-nil (OnNode lost three_disks so))))
+      on_all (KeepsCopy (ack_of 1 (record { mail = small_mail; id = nth_id 1 })) (codes "alice")) (inl (says_here, (small_octets, stored, has_octets)))
 
 -- the one answer is that the message is stored
 abbrev answers : List Answered
@@ -249,6 +262,18 @@ owes = record {
     };
     confirmed = (
       record { nodes = 1 ∷ 2 ∷ 3 ∷ []; mask = refl; rising = (omega arith, omega arith, (omega arith, omega arith, (omega arith, omega arith, tt))); enough = omega arith },
+      tt,
+    );
+    stand = (
+      (
+        1 ∷ 2 ∷ 3 ∷ [],
+        refl,
+        record {
+          rising = (omega arith, omega arith, (omega arith, omega arith, (omega arith, omega arith, tt)));
+          enough = omega arith;
+          each = booked_on_each (IsLostIn BehindLine (posted_lines ++ []) (posted_entries ++ []));
+        },
+      ),
       tt,
     );
     dropped = tt;

@@ -1,4 +1,4 @@
-use Rattle.std.proofs.Common.{◌≡◌, ◌-◌, ◌+◌, ℕ, List, [], map, take, true, false, sym, ap, subst, ◌∙◌, le-leb, arith}
+use Rattle.std.proofs.Common.{◌≡◌, ◌-◌, ◌+◌, ℕ, List, [], map, take, sym, ap, subst, ◌∙◌, le-leb, arith}
 use Rattle.std.specs.FinMap as fin
 use Rattle.mail_model.specs.Identity.{Key}
 use Rattle.mail_base.specs.declared.key.Key as code
