@@ -6,8 +6,8 @@
 
 The program is run once with all memory, and then once for each of its allocations, which is refused: the C library's
 malloc and realloc, by a library of some lines that is built here with `cc`. Each of these runs has to end with status 7
-after a prefix of the whole transcript. It prints how many there were, and each run that does otherwise; its status is 0
-where there is none.
+after a prefix of the whole transcript; or with status 0 after all of it, where the program can do without. It prints how many
+there were of each, and each run that does otherwise; its status is 0 where there is none.
 """
 
 import os
@@ -39,15 +39,18 @@ def main():
             print(f"with all memory the program ends with status {status}")
             return 1
         allocations = int(count.read_text())
-        others = 0
+        ended, went_on = 0, 0
         for refuse in range(1, allocations + 1):
             status, transcript = run(library, tape, refuse, count)
-            if status != 7 or not whole.startswith(transcript):
-                others += 1
+            if status == 7 and whole.startswith(transcript):
+                ended += 1
+            elif status == 0 and transcript == whole:
+                went_on += 1
+            else:
                 is_prefix = "a prefix" if whole.startswith(transcript) else "no prefix"
                 print(f"allocation {refuse}: status {status} after {is_prefix} of the transcript")
-    print(f"{allocations} allocations, each refused in turn; {others} runs ended otherwise than with status 7 after a prefix")
-    return 1 if others else 0
+    print(f"{allocations} allocations, each refused in turn: {ended} times status 7 after a prefix, {went_on} times status 0 after all")
+    return 0 if ended + went_on == allocations else 1
 
 
 if __name__ == "__main__":
