@@ -30,6 +30,10 @@ def run(library, tape, refuse, count):
 
 def main():
     tape = sys.argv[1] if len(sys.argv) > 1 else HERE.parent / "examples" / "lost_node.tape"
+    for file, what in ((PROGRAM, "no program: ./porcupine builds it"), (tape, "no tape")):
+        if not os.path.isfile(file):
+            print(f"{file}: {what}", file=sys.stderr)
+            return 1
     with tempfile.TemporaryDirectory() as folder:
         library = pathlib.Path(folder) / "refuse_allocation.so"
         count = pathlib.Path(folder) / "count"
