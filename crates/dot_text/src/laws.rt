@@ -1,5 +1,6 @@
 // Laws over the definitions of lines and texts, each a function that does nothing.
 ghost use Rattle.dot_text.specs.Laws.{LinesAreOne, LinesAreAll, TextsAreOne, BegunHasNoText, RoundTrips, DotsAreOne};
+ghost use Rattle.dot_text.specs.Worked.{Received, Sent};
 
 /// However the octets came, the same takes off them give the same lines and leave the same rest.
 pub fn lines_are_one()
@@ -30,4 +31,14 @@ pub fn texts_are_read_back()
 /// What `dot_into` makes of a text is determined by the text.
 pub fn texts_are_sent_in_one_way()
     ensures { DotsAreOne }
+{}
+
+/// The definition of a text that is received holds where it was worked by hand.
+pub fn worked_as_received()
+    ensures { Received }
+{}
+
+/// The definition of a text that is sent holds where it was worked by hand.
+pub fn worked_as_sent()
+    ensures { Sent }
 {}

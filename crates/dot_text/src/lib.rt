@@ -66,9 +66,6 @@ pub use cutter::{Line, LineCutter};
 pub use dotting::dot_into;
 pub use laws::{
     begun_texts_have_no_end, lines_are_all, lines_are_one, texts_are_one, texts_are_read_back,
-    texts_are_sent_in_one_way,
+    texts_are_sent_in_one_way, worked_as_received, worked_as_sent,
 };
 pub use undotter::{Cut, Undotter};
-
-#[cfg(test)]
-mod tests;

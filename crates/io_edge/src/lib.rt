@@ -43,6 +43,3 @@ pub use yard::{Yard, YardRefusal};
 /// The outside failed.
 #[derive(Clone, Copy, Debug, PartialEq, Eq)]
 pub struct Failed;
-
-#[cfg(test)]
-mod tests;

@@ -29,8 +29,6 @@
 
 mod digits;
 mod octets;
-#[cfg(test)]
-mod tests;
 mod words;
 
 pub use digits::number;

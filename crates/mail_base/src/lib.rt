@@ -38,8 +38,6 @@ mod row;
 mod secret;
 mod sequence;
 mod stamp;
-#[cfg(test)]
-mod tests;
 mod ticket;
 mod told;
 mod user_map;

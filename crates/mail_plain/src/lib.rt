@@ -55,8 +55,6 @@ mod pop;
 mod record;
 mod run_line;
 mod smtp;
-#[cfg(test)]
-mod tests;
 mod transcript;
 
 pub use fed::sent;

@@ -86,6 +86,3 @@ pub use fault::{KeepFault, ReadFault};
 pub use laws::boots_change_nothing;
 pub use recovered::Recovered;
 pub use store::NodeStore;
-
-#[cfg(test)]
-mod tests;

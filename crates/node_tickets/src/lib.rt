@@ -30,8 +30,6 @@
 
 mod mishap;
 mod progress;
-#[cfg(test)]
-mod tests;
 mod tickets;
 mod want;
 

@@ -3,7 +3,7 @@
 //! SUMMARY
 //!
 //! Tests of `node_core` by its public calls: one node is driven by hand, and what it answers, what it sends and what its disk then
-//! says is held against tables. `src/tests.rt` says how a table is read.
+//! says is held against tables. `src/tests.rt` says how a table is read. Its store and its tickets are tried by themselves, too.
 //!
 //! DESCRIPTION
 //!
@@ -14,10 +14,13 @@
 //! | `tests/logins.rt` | a mailbox as its reader finds it, and the parts of a message |
 //! | `tests/starts.rt` | a first boot, a start over a disk, and disks that are none of the node's |
 //! | `tests/falls.rt` | each call of the disk failing in turn |
+//! | `tests/store.rt` | what a store records and tells, of `node_store` |
+//! | `tests/opening.rt` | stores over journals that are there |
+//! | `tests/tickets.rt` | what tickets hear, and what an ask then answers, of `node_tickets` |
 //!
 //! STANDS ON
 //!
-//! `node_core`, by its public calls alone, and `node_disk` for disks in memory.
+//! `node_core`, `node_store` and `node_tickets`, by their public calls alone, and `node_disk` for disks in memory.
 //!
 //! WHAT IT DOES NOT DO
 //!

@@ -22,8 +22,11 @@ mod falls;
 mod letters;
 mod lines;
 mod logins;
+mod opening;
 mod says;
 mod starts;
+mod store;
+mod tickets;
 
 ghost use Rattle.std.specs.Prelude.{◌≡◌, ℕ, List, Option, IfOk};
 ghost use Rattle.node_core.specs.Beginning.{IsTextEnded, call_seen};

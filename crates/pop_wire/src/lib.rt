@@ -50,6 +50,3 @@ pub use laws::{
     more_spaces_mean_nothing, names_are_read, numbers_are_read, other_verbs_are_unknown,
     secrets_are_read, two_arguments_are_too_many,
 };
-
-#[cfg(test)]
-mod tests;

@@ -47,6 +47,3 @@ pub use laws::{
     blanks_at_end_mean_nothing, case_of_verb_means_nothing, names_are_read, recipients_are_read,
     routes_are_left_out, senders_are_read,
 };
-
-#[cfg(test)]
-mod tests;

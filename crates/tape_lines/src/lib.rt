@@ -18,8 +18,6 @@ mod id_word;
 mod order;
 mod plan_line;
 mod protocol;
-#[cfg(test)]
-mod tests;
 mod words;
 
 pub use cluster_order::ClusterOrder;

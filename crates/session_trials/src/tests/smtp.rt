@@ -1,63 +1,21 @@
-// What one client hears, with replies from RFC 5321 and the texts that this service gives them: each table has the lines that it
-// says and, indented, what they lead to. A line that begins with `!` says what befalls the client.
-mod client;
+// What clients that send mail hear, with replies from RFC 5321 and the texts that this service gives them.
 mod tables;
 
-use client::{Client, has_said, is_said, user};
+use super::client::Client;
+use super::users::user;
 use mail_base::NodeNo;
 use smtp_session::Reply;
-use std::alloc::{AllocError, Global};
+use std::alloc::Global;
 use std::process::Abort;
 use std::test::Fail;
 use tables::{BEGIN, COMMANDS, IN_TEXT, PIECES, REFUSED, TEXTS, UNASKED};
 
 // A client that was asked for a text.
 fn asked(rt: &impl Abort, alloc: Global) -> Result<Client, Fail> {
-    let mut client = Client::new(alloc)?;
+    let mut client = Client::smtp(alloc)?;
     client.says(rt, BEGIN)?;
+    client.said.clear();
     Ok(client)
-}
-
-#[test]
-fn clients_hear_what_the_tables_say(rt: HostRuntime) -> Result<(), Fail> {
-    for table in [COMMANDS, REFUSED, PIECES, UNASKED] {
-        Client::new(rt.alloc())?.says(&rt, table)?;
-    }
-    for table in IN_TEXT {
-        asked(&rt, rt.alloc())?.says(&rt, table)?;
-    }
-    Ok(())
-}
-
-// What the lines of the table that are not indented say, and what they lead to.
-fn parted(alloc: Global, table: &[u8]) -> Result<(Vec<u8>, Vec<u8>), AllocError> {
-    let mut says = Vec::new(alloc);
-    let mut wanted = Vec::new(alloc);
-    for line in table.split_inclusive(|octet| *octet == b'\n') {
-        if is_said(line) {
-            says.extend_from_slice(line.strip_suffix(b"\n").unwrap_or(line))?;
-            says.extend_from_slice(b"\r\n")?;
-        } else {
-            wanted.extend_from_slice(line)?;
-        }
-    }
-    Ok((says, wanted))
-}
-
-// All that a client says comes in pieces of so many octets.
-fn feed_all(client: &mut Client, octets: &[u8], size: usize) -> Result<(), Fail> {
-    for piece in octets.chunks(size.max(1)) {
-        client.feed(piece)?;
-    }
-    Ok(())
-}
-
-fn says_in_pieces(rt: &impl Abort, alloc: Global, table: &[u8], size: usize) -> Result<(), Fail> {
-    let (says, wanted) = parted(alloc, table)?;
-    let mut client = Client::new(alloc)?;
-    feed_all(&mut client, &says, size)?;
-    has_said(rt, &client, &wanted);
-    Ok(())
 }
 
 // The text that is filed where these octets come after DATA, in pieces of so many.
@@ -69,8 +27,8 @@ fn files(
     size: usize,
 ) -> Result<(), Fail> {
     let mut client = asked(rt, alloc)?;
-    feed_all(&mut client, octets, size)?;
-    let text = match &client.filed {
+    client.feed_all(octets, size)?;
+    let text = match &client.desk.filed {
         Some(deliver) => Some(deliver.text.as_slice()),
         None => None,
     };
@@ -79,9 +37,15 @@ fn files(
 }
 
 #[test]
-fn octets_come_in_any_pieces(rt: HostRuntime) -> Result<(), Fail> {
+fn clients_hear_what_the_tables_say(rt: HostRuntime) -> Result<(), Fail> {
+    for table in [COMMANDS, REFUSED, PIECES, UNASKED] {
+        Client::smtp(rt.alloc())?.says(&rt, table)?;
+    }
+    for table in IN_TEXT {
+        asked(&rt, rt.alloc())?.says(&rt, table)?;
+    }
     for size in [1, 2, 7, 1000usize] {
-        says_in_pieces(&rt, rt.alloc(), PIECES, size)?;
+        Client::smtp(rt.alloc())?.says_in_pieces(&rt, PIECES, size)?;
         for (octets, wanted) in TEXTS {
             files(&rt, rt.alloc(), octets, wanted, size)?;
         }
@@ -91,23 +55,10 @@ fn octets_come_in_any_pieces(rt: HostRuntime) -> Result<(), Fail> {
 
 // The message that was sent last has a text of so many octets, for so many mailboxes.
 fn has_filed(rt: &impl Abort, client: &mut Client, octets: usize, mailboxes: usize) {
-    assert!(rt;
-        client.filed.take().is_some_and(|deliver| deliver.text.len() == octets
-            && deliver.users.len() == mailboxes)
-    );
-}
-
-#[test]
-fn a_line_of_a_text_has_any_length(rt: HostRuntime) -> Result<(), Fail> {
-    let mut octets = b"..".to_vec(rt.alloc())?;
-    octets.resize(100_000, b'x')?;
-    octets.extend_from_slice(b"\r\n.\r\nQUIT\r\n")?;
-    for size in [1000, 200_000usize] {
-        let mut client = asked(&rt, rt.alloc())?;
-        feed_all(&mut client, &octets, size)?;
-        has_filed(&rt, &mut client, 100_001, 1);
-    }
-    Ok(())
+    let Some(deliver) = client.desk.filed.take() else {
+        panic!(rt; "no message");
+    };
+    assert!(rt; deliver.text.len() == octets && deliver.users.len() == mailboxes);
 }
 
 // Sends a text: 16,383 lines of 1,024 octets with their CRLF, the last line, and the period.
@@ -125,30 +76,35 @@ fn sends(client: &mut Client, last: &[u8; 1023]) -> Result<(), Fail> {
 #[test]
 fn texts_have_a_greatest_length(rt: HostRuntime) -> Result<(), Fail> {
     let mut client = asked(&rt, rt.alloc())?;
-    client.said.clear();
     let mut last = [b'x'; 1023];
     sends(&mut client, &last)?;
-    has_said(&rt, &client, b"  552 message too large\n");
+    client.has_said(&rt, b"  552 message too large\n");
     client.says(&rt, BEGIN)?;
     client.said.clear();
     last[0] = b'.';
     sends(&mut client, &last)?;
-    has_said(
-        &rt,
-        &client,
-        b"  from bob\n  helo c\n  to alice\n  250 stored\n",
-    );
+    client.has_said(&rt, b"  from bob\n  helo c\n  to alice\n  250 stored\n");
     has_filed(&rt, &mut client, 16_777_216, 1);
     client.says(&rt, BEGIN)?;
     client.says(
         &rt,
         b"short\n.\n  from bob\n  helo c\n  to alice\n  | short\n  250 stored\n",
-    )
+    )?;
+    // A line of a text has any length.
+    let mut octets = b"..".to_vec(rt.alloc())?;
+    octets.resize(100_000, b'x')?;
+    octets.extend_from_slice(b"\r\n.\r\nQUIT\r\n")?;
+    for size in [1000, 200_000usize] {
+        let mut client = asked(&rt, rt.alloc())?;
+        client.feed_all(&octets, size)?;
+        has_filed(&rt, &mut client, 100_001, 1);
+    }
+    Ok(())
 }
 
 #[test]
 fn a_hundred_recipients_are_taken(rt: HostRuntime) -> Result<(), Fail> {
-    let mut client = Client::new(rt.alloc())?;
+    let mut client = Client::smtp(rt.alloc())?;
     client.says(
         &rt,
         b"HELO c\n  250 node1\nMAIL FROM:<bob>\n  250 sender ok\n",
@@ -158,7 +114,7 @@ fn a_hundred_recipients_are_taken(rt: HostRuntime) -> Result<(), Fail> {
         client.feed(&user(number))?;
         client.said.clear();
         client.feed(b">\r\n")?;
-        has_said(&rt, &client, b"  250 recipient ok\n");
+        client.has_said(&rt, b"  250 recipient ok\n");
     }
     client.says(
         &rt,
@@ -170,31 +126,9 @@ fn a_hundred_recipients_are_taken(rt: HostRuntime) -> Result<(), Fail> {
     Ok(())
 }
 
-// A line that begins so and then has spaces, so many octets with its CRLF, and what it leads to. No more of it is held than the
-// limit, however it comes.
-fn hears_line_of(
-    rt: &impl Abort,
-    client: &mut Client,
-    begins: &[u8],
-    length: usize,
-    wanted: &[u8],
-) -> Result<(), Fail> {
-    let mut line = begins.to_vec(client.alloc)?;
-    line.resize(length.saturating_sub(2), b' ')?;
-    client.said.clear();
-    for piece in line.chunks(700) {
-        client.feed(piece)?;
-        assert!(rt; client.session.held() < 1_024);
-    }
-    has_said(rt, client, b"");
-    client.feed(b"\r\n")?;
-    has_said(rt, client, wanted);
-    Ok(())
-}
-
 #[test]
 fn lines_have_a_greatest_length(rt: HostRuntime) -> Result<(), Fail> {
-    let mut client = Client::new(rt.alloc())?;
+    let mut client = Client::smtp(rt.alloc())?;
     let cases: [(&[u8], usize, &[u8]); 8] = [
         (b"x", 1_024, b"  500 unknown command\n"),
         (b"x", 1_025, b"  500 line too long\n"),
@@ -206,15 +140,9 @@ fn lines_have_a_greatest_length(rt: HostRuntime) -> Result<(), Fail> {
         (b"MAIL FROM:<bob>", 17, b"  250 sender ok\n"),
     ];
     for (begins, length, wanted) in cases {
-        hears_line_of(&rt, &mut client, begins, length, wanted)?;
+        client.says_line_of(&rt, begins, length, wanted)?;
     }
-    // A line that never ends leads to nothing, and little of it is held.
-    let piece = [b'x'; 1000];
-    for _ in 0..5_000u16 {
-        client.session.feed(&piece)?;
-        assert!(rt; client.session.held() < 1_024);
-    }
-    client.says(&rt, b"")
+    client.says_without_end(&rt)
 }
 
 #[test]

@@ -182,7 +182,7 @@ text
   to alice
   | text
 HELO d
-!failed
+!could not
   451 not stored, try again
   250 node1
 ",
@@ -195,7 +195,7 @@ text
   to alice
   | text
 HELO d
-!gives up
+!no answer
   451 not stored, try again
   250 node1
 ",

@@ -2,10 +2,10 @@
 ghost use Rattle.std.specs.Prelude.{◌≡◌, ◌+◌, ◌≤◌, [], length, IfSome};
 ghost use Rattle.disk_journal.specs.Journal.{largest};
 
-use crate::{KeepFault, NodeStore, ReadFault};
 use io_edge::{Disk, PlainDisk};
 use mail_base::{Key, MsgId, Name, NodeNo, NodeSet, ObjState, Stamp, Value};
 use node_disk::MemoryDisk;
+use node_store::{KeepFault, NodeStore, ReadFault};
 use std::alloc::{AllocError, Global};
 use std::test::Fail;
 use update_log::Acked;

@@ -1,5 +1,5 @@
 // Each public call on a few octets.
-use crate::{
+use line_words::{
     behind_word, first_word, has_space, is_word, len_before, number, split_verb, trimmed, unspaced,
 };
 

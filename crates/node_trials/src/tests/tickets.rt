@@ -1,7 +1,7 @@
 // Tickets by hand: what node 1 hears, and what an ask then answers.
-use crate::{MishapKind, Tickets};
 use call_tickets::{Answer, Ask, Mishaps};
 use mail_base::{Body, CallKind, Filing, Ids, MsgId, Name, Names, NodeNo, NodeSet, Stamp, Ticket};
+use node_tickets::{MishapKind, Tickets};
 use std::alloc::Global;
 use std::process::Abort;
 use std::test::Fail;

@@ -2,8 +2,11 @@
 ghost use Rattle.std.specs.Prelude.{◌≡◌, OnOk};
 ghost use Rattle.io_edge.specs.Yards.{TellsOneMore, with_last};
 
-use crate::faulty::{FaultySink, FaultySource, FaultyYard, ShortSink};
-use crate::*;
+use io_edge::faulty::{FaultySink, FaultySource, FaultyYard, ShortSink};
+use io_edge::{
+    Disk, Failed, MemoryYard, PlainDisk, ReadSource, Sink, SliceSource, Source, VecSink, WriteSink,
+    Yard, YardRefusal, write_all,
+};
 use std::io::Cursor;
 use std::test::Fail;
 

@@ -1,5 +1,5 @@
 // Values from the specification, and each public call once.
-use crate::{
+use mail_base::{
     MsgId, Name, NameFault, Names, NodeNo, NodeSet, Octets, Plan, Secret, Stamp, Users, bucket_of,
 };
 use std::test::Fail;

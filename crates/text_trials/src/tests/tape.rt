@@ -1,11 +1,11 @@
 // Lines of the tape's format, and each public call once.
-use crate::{
-    ClusterOrder, CopyCount, Draft, Order, Protocol, read_order, read_plan_line, strip, tape_line,
-    without_cr,
-};
 use mail_base::{MsgId, Name, NodeNo};
 use std::alloc::{AllocError, Global};
 use std::test::Fail;
+use tape_lines::{
+    ClusterOrder, CopyCount, Draft, Order, Protocol, read_order, read_plan_line, strip, tape_line,
+    without_cr,
+};
 
 #[test]
 fn reads_opens_and_closes(rt: HostRuntime) -> Result<(), Fail> {

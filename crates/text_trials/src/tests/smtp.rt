@@ -1,5 +1,5 @@
-// Lines and what RFC 5321 and the profile above make of them.
-use crate::{
+// Lines, and what RFC 5321 and our profile of it make of them.
+use smtp_wire::{
     Command, SmtpFault, blanks_at_end_mean_nothing, case_of_verb_means_nothing, names_are_read,
     read_command, recipients_are_read, routes_are_left_out, senders_are_read,
 };

@@ -1,5 +1,5 @@
-// Lines and what RFC 1939 and the profile above make of them.
-use crate::{
+// Lines, and what RFC 1939 and our profile of it make of them.
+use pop_wire::{
     PopCommand, PopFault, blanks_at_end_mean_nothing, case_of_verb_means_nothing,
     larger_numbers_are_bad, more_spaces_mean_nothing, names_are_read, numbers_are_read,
     other_verbs_are_unknown, read_command, secrets_are_read, two_arguments_are_too_many,

@@ -1,22 +1,12 @@
 // Lines and texts that were worked by hand, cut at every place.
 ghost use Rattle.std.specs.Prelude.{◌≤◌};
-ghost use Rattle.dot_text.specs.Worked.{Received, Sent};
 
-use crate::{
+use dot_text::{
     Cut, Line, LineCutter, Undotter, begun_texts_have_no_end, dot_into, lines_are_all,
     lines_are_one, texts_are_one, texts_are_read_back, texts_are_sent_in_one_way,
+    worked_as_received, worked_as_sent,
 };
 use std::alloc::{AllocError, Global};
-
-// The definition of a text holds where it was worked by hand.
-fn worked_as_received()
-    ensures { Received }
-{}
-
-// So does that of a text that is sent.
-fn worked_as_sent()
-    ensures { Sent }
-{}
 
 #[test]
 fn laws_are_said() {

@@ -1,9 +1,8 @@
 // A store over a disk in memory: what each call records and tells.
-mod opening;
 
-use crate::NodeStore;
 use io_edge::PlainDisk;
 use mail_base::{Key, MsgId, Name, NodeNo, NodeSet, ObjState, Stamp, StrikeMark, Value};
+use node_store::NodeStore;
 use std::test::Fail;
 use update_log::Acked;
 

@@ -1,9 +1,9 @@
 // Rows that were worked by hand, against the plain functions.
-use crate::{
+use mail_model::plain::{Fate, Id, Stamp, id_text};
+use mail_plain::{
     Entry, Item, PopCommand, PopFault, Record, SmtpCommand, SmtpFault, answers_to, lines_to,
     marked_ids, messages, pop_command, sent, slots, slots_after, smtp_command, unmarked,
 };
-use mail_model::plain::{Fate, Id, Stamp, id_text};
 use std::alloc::{AllocError, Global};
 use std::test::Fail;
 
