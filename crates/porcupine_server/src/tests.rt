@@ -1,6 +1,5 @@
 // Whole tapes through the program's one call, over an outside in memory.
 
-mod at_once;
 mod clusters;
 mod command_line;
 mod crashes;
@@ -10,7 +9,9 @@ mod examples;
 mod faults;
 mod maildrops;
 mod messages;
+mod pieces;
 mod plans;
+mod recipients;
 mod replies;
 mod run_lines;
 mod store;
@@ -40,6 +41,15 @@ fn repeated(alloc: Global, octet: u8, count: usize) -> Result<Vec<u8>, AllocErro
     let mut octets = Vec::new(alloc);
     octets.resize(count, octet)?;
     Ok(octets)
+}
+
+// The lines of a text, each with its LF.
+fn lines_of<'a>(alloc: Global, text: &'a [u8]) -> Result<Vec<&'a [u8]>, AllocError> {
+    let mut lines = Vec::new(alloc);
+    for line in text.split_inclusive(|octet| *octet == b'\n') {
+        lines.push(line)?;
+    }
+    Ok(lines)
 }
 
 // The words of a command line.
@@ -121,19 +131,22 @@ struct Script {
 }
 
 impl Script {
-    fn new(alloc: Global, lines: &[u8]) -> Result<Script, AllocError> {
+    // A tape of these pieces of tables, of which no disk call fails.
+    fn new(alloc: Global, pieces: &[&[u8]]) -> Result<Script, AllocError> {
         let mut script = Script {
             alloc,
             tape: Vec::new(alloc),
             wanted: Vec::new(alloc),
             failing: 0,
         };
-        script.add(lines)?;
+        for piece in pieces {
+            script.add(piece)?;
+        }
         Ok(script)
     }
 
-    fn add(&mut self, lines: &[u8]) -> Result<(), AllocError> {
-        for line in lines.split_inclusive(|octet| *octet == b'\n') {
+    fn add(&mut self, piece: &[u8]) -> Result<(), AllocError> {
+        for line in lines_of(self.alloc, piece)? {
             match line.strip_prefix(b"  ") {
                 Some(written) => self.wanted.extend_from_slice(written)?,
                 None => self.tape.extend_from_slice(line)?,
@@ -154,28 +167,19 @@ impl Script {
     }
 }
 
-// Runs each case of the table after these lines: a case goes through a line that begins with `!`.
-fn each_refused(rt: &impl Abort, alloc: Global, first: &[u8], table: &[u8]) -> Result<(), Fail> {
-    let mut script = Script::new(alloc, first)?;
-    for line in table.split_inclusive(|octet| *octet == b'\n') {
+// Runs each case of the table after these lines. A case goes through its line `end`, or through a line that begins with `!`.
+fn each_case(rt: &impl Abort, alloc: Global, first: &[u8], table: &[u8]) -> Result<(), Fail> {
+    let mut script = Script::new(alloc, &[first])?;
+    let mut over = true;
+    for line in lines_of(alloc, table)? {
         script.add(line)?;
-        if line.starts_with(b"  !") {
-            script.run(rt, 3)?;
-            script = Script::new(alloc, first)?;
+        let refused = line.starts_with(b"  !");
+        over = refused || line == b"end\n".as_slice() || line == b"end\r\n".as_slice();
+        if over {
+            script.run(rt, if refused { 3 } else { 0 })?;
+            script = Script::new(alloc, &[first])?;
         }
     }
-    Ok(())
-}
-
-// Runs each case of the table: a case is a whole tape, through its line `end`.
-fn each_handled(rt: &impl Abort, alloc: Global, table: &[u8]) -> Result<(), Fail> {
-    let mut script = Script::new(alloc, b"")?;
-    for line in table.split_inclusive(|octet| *octet == b'\n') {
-        script.add(line)?;
-        if line == b"end\n".as_slice() {
-            script.run(rt, 0)?;
-            script = Script::new(alloc, b"")?;
-        }
-    }
+    assert!(rt; over, "the last case does not end");
     Ok(())
 }

@@ -1,6 +1,6 @@
 // Clusters of several nodes: letters that are heard, dropped, thrown and repeated, and nodes that stop, start and are lost.
 
-use super::{each_handled, each_refused};
+use super::each_case;
 use std::test::Fail;
 
 // Whole tapes. A cluster of one node starts again; three copies are confirmed, and two of three; a call is given up; letters are
@@ -333,11 +333,6 @@ flow
 end
 ";
 
-#[test]
-fn letters_and_nodes_are_moved_by_the_tape_alone(rt: HostRuntime) -> Result<(), Fail> {
-    each_handled(&rt, rt.alloc(), HANDLED)
-}
-
 const PLAN_OF_THREE: &[u8] = b"\
 nodes 3
 copies 3 2
@@ -481,6 +476,7 @@ close 1
 ";
 
 #[test]
-fn run_lines_of_a_cluster_are_refused(rt: HostRuntime) -> Result<(), Fail> {
-    each_refused(&rt, rt.alloc(), PLAN_OF_THREE, REFUSED)
+fn letters_and_nodes_are_moved_by_the_tape_alone(rt: HostRuntime) -> Result<(), Fail> {
+    each_case(&rt, rt.alloc(), b"", HANDLED)?;
+    each_case(&rt, rt.alloc(), PLAN_OF_THREE, REFUSED)
 }

@@ -1,6 +1,7 @@
 // What the system hands over as words: the program's name, and then those of the command line.
 
 use crate::program::run;
+use io_edge::faulty::FaultySink;
 use io_edge::{SliceSource, VecSink};
 use std::env;
 use std::env::{Env, FillError};
@@ -34,22 +35,28 @@ impl<'a> Env for HandedOver<'a> {
 }
 
 #[test]
-fn words_that_are_not_text_are_refused(rt: HostRuntime) -> Result<(), Fail> {
+fn other_words_are_refused(rt: HostRuntime) -> Result<(), Fail> {
     let alloc = rt.alloc();
-    let cases: [(&[&[u8]], u8, &[u8]); 6] = [
-        (&[b"porcupine", b"drive"], 3, b"! line 1 BadLine\n"),
-        (&[b"porcupine", b"\xFF\xFE"], 1, b"! words\n"),
-        (&[b"porcupine", b"drive", b"\xC3"], 1, b"! words\n"),
-        (&[b"porcupine", b"drive", b"now"], 1, b"! words\n"),
-        (&[b"porcupine"], 1, b"! words\n"),
-        (&[], 1, b"! words\n"),
+    // The words, which write fails, the status, and what is written.
+    let cases: [(&[&[u8]], u64, u8, &[u8]); 11] = [
+        (&[b"porcupine", b"drive"], 0, 3, b"! line 1 BadLine\n"),
+        (&[b"porcupine", b"\xFF\xFE"], 0, 1, b"! words\n"),
+        (&[b"porcupine", b"drive", b"\xC3"], 0, 1, b"! words\n"),
+        (&[b"porcupine", b"drive", b"now"], 0, 1, b"! words\n"),
+        (&[b"porcupine"], 0, 1, b"! words\n"),
+        (&[], 0, 1, b"! words\n"),
+        (&[b"porcupine", b""], 0, 1, b"! words\n"),
+        (&[b"porcupine", b"Drive"], 0, 1, b"! words\n"),
+        (&[b"porcupine", b"drive "], 0, 1, b"! words\n"),
+        (&[b"porcupine", b"-h"], 0, 1, b"! words\n"),
+        (&[b"porcupine", b"-h"], 1, 1, b""),
     ];
-    for (words, status, written) in cases {
-        let mut sink = VecSink::new(alloc);
+    for (words, write, status, written) in cases {
+        let mut sink = FaultySink::new(VecSink::new(alloc), write);
         let arguments = env::args(&(HandedOver { words }, alloc));
         let answer = run(alloc, arguments, &mut SliceSource::new(b""), &mut sink);
         assert_eq!(rt; answer, status);
-        assert_eq!(rt; sink.held.as_slice(), written);
+        assert_eq!(rt; sink.inner.held.as_slice(), written);
     }
     Ok(())
 }

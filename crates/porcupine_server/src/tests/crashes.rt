@@ -1,6 +1,6 @@
 // A node that stops and starts again: what was answered is there, and what was deleted is not.
 
-use super::{PLAN, Script, drive, drive_over, joined};
+use super::{PLAN, Script, drive, drive_over, joined, lines_of};
 use io_edge::MemoryYard;
 use node_disk::{Image, MemoryDisk};
 use std::alloc::{AllocError, Global};
@@ -42,7 +42,9 @@ start 1
   * node 1 up 2
 ";
 
-const LOGIN: &[u8] = b"say 2 USER alice
+const LOGIN: &[u8] = b"open pop 1
+  2 +OK node1 ready <2.2.0@node1>
+say 2 USER alice
   2 +OK send PASS
 say 2 PASS tanstaaf
   2 +OK maildrop open
@@ -51,19 +53,15 @@ say 2 STAT
 
 // The node stops behind these lines; then it is listed what was answered.
 fn stops_behind(rt: &impl Abort, alloc: Global, lines: &[u8]) -> Result<(), Fail> {
-    let mut script = Script::new(alloc, PLAN)?;
-    script.add(lines)?;
     let ended = lines.ends_with(b"* 1 closed\n");
-    script.add(if ended { STARTED } else { STARTED_IN_SESSION })?;
-    script.add(b"open pop 1\n  2 +OK node1 ready <2.2.0@node1>\n")?;
-    script.add(LOGIN)?;
+    let started = if ended { STARTED } else { STARTED_IN_SESSION };
     let stored = ended || lines.ends_with(b"250 stored\n");
-    script.add(if stored {
+    let found: &[u8] = if stored {
         b"  2 +OK 1 151\nend\n"
     } else {
         b"  2 +OK 0 0\nend\n"
-    })?;
-    script.run(rt, 0)?;
+    };
+    Script::new(alloc, &[PLAN, lines, started, LOGIN, found])?.run(rt, 0)?;
     Ok(())
 }
 
@@ -71,7 +69,7 @@ fn stops_behind(rt: &impl Abort, alloc: Global, lines: &[u8]) -> Result<(), Fail
 fn a_node_stops_behind_each_line(rt: HostRuntime) -> Result<(), Fail> {
     let alloc = rt.alloc();
     let mut lines = Vec::new(alloc);
-    for line in SENT.split_inclusive(|octet| *octet == b'\n') {
+    for line in lines_of(alloc, SENT)? {
         if !line.starts_with(b"  ") && !lines.is_empty() {
             stops_behind(&rt, alloc, &lines)?;
         }
@@ -123,10 +121,7 @@ fn listed(alloc: Global, lines: &[u8], failing: u64, image: Image) -> Result<Vec
     disks.push(disk)?;
     let tape = joined(alloc, &[lines, STARTED_AGAIN])?;
     let (_, transcript) = drive_over(alloc, &tape, &mut MemoryYard::new(alloc, disks))?;
-    let mut last: &[u8] = b"";
-    for line in transcript.split_inclusive(|octet| *octet == b'\n') {
-        last = line;
-    }
+    let last = lines_of(alloc, &transcript)?.pop().unwrap_or(b"");
     Vec::from_slice(alloc, last)
 }
 
@@ -142,7 +137,7 @@ fn what_was_answered_stands_after_a_start(rt: HostRuntime) -> Result<(), Fail> {
     let mut lines = joined(alloc, &[PLAN])?;
     let mut done = calls(alloc, &lines)?;
     let mut stored: u64 = 0;
-    for line in DELETED.split_inclusive(|octet| *octet == b'\n') {
+    for line in lines_of(alloc, DELETED)? {
         lines.extend_from_slice(line)?;
         let made = calls(alloc, &lines)?;
         // What the line asks for may be done or not: a message more, or at the deletion one less.

@@ -2,7 +2,7 @@
 
 use super::faults::{begins_with, calls_of};
 use super::store::Journal;
-use super::{PLAN, Script, joined};
+use super::{PLAN, Script};
 use node_disk::Image;
 use std::alloc::{AllocError, Global};
 use std::test::Fail;
@@ -178,27 +178,6 @@ say 1 .
 end
 ";
 
-#[test]
-fn a_quit_deletes_what_its_session_marked(rt: HostRuntime) -> Result<(), Fail> {
-    let alloc = rt.alloc();
-    let mut script = Script::new(alloc, TWO_USERS)?;
-    script.add(THREE_MESSAGES)?;
-    script.add(DELETING)?;
-    script.add(OTHERS)?;
-    let run = script.run(&rt, 0)?;
-    let mut journal = Journal::new(alloc)?;
-    let both: [&[u8]; 2] = [b"alice", b"bob"];
-    journal.message(b"", b"c.example", &both, b"one\r\n")?;
-    journal.message(b"", b"c.example", &[b"alice"], b"second\r\n")?;
-    journal.message(b"", b"c.example", &[b"alice"], b"three!!\r\n")?;
-    journal.gone(b"alice", 1)?;
-    journal.gone(b"alice", 3)?;
-    journal.gone(b"alice", 1)?;
-    journal.message(b"", b"c.example", &[b"bob"], b"")?;
-    journal.is_held(&rt, run.disk.octets())?;
-    Ok(())
-}
-
 // A session that marks, and then does not quit: its client closes it, or the tape ends.
 const CLOSING: &[u8] = b"\
 open pop 1
@@ -228,22 +207,6 @@ say 4 DELE 1
   4 +OK message 1 deleted
 end
 ";
-
-#[test]
-fn a_session_that_does_not_quit_deletes_nothing(rt: HostRuntime) -> Result<(), Fail> {
-    let alloc = rt.alloc();
-    let mut script = Script::new(alloc, TWO_USERS)?;
-    script.add(THREE_MESSAGES)?;
-    script.add(CLOSING)?;
-    let run = script.run(&rt, 0)?;
-    let mut journal = Journal::new(alloc)?;
-    let both: [&[u8]; 2] = [b"alice", b"bob"];
-    journal.message(b"", b"c.example", &both, b"one\r\n")?;
-    journal.message(b"", b"c.example", &[b"alice"], b"second\r\n")?;
-    journal.message(b"", b"c.example", &[b"alice"], b"three!!\r\n")?;
-    journal.is_held(&rt, run.disk.octets())?;
-    Ok(())
-}
 
 const STORED: &[u8] = b"\
 open smtp 1
@@ -281,11 +244,37 @@ open pop 1
   ! line 18 NodeDown
 ";
 
+// The journal of the three messages.
+fn three_messages(alloc: Global) -> Result<Journal, Fail> {
+    let mut journal = Journal::new(alloc)?;
+    let both: [&[u8]; 2] = [b"alice", b"bob"];
+    journal.message(b"", b"c.example", &both, b"one\r\n")?;
+    journal.message(b"", b"c.example", &[b"alice"], b"second\r\n")?;
+    journal.message(b"", b"c.example", &[b"alice"], b"three!!\r\n")?;
+    Ok(journal)
+}
+
+#[test]
+fn a_quit_deletes_what_its_session_marked(rt: HostRuntime) -> Result<(), Fail> {
+    let alloc = rt.alloc();
+    let script = Script::new(alloc, &[TWO_USERS, THREE_MESSAGES, DELETING, OTHERS])?;
+    let run = script.run(&rt, 0)?;
+    let mut journal = three_messages(alloc)?;
+    journal.gone(b"alice", 1)?;
+    journal.gone(b"alice", 3)?;
+    journal.gone(b"alice", 1)?;
+    journal.message(b"", b"c.example", &[b"bob"], b"")?;
+    journal.is_held(&rt, run.disk.octets())?;
+    // A session that does not quit deletes nothing.
+    let run = Script::new(alloc, &[TWO_USERS, THREE_MESSAGES, CLOSING])?.run(&rt, 0)?;
+    three_messages(alloc)?.is_held(&rt, run.disk.octets())?;
+    Ok(())
+}
+
 // The tape of one message that is deleted, of which this disk call fails.
 fn deleting(alloc: Global, failing: u64, rest: &[u8]) -> Result<Script, AllocError> {
-    let mut script = Script::new(alloc, PLAN)?;
+    let mut script = Script::new(alloc, &[PLAN, STORED, MARKED, rest])?;
     script.failing = failing;
-    script.add(&joined(alloc, &[STORED, MARKED, rest])?)?;
     Ok(script)
 }
 
@@ -294,7 +283,7 @@ fn a_disk_fault_in_a_deletion_takes_the_node_down(rt: HostRuntime) -> Result<(),
     let alloc = rt.alloc();
     let mut journal = Journal::new(alloc)?;
     journal.message(b"", b"c.example", &[b"alice"], b"")?;
-    let stored = Script::new(alloc, &joined(alloc, &[PLAN, STORED, b"end\n"])?)?;
+    let stored = Script::new(alloc, &[PLAN, STORED, b"end\n"])?;
     let stored = calls_of(&rt, &stored, 0)?;
     let whole = deleting(alloc, 0, b"  2 +OK bye\n  * 2 closed\nend\n")?;
     let deleted = calls_of(&rt, &whole, 0)?;

@@ -1,15 +1,15 @@
-// Small tapes over a cluster that is open already, with what the description of tapes gives for them, what the book then has,
-// and how lines are written.
+// Small tapes over a cluster that is open already, with what the description of tapes gives for them, and what the book then
+// has.
 ghost use Rattle.std.specs.Prelude.{◌≡◌, IfSome, IfOk, []};
 ghost use Rattle.cluster_world.specs.Opens.{AreEmpty};
 
+use super::joined;
 use cluster_world::World;
-use drive_tape::{Drove, Entry, Row, TapeFault, drive, read_drive_head, write_entries};
-use io_edge::faulty::{FaultySink, FaultySource};
+use drive_tape::{Drove, TapeFault, drive, read_drive_head};
 use io_edge::{Disk, PlainDisk, Sink, SliceSource, Source, VecSink};
-use mail_base::Octets;
 use node_disk::MemoryDisk;
 use std::alloc::{AllocError, Global};
+use std::process::Abort;
 use std::test::Fail;
 use world_book::Entry as BookEntry;
 
@@ -22,12 +22,6 @@ const MESSAGE: &[u8] =
 
 const ASKED: &[u8] =
     b"1 220 node1 Porcupine ready\n1 250 node1\n1 250 sender ok\n1 250 recipient ok\n1 250 recipient ok\n1 354 end with a line that is a single period\n";
-
-fn joined(alloc: Global, front: &[u8], rest: &[u8]) -> Result<Vec<u8>, AllocError> {
-    let mut octets = front.to_vec(alloc)?;
-    octets.extend_from_slice(rest)?;
-    Ok(octets)
-}
 
 // What the book says: how many copies were acknowledged, were to be deleted, and were dropped, and how many times a node
 // went down, came up or was lost.
@@ -117,40 +111,6 @@ fn run<S: Source, K: Sink, D: Disk + Drop>(
     (answer, counted)
 }
 
-#[test]
-fn a_message_is_stored_or_the_disk_fails(rt: HostRuntime) -> Result<(), Fail> {
-    let alloc = rt.alloc();
-    let stored: &[u8] = b"1 250 stored\n2 220 node1 Porcupine ready\n";
-    let fallen: &[u8] = b"* fault 1\n1 421 node1 down\n* 1 closed\n";
-    let whole = Counts { acked: 2, ..none() };
-    let gone = Counts { down: 1, ..none() };
-    // The opening makes six disk calls, and the message for two mailboxes twenty: its octets, and of each copy its state and
-    // that it is retired.
-    let cases: [(u64, Drove, &[u8], Counts); 4] = [
-        (0, Drove::Ended, stored, whole),
-        (7, Drove::BadTape(18, TapeFault::NodeDown), fallen, gone),
-        (26, Drove::BadTape(18, TapeFault::NodeDown), fallen, gone),
-        (27, Drove::Ended, stored, whole),
-    ];
-    for (call, wanted, transcript, counted) in cases {
-        let front = joined(alloc, PLAN, MESSAGE)?;
-        let tape = joined(alloc, &front, b"open smtp 1\nend\n")?;
-        let mut sink = VecSink::new(alloc);
-        let mut disk = MemoryDisk::new(alloc);
-        disk.fail_at(call)?;
-        let disks = alone(alloc, disk)?;
-        assert_eq!(rt;
-            run(alloc, &mut SliceSource::new(&tape), &mut sink, disks),
-            (wanted, counted)
-        );
-        assert_eq!(rt;
-            sink.held.as_slice(),
-            joined(alloc, ASKED, transcript)?.as_slice()
-        );
-    }
-    Ok(())
-}
-
 // The reader of one of them has it deleted; and one that closes its session has not.
 const DELETED: &[u8] =
     b"open pop 1\nsay 2 USER alice\nsay 2 PASS a\nsay 2 DELE 1\nopen pop 1\nsay 3 USER carol\nsay 3 PASS c\nsay 3 DELE 1\nclose 3\nsay 2 QUIT\nend\n";
@@ -158,47 +118,75 @@ const DELETED: &[u8] =
 const MARKED: &[u8] =
     b"1 250 stored\n2 +OK node1 ready <1.2.0@node1>\n2 +OK send PASS\n2 +OK maildrop open\n2 +OK message 1 deleted\n3 +OK node1 ready <1.3.0@node1>\n3 +OK send PASS\n3 +OK maildrop open\n3 +OK message 1 deleted\n";
 
+// Runs the tape over a disk of which this call fails; it drives so, says this, and the book has so many entries.
+fn drives(
+    rt: &impl Abort,
+    alloc: Global,
+    tape: &[&[u8]],
+    call: u64,
+    wanted: (Drove, Counts),
+    said: &[&[u8]],
+) -> Result<(), Fail> {
+    let tape = joined(alloc, tape)?;
+    let mut sink = VecSink::new(alloc);
+    let mut disk = MemoryDisk::new(alloc);
+    disk.fail_at(call)?;
+    let disks = alone(alloc, disk)?;
+    let drove = run(alloc, &mut SliceSource::new(&tape), &mut sink, disks);
+    assert_eq!(rt; drove, wanted);
+    assert_eq!(rt; sink.held.as_slice(), joined(alloc, said)?.as_slice());
+    Ok(())
+}
+
 #[test]
-fn a_marked_message_is_deleted_or_the_disk_fails(rt: HostRuntime) -> Result<(), Fail> {
+fn a_message_is_stored_and_deleted_or_the_disk_fails(rt: HostRuntime) -> Result<(), Fail> {
     let alloc = rt.alloc();
+    let stored: &[u8] = b"1 250 stored\n2 220 node1 Porcupine ready\n";
+    let fallen: &[u8] = b"* fault 1\n1 421 node1 down\n* 1 closed\n";
+    let down = Drove::BadTape(18, TapeFault::NodeDown);
+    let whole = Counts { acked: 2, ..none() };
+    let gone = Counts { down: 1, ..none() };
+    // The opening makes six disk calls, and the message for two mailboxes twenty: its octets, and of each copy its state and
+    // that it is retired.
+    let cases: [(u64, Drove, &[u8], Counts); 4] = [
+        (0, Drove::Ended, stored, whole),
+        (7, down, fallen, gone),
+        (26, down, fallen, gone),
+        (27, Drove::Ended, stored, whole),
+    ];
+    for (call, drove, said, counted) in cases {
+        let tape = [PLAN, MESSAGE, b"open smtp 1\nend\n"];
+        drives(&rt, alloc, &tape, call, (drove, counted), &[ASKED, said])?;
+    }
     let dropped: &[u8] = b"2 +OK bye\n* 2 closed\n";
     let fallen: &[u8] =
         b"* fault 1\n1 421 node1 down\n* 1 closed\n2 -ERR [SYS/TEMP] node1 down\n* 2 closed\n";
-    let whole = Counts {
-        acked: 2,
-        struck: 1,
-        dropped: 1,
-        ..none()
-    };
-    let down = Counts {
-        acked: 2,
-        struck: 1,
-        down: 1,
-        ..none()
-    };
+    let struck = Counts { struck: 1, ..whole };
     // The Gone state takes four disk calls after the twenty-six before it, and that it is retired four more.
     let cases: [(u64, &[u8], Counts); 4] = [
-        (0, dropped, whole),
-        (27, fallen, down),
-        (34, fallen, down),
-        (35, dropped, whole),
+        (
+            0,
+            dropped,
+            Counts {
+                dropped: 1,
+                ..struck
+            },
+        ),
+        (27, fallen, Counts { down: 1, ..struck }),
+        (34, fallen, Counts { down: 1, ..struck }),
+        (
+            35,
+            dropped,
+            Counts {
+                dropped: 1,
+                ..struck
+            },
+        ),
     ];
-    for (call, transcript, counted) in cases {
-        let front = joined(alloc, PLAN, MESSAGE)?;
-        let tape = joined(alloc, &front, DELETED)?;
-        let mut sink = VecSink::new(alloc);
-        let mut disk = MemoryDisk::new(alloc);
-        disk.fail_at(call)?;
-        let disks = alone(alloc, disk)?;
-        assert_eq!(rt;
-            run(alloc, &mut SliceSource::new(&tape), &mut sink, disks),
-            (Drove::Ended, counted)
-        );
-        let asked = joined(alloc, ASKED, MARKED)?;
-        assert_eq!(rt;
-            sink.held.as_slice(),
-            joined(alloc, &asked, transcript)?.as_slice()
-        );
+    for (call, said, counted) in cases {
+        let tape = [PLAN, MESSAGE, DELETED];
+        let wanted = (Drove::Ended, counted);
+        drives(&rt, alloc, &tape, call, wanted, &[ASKED, MARKED, said])?;
     }
     Ok(())
 }
@@ -248,7 +236,7 @@ fn a_message_waits_for_its_nodes(rt: HostRuntime) -> Result<(), Fail> {
         ),
     ];
     for (lines, wanted, transcript, counted) in cases {
-        let tape = joined(alloc, THREE, lines)?;
+        let tape = joined(alloc, &[THREE, lines])?;
         let mut sink = VecSink::new(alloc);
         let disks = three(
             alloc,
@@ -262,79 +250,8 @@ fn a_message_waits_for_its_nodes(rt: HostRuntime) -> Result<(), Fail> {
         );
         assert_eq!(rt;
             sink.held.as_slice(),
-            joined(alloc, PENDING, transcript)?.as_slice()
+            joined(alloc, &[PENDING, transcript])?.as_slice()
         );
     }
-    Ok(())
-}
-
-#[test]
-fn streams_fail(rt: HostRuntime) -> Result<(), Fail> {
-    let alloc = rt.alloc();
-    let tape = joined(alloc, PLAN, b"open smtp 1\nsay 1 QUIT\n")?;
-    // Each octet of the tape is one read, and each line of the transcript is one write.
-    let last = tape.len() as u64 + 1;
-    let cases: [(u64, u64, Drove, &[u8]); 4] = [
-        (1, 0, Drove::ReadFault, b""),
-        (
-            last,
-            0,
-            Drove::ReadFault,
-            b"1 220 node1 Porcupine ready\n1 221 node1 closing\n* 1 closed\n",
-        ),
-        (0, 2, Drove::WriteFault(9), b"1 220 node1 Porcupine ready\n"),
-        (
-            0,
-            3,
-            Drove::WriteFault(9),
-            b"1 220 node1 Porcupine ready\n1 221 node1 closing\n",
-        ),
-    ];
-    for (read, write, wanted, transcript) in cases {
-        let mut source = FaultySource::new(SliceSource::new(&tape), read);
-        let mut sink = FaultySink::new(VecSink::new(alloc), write);
-        let disks = alone(alloc, PlainDisk::new(alloc))?;
-        let (answer, _) = run(alloc, &mut source, &mut sink, disks);
-        assert_eq!(rt; answer, wanted);
-        assert_eq!(rt; sink.inner.held.as_slice(), transcript);
-    }
-    Ok(())
-}
-
-#[test]
-fn a_line_needs_its_lf(rt: HostRuntime) -> Result<(), Fail> {
-    let alloc = rt.alloc();
-    let tape = joined(alloc, PLAN, b"open smtp 1\nsay 1 QUIT")?;
-    let mut sink = VecSink::new(alloc);
-    let disks = alone(alloc, PlainDisk::new(alloc))?;
-    let (answer, _) = run(alloc, &mut SliceSource::new(&tape), &mut sink, disks);
-    assert_eq!(rt; answer, Drove::BadTape(9, TapeFault::BadLine));
-    assert_eq!(rt;
-        sink.held.as_slice(),
-        b"1 220 node1 Porcupine ready\n".as_slice()
-    );
-    Ok(())
-}
-
-#[test]
-fn entries_are_written(rt: HostRuntime) -> Result<(), Fail> {
-    let alloc = rt.alloc();
-    let mut row = Row::new(alloc);
-    row.push(Entry::Said {
-        session: 12,
-        text: Octets::from_vec(b"a~\\\x7f\n".to_vec(alloc)?),
-    })?;
-    row.push(Entry::Event {
-        text: Octets::from_vec(b"fault 1".to_vec(alloc)?),
-    })?;
-    row.push(Entry::Refused {
-        text: Octets::from_vec(TapeFault::BadLine.name().to_vec(alloc)?),
-    })?;
-    let mut sink = VecSink::new(alloc);
-    assert_eq!(rt; write_entries(alloc, &mut sink, row.as_slice()), Ok(()));
-    assert_eq!(rt;
-        sink.held.as_slice(),
-        b"12 a~\\x5C\\x7F\\x0A\n* fault 1\n! BadLine\n".as_slice()
-    );
     Ok(())
 }

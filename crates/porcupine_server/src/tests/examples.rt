@@ -3,7 +3,7 @@
 // Each table is one tape and, indented, its transcript: the script examples/compare.py takes both out of this file and says
 // where one of them differs from the file of the example.
 
-use super::Script;
+use super::each_case;
 use std::test::Fail;
 
 const FIRST: &[u8] = b"\
@@ -453,7 +453,7 @@ end
 #[test]
 fn each_example_is_answered_as_its_file_says(rt: HostRuntime) -> Result<(), Fail> {
     for lines in [FIRST, READING, DAY, RESTART, LOST_NODE] {
-        Script::new(rt.alloc(), lines)?.run(&rt, 0)?;
+        each_case(&rt, rt.alloc(), b"", lines)?;
     }
     Ok(())
 }

@@ -40,10 +40,8 @@ const FALLEN: &[u8] = b"  * fault 1
 
 // The tape of one message, of which this disk call fails.
 fn asked(alloc: Global, failing: u64, rest: &[u8]) -> Result<Script, AllocError> {
-    let mut script = Script::new(alloc, PLAN)?;
+    let mut script = Script::new(alloc, &[PLAN, ASKED, rest])?;
     script.failing = failing;
-    script.add(ASKED)?;
-    script.add(rest)?;
     Ok(script)
 }
 
@@ -65,47 +63,16 @@ pub(super) fn begins_with(
     Ok(())
 }
 
-// A run line that is refused at a node that is down, and what a stop of the machine then leaves of the disk.
-fn refusals() -> [(&'static [u8], Image); 4] {
-    [
-        (b"open smtp 1\n  ! line 16 NodeDown\n", Image::Nothing),
-        (b"open smtp 2\n  ! line 16 NoSuchNode\n", Image::Front(5)),
-        (b"say 2 QUIT\n  ! line 16 NoSuchSession\n", Image::All),
-        (
-            b"say 3 QUIT\n  ! line 16 NoSuchSession\n",
-            Image::Garbage(0xA5),
-        ),
-    ]
-}
-
-#[test]
-fn a_disk_fault_takes_the_node_down(rt: HostRuntime) -> Result<(), Fail> {
-    let alloc = rt.alloc();
-    let journal = Journal::new(alloc)?;
-    let opened = calls_of(
-        &rt,
-        &Script::new(
-            alloc,
-            b"nodes 1\ncopies 1 1\nbuckets 1\nuser alice tanstaaf\npostmaster alice\ngo\nend\n",
-        )?,
-        0,
-    )?;
-    let stored = calls_of(&rt, &asked(alloc, 0, b"  2 250 stored\nend\n")?, 0)?;
-    assert!(rt; opened < stored);
-    for failing in 1..=opened {
-        let run = drive(alloc, PLAN, failing)?;
-        assert_eq!(rt; run.transcript.as_slice(), b"! disk 0 1\n".as_slice());
-        assert_eq!(rt; run.status, 6);
-    }
-    for failing in opened + 1..=stored {
-        for (refusal, image) in refusals() {
-            let lines = joined(alloc, &[FALLEN, refusal])?;
-            let run = asked(alloc, failing, &lines)?.run(&rt, 3)?;
-            begins_with(&rt, run.disk, image, &journal)?;
-        }
-    }
-    Ok(())
-}
+// Run lines that are refused at a node that is down, and what a stop of the machine then leaves of the disk.
+const REFUSALS: [(&[u8], Image); 4] = [
+    (b"open smtp 1\n  ! line 16 NodeDown\n", Image::Nothing),
+    (b"open smtp 2\n  ! line 16 NoSuchNode\n", Image::Front(5)),
+    (b"say 2 QUIT\n  ! line 16 NoSuchSession\n", Image::All),
+    (
+        b"say 3 QUIT\n  ! line 16 NoSuchSession\n",
+        Image::Garbage(0xA5),
+    ),
+];
 
 const RETRIEVED: &[u8] = b"  2 250 stored
 open pop 1
@@ -137,16 +104,27 @@ close 4
 ";
 
 #[test]
-fn a_read_that_fails_takes_the_node_down(rt: HostRuntime) -> Result<(), Fail> {
+fn a_disk_fault_takes_the_node_down(rt: HostRuntime) -> Result<(), Fail> {
     let alloc = rt.alloc();
-    // LIST reads nothing, and RETR is the first disk call after those of the message.
+    let journal = Journal::new(alloc)?;
+    let opened = calls_of(&rt, &Script::new(alloc, &[PLAN, b"end\n"])?, 0)?;
     let stored = calls_of(&rt, &asked(alloc, 0, b"  2 250 stored\nend\n")?, 0)?;
-    asked(
-        alloc,
-        stored.saturating_add(1),
-        &joined(alloc, &[RETRIEVED, READ_FAILED])?,
-    )?
-    .run(&rt, 3)?;
+    assert!(rt; opened < stored);
+    for failing in 1..=opened {
+        let run = drive(alloc, PLAN, failing)?;
+        assert_eq!(rt; run.transcript.as_slice(), b"! disk 0 1\n".as_slice());
+        assert_eq!(rt; run.status, 6);
+    }
+    for failing in opened + 1..=stored {
+        for (refusal, image) in REFUSALS {
+            let lines = joined(alloc, &[FALLEN, refusal])?;
+            let run = asked(alloc, failing, &lines)?.run(&rt, 3)?;
+            begins_with(&rt, run.disk, image, &journal)?;
+        }
+    }
+    // LIST reads nothing, and RETR is the first disk call after those of the message.
+    let lines = joined(alloc, &[RETRIEVED, READ_FAILED])?;
+    asked(alloc, stored.saturating_add(1), &lines)?.run(&rt, 3)?;
     Ok(())
 }
 
@@ -187,15 +165,29 @@ fn what_a_unit_gives_is_written_before_the_next_is_heard(rt: HostRuntime) -> Res
 const PLAN_OF_TWO: &[u8] =
     b"nodes 2\ncopies 2 1\nbuckets 1\nuser alice tanstaaf\npostmaster alice\ngo\n";
 
+const OPENED: &[u8] = b"1 220 node1 Porcupine ready\n";
+
+const CLOSED: &[u8] = b"1 220 node1 Porcupine ready\n1 221 node1 closing\n* 1 closed\n! read\n";
+
 #[test]
 fn the_outside_fails(rt: HostRuntime) -> Result<(), Fail> {
     let alloc = rt.alloc();
-    let tape = joined(alloc, &[PLAN_OF_TWO, b"open smtp 1\nsay 1 QUIT\nend\n"])?;
+    let tape = joined(alloc, &[PLAN_OF_TWO, b"open smtp 1\nsay 1 QUIT\n"])?;
+    // Each octet of the tape is one read, and each line of the transcript is one write.
+    let last = tape.len() as u64 + 1;
     // Which read, which write and which store fails, the first being 1; the status and the transcript.
-    let cases: [(u64, u64, u64, u8, &[u8]); 5] = [
+    let cases: [(u64, u64, u64, u8, &[u8]); 7] = [
         (1, 0, 0, 4, b"! read\n"),
+        (last, 0, 0, 4, CLOSED),
         (0, 1, 0, 5, b""),
-        (0, 2, 0, 5, b"1 220 node1 Porcupine ready\n"),
+        (0, 2, 0, 5, OPENED),
+        (
+            0,
+            3,
+            0,
+            5,
+            b"1 220 node1 Porcupine ready\n1 221 node1 closing\n",
+        ),
         (0, 0, 1, 6, b"! disk 0 1\n"),
         (0, 0, 2, 6, b"! disk 0 2\n"),
     ];
@@ -251,32 +243,6 @@ fn a_store_that_holds_something_is_given_back_as_it_was(rt: HostRuntime) -> Resu
             }
             None => assert!(rt; false),
         }
-    }
-    Ok(())
-}
-
-#[test]
-fn other_words_are_refused(rt: HostRuntime) -> Result<(), Fail> {
-    let alloc = rt.alloc();
-    // Which write fails, and what is written.
-    let cases: [(&str, u64, &[u8]); 5] = [
-        ("", 0, b"! words\n"),
-        ("Drive", 0, b"! words\n"),
-        ("drive ", 0, b"! words\n"),
-        ("-h", 0, b"! words\n"),
-        ("-h", 1, b""),
-    ];
-    for (word, write, written) in cases {
-        let mut sink = FaultySink::new(VecSink::new(alloc), write);
-        let answer = porcupine(
-            alloc,
-            &words(alloc, word)?,
-            &mut SliceSource::new(b""),
-            &mut sink,
-            &mut yard_of(alloc, 0)?,
-        );
-        assert_eq!(rt; answer, 1);
-        assert_eq!(rt; sink.inner.held.as_slice(), written);
     }
     Ok(())
 }

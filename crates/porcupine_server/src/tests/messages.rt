@@ -3,6 +3,7 @@
 use super::store::Journal;
 use super::{PLAN, Script, joined, repeated};
 use std::alloc::{AllocError, Global};
+use std::process::Abort;
 use std::test::Fail;
 
 const BEGIN: &[u8] = b"\
@@ -26,41 +27,6 @@ say 1 .
   1 250 stored
 ";
 
-// One session, which sends a message of each of these lines of text.
-fn sent(alloc: Global, texts: &[&[u8]]) -> Result<Script, AllocError> {
-    let mut script = Script::new(alloc, PLAN)?;
-    script.add(BEGIN)?;
-    for text in texts {
-        script.add(ENVELOPE)?;
-        script.add(text)?;
-        script.add(STORED)?;
-    }
-    script.add(b"end\n")?;
-    Ok(script)
-}
-
-#[test]
-fn one_message_is_stored(rt: HostRuntime) -> Result<(), Fail> {
-    let alloc = rt.alloc();
-    // Besides the message the store has 130 octets.
-    let cases: [(&[u8], &[u8], usize); 2] = [
-        (b"", b"", 129),
-        (
-            b"say 1 Subject: hi\nsay 1\nsay 1 hello\n",
-            b"Subject: hi\r\n\r\nhello\r\n",
-            151,
-        ),
-    ];
-    for (lines, text, length) in cases {
-        let run = sent(alloc, &[lines])?.run(&rt, 0)?;
-        assert_eq!(rt; run.disk.octets().len(), length + 130);
-        let mut journal = Journal::new(alloc)?;
-        journal.message(b"bob@b.example", b"c.example", &[b"alice"], text)?;
-        journal.is_held(&rt, run.disk.octets())?;
-    }
-    Ok(())
-}
-
 // Lines that are no end of the text, and octets of every kind.
 const LINES: &[u8] = b"\
 say 1 ...
@@ -78,33 +44,6 @@ say 1 QUIT
 
 const TEXT: &[u8] =
     b"..\r\na\r\n \r\n\r\r\n .\r\nx\r.\ry\r\n\r\n\r\n\r\na\0b\x07\x7F\x80\xFF\t \r\nQUIT\r\n";
-
-#[test]
-fn texts_are_stored_octet_for_octet(rt: HostRuntime) -> Result<(), Fail> {
-    let alloc = rt.alloc();
-    let texts: [&[u8]; 3] = [b"say 1 ..\n", LINES, b"say 1 ..\nsay 1 .\r.\n"];
-    let run = sent(alloc, &texts)?.run(&rt, 0)?;
-    let mut journal = Journal::new(alloc)?;
-    for text in [b".\r\n".as_slice(), TEXT, b".\r\n\r.\r\n"] {
-        journal.message(b"bob@b.example", b"c.example", &[b"alice"], text)?;
-    }
-    journal.is_held(&rt, run.disk.octets())?;
-    Ok(())
-}
-
-#[test]
-fn a_line_of_a_text_has_no_limit(rt: HostRuntime) -> Result<(), Fail> {
-    let alloc = rt.alloc();
-    // The longest that a line of a tape can say.
-    let line = repeated(alloc, b'y', 65_529)?;
-    let lines = joined(alloc, &[b"say 1 ", &line, b"\n"])?;
-    let text = joined(alloc, &[&line, b"\r\n"])?;
-    let run = sent(alloc, &[&lines])?.run(&rt, 0)?;
-    let mut journal = Journal::new(alloc)?;
-    journal.message(b"bob@b.example", b"c.example", &[b"alice"], &text)?;
-    journal.is_held(&rt, run.disk.octets())?;
-    Ok(())
-}
 
 const BOTH: &[u8] = b"\
 nodes 1
@@ -181,9 +120,48 @@ say 2 .
 end
 ";
 
+// One session sends a message of each of these lines, which gives each of these texts. So many octets are then stored.
+fn stores(rt: &impl Abort, alloc: Global, messages: &[(&[u8], &[u8])]) -> Result<usize, Fail> {
+    let mut script = Script::new(alloc, &[PLAN, BEGIN])?;
+    let mut journal = Journal::new(alloc)?;
+    for (lines, text) in messages {
+        for part in [ENVELOPE, lines, STORED] {
+            script.add(part)?;
+        }
+        journal.message(b"bob@b.example", b"c.example", &[b"alice"], text)?;
+    }
+    script.add(b"end\n")?;
+    let run = script.run(rt, 0)?;
+    journal.is_held(rt, run.disk.octets())?;
+    Ok(run.disk.octets().len())
+}
+
+#[test]
+fn texts_are_stored_octet_for_octet(rt: HostRuntime) -> Result<(), Fail> {
+    let alloc = rt.alloc();
+    // A message has 129 octets besides its text, and besides one message the store has 130.
+    assert_eq!(rt; stores(&rt, alloc, &[(b"", b"")])?, 259);
+    let hello: (&[u8], &[u8]) = (
+        b"say 1 Subject: hi\nsay 1\nsay 1 hello\n",
+        b"Subject: hi\r\n\r\nhello\r\n",
+    );
+    assert_eq!(rt; stores(&rt, alloc, &[hello])?, 281);
+    let three: [(&[u8], &[u8]); 3] = [
+        (b"say 1 ..\n", b".\r\n"),
+        (LINES, TEXT),
+        (b"say 1 ..\nsay 1 .\r.\n", b".\r\n\r.\r\n"),
+    ];
+    stores(&rt, alloc, &three)?;
+    // The longest line that a line of a tape can say.
+    let line = repeated(alloc, b'y', 65_529)?;
+    let said = joined(alloc, &[b"say 1 ", &line, b"\n"])?;
+    stores(&rt, alloc, &[(&said, &joined(alloc, &[&line, b"\r\n"])?)])?;
+    Ok(())
+}
+
 #[test]
 fn two_sessions_take_turns(rt: HostRuntime) -> Result<(), Fail> {
-    let run = Script::new(rt.alloc(), BOTH)?.run(&rt, 0)?;
+    let run = Script::new(rt.alloc(), &[BOTH])?.run(&rt, 0)?;
     let mut journal = Journal::new(rt.alloc())?;
     let one: &[u8] = b"one.example";
     let two: &[u8] = b"two.example";
@@ -236,13 +214,13 @@ fn texts_have_a_greatest_length(rt: HostRuntime) -> Result<(), Fail> {
     let alloc = rt.alloc();
     let most = large(alloc, b'.')?;
     let more = large(alloc, b'x')?;
-    let mut script = Script::new(alloc, PLAN)?;
-    let parts: [&[u8]; 10] = [
-        BEGIN, ENVELOPE, &most, STORED, ENVELOPE, &more, TOO_LARGE, ENVELOPE, STORED, b"end\n",
-    ];
-    for part in parts {
-        script.add(part)?;
-    }
+    let script = Script::new(
+        alloc,
+        &[
+            PLAN, BEGIN, ENVELOPE, &most, STORED, ENVELOPE, &more, TOO_LARGE, ENVELOPE, STORED,
+            b"end\n",
+        ],
+    )?;
     let run = script.run(&rt, 0)?;
     let text = largest(alloc)?;
     assert_eq!(rt; text.len(), 16_777_216);

@@ -1,6 +1,6 @@
 // Plan lines: which are taken, and at which line a plan is refused.
 
-use super::{PLAN, Script, each_refused, joined, repeated};
+use super::{PLAN, Script, each_case, joined, repeated};
 use std::alloc::Global;
 use std::test::Fail;
 
@@ -9,8 +9,6 @@ const BAD_LINES: &[u8] = b"\
 # nodes
   ! line 1 BadPlan
 
-  ! line 1 BadPlan
-end
   ! line 1 BadPlan
 open smtp 1
   ! line 1 BadPlan
@@ -178,12 +176,6 @@ go
   ! line 6 BadPlan
 ";
 
-#[test]
-fn plans_are_refused(rt: HostRuntime) -> Result<(), Fail> {
-    each_refused(&rt, rt.alloc(), b"", BAD_LINES)?;
-    each_refused(&rt, rt.alloc(), b"", BAD_PLANS)
-}
-
 // Plan lines in any order, with every spelling that is allowed.
 const GOOD: &[u8] = b"\
 postmaster ALICE\r
@@ -208,23 +200,12 @@ fn users(alloc: Global, count: u64) -> Result<Vec<u8>, Fail> {
 }
 
 #[test]
-fn plans_are_taken(rt: HostRuntime) -> Result<(), Fail> {
-    Script::new(rt.alloc(), GOOD)?.run(&rt, 0)?;
-    let full = users(rt.alloc(), 4095)?;
-    let mut script = Script::new(rt.alloc(), &full)?;
-    script.add(PLAN)?;
-    script.add(b"end\n")?;
-    script.run(&rt, 0)?;
-    let over = users(rt.alloc(), 4097)?;
-    let mut script = Script::new(rt.alloc(), &over)?;
-    script.add(b"  ! line 4097 BadPlan\n")?;
-    script.run(&rt, 3)?;
-    Ok(())
-}
-
-#[test]
-fn names_and_secrets_have_64_octets(rt: HostRuntime) -> Result<(), Fail> {
+fn plans_are_refused(rt: HostRuntime) -> Result<(), Fail> {
     let alloc = rt.alloc();
+    each_case(&rt, alloc, b"", BAD_LINES)?;
+    each_case(&rt, alloc, b"", BAD_PLANS)?;
+    Script::new(alloc, &[b"end\n  ! line 1 BadPlan\n"])?.run(&rt, 3)?;
+    // A name and a secret have at most 64 octets.
     let most = repeated(alloc, b'a', 64)?;
     let more = repeated(alloc, b'a', 65)?;
     let cases: [(&[u8], &[u8], &[u8]); 3] = [
@@ -233,8 +214,18 @@ fn names_and_secrets_have_64_octets(rt: HostRuntime) -> Result<(), Fail> {
         (b"alice", &more, b"  ! line 1 BadPlan\n"),
     ];
     for (name, secret, written) in cases {
-        let lines = joined(alloc, &[b"user ", name, b" ", secret, b"\n", written])?;
-        Script::new(alloc, &lines)?.run(&rt, 3)?;
+        let line = joined(alloc, &[b"user ", name, b" ", secret, b"\n"])?;
+        Script::new(alloc, &[&line, written])?.run(&rt, 3)?;
     }
+    Ok(())
+}
+
+#[test]
+fn plans_are_taken(rt: HostRuntime) -> Result<(), Fail> {
+    let alloc = rt.alloc();
+    each_case(&rt, alloc, b"", GOOD)?;
+    Script::new(alloc, &[&users(alloc, 4095)?, PLAN, b"end\n"])?.run(&rt, 0)?;
+    let over = users(alloc, 4097)?;
+    Script::new(alloc, &[&over, b"  ! line 4097 BadPlan\n"])?.run(&rt, 3)?;
     Ok(())
 }

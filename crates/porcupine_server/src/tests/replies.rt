@@ -204,17 +204,24 @@ say 1 qUIT\t
 end
 ";
 
-#[test]
-fn each_command_is_answered(rt: HostRuntime) -> Result<(), Fail> {
-    let run = Script::new(rt.alloc(), SPELLINGS)?.run(&rt, 0)?;
-    let mut journal = Journal::new(rt.alloc())?;
-    let helo: &[u8] = b"second.example";
-    let users: [&[u8]; 2] = [b"alice", b"\"q\""];
-    journal.message(b"Joe: @ home", helo, &users, b"HELO third.example\r\n")?;
-    journal.message(b"", helo, &[b"bob@b.example"], b"")?;
-    journal.is_held(&rt, run.disk.octets())?;
-    Ok(())
-}
+// What stands before and after so many letters at most, and the replies to so many and to one more.
+const LIMITS: [(&[u8], &[u8], usize, &[u8], &[u8]); 7] = [
+    (b"", b"", 1022, UNKNOWN, LONG),
+    (b"DATA ", b"", 1017, BAD, LONG),
+    (b"HELO ", b"", 255, b"250 node1", BAD),
+    (b"MAIL FROM:<", b">", 512, b"250 sender ok", BAD),
+    (b"RCPT TO:<", b">", 512, NONE, BAD),
+    (b"RCPT TO:<@gate:", b">", 512, NONE, BAD),
+    (b"RCPT TO:<@", b":alice>", 1005, b"250 recipient ok", LONG),
+];
+
+const UNKNOWN: &[u8] = b"500 unknown command";
+
+const BAD: &[u8] = b"501 bad argument";
+
+const NONE: &[u8] = b"550 no such mailbox";
+
+const LONG: &[u8] = b"500 line too long";
 
 // Says so many letters between these.
 fn says(
@@ -224,113 +231,31 @@ fn says(
     back: &[u8],
     reply: &[u8],
 ) -> Result<(), AllocError> {
-    let alloc = script.alloc;
-    let letters = repeated(alloc, b'a', count)?;
-    let said = joined(alloc, &[b"say 1 ", front, &letters, back, b"\n"])?;
-    let written = joined(alloc, &[b"  1 ", reply, b"\n"])?;
-    script.add(&said)?;
-    script.add(&written)
+    let letters = repeated(script.alloc, b'a', count)?;
+    let said: [&[u8]; 8] = [
+        b"say 1 ", front, &letters, back, b"\n", b"  1 ", reply, b"\n",
+    ];
+    script.add(&joined(script.alloc, &said)?)
 }
 
 #[test]
-fn command_lines_have_greatest_lengths(rt: HostRuntime) -> Result<(), Fail> {
-    let unknown: &[u8] = b"500 unknown command";
-    let bad: &[u8] = b"501 bad argument";
-    let none: &[u8] = b"550 no such mailbox";
-    let long: &[u8] = b"500 line too long";
-    // What stands before and after the letters, the greatest number of them, and the replies to so many and to one more.
-    let cases: [(&[u8], &[u8], usize, &[u8], &[u8]); 7] = [
-        (b"", b"", 1022, unknown, long),
-        (b"DATA ", b"", 1017, bad, long),
-        (b"HELO ", b"", 255, b"250 node1", bad),
-        (b"MAIL FROM:<", b">", 512, b"250 sender ok", bad),
-        (b"RCPT TO:<", b">", 512, none, bad),
-        (b"RCPT TO:<@gate:", b">", 512, none, bad),
-        (b"RCPT TO:<@", b":alice>", 1005, b"250 recipient ok", long),
-    ];
-    let mut script = Script::new(rt.alloc(), PLAN)?;
-    script.add(b"open smtp 1\n  1 220 node1 Porcupine ready\n")?;
-    for (front, back, most, taken, refused) in cases {
+fn each_command_is_answered(rt: HostRuntime) -> Result<(), Fail> {
+    let run = Script::new(rt.alloc(), &[SPELLINGS])?.run(&rt, 0)?;
+    let mut journal = Journal::new(rt.alloc())?;
+    let helo: &[u8] = b"second.example";
+    let users: [&[u8]; 2] = [b"alice", b"\"q\""];
+    journal.message(b"Joe: @ home", helo, &users, b"HELO third.example\r\n")?;
+    journal.message(b"", helo, &[b"bob@b.example"], b"")?;
+    journal.is_held(&rt, run.disk.octets())?;
+    let mut script = Script::new(
+        rt.alloc(),
+        &[PLAN, b"open smtp 1\n  1 220 node1 Porcupine ready\n"],
+    )?;
+    for (front, back, most, taken, refused) in LIMITS {
         says(&mut script, front, most + 1, back, refused)?;
         says(&mut script, front, most, back, taken)?;
     }
     script.add(b"end\n")?;
     script.run(&rt, 0)?;
-    Ok(())
-}
-
-// The names u001 to u101.
-fn names(alloc: Global) -> Result<Vec<String>, Fail> {
-    let mut names = Vec::new(alloc);
-    for number in 1..102u8 {
-        names.push(format!(in alloc; "u{number:03}")?)?;
-    }
-    Ok(names)
-}
-
-const MANY: &[u8] = b"\
-nodes 1
-copies 1 1
-buckets 16
-postmaster u001
-";
-
-const HELO_MAIL: &[u8] = b"\
-go
-open smtp 1
-  1 220 node1 Porcupine ready
-say 1 HELO c.example
-  1 250 node1
-say 1 MAIL FROM:<bob@b.example>
-  1 250 sender ok
-";
-
-const REST: &[u8] = b"\
-say 1 RCPT TO:<u101>
-  1 452 too many recipients
-say 1 RCPT TO:<u001>
-  1 250 recipient ok
-say 1 RCPT TO:<U100>
-  1 250 recipient ok
-say 1 RCPT TO:<postmaster>
-  1 250 recipient ok
-say 1 RCPT TO:<nobody>
-  1 550 no such mailbox
-say 1 DATA
-  1 354 end with a line that is a single period
-say 1 to many
-say 1 .
-  1 250 stored
-say 1 MAIL FROM:<>
-  1 250 sender ok
-say 1 RCPT TO:<u101>
-  1 250 recipient ok
-say 1 QUIT
-  1 221 node1 closing
-  * 1 closed
-end
-";
-
-#[test]
-fn a_hundred_recipients_are_taken(rt: HostRuntime) -> Result<(), Fail> {
-    let alloc = rt.alloc();
-    let names = names(alloc)?;
-    let mut script = Script::new(alloc, MANY)?;
-    for name in &names {
-        script.add(format!(in alloc; "user {name} x\n")?.as_bytes())?;
-    }
-    script.add(HELO_MAIL)?;
-    let mut users = Vec::new(alloc);
-    for name in names.iter().take(100) {
-        script.add(format!(in alloc;
-            "say 1 RCPT TO:<{name}>\n  1 250 recipient ok\n"
-        )?.as_bytes())?;
-        users.push(name.as_bytes())?;
-    }
-    script.add(REST)?;
-    let run = script.run(&rt, 0)?;
-    let mut journal = Journal::new(alloc)?;
-    journal.message(b"bob@b.example", b"c.example", &users, b"to many\r\n")?;
-    journal.is_held(&rt, run.disk.octets())?;
     Ok(())
 }

@@ -1,6 +1,6 @@
 // Run lines: which are taken, and which fault the others have.
 
-use super::{PLAN, Script, drive, each_refused, joined, repeated};
+use super::{PLAN, Script, drive, each_case, joined, lines_of, repeated};
 use std::alloc::{AllocError, Global};
 use std::process::Abort;
 use std::test::Fail;
@@ -182,25 +182,6 @@ End
   ! line 7 BadLine
 ";
 
-#[test]
-fn run_lines_are_refused(rt: HostRuntime) -> Result<(), Fail> {
-    each_refused(&rt, rt.alloc(), PLAN, FAULTS)
-}
-
-#[test]
-fn a_tape_ends_at_its_line_end(rt: HostRuntime) -> Result<(), Fail> {
-    let alloc = rt.alloc();
-    let long = repeated(alloc, b'x', 70_000)?;
-    let rests: [&[u8]; 4] = [b"", b"say 9 QUIT\n\n", b"end", &long];
-    for rest in rests {
-        let mut script = Script::new(alloc, PLAN)?;
-        script.add(b"end\n")?;
-        script.add(rest)?;
-        script.run(&rt, 0)?;
-    }
-    Ok(())
-}
-
 const SAYS: &[u8] = b"\
 open smtp 1
   1 220 node1 Porcupine ready
@@ -215,29 +196,39 @@ fn ends(
     back: &[u8],
 ) -> Result<(), Fail> {
     let letters = repeated(alloc, b'x', count)?;
-    Script::new(alloc, &joined(alloc, &[front, &letters, back])?)?.run(rt, 3)?;
+    let lines = joined(alloc, &[front, &letters, back])?;
+    Script::new(alloc, &[&lines])?.run(rt, 3)?;
     Ok(())
 }
 
 #[test]
 fn lines_have_a_greatest_length(rt: HostRuntime) -> Result<(), Fail> {
     let alloc = rt.alloc();
-    let plans: [(usize, &[u8]); 2] = [
-        (65_524, b"\n  ! line 1 BadPlan\n"),
-        (65_525, b"\n  ! line 1 BadLine\n"),
-    ];
-    for (count, back) in plans {
-        ends(&rt, alloc, b"user alice ", count, back)?;
-    }
     let said = joined(alloc, &[PLAN, SAYS])?;
-    let lines: [(usize, &[u8]); 4] = [
-        (65_529, b"\n  1 500 line too long\n  ! line 9 BadLine\n"),
-        (65_528, b"\r\n  1 500 line too long\n  ! line 9 BadLine\n"),
-        (65_530, b"\n  ! line 8 BadLine\n"),
-        (65_529, b"\r\n  ! line 8 BadLine\n"),
+    let cases: [(&[u8], usize, &[u8]); 6] = [
+        (b"user alice ", 65_524, b"\n  ! line 1 BadPlan\n"),
+        (b"user alice ", 65_525, b"\n  ! line 1 BadLine\n"),
+        (
+            &said,
+            65_529,
+            b"\n  1 500 line too long\n  ! line 9 BadLine\n",
+        ),
+        (
+            &said,
+            65_528,
+            b"\r\n  1 500 line too long\n  ! line 9 BadLine\n",
+        ),
+        (&said, 65_530, b"\n  ! line 8 BadLine\n"),
+        (&said, 65_529, b"\r\n  ! line 8 BadLine\n"),
     ];
-    for (count, back) in lines {
-        ends(&rt, alloc, &said, count, back)?;
+    for (front, count, back) in cases {
+        ends(&rt, alloc, front, count, back)?;
+    }
+    // Nothing is read after the line `end`.
+    let long = repeated(alloc, b'x', 70_000)?;
+    let rests: [&[u8]; 4] = [b"", b"say 9 QUIT\n\n", b"end", &long];
+    for rest in rests {
+        Script::new(alloc, &[PLAN, b"end\n", rest])?.run(&rt, 0)?;
     }
     Ok(())
 }
@@ -291,9 +282,9 @@ fn stops_within(
 
 #[test]
 fn a_tape_is_cut_at_each_octet(rt: HostRuntime) -> Result<(), Fail> {
-    let mut script = Script::new(rt.alloc(), b"")?;
+    let mut script = Script::new(rt.alloc(), &[])?;
     let mut number: u64 = 1;
-    for line in FIRST.split_inclusive(|octet| *octet == b'\n') {
+    for line in lines_of(rt.alloc(), FIRST)? {
         if !line.starts_with(b"  ") {
             stops_within(&rt, &script, line, number)?;
             number = number.saturating_add(1);
@@ -307,7 +298,7 @@ fn a_tape_is_cut_at_each_octet(rt: HostRuntime) -> Result<(), Fail> {
 
 // Opens so many sessions.
 fn opened(alloc: Global, count: u64) -> Result<Script, Fail> {
-    let mut script = Script::new(alloc, PLAN)?;
+    let mut script = Script::new(alloc, &[PLAN])?;
     for session in 1..=count {
         script.add(b"open smtp 1\n")?;
         script.add(format!(in alloc; "  {session} 220 node1 Porcupine ready\n")?.as_bytes())?;
@@ -316,7 +307,9 @@ fn opened(alloc: Global, count: u64) -> Result<Script, Fail> {
 }
 
 #[test]
-fn as_many_as_256_sessions_are_open(rt: HostRuntime) -> Result<(), Fail> {
+fn run_lines_are_refused(rt: HostRuntime) -> Result<(), Fail> {
+    each_case(&rt, rt.alloc(), PLAN, FAULTS)?;
+    // As many as 256 sessions are open.
     let cases: [&[u8]; 3] = [
         b"open smtp 1\n  ! line 263 TooManySessions\n",
         b"open smtp 2\n  ! line 263 NoSuchNode\n",

@@ -1,6 +1,6 @@
 // Three nodes, of which one disk fails: its node alone goes down, and what was answered stands on the other two.
 
-use super::{drive_over, joined};
+use super::{drive_over, joined, lines_of};
 use io_edge::{Disk, MemoryYard};
 use node_disk::MemoryDisk;
 use std::alloc::{AllocError, Global};
@@ -92,16 +92,20 @@ fn others_are_up(alloc: Global, node: u8) -> Result<Vec<u8>, Fail> {
 }
 
 // How many lines begin and end so.
-fn count(lines: &[u8], front: &[u8], back: &[u8]) -> usize {
-    lines
-        .split_inclusive(|octet| *octet == b'\n')
-        .filter(|line| line.starts_with(front) && line.ends_with(back))
-        .count()
+fn count(alloc: Global, text: &[u8], front: &[u8], back: &[u8]) -> Result<usize, AllocError> {
+    let mut count: usize = 0;
+    for line in lines_of(alloc, text)? {
+        if line.starts_with(front) && line.ends_with(back) {
+            count = count.saturating_add(1);
+        }
+    }
+    Ok(count)
 }
 
 // After a start each disk but that of this node holds so many of the texts, each once.
 fn hold(
     rt: &impl Abort,
+    alloc: Global,
     disks: Vec<(u16, u8, MemoryDisk)>,
     node: u8,
     stored: usize,
@@ -112,7 +116,7 @@ fn hold(
         }
         assert_eq!(rt; disk.restart(), Ok(()));
         for text in TEXTS.iter().take(stored) {
-            assert_eq!(rt; count(disk.octets(), text, b""), 1);
+            assert_eq!(rt; count(alloc, disk.octets(), text, b"")?, 1);
         }
     }
     Ok(())
@@ -129,11 +133,11 @@ fn fails_in(
     let tape = joined(alloc, &[lines, &others_are_up(alloc, node)?])?;
     let left = driven(alloc, &tape, node, failing)?;
     let fallen = format!(in alloc; "* fault {node}\n")?;
-    assert_eq!(rt; count(&left.transcript, fallen.as_bytes(), b""), 1);
-    assert_eq!(rt; count(&left.transcript, b"* fault ", b""), 1);
+    assert_eq!(rt; count(alloc, &left.transcript, fallen.as_bytes(), b"")?, 1);
+    assert_eq!(rt; count(alloc, &left.transcript, b"* fault ", b"")?, 1);
     assert_eq!(rt; left.status, 0);
-    let stored = count(&left.transcript, b"", b" 250 stored\n");
-    hold(rt, left.disks, node, stored)
+    let stored = count(alloc, &left.transcript, b"", b" 250 stored\n")?;
+    hold(rt, alloc, left.disks, node, stored)
 }
 
 // Each call of this node's disk fails in turn; how many calls there are is answered.
@@ -141,7 +145,7 @@ fn each_fails(rt: &impl Abort, alloc: Global, node: u8) -> Result<u64, Fail> {
     let mut lines = joined(alloc, &[PLAN_OF_THREE])?;
     let opened = calls(rt, alloc, &lines, node)?;
     let mut done = opened;
-    for line in LINES.split_inclusive(|octet| *octet == b'\n') {
+    for line in lines_of(alloc, LINES)? {
         lines.extend_from_slice(line)?;
         let made = calls(rt, alloc, &lines, node)?;
         for failing in done.saturating_add(1)..=made {
@@ -154,18 +158,14 @@ fn each_fails(rt: &impl Abort, alloc: Global, node: u8) -> Result<u64, Fail> {
 
 #[test]
 fn a_disk_that_fails_takes_its_node_alone_down(rt: HostRuntime) -> Result<(), Fail> {
+    let alloc = rt.alloc();
     for node in 1..=3u8 {
-        let count = each_fails(&rt, rt.alloc(), node)?;
+        let count = each_fails(&rt, alloc, node)?;
         assert!(rt; count > 0);
     }
-    Ok(())
-}
-
-#[test]
-fn where_none_fails_three_disks_hold_two_messages(rt: HostRuntime) -> Result<(), Fail> {
-    let alloc = rt.alloc();
+    // Where none fails, three disks hold two messages.
     let tape = joined(alloc, &[PLAN_OF_THREE, LINES, b"end\n"])?;
     let left = driven(alloc, &tape, 1, 0)?;
-    assert_eq!(rt; count(&left.transcript, b"", b" 250 stored\n"), 2);
-    hold(&rt, left.disks, 0, 2)
+    assert_eq!(rt; count(alloc, &left.transcript, b"", b" 250 stored\n")?, 2);
+    hold(&rt, alloc, left.disks, 0, 2)
 }
