@@ -40,7 +40,7 @@ use Rattle.cluster_world.specs.Missing.{all_missed, SentOff}
 use Rattle.cluster_world.specs.Turning.{life_left}
 use Rattle.cluster_world.specs.Turns.{life_refusal, node_refusal}
 use Rattle.cluster_world.specs.Unfinished.{said_of_fault}
-use Rattle.cluster_world.specs.Widens.{entries_of_fault}
+use Rattle.cluster_world.specs.Unfinished.{entries_of_fault}
 use Rattle.cluster_world.specs.Pushes.{letters_left_by, octets_left_by, IsCrowdedAt, PushesAt}
 use Rattle.cluster_world.specs.Steps.{StepDid, AreSettled, LeadsTo, WasToWork, StepIsKnown, EveryStopKeeps}
 use Rattle.cluster_world.specs.declared.life.Life.{Life}

@@ -6,6 +6,7 @@ pub mod Seen
 pub mod Worlds
 pub mod Changes
 pub mod Asking
+pub mod Unfinished
 pub mod Starting
 pub mod Turns
 pub mod Moments
@@ -22,7 +23,6 @@ pub mod Flows
 pub mod Chains
 pub mod Owing
 pub mod Begins
-pub mod Unfinished
 pub mod Widens
 pub mod Pushes
 pub mod Posts

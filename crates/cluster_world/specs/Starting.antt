@@ -1,5 +1,5 @@
 -- What a start makes of the life of a node and of its disk, and what is said of it.
-use Rattle.std.specs.Prelude.{◌≡◌, ◌≤◌, ℕ, List, [], ◌∷◌, true, false, Some, None, IfOk, Result, Ok, Err}
+use Rattle.std.specs.Prelude.{◌≡◌, ◌≤◌, ℕ, List, [], ◌∷◌, IfOk, Result, Ok, Err}
 use Rattle.io_edge.specs.Octets.{IsToldAlike}
 use Rattle.mail_model.specs.Plan.{Plan}
 use Rattle.cluster_model.specs.Steps.{greatest_boot}
@@ -7,7 +7,6 @@ use Rattle.node_store.specs.Disks.{View}
 use Rattle.node_core.specs.Nodes.{node_seen}
 use Rattle.node_core.specs.Starting.{NodeStarts}
 use Rattle.node_core.specs.declared.fault.NodeFault.{NodeFault}
-use Rattle.node_core.specs.declared.fault.NodeFault.TheVariants.{Disk, Worn, NoMemory}
 use Rattle.node_core.specs.declared.node.Node.{Node}
 use Rattle.world_book.specs.declared.entry.Entry.{Entry}
 use Rattle.world_book.specs.declared.entry.Entry.TheVariants as entry
@@ -16,23 +15,17 @@ use Rattle.cluster_world.specs.declared.life.Life.TheVariants.{Up, Down}
 use Rattle.cluster_world.specs.declared.step.Said.{Said}
 use Rattle.cluster_world.specs.declared.step.Said.TheVariants as said
 use Rattle.cluster_world.specs.declared.fault.StepFault.{StepFault}
-use Rattle.cluster_world.specs.declared.fault.StepFault.TheVariants as fault
+use Rattle.cluster_world.specs.Unfinished.{said_of_fault, entries_of_fault}
 
 -- what is said of a start that came to this
 abbrev pub said_of_start : ℕ → Result ℕ NodeFault → Result Said StepFault
 said_of_start n (Ok boot) = Ok (said.NodeUp boot)
-said_of_start n (Err Disk) = Ok (said.Faulted n)
-said_of_start n (Err Worn) = Err fault.Worn
-said_of_start n (Err (NoMemory true)) = Err (fault.NoMemory (Some n))
-said_of_start n (Err (NoMemory false)) = Err (fault.NoMemory None)
+said_of_start n (Err why) = said_of_fault n why
 
 -- and what the book has of it
 abbrev pub entries_of_start : ℕ → Result ℕ NodeFault → List Entry
 entries_of_start n (Ok boot) = entry.Up n boot ∷ []
-entries_of_start n (Err Disk) = entry.Down n ∷ []
-entries_of_start n (Err Worn) = []
-entries_of_start n (Err (NoMemory true)) = entry.Down n ∷ []
-entries_of_start n (Err (NoMemory false)) = []
+entries_of_start n (Err why) = entries_of_fault n why
 
 -- a node is up in this boot
 pub record IsUpIn (boot : ℕ) (node : Node) (life : Life) : Type 0 where

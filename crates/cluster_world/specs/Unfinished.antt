@@ -1,7 +1,9 @@
--- What is said where a node did not do its work, or did not end it.
-use Rattle.std.specs.Prelude.{ℕ, true, false, Some, None, Result, Ok, Err}
+-- What is said where a node did not do its work, or did not end it, and what the book has of it.
+use Rattle.std.specs.Prelude.{ℕ, List, [], ◌∷◌, true, false, Some, None, Result, Ok, Err}
 use Rattle.node_core.specs.declared.fault.NodeFault.{NodeFault}
 use Rattle.node_core.specs.declared.fault.NodeFault.TheVariants.{Disk, Worn, NoMemory}
+use Rattle.world_book.specs.declared.entry.Entry.{Entry}
+use Rattle.world_book.specs.declared.entry.Entry.TheVariants as entry
 use Rattle.cluster_world.specs.declared.step.Said.{Said}
 use Rattle.cluster_world.specs.declared.step.Said.TheVariants.{Faulted}
 use Rattle.cluster_world.specs.declared.fault.StepFault.{StepFault}
@@ -12,3 +14,10 @@ said_of_fault n Disk = Ok (Faulted n)
 said_of_fault n Worn = Err fault.Worn
 said_of_fault n (NoMemory true) = Err (fault.NoMemory (Some n))
 said_of_fault n (NoMemory false) = Err (fault.NoMemory None)
+
+-- the book has it where the node went down
+abbrev pub entries_of_fault : ℕ → NodeFault → List Entry
+entries_of_fault n Disk = entry.Down n ∷ []
+entries_of_fault n Worn = []
+entries_of_fault n (NoMemory true) = entry.Down n ∷ []
+entries_of_fault n (NoMemory false) = []

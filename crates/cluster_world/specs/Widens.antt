@@ -1,26 +1,17 @@
 -- A copy that gets a target more at a node of the world.
-use Rattle.std.specs.Prelude.{ℕ, List, [], ◌∷◌, Bool, true, false, Result, Ok, Err}
+use Rattle.std.specs.Prelude.{ℕ, List, [], Bool, Result, Ok, Err}
 use Rattle.mail_model.specs.Identity.{Key}
 use Rattle.node_store.specs.Disks.{View}
 use Rattle.node_core.specs.Pushing.{WidensCopy}
 use Rattle.node_core.specs.Works.{LeavesUp}
 use Rattle.node_core.specs.declared.fault.NodeFault.{NodeFault}
-use Rattle.node_core.specs.declared.fault.NodeFault.TheVariants.{Disk, Worn, NoMemory}
 use Rattle.world_book.specs.declared.entry.Entry.{Entry}
-use Rattle.world_book.specs.declared.entry.Entry.TheVariants as entry
 use Rattle.cluster_world.specs.Turning.{TurnsBy}
-use Rattle.cluster_world.specs.Unfinished.{said_of_fault}
+use Rattle.cluster_world.specs.Unfinished.{said_of_fault, entries_of_fault}
 use Rattle.cluster_world.specs.declared.life.Life.{Life}
 use Rattle.cluster_world.specs.declared.step.Said.{Said}
 use Rattle.cluster_world.specs.declared.step.Said.TheVariants.{Widened}
 use Rattle.cluster_world.specs.declared.fault.StepFault.{StepFault}
-
--- what the book has of node n that did not do its work: that it went down, where it did
-abbrev pub entries_of_fault : ℕ → NodeFault → List Entry
-entries_of_fault n Disk = entry.Down n ∷ []
-entries_of_fault n Worn = []
-entries_of_fault n (NoMemory true) = entry.Down n ∷ []
-entries_of_fault n (NoMemory false) = []
 
 abbrev pub said_of_widening : ℕ → Result Bool NodeFault → Result Said StepFault
 said_of_widening n (Ok did) = Ok (Widened did)

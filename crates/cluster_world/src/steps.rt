@@ -4,6 +4,7 @@ pub(crate) mod ask;
 pub(crate) mod begin;
 pub(crate) mod crash;
 pub(crate) mod drop;
+pub(crate) mod fault;
 pub(crate) mod give_up;
 pub(crate) mod lose;
 pub(crate) mod post;

@@ -19,12 +19,11 @@ ghost use Rattle.cluster_world.specs.Steps.{StepDid, AreSettled};
 ghost use Rattle.cluster_world.specs.declared.step.Step.TheVariants.{Begin};
 
 use crate::fault::StepFault;
-use crate::flying::Flying;
+use crate::flying::{Flying, is_worn};
 use crate::life::Life;
 use crate::nodes::{Nodes, place_of};
 use crate::sending::send;
 use crate::step::Said;
-use crate::steps::start::is_late;
 use crate::working::begin_at;
 use call_tickets::Call;
 use io_edge::Disk;
@@ -171,7 +170,7 @@ fn enter_fall(book: &mut Book, node: NodeNo, entries: Vec<Entry>)
 }
 
 // What is said of a call that the node did not begin, or did not end beginning, and what the book has of it.
-fn tell_fault(
+fn tell_failure(
     book: &mut Book,
     node: NodeNo,
     entries: Vec<Entry>,
@@ -251,7 +250,7 @@ fn conclude<D: Disk>(
             ticket,
             outbox.letters.into_vec(),
         ),
-        Err(why) => tell_fault(book, node, entries, why),
+        Err(why) => tell_failure(book, node, entries, why),
     }
 }
 
@@ -284,7 +283,7 @@ pub(crate) fn begin_call<D: Disk>(
     ensures settled { AreSettled D.settled (state_with nodes.old flying.old seconds book.old) → AreSettled D.settled (state_with nodes.new flying.new seconds book.new) }
     ensures room { all_falls_left nodes.new.lives.items ≤ spare_of book.new }
 {
-    if is_late(flying) {
+    if is_worn(flying.sent()) {
         return Err(StepFault::Worn);
     }
     if !can_begin(nodes.plan.nodes, &call) {

@@ -10,12 +10,11 @@ ghost use Rattle.cluster_world.specs.Steps.{StepDid, AreSettled};
 ghost use Rattle.cluster_world.specs.declared.step.Step.TheVariants as step;
 
 use crate::fault::StepFault;
-use crate::flying::Flying;
+use crate::flying::{Flying, is_worn};
 use crate::life::Life;
 use crate::nodes::Nodes;
 use crate::step::Said;
 use crate::steps::ask::{node_of, ticket_of};
-use crate::steps::start::is_late;
 use io_edge::Disk;
 use mail_base::Ticket;
 
@@ -59,7 +58,7 @@ pub(crate) fn give_up_call<D: Disk>(
     if !stands_at(nodes.at(node_of(ticket)), ticket) {
         return Err(StepFault::NoSuchTicket);
     }
-    if is_late(flying) {
+    if is_worn(flying.sent()) {
         return Err(StepFault::Worn);
     }
     nodes.give_up(ticket);

@@ -16,14 +16,13 @@ ghost use Rattle.cluster_world.specs.declared.step.Said.TheVariants.{Sent};
 ghost use Rattle.cluster_world.specs.declared.fault.StepFault.TheVariants.{NoMemory};
 
 use crate::fault::StepFault;
-use crate::flying::Flying;
+use crate::flying::{Flying, is_worn};
 use crate::life::Life;
 use crate::limits::{MOST_LETTERS, MOST_OCTETS};
 use crate::nodes::{Nodes, place_of};
 use crate::sending::send;
 use crate::step::Said;
-use crate::steps::start::is_late;
-use crate::steps::widen::tell_fault;
+use crate::steps::fault::tell_fault;
 use crate::working::push_at;
 use io_edge::Disk;
 use mail_base::{Letter, NodeNo};
@@ -123,7 +122,7 @@ pub(crate) fn push_states<D: Disk>(
     ensures settled { (seconds : ℕ) → AreSettled D.settled (state_with nodes.old flying.old seconds book.old) → AreSettled D.settled (state_with nodes.new flying.new seconds book.new) }
     ensures room { all_falls_left nodes.new.lives.items ≤ spare_of book.new }
 {
-    if is_late(flying) {
+    if is_worn(flying.sent()) {
         return Err(StepFault::Worn);
     }
     let most = letters_left(flying);

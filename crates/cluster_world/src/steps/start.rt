@@ -1,7 +1,5 @@
 //! A node that is down starts.
 ghost use Rattle.std.specs.Prelude.{◌≡◌, ◌+◌, ◌≤◌, ◌<◌, ◌++◌, ℕ, None};
-ghost use Rattle.cluster_model.specs.Steps.{letters_end};
-ghost use Rattle.std.specs.Prelude.{nat_le};
 ghost use Rattle.node_store.specs.Disks.{view_of};
 ghost use Rattle.world_book.specs.Books.{entries_of, spare_of};
 ghost use Rattle.cluster_world.specs.Lives.{all_falls_left, CanWorkOn};
@@ -17,18 +15,12 @@ use crate::flying::{Flying, is_worn};
 use crate::life::Life;
 use crate::nodes::{Nodes, put_life};
 use crate::step::Said;
+use crate::steps::fault::tell_fault;
 use io_edge::Disk;
 use mail_base::{NodeNo, Plan};
 use node_core::{Node, NodeFault};
 use std::alloc::Global;
 use world_book::{Book, Entry};
-
-/// Whether the numbers of letters are used up.
-pub(crate) fn is_late(flying: &Flying) -> bool
-    ensures { result ≡ nat_le letters_end flying.now.sent }
-{
-    is_worn(flying.sent())
-}
 
 /// Starts a node that is down over its disk. It answers its boot.
 pub(crate) fn start_at<D: Disk>(
@@ -62,16 +54,7 @@ fn tell(book: &mut Book, node: NodeNo, started: Result<u32, NodeFault>) -> Resul
             book.add(Entry::Up { node, boot });
             Ok(Said::NodeUp { boot })
         }
-        Err(NodeFault::Disk) => {
-            book.add(Entry::Down { node });
-            Ok(Said::Faulted(node))
-        }
-        Err(NodeFault::Worn) => Err(StepFault::Worn),
-        Err(NodeFault::NoMemory { down: true }) => {
-            book.add(Entry::Down { node });
-            Err(StepFault::NoMemory { down: Some(node) })
-        }
-        Err(NodeFault::NoMemory { down: false }) => Err(StepFault::NoMemory { down: None }),
+        Err(fault) => tell_fault(book, node, fault),
     }
 }
 
@@ -90,7 +73,7 @@ pub(crate) fn start_node<D: Disk>(
     ensures settled { (seconds : ℕ) → AreSettled D.settled (state_with nodes.old flying.now seconds book.old) → AreSettled D.settled (state_with nodes.new flying.now seconds book.new) }
     ensures room { all_falls_left nodes.new.lives.items ≤ spare_of book.new }
 {
-    if is_late(flying) {
+    if is_worn(flying.sent()) {
         return Err(StepFault::Worn);
     }
     book.reserve(nodes.most_falls() + 2)?;

@@ -7,16 +7,15 @@ ghost use Rattle.cluster_world.specs.Lives.{all_falls_left, CanWorkOn};
 ghost use Rattle.cluster_world.specs.Worlds.{state_with, life_among};
 ghost use Rattle.cluster_world.specs.Turns.{node_refusal};
 ghost use Rattle.cluster_world.specs.Changes.{ChangesNode};
-ghost use Rattle.cluster_world.specs.Unfinished.{said_of_fault};
-ghost use Rattle.cluster_world.specs.Widens.{entries_of_fault, said_of_widening, entries_of_widening, WidensAt};
+ghost use Rattle.cluster_world.specs.Widens.{said_of_widening, entries_of_widening, WidensAt};
 ghost use Rattle.cluster_world.specs.Steps.{StepDid, AreSettled};
 ghost use Rattle.cluster_world.specs.declared.step.Step.TheVariants as step;
 
 use crate::fault::StepFault;
-use crate::flying::Flying;
+use crate::flying::{Flying, is_worn};
 use crate::nodes::{Nodes, place_of};
 use crate::step::Said;
-use crate::steps::start::is_late;
+use crate::steps::fault::tell_fault;
 use crate::working::widen_at;
 use io_edge::Disk;
 use mail_base::{MsgId, Name, NodeNo};
@@ -46,27 +45,6 @@ fn widen_in<D: Disk>(
         id,
         to,
     )
-}
-
-/// What is said where a node did not do its work. The book has it, where the node went down.
-pub(crate) fn tell_fault(book: &mut Book, node: NodeNo, fault: NodeFault) -> Result<Said, StepFault>
-    requires room { 0 < spare_of book.old }
-    ensures said { result ≡ said_of_fault node fault }
-    ensures entries { entries_of book.new ≡ entries_of book.old ++ entries_of_fault node fault }
-    ensures spare { spare_of book.old ≤ spare_of book.new + 1 }
-{
-    match fault {
-        NodeFault::Disk => {
-            book.add(Entry::Down { node });
-            Ok(Said::Faulted(node))
-        }
-        NodeFault::Worn => Err(StepFault::Worn),
-        NodeFault::NoMemory { down: true } => {
-            book.add(Entry::Down { node });
-            Err(StepFault::NoMemory { down: Some(node) })
-        }
-        NodeFault::NoMemory { down: false } => Err(StepFault::NoMemory { down: None }),
-    }
 }
 
 /// What is said of it.
@@ -101,7 +79,7 @@ pub(crate) fn widen_copy<D: Disk>(
     ensures settled { (seconds : ℕ) → AreSettled D.settled (state_with nodes.old flying.now seconds book.old) → AreSettled D.settled (state_with nodes.new flying.now seconds book.new) }
     ensures room { all_falls_left nodes.new.lives.items ≤ spare_of book.new }
 {
-    if is_late(flying) {
+    if is_worn(flying.sent()) {
         return Err(StepFault::Worn);
     }
     book.reserve(nodes.most_falls() + 1)?;

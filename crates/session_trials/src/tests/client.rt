@@ -3,7 +3,7 @@ use super::desk::{Desk, Manner, Message, failed, note, note_lines};
 use super::either::Either;
 use super::users::plan;
 use call_tickets::{Answer, Call, Move};
-use mail_base::{NodeNo, Plan};
+use mail_base::Plan;
 use pop_session::PopSession;
 use smtp_session::SmtpSession;
 use std::alloc::{AllocError, Global};
@@ -41,41 +41,46 @@ fn parted(alloc: Global, table: &[u8]) -> Result<(Vec<u8>, Vec<u8>), AllocError>
 }
 
 impl Client {
-    // A client that was greeted so.
-    fn greeted(
-        alloc: Global,
-        session: Either,
-        messages: &[Message],
-        greeting: &[u8],
-    ) -> Result<Client, Fail> {
-        let mut client = Client {
-            alloc,
-            plan: plan(alloc)?,
-            session,
-            desk: Desk::new(alloc, messages)?,
-            said: Vec::new(alloc),
-        };
-        client.next()?;
-        if client.said.as_slice() != greeting {
-            return Err(Fail::from("another greeting"));
-        }
-        client.said.clear();
-        Ok(client)
-    }
-
     // A client that sends mail.
     pub(super) fn smtp(alloc: Global) -> Result<Client, Fail> {
-        let node = NodeNo::new(1).ok_or("no node")?;
-        let session = Either::Smtp(SmtpSession::new(alloc, node));
-        Client::greeted(alloc, session, &[], b"  220 node1 Porcupine ready\n")
+        let plan = plan(alloc)?;
+        let desk = Desk::new(alloc, &[])?;
+        let session = SmtpSession::new(alloc, desk.node);
+        let mut client = Client {
+            alloc,
+            plan,
+            session: Either::Smtp(session),
+            desk,
+            said: Vec::new(alloc),
+        };
+        client.is_greeted(b"  220 node1 Porcupine ready\n")?;
+        Ok(client)
     }
 
     // A client that reads mail, and these messages.
     pub(super) fn pop(alloc: Global, messages: &[Message]) -> Result<Client, Fail> {
-        let node = NodeNo::new(1).ok_or("no node")?;
-        let session = Either::Pop(PopSession::new(alloc, node, 3, 12, 1_000_000_000));
-        let greeting = b"  +OK node1 ready <3.12.1000000000@node1>\n";
-        Client::greeted(alloc, session, messages, greeting)
+        let plan = plan(alloc)?;
+        let desk = Desk::new(alloc, messages)?;
+        let session = PopSession::new(alloc, desk.node, 3, 12, 1_000_000_000);
+        let mut client = Client {
+            alloc,
+            plan,
+            session: Either::Pop(session),
+            desk,
+            said: Vec::new(alloc),
+        };
+        client.is_greeted(b"  +OK node1 ready <3.12.1000000000@node1>\n")?;
+        Ok(client)
+    }
+
+    // Makes the first move, which greets the client so.
+    fn is_greeted(&mut self, greeting: &[u8]) -> Result<(), Fail> {
+        self.next()?;
+        if self.said.as_slice() != greeting {
+            return Err(Fail::from("another greeting"));
+        }
+        self.said.clear();
+        Ok(())
     }
 
     // Notes the lines that the session said.
@@ -151,8 +156,7 @@ impl Client {
 
     // What its session asks as it leaves.
     fn leaves(&mut self) -> Result<(), Fail> {
-        let another = Either::Smtp(SmtpSession::new(self.alloc, self.desk.node));
-        match &std::mem::replace(&mut self.session, another).leave() {
+        match &self.session.leave(self.alloc, self.desk.node) {
             None => Ok(note(&mut self.said, b"  leaves ", b"nothing")?),
             Some(
                 Call::Leave {

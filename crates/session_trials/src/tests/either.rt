@@ -1,6 +1,6 @@
 // A session of either kind, by the calls that both have.
 use call_tickets::{Answer, Call, Move};
-use mail_base::Plan;
+use mail_base::{NodeNo, Plan};
 use pop_session::PopSession;
 use smtp_session::SmtpSession;
 use std::alloc::{AllocError, Global};
@@ -45,10 +45,13 @@ impl Either {
         }
     }
 
-    pub(super) fn leave(self) -> Option<Call> {
+    // Another session takes its place, which begins.
+    pub(super) fn leave(&mut self, alloc: Global, node: NodeNo) -> Option<Call> {
         match self {
             Either::Smtp(_) => None,
-            Either::Pop(session) => session.leave(),
+            Either::Pop(session) => {
+                std::mem::replace(session, PopSession::new(alloc, node, 3, 13, 0)).leave()
+            }
         }
     }
 

@@ -28,11 +28,10 @@ fn files(
 ) -> Result<(), Fail> {
     let mut client = asked(rt, alloc)?;
     client.feed_all(octets, size)?;
-    let text = match &client.desk.filed {
-        Some(deliver) => Some(deliver.text.as_slice()),
-        None => None,
-    };
-    assert!(rt; text == wanted, "{octets:?}, in pieces of {size}");
+    match &client.desk.filed {
+        Some(deliver) => assert!(rt; wanted == Some(deliver.text.as_slice())),
+        None => assert!(rt; wanted.is_none()),
+    }
     Ok(())
 }
 

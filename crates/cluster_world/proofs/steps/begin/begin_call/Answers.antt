@@ -1,4 +1,5 @@
-use Rattle.std.proofs.Common.{◌∙◌, refl, sym, arith}
+use Rattle.std.proofs.Common.{◌∙◌, refl, sym, arith, ap, nat_le}
+use Rattle.cluster_model.specs.Steps.{letters_end}
 use Rattle.std.proofs.lemmas.Result.{err_from_is_err_and}
 use Rattle.node_store.specs.Disks.{view_of}
 use Rattle.node_core.specs.Beginning.{call_seen}
@@ -10,9 +11,9 @@ use Rattle.cluster_world.proofs.BeginParts.{rule_of, begin_ready}
 use Rattle.cluster_world.proofs.BeginEnds.{begin_late, begun_did, concluded_ready, concluded_room, concluded_settled}
 use Rattle.cluster_world.proofs.steps.begin.begin_call.Goals as goal
 
-pub returns-then-is_late-clause-did : goal.returns-then-is_late-clause-did
-returns-then-is_late-clause-did g c =
-    begin_late (view_of g.D.Disk.seen g.D.Disk.faults g.D.Disk.clock) c.args.node c.args.call c.args.seconds c.args.nodes.now c.requires.fit c.args.flying.now c.args.book.now (sym c.is_late.ensures ∙ c.if-is_late.true)
+pub returns-then-is_worn-clause-did : goal.returns-then-is_worn-clause-did
+returns-then-is_worn-clause-did g c =
+    begin_late (view_of g.D.Disk.seen g.D.Disk.faults g.D.Disk.clock) c.args.node c.args.call c.args.seconds c.args.nodes.now c.requires.fit c.args.flying.now c.args.book.now (ap (nat_le letters_end) (sym c.sent.ensures) ∙ sym c.is_worn.ensures ∙ c.if-is_worn.true)
 
 pub returns-in_err-entries-clause-did : goal.returns-in_err-entries-clause-did
 returns-in_err-entries-clause-did g c =
@@ -39,7 +40,7 @@ conclude-requires-clause-works g c =
 pub returns-clause-did : goal.returns-clause-did
 returns-clause-did g c =
     begun_did (view_of g.D.Disk.seen g.D.Disk.faults g.D.Disk.clock) g.D.Disk.settled c.args.node c.args.call c.args.seconds c.args.nodes.now c.begin_in-did.new.nodes c.requires.fit c.requires.ready c.begin_in-did.result c.begin_in-did.ensures
-    c.args.flying.now c.args.book.now (sym c.is_late.ensures ∙ c.if-is_late.false) (rule_of _ c.args.nodes.now c.nodes.view_is (call_seen c.args.call) (c.if-not-can_begin.ensures.rule refl)) c.in_ok-entries.entries.items c.in_ok-entries.ensures c.reserve.new.self c.reserve.ensures.entries
+    c.args.flying.now c.args.book.now (ap (nat_le letters_end) (sym c.sent.ensures) ∙ sym c.is_worn.ensures ∙ c.if-is_worn.false) (rule_of _ c.args.nodes.now c.nodes.view_is (call_seen c.args.call) (c.if-not-can_begin.ensures.rule refl)) c.in_ok-entries.entries.items c.in_ok-entries.ensures c.reserve.new.self c.reserve.ensures.entries
     c.conclude.new.nodes c.conclude.new.flying c.conclude.new.book c.conclude.result c.conclude.ensures.concludes
 
 pub returns-clause-ready : goal.returns-clause-ready

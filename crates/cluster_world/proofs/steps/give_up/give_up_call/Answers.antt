@@ -1,4 +1,5 @@
-use Rattle.std.proofs.Common.{◌≡◌, ◌∙◌, ap, is_some, subst, sym, true, Some}
+use Rattle.std.proofs.Common.{◌≡◌, ◌∙◌, ap, is_some, subst, sym, true, Some, nat_le}
+use Rattle.cluster_model.specs.Steps.{letters_end}
 use Rattle.node_store.specs.Disks.{view_of}
 use Rattle.node_core.specs.Standing.{ticket_standing}
 use Rattle.cluster_world.specs.Lives.{of_node}
@@ -16,11 +17,11 @@ returns-then-not-stands_at-clause-did g c = λ seconds book.
     no_ticket_stood (view_of g.D.Disk.seen g.D.Disk.faults g.D.Disk.clock) c.args.ticket.now c.args.nodes.now c.requires.fit c.requires.ready c.stands_at.ensures.node
     (ap (of_node c.args.nodes.now.lives.items) (sym c.node_of.ensures) ∙ c.at.ensures ∙ ap Some c.stands_at.ensures.up) c.args.flying.now seconds book (sym c.stands_at.ensures.is ∙ c.if-not-stands_at.true)
 
-pub returns-then-is_late-clause-did : goal.returns-then-is_late-clause-did
-returns-then-is_late-clause-did g c = λ seconds book.
+pub returns-then-is_worn-clause-did : goal.returns-then-is_worn-clause-did
+returns-then-is_worn-clause-did g c = λ seconds book.
     too_late (view_of g.D.Disk.seen g.D.Disk.faults g.D.Disk.clock) c.args.ticket.now c.args.nodes.now c.requires.fit c.requires.ready c.stands_at.ensures.node
     (ap (of_node c.args.nodes.now.lives.items) (sym c.node_of.ensures) ∙ c.at.ensures ∙ ap Some c.stands_at.ensures.up) c.args.flying.now seconds book (sym c.stands_at.ensures.is ∙ c.if-not-stands_at.false)
-    (sym c.is_late.ensures ∙ c.if-is_late.true)
+    (ap (nat_le letters_end) (sym c.sent.ensures) ∙ sym c.is_worn.ensures ∙ c.if-is_worn.true)
 
 pub give_up-requires-clause-up : goal.give_up-requires-clause-up
 give_up-requires-clause-up g c =
@@ -32,7 +33,7 @@ returns-clause-did g c = λ seconds book.
     let ch = c.give_up.ensures in
     let up : c.at.result.now ≡ _ = some_same c.at.result.now ch.life (sym c.at.ensures ∙ ap (of_node c.args.nodes.now.lives.items) c.node_of.ensures ∙ ch.was) ∙ ch.does.0.was in
     given_did (view_of g.D.Disk.seen g.D.Disk.faults g.D.Disk.clock) c.args.ticket.now c.args.nodes.now c.requires.fit c.requires.ready c.give_up.new.self ch c.args.flying.now seconds book
-    (subst (λ node. is_some (ticket_standing node c.args.ticket.now) ≡ true) (up_same _ _ (sym c.stands_at.ensures.up ∙ up)) (sym c.stands_at.ensures.is ∙ c.if-not-stands_at.false)) (sym c.is_late.ensures ∙ c.if-is_late.false)
+    (subst (λ node. is_some (ticket_standing node c.args.ticket.now) ≡ true) (up_same _ _ (sym c.stands_at.ensures.up ∙ up)) (sym c.stands_at.ensures.is ∙ c.if-not-stands_at.false)) (ap (nat_le letters_end) (sym c.sent.ensures) ∙ sym c.is_worn.ensures ∙ c.if-is_worn.false)
 
 pub returns-clause-ready : goal.returns-clause-ready
 returns-clause-ready g c =

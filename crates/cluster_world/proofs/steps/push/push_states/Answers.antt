@@ -1,8 +1,9 @@
-use Rattle.std.proofs.Common.{◌∙◌, ◌++◌, ap, refl, subst, sym, arith}
+use Rattle.std.proofs.Common.{◌∙◌, ◌++◌, ap, refl, subst, sym, arith, nat_le}
+use Rattle.cluster_model.specs.Steps.{letters_end}
 use Rattle.std.proofs.lemmas.Result.{err_from_is_err_and}
 use Rattle.node_store.specs.Disks.{view_of}
 use Rattle.cluster_world.specs.Pushes.{letters_left_by, octets_left_by, IsCrowdedAt}
-use Rattle.cluster_world.specs.Widens.{entries_of_fault}
+use Rattle.cluster_world.specs.Unfinished.{entries_of_fault}
 use Rattle.cluster_world.specs.Worlds.{state_with}
 use Rattle.cluster_world.specs.Steps.{StepDid}
 use Rattle.cluster_world.specs.declared.step.Step.TheVariants as step
@@ -11,9 +12,9 @@ use Rattle.cluster_world.proofs.Asked.{same_book}
 use Rattle.cluster_world.proofs.Pushing.{push_late, push_crowded, push_whole, counted_room, counted_crowd, pushed_ready, pushed_falls, pushed_settled, push_failed, sending_did, sending_ready, sending_falls, sending_settled}
 use Rattle.cluster_world.proofs.steps.push.push_states.Goals as goal
 
-pub returns-then-is_late-clause-did : goal.returns-then-is_late-clause-did
-returns-then-is_late-clause-did g c = λ seconds.
-    push_late (view_of g.D.Disk.seen g.D.Disk.faults g.D.Disk.clock) c.args.from c.args.to c.args.nodes.now c.requires.fit c.requires.ready c.args.flying.now seconds c.args.book.now (sym c.is_late.ensures ∙ c.if-is_late.true)
+pub returns-then-is_worn-clause-did : goal.returns-then-is_worn-clause-did
+returns-then-is_worn-clause-did g c = λ seconds.
+    push_late (view_of g.D.Disk.seen g.D.Disk.faults g.D.Disk.clock) c.args.from c.args.to c.args.nodes.now c.requires.fit c.requires.ready c.args.flying.now seconds c.args.book.now (ap (nat_le letters_end) (sym c.sent.ensures) ∙ sym c.is_worn.ensures ∙ c.if-is_worn.true)
 
 pub is_crowded_at-requires : goal.is_crowded_at-requires
 is_crowded_at-requires g c =
@@ -32,7 +33,7 @@ returns-then-branch-clause-did g c = λ seconds.
     let crowded : IsCrowdedAt c.args.to (letters_left_by flights) (octets_left_by flights) _ c.at.result.now =
     counted_crowd c.args.to _ _ _ _ _ c.at.result.now c.letters_left-most.ensures c.octets_left-room.ensures c.in_ok-is_crowded_at.ensures in
     push_crowded (view_of g.D.Disk.seen g.D.Disk.faults g.D.Disk.clock) c.args.from c.args.to c.args.nodes.now c.requires.fit c.requires.ready c.args.flying.now seconds c.args.book.now c.at.result.now c.at.ensures
-    (sym c.is_late.ensures ∙ c.if-is_late.false) (subst (λ b. IsCrowdedAt c.args.to (letters_left_by flights) (octets_left_by flights) b c.at.result.now) c.if-branch.true crowded)
+    (ap (nat_le letters_end) (sym c.sent.ensures) ∙ sym c.is_worn.ensures ∙ c.if-is_worn.false) (subst (λ b. IsCrowdedAt c.args.to (letters_left_by flights) (octets_left_by flights) b c.at.result.now) c.if-branch.true crowded)
 
 pub returns-in_err-reserve-clause-did : goal.returns-in_err-reserve-clause-did
 returns-in_err-reserve-clause-did g c = λ seconds.
@@ -56,7 +57,7 @@ returns-in-Ok-clause-did g c = λ seconds.
     counted_crowd c.args.to _ _ _ _ _ c.at.result.now c.letters_left-most.ensures c.octets_left-room.ensures c.in_ok-is_crowded_at.ensures in
     sending_did on c.args.from c.args.to c.args.nodes.now c.requires.fit c.requires.ready g.D.Disk.settled c.args.flying.now c.push_in.new.nodes c.push_in.result ch
     seconds c.args.book.now c.reserve.new.self c.in-Ok.outbox c.in-Ok.is c.into_vec.result.items c.into_vec.ensures c.send_pushed.new.nodes c.send_pushed.new.flying
-    c.at.result.now c.at.ensures (sym c.is_late.ensures ∙ c.if-is_late.false) (subst (λ b. IsCrowdedAt c.args.to (letters_left_by flights) (octets_left_by flights) b c.at.result.now) c.if-branch.false crowded)
+    c.at.result.now c.at.ensures (ap (nat_le letters_end) (sym c.sent.ensures) ∙ sym c.is_worn.ensures ∙ c.if-is_worn.false) (subst (λ b. IsCrowdedAt c.args.to (letters_left_by flights) (octets_left_by flights) b c.at.result.now) c.if-branch.false crowded)
     c.reserve.ensures.entries c.send_pushed.result c.send_pushed.ensures.ok c.send_pushed.ensures.err
 
 pub returns-in-Ok-clause-ready : goal.returns-in-Ok-clause-ready
@@ -95,7 +96,7 @@ returns-in-Err-clause-did g c = λ seconds.
     subst (λ r. StepDid on r (step.Push c.args.from c.args.to) (state_with c.args.nodes.now c.args.flying.now seconds c.args.book.now) (state_with c.push_in.new.nodes c.args.flying.now seconds c.tell_fault.new.book))
     (sym c.tell_fault.ensures.said)
     (push_failed on c.args.from c.args.to c.args.nodes.now c.requires.fit c.requires.ready g.D.Disk.settled c.args.flying.now c.push_in.new.nodes c.push_in.result ch
-    seconds c.args.book.now c.tell_fault.new.book c.at.result.now c.at.ensures (sym c.is_late.ensures ∙ c.if-is_late.false)
+    seconds c.args.book.now c.tell_fault.new.book c.at.result.now c.at.ensures (ap (nat_le letters_end) (sym c.sent.ensures) ∙ sym c.is_worn.ensures ∙ c.if-is_worn.false)
     (subst (λ b. IsCrowdedAt c.args.to (letters_left_by flights) (octets_left_by flights) b c.at.result.now) c.if-branch.false crowded) c.in-Err.fault c.in-Err.is
     (c.tell_fault.ensures.entries ∙ ap (λ b. b ++ entries_of_fault c.args.from c.in-Err.fault) c.reserve.ensures.entries))
 

@@ -1,4 +1,5 @@
-use Rattle.std.proofs.Common.{◌∙◌, ◌++◌, ap, refl, subst, sym, arith}
+use Rattle.std.proofs.Common.{◌∙◌, ◌++◌, ap, refl, subst, sym, arith, nat_le}
+use Rattle.cluster_model.specs.Steps.{letters_end}
 use Rattle.std.proofs.lemmas.Result.{err_from_is_err_and}
 use Rattle.node_store.specs.Disks.{view_of}
 use Rattle.cluster_world.specs.Widens.{entries_of_widening}
@@ -10,10 +11,10 @@ use Rattle.cluster_world.proofs.Asked.{same_book}
 use Rattle.cluster_world.proofs.Widening.{widened_did, widened_ready, widened_falls, widened_settled, widening_late}
 use Rattle.cluster_world.proofs.steps.widen.widen_copy.Goals as goal
 
-pub returns-then-is_late-clause-did : goal.returns-then-is_late-clause-did
-returns-then-is_late-clause-did g c = λ seconds.
+pub returns-then-is_worn-clause-did : goal.returns-then-is_worn-clause-did
+returns-then-is_worn-clause-did g c = λ seconds.
     widening_late (view_of g.D.Disk.seen g.D.Disk.faults g.D.Disk.clock) c.args.at c.args.to c.args.user.now c.args.id c.args.nodes.now c.requires.fit c.requires.ready c.args.flying.now seconds c.args.book.now
-    (sym c.is_late.ensures ∙ c.if-is_late.true)
+    (ap (nat_le letters_end) (sym c.sent.ensures) ∙ sym c.is_worn.ensures ∙ c.if-is_worn.true)
 
 pub returns-in_err-reserve-clause-did : goal.returns-in_err-reserve-clause-did
 returns-in_err-reserve-clause-did g c = λ seconds.
@@ -29,7 +30,7 @@ returns-clause-did g c = λ seconds.
     subst (λ r. StepDid on r (step.Widen c.args.at c.args.user.now c.args.id c.args.to) (state_with c.args.nodes.now c.args.flying.now seconds c.args.book.now) (state_with c.widen_in-did.new.nodes c.args.flying.now seconds c.tell.new.book))
     (sym c.tell.ensures.said)
     (widened_did on c.args.at c.args.to c.args.user.now c.args.id c.args.nodes.now c.requires.fit c.requires.ready g.D.Disk.settled c.widen_in-did.new.nodes c.widen_in-did.result c.widen_in-did.ensures
-    c.args.flying.now seconds c.args.book.now c.tell.new.book (sym c.is_late.ensures ∙ c.if-is_late.false)
+    c.args.flying.now seconds c.args.book.now c.tell.new.book (ap (nat_le letters_end) (sym c.sent.ensures) ∙ sym c.is_worn.ensures ∙ c.if-is_worn.false)
     (c.tell.ensures.entries ∙ ap (λ b. b ++ entries_of_widening c.args.at c.widen_in-did.result) c.reserve.ensures.entries) c.widen_in-did.result refl)
 
 pub returns-clause-ready : goal.returns-clause-ready
