@@ -205,7 +205,12 @@ fn plans_are_refused(rt: HostRuntime) -> Result<(), Fail> {
     each_case(&rt, alloc, b"", BAD_LINES)?;
     each_case(&rt, alloc, b"", BAD_PLANS)?;
     Script::new(alloc, &[b"end\n  ! line 1 BadPlan\n"])?.run(&rt, 3)?;
-    // A name and a secret have at most 64 octets.
+    Ok(())
+}
+
+#[test]
+fn names_and_secrets_have_64_octets(rt: HostRuntime) -> Result<(), Fail> {
+    let alloc = rt.alloc();
     let most = repeated(alloc, b'a', 64)?;
     let more = repeated(alloc, b'a', 65)?;
     let cases: [(&[u8], &[u8], &[u8]); 3] = [
@@ -214,8 +219,8 @@ fn plans_are_refused(rt: HostRuntime) -> Result<(), Fail> {
         (b"alice", &more, b"  ! line 1 BadPlan\n"),
     ];
     for (name, secret, written) in cases {
-        let line = joined(alloc, &[b"user ", name, b" ", secret, b"\n"])?;
-        Script::new(alloc, &[&line, written])?.run(&rt, 3)?;
+        let lines = joined(alloc, &[b"user ", name, b" ", secret, b"\n", written])?;
+        Script::new(alloc, &[&lines])?.run(&rt, 3)?;
     }
     Ok(())
 }

@@ -231,11 +231,12 @@ fn says(
     back: &[u8],
     reply: &[u8],
 ) -> Result<(), AllocError> {
-    let letters = repeated(script.alloc, b'a', count)?;
-    let said: [&[u8]; 8] = [
-        b"say 1 ", front, &letters, back, b"\n", b"  1 ", reply, b"\n",
-    ];
-    script.add(&joined(script.alloc, &said)?)
+    let alloc = script.alloc;
+    let letters = repeated(alloc, b'a', count)?;
+    let said = joined(alloc, &[b"say 1 ", front, &letters, back, b"\n"])?;
+    let written = joined(alloc, &[b"  1 ", reply, b"\n"])?;
+    script.add(&said)?;
+    script.add(&written)
 }
 
 #[test]

@@ -1,23 +1,50 @@
 // A client, and what it hears.
-use super::desk::{Desk, Manner, Message, failed, note, note_lines};
+use super::desk::{Desk, FIRST_MESSAGE, Manner, Message, failed, note, note_lines};
 use super::either::Either;
-use super::users::plan;
-use call_tickets::{Answer, Call, Move};
-use mail_base::Plan;
-use pop_session::PopSession;
-use smtp_session::SmtpSession;
+use super::users::{plan, user};
+use call_tickets::{Answer, Move};
+use mail_base::{Octets, Plan};
 use std::alloc::{AllocError, Global};
 use std::process::Abort;
 use std::test::Fail;
 
+// What a client does, and what it is to have heard.
+#[derive(Clone, Copy)]
+pub(super) enum Step<'a> {
+    // Says the lines of a table that are not indented, one after the other; they lead to those that are.
+    Says(&'a [u8]),
+    // Says all of them in pieces of so many octets.
+    Pieces(&'a [u8], usize),
+    // Says octets in pieces of so many.
+    Feeds(&'a [u8], usize),
+    // Says a text of 16,384 lines of 1,024 octets with their CRLF, the first of which has this octet more, and the period.
+    Large(u8),
+    // Says a text of one line, of 100,001 octets with its CRLF, the period and QUIT, in pieces of so many.
+    Long(usize),
+    // Names u001 to u100 as recipients, each of whom is taken.
+    Hundred,
+    // Has heard this and no more since the last step that asked.
+    Heard(&'a [u8]),
+    // Says a line of so many octets with its CRLF that begins so, which leads to this and no more.
+    Line(&'a [u8], usize, &'a [u8]),
+    // Says a line that never ends, which leads to nothing.
+    Endless,
+    // Has sent, last of all, a message with a text of so many octets, for so many mailboxes; none where there are none.
+    Sent(usize, usize),
+    // Has sent this text last of all.
+    Text(&'a [u8]),
+    // Asks for message 1, is late answered with these octets of it, and is shown this.
+    Shown(&'a [u8], &'a [u8]),
+}
+
 // A client of node 1, and what was said so far.
 #[derive(Drop)]
-pub(super) struct Client {
-    pub(super) alloc: Global,
-    pub(super) plan: Plan,
-    pub(super) session: Either,
-    pub(super) desk: Desk,
-    pub(super) said: Vec<u8>,
+struct Client {
+    alloc: Global,
+    plan: Plan,
+    session: Either,
+    desk: Desk,
+    said: Vec<u8>,
 }
 
 // Whether a line of a table is said by the client.
@@ -40,49 +67,55 @@ fn parted(alloc: Global, table: &[u8]) -> Result<(Vec<u8>, Vec<u8>), AllocError>
     Ok((says, wanted))
 }
 
+// A client takes these steps after this greeting.
+fn takes(
+    rt: &impl Abort,
+    session: Either,
+    desk: Desk,
+    plan: Plan,
+    greeting: &[u8],
+    steps: &[Step],
+) -> Result<(), Fail> {
+    let mut client = Client {
+        alloc: desk.alloc,
+        plan,
+        session,
+        said: Vec::new(desk.alloc),
+        desk,
+    };
+    client.takes(rt, greeting, steps)
+}
+
+// A client that sends mail takes these steps.
+pub(super) fn smtp(rt: &impl Abort, alloc: Global, steps: &[Step]) -> Result<(), Fail> {
+    let plan = plan(alloc)?;
+    let desk = Desk::new(alloc, &[])?;
+    let session = Either::smtp(alloc, desk.node);
+    takes(
+        rt,
+        session,
+        desk,
+        plan,
+        b"  220 node1 Porcupine ready\n",
+        steps,
+    )
+}
+
+// A client that reads mail, and these messages, takes these steps.
+pub(super) fn pop(
+    rt: &impl Abort,
+    alloc: Global,
+    messages: &[Message],
+    steps: &[Step],
+) -> Result<(), Fail> {
+    let plan = plan(alloc)?;
+    let desk = Desk::new(alloc, messages)?;
+    let session = Either::pop(alloc, desk.node);
+    let greeting = b"  +OK node1 ready <3.12.1000000000@node1>\n";
+    takes(rt, session, desk, plan, greeting, steps)
+}
+
 impl Client {
-    // A client that sends mail.
-    pub(super) fn smtp(alloc: Global) -> Result<Client, Fail> {
-        let plan = plan(alloc)?;
-        let desk = Desk::new(alloc, &[])?;
-        let session = SmtpSession::new(alloc, desk.node);
-        let mut client = Client {
-            alloc,
-            plan,
-            session: Either::Smtp(session),
-            desk,
-            said: Vec::new(alloc),
-        };
-        client.is_greeted(b"  220 node1 Porcupine ready\n")?;
-        Ok(client)
-    }
-
-    // A client that reads mail, and these messages.
-    pub(super) fn pop(alloc: Global, messages: &[Message]) -> Result<Client, Fail> {
-        let plan = plan(alloc)?;
-        let desk = Desk::new(alloc, messages)?;
-        let session = PopSession::new(alloc, desk.node, 3, 12, 1_000_000_000);
-        let mut client = Client {
-            alloc,
-            plan,
-            session: Either::Pop(session),
-            desk,
-            said: Vec::new(alloc),
-        };
-        client.is_greeted(b"  +OK node1 ready <3.12.1000000000@node1>\n")?;
-        Ok(client)
-    }
-
-    // Makes the first move, which greets the client so.
-    fn is_greeted(&mut self, greeting: &[u8]) -> Result<(), Fail> {
-        self.next()?;
-        if self.said.as_slice() != greeting {
-            return Err(Fail::from("another greeting"));
-        }
-        self.said.clear();
-        Ok(())
-    }
-
     // Notes the lines that the session said.
     fn note_said(&mut self, out: &[u8]) -> Result<(), AllocError> {
         note_lines(&mut self.said, b"  ", out)?;
@@ -109,7 +142,7 @@ impl Client {
             Move::Wait | Move::Idle | Move::End => return Ok(false),
             Move::Said => self.note_said(&out)?,
             Move::Begin(call) => {
-                let served = self.desk.serves(&self.plan, call, &mut self.said)?;
+                let served = self.desk.serves(&self.plan, &call, &mut self.said)?;
                 self.answer(served);
             }
         }
@@ -127,13 +160,13 @@ impl Client {
     }
 
     // Feeds a piece, and makes the moves that it leads to.
-    pub(super) fn feed(&mut self, piece: &[u8]) -> Result<(), Fail> {
+    fn feed(&mut self, piece: &[u8]) -> Result<(), Fail> {
         self.session.feed(piece)?;
         self.moves(piece.len().saturating_add(2))
     }
 
     // Feeds octets in pieces of so many.
-    pub(super) fn feed_all(&mut self, octets: &[u8], size: usize) -> Result<(), Fail> {
+    fn feed_all(&mut self, octets: &[u8], size: usize) -> Result<(), Fail> {
         for piece in octets.chunks(size.max(1)) {
             self.feed(piece)?;
         }
@@ -158,19 +191,10 @@ impl Client {
     fn leaves(&mut self) -> Result<(), Fail> {
         match &self.session.leave(self.alloc, self.desk.node) {
             None => Ok(note(&mut self.said, b"  leaves ", b"nothing")?),
-            Some(
-                Call::Leave {
-                    user,
-                    login,
-                    manager,
-                },
-            ) => {
-                if login.seq != 7 || login.boot != 3 || manager.number() != 1 {
-                    return Err(Fail::from("another leave"));
-                }
+            Some((user, login)) if login.seq == 7 && login.boot == 3 => {
                 Ok(note(&mut self.said, b"  leaves ", user.octets())?)
             }
-            Some(_) => Err(Fail::from("another call")),
+            Some(_) => Err(Fail::from("another login")),
         }
     }
 
@@ -206,7 +230,7 @@ impl Client {
     }
 
     // Says the lines of a table that are not indented; they lead to those that are.
-    pub(super) fn says(&mut self, rt: &impl Abort, table: &[u8]) -> Result<(), Fail> {
+    fn says(&mut self, rt: &impl Abort, table: &[u8]) -> Result<(), Fail> {
         self.said.clear();
         for line in table.split_inclusive(|octet| *octet == b'\n') {
             if is_said(line) {
@@ -218,12 +242,7 @@ impl Client {
     }
 
     // Says all lines of a table in pieces of so many octets; they lead to the same.
-    pub(super) fn says_in_pieces(
-        &mut self,
-        rt: &impl Abort,
-        table: &[u8],
-        size: usize,
-    ) -> Result<(), Fail> {
+    fn says_in_pieces(&mut self, rt: &impl Abort, table: &[u8], size: usize) -> Result<(), Fail> {
         let (says, wanted) = parted(self.alloc, table)?;
         self.feed_all(&says, size)?;
         self.has_said(rt, &wanted);
@@ -232,7 +251,7 @@ impl Client {
 
     // Says a line of so many octets with its CRLF that begins so, which leads to this and no more. No more of it is held than the
     // limit, however it comes.
-    pub(super) fn says_line_of(
+    fn says_line_of(
         &mut self,
         rt: &impl Abort,
         begins: &[u8],
@@ -253,7 +272,7 @@ impl Client {
     }
 
     // Says a line that never ends: it leads to nothing, and little of it is held.
-    pub(super) fn says_without_end(&mut self, rt: &impl Abort) -> Result<(), Fail> {
+    fn says_without_end(&mut self, rt: &impl Abort) -> Result<(), Fail> {
         self.said.clear();
         let piece = [b'x'; 1000];
         for _ in 0..5_000u16 {
@@ -264,7 +283,88 @@ impl Client {
         Ok(())
     }
 
-    pub(super) fn has_said(&self, rt: &impl Abort, wanted: &[u8]) {
+    fn says_large(&mut self, first: u8) -> Result<(), Fail> {
+        let mut line = [b'x'; 1024];
+        line[1022] = b'\r';
+        line[1023] = b'\n';
+        self.feed(&[first])?;
+        for _ in 0..16_384u32 {
+            self.feed(&line)?;
+        }
+        self.feed(b".\r\n")
+    }
+
+    fn says_long(&mut self, size: usize) -> Result<(), Fail> {
+        let mut text = b"..".to_vec(self.alloc)?;
+        text.resize(100_000, b'x')?;
+        text.extend_from_slice(b"\r\n.\r\nQUIT\r\n")?;
+        self.feed_all(&text, size)
+    }
+
+    fn names_a_hundred(&mut self, rt: &impl Abort) -> Result<(), Fail> {
+        for number in 1..101u8 {
+            self.feed(b"RCPT TO:<")?;
+            self.feed(&user(number))?;
+            self.said.clear();
+            self.feed(b">\r\n")?;
+            self.has_said(rt, b"  250 recipient ok\n");
+        }
+        Ok(())
+    }
+
+    // Asks for message 1; the answer, these octets of it, comes late.
+    fn is_shown(&mut self, rt: &impl Abort, octets: &[u8], wanted: &[u8]) -> Result<(), Fail> {
+        self.desk.manner = Manner::IsLate;
+        self.feed(b"RETR 1\r\n")?;
+        self.session.answer(Some(Answer::Part {
+            octets: Octets::from_vec(octets.to_vec(self.alloc)?),
+            whole: FIRST_MESSAGE.len() as u64,
+        }));
+        let mut out = Vec::new(self.alloc);
+        self.session.next(self.alloc, &self.plan, &mut out)?;
+        assert!(rt; out.as_slice() == wanted, "{octets:?}");
+        Ok(())
+    }
+
+    fn take(&mut self, rt: &impl Abort, step: Step) -> Result<(), Fail> {
+        match step {
+            Step::Says(table) => self.says(rt, table),
+            Step::Pieces(table, size) => self.says_in_pieces(rt, table, size),
+            Step::Feeds(octets, size) => self.feed_all(octets, size),
+            Step::Large(first) => self.says_large(first),
+            Step::Long(size) => self.says_long(size),
+            Step::Hundred => self.names_a_hundred(rt),
+            Step::Line(begins, length, wanted) => self.says_line_of(rt, begins, length, wanted),
+            Step::Endless => self.says_without_end(rt),
+            Step::Shown(octets, wanted) => self.is_shown(rt, octets, wanted),
+            Step::Heard(wanted) => {
+                self.has_said(rt, wanted);
+                self.said.clear();
+                Ok(())
+            }
+            Step::Sent(octets, mailboxes) => {
+                assert!(rt; self.desk.text.len() == octets && self.desk.mailboxes == mailboxes);
+                Ok(())
+            }
+            Step::Text(text) => {
+                assert!(rt; self.desk.text.as_slice() == text);
+                Ok(())
+            }
+        }
+    }
+
+    // Hears the greeting, and takes each step.
+    fn takes(&mut self, rt: &impl Abort, greeting: &[u8], steps: &[Step]) -> Result<(), Fail> {
+        self.next()?;
+        self.has_said(rt, greeting);
+        self.said.clear();
+        for step in steps {
+            self.take(rt, *step)?;
+        }
+        Ok(())
+    }
+
+    fn has_said(&self, rt: &impl Abort, wanted: &[u8]) {
         assert!(rt; self.said.as_slice() == wanted, "{:?}", self.said);
     }
 }

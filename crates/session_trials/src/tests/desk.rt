@@ -27,13 +27,14 @@ pub(super) enum Manner {
 
 #[derive(Drop)]
 pub(super) struct Desk {
-    alloc: Global,
+    pub(super) alloc: Global,
     pub(super) node: NodeNo,
     pub(super) manner: Manner,
     // The maildrop, until a client is let in to it.
     maildrop: Option<Items>,
-    // The message that was sent last.
-    pub(super) filed: Option<Deliver>,
+    // The text of the message that was sent last, and how many mailboxes it is for; 0 before there is one.
+    pub(super) text: Vec<u8>,
+    pub(super) mailboxes: usize,
 }
 
 // Appends a line to what was said.
@@ -95,7 +96,8 @@ impl Desk {
             node: NodeNo::new(1).ok_or("no node")?,
             manner: Manner::Serves,
             maildrop: Some(items),
-            filed: None,
+            text: Vec::new(alloc),
+            mailboxes: 0,
         })
     }
 
@@ -167,13 +169,13 @@ impl Desk {
     pub(super) fn serves(
         &mut self,
         plan: &Plan,
-        call: Call,
+        call: &Call,
         said: &mut Vec<u8>,
     ) -> Result<Option<Answer>, Fail> {
         match call {
             Call::Login { user, proof } => {
                 note(said, b"  asks for ", user.octets())?;
-                Ok(Some(self.let_in(plan, &user, &proof)))
+                Ok(Some(self.let_in(plan, user, proof)))
             }
             Call::Fetch {
                 user,
@@ -184,20 +186,22 @@ impl Desk {
             } => {
                 let text = id.id_text(self.alloc)?;
                 note(said, b"  asks for ", text.as_bytes())?;
-                if user.octets() != b"alice".as_slice() || from != 0 || most != u64::MAX {
+                if user.octets() != b"alice".as_slice() || *from != 0 || *most != u64::MAX {
                     return Err(Fail::from("another fetch"));
                 }
-                Ok(Some(self.read(id)?))
+                Ok(Some(self.read(*id)?))
             }
             Call::Strike { items, .. } => {
-                self.note_items(&items, said)?;
+                self.note_items(items, said)?;
                 Ok(Some(Answer::Dropped {
                     confirmers: Vec::new(self.alloc),
                 }))
             }
             Call::Deliver(deliver) => {
-                self.note_message(&deliver, said)?;
-                self.filed = Some(deliver);
+                self.note_message(deliver, said)?;
+                self.text.clear();
+                self.text.extend_from_slice(deliver.text.as_slice())?;
+                self.mailboxes = deliver.users.len();
                 Ok(self.stored())
             }
             Call::Leave { .. } => Err(Fail::from("a leave")),

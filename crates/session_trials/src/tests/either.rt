@@ -1,6 +1,6 @@
 // A session of either kind, by the calls that both have.
 use call_tickets::{Answer, Call, Move};
-use mail_base::{NodeNo, Plan};
+use mail_base::{Name, NodeNo, Plan, Ticket};
 use pop_session::PopSession;
 use smtp_session::SmtpSession;
 use std::alloc::{AllocError, Global};
@@ -11,7 +11,27 @@ pub(super) enum Either {
     Pop(PopSession),
 }
 
+fn pop(alloc: Global, node: NodeNo) -> PopSession {
+    PopSession::new(alloc, node, 3, 12, 1_000_000_000)
+}
+
+// Whose login the session asks to end, and which; none where it asks for nothing.
+fn left(session: PopSession) -> Option<(Name, Ticket)> {
+    match session.leave() {
+        Some(Call::Leave { user, login, .. }) => Some((user, login)),
+        _ => None,
+    }
+}
+
 impl Either {
+    pub(super) fn smtp(alloc: Global, node: NodeNo) -> Either {
+        Either::Smtp(SmtpSession::new(alloc, node))
+    }
+
+    pub(super) fn pop(alloc: Global, node: NodeNo) -> Either {
+        Either::Pop(pop(alloc, node))
+    }
+
     pub(super) fn feed(&mut self, piece: &[u8]) -> Result<(), AllocError> {
         match self {
             Either::Smtp(session) => session.feed(piece),
@@ -46,12 +66,10 @@ impl Either {
     }
 
     // Another session takes its place, which begins.
-    pub(super) fn leave(&mut self, alloc: Global, node: NodeNo) -> Option<Call> {
+    pub(super) fn leave(&mut self, alloc: Global, node: NodeNo) -> Option<(Name, Ticket)> {
         match self {
             Either::Smtp(_) => None,
-            Either::Pop(session) => {
-                std::mem::replace(session, PopSession::new(alloc, node, 3, 13, 0)).leave()
-            }
+            Either::Pop(session) => left(std::mem::replace(session, pop(alloc, node))),
         }
     }
 

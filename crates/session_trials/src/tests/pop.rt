@@ -1,12 +1,9 @@
 // What clients that read mail hear.
 mod tables;
 
-use super::client::Client;
-use super::desk::{FIRST_MESSAGE, Manner, Message};
-use call_tickets::Answer;
-use mail_base::Octets;
-use std::alloc::Global;
-use std::process::Abort;
+use super::client::Step::{Endless, Feeds, Heard, Line, Pieces, Says, Shown};
+use super::client::pop;
+use super::desk::Message;
 use std::test::Fail;
 use tables::{
     FAILED_LOGIN, LET_IN, LOGIN_GIVEN_UP, LOGINS, MARKS, NO_MESSAGE, NOT_LET_IN, ONE_MESSAGE,
@@ -34,16 +31,11 @@ const THREE: [Message; 3] = [
     (1, 3, 12, u64::MAX),
 ];
 
-// A client of two messages that was let in.
-fn let_in(alloc: Global) -> Result<Client, Fail> {
-    let mut client = Client::pop(alloc, &TWO)?;
-    client.feed(b"USER alice\r\nPASS sesame\r\n")?;
-    Ok(client)
-}
+// What a client says that is let in.
+const LOGIN: &[u8] = b"USER alice\r\nPASS sesame\r\n";
 
 #[test]
 fn clients_hear_what_the_tables_say(rt: HostRuntime) -> Result<(), Fail> {
-    let alloc = rt.alloc();
     let cases: [(&[Message], &[u8]); 8] = [
         (&TWO, LOGINS),
         (&TWO, NOT_LET_IN),
@@ -55,66 +47,49 @@ fn clients_hear_what_the_tables_say(rt: HostRuntime) -> Result<(), Fail> {
         (&FOUR, MARKS),
     ];
     for (messages, table) in cases {
-        Client::pop(alloc, messages)?.says(&rt, table)?;
+        pop(&rt, rt.alloc(), messages, &[Says(table)])?;
     }
     for table in LET_IN {
-        let_in(alloc)?.says(&rt, table)?;
+        pop(&rt, rt.alloc(), &TWO, &[Feeds(LOGIN, 9), Says(table)])?;
     }
-    for size in [1, 2, 7, 100_000usize] {
-        Client::pop(alloc, &ONE)?.says_in_pieces(&rt, ONE_MESSAGE, size)?;
-        Client::pop(alloc, &[])?.says_in_pieces(&rt, LOGINS, size)?;
+    Ok(())
+}
+
+#[test]
+fn octets_come_in_any_pieces(rt: HostRuntime) -> Result<(), Fail> {
+    for size in [1, 2, 3, 7, 100_000usize] {
+        pop(&rt, rt.alloc(), &ONE, &[Pieces(ONE_MESSAGE, size)])?;
+        pop(&rt, rt.alloc(), &[], &[Pieces(LOGINS, size)])?;
+        pop(&rt, rt.alloc(), &FOUR, &[Pieces(MARKS, size)])?;
     }
-    Client::pop(alloc, &FOUR)?.says_in_pieces(&rt, MARKS, 3)
+    Ok(())
 }
 
 #[test]
 fn lines_end_at_crlf_alone(rt: HostRuntime) -> Result<(), Fail> {
-    let mut client = Client::pop(rt.alloc(), &[])?;
-    let cases: [(&[u8], usize, &[u8]); 8] = [
-        (b"x", 1_024, b"  -ERR unknown command\n"),
-        (b"x", 1_025, b"  -ERR line too long\n"),
-        (b"x", 100_000, b"  -ERR line too long\n"),
-        (b"USER ALICE", 12, b"  +OK send PASS\n"),
-        (
+    let steps = [
+        Line(b"x", 1_024, b"  -ERR unknown command\n"),
+        Line(b"x", 1_025, b"  -ERR line too long\n"),
+        Line(b"x", 100_000, b"  -ERR line too long\n"),
+        Line(b"USER ALICE", 12, b"  +OK send PASS\n"),
+        Line(
             b"PASS x",
             1_024,
             b"  asks for alice\n  -ERR name or secret is wrong\n",
         ),
-        (b"USER alice", 12, b"  +OK send PASS\n"),
-        (b"PASS x", 1_025, b"  -ERR line too long\n"),
-        (b"PASS sesame", 13, b"  -ERR bad order\n"),
+        Line(b"USER alice", 12, b"  +OK send PASS\n"),
+        Line(b"PASS x", 1_025, b"  -ERR line too long\n"),
+        Line(b"PASS sesame", 13, b"  -ERR bad order\n"),
+        Heard(b"  -ERR bad order\n"),
+        Feeds(b"USER alice\nPASS sesame\rQUIT\r", 11),
+        Heard(b""),
+        Feeds(b"\nQU", 9),
+        Heard(b"  -ERR bad argument\n"),
+        Feeds(b"IT\r\nSTAT", 9),
+        Heard(b"  +OK bye\n  closed\n"),
     ];
-    for (begins, length, wanted) in cases {
-        client.says_line_of(&rt, begins, length, wanted)?;
-    }
-    let pieces: [(&[u8], &[u8]); 5] = [
-        (b"USER alice\n", b""),
-        (b"PASS sesame\r", b""),
-        (b"QUIT\r", b""),
-        (b"\nQU", b"  -ERR bad argument\n"),
-        (b"IT\r\nSTAT", b"  +OK bye\n  closed\n"),
-    ];
-    for (piece, wanted) in pieces {
-        client.said.clear();
-        client.feed(piece)?;
-        client.has_said(&rt, wanted);
-    }
-    Client::pop(rt.alloc(), &[])?.says_without_end(&rt)
-}
-
-// The octets that show a message.
-fn shows(rt: &impl Abort, alloc: Global, octets: &[u8], wanted: &[u8]) -> Result<(), Fail> {
-    let mut client = let_in(alloc)?;
-    client.desk.manner = Manner::IsLate;
-    client.feed(b"RETR 1\r\n")?;
-    client.session.answer(Some(Answer::Part {
-        octets: Octets::from_vec(octets.to_vec(alloc)?),
-        whole: FIRST_MESSAGE.len() as u64,
-    }));
-    let mut out = Vec::new(alloc);
-    client.session.next(alloc, &client.plan, &mut out)?;
-    assert!(rt; out.as_slice() == wanted, "{octets:?}");
-    Ok(())
+    pop(&rt, rt.alloc(), &[], &steps)?;
+    pop(&rt, rt.alloc(), &[], &[Endless])
 }
 
 #[test]
@@ -132,7 +107,8 @@ fn messages_are_shown_octet_for_octet(rt: HostRuntime) -> Result<(), Fail> {
         ),
     ];
     for (octets, wanted) in cases {
-        shows(&rt, rt.alloc(), octets, wanted)?;
+        let steps = [Feeds(LOGIN, 9), Shown(octets, wanted)];
+        pop(&rt, rt.alloc(), &TWO, &steps)?;
     }
     Ok(())
 }
