@@ -44,16 +44,14 @@ pub(super) fn note(said: &mut Vec<u8>, before: &[u8], line: &[u8]) -> Result<(),
     said.extend_from_slice(b"\n")
 }
 
-// Appends each line that ends with CRLF.
+// Appends each line without its CRLF.
 pub(super) fn note_lines(
     said: &mut Vec<u8>,
     before: &[u8],
     octets: &[u8],
 ) -> Result<(), AllocError> {
     for line in octets.split_inclusive(|octet| *octet == b'\n') {
-        if let Some(line) = line.strip_suffix(b"\r\n") {
-            note(said, before, line)?;
-        }
+        note(said, before, line.strip_suffix(b"\r\n").unwrap_or(line))?;
     }
     Ok(())
 }
