@@ -1,5 +1,5 @@
 // Lines of the tape's format, and each public call once.
-use mail_base::{MsgId, Name, NodeNo};
+use mail_base::{MsgId, Name};
 use std::alloc::{AllocError, Global};
 use std::test::Fail;
 use tape_lines::{
@@ -7,259 +7,204 @@ use tape_lines::{
     without_cr,
 };
 
-#[test]
-fn reads_opens_and_closes(rt: HostRuntime) -> Result<(), Fail> {
-    let smtp = Protocol::Smtp;
-    let pop = Protocol::Pop;
-    let cases: [(&[u8], Order<'_>); 8] = [
-        (
-            b"open smtp 2\r",
-            Order::Open {
-                protocol: smtp,
-                node: 2,
-            },
-        ),
-        (
-            b"open smtp 0",
-            Order::Open {
-                protocol: smtp,
-                node: 0,
-            },
-        ),
-        (
-            b"open pop 2\r",
-            Order::Open {
-                protocol: pop,
-                node: 2,
-            },
-        ),
-        (
-            b"open pop 18446744073709551615",
-            Order::Open {
-                protocol: pop,
-                node: u64::MAX,
-            },
-        ),
-        (b"close 00000000000000000007", Order::Close { session: 7 }),
-        (b"close 0\r", Order::Close { session: 0 }),
-        (b"end", Order::End),
-        (b"end\r", Order::End),
-    ];
-    for (at, (line, order)) in cases.iter().enumerate() {
-        let Some(found) = read_order(rt.alloc(), line)? else {
-            panic!(rt; "none at {at}");
-        };
-        assert!(rt; found == *order, "at {at}");
+// A word and its number, and what else there is.
+fn worded(alloc: Global, word: &[u8], number: u64, rest: &[u8]) -> Result<Vec<u8>, AllocError> {
+    let mut text = Vec::from_slice(alloc, word)?;
+    text.push(b' ')?;
+    text.extend_from_slice(number.to_string(alloc)?.as_bytes())?;
+    text.push(b':')?;
+    text.extend_from_slice(rest)?;
+    Ok(text)
+}
+
+fn widening(
+    alloc: Global,
+    at: u64,
+    user: &Name,
+    id: MsgId,
+    to: u64,
+) -> Result<Vec<u8>, AllocError> {
+    let mut text = worded(alloc, b"widen", at, user.octets())?;
+    text.push(b' ')?;
+    text.extend_from_slice(id.id_text(alloc)?.as_bytes())?;
+    text.push(b' ')?;
+    text.extend_from_slice(to.to_string(alloc)?.as_bytes())?;
+    Ok(text)
+}
+
+fn of_move(alloc: Global, order: &ClusterOrder) -> Result<Vec<u8>, AllocError> {
+    match order {
+        ClusterOrder::Crash { node } => worded(alloc, b"crash", *node, b""),
+        ClusterOrder::Start { node } => worded(alloc, b"start", *node, b""),
+        ClusterOrder::Lose { node } => worded(alloc, b"lose", *node, b""),
+        ClusterOrder::Post { letter } => worded(alloc, b"post", *letter, b""),
+        ClusterOrder::Again { letter } => worded(alloc, b"again", *letter, b""),
+        ClusterOrder::Drop { letter } => worded(alloc, b"drop", *letter, b""),
+        ClusterOrder::Flow => Vec::from_slice(alloc, b"flow"),
+        ClusterOrder::Push { node } => worded(alloc, b"push", *node, b""),
+        ClusterOrder::Widen { at, user, id, to } => widening(alloc, *at, user, *id, *to),
     }
-    Ok(())
 }
 
-#[test]
-fn reads_says(rt: HostRuntime) -> Result<(), Fail> {
-    let cases: [(&[u8], u64, &[u8]); 5] = [
-        (b"say 1 NOOP\r", 1, b"NOOP"),
-        (b"say 1", 1, b""),
-        (b"say 1 ", 1, b""),
-        (b"say 007  RCPT  TO ", 7, b" RCPT  TO "),
-        (b"say 18446744073709551615 \r\r", u64::MAX, b"\r"),
-    ];
-    for (at, (line, wanted, words)) in cases.iter().enumerate() {
-        let Some(Order::Say { session, text }) = read_order(rt.alloc(), line)? else {
-            panic!(rt; "none at {at}");
-        };
-        assert!(rt; session == *wanted && text == *words, "at {at}");
+fn of_order(alloc: Global, order: &Order<'_>) -> Result<Vec<u8>, AllocError> {
+    match order {
+        Order::Open { protocol, node } => match protocol {
+            Protocol::Smtp => worded(alloc, b"smtp", *node, b""),
+            Protocol::Pop => worded(alloc, b"pop", *node, b""),
+        },
+        Order::Say { session, text } => worded(alloc, b"say", *session, text),
+        Order::Feed { session, octets } => worded(alloc, b"feed", *session, octets),
+        Order::Close { session } => worded(alloc, b"close", *session, b""),
+        Order::GiveUp { session } => worded(alloc, b"giveup", *session, b""),
+        Order::Moves(order) => of_move(alloc, order),
+        Order::End => Vec::from_slice(alloc, b"end"),
     }
-    Ok(())
 }
 
-#[test]
-fn reads_feeds(rt: HostRuntime) -> Result<(), Fail> {
-    let cases: [(&[u8], u64, &[u8]); 5] = [
-        (b"feed 1 51554954", 1, b"QUIT"),
-        (b"feed 0 0d0A\r", 0, b"\r\n"),
-        (b"feed 00000000000000000007 00", 7, b"\x00"),
-        (b"feed 18446744073709551615 fF", u64::MAX, b"\xff"),
-        (b"feed 2 aBcDeF09", 2, b"\xab\xcd\xef\x09"),
-    ];
-    for (at, (line, wanted, spelt)) in cases.iter().enumerate() {
-        let Some(Order::Feed { session, octets }) = read_order(rt.alloc(), line)? else {
-            panic!(rt; "none at {at}");
-        };
-        assert!(rt;
-            session == *wanted && octets.as_slice() == *spelt,
-            "at {at}"
-        );
+// What a run line is read as; nothing where it is of no form.
+fn read_as(alloc: Global, line: &[u8]) -> Result<Vec<u8>, AllocError> {
+    match &read_order(alloc, line)? {
+        Some(order) => of_order(alloc, order),
+        None => Ok(Vec::new(alloc)),
     }
-    Ok(())
 }
 
+// Run lines, and what each is read as.
+const TAKEN: [(&[u8], &[u8]); 33] = [
+    (b"open smtp 2\r", b"smtp 2:"),
+    (b"open smtp 0", b"smtp 0:"),
+    (b"open pop 2\r", b"pop 2:"),
+    (
+        b"open pop 18446744073709551615",
+        b"pop 18446744073709551615:",
+    ),
+    (b"close 00000000000000000007", b"close 7:"),
+    (b"close 0\r", b"close 0:"),
+    (b"end", b"end"),
+    (b"end\r", b"end"),
+    (b"say 1 NOOP\r", b"say 1:NOOP"),
+    (b"say 1", b"say 1:"),
+    (b"say 1 ", b"say 1:"),
+    (b"say 007  RCPT  TO ", b"say 7: RCPT  TO "),
+    (
+        b"say 18446744073709551615 \r\r",
+        b"say 18446744073709551615:\r",
+    ),
+    (b"feed 1 51554954", b"feed 1:QUIT"),
+    (b"feed 0 0d0A\r", b"feed 0:\r\n"),
+    (b"feed 00000000000000000007 00", b"feed 7:\x00"),
+    (
+        b"feed 18446744073709551615 fF",
+        b"feed 18446744073709551615:\xff",
+    ),
+    (b"feed 2 aBcDeF09", b"feed 2:\xab\xcd\xef\x09"),
+    (b"crash 1", b"crash 1:"),
+    (b"crash 0\r", b"crash 0:"),
+    (b"start 16", b"start 16:"),
+    (b"lose 00000000000000000003", b"lose 3:"),
+    (b"post 7", b"post 7:"),
+    (
+        b"again 18446744073709551615",
+        b"again 18446744073709551615:",
+    ),
+    (b"drop 0", b"drop 0:"),
+    (b"flow", b"flow"),
+    (b"flow\r", b"flow"),
+    (b"push 2", b"push 2:"),
+    (b"giveup 12\r", b"giveup 12:"),
+    (b"widen 1 alice 2.3.4 5", b"widen 1:alice 2.3.4 5"),
+    (
+        b"widen 17 ALICE 016.04294967295.18446744073709551615 0\r",
+        b"widen 17:alice 16.4294967295.18446744073709551615 0",
+    ),
+    (
+        b"widen 0 Alice 1.1.1 18446744073709551615",
+        b"widen 0:alice 1.1.1 18446744073709551615",
+    ),
+    (b"widen 01 alice 01.01.01 01", b"widen 1:alice 1.1.1 1"),
+];
+
+// Lines of no form.
+const REFUSED: [&[u8]; 70] = [
+    b"open sm",
+    b"open pop",
+    b"open pop ",
+    b"open pop  1",
+    b"open pop 1 ",
+    b"open pop 1x",
+    b"open POP 1",
+    b"open imap 1",
+    b"open pop 18446744073709551616",
+    b"open smtp 000000000000000000001",
+    b"close",
+    b"close ",
+    b"close  1",
+    b"close 1 ",
+    b"closes 1",
+    b"close 18446744073709551616",
+    b"end ",
+    b"end\r\r",
+    b"END",
+    b"",
+    b"feed",
+    b"feed 1",
+    b"feed 1 ",
+    b"feed 1 \r",
+    b"feed 1 4",
+    b"feed 1 414",
+    b"feed 1 4g",
+    b"feed 1 G4",
+    b"feed 1 0x41",
+    b"feed 1  41",
+    b"feed 1  414",
+    b"feed 1 41 ",
+    b"feed 1 41  ",
+    b"feed 1 41 41",
+    b"feed  1 41",
+    b"feed x 41",
+    b"feed 18446744073709551616 41",
+    b"feed 000000000000000000001 41",
+    b"Feed 1 41",
+    b"feed 1 41\r\r",
+    b"crash",
+    b"crash ",
+    b"crash  1",
+    b"crash 1 ",
+    b"crash x",
+    b"CRASH 1",
+    b"start 1 2",
+    b"lose 18446744073709551616",
+    b"lose 000000000000000000001",
+    b"post -1",
+    b"posts 1",
+    b"again",
+    b"drop 1x",
+    b"flow ",
+    b"flow 1",
+    b"flows",
+    b"push",
+    b"giveup",
+    b"giveup x",
+    b"give up 1",
+    b"widen 1 alice 1.1.1",
+    b"widen 1 alice 1.1.1 ",
+    b"widen 1 alice 1.1 2",
+    b"widen 1 alice 1.1.1.1 2",
+    b"widen 1 alice 0.1.1 2",
+    b"widen 1 alice 17.1.1 2",
+    b"widen 1 alice 1.0.1 2",
+    b"widen 1 alice 1.4294967296.1 2",
+    b"widen 1 alice 1.1.0 2",
+    b"widen 1 @lice 1.1.1 2",
+];
+
 #[test]
-fn refuses_opens_and_closes(rt: HostRuntime) -> Result<(), Fail> {
-    let lines: [&[u8]; 20] = [
-        b"open sm",
-        b"open pop",
-        b"open pop ",
-        b"open pop  1",
-        b"open pop 1 ",
-        b"open pop 1x",
-        b"open POP 1",
-        b"open imap 1",
-        b"open pop 18446744073709551616",
-        b"open smtp 000000000000000000001",
-        b"close",
-        b"close ",
-        b"close  1",
-        b"close 1 ",
-        b"closes 1",
-        b"close 18446744073709551616",
-        b"end ",
-        b"end\r\r",
-        b"END",
-        b"",
-    ];
-    for (at, line) in lines.iter().enumerate() {
-        assert!(rt; read_order(rt.alloc(), line)?.is_none(), "at {at}");
+fn reads_run_lines(rt: HostRuntime) -> Result<(), Fail> {
+    for (at, (line, wanted)) in TAKEN.iter().enumerate() {
+        assert!(rt; read_as(rt.alloc(), line)?.as_slice() == *wanted, "at {at}");
     }
-    Ok(())
-}
-
-#[test]
-fn refuses_feeds(rt: HostRuntime) -> Result<(), Fail> {
-    let lines: [&[u8]; 20] = [
-        b"feed",
-        b"feed 1",
-        b"feed 1 ",
-        b"feed 1 \r",
-        b"feed 1 4",
-        b"feed 1 414",
-        b"feed 1 4g",
-        b"feed 1 G4",
-        b"feed 1 0x41",
-        b"feed 1  41",
-        b"feed 1  414",
-        b"feed 1 41 ",
-        b"feed 1 41  ",
-        b"feed 1 41 41",
-        b"feed  1 41",
-        b"feed x 41",
-        b"feed 18446744073709551616 41",
-        b"feed 000000000000000000001 41",
-        b"Feed 1 41",
-        b"feed 1 41\r\r",
-    ];
-    for (at, line) in lines.iter().enumerate() {
-        assert!(rt; read_order(rt.alloc(), line)?.is_none(), "at {at}");
-    }
-    Ok(())
-}
-
-#[test]
-fn reads_moves(rt: HostRuntime) -> Result<(), Fail> {
-    let cases: [(&[u8], ClusterOrder); 10] = [
-        (b"crash 1", ClusterOrder::Crash { node: 1 }),
-        (b"crash 0\r", ClusterOrder::Crash { node: 0 }),
-        (b"start 16", ClusterOrder::Start { node: 16 }),
-        (b"lose 00000000000000000003", ClusterOrder::Lose { node: 3 }),
-        (b"post 7", ClusterOrder::Post { letter: 7 }),
-        (
-            b"again 18446744073709551615",
-            ClusterOrder::Again { letter: u64::MAX },
-        ),
-        (b"drop 0", ClusterOrder::Drop { letter: 0 }),
-        (b"flow", ClusterOrder::Flow),
-        (b"flow\r", ClusterOrder::Flow),
-        (b"push 2", ClusterOrder::Push { node: 2 }),
-    ];
-    for (at, (line, wanted)) in cases.iter().enumerate() {
-        let Some(Order::Moves(found)) = read_order(rt.alloc(), line)? else {
-            panic!(rt; "none at {at}");
-        };
-        assert!(rt; found == *wanted, "at {at}");
-    }
-    let Some(Order::GiveUp { session }) = read_order(rt.alloc(), b"giveup 12\r")? else {
-        panic!(rt; "no giveup");
-    };
-    assert!(rt; session == 12);
-    Ok(())
-}
-
-// The order that the text of a line `widen` should be.
-fn widened(alloc: Global, at: u64, id: MsgId, to: u64) -> Result<ClusterOrder, AllocError> {
-    let Some(user) = Name::spelt(alloc, b"alice")? else {
-        return Err(AllocError);
-    };
-    Ok(ClusterOrder::Widen { at, user, id, to })
-}
-
-#[test]
-fn reads_widens(rt: HostRuntime) -> Result<(), Fail> {
-    let cases: [(&[u8], u64, (u8, u32, u64), u64); 4] = [
-        (b"widen 1 alice 2.3.4 5", 1, (2, 3, 4), 5),
-        (
-            b"widen 17 ALICE 016.04294967295.18446744073709551615 0\r",
-            17,
-            (16, u32::MAX, u64::MAX),
-            0,
-        ),
-        (
-            b"widen 0 Alice 1.1.1 18446744073709551615",
-            0,
-            (1, 1, 1),
-            u64::MAX,
-        ),
-        (b"widen 01 alice 01.01.01 01", 1, (1, 1, 1), 1),
-    ];
-    for (at, (line, node, (drew, boot, seq), to)) in cases.iter().enumerate() {
-        let Some(drew) = NodeNo::new(*drew) else {
-            panic!(rt; "no node at {at}");
-        };
-        let Some(id) = MsgId::new(drew, *boot, *seq) else {
-            panic!(rt; "no id at {at}");
-        };
-        let Some(Order::Moves(found)) = read_order(rt.alloc(), line)? else {
-            panic!(rt; "none at {at}");
-        };
-        assert!(rt; found == widened(rt.alloc(), *node, id, *to)?, "at {at}");
-    }
-    Ok(())
-}
-
-#[test]
-fn refuses_moves(rt: HostRuntime) -> Result<(), Fail> {
-    let lines: [&[u8]; 30] = [
-        b"crash",
-        b"crash ",
-        b"crash  1",
-        b"crash 1 ",
-        b"crash x",
-        b"CRASH 1",
-        b"start 1 2",
-        b"lose 18446744073709551616",
-        b"lose 000000000000000000001",
-        b"post -1",
-        b"posts 1",
-        b"again",
-        b"drop 1x",
-        b"flow ",
-        b"flow 1",
-        b"flows",
-        b"push",
-        b"giveup",
-        b"giveup x",
-        b"give up 1",
-        b"widen 1 alice 1.1.1",
-        b"widen 1 alice 1.1.1 ",
-        b"widen 1 alice 1.1 2",
-        b"widen 1 alice 1.1.1.1 2",
-        b"widen 1 alice 0.1.1 2",
-        b"widen 1 alice 17.1.1 2",
-        b"widen 1 alice 1.0.1 2",
-        b"widen 1 alice 1.4294967296.1 2",
-        b"widen 1 alice 1.1.0 2",
-        b"widen 1 @lice 1.1.1 2",
-    ];
-    for (at, line) in lines.iter().enumerate() {
-        assert!(rt; read_order(rt.alloc(), line)?.is_none(), "at {at}");
+    for (at, line) in REFUSED.iter().enumerate() {
+        assert!(rt; read_as(rt.alloc(), line)?.is_empty(), "at {at}");
     }
     Ok(())
 }

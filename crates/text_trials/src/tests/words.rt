@@ -2,6 +2,7 @@
 use mail_base::{
     MsgId, Name, NameFault, Names, NodeNo, NodeSet, Octets, Plan, Secret, Stamp, Users, bucket_of,
 };
+use std::alloc::{AllocError, Global};
 use std::test::Fail;
 
 #[test]
@@ -41,30 +42,63 @@ fn finds_buckets(rt: HostRuntime) {
     }
 }
 
-#[test]
-fn finds_mailboxes(rt: HostRuntime) -> Result<(), Fail> {
-    let Some(name) = Name::spelt(rt.alloc(), b"ann")? else {
-        panic!(rt; "no name");
-    };
-    let Some(secret) = Secret::read(rt.alloc(), b"open sesame")? else {
-        panic!(rt; "no secret");
-    };
-    assert!(rt; secret.copy()?.octets() == b"open sesame".as_slice());
-    let mut users = Users::new(rt.alloc());
-    assert!(rt; users.is_empty());
+// A plan of one node with the one user ann, who is the postmaster.
+fn plan(alloc: Global) -> Result<Plan, Fail> {
+    let name = Name::spelt(alloc, b"ann")?.ok_or("no name")?;
+    let secret = Secret::read(alloc, b"open sesame")?.ok_or("no secret")?;
+    let mut users = Users::new(alloc);
     users.insert(name.copy()?, secret)?;
-    assert!(rt; users.has(&name) && users.secret(&name).is_some() && users.len() == 1);
-    let plan = Plan {
+    Ok(Plan {
         nodes: 1,
         copies: 1,
         confirm: 1,
         buckets: 1,
         users,
         postmaster: name,
+    })
+}
+
+// Whether the name is that of a mailbox, and of a user.
+fn found(plan: &Plan, alloc: Global, name: &[u8]) -> Result<(bool, bool), AllocError> {
+    let mailbox = plan.mailbox(alloc, name)?.is_some();
+    Ok((mailbox, plan.user(alloc, name)?.is_some()))
+}
+
+#[test]
+fn finds_mailboxes(rt: HostRuntime) -> Result<(), Fail> {
+    let plan = plan(rt.alloc())?;
+    let cases: [(&[u8], (bool, bool)); 3] = [
+        (b"PostMaster", (true, false)),
+        (b"ANN", (true, true)),
+        (b"bob", (false, false)),
+    ];
+    for (name, wanted) in cases {
+        assert!(rt; found(&plan, rt.alloc(), name)? == wanted);
+    }
+    Ok(())
+}
+
+// The secret of ann, where there is one for her alone.
+fn secret_of(users: &Users, alloc: Global, name: &[u8]) -> Result<Option<Secret>, AllocError> {
+    let Some(name) = Name::spelt(alloc, name)? else {
+        return Ok(None);
     };
-    assert!(rt; plan.mailbox(rt.alloc(), b"PostMaster")?.is_some());
-    assert!(rt; plan.mailbox(rt.alloc(), b"ANN")?.is_some());
-    assert!(rt; plan.user(rt.alloc(), b"postmaster")?.is_none());
+    match users.secret(&name) {
+        Some(secret) if users.has(&name) && users.len() == 1 => Ok(Some(secret.copy()?)),
+        _ => Ok(None),
+    }
+}
+
+#[test]
+fn finds_secrets(rt: HostRuntime) -> Result<(), Fail> {
+    let alloc = rt.alloc();
+    assert!(rt; Users::new(alloc).is_empty());
+    let plan = plan(alloc)?;
+    let Some(secret) = secret_of(&plan.users, alloc, b"ann")? else {
+        panic!(rt; "no secret");
+    };
+    assert!(rt; secret.octets() == b"open sesame".as_slice());
+    assert!(rt; secret_of(&plan.users, alloc, b"bob")?.is_none());
     Ok(())
 }
 
