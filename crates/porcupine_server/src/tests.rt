@@ -23,6 +23,7 @@ use node_disk::MemoryDisk;
 use std::alloc::{AllocError, Global};
 use std::process::Abort;
 use std::test::Fail;
+use store::Journal;
 
 /// A plan of six lines, with the one user alice.
 const PLAN: &[u8] = b"nodes 1\ncopies 1 1\nbuckets 1\nuser alice tanstaaf\npostmaster alice\ngo\n";
@@ -155,16 +156,45 @@ impl Script {
         Ok(())
     }
 
+    // Holds what a run left against the script.
+    fn agrees(&self, rt: &impl Abort, run: &Run, status: u8) {
+        assert_eq!(rt; text_of(&run.transcript), text_of(&self.wanted));
+        assert!(rt; run.transcript.as_slice() == self.wanted.as_slice());
+        assert_eq!(rt; run.status, status);
+    }
+
     // Runs the tape, and compares.
     fn run(&self, rt: &impl Abort, status: u8) -> Result<Run, Fail> {
         let run = drive(self.alloc, &self.tape, self.failing)?;
-        assert_eq!(rt;
-            str::from_utf8(&run.transcript)?,
-            str::from_utf8(&self.wanted)?
-        );
-        assert_eq!(rt; run.status, status);
+        self.agrees(rt, &run, status);
         Ok(run)
     }
+}
+
+// The octets where they are text.
+fn text_of(octets: &[u8]) -> &str {
+    str::from_utf8(octets).unwrap_or("no text")
+}
+
+// Runs a tape of these pieces of tables, and compares.
+fn runs(rt: &impl Abort, alloc: Global, pieces: &[&[u8]], status: u8) -> Result<(), Fail> {
+    let script = Script::new(alloc, pieces)?;
+    script.run(rt, status)?;
+    Ok(())
+}
+
+// Runs such a tape. The disk of node 1 then holds this journal.
+fn leaves(
+    rt: &impl Abort,
+    alloc: Global,
+    pieces: &[&[u8]],
+    status: u8,
+    journal: &Journal,
+) -> Result<(), Fail> {
+    let script = Script::new(alloc, pieces)?;
+    let run = script.run(rt, status)?;
+    journal.is_held(rt, run.disk.octets());
+    Ok(())
 }
 
 // Runs each case of the table after these lines. A case goes through its line `end`, or through a line that begins with `!`.

@@ -3,9 +3,9 @@
 use crate::program::run;
 use io_edge::faulty::FaultySink;
 use io_edge::{SliceSource, VecSink};
+use std::alloc::Global;
 use std::env;
 use std::env::{Env, FillError};
-use std::test::Fail;
 
 /// A system that hands over these words, and has no environment.
 #[derive(Drop)]
@@ -34,29 +34,34 @@ impl<'a> Env for HandedOver<'a> {
     }
 }
 
+// The words, which write fails, the status, and what is written.
+const CASES: [(&[&[u8]], u64, u8, &[u8]); 11] = [
+    (&[b"porcupine", b"drive"], 0, 3, b"! line 1 BadLine\n"),
+    (&[b"porcupine", b"\xFF\xFE"], 0, 1, b"! words\n"),
+    (&[b"porcupine", b"drive", b"\xC3"], 0, 1, b"! words\n"),
+    (&[b"porcupine", b"drive", b"now"], 0, 1, b"! words\n"),
+    (&[b"porcupine"], 0, 1, b"! words\n"),
+    (&[], 0, 1, b"! words\n"),
+    (&[b"porcupine", b""], 0, 1, b"! words\n"),
+    (&[b"porcupine", b"Drive"], 0, 1, b"! words\n"),
+    (&[b"porcupine", b"drive "], 0, 1, b"! words\n"),
+    (&[b"porcupine", b"-h"], 0, 1, b"! words\n"),
+    (&[b"porcupine", b"-h"], 1, 1, b""),
+];
+
+// Runs the program with these words, of whose writes this one fails.
+fn runs_with(alloc: Global, words: &[&[u8]], write: u64) -> (u8, Vec<u8>) {
+    let mut sink = FaultySink::new(VecSink::new(alloc), write);
+    let arguments = env::args(&(HandedOver { words }, alloc));
+    let status = run(alloc, arguments, &mut SliceSource::new(b""), &mut sink);
+    (status, sink.inner.held)
+}
+
 #[test]
-fn other_words_are_refused(rt: HostRuntime) -> Result<(), Fail> {
-    let alloc = rt.alloc();
-    // The words, which write fails, the status, and what is written.
-    let cases: [(&[&[u8]], u64, u8, &[u8]); 11] = [
-        (&[b"porcupine", b"drive"], 0, 3, b"! line 1 BadLine\n"),
-        (&[b"porcupine", b"\xFF\xFE"], 0, 1, b"! words\n"),
-        (&[b"porcupine", b"drive", b"\xC3"], 0, 1, b"! words\n"),
-        (&[b"porcupine", b"drive", b"now"], 0, 1, b"! words\n"),
-        (&[b"porcupine"], 0, 1, b"! words\n"),
-        (&[], 0, 1, b"! words\n"),
-        (&[b"porcupine", b""], 0, 1, b"! words\n"),
-        (&[b"porcupine", b"Drive"], 0, 1, b"! words\n"),
-        (&[b"porcupine", b"drive "], 0, 1, b"! words\n"),
-        (&[b"porcupine", b"-h"], 0, 1, b"! words\n"),
-        (&[b"porcupine", b"-h"], 1, 1, b""),
-    ];
-    for (words, write, status, written) in cases {
-        let mut sink = FaultySink::new(VecSink::new(alloc), write);
-        let arguments = env::args(&(HandedOver { words }, alloc));
-        let answer = run(alloc, arguments, &mut SliceSource::new(b""), &mut sink);
-        assert_eq!(rt; answer, status);
-        assert_eq!(rt; sink.inner.held.as_slice(), written);
+fn other_words_are_refused(rt: HostRuntime) {
+    for (words, write, status, written) in CASES {
+        let answer = runs_with(rt.alloc(), words, write);
+        assert_eq!(rt; answer.0, status);
+        assert_eq!(rt; answer.1.as_slice(), written);
     }
-    Ok(())
 }

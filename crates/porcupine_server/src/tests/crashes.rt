@@ -1,6 +1,6 @@
 // A node that stops and starts again: what was answered is there, and what was deleted is not.
 
-use super::{PLAN, Script, drive, drive_over, joined, lines_of};
+use super::{PLAN, drive, drive_over, joined, lines_of, runs};
 use io_edge::MemoryYard;
 use node_disk::{Image, MemoryDisk};
 use std::alloc::{AllocError, Global};
@@ -61,8 +61,7 @@ fn stops_behind(rt: &impl Abort, alloc: Global, lines: &[u8]) -> Result<(), Fail
     } else {
         b"  2 +OK 0 0\nend\n"
     };
-    Script::new(alloc, &[PLAN, lines, started, LOGIN, found])?.run(rt, 0)?;
-    Ok(())
+    runs(rt, alloc, &[PLAN, lines, started, LOGIN, found], 0)
 }
 
 #[test]
@@ -112,14 +111,19 @@ fn calls(alloc: Global, lines: &[u8]) -> Result<u64, AllocError> {
     Ok(run.disk.calls().len() as u64)
 }
 
-// The node goes down as this disk call fails, and starts from this image: what is then answered to STAT.
-fn listed(alloc: Global, lines: &[u8], failing: u64, image: Image) -> Result<Vec<u8>, AllocError> {
+// A disk of which this call fails, which then is left at this image.
+fn failing_disk(alloc: Global, failing: u64, image: Image) -> Result<MemoryDisk, AllocError> {
     let mut disk = MemoryDisk::new(alloc);
     disk.fail_at(failing)?;
     disk.leave(image)?;
-    let mut disks = Vec::new(alloc);
-    disks.push(disk)?;
+    Ok(disk)
+}
+
+// The node goes down as this disk call fails, and starts from this image: what is then answered to STAT.
+fn listed(alloc: Global, lines: &[u8], failing: u64, image: Image) -> Result<Vec<u8>, AllocError> {
     let tape = joined(alloc, &[lines, STARTED_AGAIN])?;
+    let mut disks = Vec::new(alloc);
+    disks.push(failing_disk(alloc, failing, image)?)?;
     let (_, transcript) = drive_over(alloc, &tape, &mut MemoryYard::new(alloc, disks))?;
     let last = lines_of(alloc, &transcript)?.pop().unwrap_or(b"");
     Vec::from_slice(alloc, last)
@@ -129,6 +133,27 @@ fn listed(alloc: Global, lines: &[u8], failing: u64, image: Image) -> Result<Vec
 fn tells(alloc: Global, answer: &[u8], count: u64) -> Result<bool, Fail> {
     let front = format!(in alloc; "3 +OK {count} ")?;
     Ok(answer.starts_with(front.as_bytes()))
+}
+
+// Whatever the stop leaves, so many messages are there, or one more.
+fn stands(
+    rt: &impl Abort,
+    alloc: Global,
+    lines: &[u8],
+    failing: u64,
+    least: u64,
+) -> Result<(), Fail> {
+    for image in [
+        Image::Nothing,
+        Image::Front(7),
+        Image::All,
+        Image::Garbage(0xA5),
+    ] {
+        let answer = listed(alloc, lines, failing, image)?;
+        let more = tells(alloc, &answer, least.saturating_add(1))?;
+        assert!(rt; more || tells(alloc, &answer, least)?);
+    }
+    Ok(())
 }
 
 #[test]
@@ -141,23 +166,10 @@ fn what_was_answered_stands_after_a_start(rt: HostRuntime) -> Result<(), Fail> {
         lines.extend_from_slice(line)?;
         let made = calls(alloc, &lines)?;
         // What the line asks for may be done or not: a message more, or at the deletion one less.
-        let least = if line == b"say 2 QUIT\n".as_slice() {
-            stored.saturating_sub(1)
-        } else {
-            stored
-        };
+        let deletes = line == b"say 2 QUIT\n".as_slice();
+        let least = stored.saturating_sub(u64::from(deletes));
         for failing in done.saturating_add(1)..=made {
-            for image in [
-                Image::Nothing,
-                Image::Front(7),
-                Image::All,
-                Image::Garbage(0xA5),
-            ] {
-                let answer = listed(alloc, &lines, failing, image)?;
-                assert!(rt;
-                    tells(alloc, &answer, least)? || tells(alloc, &answer, least.saturating_add(1))?
-                );
-            }
+            stands(&rt, alloc, &lines, failing, least)?;
         }
         done = made;
         if line == b"say 1 .\n".as_slice() {

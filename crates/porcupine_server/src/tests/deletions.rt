@@ -1,10 +1,10 @@
 // Messages are deleted by a QUIT, and by nothing else.
 
-use super::faults::{begins_with, calls_of};
+use super::faults::{calls_of, fails};
 use super::store::Journal;
-use super::{PLAN, Script};
+use super::{PLAN, leaves};
 use node_disk::Image;
-use std::alloc::{AllocError, Global};
+use std::alloc::Global;
 use std::test::Fail;
 
 const TWO_USERS: &[u8] = b"\
@@ -254,39 +254,35 @@ fn three_messages(alloc: Global) -> Result<Journal, Fail> {
     Ok(journal)
 }
 
+// That of a QUIT after them, and of a message that comes then.
+fn deleted(alloc: Global) -> Result<Journal, Fail> {
+    let mut journal = three_messages(alloc)?;
+    for number in [1, 3, 1] {
+        journal.gone(b"alice", number)?;
+    }
+    journal.message(b"", b"c.example", &[b"bob"], b"")?;
+    Ok(journal)
+}
+
 #[test]
 fn a_quit_deletes_what_its_session_marked(rt: HostRuntime) -> Result<(), Fail> {
     let alloc = rt.alloc();
-    let script = Script::new(alloc, &[TWO_USERS, THREE_MESSAGES, DELETING, OTHERS])?;
-    let run = script.run(&rt, 0)?;
-    let mut journal = three_messages(alloc)?;
-    journal.gone(b"alice", 1)?;
-    journal.gone(b"alice", 3)?;
-    journal.gone(b"alice", 1)?;
-    journal.message(b"", b"c.example", &[b"bob"], b"")?;
-    journal.is_held(&rt, run.disk.octets())?;
+    let quits = [TWO_USERS, THREE_MESSAGES, DELETING, OTHERS];
+    leaves(&rt, alloc, &quits, 0, &deleted(alloc)?)?;
     // A session that does not quit deletes nothing.
-    let run = Script::new(alloc, &[TWO_USERS, THREE_MESSAGES, CLOSING])?.run(&rt, 0)?;
-    three_messages(alloc)?.is_held(&rt, run.disk.octets())?;
-    Ok(())
+    let closes = [TWO_USERS, THREE_MESSAGES, CLOSING];
+    leaves(&rt, alloc, &closes, 0, &three_messages(alloc)?)
 }
 
-// The tape of one message that is deleted, of which this disk call fails.
-fn deleting(alloc: Global, failing: u64, rest: &[u8]) -> Result<Script, AllocError> {
-    let mut script = Script::new(alloc, &[PLAN, STORED, MARKED, rest])?;
-    script.failing = failing;
-    Ok(script)
-}
+const DONE: &[u8] = b"  2 +OK bye\n  * 2 closed\nend\n";
 
 #[test]
 fn a_disk_fault_in_a_deletion_takes_the_node_down(rt: HostRuntime) -> Result<(), Fail> {
     let alloc = rt.alloc();
     let mut journal = Journal::new(alloc)?;
     journal.message(b"", b"c.example", &[b"alice"], b"")?;
-    let stored = Script::new(alloc, &[PLAN, STORED, b"end\n"])?;
-    let stored = calls_of(&rt, &stored, 0)?;
-    let whole = deleting(alloc, 0, b"  2 +OK bye\n  * 2 closed\nend\n")?;
-    let deleted = calls_of(&rt, &whole, 0)?;
+    let stored = calls_of(&rt, alloc, &[PLAN, STORED, b"end\n"])?;
+    let deleted = calls_of(&rt, alloc, &[PLAN, STORED, MARKED, DONE])?;
     assert!(rt; stored < deleted);
     for failing in stored + 1..=deleted {
         for image in [
@@ -295,11 +291,10 @@ fn a_disk_fault_in_a_deletion_takes_the_node_down(rt: HostRuntime) -> Result<(),
             Image::All,
             Image::Garbage(0),
         ] {
-            let run = deleting(alloc, failing, FALLEN)?.run(&rt, 3)?;
-            begins_with(&rt, run.disk, image, &journal)?;
+            let pieces = [PLAN, STORED, MARKED, FALLEN];
+            fails(&rt, alloc, &pieces, failing, image, &journal)?;
         }
     }
     journal.gone(b"alice", 1)?;
-    journal.is_held(&rt, whole.run(&rt, 0)?.disk.octets())?;
-    Ok(())
+    leaves(&rt, alloc, &[PLAN, STORED, MARKED, DONE], 0, &journal)
 }

@@ -3,7 +3,7 @@
 ghost use Rattle.std.specs.Prelude.{◌≡◌, IfSome, IfOk, []};
 ghost use Rattle.cluster_world.specs.Opens.{AreEmpty};
 
-use super::joined;
+use super::Script;
 use cluster_world::World;
 use drive_tape::{Drove, TapeFault, drive, read_drive_head};
 use io_edge::{Disk, PlainDisk, Sink, SliceSource, Source, VecSink};
@@ -13,15 +13,32 @@ use std::process::Abort;
 use std::test::Fail;
 use world_book::Entry as BookEntry;
 
-// In another order than the usual one, and with two users.
-const PLAN: &[u8] =
-    b"user alice a\npostmaster carol\nbuckets 1\ncopies 1 1\nuser carol c\nnodes 1\ngo\n";
-
-const MESSAGE: &[u8] =
-    b"open smtp 1\nsay 1 HELO c.example\nsay 1 MAIL FROM:<>\nsay 1 RCPT TO:<postmaster>\nsay 1 RCPT TO:<alice>\nsay 1 DATA\nsay 1 Subject: hi\nsay 1\nsay 1 hello\nsay 1 .\n";
-
-const ASKED: &[u8] =
-    b"1 220 node1 Porcupine ready\n1 250 node1\n1 250 sender ok\n1 250 recipient ok\n1 250 recipient ok\n1 354 end with a line that is a single period\n";
+// In another order than the usual one, and with two users, who both get a message.
+const MESSAGE: &[u8] = b"\
+user alice a
+postmaster carol
+buckets 1
+copies 1 1
+user carol c
+nodes 1
+go
+open smtp 1
+  1 220 node1 Porcupine ready
+say 1 HELO c.example
+  1 250 node1
+say 1 MAIL FROM:<>
+  1 250 sender ok
+say 1 RCPT TO:<postmaster>
+  1 250 recipient ok
+say 1 RCPT TO:<alice>
+  1 250 recipient ok
+say 1 DATA
+  1 354 end with a line that is a single period
+say 1 Subject: hi
+say 1
+say 1 hello
+say 1 .
+";
 
 // What the book says: how many copies were acknowledged, were to be deleted, and were dropped, and how many times a node
 // went down, came up or was lost.
@@ -111,147 +128,190 @@ fn run<S: Source, K: Sink, D: Disk + Drop>(
     (answer, counted)
 }
 
+const STORED: &[u8] = b"  1 250 stored\nopen smtp 1\n  2 220 node1 Porcupine ready\nend\n";
+
+const FALLEN: &[u8] = b"  * fault 1\n  1 421 node1 down\n  * 1 closed\nopen smtp 1\nend\n";
+
 // The reader of one of them has it deleted; and one that closes its session has not.
-const DELETED: &[u8] =
-    b"open pop 1\nsay 2 USER alice\nsay 2 PASS a\nsay 2 DELE 1\nopen pop 1\nsay 3 USER carol\nsay 3 PASS c\nsay 3 DELE 1\nclose 3\nsay 2 QUIT\nend\n";
+const MARKED: &[u8] = b"  1 250 stored
+open pop 1
+  2 +OK node1 ready <1.2.0@node1>
+say 2 USER alice
+  2 +OK send PASS
+say 2 PASS a
+  2 +OK maildrop open
+say 2 DELE 1
+  2 +OK message 1 deleted
+open pop 1
+  3 +OK node1 ready <1.3.0@node1>
+say 3 USER carol
+  3 +OK send PASS
+say 3 PASS c
+  3 +OK maildrop open
+say 3 DELE 1
+  3 +OK message 1 deleted
+close 3
+say 2 QUIT
+";
 
-const MARKED: &[u8] =
-    b"1 250 stored\n2 +OK node1 ready <1.2.0@node1>\n2 +OK send PASS\n2 +OK maildrop open\n2 +OK message 1 deleted\n3 +OK node1 ready <1.3.0@node1>\n3 +OK send PASS\n3 +OK maildrop open\n3 +OK message 1 deleted\n";
+const DROPPED: &[u8] = b"  2 +OK bye\n  * 2 closed\nend\n";
 
-// Runs the tape over a disk of which this call fails; it drives so, says this, and the book has so many entries.
+const FALLEN_IN_QUIT: &[u8] = b"  * fault 1
+  1 421 node1 down
+  * 1 closed
+  2 -ERR [SYS/TEMP] node1 down
+  * 2 closed
+end
+";
+
+fn failing_disk(alloc: Global, call: u64) -> Result<MemoryDisk, AllocError> {
+    let mut disk = MemoryDisk::new(alloc);
+    disk.fail_at(call)?;
+    Ok(disk)
+}
+
+// Runs the tape over a disk of which this call fails; it drives so, and the book has so many entries.
 fn drives(
     rt: &impl Abort,
     alloc: Global,
-    tape: &[&[u8]],
+    pieces: &[&[u8]],
     call: u64,
     wanted: (Drove, Counts),
-    said: &[&[u8]],
 ) -> Result<(), Fail> {
-    let tape = joined(alloc, tape)?;
+    let script = Script::new(alloc, pieces)?;
+    let disks = alone(alloc, failing_disk(alloc, call)?)?;
     let mut sink = VecSink::new(alloc);
-    let mut disk = MemoryDisk::new(alloc);
-    disk.fail_at(call)?;
-    let disks = alone(alloc, disk)?;
-    let drove = run(alloc, &mut SliceSource::new(&tape), &mut sink, disks);
+    let drove = run(alloc, &mut SliceSource::new(&script.tape), &mut sink, disks);
     assert_eq!(rt; drove, wanted);
-    assert_eq!(rt; sink.held.as_slice(), joined(alloc, said)?.as_slice());
+    assert!(rt; sink.held.as_slice() == script.wanted.as_slice());
     Ok(())
 }
 
 #[test]
-fn a_message_is_stored_and_deleted_or_the_disk_fails(rt: HostRuntime) -> Result<(), Fail> {
-    let alloc = rt.alloc();
-    let stored: &[u8] = b"1 250 stored\n2 220 node1 Porcupine ready\n";
-    let fallen: &[u8] = b"* fault 1\n1 421 node1 down\n* 1 closed\n";
+fn a_message_is_stored_or_the_disk_fails(rt: HostRuntime) -> Result<(), Fail> {
     let down = Drove::BadTape(18, TapeFault::NodeDown);
     let whole = Counts { acked: 2, ..none() };
     let gone = Counts { down: 1, ..none() };
     // The opening makes six disk calls, and the message for two mailboxes twenty: its octets, and of each copy its state and
     // that it is retired.
     let cases: [(u64, Drove, &[u8], Counts); 4] = [
-        (0, Drove::Ended, stored, whole),
-        (7, down, fallen, gone),
-        (26, down, fallen, gone),
-        (27, Drove::Ended, stored, whole),
+        (0, Drove::Ended, STORED, whole),
+        (7, down, FALLEN, gone),
+        (26, down, FALLEN, gone),
+        (27, Drove::Ended, STORED, whole),
     ];
-    for (call, drove, said, counted) in cases {
-        let tape = [PLAN, MESSAGE, b"open smtp 1\nend\n"];
-        drives(&rt, alloc, &tape, call, (drove, counted), &[ASKED, said])?;
+    for (call, drove, lines, counted) in cases {
+        drives(&rt, rt.alloc(), &[MESSAGE, lines], call, (drove, counted))?;
     }
-    let dropped: &[u8] = b"2 +OK bye\n* 2 closed\n";
-    let fallen: &[u8] =
-        b"* fault 1\n1 421 node1 down\n* 1 closed\n2 -ERR [SYS/TEMP] node1 down\n* 2 closed\n";
-    let struck = Counts { struck: 1, ..whole };
+    Ok(())
+}
+
+#[test]
+fn a_marked_message_is_deleted_or_the_disk_fails(rt: HostRuntime) -> Result<(), Fail> {
+    let struck = Counts {
+        acked: 2,
+        struck: 1,
+        ..none()
+    };
+    let dropped = Counts {
+        dropped: 1,
+        ..struck
+    };
+    let down = Counts { down: 1, ..struck };
     // The Gone state takes four disk calls after the twenty-six before it, and that it is retired four more.
     let cases: [(u64, &[u8], Counts); 4] = [
-        (
-            0,
-            dropped,
-            Counts {
-                dropped: 1,
-                ..struck
-            },
-        ),
-        (27, fallen, Counts { down: 1, ..struck }),
-        (34, fallen, Counts { down: 1, ..struck }),
-        (
-            35,
-            dropped,
-            Counts {
-                dropped: 1,
-                ..struck
-            },
-        ),
+        (0, DROPPED, dropped),
+        (27, FALLEN_IN_QUIT, down),
+        (34, FALLEN_IN_QUIT, down),
+        (35, DROPPED, dropped),
     ];
-    for (call, said, counted) in cases {
-        let tape = [PLAN, MESSAGE, DELETED];
-        let wanted = (Drove::Ended, counted);
-        drives(&rt, alloc, &tape, call, wanted, &[ASKED, MARKED, said])?;
+    for (call, lines, counted) in cases {
+        let pieces = [MESSAGE, MARKED, lines];
+        drives(&rt, rt.alloc(), &pieces, call, (Drove::Ended, counted))?;
     }
     Ok(())
 }
 
 // A message for alice at node 1 of three, of which two confirm. Its letters to nodes 2 and 3 are 1 and 2; that which says
 // that node 2 has it is 3.
-const THREE: &[u8] =
-    b"nodes 3\ncopies 3 2\nbuckets 1\nuser alice tanstaaf\npostmaster alice\ngo\nopen smtp 1\nsay 1 HELO c.example\nsay 1 MAIL FROM:<bob@b.example>\nsay 1 RCPT TO:<alice>\nsay 1 DATA\nsay 1 Subject: hi\nsay 1\nsay 1 hello\nsay 1 .\n";
+const PENDING: &[u8] = b"\
+nodes 3
+copies 3 2
+buckets 1
+user alice tanstaaf
+postmaster alice
+go
+open smtp 1
+  1 220 node1 Porcupine ready
+say 1 HELO c.example
+  1 250 node1
+say 1 MAIL FROM:<bob@b.example>
+  1 250 sender ok
+say 1 RCPT TO:<alice>
+  1 250 recipient ok
+say 1 DATA
+  1 354 end with a line that is a single period
+say 1 Subject: hi
+say 1
+say 1 hello
+say 1 .
+";
 
-const PENDING: &[u8] =
-    b"1 220 node1 Porcupine ready\n1 250 node1\n1 250 sender ok\n1 250 recipient ok\n1 354 end with a line that is a single period\n";
+const POSTED: &[u8] = b"post 1\n  * 1 heard\npost 3\n  * 3 heard\n  1 250 stored\nend\n";
+
+const GIVEN_UP: &[u8] = b"giveup 1\n  1 451 not stored, try again\nend\n";
+
+const LOST: &[u8] = b"crash 1
+  * node 1 down
+  1 421 node1 down
+  * 1 closed
+start 1
+  * node 1 up 2
+lose 2
+  * node 2 lost
+end
+";
+
+// Runs the tape over three disks; it drives so, and the book has so many entries.
+fn three_drive(
+    rt: &impl Abort,
+    alloc: Global,
+    pieces: &[&[u8]],
+    wanted: (Drove, Counts),
+) -> Result<(), Fail> {
+    let script = Script::new(alloc, pieces)?;
+    let (one, two, last) = (
+        PlainDisk::new(alloc),
+        PlainDisk::new(alloc),
+        PlainDisk::new(alloc),
+    );
+    let disks = three(alloc, one, two, last)?;
+    let mut sink = VecSink::new(alloc);
+    let drove = run(alloc, &mut SliceSource::new(&script.tape), &mut sink, disks);
+    assert_eq!(rt; drove, wanted);
+    assert!(rt; sink.held.as_slice() == script.wanted.as_slice());
+    Ok(())
+}
 
 #[test]
 fn a_message_waits_for_its_nodes(rt: HostRuntime) -> Result<(), Fail> {
-    let alloc = rt.alloc();
     let stored = Counts { acked: 1, ..none() };
-    let cases: [(&[u8], Drove, &[u8], Counts); 5] = [
-        (b"end\n", Drove::Ended, b"", none()),
-        (
-            b"post 1\npost 3\nend\n",
-            Drove::Ended,
-            b"* 1 heard\n* 3 heard\n1 250 stored\n",
-            stored,
-        ),
-        (
-            b"giveup 1\nend\n",
-            Drove::Ended,
-            b"1 451 not stored, try again\n",
-            none(),
-        ),
-        (
-            b"crash 1\nstart 1\nlose 2\nend\n",
-            Drove::Ended,
-            b"* node 1 down\n1 421 node1 down\n* 1 closed\n* node 1 up 2\n* node 2 lost\n",
-            Counts {
-                down: 1,
-                up: 1,
-                lost: 1,
-                ..none()
-            },
-        ),
-        (
-            b"drop 1\npost 1\n",
-            Drove::BadTape(17, TapeFault::NoSuchLetter),
-            b"",
-            none(),
-        ),
+    let lost = Counts {
+        down: 1,
+        up: 1,
+        lost: 1,
+        ..none()
+    };
+    let refused = Drove::BadTape(17, TapeFault::NoSuchLetter);
+    let cases: [(&[u8], Drove, Counts); 5] = [
+        (b"end\n", Drove::Ended, none()),
+        (POSTED, Drove::Ended, stored),
+        (GIVEN_UP, Drove::Ended, none()),
+        (LOST, Drove::Ended, lost),
+        (b"drop 1\npost 1\n", refused, none()),
     ];
-    for (lines, wanted, transcript, counted) in cases {
-        let tape = joined(alloc, &[THREE, lines])?;
-        let mut sink = VecSink::new(alloc);
-        let disks = three(
-            alloc,
-            PlainDisk::new(alloc),
-            PlainDisk::new(alloc),
-            PlainDisk::new(alloc),
-        )?;
-        assert_eq!(rt;
-            run(alloc, &mut SliceSource::new(&tape), &mut sink, disks),
-            (wanted, counted)
-        );
-        assert_eq!(rt;
-            sink.held.as_slice(),
-            joined(alloc, &[PENDING, transcript])?.as_slice()
-        );
+    for (lines, drove, counted) in cases {
+        three_drive(&rt, rt.alloc(), &[PENDING, lines], (drove, counted))?;
     }
     Ok(())
 }

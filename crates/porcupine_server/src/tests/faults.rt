@@ -38,28 +38,29 @@ const FALLEN: &[u8] = b"  * fault 1
   * 3 closed
 ";
 
-// The tape of one message, of which this disk call fails.
-fn asked(alloc: Global, failing: u64, rest: &[u8]) -> Result<Script, AllocError> {
-    let mut script = Script::new(alloc, &[PLAN, ASKED, rest])?;
-    script.failing = failing;
-    Ok(script)
+// How many calls of its disk a tape of these pieces leads to.
+pub(super) fn calls_of(rt: &impl Abort, alloc: Global, pieces: &[&[u8]]) -> Result<u64, Fail> {
+    let script = Script::new(alloc, pieces)?;
+    let run = script.run(rt, 0)?;
+    Ok(run.disk.calls().len() as u64)
 }
 
-// How many calls of a disk the script leads to.
-pub(super) fn calls_of(rt: &impl Abort, script: &Script, status: u8) -> Result<u64, Fail> {
-    Ok(script.run(rt, status)?.disk.calls().len() as u64)
-}
-
-// The disk starts again and is left at this image, which begins with the journal.
-pub(super) fn begins_with(
+// This disk call fails in a tape of these pieces. The disk starts again and is left at this image, which begins with the
+// journal.
+pub(super) fn fails(
     rt: &impl Abort,
-    mut disk: MemoryDisk,
+    alloc: Global,
+    pieces: &[&[u8]],
+    failing: u64,
     image: Image,
     journal: &Journal,
-) -> Result<(), AllocError> {
-    disk.leave(image)?;
-    assert_eq!(rt; disk.restart(), Ok(()));
-    journal.is_prefix(rt, disk.octets());
+) -> Result<(), Fail> {
+    let mut script = Script::new(alloc, pieces)?;
+    script.failing = failing;
+    let mut run = script.run(rt, 3)?;
+    run.disk.leave(image)?;
+    assert_eq!(rt; run.disk.restart(), Ok(()));
+    journal.is_prefix(rt, run.disk.octets());
     Ok(())
 }
 
@@ -103,29 +104,34 @@ close 4
   ! line 22 NoSuchSession
 ";
 
+// This disk call fails as the plan is opened.
+fn is_refused(rt: &impl Abort, alloc: Global, failing: u64) -> Result<(), Fail> {
+    let run = drive(alloc, PLAN, failing)?;
+    assert_eq!(rt; run.transcript.as_slice(), b"! disk 0 1\n".as_slice());
+    assert_eq!(rt; run.status, 6);
+    Ok(())
+}
+
 #[test]
 fn a_disk_fault_takes_the_node_down(rt: HostRuntime) -> Result<(), Fail> {
     let alloc = rt.alloc();
     let journal = Journal::new(alloc)?;
-    let opened = calls_of(&rt, &Script::new(alloc, &[PLAN, b"end\n"])?, 0)?;
-    let stored = calls_of(&rt, &asked(alloc, 0, b"  2 250 stored\nend\n")?, 0)?;
+    let opened = calls_of(&rt, alloc, &[PLAN, b"end\n"])?;
+    let stored = calls_of(&rt, alloc, &[PLAN, ASKED, b"  2 250 stored\nend\n"])?;
     assert!(rt; opened < stored);
     for failing in 1..=opened {
-        let run = drive(alloc, PLAN, failing)?;
-        assert_eq!(rt; run.transcript.as_slice(), b"! disk 0 1\n".as_slice());
-        assert_eq!(rt; run.status, 6);
+        is_refused(&rt, alloc, failing)?;
     }
     for failing in opened + 1..=stored {
         for (refusal, image) in REFUSALS {
-            let lines = joined(alloc, &[FALLEN, refusal])?;
-            let run = asked(alloc, failing, &lines)?.run(&rt, 3)?;
-            begins_with(&rt, run.disk, image, &journal)?;
+            let pieces = [PLAN, ASKED, FALLEN, refusal];
+            fails(&rt, alloc, &pieces, failing, image, &journal)?;
         }
     }
     // LIST reads nothing, and RETR is the first disk call after those of the message.
-    let lines = joined(alloc, &[RETRIEVED, READ_FAILED])?;
-    asked(alloc, stored.saturating_add(1), &lines)?.run(&rt, 3)?;
-    Ok(())
+    let pieces = [PLAN, ASKED, RETRIEVED, READ_FAILED];
+    let failing = stored.saturating_add(1);
+    fails(&rt, alloc, &pieces, failing, Image::All, &journal)
 }
 
 // `feed 1` of an envelope and two messages at once.
@@ -133,31 +139,32 @@ const TWO_AT_ONCE: &[u8] =
     b"open smtp 1\nfeed 1 48454c4f20630d0a4d41494c2046524f4d3a3c3e0d0a5243505420544f3a3c616c6963653e0d0a\
 444154410d0a2e0d0a4d41494c2046524f4d3a3c3e0d0a5243505420544f3a3c616c6963653e0d0a444154410d0a2e0d0a\nend\n";
 
+// This write fails, and the store then holds so many messages.
+fn write_fails(rt: &impl Abort, alloc: Global, write: u64, messages: u64) -> Result<(), Fail> {
+    let tape = joined(alloc, &[PLAN, TWO_AT_ONCE])?;
+    let mut journal = Journal::new(alloc)?;
+    for _ in 0..messages {
+        journal.message(b"", b"c", &[b"alice"], b"")?;
+    }
+    let words = words(alloc, "drive")?;
+    let mut yard = yard_of(alloc, 0)?;
+    let mut sink = FaultySink::new(VecSink::new(alloc), write);
+    let mut source = SliceSource::new(&tape);
+    let answer = porcupine(alloc, &words, &mut source, &mut sink, &mut yard);
+    assert_eq!(rt; answer, if write <= 10 { 5 } else { 0 });
+    match yard.returned.last() {
+        Some((_, _, disk)) => journal.is_held(rt, disk.octets()),
+        None => assert!(rt; false),
+    }
+    Ok(())
+}
+
 #[test]
 fn what_a_unit_gives_is_written_before_the_next_is_heard(rt: HostRuntime) -> Result<(), Fail> {
-    let alloc = rt.alloc();
-    let tape = joined(alloc, &[PLAN, TWO_AT_ONCE])?;
     // Which write fails, and how many messages the store then holds.
     let cases: [(u64, u64); 5] = [(5, 0), (6, 1), (9, 1), (10, 2), (11, 2)];
     for (write, messages) in cases {
-        let mut sink = FaultySink::new(VecSink::new(alloc), write);
-        let mut yard = yard_of(alloc, 0)?;
-        let answer = porcupine(
-            alloc,
-            &words(alloc, "drive")?,
-            &mut SliceSource::new(&tape),
-            &mut sink,
-            &mut yard,
-        );
-        assert_eq!(rt; answer, if write <= 10 { 5 } else { 0 });
-        let mut journal = Journal::new(alloc)?;
-        for _ in 0..messages {
-            journal.message(b"", b"c", &[b"alice"], b"")?;
-        }
-        match yard.returned.pop() {
-            Some((_, _, disk)) => journal.is_held(&rt, disk.octets())?,
-            None => assert!(rt; false),
-        }
+        write_fails(&rt, rt.alloc(), write, messages)?;
     }
     Ok(())
 }
@@ -167,7 +174,40 @@ const PLAN_OF_TWO: &[u8] =
 
 const OPENED: &[u8] = b"1 220 node1 Porcupine ready\n";
 
+const CLOSING: &[u8] = b"1 220 node1 Porcupine ready\n1 221 node1 closing\n";
+
 const CLOSED: &[u8] = b"1 220 node1 Porcupine ready\n1 221 node1 closing\n* 1 closed\n! read\n";
+
+/// Which read, which write and which store fails, the first being 1; none where it is 0.
+#[derive(Clone, Copy)]
+struct Failing {
+    read: u64,
+    write: u64,
+    store: u64,
+}
+
+fn at(read: u64, write: u64, store: u64) -> Failing {
+    Failing { read, write, store }
+}
+
+// Part of the outside fails: the status and the transcript.
+fn outside_fails(
+    rt: &impl Abort,
+    alloc: Global,
+    tape: &[u8],
+    failing: Failing,
+    status: u8,
+    transcript: &[u8],
+) -> Result<(), Fail> {
+    let words = words(alloc, "drive")?;
+    let mut yard = FaultyYard::new(yard_of(alloc, 0)?, failing.store);
+    let mut sink = FaultySink::new(VecSink::new(alloc), failing.write);
+    let mut source = FaultySource::new(SliceSource::new(tape), failing.read);
+    let answer = porcupine(alloc, &words, &mut source, &mut sink, &mut yard);
+    assert_eq!(rt; answer, status);
+    assert_eq!(rt; sink.inner.held.as_slice(), transcript);
+    Ok(())
+}
 
 #[test]
 fn the_outside_fails(rt: HostRuntime) -> Result<(), Fail> {
@@ -175,33 +215,17 @@ fn the_outside_fails(rt: HostRuntime) -> Result<(), Fail> {
     let tape = joined(alloc, &[PLAN_OF_TWO, b"open smtp 1\nsay 1 QUIT\n"])?;
     // Each octet of the tape is one read, and each line of the transcript is one write.
     let last = tape.len() as u64 + 1;
-    // Which read, which write and which store fails, the first being 1; the status and the transcript.
-    let cases: [(u64, u64, u64, u8, &[u8]); 7] = [
-        (1, 0, 0, 4, b"! read\n"),
-        (last, 0, 0, 4, CLOSED),
-        (0, 1, 0, 5, b""),
-        (0, 2, 0, 5, OPENED),
-        (
-            0,
-            3,
-            0,
-            5,
-            b"1 220 node1 Porcupine ready\n1 221 node1 closing\n",
-        ),
-        (0, 0, 1, 6, b"! disk 0 1\n"),
-        (0, 0, 2, 6, b"! disk 0 2\n"),
+    let cases: [(Failing, u8, &[u8]); 7] = [
+        (at(1, 0, 0), 4, b"! read\n"),
+        (at(last, 0, 0), 4, CLOSED),
+        (at(0, 1, 0), 5, b""),
+        (at(0, 2, 0), 5, OPENED),
+        (at(0, 3, 0), 5, CLOSING),
+        (at(0, 0, 1), 6, b"! disk 0 1\n"),
+        (at(0, 0, 2), 6, b"! disk 0 2\n"),
     ];
-    for (read, write, store, status, transcript) in cases {
-        let mut sink = FaultySink::new(VecSink::new(alloc), write);
-        let answer = porcupine(
-            alloc,
-            &words(alloc, "drive")?,
-            &mut FaultySource::new(SliceSource::new(&tape), read),
-            &mut sink,
-            &mut FaultyYard::new(yard_of(alloc, 0)?, store),
-        );
-        assert_eq!(rt; answer, status);
-        assert_eq!(rt; sink.inner.held.as_slice(), transcript);
+    for (failing, status, transcript) in cases {
+        outside_fails(&rt, alloc, &tape, failing, status, transcript)?;
     }
     Ok(())
 }
@@ -219,30 +243,28 @@ fn held_by(alloc: Global, node: u8) -> Result<Vec<PlainDisk>, AllocError> {
     Ok(disks)
 }
 
-#[test]
-fn a_store_that_holds_something_is_given_back_as_it_was(rt: HostRuntime) -> Result<(), Fail> {
-    let alloc = rt.alloc();
-    let cases: [(u8, &[u8]); 2] = [(1, b"! disk 0 1\n"), (2, b"! disk 0 2\n")];
-    for (node, transcript) in cases {
-        let mut yard = MemoryYard::new(alloc, held_by(alloc, node)?);
-        let mut sink = VecSink::new(alloc);
-        let tape = joined(alloc, &[PLAN_OF_TWO, b"open smtp 1\nend\n"])?;
-        let answer = porcupine(
-            alloc,
-            &words(alloc, "drive")?,
-            &mut SliceSource::new(&tape),
-            &mut sink,
-            &mut yard,
-        );
-        assert_eq!(rt; answer, 6);
-        assert_eq!(rt; sink.held.as_slice(), transcript);
-        match yard.returned.pop() {
-            Some((_, last, disk)) => {
-                assert_eq!(rt; last, node);
-                assert_eq!(rt; disk.octets.as_slice(), b"mail".as_slice());
-            }
-            None => assert!(rt; false),
+// The store of this node, which holds something, is given back as it was.
+fn is_given_back(rt: &impl Abort, alloc: Global, node: u8, transcript: &[u8]) -> Result<(), Fail> {
+    let tape = joined(alloc, &[PLAN_OF_TWO, b"open smtp 1\nend\n"])?;
+    let words = words(alloc, "drive")?;
+    let mut yard = MemoryYard::new(alloc, held_by(alloc, node)?);
+    let mut sink = VecSink::new(alloc);
+    let mut source = SliceSource::new(&tape);
+    let answer = porcupine(alloc, &words, &mut source, &mut sink, &mut yard);
+    assert_eq!(rt; answer, 6);
+    assert_eq!(rt; sink.held.as_slice(), transcript);
+    match yard.returned.last() {
+        Some((_, last, disk)) => {
+            assert_eq!(rt; *last, node);
+            assert_eq!(rt; disk.octets.as_slice(), b"mail".as_slice());
         }
+        None => assert!(rt; false),
     }
     Ok(())
+}
+
+#[test]
+fn a_store_that_holds_something_is_given_back_as_it_was(rt: HostRuntime) -> Result<(), Fail> {
+    is_given_back(&rt, rt.alloc(), 1, b"! disk 0 1\n")?;
+    is_given_back(&rt, rt.alloc(), 2, b"! disk 0 2\n")
 }

@@ -1,7 +1,7 @@
 // Messages that are stored, and what the store holds of them.
 
 use super::store::Journal;
-use super::{PLAN, Script, joined, repeated};
+use super::{PLAN, Script, joined, leaves, repeated};
 use std::alloc::{AllocError, Global};
 use std::process::Abort;
 use std::test::Fail;
@@ -120,63 +120,87 @@ say 2 .
 end
 ";
 
-// One session sends a message of each of these lines, which gives each of these texts. So many octets are then stored.
-fn stores(rt: &impl Abort, alloc: Global, messages: &[(&[u8], &[u8])]) -> Result<usize, Fail> {
+// Lines of the tape that say a text, and the text.
+type Message<'a> = (&'a [u8], &'a [u8]);
+
+// One session sends these messages.
+fn sent(alloc: Global, messages: &[Message]) -> Result<Script, AllocError> {
     let mut script = Script::new(alloc, &[PLAN, BEGIN])?;
-    let mut journal = Journal::new(alloc)?;
-    for (lines, text) in messages {
-        for part in [ENVELOPE, lines, STORED] {
+    for (lines, _) in messages {
+        for part in [ENVELOPE, *lines, STORED] {
             script.add(part)?;
         }
-        journal.message(b"bob@b.example", b"c.example", &[b"alice"], text)?;
     }
     script.add(b"end\n")?;
+    Ok(script)
+}
+
+// What they leave.
+fn left(alloc: Global, messages: &[Message]) -> Result<Journal, Fail> {
+    let mut journal = Journal::new(alloc)?;
+    for (_, text) in messages {
+        journal.message(b"bob@b.example", b"c.example", &[b"alice"], text)?;
+    }
+    Ok(journal)
+}
+
+// One session sends these messages; the store then has so many octets.
+fn stores(rt: &impl Abort, alloc: Global, messages: &[Message]) -> Result<usize, Fail> {
+    let script = sent(alloc, messages)?;
+    let journal = left(alloc, messages)?;
     let run = script.run(rt, 0)?;
-    journal.is_held(rt, run.disk.octets())?;
+    journal.is_held(rt, run.disk.octets());
     Ok(run.disk.octets().len())
 }
+
+// The longest line that a line of a tape can say.
+fn stores_a_long_line(rt: &impl Abort, alloc: Global) -> Result<usize, Fail> {
+    let line = repeated(alloc, b'y', 65_529)?;
+    let said = joined(alloc, &[b"say 1 ", &line, b"\n"])?;
+    let text = joined(alloc, &[&line, b"\r\n"])?;
+    stores(rt, alloc, &[(&said, &text)])
+}
+
+const HELLO: [Message; 1] = [(
+    b"say 1 Subject: hi\nsay 1\nsay 1 hello\n",
+    b"Subject: hi\r\n\r\nhello\r\n",
+)];
+
+const THREE: [Message; 3] = [
+    (b"say 1 ..\n", b".\r\n"),
+    (LINES, TEXT),
+    (b"say 1 ..\nsay 1 .\r.\n", b".\r\n\r.\r\n"),
+];
 
 #[test]
 fn texts_are_stored_octet_for_octet(rt: HostRuntime) -> Result<(), Fail> {
     let alloc = rt.alloc();
     // A message has 129 octets besides its text, and besides one message the store has 130.
     assert_eq!(rt; stores(&rt, alloc, &[(b"", b"")])?, 259);
-    let hello: (&[u8], &[u8]) = (
-        b"say 1 Subject: hi\nsay 1\nsay 1 hello\n",
-        b"Subject: hi\r\n\r\nhello\r\n",
-    );
-    assert_eq!(rt; stores(&rt, alloc, &[hello])?, 281);
-    let three: [(&[u8], &[u8]); 3] = [
-        (b"say 1 ..\n", b".\r\n"),
-        (LINES, TEXT),
-        (b"say 1 ..\nsay 1 .\r.\n", b".\r\n\r.\r\n"),
-    ];
-    stores(&rt, alloc, &three)?;
-    // The longest line that a line of a tape can say.
-    let line = repeated(alloc, b'y', 65_529)?;
-    let said = joined(alloc, &[b"say 1 ", &line, b"\n"])?;
-    stores(&rt, alloc, &[(&said, &joined(alloc, &[&line, b"\r\n"])?)])?;
+    assert_eq!(rt; stores(&rt, alloc, &HELLO)?, 281);
+    stores(&rt, alloc, &THREE)?;
+    stores_a_long_line(&rt, alloc)?;
     Ok(())
+}
+
+// The journal of both sessions.
+fn of_both(alloc: Global) -> Result<Journal, Fail> {
+    let mut journal = Journal::new(alloc)?;
+    let one: &[u8] = b"one.example";
+    let two: &[u8] = b"two.example";
+    let both: [&[u8]; 2] = [b"bob", b"alice"];
+    journal.message(b"b@two", two, &both, b"first of two\r\n")?;
+    let text: &[u8] = b"first of one\r\nHELO in.the.text\r\n";
+    journal.message(b"a@one", one, &[b"alice"], text)?;
+    journal.message(b"c@one", one, &[b"alice", b"bob"], b"")?;
+    journal.message(b"", two, &[b"bob"], b"second of two\r\n")?;
+    journal.message(b"d@two", b"three.example", &[b"bob"], b"third of two\r\n")?;
+    Ok(journal)
 }
 
 #[test]
 fn two_sessions_take_turns(rt: HostRuntime) -> Result<(), Fail> {
-    let run = Script::new(rt.alloc(), &[BOTH])?.run(&rt, 0)?;
-    let mut journal = Journal::new(rt.alloc())?;
-    let one: &[u8] = b"one.example";
-    let two: &[u8] = b"two.example";
-    journal.message(b"b@two", two, &[b"bob", b"alice"], b"first of two\r\n")?;
-    journal.message(
-        b"a@one",
-        one,
-        &[b"alice"],
-        b"first of one\r\nHELO in.the.text\r\n",
-    )?;
-    journal.message(b"c@one", one, &[b"alice", b"bob"], b"")?;
-    journal.message(b"", two, &[b"bob"], b"second of two\r\n")?;
-    journal.message(b"d@two", b"three.example", &[b"bob"], b"third of two\r\n")?;
-    journal.is_held(&rt, run.disk.octets())?;
-    Ok(())
+    leaves(&rt, rt.alloc(), &[BOTH], 0, &of_both(rt.alloc())?)
 }
 
 // A text of 16,384 lines of 1,024 octets each with their CRLF, the first of which has this octet more.
@@ -209,24 +233,26 @@ say 1 DATA
   1 503 bad order
 ";
 
+// The journal of a largest text, and of none.
+fn of_largest(alloc: Global) -> Result<Journal, Fail> {
+    let text = largest(alloc)?;
+    left(alloc, &[(b"", &text), (b"", b"")])
+}
+
 #[test]
 fn texts_have_a_greatest_length(rt: HostRuntime) -> Result<(), Fail> {
     let alloc = rt.alloc();
     let most = large(alloc, b'.')?;
     let more = large(alloc, b'x')?;
-    let script = Script::new(
+    let journal = of_largest(alloc)?;
+    leaves(
+        &rt,
         alloc,
         &[
             PLAN, BEGIN, ENVELOPE, &most, STORED, ENVELOPE, &more, TOO_LARGE, ENVELOPE, STORED,
             b"end\n",
         ],
-    )?;
-    let run = script.run(&rt, 0)?;
-    let text = largest(alloc)?;
-    assert_eq!(rt; text.len(), 16_777_216);
-    let mut journal = Journal::new(alloc)?;
-    journal.message(b"bob@b.example", b"c.example", &[b"alice"], &text)?;
-    journal.message(b"bob@b.example", b"c.example", &[b"alice"], b"")?;
-    journal.is_held(&rt, run.disk.octets())?;
-    Ok(())
+        0,
+        &journal,
+    )
 }

@@ -2,24 +2,24 @@
 
 use super::{PLAN, Script, joined, repeated};
 use std::alloc::{AllocError, Global};
+use std::process::Abort;
 use std::test::Fail;
 
 const DIGITS: &[u8; 16] = b"0123456789aBcDeF";
 
-// The run lines that feed these octets to the session, so many in each.
-fn feeds(alloc: Global, session: &[u8], octets: &[u8], size: usize) -> Result<Vec<u8>, AllocError> {
-    let mut lines = Vec::new(alloc);
+// Adds the run lines that feed these octets to the session, so many in each.
+fn feed(script: &mut Script, session: &[u8], octets: &[u8], size: usize) -> Result<(), AllocError> {
     for piece in octets.chunks(size.max(1)) {
-        lines.extend_from_slice(b"feed ")?;
-        lines.extend_from_slice(session)?;
-        lines.extend_from_slice(b" ")?;
+        script.tape.extend_from_slice(b"feed ")?;
+        script.tape.extend_from_slice(session)?;
+        script.tape.extend_from_slice(b" ")?;
         for octet in piece {
-            lines.push(DIGITS[(octet / 16) as usize])?;
-            lines.push(DIGITS[(octet % 16) as usize])?;
+            script.tape.push(DIGITS[(octet / 16) as usize])?;
+            script.tape.push(DIGITS[(octet % 16) as usize])?;
         }
-        lines.extend_from_slice(b"\n")?;
+        script.tape.extend_from_slice(b"\n")?;
     }
-    Ok(lines)
+    Ok(())
 }
 
 const OPEN_SMTP: &[u8] = b"\
@@ -117,51 +117,60 @@ const TRACE_LINES: &[u8] = b"  2 Return-Path: <bob@b.example>
   2  Thu, 01 Jan 1970 00:00:00 +0000
 ";
 
-// A session of each kind, with what they feed, in pieces of so many octets, and what that leads to.
-fn heard(
+// Adds a session of each kind, with what they feed, in pieces of so many octets, and what that leads to.
+fn hear(
+    script: &mut Script,
+    sent: [&[u8]; 2],
+    read: [&[u8]; 2],
+    size: usize,
+) -> Result<(), AllocError> {
+    script.add(OPEN_SMTP)?;
+    feed(script, b"1", sent[0], size)?;
+    script.add(sent[1])?;
+    script.add(OPEN_POP)?;
+    feed(script, b"2", read[0], size)?;
+    script.add(read[1])?;
+    script.add(b"end\n")
+}
+
+fn hears(
+    rt: &impl Abort,
     alloc: Global,
     sent: [&[u8]; 2],
     read: [&[u8]; 2],
     size: usize,
-) -> Result<Script, AllocError> {
-    Script::new(
-        alloc,
-        &[
-            PLAN,
-            OPEN_SMTP,
-            &feeds(alloc, b"1", sent[0], size)?,
-            sent[1],
-            OPEN_POP,
-            &feeds(alloc, b"2", read[0], size)?,
-            read[1],
-            b"end\n",
-        ],
-    )
+) -> Result<(), Fail> {
+    let mut script = Script::new(alloc, &[PLAN])?;
+    hear(&mut script, sent, read, size)?;
+    script.run(rt, 0)?;
+    Ok(())
+}
+
+// What RETR shows of a text: how long the message is, and these lines.
+fn shown_as(alloc: Global, length: &[u8], shown: &[u8]) -> Result<Vec<u8>, AllocError> {
+    let front = joined(alloc, &[LOGIN_REPLIES, b"  2 +OK ", length, b" octets\n"])?;
+    joined(alloc, &[&front, TRACE_LINES, shown, b"  2 .\n"])
 }
 
 // A text as its client sends it, through the line that is one period, how long the message is then, and the lines that
 // RETR shows of it.
 fn comes_back(
+    rt: &impl Abort,
     alloc: Global,
     text: &[u8],
     length: &[u8],
     shown: &[u8],
     size: usize,
-) -> Result<Script, AllocError> {
+) -> Result<(), Fail> {
     let sent = joined(alloc, &[ENVELOPE, text])?;
-    let replies = joined(
+    let replies = shown_as(alloc, length, shown)?;
+    hears(
+        rt,
         alloc,
-        &[
-            LOGIN_REPLIES,
-            b"  2 +OK ",
-            length,
-            b" octets\n",
-            TRACE_LINES,
-            shown,
-            b"  2 .\n",
-        ],
-    )?;
-    heard(alloc, [&sent, ENVELOPE_REPLIES], [LOGIN, &replies], size)
+        [&sent, ENVELOPE_REPLIES],
+        [LOGIN, &replies],
+        size,
+    )
 }
 
 // Texts, how long their messages are, of which 129 octets are trace lines, and what is shown of them.
@@ -199,21 +208,26 @@ const TEXTS: [(&[u8], &[u8], &[u8]); 12] = [
 fn pieces_of_any_size_are_heard_alike(rt: HostRuntime) -> Result<(), Fail> {
     let alloc = rt.alloc();
     for size in [1, 2, 7, 1_000] {
-        heard(alloc, [SENT, SENT_REPLIES], [READ, READ_REPLIES], size)?.run(&rt, 0)?;
+        hears(&rt, alloc, [SENT, SENT_REPLIES], [READ, READ_REPLIES], size)?;
         for (text, length, shown) in TEXTS {
-            comes_back(alloc, text, length, shown, size)?.run(&rt, 0)?;
+            comes_back(&rt, alloc, text, length, shown, size)?;
         }
     }
-    heard(
+    let sent = [AT_ONCE, AT_ONCE_REPLIES];
+    hears(
+        &rt,
         alloc,
-        [AT_ONCE, AT_ONCE_REPLIES],
+        sent,
         [READ_AT_ONCE, READ_AT_ONCE_REPLIES],
         1_000,
-    )?
-    .run(&rt, 0)?;
+    )
+}
+
+#[test]
+fn a_line_of_100_000_octets_comes_back(rt: HostRuntime) -> Result<(), Fail> {
+    let alloc = rt.alloc();
     let line = repeated(alloc, b'y', 100_000)?;
     let text = joined(alloc, &[&line, b"\r\n.\r\n"])?;
     let shown = joined(alloc, &[b"  2 ", &line, b"\n"])?;
-    comes_back(alloc, &text, b"100131", &shown, 32_000)?.run(&rt, 0)?;
-    Ok(())
+    comes_back(&rt, alloc, &text, b"100131", &shown, 32_000)
 }

@@ -1,7 +1,8 @@
 // Plan lines: which are taken, and at which line a plan is refused.
 
-use super::{PLAN, Script, each_case, joined, repeated};
+use super::{PLAN, each_case, repeated, runs};
 use std::alloc::Global;
+use std::process::Abort;
 use std::test::Fail;
 
 // A line of no form, or one that breaks its rule, is refused where it stands.
@@ -204,8 +205,23 @@ fn plans_are_refused(rt: HostRuntime) -> Result<(), Fail> {
     let alloc = rt.alloc();
     each_case(&rt, alloc, b"", BAD_LINES)?;
     each_case(&rt, alloc, b"", BAD_PLANS)?;
-    Script::new(alloc, &[b"end\n  ! line 1 BadPlan\n"])?.run(&rt, 3)?;
-    Ok(())
+    runs(&rt, alloc, &[b"end\n  ! line 1 BadPlan\n"], 3)
+}
+
+// A user of this name and secret leads to this.
+fn names(
+    rt: &impl Abort,
+    alloc: Global,
+    name: &[u8],
+    secret: &[u8],
+    written: &[u8],
+) -> Result<(), Fail> {
+    runs(
+        rt,
+        alloc,
+        &[b"user ", name, b" ", secret, b"\n", written],
+        3,
+    )
 }
 
 #[test]
@@ -213,24 +229,17 @@ fn names_and_secrets_have_64_octets(rt: HostRuntime) -> Result<(), Fail> {
     let alloc = rt.alloc();
     let most = repeated(alloc, b'a', 64)?;
     let more = repeated(alloc, b'a', 65)?;
-    let cases: [(&[u8], &[u8], &[u8]); 3] = [
-        (&most, &most, b"  ! line 2 BadLine\n"),
-        (&more, b"x", b"  ! line 1 BadPlan\n"),
-        (b"alice", &more, b"  ! line 1 BadPlan\n"),
-    ];
-    for (name, secret, written) in cases {
-        let lines = joined(alloc, &[b"user ", name, b" ", secret, b"\n", written])?;
-        Script::new(alloc, &[&lines])?.run(&rt, 3)?;
-    }
-    Ok(())
+    names(&rt, alloc, &most, &most, b"  ! line 2 BadLine\n")?;
+    names(&rt, alloc, &more, b"x", b"  ! line 1 BadPlan\n")?;
+    names(&rt, alloc, b"alice", &more, b"  ! line 1 BadPlan\n")
 }
 
 #[test]
 fn plans_are_taken(rt: HostRuntime) -> Result<(), Fail> {
     let alloc = rt.alloc();
     each_case(&rt, alloc, b"", GOOD)?;
-    Script::new(alloc, &[&users(alloc, 4095)?, PLAN, b"end\n"])?.run(&rt, 0)?;
-    let over = users(alloc, 4097)?;
-    Script::new(alloc, &[&over, b"  ! line 4097 BadPlan\n"])?.run(&rt, 3)?;
-    Ok(())
+    let most = users(alloc, 4095)?;
+    runs(&rt, alloc, &[&most, PLAN, b"end\n"], 0)?;
+    let more = users(alloc, 4097)?;
+    runs(&rt, alloc, &[&more, b"  ! line 4097 BadPlan\n"], 3)
 }

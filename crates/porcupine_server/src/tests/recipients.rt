@@ -58,28 +58,28 @@ say # PASS x
 say # STAT
 ";
 
+const ONE: &[u8] = b"  # +OK 1 138\n";
+
+const NONE: &[u8] = b"  # +OK 0 0\n";
+
 const LEAVES: &[u8] = b"\
 say # QUIT
   # +OK bye
   * # closed
 ";
 
-// The template, with this session for each `#` and this name for each `~`.
-fn filled(
-    alloc: Global,
-    template: &[u8],
-    session: &[u8],
-    name: &[u8],
-) -> Result<Vec<u8>, AllocError> {
-    let mut text = Vec::new(alloc);
+// Adds the template, with this session for each `#` and this name for each `~`.
+fn fill(script: &mut Script, template: &[u8], session: u64, name: &str) -> Result<(), AllocError> {
+    let number = session.to_string(script.alloc)?;
+    let mut text = Vec::new(script.alloc);
     for octet in template {
         match octet {
-            b'#' => text.extend_from_slice(session)?,
-            b'~' => text.extend_from_slice(name)?,
+            b'#' => text.extend_from_slice(number.as_bytes())?,
+            b'~' => text.extend_from_slice(name.as_bytes())?,
             _ => text.push(*octet)?,
         }
     }
-    Ok(text)
+    script.add(&text)
 }
 
 // The names u001 to u101.
@@ -91,37 +91,53 @@ fn names(alloc: Global) -> Result<Vec<String>, Fail> {
     Ok(names)
 }
 
-#[test]
-fn a_hundred_recipients_are_taken(rt: HostRuntime) -> Result<(), Fail> {
-    let alloc = rt.alloc();
-    let names = names(alloc)?;
-    let mut script = Script::new(alloc, &[PLAN])?;
-    for name in &names {
-        script.add(&filled(alloc, b"user ~ x\n", b"", name.as_bytes())?)?;
+// Adds the plan, the message, and what each of them reads.
+fn tell(script: &mut Script, names: &[String]) -> Result<(), AllocError> {
+    script.add(PLAN)?;
+    for name in names {
+        fill(script, b"user ~ x\n", 0, name)?;
     }
     script.add(HELO_MAIL)?;
-    let mut users = Vec::new(alloc);
     for name in names.iter().take(100) {
-        let said: &[u8] = b"say 1 RCPT TO:<~>\n  1 250 recipient ok\n";
-        script.add(&filled(alloc, said, b"", name.as_bytes())?)?;
-        users.push(name.as_bytes())?;
+        fill(
+            script,
+            b"say 1 RCPT TO:<~>\n  1 250 recipient ok\n",
+            0,
+            name,
+        )?;
     }
     script.add(REST)?;
-    for (number, name) in (2..103u64).zip(&names) {
-        let session = number.to_string(alloc)?;
-        let found: &[u8] = if number <= 101 {
-            b"  # +OK 1 138\n"
-        } else {
-            b"  # +OK 0 0\n"
-        };
-        for part in [READS, found, LEAVES] {
-            script.add(&filled(alloc, part, session.as_bytes(), name.as_bytes())?)?;
-        }
+    for (session, name) in (2..103u64).zip(names) {
+        fill(script, READS, session, name)?;
+        fill(
+            script,
+            if session <= 101 { ONE } else { NONE },
+            session,
+            name,
+        )?;
+        fill(script, LEAVES, session, name)?;
     }
-    script.add(b"end\n")?;
-    let run = script.run(&rt, 0)?;
+    script.add(b"end\n")
+}
+
+// The journal of the message.
+fn stored(alloc: Global, names: &[String]) -> Result<Journal, Fail> {
+    let mut users = Vec::new(alloc);
+    for name in names.iter().take(100) {
+        users.push(name.as_bytes())?;
+    }
     let mut journal = Journal::new(alloc)?;
     journal.message(b"bob@b.example", b"c.example", &users, b"to many\r\n")?;
-    journal.is_held(&rt, run.disk.octets())?;
+    Ok(journal)
+}
+
+#[test]
+fn a_hundred_recipients_are_taken(rt: HostRuntime) -> Result<(), Fail> {
+    let names = names(rt.alloc())?;
+    let journal = stored(rt.alloc(), &names)?;
+    let mut script = Script::new(rt.alloc(), &[])?;
+    tell(&mut script, &names)?;
+    let run = script.run(&rt, 0)?;
+    journal.is_held(&rt, run.disk.octets());
     Ok(())
 }

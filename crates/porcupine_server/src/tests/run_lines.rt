@@ -1,6 +1,6 @@
 // Run lines: which are taken, and which fault the others have.
 
-use super::{PLAN, Script, drive, each_case, joined, lines_of, repeated};
+use super::{PLAN, Script, drive, each_case, joined, lines_of, repeated, runs};
 use std::alloc::{AllocError, Global};
 use std::process::Abort;
 use std::test::Fail;
@@ -197,40 +197,49 @@ fn ends(
 ) -> Result<(), Fail> {
     let letters = repeated(alloc, b'x', count)?;
     let lines = joined(alloc, &[front, &letters, back])?;
-    Script::new(alloc, &[&lines])?.run(rt, 3)?;
-    Ok(())
+    runs(rt, alloc, &[&lines], 3)
 }
+
+// After `say 1 ` of a session that is open.
+const AFTER_SAY: [(usize, &[u8]); 4] = [
+    (65_529, b"\n  1 500 line too long\n  ! line 9 BadLine\n"),
+    (65_528, b"\r\n  1 500 line too long\n  ! line 9 BadLine\n"),
+    (65_530, b"\n  ! line 8 BadLine\n"),
+    (65_529, b"\r\n  ! line 8 BadLine\n"),
+];
 
 #[test]
 fn lines_have_a_greatest_length(rt: HostRuntime) -> Result<(), Fail> {
     let alloc = rt.alloc();
+    ends(
+        &rt,
+        alloc,
+        b"user alice ",
+        65_524,
+        b"\n  ! line 1 BadPlan\n",
+    )?;
+    ends(
+        &rt,
+        alloc,
+        b"user alice ",
+        65_525,
+        b"\n  ! line 1 BadLine\n",
+    )?;
     let said = joined(alloc, &[PLAN, SAYS])?;
-    let cases: [(&[u8], usize, &[u8]); 6] = [
-        (b"user alice ", 65_524, b"\n  ! line 1 BadPlan\n"),
-        (b"user alice ", 65_525, b"\n  ! line 1 BadLine\n"),
-        (
-            &said,
-            65_529,
-            b"\n  1 500 line too long\n  ! line 9 BadLine\n",
-        ),
-        (
-            &said,
-            65_528,
-            b"\r\n  1 500 line too long\n  ! line 9 BadLine\n",
-        ),
-        (&said, 65_530, b"\n  ! line 8 BadLine\n"),
-        (&said, 65_529, b"\r\n  ! line 8 BadLine\n"),
-    ];
-    for (front, count, back) in cases {
-        ends(&rt, alloc, front, count, back)?;
-    }
-    // Nothing is read after the line `end`.
-    let long = repeated(alloc, b'x', 70_000)?;
-    let rests: [&[u8]; 4] = [b"", b"say 9 QUIT\n\n", b"end", &long];
-    for rest in rests {
-        Script::new(alloc, &[PLAN, b"end\n", rest])?.run(&rt, 0)?;
+    for (count, back) in AFTER_SAY {
+        ends(&rt, alloc, &said, count, back)?;
     }
     Ok(())
+}
+
+#[test]
+fn a_tape_ends_at_its_line_end(rt: HostRuntime) -> Result<(), Fail> {
+    let alloc = rt.alloc();
+    for rest in [b"".as_slice(), b"say 9 QUIT\n\n", b"end"] {
+        runs(&rt, alloc, &[PLAN, b"end\n", rest], 0)?;
+    }
+    let long = repeated(alloc, b'x', 70_000)?;
+    runs(&rt, alloc, &[PLAN, b"end\n", &long], 0)
 }
 
 // The worked tape of one message.
@@ -296,29 +305,37 @@ fn a_tape_is_cut_at_each_octet(rt: HostRuntime) -> Result<(), Fail> {
     Ok(())
 }
 
-// Opens so many sessions.
-fn opened(alloc: Global, count: u64) -> Result<Script, Fail> {
-    let mut script = Script::new(alloc, &[PLAN])?;
+// Adds so many sessions.
+fn open(script: &mut Script, count: u64) -> Result<(), Fail> {
     for session in 1..=count {
-        script.add(b"open smtp 1\n")?;
-        script.add(format!(in alloc; "  {session} 220 node1 Porcupine ready\n")?.as_bytes())?;
+        script.tape.extend_from_slice(b"open smtp 1\n")?;
+        let said = format!(in script.alloc; "{session} 220 node1 Porcupine ready\n")?;
+        script.wanted.extend_from_slice(said.as_bytes())?;
     }
-    Ok(script)
+    Ok(())
 }
+
+// What comes of these lines where 256 sessions are open.
+fn ends_among_many(rt: &impl Abort, alloc: Global, lines: &[u8]) -> Result<(), Fail> {
+    let mut script = Script::new(alloc, &[PLAN])?;
+    open(&mut script, 256)?;
+    script.add(lines)?;
+    script.run(rt, 3)?;
+    Ok(())
+}
+
+// Which lines are refused once 256 sessions are open.
+const AMONG_MANY: [&[u8]; 3] = [
+    b"open smtp 1\n  ! line 263 TooManySessions\n",
+    b"open smtp 2\n  ! line 263 NoSuchNode\n",
+    b"say 7 QUIT\n  7 221 node1 closing\n  * 7 closed\nopen smtp 1\n  257 220 node1 Porcupine ready\nopen smtp 1\n  ! line 265 TooManySessions\n",
+];
 
 #[test]
 fn run_lines_are_refused(rt: HostRuntime) -> Result<(), Fail> {
     each_case(&rt, rt.alloc(), PLAN, FAULTS)?;
-    // As many as 256 sessions are open.
-    let cases: [&[u8]; 3] = [
-        b"open smtp 1\n  ! line 263 TooManySessions\n",
-        b"open smtp 2\n  ! line 263 NoSuchNode\n",
-        b"say 7 QUIT\n  7 221 node1 closing\n  * 7 closed\nopen smtp 1\n  257 220 node1 Porcupine ready\nopen smtp 1\n  ! line 265 TooManySessions\n",
-    ];
-    for lines in cases {
-        let mut script = opened(rt.alloc(), 256)?;
-        script.add(lines)?;
-        script.run(&rt, 3)?;
+    for lines in AMONG_MANY {
+        ends_among_many(&rt, rt.alloc(), lines)?;
     }
     Ok(())
 }

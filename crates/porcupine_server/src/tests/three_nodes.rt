@@ -102,21 +102,26 @@ fn count(alloc: Global, text: &[u8], front: &[u8], back: &[u8]) -> Result<usize,
     Ok(count)
 }
 
+// After a start the disk holds so many of the texts, each once.
+fn holds(rt: &impl Abort, alloc: Global, disk: &mut MemoryDisk, stored: usize) -> Result<(), Fail> {
+    assert_eq!(rt; disk.restart(), Ok(()));
+    for text in TEXTS.iter().take(stored) {
+        assert_eq!(rt; count(alloc, disk.octets(), text, b"")?, 1);
+    }
+    Ok(())
+}
+
 // After a start each disk but that of this node holds so many of the texts, each once.
 fn hold(
     rt: &impl Abort,
     alloc: Global,
-    disks: Vec<(u16, u8, MemoryDisk)>,
+    disks: &mut [(u16, u8, MemoryDisk)],
     node: u8,
     stored: usize,
 ) -> Result<(), Fail> {
-    for (_, number, mut disk) in disks {
-        if number == node {
-            continue;
-        }
-        assert_eq!(rt; disk.restart(), Ok(()));
-        for text in TEXTS.iter().take(stored) {
-            assert_eq!(rt; count(alloc, disk.octets(), text, b"")?, 1);
+    for (_, number, disk) in disks.iter_mut() {
+        if *number != node {
+            holds(rt, alloc, disk, stored)?;
         }
     }
     Ok(())
@@ -131,13 +136,13 @@ fn fails_in(
     failing: u64,
 ) -> Result<(), Fail> {
     let tape = joined(alloc, &[lines, &others_are_up(alloc, node)?])?;
-    let left = driven(alloc, &tape, node, failing)?;
+    let mut left = driven(alloc, &tape, node, failing)?;
     let fallen = format!(in alloc; "* fault {node}\n")?;
     assert_eq!(rt; count(alloc, &left.transcript, fallen.as_bytes(), b"")?, 1);
     assert_eq!(rt; count(alloc, &left.transcript, b"* fault ", b"")?, 1);
     assert_eq!(rt; left.status, 0);
     let stored = count(alloc, &left.transcript, b"", b" 250 stored\n")?;
-    hold(rt, alloc, left.disks, node, stored)
+    hold(rt, alloc, &mut left.disks, node, stored)
 }
 
 // Each call of this node's disk fails in turn; how many calls there are is answered.
@@ -165,7 +170,7 @@ fn a_disk_that_fails_takes_its_node_alone_down(rt: HostRuntime) -> Result<(), Fa
     }
     // Where none fails, three disks hold two messages.
     let tape = joined(alloc, &[PLAN_OF_THREE, LINES, b"end\n"])?;
-    let left = driven(alloc, &tape, 1, 0)?;
+    let mut left = driven(alloc, &tape, 1, 0)?;
     assert_eq!(rt; count(alloc, &left.transcript, b"", b" 250 stored\n")?, 2);
-    hold(&rt, alloc, left.disks, 0, 2)
+    hold(&rt, alloc, &mut left.disks, 0, 2)
 }
