@@ -164,12 +164,6 @@ const FALLEN_IN_QUIT: &[u8] = b"  * fault 1
 end
 ";
 
-fn failing_disk(alloc: Global, call: u64) -> Result<MemoryDisk, AllocError> {
-    let mut disk = MemoryDisk::new(alloc);
-    disk.fail_at(call)?;
-    Ok(disk)
-}
-
 // Runs the tape over a disk of which this call fails; it drives so, and the book has so many entries.
 fn drives(
     rt: &impl Abort,
@@ -179,7 +173,9 @@ fn drives(
     wanted: (Drove, Counts),
 ) -> Result<(), Fail> {
     let script = Script::new(alloc, pieces)?;
-    let disks = alone(alloc, failing_disk(alloc, call)?)?;
+    let mut disk = MemoryDisk::new(alloc);
+    disk.fail_at(call)?;
+    let disks = alone(alloc, disk)?;
     let mut sink = VecSink::new(alloc);
     let drove = run(alloc, &mut SliceSource::new(&script.tape), &mut sink, disks);
     assert_eq!(rt; drove, wanted);
