@@ -1,12 +1,13 @@
-// Small tapes over a cluster that is open already, with what the description of tapes gives for them, and what the book then
-// has.
+// Small tapes over a cluster that is open already, with what the description of tapes gives for them, what the book then has,
+// and how lines are written.
 ghost use Rattle.std.specs.Prelude.{◌≡◌, IfSome, IfOk, []};
 ghost use Rattle.cluster_world.specs.Opens.{AreEmpty};
 
 use super::Script;
 use cluster_world::World;
-use drive_tape::{Drove, TapeFault, drive, read_drive_head};
+use drive_tape::{Drove, Entry, Row, TapeFault, drive, read_drive_head, write_entries};
 use io_edge::{Disk, PlainDisk, Sink, SliceSource, Source, VecSink};
+use mail_base::Octets;
 use node_disk::MemoryDisk;
 use std::alloc::{AllocError, Global};
 use std::process::Abort;
@@ -309,5 +310,28 @@ fn a_message_waits_for_its_nodes(rt: HostRuntime) -> Result<(), Fail> {
     for (lines, drove, counted) in cases {
         three_drive(&rt, rt.alloc(), &[PENDING, lines], (drove, counted))?;
     }
+    Ok(())
+}
+
+#[test]
+fn entries_are_written(rt: HostRuntime) -> Result<(), Fail> {
+    let alloc = rt.alloc();
+    let mut row = Row::new(alloc);
+    row.push(Entry::Said {
+        session: 12,
+        text: Octets::from_vec(b"a~\\\x7f\n".to_vec(alloc)?),
+    })?;
+    row.push(Entry::Event {
+        text: Octets::from_vec(b"fault 1".to_vec(alloc)?),
+    })?;
+    row.push(Entry::Refused {
+        text: Octets::from_vec(TapeFault::BadLine.name().to_vec(alloc)?),
+    })?;
+    let mut sink = VecSink::new(alloc);
+    assert_eq!(rt; write_entries(alloc, &mut sink, row.as_slice()), Ok(()));
+    assert_eq!(rt;
+        sink.held.as_slice(),
+        b"12 a~\\x5C\\x7F\\x0A\n* fault 1\n! BadLine\n".as_slice()
+    );
     Ok(())
 }

@@ -1,7 +1,9 @@
 // What a maildrop shows, and clients that close their sessions.
 
 use super::store::Journal;
-use super::{PLAN, each_case, leaves};
+use super::{PLAN, each_case, joined, leaves, repeated, runs};
+use std::alloc::Global;
+use std::process::Abort;
 use std::test::Fail;
 
 const MAILDROP: &[u8] = b"\
@@ -200,6 +202,8 @@ say 3 STAT
   ! line 24 NoSuchSession
 ";
 
+const OPENED: &[u8] = b"open pop 1\n  1 +OK node1 ready <1.1.0@node1>\n";
+
 #[test]
 fn a_maildrop_shows_its_own_messages(rt: HostRuntime) -> Result<(), Fail> {
     each_case(&rt, rt.alloc(), b"", MAILDROP)
@@ -209,4 +213,17 @@ fn a_maildrop_shows_its_own_messages(rt: HostRuntime) -> Result<(), Fail> {
 fn a_client_that_closes_leaves_nothing(rt: HostRuntime) -> Result<(), Fail> {
     let alloc = rt.alloc();
     leaves(&rt, alloc, &[PLAN, CLOSED], 3, &Journal::new(alloc)?)
+}
+
+// A line of POP3 that has so many blanks leads to this.
+fn blanks(rt: &impl Abort, alloc: Global, count: usize, reply: &[u8]) -> Result<(), Fail> {
+    let spaces = repeated(alloc, b' ', count)?;
+    let line = joined(alloc, &[b"say 1 USER", &spaces, b"bob\n"])?;
+    runs(rt, alloc, &[PLAN, OPENED, &line, reply], 0)
+}
+
+#[test]
+fn long_command_lines_are_refused(rt: HostRuntime) -> Result<(), Fail> {
+    blanks(&rt, rt.alloc(), 1_015, b"  1 +OK send PASS\nend\n")?;
+    blanks(&rt, rt.alloc(), 1_016, b"  1 -ERR line too long\nend\n")
 }

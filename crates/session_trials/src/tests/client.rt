@@ -25,6 +25,8 @@ pub(super) enum Step<'a> {
     Hundred,
     // Has heard this and no more since the last step that asked.
     Heard(&'a [u8]),
+    // Has heard this last of all.
+    Ended(&'a [u8]),
     // Says a line of so many octets with its CRLF that begins so, which leads to this and no more.
     Line(&'a [u8], usize, &'a [u8]),
     // Says a line that never ends, which leads to nothing.
@@ -340,6 +342,10 @@ impl Client {
             Step::Heard(wanted) => {
                 self.has_said(rt, wanted);
                 self.said.clear();
+                Ok(())
+            }
+            Step::Ended(wanted) => {
+                assert!(rt; self.said.ends_with(wanted));
                 Ok(())
             }
             Step::Sent(octets, mailboxes) => {

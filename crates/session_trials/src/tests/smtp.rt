@@ -2,7 +2,7 @@
 mod tables;
 
 use super::client::Step::{
-    Endless, Feeds, Heard, Hundred, Large, Line, Long, Pieces, Says, Sent, Text,
+    Ended, Endless, Feeds, Heard, Hundred, Large, Line, Long, Pieces, Says, Sent, Text,
 };
 use super::client::smtp;
 use mail_base::NodeNo;
@@ -71,6 +71,7 @@ fn a_hundred_recipients_are_taken(rt: HostRuntime) -> Result<(), Fail> {
         Hundred,
         Says(b"RCPT TO:<u101>\n  452 too many recipients\nRCPT TO:<u001>\n  250 recipient ok\n"),
         Feeds(b"DATA\r\n.\r\n", 9),
+        Ended(b"  to u100\n  250 stored\n"),
         Sent(0, 100),
     ];
     smtp(&rt, rt.alloc(), &steps)
