@@ -10,3 +10,6 @@ pub mod Serving
 pub mod Promises
 pub mod Named
 pub mod OwnStores
+mod AcceptedLines
+mod OneSession
+mod SmallTape

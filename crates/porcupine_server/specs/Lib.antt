@@ -5,3 +5,4 @@ pub mod Works
 pub mod Promises
 pub mod Complete
 pub mod Fresh
+pub mod SmallTape

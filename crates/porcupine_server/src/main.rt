@@ -12,6 +12,7 @@
 #![tactic(auto)]
 
 mod ending;
+mod laws;
 mod program;
 mod real_yard;
 mod server;

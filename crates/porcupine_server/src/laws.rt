@@ -1,6 +1,6 @@
-//! Laws about tapes that were worked by hand.
+//! Laws of tapes.
 ghost use Rattle.porcupine_server.specs.Complete.{IsGoodTape};
-ghost use Rattle.worked_tapes.specs.SmallTape.{small_tape};
+ghost use Rattle.porcupine_server.specs.SmallTape.{small_tape};
 
 /// The tape of one message is good: the premise of `porcupine`'s clause `complete` can be met.
 pub fn one_tape_is_good()

@@ -28,10 +28,10 @@ use Rattle.worked_sessions.specs.OneMessage.{small_plan, small_lines, greeted, s
 use Rattle.worked_sessions.proofs.Lines.{whole_line, idle_line, idle_text, has_alice, reply_where, told_where, text_lines}
 use Rattle.drive_tape.specs.Plans.{DraftsTo}
 use Rattle.porcupine_server.specs.Complete.{IsGoodTape, AreAccepted}
-use Rattle.worked_tapes.specs.SmallTape.{small_head, small_tape}
-use Rattle.worked_tapes.proofs.Chains.{Leads, Chained, chain_accepts}
-use Rattle.worked_tapes.proofs.Chains.Stage.{Fresh, One, On, Unknown}
-use Rattle.worked_tapes.proofs.Moves.{Rests, nothing_more, only_fed, heard_one, says_once, tells}
+use Rattle.porcupine_server.specs.SmallTape.{small_head, small_tape}
+use Rattle.porcupine_server.proofs.AcceptedLines.{Leads, Chained, chain_accepts}
+use Rattle.porcupine_server.proofs.AcceptedLines.Stage.{Fresh, One, On, Unknown}
+use Rattle.porcupine_server.proofs.OneSession.{Rests, nothing_more, only_fed, heard_one, says_once, tells}
 
 -- lines without an LF
 

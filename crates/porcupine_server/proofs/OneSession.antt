@@ -25,8 +25,8 @@ use Rattle.session_model.specs.Run.{IsHandled, is_on}
 use Rattle.worked_sessions.specs.OneMessage.{fed_with}
 use Rattle.worked_sessions.proofs.Lines.{nobody, never_waits, nobody_after}
 use Rattle.porcupine_server.specs.Complete.{NobodyWaits}
-use Rattle.worked_tapes.proofs.Chains.{Meets}
-use Rattle.worked_tapes.proofs.Chains.Stage.{On}
+use Rattle.porcupine_server.proofs.AcceptedLines.{Meets}
+use Rattle.porcupine_server.proofs.AcceptedLines.Stage.{On}
 
 -- a session that hears, and was fed no unit
 pub record Rests (session : Session) : Type 0 where

@@ -1,5 +1,0 @@
-use Rattle.worked_tapes.proofs.SmallTape.{one_tape_is_good}
-use Rattle.worked_tapes.proofs.laws.one_tape_is_good.Goals as goal
-
-pub returns : goal.returns
-returns c = one_tape_is_good
