@@ -168,12 +168,11 @@ module _ (plan : Plan) (fed : Session) (state : TalkState) (one : Exchange) (hea
       let next : IsNext plan fed.node state fed.rest two here.1 = subst (λ (t : TalkState). IsNext plan fed.node t fed.rest two here.1) same here.3 in
       let units = one_unit (in_text state) two.unit one.unit here.1 [] next.is_unit is_next.is_unit (sym next.whole ∙ is_next.whole) in
       let led : IsLed (lead_of plan fed.node state one.unit) two = subst (λ (u : Unit). IsLed (lead_of plan fed.node state u) two) units.0 next.led in
-      let twin : two ≡ one = same_led (lead_of plan fed.node state one.unit) two one units.0 led is_next.led here.6 none in
-      (
+      let twin : two ≡ one = same_led (lead_of plan fed.node state one.unit) two one units.0 led is_next.led here.6 none in (
         twin,
         subst (λ (x : Exchange). behind ≡ heard_one plan fed state x) twin
-        (subst (λ (l : List ℕ). behind ≡ record fed { whole = fed.whole ++ two ∷ []; standing = stands_by plan fed.node state two; rest = l }) units.1
-        (subst (λ (t : TalkState). behind ≡ record fed { whole = fed.whole ++ two ∷ []; standing = stands_by plan fed.node t two; rest = here.1 }) same here.5)),
+            (subst (λ (l : List ℕ). behind ≡ record fed { whole = fed.whole ++ two ∷ []; standing = stands_by plan fed.node state two; rest = l }) units.1
+            (subst (λ (t : TalkState). behind ≡ record fed { whole = fed.whole ++ two ∷ []; standing = stands_by plan fed.node t two; rest = here.1 }) same here.5)),
       )
 
   hears_first : (acts : List Act) (outputs : List (List Entry)) (turn : Turn) (new : List Session) → ActsGo plan (Hears_on 1 1) (fed ∷ []) acts outputs turn new → IsDone turn new
@@ -241,11 +240,10 @@ module _ (plan : Plan) (waiting : Session) (told : TalkState) (mail : Mail) (wai
       let one : j ≡ 1 = the_place waiting j (subst (λ (n : ℕ). n ≤ j) turns.1 turns.2.later) turns.2.here in
       let rests = answered_on acted.0 acted.1 call answer reply acted.2 (the_session waiting acted.0 j one acted.3) acted.4 in
       let mid_is : mid ≡ acted.1 ∷ [] = subst (λ (n : ℕ). mid ≡ replace (waiting ∷ []) n acted.1) one acted.6 in
-      let next_is : next ≡ Hears_on 1 1 = subst (λ (n : ℕ). next ≡ Hears_on n n) one turns.3 in
-      (
+      let next_is : next ≡ Hears_on 1 1 = subst (λ (n : ℕ). next ≡ Hears_on n n) one turns.3 in (
         acted.1,
         nothing_more plan acted.1 rests (Hears_on 1 1) (refl, refl) acts outputs turn new
-        (subst (λ (ss : List Session). ActsGo plan (Hears_on 1 1) ss acts outputs turn new) mid_is (subst (λ (t : Turn). ActsGo plan t mid acts outputs turn new) next_is goes)),
+            (subst (λ (ss : List Session). ActsGo plan (Hears_on 1 1) ss acts outputs turn new) mid_is (subst (λ (t : Turn). ActsGo plan t mid acts outputs turn new) next_is goes)),
         ap is_on rests.hears,
       )
   then_on (act ∷ acts) (entries ∷ outputs) turn new (next, mid, turns, acted, goes) done sound alone been = absurd turns

@@ -89,7 +89,7 @@ drafts = (
       (
         with_user,
         ap (λ (there : Option (List ℕ)). user_where there (map.len (map.empty {X = List ℕ} {R = slice_cmp nat_cmp}))) (map.get-empty (slice_cmp nat_cmp) (codes "alice"))
-        ∙ ap (user_where None) (map.len-empty (slice_cmp nat_cmp) (List ℕ)),
+            ∙ ap (user_where None) (map.len-empty (slice_cmp nat_cmp) (List ℕ)),
         (whole_draft, refl, refl),
       ),
     ),
