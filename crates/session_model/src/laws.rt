@@ -8,9 +8,7 @@ ghost use Rattle.session_model.specs.Runs.{ActsAreShown, DrivenIsShown, DrivenWr
 ghost use Rattle.session_model.specs.Losses.{LostIsShown};
 ghost use Rattle.session_model.specs.Owes.{OwedDeletionsAreTrue, OwedListingsAreTrue, OwedPartsAreTrue};
 ghost use Rattle.session_model.specs.Kept.{OwedIsKept};
-ghost use Rattle.session_model.specs.Alone.{OneNodePromises};
 ghost use Rattle.session_model.specs.Readings.{OneReadingOfSession};
-ghost use Rattle.session_model.specs.OneNode.{OneNodeOwes, OneNodeStores};
 ghost use Rattle.session_model.specs.Promises.{TrueAnswersDelete, TrueAnswersShow, TrueListingsShow};
 
 /// A session that was opened has said nothing but its greeting.
@@ -104,16 +102,6 @@ pub fn owed_parts_are_true()
     ensures { OwedPartsAreTrue }
 {}
 
-/// One node gives what a cluster owes.
-pub fn one_node_owes()
-    ensures { OneNodeOwes }
-{}
-
-/// One node gives what a cluster owes of messages.
-pub fn one_node_stores()
-    ensures { OneNodeStores }
-{}
-
 /// A message that a session asks to be stored is that of a transaction.
 pub fn asks_as_told()
     ensures { AsksAsTold }
@@ -133,12 +121,6 @@ pub fn one_reading()
 /// of the calls.
 pub fn owed_is_kept()
     ensures { OwedIsKept }
-{}
-
-/// The promises to clients hold of a cluster of one node, for every tape and however the work on it
-/// is left off.
-pub fn one_node_promises()
-    ensures { OneNodePromises }
 {}
 
 /// Each answer of a call's kind has a reply, whatever octets it carries.
