@@ -1,5 +1,5 @@
 -- The promises to clients, over the sessions of a tape, the entries of its transcript and the records of the nodes.
-use Rattle.std.specs.Prelude.{◌≡◌, ℕ, ◌<◌, ◌^◌, Bool, false, List, [], ◌∷◌, ◌++◌, drop, length, map, Option, Some}
+use Rattle.std.specs.Prelude.{◌≡◌, ℕ, ◌<◌, ◌≤◌, ◌^◌, Bool, false, List, [], ◌∷◌, ◌++◌, drop, flat_map, length, map, ⊤, Option, Some}
 use Rattle.std.specs.Fmt.{decimal}
 use Rattle.mail_model.specs.Identity.{Id, id_text}
 use Rattle.mail_model.specs.Plan.{Plan}
@@ -12,7 +12,8 @@ use Rattle.mail_model.specs.Maildrop.{bye_text}
 use Rattle.mail_model.specs.Told.{Answers, told_from}
 use Rattle.mail_model.specs.Stored.{Ack, HaveOtherIds, mails_in, opened, stored_sessions}
 use Rattle.mail_model.specs.Shown.{lines_to, ShowsId, ShowsSize, ShowsOctets}
-use Rattle.mail_model.specs.Deleted.{IsMarked}
+use Rattle.mail_model.specs.Deleted.{IsMarked, IsCopyOf}
+use Rattle.session_model.specs.Calls.{Call}
 use Rattle.session_model.specs.Calls.Call.{Strike}
 use Rattle.session_model.specs.Talk.{Exchange, replies}
 use Rattle.session_model.specs.Copies.{EachStands, AreGoneOn}
@@ -57,6 +58,24 @@ pub record DeletedByQuit (plan : Plan) (entries : List Entry) (disks : List (Lis
       → session.whole ≡ before ++ quit ∷ [] → IsQuitUnit quit.unit → quit.reply ≡ one_line bye_text → IsMarked n (all_seen before)
       → (user : List ℕ) × (ids : List Id) × Deletes entries k session user ids quit
       × ((id : Id) → IsIn id ids → (nodes : List ℕ) × AreGoneOn plan disks user id nodes)
+
+-- the copies of messages whose deletion an exchange asks, and a session
+abbrev pub strikes : Option Call → List (List ℕ × Id)
+strikes (Some (Strike user ids)) = map (λ id. (user, id)) ids
+strikes call = []
+
+abbrev pub struck_of : Session → List (List ℕ × Id)
+struck_of session = flat_map (λ one. strikes one.call) (exchanges_of session)
+
+-- no copy is one of these twice
+abbrev pub AreOnce : List (List ℕ × Id) → Type 0
+AreOnce [] = ⊤
+AreOnce (copy ∷ copies) = (IsCopyOf copy.0 copy.1 copies → ⊥) × AreOnce copies
+
+-- Of all copies no more are gone than sessions asked to be deleted, each those that it marked: one mark deletes one copy.
+abbrev pub GoneAtMostMarked : Type 0
+GoneAtMostMarked = (plan : Plan) (entries : List Entry) (disks : List (List Record)) (sessions : List Session) (copies : List (List ℕ × Id)) → DeletedByQuit plan entries disks sessions
+    → AreOnce copies → ((user : List ℕ) (id : Id) → IsCopyOf user id copies → (n : ℕ) × IsGoneIn disks n user id) → length copies ≤ length (flat_map struck_of sessions)
 
 -- the octets that are filed under the id of this text
 abbrev pub AreFiled : (Id → Option (List ℕ)) → List ℕ → List ℕ → Type 0

@@ -8,8 +8,8 @@ ghost use Rattle.session_model.specs.Runs.{ActsAreShown, DrivenIsShown, DrivenWr
 ghost use Rattle.session_model.specs.Losses.{LostIsShown};
 ghost use Rattle.session_model.specs.Owes.{OwedDeletionsAreTrue, OwedListingsAreTrue, OwedPartsAreTrue};
 ghost use Rattle.session_model.specs.Kept.{OwedIsKept};
-ghost use Rattle.session_model.specs.Readings.{OneReadingOfSession};
-ghost use Rattle.session_model.specs.Promises.{TrueAnswersDelete, TrueAnswersShow, TrueListingsShow};
+ghost use Rattle.session_model.specs.Readings.{OneReadingOfSession, OneTelling, QuitWasSent};
+ghost use Rattle.session_model.specs.Promises.{GoneAtMostMarked, TrueAnswersDelete, TrueAnswersShow, TrueListingsShow};
 
 /// A session that was opened has said nothing but its greeting.
 pub fn begins()
@@ -71,6 +71,11 @@ pub fn true_answers_delete()
     ensures { TrueAnswersDelete }
 {}
 
+/// No more copies are gone than sessions marked.
+pub fn gone_at_most_marked()
+    ensures { GoneAtMostMarked }
+{}
+
 /// Where listings and parts are true, readers were shown what is filed.
 pub fn true_answers_show()
     ensures { TrueAnswersShow }
@@ -115,6 +120,16 @@ pub fn driven_is_shown()
 /// What a client sent and got has one reading.
 pub fn one_reading()
     ensures { OneReadingOfSession }
+{}
+
+/// Two sessions that are shown alike were told the same messages.
+pub fn one_telling()
+    ensures { OneTelling }
+{}
+
+/// A QUIT that a session shows is one that its client sent.
+pub fn quit_was_sent()
+    ensures { QuitWasSent }
 {}
 
 /// However a tape is driven, the promises to clients are kept where the cluster gives what it owes
