@@ -1,5 +1,5 @@
 -- A store that lacks a message is refused, by the octets of the tape and the status.
-use Rattle.std.proofs.Common.{◌≡◌, ◌≢◌, ◌⊎◌, inl, inr, ⊎_elim, ◌+◌, ◌≤◌, ℕ, zero, suc, true, List, [], ◌∷◌, ◌++◌, length, flat_map, map, All, Option, Some, None, refl, sym, ap, ◌∙◌, subst, arith, codes, append_assoc, append-nil, length-append}
+use Rattle.std.proofs.Common.{◌≡◌, inl, ⊎_elim, ℕ, true, List, [], ◌∷◌, ◌++◌, length, flat_map, All, Some, refl, sym, ap, ◌∙◌, subst, arith, codes, append-nil, length-append}
 use Rattle.std.proofs.lemmas.Option.{none-some}
 use Rattle.std.proofs.lemmas.List.Concat.{flat_map-append}
 use Rattle.std.proofs.lemmas.List.Elements.{All-nil, All-cons, All-append}
@@ -8,7 +8,7 @@ use Rattle.mail_model.specs.Grammar.{IsRecord}
 use Rattle.mail_model.specs.Plan.{Plan}
 use Rattle.mail_model.specs.Record.{Record, IsJournal, payloads_of}
 use Rattle.mail_model.specs.Record.Record.{Boot}
-use Rattle.mail_model.specs.Tape.{Draft, empty_draft, planned, tape_plan_line, drafted}
+use Rattle.mail_model.specs.Tape.{Draft, empty_draft, planned, tape_plan_line}
 use Rattle.mail_model.specs.Tape.PlanLine.{Go}
 use Rattle.mail_model.proofs.OneRecord.{one_reading}
 use Rattle.mail_model.specs.Stored.{Ack}
@@ -20,7 +20,7 @@ use Rattle.worked_sessions.specs.OneMessage.{small_plan, small_lines, small_entr
 use Rattle.worked_sessions.specs.WrongStores.{empty_records}
 use Rattle.worked_sessions.proofs.WrongStores.{wrong_stores}
 use Rattle.drive_tape.specs.Plans.{DraftsOn, DraftsTo}
-use Rattle.porcupine_server.specs.Promises.{KeepsAll, KeepsOver}
+use Rattle.porcupine_server.specs.Promises.{KeepsOver}
 use Rattle.porcupine_server.specs.SmallTape.{small_head, small_tape}
 use Rattle.porcupine_server.specs.WrongRuns.{EmptyStoreIsRefused, empty_store}
 use Rattle.porcupine_server.proofs.NextLine.{next_line}
@@ -76,10 +76,12 @@ module _ (go : List ℕ) (goes : tape_plan_line go ≡ Some Go) where
       let three : c ≡ codes "buckets 1" = cc is in
       let four : d ≡ codes "user alice tanstaaf" = cc is in
       let five : e ≡ codes "postmaster alice" = cc is in
-      let behind : rest ≡ small_lines ++ codes "end" ∷ [] = cc is in
-      (ap (λ (x : List ℕ). x ∷ b ∷ c ∷ d ∷ e ∷ []) one ∙ ap (λ (x : List ℕ). codes "nodes 1" ∷ x ∷ c ∷ d ∷ e ∷ []) two ∙ ap (λ (x : List ℕ). codes "nodes 1" ∷ codes "copies 1 1" ∷ x ∷ d ∷ e ∷ []) three
-          ∙ ap (λ (x : List ℕ). codes "nodes 1" ∷ codes "copies 1 1" ∷ codes "buckets 1" ∷ x ∷ e ∷ []) four
-          ∙ ap (λ (x : List ℕ). codes "nodes 1" ∷ codes "copies 1 1" ∷ codes "buckets 1" ∷ codes "user alice tanstaaf" ∷ x ∷ []) five, behind)
+      let behind : rest ≡ small_lines ++ codes "end" ∷ [] = cc is in (
+        ap (λ (x : List ℕ). x ∷ b ∷ c ∷ d ∷ e ∷ []) one ∙ ap (λ (x : List ℕ). codes "nodes 1" ∷ x ∷ c ∷ d ∷ e ∷ []) two ∙ ap (λ (x : List ℕ). codes "nodes 1" ∷ codes "copies 1 1" ∷ x ∷ d ∷ e ∷ []) three
+            ∙ ap (λ (x : List ℕ). codes "nodes 1" ∷ codes "copies 1 1" ∷ codes "buckets 1" ∷ x ∷ e ∷ []) four
+            ∙ ap (λ (x : List ℕ). codes "nodes 1" ∷ codes "copies 1 1" ∷ codes "buckets 1" ∷ codes "user alice tanstaaf" ∷ x ∷ []) five,
+        behind,
+      )
   at_go (a ∷ b ∷ c ∷ d ∷ e ∷ (f ∷ head)) rest draft (d1, o1, (d2, o2, (d3, o3, (d4, o4, (d5, o5, (d6, o6, more)))))) is =
       let six : f ≡ codes "go" = cc is in
       absurd (none-some d6 (subst (λ (x : List ℕ). DraftsOn d5 x d6) six o6))
