@@ -1,8 +1,8 @@
 // Rows that were worked by hand, against the plain functions.
 use mail_model::plain::{Fate, Id, Stamp, id_text};
 use mail_plain::{
-    Entry, Item, PopCommand, PopFault, Record, SmtpCommand, SmtpFault, answers_to, lines_to,
-    marked_ids, messages, pop_command, sent, slots, slots_after, smtp_command, unmarked,
+    Entry, Item, Record, answers_to, lines_to, marked_ids, messages, sent, slots, slots_after,
+    unmarked,
 };
 use std::alloc::{AllocError, Global};
 use std::test::Fail;
@@ -50,87 +50,6 @@ fn shown(alloc: Global, items: &[Item]) -> Result<Vec<u8>, AllocError> {
         text.extend_from_slice(format!(in alloc; " {}|", item.size)?.as_bytes())?;
     }
     Ok(text)
-}
-
-#[test]
-fn reads_smtp(rt: HostRuntime) -> Result<(), Fail> {
-    let bad = Err(SmtpFault::BadArgument);
-    let lines: [(&[u8], Result<SmtpCommand, SmtpFault>); 16] = [
-        (
-            b"HELO c.example",
-            Ok(SmtpCommand::Helo { name: b"c.example" }),
-        ),
-        (
-            b"helo  c.example \t",
-            Ok(SmtpCommand::Helo { name: b"c.example" }),
-        ),
-        (
-            b"MAIL FROM:<bob@b.example>",
-            Ok(SmtpCommand::Mail {
-                sender: b"bob@b.example",
-            }),
-        ),
-        (
-            b"mail  from: <@a,@b:bob>",
-            Ok(SmtpCommand::Mail { sender: b"bob" }),
-        ),
-        (b"MAIL FROM:<>", Ok(SmtpCommand::Mail { sender: b"" })),
-        (b"MAIL FROM:<@a:>", bad),
-        (b"MAIL FROM:<a>b>", bad),
-        (b"MAIL FROM:<a> x", bad),
-        (b"RCPT TO:<u101>", Ok(SmtpCommand::Rcpt { path: b"u101" })),
-        (b"RCPT TO:<>", bad),
-        (b"DATA", Ok(SmtpCommand::Data)),
-        (b"DATA x", bad),
-        (b"quit ", Ok(SmtpCommand::Quit)),
-        (b"HELO a b", bad),
-        (b" QUIT", Err(SmtpFault::UnknownVerb)),
-        (b"Subject: hi", Err(SmtpFault::UnknownVerb)),
-    ];
-    for (at, (line, wanted)) in lines.iter().enumerate() {
-        assert_eq!(rt; smtp_command(rt.alloc(), line)?, *wanted, "at {at}");
-    }
-    Ok(())
-}
-
-#[test]
-fn reads_pop(rt: HostRuntime) -> Result<(), Fail> {
-    let bad = Err(PopFault::BadArgument);
-    let lines: [(&[u8], Result<PopCommand, PopFault>); 16] = [
-        (b"USER alice", Ok(PopCommand::User { name: b"alice" })),
-        (b"USER @lice", bad),
-        (
-            b"PASS tanstaaf",
-            Ok(PopCommand::Pass {
-                secret: b"tanstaaf",
-            }),
-        ),
-        (
-            b"pass open  sesame ",
-            Ok(PopCommand::Pass {
-                secret: b"open  sesame ",
-            }),
-        ),
-        (b"PASS ", bad),
-        (b"STAT", Ok(PopCommand::Stat)),
-        (b"STAT 1", bad),
-        (b"LIST", Ok(PopCommand::List { number: None })),
-        (b"uidl 2", Ok(PopCommand::Uidl { number: Some(2) })),
-        (b"RETR  1 ", Ok(PopCommand::Retr { number: 1 })),
-        (b"RETR 1 2", bad),
-        (b"RETR", bad),
-        (
-            b"DELE 4294967295",
-            Ok(PopCommand::Dele { number: u32::MAX }),
-        ),
-        (b"DELE 4294967296", Err(PopFault::BadNumber)),
-        (b"QUIT", Ok(PopCommand::Quit)),
-        (b"CAPA", Err(PopFault::UnknownVerb)),
-    ];
-    for (at, (line, wanted)) in lines.iter().enumerate() {
-        assert_eq!(rt; pop_command(rt.alloc(), line)?, *wanted, "at {at}");
-    }
-    Ok(())
 }
 
 #[test]
