@@ -1,5 +1,5 @@
 // A mailbox as its messages come and go.
-use crate::Fragments;
+use mailbox_fragment::Fragments;
 use mail_base::{Ids, MsgId, Name, NodeNo};
 use std::test::Fail;
 

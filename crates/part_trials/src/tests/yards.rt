@@ -1,7 +1,7 @@
 // Stores that are taken and given back, over a yard in memory.
 ghost use Rattle.std.specs.Prelude.{◌≤◌};
 
-use crate::{TakeFault, give_back_all, take_stores};
+use yard_stores::{TakeFault, give_back_all, take_stores};
 use io_edge::{MemoryYard, PlainDisk};
 use std::alloc::{AllocError, Global};
 use std::process::Abort;

@@ -1,5 +1,5 @@
 // Assignments that were worked by hand.
-use crate::{Claim, Member, UserMap, assign};
+use user_map::{Claim, Member, UserMap, assign};
 use mail_base::{EpochId, NodeNo};
 use std::alloc::{AllocError, Global};
 use std::test::Fail;

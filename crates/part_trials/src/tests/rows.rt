@@ -1,5 +1,5 @@
 // Rows as they are told, and what installs keep of them.
-use crate::MailMap;
+use mail_map::MailMap;
 use mail_base::{EpochId, MapRow, Member, Name, NodeNo, NodeSet, Row, Secret, Stamp, UserMap};
 use std::alloc::Global;
 use std::test::Fail;

@@ -1,7 +1,7 @@
 // A journal over disks that fail and tear, opened again.
 ghost use Rattle.std.specs.Prelude.{◌≡◌, IfSome, []};
 
-use crate::{Journal, JournalFault, Place};
+use disk_journal::{Journal, JournalFault, Place};
 use io_edge::{Disk, PlainDisk};
 use mail_base::NodeNo;
 use node_disk::{Image, MemoryDisk};

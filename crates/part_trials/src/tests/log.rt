@@ -1,5 +1,5 @@
 // What is due, who has acknowledged what, and each public call once.
-use crate::{Acked, UpdateLog};
+use update_log::{Acked, UpdateLog};
 use mail_base::{Key, Name, NodeNo, NodeSet, ObjState, Stamp, Value};
 use std::alloc::Global;
 use std::test::Fail;

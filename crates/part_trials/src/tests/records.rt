@@ -1,5 +1,5 @@
 // Payloads worked by hand: what is read of each, and that it is written again.
-use crate::{DiskEntry, read_record, record_into};
+use record_form::{DiskEntry, read_record, record_into};
 use mail_base::{Key, ObjState, Value};
 use std::test::Fail;
 
@@ -52,7 +52,6 @@ const PROFILE_FAULTS: [(usize, u8); 9] = [
 ];
 
 // What is read of the payload, spelt again; nothing where nothing is read.
-#[tactic(auto, using(crate::proofs::Records::head_fits))]
 fn read_and_written(rt: &HostRuntime, payload: &[u8]) -> Result<Option<Vec<u8>>, Fail> {
     let Some(entry) = read_record(rt.alloc(), payload)? else {
         return Ok(None);

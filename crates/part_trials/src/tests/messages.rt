@@ -1,5 +1,5 @@
 // Messages that are filed and fetched, over a disk in memory.
-use crate::{MessageStore, StoreFault};
+use message_store::{MessageStore, StoreFault};
 use disk_journal::{Journal, Place};
 use io_edge::PlainDisk;
 use mail_base::{MsgId, NodeNo};

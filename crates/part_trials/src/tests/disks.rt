@@ -1,5 +1,5 @@
 // What a disk in memory leaves by its images, and a disk over a real file.
-use crate::{Asked, FileDisk, Image, MemoryDisk, Range};
+use node_disk::{Asked, FileDisk, Image, MemoryDisk, Range};
 use io_edge::{Disk, Failed};
 use std::fs;
 use std::test::Fail;

@@ -1,5 +1,5 @@
 // Each public call once.
-use crate::{LockFault, Locks};
+use drop_lock::{LockFault, Locks};
 use mail_base::{Name, NodeNo, Ticket};
 use std::test::Fail;
 

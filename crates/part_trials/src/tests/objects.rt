@@ -4,7 +4,7 @@ ghost use Rattle.mail_model.specs.Identity.Value.{Here, Gone};
 ghost use Rattle.mail_model.specs.Grammar.{IsOfKind};
 ghost use Rattle.mail_base.specs.Seen.{key_seen};
 
-use crate::{ObjectTable, Taken, is_news, join};
+use object_table::{ObjectTable, Taken, is_news, join};
 use mail_base::{Key, MsgId, Name, NodeNo, NodeSet, ObjState, Secret, Stamp, Value};
 use std::alloc::Global;
 use std::test::Fail;

@@ -1,5 +1,5 @@
 // Versions and marks, as rows change, are reported and are marked anew at installs.
-use crate::Reports;
+use map_rebuild::Reports;
 use mail_base::{EpochId, MapRow, Name, Names, NodeNo, UserMap};
 use std::alloc::Global;
 use std::test::Fail;
