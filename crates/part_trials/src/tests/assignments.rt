@@ -1,8 +1,8 @@
 // Assignments that were worked by hand.
-use user_map::{Claim, Member, UserMap, assign};
 use mail_base::{EpochId, NodeNo};
 use std::alloc::{AllocError, Global};
 use std::test::Fail;
+use user_map::{Claim, Member, UserMap, assign};
 
 // Claims of a node, a bucket and the count of the epoch since when.
 fn claims_of(alloc: Global, parts: &[(u8, u32, u64)]) -> Result<Vec<Claim>, AllocError> {

@@ -1,6 +1,6 @@
 // What a disk in memory leaves by its images, and a disk over a real file.
-use node_disk::{Asked, FileDisk, Image, MemoryDisk, Range};
 use io_edge::{Disk, Failed};
+use node_disk::{Asked, FileDisk, Image, MemoryDisk, Range};
 use std::fs;
 use std::test::Fail;
 

@@ -1,8 +1,8 @@
 // What is due, who has acknowledged what, and each public call once.
-use update_log::{Acked, UpdateLog};
 use mail_base::{Key, Name, NodeNo, NodeSet, ObjState, Stamp, Value};
 use std::alloc::Global;
 use std::test::Fail;
+use update_log::{Acked, UpdateLog};
 
 /// The key of this user's profile. The log asks nothing of a state's kind.
 fn key(alloc: Global, user: &str) -> Result<Key, Fail> {

@@ -1,6 +1,6 @@
 // A mailbox as its messages come and go.
-use mailbox_fragment::Fragments;
 use mail_base::{Ids, MsgId, Name, NodeNo};
+use mailbox_fragment::Fragments;
 use std::test::Fail;
 
 // The message 7.1.SEQ, or 7.2.SEQ where it is of the second boot.

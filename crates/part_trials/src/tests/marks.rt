@@ -1,6 +1,6 @@
 // Versions and marks, as rows change, are reported and are marked anew at installs.
-use map_rebuild::Reports;
 use mail_base::{EpochId, MapRow, Name, Names, NodeNo, UserMap};
+use map_rebuild::Reports;
 use std::alloc::Global;
 use std::test::Fail;
 

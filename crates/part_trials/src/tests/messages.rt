@@ -1,8 +1,8 @@
 // Messages that are filed and fetched, over a disk in memory.
-use message_store::{MessageStore, StoreFault};
 use disk_journal::{Journal, Place};
 use io_edge::PlainDisk;
 use mail_base::{MsgId, NodeNo};
+use message_store::{MessageStore, StoreFault};
 use std::test::Fail;
 
 // The id 1.1.N.

@@ -4,8 +4,8 @@ ghost use Rattle.mail_model.specs.Identity.Value.{Here, Gone};
 ghost use Rattle.mail_model.specs.Grammar.{IsOfKind};
 ghost use Rattle.mail_base.specs.Seen.{key_seen};
 
-use object_table::{ObjectTable, Taken, is_news, join};
 use mail_base::{Key, MsgId, Name, NodeNo, NodeSet, ObjState, Secret, Stamp, Value};
+use object_table::{ObjectTable, Taken, is_news, join};
 use std::alloc::Global;
 use std::test::Fail;
 

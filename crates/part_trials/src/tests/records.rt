@@ -1,6 +1,6 @@
 // Payloads worked by hand: what is read of each, and that it is written again.
-use record_form::{DiskEntry, read_record, record_into};
 use mail_base::{Key, ObjState, Value};
+use record_form::{DiskEntry, read_record, record_into};
 use std::test::Fail;
 
 /// The deletion of message 1.1.1 of `alice`, with the stamp (2, 1, 1), in a plan of two nodes.

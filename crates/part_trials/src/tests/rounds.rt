@@ -118,9 +118,11 @@ fn concludes(
     managers: &[u8; 3],
 ) -> Result<bool, GroupFault> {
     let formed = group.conclude(alloc, 3)?;
-    Ok(formed.epoch == of
-        && managers_are(&formed, managers)
-        && second_enters(alloc, &formed, managers)?)
+    Ok(
+        formed.epoch == of
+            && managers_are(&formed, managers)
+            && second_enters(alloc, &formed, managers)?,
+    )
 }
 
 fn has_no_group(alloc: Global, group: &mut Group) -> bool {
@@ -160,7 +162,14 @@ fn does(alloc: Global, group: &mut Group, step: &Step) -> Result<bool, GroupFaul
             since,
             heard,
         } => Ok(
-            joins(alloc, group, epoch(*of), epoch(*promise), member(*from)?, *since)? == *heard,
+            joins(
+                alloc,
+                group,
+                epoch(*of),
+                epoch(*promise),
+                member(*from)?,
+                *since,
+            )? == *heard,
         ),
         Step::Heard(count) => Ok(group.heard() == *count),
         Step::Joined(mask) => {

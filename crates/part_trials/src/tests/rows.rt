@@ -1,6 +1,6 @@
 // Rows as they are told, and what installs keep of them.
-use mail_map::MailMap;
 use mail_base::{EpochId, MapRow, Member, Name, NodeNo, NodeSet, Row, Secret, Stamp, UserMap};
+use mail_map::MailMap;
 use std::alloc::Global;
 use std::test::Fail;
 

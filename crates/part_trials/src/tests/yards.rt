@@ -1,11 +1,11 @@
 // Stores that are taken and given back, over a yard in memory.
 ghost use Rattle.std.specs.Prelude.{◌≤◌};
 
-use yard_stores::{TakeFault, give_back_all, take_stores};
 use io_edge::{MemoryYard, PlainDisk};
 use std::alloc::{AllocError, Global};
 use std::process::Abort;
 use std::test::Fail;
+use yard_stores::{TakeFault, give_back_all, take_stores};
 
 // So many disks, of which that of this node holds something; none does where it is 0.
 fn disks(alloc: Global, count: u8, held: u8) -> Result<Vec<PlainDisk>, AllocError> {
