@@ -43,3 +43,6 @@ pub mod Worked
 pub mod Counting
 pub mod Fairness
 pub mod Listings
+pub mod Waiting
+pub mod Entering
+pub mod Midst

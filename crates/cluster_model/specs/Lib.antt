@@ -22,3 +22,4 @@ pub mod Plain
 pub mod Rows
 pub mod TicketLaws
 pub mod ReadLaws
+pub mod StepLaws
