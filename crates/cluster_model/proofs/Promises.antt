@@ -4,7 +4,7 @@ use Rattle.sha2.specs.Sha256.{sha256}
 use Rattle.mail_model.specs.Identity.{Id, Key, Value, State}
 use Rattle.mail_model.specs.Identity.Key.{Message}
 use Rattle.mail_model.specs.Identity.Value.{Here, Gone, Secret}
-use Rattle.mail_model.specs.Record.{Record, IsAmongRecords, SaysHere, HoldsOctets}
+use Rattle.mail_model.specs.Record.{Record, IsAmongRecords, SaysHere, SaysGone, HoldsOctets}
 use Rattle.mail_model.specs.Record.Record.{Boot, Octets, Stated, Promise, Retired}
 use Rattle.mail_model.specs.Book.{Acked}
 use Rattle.mail_model.specs.Book.BookEntry.{Acknowledged, Struck, Dropped}
@@ -13,7 +13,7 @@ use Rattle.object_model.specs.Sets.{has, count_in}
 use Rattle.object_model.specs.Lists.{Among}
 use Rattle.mail_model.specs.Grammar.{IsOfKind}
 use Rattle.cluster_model.specs.Cluster.{Slot, Cluster, slot_at, pending_of}
-use Rattle.cluster_model.specs.Claims.{HasCopy, ShowsGone, StoresMessage, SaysFact}
+use Rattle.cluster_model.specs.Claims.{HasCopy, ShowsGone, StoresMessage}
 use Rattle.cluster_model.specs.Claims.Fact.{HasCopies, IsGone}
 use Rattle.cluster_model.specs.Parts.{Sound}
 use Rattle.cluster_model.specs.Laws.{KeepsCopyOf, HasCopyOf, LacksCopy}
@@ -127,6 +127,13 @@ module _ (confirm : ℕ) (w : Cluster) (s : Sound confirm w) where
         (first.0, first.1, of.0, of.1),
       )
 
+  says_gone : (user : List ℕ) (id : Id) (disk : List Record) → ShowsGone user id disk → SaysGone (Message user id) disk
+  says_gone user id disk g = record {
+    stamp = g.state.stamp;
+    targets = g.state.targets;
+    gone = member_of _ disk (subst (λ r. Among r disk) (valued (Message user id) g.state Gone g.gone) g.inside);
+  }
+
   pub acknowledged_stand : (copy : Acked) → Among (Acknowledged copy) w.book → (Among (Struck copy.user copy.id) w.book → ⊥)
       → (confirm ≤ count_in copy.confirmers) × ((m : ℕ) → has copy.confirmers m ≡ true → HasCopyOf copy w.slots m)
   acknowledged_stand copy acked unstruck = (
@@ -136,7 +143,7 @@ module _ (confirm : ℕ) (w : Cluster) (s : Sound confirm w) where
         record {
           slot = h.slot;
           here = h.here;
-          stands = ⊎_elim (λ lost. inl lost) (λ (says : SaysFact h.slot.disk (HasCopies (copy.user ∷ []) copy.id)). inr (has_copy copy acked m h.slot h.here (not_gone copy.user copy.id unstruck m h.slot h.here) (says copy.user (inl refl)))) h.stands;
+          stands = has_copy copy acked m h.slot h.here (not_gone copy.user copy.id unstruck m h.slot h.here) (h.stands copy.user (inl refl));
         },
   )
 
@@ -149,11 +156,7 @@ module _ (confirm : ℕ) (w : Cluster) (s : Sound confirm w) where
         record {
           slot = h.slot;
           here = h.here;
-          stands = ⊎_elim (λ lost. inl lost) (λ (g : ShowsGone user id h.slot.disk). inr (record {
-            stamp = g.state.stamp;
-            targets = g.state.targets;
-            gone = member_of _ h.slot.disk (subst (λ r. Among r h.slot.disk) (valued (Message user id) g.state Gone g.gone) g.inside);
-          })) h.stands;
+          stands = says_gone user id h.slot.disk h.stands;
         },
   )
 
@@ -166,15 +169,8 @@ module _ (confirm : ℕ) (w : Cluster) (s : Sound confirm w) where
           slot = h.slot;
           here = h.here;
           stands = ⊎_elim
-              (λ lost. inl lost)
-              (λ (says : SaysFact h.slot.disk (HasCopies (copy.user ∷ []) copy.id)). ⊎_elim
-              (λ (g : ShowsGone copy.user copy.id h.slot.disk). inr (inr (record {
-                stamp = g.state.stamp;
-                targets = g.state.targets;
-                gone = member_of _ h.slot.disk (subst (λ r. Among r h.slot.disk) (valued (Message copy.user copy.id) g.state Gone g.gone) g.inside);
-              })))
-              (λ none. inr (inl (has_copy copy acked m h.slot h.here none (says copy.user (inl refl)))))
-              (gone_or_not copy.user copy.id h.slot.disk))
-              h.stands;
+              (λ (g : ShowsGone copy.user copy.id h.slot.disk). inr (says_gone copy.user copy.id h.slot.disk g))
+              (λ none. inl (has_copy copy acked m h.slot h.here none (h.stands copy.user (inl refl))))
+              (gone_or_not copy.user copy.id h.slot.disk);
         },
   )
