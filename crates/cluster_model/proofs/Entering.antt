@@ -12,7 +12,6 @@ use Rattle.object_model.specs.Mishaps.MishapKind.{Crowded}
 use Rattle.object_model.specs.Lists.{Among}
 use Rattle.object_model.proofs.Lists.{among_either, same_some}
 use Rattle.cluster_model.specs.Cluster.{Slot, slot_at, with_slot}
-use Rattle.cluster_model.specs.Cluster.Life.{Lost}
 use Rattle.cluster_model.specs.Rules.{Reaction, push, widen, begin_read, end_ticket, refuse}
 use Rattle.cluster_model.specs.Deeds.{slot_up, hear}
 use Rattle.cluster_model.specs.Room.{Flight, has_room, keys_pushed}
@@ -44,9 +43,9 @@ IsConfirmation (WasLost node) = ⊥
 abbrev pub NoneConfirms : List BookEntry → Type 0
 NoneConfirms entries = (entry : BookEntry) → Among entry entries → IsConfirmation entry → ⊥
 
--- no disk is changed, and no node is lost
+-- no disk is changed
 abbrev pub KeepsDisks : World → World → Type 0
-KeepsDisks old new = (m : ℕ) (slot slot' : Slot) → slot_at old.slots m ≡ Some slot → slot_at new.slots m ≡ Some slot' → (slot'.disk ≡ slot.disk) × (slot'.life ≡ Lost → slot.life ≡ Lost)
+KeepsDisks old new = (m : ℕ) (slot slot' : Slot) → slot_at old.slots m ≡ Some slot → slot_at new.slots m ≡ Some slot' → slot'.disk ≡ slot.disk
 
 pub record Enters (old new : World) : Type 0 where
   pub entries : List BookEntry
@@ -126,8 +125,8 @@ module _ (old new : World) where
       keeps : KeepsDisks old new
       keeps m slot slot' here there = ⊎_elim
           (λ (same, now). let was : slot_up node disk ≡ slot = same_some (slot_at old.slots number.node) _ _ up (ap (slot_at old.slots) (sym same) ∙ here) in
-          (ap (λ (s : Slot). s.disk) now ∙ ap (λ (s : Slot). s.disk) was, λ lost. absurd (cc (sym (ap (λ (s : Slot). s.life) now) ∙ lost))))
-          (λ before. let same : slot' ≡ slot = same_some (slot_at old.slots m) _ _ before here in (ap (λ (s : Slot). s.disk) same, λ lost. ap (λ (s : Slot). s.life) (sym same) ∙ lost))
+          ap (λ (s : Slot). s.disk) now ∙ ap (λ (s : Slot). s.disk) was)
+          (λ before. ap (λ (s : Slot). s.disk) (same_some (slot_at old.slots m) slot' slot before here))
           (read_after old.slots number.node m (slot_up node disk) _ slot' up (ap (λ (w : World). slot_at w.slots m) (sym e) ∙ there))
 
   posts_enter : (plan : Plan) (number : ℕ) (keep : Bool) (said : Said) → Posts plan old number keep said new → Enters old new

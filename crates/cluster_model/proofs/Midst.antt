@@ -13,7 +13,6 @@ use Rattle.object_model.specs.Sets.{has}
 use Rattle.object_model.specs.Lists.{Among}
 use Rattle.object_model.proofs.Lists.{among_front, among_behind, among_either, same_some}
 use Rattle.cluster_model.specs.Cluster.{Slot, slot_at, pending_of}
-use Rattle.cluster_model.specs.Cluster.Life.{Lost}
 use Rattle.cluster_model.specs.Claims.{Fact, HasCopy, ShowsGone, StoresMessage, SaysFact, EntryClaims, RecordSpeaks, all_records}
 use Rattle.cluster_model.specs.Claims.Fact.{HasCopies, IsGone}
 use Rattle.cluster_model.specs.Parts.{Sound}
@@ -44,7 +43,7 @@ module _ (plan : Plan) (tells : Bool) (old new : World) (step : Step) (outcome :
   struck_still : (user : List ℕ) (id : Id) → Among (Struck user id) old.book → Among (Struck user id) new.book
   struck_still user id m = subst (Among (Struck user id)) (sym e.book) (among_front (Struck user id) old.book e.entries m)
 
-  module _ (m : ℕ) (slot slot' : Slot) (here : slot_at old.slots m ≡ Some slot) (there : slot_at new.slots m ≡ Some slot') (alive : slot.life ≢ Lost) where
+  module _ (m : ℕ) (slot slot' : Slot) (here : slot_at old.slots m ≡ Some slot) (there : slot_at new.slots m ≡ Some slot') where
     -- what a confirmation says stood on the disk before the step
     said_before : (entry : BookEntry) → IsConfirmation entry → Among entry new.book → (fact : Fact) → EntryClaims entry m fact → SaysFact slot.disk fact
     said_before entry confirms inside fact claims = ⊎_elim was came (among_either entry old.book e.entries (subst (Among entry) e.book inside))
@@ -53,17 +52,13 @@ module _ (plan : Plan) (tells : Bool) (old new : World) (step : Step) (outcome :
         was k =
             let f = s.claims.booked entry k m fact claims in
             let same : f.slot ≡ slot = same_some (slot_at old.slots m) f.slot slot f.here here in
-            ⊎_elim (λ lost. absurd (alive (ap (λ (x : Slot). x.life) (sym same) ∙ lost))) (λ says. subst (λ (x : Slot). SaysFact x.disk fact) same says) f.stands
+            subst (λ (x : Slot). SaysFact x.disk fact) same f.stands
 
         came : Among entry e.entries → SaysFact slot.disk fact
         came k = ⊎_elim (λ none. absurd (none entry k confirms)) (λ (keeps : KeepsDisks old new).
             let f = sound_now.claims.booked entry inside m fact claims in
             let same : f.slot ≡ slot' = same_some (slot_at new.slots m) f.slot slot' f.here there in
-            let kept = keeps m slot slot' here there in
-            ⊎_elim
-            (λ lost. absurd (alive (kept.1 (ap (λ (x : Slot). x.life) (sym same) ∙ lost))))
-            (λ says. subst (λ xs. SaysFact xs fact) (ap (λ (x : Slot). x.disk) same ∙ kept.0) says)
-            f.stands) e.confirms
+            subst (λ xs. SaysFact xs fact) (ap (λ (x : Slot). x.disk) same ∙ keeps m slot slot' here there) f.stands) e.confirms
 
     module _ (records : List Record) (f : IsFrontOf slot slot' records) where
       -- what stood is in front of it
@@ -132,6 +127,6 @@ module _ (plan : Plan) (tells : Bool) (old new : World) (step : Step) (outcome :
 
   pub keep_in_midst : KeepInMidst old new
   keep_in_midst = record {
-    acknowledged = λ copy acked unstruck m counts slot slot' here there alive records f. copy_there m slot slot' here there alive records f copy acked unstruck counts;
-    dropped = λ user id confirmers dropped m counts slot slot' here there alive records f. gone_there m slot slot' here there alive records f user id confirmers dropped counts;
+    acknowledged = λ copy acked unstruck m counts slot slot' here there records f. copy_there m slot slot' here there records f copy acked unstruck counts;
+    dropped = λ user id confirmers dropped m counts slot slot' here there records f. gone_there m slot slot' here there records f user id confirmers dropped counts;
   }

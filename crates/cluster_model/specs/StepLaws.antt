@@ -1,5 +1,5 @@
 -- What holds in a sound cluster of the tickets that wait, and of what disks hold in the midst of a step.
-use Rattle.std.specs.Prelude.{◌≡◌, ◌≢◌, ◌⊎◌, ℕ, Bool, true, List, [], ◌++◌, length, Some}
+use Rattle.std.specs.Prelude.{◌≡◌, ◌⊎◌, ℕ, Bool, true, List, [], ◌++◌, length, Some}
 use Rattle.sha2.specs.Sha256.{sha256}
 use Rattle.mail_model.specs.Identity.{Id}
 use Rattle.mail_model.specs.Identity.Key.{Message}
@@ -11,7 +11,6 @@ use Rattle.object_model.specs.Sets.{has}
 use Rattle.object_model.specs.Lists.{Among}
 use Rattle.object_model.specs.Letters.{Number, Letter}
 use Rattle.cluster_model.specs.Cluster.{Ticket, Node, Slot, Cluster, slot_at, pending_of}
-use Rattle.cluster_model.specs.Cluster.Life.{Lost}
 use Rattle.cluster_model.specs.Claims.{all_records}
 use Rattle.cluster_model.specs.Parts.{Sound}
 use Rattle.cluster_model.specs.Deeds.{slot_up}
@@ -48,12 +47,12 @@ pub record IsFrontOf (slot slot' : Slot) (records : List Record) : Type 0 where
   pub is : records ≡ (slot.disk ++ kept) ++ front
 
 -- In the midst of each step, whatever of it is on the disk of a node: what the book that the step leaves says was acknowledged and never struck is there with its octets on each
--- confirmer, and what it says was dropped is gone there, unless that node is lost.
+-- confirmer, and what it says was dropped is gone there. The disk of a node that is lost stays as it was.
 pub record KeepInMidst (old new : World) : Type 0 where
   pub acknowledged : (copy : Acked) → Among (Acknowledged copy) new.book → (Among (Struck copy.user copy.id) new.book → ⊥) → (m : ℕ) → has copy.confirmers m ≡ true
-      → (slot slot' : Slot) → slot_at old.slots m ≡ Some slot → slot_at new.slots m ≡ Some slot' → slot.life ≢ Lost → (records : List Record) → IsFrontOf slot slot' records → HasCopyIn copy records
+      → (slot slot' : Slot) → slot_at old.slots m ≡ Some slot → slot_at new.slots m ≡ Some slot' → (records : List Record) → IsFrontOf slot slot' records → HasCopyIn copy records
   pub dropped : (user : List ℕ) (id : Id) (confirmers : ℕ) → Among (Dropped user id confirmers) new.book → (m : ℕ) → has confirmers m ≡ true
-      → (slot slot' : Slot) → slot_at old.slots m ≡ Some slot → slot_at new.slots m ≡ Some slot' → slot.life ≢ Lost → (records : List Record) → IsFrontOf slot slot' records
+      → (slot slot' : Slot) → slot_at old.slots m ≡ Some slot → slot_at new.slots m ≡ Some slot' → (records : List Record) → IsFrontOf slot slot' records
       → SaysGone (Message user id) records
 
 abbrev pub StepsKeepInMidst : Type 0

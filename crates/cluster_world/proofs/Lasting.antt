@@ -188,9 +188,9 @@ module _ {D : Type 0} (on : View D) where
         acknowledged = λ copy acked unstruck m counts not_lost disk disk' e f.
             let b = both_slots mid last s.w l.next s.stands l.stands m disk disk' e f not_lost in
             front_of mid last s.w l.next s.stands l.stands m disk disk' b.slot b.slot' (l.stops.each m disk disk' b.slot b.slot' e f b.here b.there b.alive_is) (HasCopyIn copy)
-            (k.acknowledged copy (subst (Among _) l.stands.book acked) (λ struck. unstruck (subst (Among _) (sym l.stands.book) struck)) m counts b.slot b.slot' b.here b.there b.alive_is);
+            (k.acknowledged copy (subst (Among _) l.stands.book acked) (λ struck. unstruck (subst (Among _) (sym l.stands.book) struck)) m counts b.slot b.slot' b.here b.there);
         dropped = λ user id confirmers dropped m counts not_lost disk disk' e f.
             let b = both_slots mid last s.w l.next s.stands l.stands m disk disk' e f not_lost in
             front_of mid last s.w l.next s.stands l.stands m disk disk' b.slot b.slot' (l.stops.each m disk disk' b.slot b.slot' e f b.here b.there b.alive_is) (SaysGone (Message user id))
-            (k.dropped user id confirmers (subst (Among _) l.stands.book dropped) m counts b.slot b.slot' b.here b.there b.alive_is);
+            (k.dropped user id confirmers (subst (Among _) l.stands.book dropped) m counts b.slot b.slot' b.here b.there);
       }
