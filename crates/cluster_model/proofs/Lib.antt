@@ -46,3 +46,4 @@ pub mod Listings
 pub mod Waiting
 pub mod Entering
 pub mod Midst
+pub mod Merging

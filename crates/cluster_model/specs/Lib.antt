@@ -23,3 +23,4 @@ pub mod Rows
 pub mod TicketLaws
 pub mod ReadLaws
 pub mod StepLaws
+pub mod StepMerges

@@ -6,6 +6,7 @@ ghost use Rattle.cluster_model.specs.TicketLaws.{TargetsAreEnough, TicketsBeginF
 ghost use Rattle.cluster_model.specs.ReadLaws.{ListedOnce, ListedNamed, OneListing};
 ghost use Rattle.cluster_model.specs.WorldLaws.{StepsKeepSound, StepsBring, OpeningIsSound};
 ghost use Rattle.cluster_model.specs.StepLaws.{PendingHasLetter, StepsKeepInMidst};
+ghost use Rattle.cluster_model.specs.StepMerges.{StepsSayMerge};
 ghost use Rattle.cluster_model.specs.NodeLaws.{NodesHear, NodesDeliver, NodesStrike, NodesPush, NodesWiden, NodesEnd, NodesRefuse, NodesRead, NodesNote, NodesFault, NodesFall, NodesStart, NodesStopStart, StartsOwe, NodesLearn, TakesJoin, TakesOnly};
 
 /// Whatever moves are made, a sound cluster stays sound.
@@ -192,6 +193,12 @@ pub fn fetched_as_filed()
 /// A ticket that is pending has a letter of its own in flight.
 pub fn pending_has_letter()
     ensures { PendingHasLetter }
+{}
+
+/// Once a step was made, the disk of one node says the merge of what it said and of what the step made it take, and every disk
+/// says of all else what it said.
+pub fn steps_say_merge()
+    ensures { StepsSayMerge }
 {}
 
 /// What was confirmed stands on the disks of the confirmers, also in the midst of each step.
