@@ -2,3 +2,4 @@ pub mod OneMessage
 pub mod OneDeletion
 pub mod ThreeNodes
 pub mod CrashedNode
+pub mod WrongStores

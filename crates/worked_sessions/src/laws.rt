@@ -3,6 +3,7 @@ ghost use Rattle.worked_sessions.specs.OneMessage.{OneMessageKept};
 ghost use Rattle.worked_sessions.specs.OneDeletion.{OneDeletionAsked};
 ghost use Rattle.worked_sessions.specs.ThreeNodes.{ThreeNodesKept};
 ghost use Rattle.worked_sessions.specs.CrashedNode.{CrashedNodeDriven};
+ghost use Rattle.worked_sessions.specs.WrongStores.{WrongStores};
 
 /// All premises of the promises can be met: the tape of one message meets them.
 pub fn one_message_kept()
@@ -23,4 +24,10 @@ pub fn three_nodes_kept()
 /// A node can stop while a session of it waits, start again, and be lost as the sink fails.
 pub fn crashed_node_driven()
     ensures { CrashedNodeDriven }
+{}
+
+/// A store that lacks a message, has another text, has one id for two messages, or lacks it on a node
+/// that was lost before, does not keep the promise on stored messages.
+pub fn wrong_stores()
+    ensures { WrongStores }
 {}
