@@ -1,5 +1,5 @@
 -- No more copies are gone than were marked.
-use Rattle.std.proofs.Common.{◌≡◌, ◌⊎◌, inl, inr, ⊎_elim, ◌≤◌, ◌-◌, ℕ, zero, suc, List, [], ◌∷◌, ◌++◌, length, flat_map, map, Option, Some, None, refl, sym, ap, ◌∙◌, subst, arith, slice_get}
+use Rattle.std.proofs.Common.{◌≡◌, ◌⊎◌, inl, inr, ⊎_elim, ◌≤◌, ℕ, zero, suc, List, [], ◌∷◌, ◌++◌, length, flat_map, map, Option, Some, refl, sym, ap, ◌∙◌, subst, arith, slice_get}
 use Rattle.std.proofs.lemmas.Option.{none-some}
 use Rattle.std.proofs.lemmas.List.Concat.{flat_map-append}
 use Rattle.mail_model.specs.Identity.{Id}
@@ -7,10 +7,9 @@ use Rattle.mail_model.specs.Deleted.{IsCopyOf}
 use Rattle.mail_model.proofs.GoneCopies.{copy_front, copy_behind}
 use Rattle.mail_model.proofs.Sessions.{by_number}
 use Rattle.session_model.specs.Calls.{Call}
-use Rattle.session_model.specs.Calls.Call.{Strike}
 use Rattle.session_model.specs.Facts.{IsIn, IsGoneIn}
 use Rattle.session_model.specs.Talk.{Exchange}
-use Rattle.session_model.specs.Sessions.{Session, session_at, exchanges_of}
+use Rattle.session_model.specs.Sessions.{Session, session_at}
 use Rattle.session_model.specs.Promises.{GoneAtMostMarked, AreOnce, strikes, struck_of}
 
 abbrev Copies : Type 0

@@ -1,25 +1,23 @@
 -- What the clients of two sessions told that are shown alike, and that a QUIT is one that was sent.
-use Rattle.std.proofs.Common.{◌≡◌, ◌⊎◌, inl, inr, ⊎_elim, ℕ, Bool, false, List, [], ◌∷◌, ◌++◌, map, flat_map, Option, Some, None, Ok, refl, sym, ap, ap₂, ◌∙◌, subst, append_assoc, append-nil}
-use Rattle.mail_model.specs.Lines.{HasNoCrlf, sent_line}
+use Rattle.std.proofs.Common.{◌≡◌, inl, inr, ⊎_elim, ℕ, Bool, false, List, [], ◌∷◌, ◌++◌, map, flat_map, refl, sym, ap, ◌∙◌, subst, append_assoc}
+use Rattle.mail_model.specs.Lines.{sent_line}
 use Rattle.mail_model.specs.Plan.{Plan}
 use Rattle.mail_model.specs.Pop.{pop_command_of}
-use Rattle.mail_model.specs.Pop.Command.{Quit}
 use Rattle.mail_model.specs.Session.{Unit, Told, silent, after_unit}
 use Rattle.mail_model.specs.Session.Unit.{Line, Text}
 use Rattle.mail_model.specs.Tape.{Protocol}
 use Rattle.mail_model.specs.Tape.Protocol.{Smtp, Pop}
-use Rattle.mail_model.specs.Told.{Mail, IsUnit, HasNoUnit, unit_octets, told_in, told_from}
+use Rattle.mail_model.specs.Told.{Mail, IsUnit, HasNoUnit, told_in, told_from}
 use Rattle.mail_model.proofs.Units.{one_unit}
-use Rattle.session_model.specs.Calls.{Call, Answer}
-use Rattle.session_model.specs.Talk.{TalkState, Exchange, Standing, TalkGoes, IsNext, in_text, opening_state, first_line, lead_of, stands_by}
+use Rattle.session_model.specs.Talk.{TalkState, Exchange, Standing, TalkGoes, in_text, opening_state, first_line, lead_of, stands_by}
 use Rattle.session_model.specs.Talk.Standing.{Hearing, Waiting, EndedByQuit, EndedDown, EndedClosed}
 use Rattle.session_model.specs.Talk.TalkState.{Mailing, Entering, Reading}
 use Rattle.session_model.specs.Mailing.{pairs}
 use Rattle.session_model.specs.Reading.{IsQuitUnit}
-use Rattle.session_model.specs.Sessions.{Session, IsSession, exchanges_of}
+use Rattle.session_model.specs.Sessions.{Session, exchanges_of}
 use Rattle.session_model.specs.Readings.{OneTelling, QuitWasSent, AreLines, HasQuit, view, views}
 use Rattle.session_model.proofs.Cuts.{goes_front}
-use Rattle.session_model.proofs.Replying.{Speaks, IsReplied, IsWhole, some_reply, next_replied}
+use Rattle.session_model.proofs.Replying.{Speaks, IsWhole, some_reply, next_replied}
 use Rattle.session_model.proofs.Readings.{SpeaksAt, next_behind, waits_last, one_reading}
 
 -- a unit with the first line of its reply

@@ -1,5 +1,5 @@
 -- Sessions that a tape and a transcript show are those that were worked by hand, as far as their clients know.
-use Rattle.std.proofs.Common.{◌≡◌, inl, inr, ⊎_elim, ◌≤◌, ℕ, zero, suc, Bool, true, false, List, [], ◌∷◌, ◌++◌, map, flat_map, Option, Some, None, refl, sym, ap, ◌∙◌, subst, arith, codes, slice_get, append-nil}
+use Rattle.std.proofs.Common.{◌≡◌, ℕ, suc, Bool, List, [], ◌∷◌, ◌++◌, map, flat_map, Option, Some, None, refl, sym, ap, ◌∙◌, subst, codes, slice_get}
 use Rattle.std.specs.Prelude.{unwrap_or}
 use Rattle.std.specs.Option.{option_map}
 use Rattle.std.proofs.lemmas.Option.{none-some, slice_get-map}
@@ -8,16 +8,16 @@ use Rattle.mail_model.specs.Plan.{Plan}
 use Rattle.mail_model.specs.Session.{silent}
 use Rattle.mail_model.specs.PopReplies.{one_line}
 use Rattle.mail_model.specs.Site.{nth_id}
-use Rattle.mail_model.specs.Smtp.{helo_text, closing_text, stored_text}
-use Rattle.mail_model.specs.Stored.{opened, kind_at}
+use Rattle.mail_model.specs.Smtp.{closing_text, stored_text}
+use Rattle.mail_model.specs.Stored.{opened}
 use Rattle.mail_model.specs.Tape.{Protocol}
-use Rattle.mail_model.specs.Tape.Protocol.{Smtp, Pop}
-use Rattle.mail_model.specs.Told.{Mail, told_from, sent}
+use Rattle.mail_model.specs.Tape.Protocol.{Smtp}
+use Rattle.mail_model.specs.Told.{told_from}
 use Rattle.mail_model.specs.Transcript.{Entry}
 use Rattle.mail_model.proofs.Sessions.{by_number}
 use Rattle.session_model.specs.Calls.Answer.{Stored}
 use Rattle.session_model.specs.Moves.{with_answer}
-use Rattle.session_model.specs.Talk.{TalkState, Exchange, Standing, TalkGoes, IsTalk, opening_state, stands_by}
+use Rattle.session_model.specs.Talk.{Exchange, TalkGoes, IsTalk, opening_state}
 use Rattle.session_model.specs.Talk.TalkState.{Mailing}
 use Rattle.session_model.specs.Talk.Standing.{Hearing, EndedByQuit}
 use Rattle.session_model.specs.Mailing.{pairs}
@@ -68,17 +68,18 @@ module _ (n : ℕ) where
         record { is_unit = whole_line (codes "RCPT TO:<alice>") refl; whole = refl; led = (refl, refl, sym (ap reply_where has_alice)) },
         subst (λ (b : Bool). TalkGoes (plan_of_nodes n) 1 (Hearing (Mailing (told_where b))) (flat_map sent_line (codes "DATA" ∷ codes "Subject: hi" ∷ [] ∷ codes "hello" ∷ codes "." ∷ codes "QUIT" ∷ []))
             (at_once (codes "DATA") (codes "354 end with a line that is a single period") ∷ text_told ∷ at_once (codes "QUIT") (closing_text 1) ∷ []) EndedByQuit []) (sym has_alice) (
-          flat_map sent_line (codes "Subject: hi" ∷ [] ∷ codes "hello" ∷ codes "." ∷ codes "QUIT" ∷ []),
-          record { is_unit = whole_line (codes "DATA") refl; whole = refl; led = (refl, refl, refl) },
-          (
-            sent_line (codes "QUIT"),
-            record { is_unit = text_lines; whole = refl; led = (refl, refl) },
-            ([], record { is_unit = whole_line (codes "QUIT") refl; whole = refl; led = (refl, refl, refl) }, (refl, refl)),
-          ),
-        ),
+              flat_map sent_line (codes "Subject: hi" ∷ [] ∷ codes "hello" ∷ codes "." ∷ codes "QUIT" ∷ []),
+              record { is_unit = whole_line (codes "DATA") refl; whole = refl; led = (refl, refl, refl) },
+              (
+                sent_line (codes "QUIT"),
+                record { is_unit = text_lines; whole = refl; led = (refl, refl) },
+                ([], record { is_unit = whole_line (codes "QUIT") refl; whole = refl; led = (refl, refl, refl) }, (refl, refl)),
+              ),
+            ),
       ),
     ),
   )
+
   pub talks : IsTalk (plan_of_nodes n) 1 Smtp at_quit.octets (at_quit.whole ++ []) EndedByQuit []
   talks = record { before = EndedByQuit; goes = goes; ends = refl }
 

@@ -5,3 +5,5 @@ pub mod ThreeNodes
 pub mod CrashedNode
 pub mod Alike
 pub mod WrongStores
+pub mod WrongReaders
+pub mod WrongBooks

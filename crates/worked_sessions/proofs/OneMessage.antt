@@ -1,5 +1,5 @@
 -- A tape that meets every premise.
-use Rattle.std.proofs.Common.{◌≡◌, inl, inr, ◌+◌, ◌<◌, ◌^◌, ℕ, zero, suc, Bool, true, List, [], ◌∷◌, ◌++◌, length, All, Some, refl, sym, ap, subst, arith, codes, slice_get}
+use Rattle.std.proofs.Common.{◌≡◌, inl, inr, ◌<◌, ◌^◌, ℕ, zero, suc, Bool, true, List, [], ◌∷◌, ◌++◌, length, All, Some, refl, sym, ap, subst, arith, codes, slice_get}
 use Rattle.std.specs.Prelude.{unwrap_or}
 use Rattle.std.proofs.lemmas.Fmt.{decimal_digit}
 use Rattle.std.proofs.lemmas.List.Elements.{All-nil, All-cons}
@@ -184,7 +184,7 @@ octets_with d =
     ++ sent_line (codes " by node" ++ d ++ codes " with " ++ codes "SMTP" ++ codes " id <" ++ (d ++ 46 ∷ [] ++ d ++ 46 ∷ [] ++ d) ++ codes "@node" ++ d ++ codes ">;")
     ++ sent_line (codes " " ++ codes "Thu, 01 Jan 1970 00:00:00 +0000") ++ small_mail.text
 
-size : length small_octets ≡ 151
+pub size : length small_octets ≡ 151
 size = ap (λ (d : List ℕ). length (octets_with d)) (decimal_digit 1 (omega arith))
 
 -- the record of the octets is short enough for a journal

@@ -1,5 +1,5 @@
 -- A tape of three nodes that meets every premise.
-use Rattle.std.proofs.Common.{◌≡◌, inl, inr, ◌+◌, ℕ, zero, suc, true, List, [], ◌∷◌, ◌++◌, map, flat_map, length, All, Some, refl, sym, ap, subst, arith, codes, slice_get}
+use Rattle.std.proofs.Common.{◌≡◌, inl, inr, ℕ, zero, suc, true, List, [], ◌∷◌, ◌++◌, map, flat_map, All, Some, refl, sym, ap, subst, arith, codes, slice_get}
 use Rattle.std.proofs.lemmas.List.Elements.{All-nil, All-cons}
 use Rattle.std.proofs.lemmas.Option.{none-some}
 use Rattle.mail_model.specs.Identity.{Id, Stamp, Value}
@@ -20,7 +20,6 @@ use Rattle.mail_model.specs.Tape.Order.{Open, Moves}
 use Rattle.mail_model.specs.Tape.ClusterOrder.{Post, Again}
 use Rattle.mail_model.specs.Transcript.Entry.{Said}
 use Rattle.session_model.specs.Calls.Call.{Deliver, Login, Fetch, Strike}
-use Rattle.session_model.specs.Calls.Answer.{Stored}
 use Rattle.session_model.specs.Talk.TalkState.{Mailing}
 use Rattle.session_model.specs.Copies.{OnNode, OnEnough, KeepsCopy, OneContent}
 use Rattle.session_model.specs.Facts.{IsGoneIn, ack_of}

@@ -1,5 +1,5 @@
 -- No wrong store keeps the promise on stored messages.
-use Rattle.std.proofs.Common.{◌≡◌, ◌⊎◌, ◌≢◌, inl, inr, ⊎_elim, ◌-◌, ◌+◌, ◌<◌, ◌≤◌, ℕ, zero, suc, Bool, true, false, List, [], ◌∷◌, ◌++◌, length, map, All, Some, refl, sym, ap, ◌∙◌, subst, arith, codes, slice_get, length-append, nat_eq, if◌then◌else◌}
+use Rattle.std.proofs.Common.{◌≡◌, ◌⊎◌, inl, inr, ⊎_elim, ◌-◌, ℕ, suc, Bool, true, false, List, [], ◌∷◌, ◌++◌, length, map, All, Some, refl, sym, ap, ◌∙◌, subst, arith, codes, slice_get, length-append, nat_eq, if◌then◌else◌}
 use Rattle.std.specs.Prelude.{slice_index}
 use Rattle.std.proofs.lemmas.Bool.{eq-eqb, ne_eqb, cond-false}
 use Rattle.std.proofs.lemmas.List.Elements.{All-head, All-tail}
@@ -8,15 +8,15 @@ use Rattle.mail_model.specs.Identity.Key.{Message}
 use Rattle.mail_model.specs.Identity.Value.{Here, Gone}
 use Rattle.mail_model.specs.Mail.{IsStored, trace_lines}
 use Rattle.mail_model.specs.Plan.{Plan}
-use Rattle.mail_model.specs.Record.{Record, IsAmongRecords, SaysHere, SaysGone, HoldsOctets}
+use Rattle.mail_model.specs.Record.{Record, IsAmongRecords, HoldsOctets}
 use Rattle.mail_model.specs.Record.Record.{Boot, Octets, Stated}
 use Rattle.mail_model.specs.Site.{nth_id, nth_stamp}
-use Rattle.mail_model.specs.Stored.{Ack, HaveOtherIds, mails_in, stored_sessions, opened, AreRising}
+use Rattle.mail_model.specs.Stored.{Ack, HaveOtherIds, mails_in, stored_sessions, opened}
 use Rattle.mail_model.specs.Told.{Mail}
 use Rattle.mail_model.specs.Transcript.{Entry}
 use Rattle.mail_model.specs.Tape.Protocol.{Smtp}
 use Rattle.session_model.specs.Sessions.{Session, IsSession, AreSessions}
-use Rattle.session_model.specs.Copies.{OnNode, OnEnough, KeepsCopy, EachStands, Stands}
+use Rattle.session_model.specs.Copies.{OnNode, OnEnough, KeepsCopy, EachStands}
 use Rattle.session_model.specs.Promises.{StoredStands}
 use Rattle.worked_sessions.specs.OneMessage.{plan_of_nodes, small_plan, small_mail, small_octets, small_lines, small_entries, small_records, at_quit}
 use Rattle.worked_sessions.specs.WrongStores.{WrongStores, StoredStandsNot, empty_records, other_octets, other_records, second_lines, second_entries, two_nodes, lost_lines, lost_entries}
@@ -40,7 +40,7 @@ kept_first plan lines disks ack acks (nodes ∷ confirmers) stands mail = record
 }
 
 -- the only message that a session told
-mail_of_one : (ack : Ack) (acks : List Ack) (k : ℕ) → ack.session ≡ k → mails_in k (ack ∷ acks) ≡ small_mail ∷ [] → ack.mail ≡ small_mail
+pub mail_of_one : (ack : Ack) (acks : List Ack) (k : ℕ) → ack.session ≡ k → mails_in k (ack ∷ acks) ≡ small_mail ∷ [] → ack.mail ≡ small_mail
 mail_of_one ack acks k own told = by (nat_eq ack.session k) refl told
   where
     by : (b : Bool) → nat_eq ack.session k ≡ b → (if b then ack.mail ∷ mails_in k acks else mails_in k acks) ≡ small_mail ∷ [] → ack.mail ≡ small_mail
@@ -52,7 +52,7 @@ other_session : (ack : Ack) (acks : List Ack) (k : ℕ) → (ack.session ≡ k �
 other_session ack acks k other told = sym (cond-false (nat_eq ack.session k) (ack.mail ∷ mails_in k acks) (mails_in k acks) (ne_eqb ack.session k other)) ∙ told
 
 -- the first node, where one is all there is; and the second of two
-on_first : (d : List Record) (disks : List (List Record)) (so : List Record → Type 0) (nodes : List ℕ) → OnEnough small_plan (d ∷ disks) so nodes → so d
+pub on_first : (d : List Record) (disks : List (List Record)) (so : List Record → Type 0) (nodes : List ℕ) → OnEnough small_plan (d ∷ disks) so nodes → so d
 on_first d disks so [] on = absurd (omega (arith, on.are.enough))
 on_first d disks so (node ∷ nodes) on =
     let one = All-head (OnNode (d ∷ disks) so) node nodes on.each in
@@ -85,10 +85,10 @@ none_there ack user keeps = ⊎_elim
 
 -- a node with one message: no copy is gone, and the copy that is here is that of this message
 module _ (octets : List ℕ) where
-  abbrev with_one : List Record
+  abbrev pub with_one : List Record
   with_one = Boot 1 ∷ Octets (nth_id 1) octets ∷ Stated (Message (codes "alice") (nth_id 1)) (record { value = Here; stamp = nth_stamp 1; targets = 1 }) ∷ []
 
-  not_gone : (user : List ℕ) (id : Id) (stamp : Stamp) (targets : ℕ) → IsAmongRecords (Stated (Message user id) (record { value = Gone; stamp = stamp; targets = targets })) with_one → ⊥
+  pub not_gone : (user : List ℕ) (id : Id) (stamp : Stamp) (targets : ℕ) → IsAmongRecords (Stated (Message user id) (record { value = Gone; stamp = stamp; targets = targets })) with_one → ⊥
   not_gone user id stamp targets (inl is) = cc
   not_gone user id stamp targets (inr (inl is)) = cc
   not_gone user id stamp targets (inr (inr (inl is))) = let never : Here ≡ Gone = ap value_in is in cc
@@ -110,7 +110,7 @@ module _ (octets : List ℕ) where
       keeps
 
 -- lists that end alike
-same_end : {X : Type 0} (a b x y : List X) → a ++ x ≡ b ++ y → length x ≡ length y → x ≡ y
+pub same_end : {X : Type 0} (a b x y : List X) → a ++ x ≡ b ++ y → length x ≡ length y → x ≡ y
 same_end [] [] x y same long = same
 same_end [] (v ∷ b) x y same long = absurd (omega (arith, long, ap length same, length-append b y))
 same_end (u ∷ a) [] x y same long = absurd (omega (arith, long, ap length same, length-append a x))
@@ -140,7 +140,7 @@ module _ (n : ℕ) (lines : List (List ℕ)) (entries : List Entry) (disks : Lis
 
 -- the worked session is shown
 module _ (n : ℕ) where
-  own_small : IsSession (plan_of_nodes n) small_lines small_entries 1 at_quit
+  pub own_small : IsSession (plan_of_nodes n) small_lines small_entries 1 at_quit
   own_small = record { talk = talks n; fed = refl; gets = record { part = []; missing = []; are = refl; cut = refl } }
 
   own_lost : IsSession (plan_of_nodes n) lost_lines lost_entries 1 at_quit

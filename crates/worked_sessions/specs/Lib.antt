@@ -3,3 +3,5 @@ pub mod OneDeletion
 pub mod ThreeNodes
 pub mod CrashedNode
 pub mod WrongStores
+pub mod WrongReaders
+pub mod WrongBooks

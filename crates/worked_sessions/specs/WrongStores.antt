@@ -1,7 +1,6 @@
 -- Stores that do not keep a message that was answered `250 stored`: the promise on stored messages is false of each, whoever chooses the sessions, the messages that
 -- were acknowledged, their ids and the nodes that confirmed them.
-use Rattle.std.specs.Prelude.{ℕ, List, [], ◌∷◌, ◌++◌, length, codes}
-use Rattle.mail_model.specs.Identity.{Id}
+use Rattle.std.specs.Prelude.{ℕ, List, [], ◌∷◌, ◌++◌, codes}
 use Rattle.mail_model.specs.Identity.Key.{Message}
 use Rattle.mail_model.specs.Identity.Value.{Here}
 use Rattle.mail_model.specs.Lines.{sent_line}
@@ -18,7 +17,7 @@ use Rattle.session_model.specs.Events.{event_entries}
 use Rattle.session_model.specs.Events.ClusterEvent.{WasLost}
 use Rattle.session_model.specs.Sessions.{Session, AreSessions}
 use Rattle.session_model.specs.Promises.{StoredStands}
-use Rattle.worked_sessions.specs.OneMessage.{plan_of_nodes, small_plan, small_mail, small_octets, small_lines, small_entries, small_records}
+use Rattle.worked_sessions.specs.OneMessage.{plan_of_nodes, small_plan, small_mail, small_lines, small_entries, small_records}
 
 -- over these disks no choice of sessions, messages and nodes keeps the promise
 abbrev pub StoredStandsNot : Plan → List (List ℕ) → List Entry → List (List Record) → Type 0
