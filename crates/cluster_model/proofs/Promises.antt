@@ -30,7 +30,7 @@ among_of one [] m = m
 among_of one (other ∷ records) m = ⊎_elim (λ e. inl e) (λ behind. inr (among_of one records behind)) m
 
 -- where some octets of an id stand, there are first ones
-first_octets : (id : Id) (octets : List ℕ) (records : List Record) → Among (Octets id octets) records → (first : List ℕ) × HoldsOctets id first records × Among (Octets id first) records
+pub first_octets : (id : Id) (octets : List ℕ) (records : List Record) → Among (Octets id octets) records → (first : List ℕ) × HoldsOctets id first records × Among (Octets id first) records
 first_octets id octets [] m = absurd m
 first_octets id octets (Octets other held ∷ records) m = ⊎_elim
     (λ same. let e : Octets other held ≡ Octets id held = ap (λ i. Octets i held) same in (held, inl e, inl e))
@@ -46,13 +46,13 @@ first_octets id octets (Promise epoch ∷ records) m = let behind = first_octets
 first_octets id octets (Retired key state ∷ records) m = let behind = first_octets id octets records (⊎_elim (λ is. absurd (cc is)) (λ b. b) m) in (behind.0, inr (λ o is. cc, behind.1), inr behind.2)
 
 -- a state of a message is here or gone
-here_or_gone : (user : List ℕ) (id : Id) (value : Value) → IsOfKind (Message user id) value → (value ≡ Here) ⊎ (value ≡ Gone)
+pub here_or_gone : (user : List ℕ) (id : Id) (value : Value) → IsOfKind (Message user id) value → (value ≡ Here) ⊎ (value ≡ Gone)
 here_or_gone user id Here fits = inl refl
 here_or_gone user id Gone fits = inr refl
 here_or_gone user id (Secret octets) fits = absurd fits
 
 -- a state whose value is known
-valued : (key : Key) (state : State) (value : Value) → state.value ≡ value → Stated key state ≡ Stated key (record { value = value; stamp = state.stamp; targets = state.targets })
+pub valued : (key : Key) (state : State) (value : Value) → state.value ≡ value → Stated key state ≡ Stated key (record { value = value; stamp = state.stamp; targets = state.targets })
 valued key state value e = ap (λ v. Stated key (record { value = v; stamp = state.stamp; targets = state.targets })) e
 
 -- some record says that the copy is gone, or none does

@@ -1,5 +1,5 @@
 -- A world that was driven has what a cluster owes.
-use Rattle.std.proofs.Common.{◌≡◌, ⊎_elim, ◌⊎◌, inl, inr, ℕ, ◌+◌, ◌≤◌, Bool, true, List, [], ◌∷◌, ◌++◌, append-nil, append_assoc, length, map, refl, sym, ap, ◌∙◌, subst, arith}
+use Rattle.std.proofs.Common.{◌≡◌, ⊎_elim, ◌⊎◌, inl, inr, ℕ, ◌≤◌, Bool, true, List, [], ◌∷◌, ◌++◌, append-nil, append_assoc, length, map, refl, sym, ap, ◌∙◌, subst, arith}
 use Rattle.std.specs.Prelude.{flat_map, is_some, Ok}
 use Rattle.std.proofs.lemmas.List.Folds.{list_all-map}
 use Rattle.mail_model.specs.Plan.{Plan}
@@ -46,7 +46,7 @@ module _ {D : Type 0} (on : View D) where
         (sessions_both on plan told lines m.outs (one ∷ []) (m.sessions lines of) (tt, tt))
         k asked ticket (answer_told own) (among_behind one m.outs (one ∷ []) (inl refl))
 
-    mirror_all : (more done : List Outcome) (between left : List Awaited) (mid last : World D) → IsOf on plan told mid → SoFar done between mid → (told ≡ true) ⊎ AllBlind plan.nodes more
+    pub mirror_all : (more done : List Outcome) (between left : List Awaited) (mid last : World D) → IsOf on plan told mid → SoFar done between mid → (told ≡ true) ⊎ AllBlind plan.nodes more
         → AreOfSessions lines (done ++ more) → Makes on more between mid left last → SoFar (done ++ more) left last
     mirror_all [] done between left mid last of m known sessions (left_is, is) =
         subst (λ o. SoFar o left last) (sym (append-nil done)) (subst (λ a. SoFar done a last) (sym left_is) (subst (λ w. SoFar done between w) (sym is) m))
