@@ -6,7 +6,7 @@ use Rattle.object_model.specs.Letters.{Number}
 use Rattle.object_model.specs.Lists.{Among}
 use Rattle.object_model.proofs.Lists.{among_front, among_behind, among_either}
 use Rattle.session_model.specs.Calls.{Call, Answer, IsAnswerTo}
-use Rattle.session_model.specs.OneNode.{IsSoundMail}
+use Rattle.session_model.specs.SoundMails.{IsSoundMail}
 use Rattle.call_tickets.specs.declared.call.Call.{Call as WorldCall}
 use Rattle.call_tickets.specs.declared.call.Call.TheVariants as calls
 use Rattle.call_tickets.specs.declared.answer.Ask.TheVariants as ask

@@ -25,7 +25,7 @@ use Rattle.session_model.specs.Run.Stop.{BehindLine, Denied, SinkFailed, OutOfMe
 use Rattle.session_model.specs.Runs.{Shows}
 use Rattle.session_model.specs.Books.{AreBegun}
 use Rattle.session_model.specs.Owes.{Owes}
-use Rattle.session_model.specs.OneNode.{IsSoundMail}
+use Rattle.session_model.specs.SoundMails.{IsSoundMail}
 use Rattle.session_model.specs.Kept.{IsEnding}
 use Rattle.session_model.proofs.InOrder.{kind_there}
 use Rattle.session_model.proofs.Books.{IsCallIn, among_in, call_at}
