@@ -26,6 +26,7 @@ pub mod Kept
 pub mod Losing
 pub mod Mirroring
 pub mod Mirrors
+pub mod Ordered
 pub mod Noted
 pub mod Owed
 pub mod PostEnds

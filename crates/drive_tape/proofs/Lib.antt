@@ -7,6 +7,7 @@ pub mod Heads
 pub mod Talkers
 pub mod PlanFits
 pub mod Happenings
+pub mod Led
 pub mod Chains
 pub mod Beginnings
 pub mod Calling

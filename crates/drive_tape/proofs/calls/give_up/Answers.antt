@@ -17,4 +17,4 @@ pub returns-clause-gave_up : goal.returns-clause-gave_up
 returns-clause-gave_up g c start outcomes awaited k asked among at =
     let on = view_of g.D.Disk.seen g.D.Disk.faults g.D.Disk.clock in
     let is = subst (λ r. IsStep on r (GiveUp c.args.open_call.now.ticket) c.args.world.now c.step.new.self) c.in-Err.is c.step.ensures.is in
-    call_kept_up on start c.args.world.now c.step.new.self outcomes awaited k at ℕ asked c.args.open_call.now.ticket c.in-Err.fault c.stop_by.result c.stop_by.ensures.is is
+    call_kept_up on start c.args.world.now c.step.new.self outcomes awaited k at ℕ asked c.args.open_call.now.ticket c.in-Err.fault c.stop_by.result c.stop_by.ensures.is among is

@@ -13,10 +13,10 @@ returns-in-Ok-Done-clause-moved g c start outcomes awaited been fit =
     let on = view_of g.D.Disk.seen g.D.Disk.faults g.D.Disk.clock in
     let result : c.step.result ≡ Ok Done = (let a = c.in-Ok-Done.is in let b = c.in-Ok-Done.field-0-is in cc) in
     let is = subst (λ r. IsStep on r (Drop c.args.letter) c.args.world.now c.step.new.self) result c.step.ensures.is in
-    happens on start c.args.world.now outcomes awaited been (order.Drop c.args.letter) fit c.step.new.self (Drop c.args.letter) (Ok Done) (WasDropped c.args.letter) is (Ok Done, refl) refl refl (λ n was. refl) (λ n among. absurd among)
+    happens on start c.args.world.now outcomes awaited been (order.Drop c.args.letter) fit c.step.new.self (Drop c.args.letter) (Ok Done) (WasDropped c.args.letter) is (Ok Done, refl, is) (_, refl, refl) refl refl (λ n was. refl) (λ n among. absurd among)
 
 pub returns-clause-moved : goal.returns-clause-moved
 returns-clause-moved g c start outcomes awaited been fit =
     let on = view_of g.D.Disk.seen g.D.Disk.faults g.D.Disk.clock in
     let is = subst (λ r. IsStep on r (Drop c.args.letter) c.args.world.now c.step.new.self) c.in-Err.is c.step.ensures.is in
-    denied on start c.args.world.now outcomes awaited been (order.Drop c.args.letter) fit c.step.new.self (Drop c.args.letter) c.in-Err.fault c.stop_by.result is (Err c.in-Err.fault, refl) c.stop_by.ensures.is (λ always. always)
+    denied on start c.args.world.now outcomes awaited been (order.Drop c.args.letter) fit c.step.new.self (Drop c.args.letter) c.in-Err.fault c.stop_by.result is (Err c.in-Err.fault, refl, is) c.stop_by.ensures.is (λ always. always)
