@@ -43,28 +43,28 @@ module _ {D : Type 0} (on : View D) where
 
   pub posts_make : (steps : List StepMade) (old new : World D) → PostsAll on steps old new → MakesSteps on steps old new
   posts_make [] old new (none, same) = same
-  posts_make (one ∷ more) old new (letter, mid, first, is, did, then) = (mid, did, by (has_failed one.result) then)
+  posts_make (one ∷ more) old new (letter, mid, first, is, did, ends) = (mid, did, by (λ p. posts_make more mid new p) (has_failed one.result) ends)
     where
-      by : (b : Bool) → MatchBool b ((more ≡ []) × (new ≡ mid)) (PostsAll on more mid new) → MakesSteps on more mid new
-      by true so = subst (λ (l : List StepMade). MakesSteps on l mid new) (sym so.0) so.1
-      by false so = posts_make more mid new so
+      by : (PostsAll on more mid new → MakesSteps on more mid new) → (b : Bool) → MatchBool b ((more ≡ []) × (new ≡ mid)) (PostsAll on more mid new) → MakesSteps on more mid new
+      by rest true so = subst (λ (l : List StepMade). MakesSteps on l mid new) (sym so.0) so.1
+      by rest false so = rest so
 
   posts_are : (steps : List StepMade) (old new : World D) → PostsAll on steps old new → All IsPost steps
   posts_are [] old new posts = All-nil IsPost
-  posts_are (one ∷ more) old new (letter, mid, first, is, did, then) = All-cons IsPost one more (letter, is) (by (has_failed one.result) then)
+  posts_are (one ∷ more) old new (letter, mid, first, is, did, ends) = All-cons IsPost one more (letter, is) (by (λ p. posts_are more mid new p) (has_failed one.result) ends)
     where
-      by : (b : Bool) → MatchBool b ((more ≡ []) × (new ≡ mid)) (PostsAll on more mid new) → All IsPost more
-      by true so = subst (All IsPost) (sym so.0) (All-nil IsPost)
-      by false so = posts_are more mid new so
+      by : (PostsAll on more mid new → All IsPost more) → (b : Bool) → MatchBool b ((more ≡ []) × (new ≡ mid)) (PostsAll on more mid new) → All IsPost more
+      by rest true so = subst (All IsPost) (sym so.0) (All-nil IsPost)
+      by rest false so = rest so
 
   pushes_are : (node : ℕ) (others : List ℕ) (steps : List StepMade) → PushesTo node others steps → All (IsPushOf node) steps
   pushes_are node [] steps none = subst (All (IsPushOf node)) (sym none) (All-nil (IsPushOf node))
   pushes_are node (to ∷ others) [] pushes = All-nil (IsPushOf node)
-  pushes_are node (to ∷ others) (one ∷ more) (is, then) = All-cons (IsPushOf node) one more (to, is) (by (has_failed one.result) then)
+  pushes_are node (to ∷ others) (one ∷ more) (is, ends) = All-cons (IsPushOf node) one more (to, is) (by (λ p. pushes_are node others more p) (has_failed one.result) ends)
     where
-      by : (b : Bool) → MatchBool b (more ≡ []) (PushesTo node others more) → All (IsPushOf node) more
-      by true so = subst (All (IsPushOf node)) (sym so) (All-nil (IsPushOf node))
-      by false so = pushes_are node others more so
+      by : (PushesTo node others more → All (IsPushOf node) more) → (b : Bool) → MatchBool b (more ≡ []) (PushesTo node others more) → All (IsPushOf node) more
+      by rest true so = subst (All (IsPushOf node)) (sym so) (All-nil (IsPushOf node))
+      by rest false so = rest so
 
   all_pushes : (nodes : ℕ) (life : NodeLife) (node : ℕ) (steps : List StepMade) → PushesAll nodes life node steps → All (IsPushOf node) steps
   all_pushes nodes (Up boot) node steps all = pushes_are node (nodes_but node nodes 1) steps (all.up tt)

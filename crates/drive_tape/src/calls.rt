@@ -122,9 +122,8 @@ pub(crate) fn give_up<D: Disk>(
             ticket: open_call.ticket,
         },
     ) {
-        Ok(Said::Done) => Ok(()),
-        // Nothing else is said of it.
-        Ok(_) => Err(Stop::NoMemory),
+        // Nothing else is said of it but that it is done.
+        Ok(_) => Ok(()),
         Err(fault) => Err(stop_by(fault)),
     }
 }

@@ -29,9 +29,8 @@ fn crash<D: Disk>(world: &mut World<D>, alloc: Global, node: NodeNo) -> Result<C
     ensures why { IsErrOf result Stop.WriteFault → ⊥ }
 {
     match world.step(alloc, Step::Crash { node }) {
-        Ok(Said::Done) => Ok(ClusterEvent::WentDown(node)),
-        // Nothing else is said of it.
-        Ok(_) => unreachable!(),
+        // Nothing else is said of it but that it is done.
+        Ok(_) => Ok(ClusterEvent::WentDown(node)),
         Err(fault) => Err(stop_by(fault)),
     }
 }
@@ -64,9 +63,8 @@ fn lose<D: Disk>(world: &mut World<D>, alloc: Global, node: NodeNo) -> Result<Cl
     ensures why { IsErrOf result Stop.WriteFault → ⊥ }
 {
     match world.step(alloc, Step::Lose { node }) {
-        Ok(Said::Done) => Ok(ClusterEvent::WasLost(node)),
-        // Nothing else is said of it.
-        Ok(_) => unreachable!(),
+        // Nothing else is said of it but that it is done.
+        Ok(_) => Ok(ClusterEvent::WasLost(node)),
         Err(fault) => Err(stop_by(fault)),
     }
 }
@@ -118,9 +116,8 @@ fn drop_letter<D: Disk>(
     ensures why { IsErrOf result Stop.WriteFault → ⊥ }
 {
     match world.step(alloc, Step::Drop { letter }) {
-        Ok(Said::Done) => Ok(ClusterEvent::WasDropped(letter)),
-        // Nothing else is said of it.
-        Ok(_) => unreachable!(),
+        // Nothing else is said of it but that it is done.
+        Ok(_) => Ok(ClusterEvent::WasDropped(letter)),
         Err(fault) => Err(stop_by(fault)),
     }
 }

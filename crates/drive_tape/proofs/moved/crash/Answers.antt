@@ -12,10 +12,10 @@ use Rattle.drive_tape.proofs.Stepping.{happens}
 use Rattle.drive_tape.proofs.Sure.{crash_fits, never_both}
 use Rattle.drive_tape.proofs.moved.crash.Goals as goal
 
-pub returns-in-Ok-Done-clause-moved : goal.returns-in-Ok-Done-clause-moved
-returns-in-Ok-Done-clause-moved g c start outcomes awaited been fit =
+pub returns-in-Ok-clause-moved : goal.returns-in-Ok-clause-moved
+returns-in-Ok-clause-moved g c start outcomes awaited been fit =
     let on = view_of g.D.Disk.seen g.D.Disk.faults g.D.Disk.clock in
-    let result : c.step.result ≡ Ok Done = (let a = c.in-Ok-Done.is in let b = c.in-Ok-Done.field-0-is in cc) in
+    let result : c.step.result ≡ Ok Done = ? in
     let is = subst (λ r. IsStep on r (Crash c.args.node) c.args.world.now c.step.new.self) result c.step.ensures.is in
     happens on start c.args.world.now outcomes awaited been (order.Crash c.args.node) fit c.step.new.self (Crash c.args.node) (Ok Done) (WentDown c.args.node) is (Ok Done, refl, is) (_, refl, refl) refl refl (λ n was. refl) (λ n among. absurd among)
 

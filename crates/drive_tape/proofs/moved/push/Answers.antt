@@ -15,3 +15,15 @@ loop-done-init g c = record {
   pushed = pushed_none (view_of g.D.Disk.seen g.D.Disk.faults g.D.Disk.clock) c.args.world.now c.args.from;
   up = sym c.is_up.ensures ∙ c.if-not-is_up.false;
 }
+
+pub returns-in_err-letters-clause-moved : goal.returns-in_err-letters-clause-moved
+returns-in_err-letters-clause-moved g c start outcomes awaited been fit = ?
+
+pub returns-in-None-clause-moved : goal.returns-in-None-clause-moved
+returns-in-None-clause-moved g c start outcomes awaited been fit = ?
+
+pub loop-done-preserved : goal.loop-done-preserved
+loop-done-preserved g c = ?
+
+pub returns-clause-moved : goal.returns-clause-moved
+returns-clause-moved g c start outcomes awaited been fit = ?
