@@ -22,10 +22,11 @@ use Rattle.cluster_world.specs.declared.fault.StepFault.{StepFault}
 use Rattle.cluster_world.specs.declared.fault.StepFault.TheVariants as fault
 use Rattle.drive_tape.specs.declared.drove.Stop.{Stop}
 use Rattle.drive_tape.specs.declared.open_call.OpenCall.{OpenCall}
-use Rattle.drive_tape.specs.Denials.{stop_by}
+use Rattle.drive_tape.specs.Denials.{stop_by, IsDoneOr}
 use Rattle.drive_tape.specs.Kinds.{fits_kind, IsKindOf}
 use Rattle.drive_tape.specs.Worlds.{IsWholeCall, HandsOn, HasFailed, WorldIsAt, HasGone, BeganSo, AskedSo, GaveUpSo, LeftSo}
 use Rattle.drive_tape.proofs.Beginnings.{begins_so}
+use Rattle.drive_tape.proofs.Done.{given_up}
 use Rattle.drive_tape.proofs.Chains.{carried, stands_at, went_more, has_failed}
 
 module _ {D : Type 0} (on : View D) (start old new : World D) (outcomes : List Outcome) (awaited : List Awaited) (k : ℕ) (at : WorldIsAt on start outcomes awaited old) where
@@ -125,6 +126,15 @@ module _ {D : Type 0} (on : View D) (start old new : World D) (outcomes : List O
   call_kept_up T asked ticket why stop same among is =
       let left = left_after (fallen_in (step.GiveUp ticket) (Err why)) awaited in
       (why, same, (left, went_more on start outcomes awaited old at (KeptUp k ticket why) left new (asked, among, is, refl) tt))
+
+  -- whichever of both
+  pub gave_up_so : {T : Type 0} (asked : calls.Call) (ticket : Number) (result : Result Said StepFault) (handed : Result T Stop) → IsDoneOr result handed → Among (record { ticket = ticket; session = k; call = asked }) awaited
+      → IsStep on result (step.GiveUp ticket) old new → GaveUpSo on start outcomes awaited k asked ticket handed old new
+  gave_up_so asked ticket (Ok what) (Ok t) done among is =
+      call_given_up asked ticket t among (subst (λ (w : Said). IsStep on (Ok w) (step.GiveUp ticket) old new) (given_up ticket what is.did.kind) is)
+  gave_up_so asked ticket (Ok what) (Err stop) done among is = absurd done
+  gave_up_so asked ticket (Err why) (Ok t) done among is = absurd done
+  gave_up_so {T} asked ticket (Err why) (Err stop) done among is = call_kept_up T asked ticket why stop done among is
 
   -- a leave
   pub user_left : (T E : Type 0) (node : ℕ) (call : Call) (user : List ℕ) (t : T) → IsLeave user call → IsStep on (Ok said.Noted) (step.Begin node call) old new

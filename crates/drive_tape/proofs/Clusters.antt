@@ -12,7 +12,7 @@ use Rattle.session_model.specs.Sessions.{Session, session_at, exchanges_of}
 use Rattle.session_model.specs.Acts.{Act}
 use Rattle.session_model.specs.Acts.Act.{Leaves}
 use Rattle.session_model.specs.Lives.{failed_in}
-use Rattle.session_model.specs.Turns.{Turn, IsReadyToAsk, IsAtRest, Next, to_leave}
+use Rattle.session_model.specs.Turns.{Turn, IsReadyToAsk, IsAtRest, IsAtNode, Next, to_leave}
 use Rattle.session_model.specs.Turns.Turn.{Hearing, Asking}
 use Rattle.session_model.specs.Run.{Stop}
 use Rattle.session_model.specs.Run.Stop.{SinkFailed, OutOfMemory}

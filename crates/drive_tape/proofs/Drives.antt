@@ -318,6 +318,7 @@ module _ {D : Type 0} (on : View D) (start : World D) (left0 left1 left2 held0 h
     nodes_are = at_nodes_more p.point.sessions sessions (left_stays (plan_of start) p.point.been stop p.point.sessions sessions midst h.behind h.tail h.extra h.off) p.point.outcomes new p.at_nodes h.at_nodes
 
     pub drives_of : Drives on start left0 left2 held0 held2 answer from world
+    unfolding is_driven driven
     drives_of = record {
       read = flat_map ended p.handled ++ taken;
       handled = p.handled;

@@ -196,12 +196,12 @@ module _ {D : Type 0} (on : View D) (start : World D) (plan : Plan) (p : Point) 
   pub close_in_vain : tape_order line ≡ Some (Close (place + 1)) → LineStopped on start plan p line stop held world
   close_in_vain spelled =
       in_vain on start plan p line held world same (Close (place + 1)) spelled (is_spoken_to p.sessions (place + 1) k.plain at_k stands_on) (KeptUp (place + 1) k.ticket k.why)
-      (subst Waits (sym at_k) k.waits, refl) refl refl refl tt k.since k.causes k.why stop k.stops (λ f is. is)
+      (subst Waits (sym at_k) k.waits, refl) tt tt k.since k.causes k.why stop k.stops (λ f is. is)
 
   pub giving_in_vain : tape_order line ≡ Some (GiveUp (place + 1)) → LineStopped on start plan p line stop held world
   giving_in_vain spelled =
       in_vain on start plan p line held world same (GiveUp (place + 1)) spelled (ap giving_fault at_k ∙ ap waiting_fault k.waits.2) (KeptUp (place + 1) k.ticket k.why)
-      refl refl refl refl tt k.since k.causes k.why stop k.stops (λ f is. is)
+      refl tt tt k.since k.causes k.why stop k.stops (λ f is. is)
 
 -- a session that does not wait has no call to give up
 not_giving : (standing : Standing) → IsOn standing → ((state : TalkState) (call : calls.Call) → standing ≢ Waiting state call) → waiting_fault standing ≡ Some site.BadLine

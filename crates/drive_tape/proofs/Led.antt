@@ -173,9 +173,11 @@ ends_linked last rest stop lacking extra ends = absurd ends
 pub to_linked : (stop : Stop) (before : List Outcome) (acts : List Act) (outcomes : List Outcome) (lacking : List Asked) (extra : List Made) → AreLedTo stop before acts outcomes lacking extra
     → AreLinked acts outcomes lacking extra × MayLackOne stop lacking
 to_linked stop before acts outcomes lacking extra to =
-    let ends = ends_linked to.last to.rest stop lacking extra to.ends in
-    (subst (λ (as : List Act). AreLinked as outcomes lacking extra) (sym to.acts_are) (subst (λ (os : List Outcome). AreLinked (to.done ++ to.last) os lacking extra) (sym to.outcomes_are)
-    (linked_more to.done to.last to.own to.rest lacking extra (led_linked before to.done to.own to.led) ends.0)), ends.1)
+    let ends = ends_linked to.last to.rest stop lacking extra to.ends in (
+      subst (λ (l : List Act). AreLinked l outcomes lacking extra) (sym to.acts_are) (subst (λ (os : List Outcome). AreLinked (to.done ++ to.last) os lacking extra) (sym to.outcomes_are)
+          (linked_more to.done to.last to.own to.rest lacking extra (led_linked before to.done to.own to.led) ends.0)),
+      ends.1,
+    )
 
 -- a session that still waits has a ticket that is pending
 

@@ -18,6 +18,7 @@ pub mod OwnNodes
 pub mod Clusters
 pub mod Acting
 pub mod Falling
+pub mod Done
 pub mod Hearing
 pub mod Moves
 pub mod Begins

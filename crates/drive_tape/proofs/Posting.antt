@@ -1,6 +1,6 @@
 -- What posting, flowing and pushing make of a world.
 use Rattle.std.proofs.Common.{◌≡◌, ◌⊎◌, ⊎_elim, ◌+◌, ◌-◌, ◌<◌, ◌≤◌, ℕ, suc, nat_eq, Bool, true, false, List, [], ◌∷◌, ◌++◌, Option, Some, None, Result, Ok, Err, refl, sym, ap, ◌∙◌, subst, if◌then◌else◌, arith, append_assoc}
-use Rattle.std.specs.Prelude.{min, MatchBool}
+use Rattle.std.specs.Prelude.{min, MatchBool, IfOk}
 use Rattle.std.proofs.lemmas.Bool.Decides.{nat_tests}
 use Rattle.std.proofs.lemmas.List.{append-nil}
 use Rattle.std.proofs.lemmas.Bool.{cases_lt}
@@ -20,7 +20,7 @@ use Rattle.session_model.specs.Run.{IsAlwaysDone, is_no_node, fault_if}
 use Rattle.cluster_world.specs.Lives.{is_up_life}
 use Rattle.drive_tape.specs.Happenings.{event_seen, why_seen, fallen_by}
 use Rattle.cluster_world.specs.Worlds.{state_of, plan_of, life_of, life_in}
-use Rattle.cluster_world.specs.Steps.{IsStep, FallsSo, WasToWork}
+use Rattle.cluster_world.specs.Steps.{IsStep, SaysSo, FallsSo, WasToWork}
 use Rattle.cluster_world.specs.Turns.{life_after_step}
 use Rattle.cluster_world.specs.Flows.{IsDelivered, AllDelivered, FlowsSo, HasFlowed}
 use Rattle.cluster_world.specs.Outcomes.{Outcome, Awaited, StepMade, MakesSteps, MakesOrder, PostsAll, PushesTo, PushesAll, IsPost, has_failed, nodes_but, fallen_in}
@@ -40,7 +40,7 @@ use Rattle.drive_tape.specs.declared.orders.Admitted.TheVariants.{Post}
 use Rattle.drive_tape.specs.Orders.{admitted_seen}
 use Rattle.drive_tape.specs.Denials.{stop_by}
 use Rattle.drive_tape.specs.Led.{Tells, EndsIn, WentWell, sent_of, sent_in}
-use Rattle.drive_tape.specs.Moved.{OrderIsFit, Happened, MovedSo, PushedSo, PostsTo}
+use Rattle.drive_tape.specs.Moved.{OrderIsFit, Happened, MovedSo, PushedSo, PostsTo, IsSaidOfPost}
 use Rattle.drive_tape.proofs.Stepping.{IsCalm, AreCalm, steps_last, steps_more, plan_kept, calm_lives, may_fault, happens_calm, happens_after, happens, denied_after, denied, one_among}
 
 -- that the disk of a node failed is told of any line
@@ -191,7 +191,7 @@ module _ {D : Type 0} (on : View D) (old : World D) where
     well = has.well;
     count = has.count;
     goes_on = λ left is rest pushes. has.goes_on (suc left) (omega (arith, is)) rest
-        (subst (λ (b : Bool). PushesTo from (if b then nodes_but from left (done + 1 + 1) else done + 1 ∷ nodes_but from left (done + 1 + 1)) rest) (sym (same_is (done + 1) from own)) pushes);
+        (subst (λ (b : Bool). PushesTo from (if b then nodes_but from left (done + 1 + 1) else (done + 1) ∷ nodes_but from left (done + 1 + 1)) rest) (sym (same_is (done + 1) from own)) pushes);
   }
 
   -- it pushed to the next
@@ -208,7 +208,7 @@ module _ {D : Type 0} (on : View D) (old : World D) where
             ∙ ap (λ (n : ℕ). min n 18446744073709551615) (sym (sent_and_one has.steps one));
         goes_on = λ left is rest pushes. subst (λ (l : List StepMade). PushesTo from (nodes_but from nodes 1) l) (sym (append_assoc has.steps (one ∷ []) rest))
             (has.goes_on (suc left) (omega (arith, is)) (one ∷ rest)
-            (subst (λ (b : Bool). PushesTo from (if b then nodes_but from left (done + 1 + 1) else done + 1 ∷ nodes_but from left (done + 1 + 1)) (one ∷ rest)) (sym (other_is (done + 1) from other)) (refl, pushes)));
+            (subst (λ (b : Bool). PushesTo from (if b then nodes_but from left (done + 1 + 1) else (done + 1) ∷ nodes_but from left (done + 1 + 1)) (one ∷ rest)) (sym (other_is (done + 1) from other)) (refl, pushes)));
       }
 
   -- it pushed to the next in vain
@@ -217,8 +217,8 @@ module _ {D : Type 0} (on : View D) (old : World D) where
   pushed_last from done sent now has one within other is failed =
       let left = nodes - (done + 1) in
       has.goes_on (suc left) (omega (arith, within)) (one ∷ [])
-      (subst (λ (b : Bool). PushesTo from (if b then nodes_but from left (done + 1 + 1) else done + 1 ∷ nodes_but from left (done + 1 + 1)) (one ∷ [])) (sym (other_is (done + 1) from other))
-      (is, subst (λ (b : Bool). MatchBool b ([] ≡ []) (PushesTo from (nodes_but from left (done + 1 + 1)) [])) (sym failed) refl))
+      (subst (λ (b : Bool). PushesTo from (if b then nodes_but from left (done + 1 + 1) else (done + 1) ∷ nodes_but from left (done + 1 + 1)) (one ∷ [])) (sym (other_is (done + 1) from other))
+      (is, subst (λ (b : Bool). MatchBool b (◌≡◌ {A = List StepMade} [] []) (PushesTo from (nodes_but from left (done + 1 + 1)) [])) (sym failed) refl))
 
   -- it pushed to each
   pub pushed_all : (from done sent : ℕ) (now : World D) (has : HasPushed from done sent now) → done ≡ nodes → PushesTo from (nodes_but from nodes 1) has.steps
@@ -384,3 +384,11 @@ module _ {D : Type 0} (on : View D) (start old : World D) (outcomes : List Outco
       by : (k : Bool) → admitted_seen (Post letter k) ≡ post_order k letter
       by true = refl
       by false = refl
+
+-- what may be said of it
+pub said_of_post : (letter : ℕ) (keep : Bool) (result : Result Said StepFault) → IfOk result (SaysSo (step.Post letter keep)) → IsSaidOfPost result
+said_of_post letter keep (Ok said.Heard) so = tt
+said_of_post letter keep (Ok (said.Thrown why)) so = tt
+said_of_post letter keep (Ok (said.Faulted node)) so = tt
+said_of_post letter keep (Err why) so = tt
+said_of_post letter keep (Ok what) so = absurd so

@@ -60,6 +60,14 @@ PushedSo on from to (Ok (Some letters)) old new = IsStep on (Ok (said.Sent lette
 PushedSo on from to (Ok None) old new = IsStep on (Ok (said.Faulted from)) (step.Push from to) old new
 PushedSo on from to (Err stop) old new = (why : StepFault) × (stop ≡ stop_by why) × IsStep on (Err why) (step.Push from to) old new
 
+-- a letter that was posted was heard or thrown, or took its receiver down, or the step was refused
+abbrev pub IsSaidOfPost : Result Said StepFault → Type 0
+IsSaidOfPost (Ok said.Heard) = ⊤
+IsSaidOfPost (Ok (said.Thrown why)) = ⊤
+IsSaidOfPost (Ok (said.Faulted node)) = ⊤
+IsSaidOfPost (Ok what) = ⊥
+IsSaidOfPost (Err why) = ⊤
+
 -- what is said of a letter that was posted
 abbrev pub PostsTo : ℕ → Result Said StepFault → Result ClusterEvent Stop → Type 0
 PostsTo letter (Ok said.Heard) (Ok happened) = happened ≡ event.WasHeard letter

@@ -8,10 +8,10 @@ ghost use Rattle.cluster_world.specs.Outcomes.{Outcome, Awaited};
 ghost use Rattle.cluster_world.specs.declared.world.World.{World as AWorld};
 ghost use Rattle.drive_tape.specs.Orders.{admitted_seen};
 ghost use Rattle.drive_tape.specs.Worlds.{WorldIsReady};
-ghost use Rattle.drive_tape.specs.Moved.{MovedSo, OrderIsFit, PushedSo, PostsTo};
+ghost use Rattle.drive_tape.specs.Moved.{MovedSo, OrderIsFit, PushedSo, PostsTo, IsSaidOfPost};
 
 use crate::Stop;
-use crate::denial::stop_by;
+use crate::denial::{done, stop_by};
 use crate::event::ClusterEvent;
 use crate::orders::Admitted;
 use cluster_world::{Said, Step, StepFault, World};
@@ -28,11 +28,9 @@ fn crash<D: Disk>(world: &mut World<D>, alloc: Global, node: NodeNo) -> Result<C
         → OrderIsFit (view_of D.seen D.faults D.clock) start outcomes awaited been (order.Crash node) world.old → MovedSo (view_of D.seen D.faults D.clock) start outcomes awaited been world.old (order.Crash node) result world.new }
     ensures why { IsErrOf result Stop.WriteFault → ⊥ }
 {
-    match world.step(alloc, Step::Crash { node }) {
-        // Nothing else is said of it but that it is done.
-        Ok(_) => Ok(ClusterEvent::WentDown(node)),
-        Err(fault) => Err(stop_by(fault)),
-    }
+    let said = world.step(alloc, Step::Crash { node });
+    done(&said)?;
+    Ok(ClusterEvent::WentDown(node))
 }
 
 // A node starts.
@@ -62,15 +60,14 @@ fn lose<D: Disk>(world: &mut World<D>, alloc: Global, node: NodeNo) -> Result<Cl
         → OrderIsFit (view_of D.seen D.faults D.clock) start outcomes awaited been (order.Lose node) world.old → MovedSo (view_of D.seen D.faults D.clock) start outcomes awaited been world.old (order.Lose node) result world.new }
     ensures why { IsErrOf result Stop.WriteFault → ⊥ }
 {
-    match world.step(alloc, Step::Lose { node }) {
-        // Nothing else is said of it but that it is done.
-        Ok(_) => Ok(ClusterEvent::WasLost(node)),
-        Err(fault) => Err(stop_by(fault)),
-    }
+    let said = world.step(alloc, Step::Lose { node });
+    done(&said)?;
+    Ok(ClusterEvent::WasLost(node))
 }
 
 // What came of posting the letter.
 fn posted(said: &Result<Said, StepFault>, letter: u64) -> Result<ClusterEvent, Stop>
+    requires fits { IsSaidOfPost said.now }
     ensures posts { PostsTo letter said.now result }
     ensures why { IsErrOf result Stop.WriteFault → ⊥ }
 {
@@ -115,11 +112,9 @@ fn drop_letter<D: Disk>(
         → OrderIsFit (view_of D.seen D.faults D.clock) start outcomes awaited been (order.Drop letter) world.old → MovedSo (view_of D.seen D.faults D.clock) start outcomes awaited been world.old (order.Drop letter) result world.new }
     ensures why { IsErrOf result Stop.WriteFault → ⊥ }
 {
-    match world.step(alloc, Step::Drop { letter }) {
-        // Nothing else is said of it but that it is done.
-        Ok(_) => Ok(ClusterEvent::WasDropped(letter)),
-        Err(fault) => Err(stop_by(fault)),
-    }
+    let said = world.step(alloc, Step::Drop { letter });
+    done(&said)?;
+    Ok(ClusterEvent::WasDropped(letter))
 }
 
 // A copy gets a target more.
