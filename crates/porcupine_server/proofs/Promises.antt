@@ -1,9 +1,9 @@
 -- All promises are kept, over the octets that the program read and wrote and the stores that it gave back.
-use Rattle.std.proofs.Common.{◌≡◌, ◌≢◌, ◌⊎◌, inl, inr, ⊎_elim, ◌+◌, ◌<◌, ℕ, true, List, [], ◌∷◌, ◌++◌, length, drop, map, flat_map, All, Option, Some, Result, Ok, Err, refl, sym, ap, ◌∙◌, subst, arith, append_assoc, length-append, codes}
+use Rattle.std.proofs.Common.{◌≡◌, ◌≢◌, ◌⊎◌, inl, inr, ⊎_elim, ◌<◌, ℕ, true, List, [], ◌∷◌, ◌++◌, length, drop, map, flat_map, All, Option, Some, Result, Ok, Err, refl, sym, ap, ◌∙◌, subst, arith, append_assoc, length-append, codes}
 use Rattle.std.specs.List.{slice_index}
 use Rattle.std.proofs.lemmas.Option.{none-some}
 use Rattle.std.specs.Fmt.{decimal}
-use Rattle.std.specs.Io.KnownBytes.{Consumes, Appends}
+use Rattle.std.specs.Io.KnownBytes.{Appends}
 use Rattle.std.proofs.lemmas.List.{append-nil, map-append}
 use Rattle.std.proofs.lemmas.List.Concat.{flat_map-append}
 use Rattle.std.proofs.lemmas.List.Elements.{All-nil, All-cons, All-head, All-tail, All-append}
@@ -37,7 +37,7 @@ use Rattle.porcupine_server.specs.declared.ending.Ending.{Ending}
 use Rattle.porcupine_server.specs.declared.ending.Ending.TheVariants.{Done, Line, Read, Write, Store, NoMemory}
 use Rattle.porcupine_server.specs.Endings.{ending_of, status_of, last_entries, Finishes}
 use Rattle.porcupine_server.specs.Works.{SourceAndSink, Stores, Works, NoPlan, NoStores, ServedStores, NotOpened, Ran, IsBeforeRun}
-use Rattle.porcupine_server.specs.Promises.{HasKept, KeepsOver, IsLeft, IsRefused, IsDeniable, IsCut, all_tell}
+use Rattle.porcupine_server.specs.Promises.{HasKept, KeepsOver, IsStatusOf, IsLeft, IsRefused, IsDeniable, IsCut, all_tell}
 
 abbrev IsNoLf : ℕ → Type 0
 IsNoLf x = x ≢ 10
@@ -202,17 +202,29 @@ before_done Write before is = before
 before_done (Store node) before is = cc is
 before_done NoMemory before is = cc is
 
+-- the status says so
+head_says : (ending : Ending) (answer : Drove) (status : ℕ) → ending ≡ ending_of answer → (status ≡ status_of ending) ⊎ ((status ≡ 5) ⊎ (status ≡ 7)) → (status ≡ status_of (ending_of answer)) ⊎ IsCut status
+head_says ending answer status is says = ⊎_elim (λ e. inl (e ∙ ap status_of is)) (λ cut. inr cut) says
+
+before_says : (ending : Ending) (status : ℕ) → IsBeforeRun ending → (status ≡ status_of ending) ⊎ ((status ≡ 5) ⊎ (status ≡ 7)) → (status ≡ 6) ⊎ IsCut status
+before_says Done status before says = absurd before
+before_says (Line number why) status before says = absurd before
+before_says Read status before says = absurd before
+before_says Write status before says = absurd before
+before_says (Store node) status before says = says
+before_says NoMemory status before says = inr (⊎_elim (λ e. inr e) (λ cut. cut) says)
+
 -- no run line was handled
 kept_nothing : {D : Type 0} (seen : D → Option (List ℕ)) (stores : Stores D) (ends : SourceAndSink) (middle : Option (List ℕ)) (ending : Ending) (status : ℕ) (head : Result (Plan × ℕ) Drove)
-    → ReadsHead ends.left0 ends.left1 head → (ending ≡ Done → ⊥) → middle ≡ ends.held0 → Last middle ends.held1 ending status → HasKept seen stores ends status
-kept_nothing seen stores ends middle ending status head reads other none last = record {
+    → ReadsHead ends.left0 ends.left1 head → (ending ≡ Done → ⊥) → IsStatusOf head status → middle ≡ ends.held0 → Last middle ends.held1 ending status → HasKept seen stores ends status
+kept_nothing seen stores ends middle ending status head reads other why none last = record {
   read = flat_map ended reads.lines ++ reads.others;
   written = written_of last.front ++ last.cut;
   entries = last.front;
   took = reads.took;
   gave = subst (λ (held : Option (List ℕ)). Appends held ends.held1 (written_of last.front ++ last.cut)) none last.gave;
   transcript = record { cut = last.cut; whole = refl; lines = last.each; rest = last.rest };
-  promise = inl (record { not_done = not_done ending status other last.says; head = head; reads = reads; unsaid = ending_unsaid last.front last.ends });
+  promise = inl (record { not_done = not_done ending status other last.says; head = head; reads = reads; why = why; unsaid = ending_unsaid last.front last.ends });
 }
 
 -- a line that the cluster refused is one that it may
@@ -422,9 +434,9 @@ pub has_kept : {D : Type 0} (on : View D) (is_settled : D → Type 0) (stores : 
     → Works on is_settled stores (record ends { held1 = middle }) ending → Finishes middle ends.held1 ending status → HasKept on.seen stores ends status
 has_kept on is_settled stores ends middle ending status works finishes = ⊎_elim
     (λ (none : NoPlan stores (record ends { held1 = middle }) ending). kept_nothing on.seen stores ends middle ending status (Err none.answer) none.reads
-    (λ done. no_plan_done none.answer ends.left1 none.reads.others none.reads.room none.reads.draft none.reads.did.0 (sym none.is ∙ done)) none.none last)
+    (λ done. no_plan_done none.answer ends.left1 none.reads.others none.reads.room none.reads.draft none.reads.did.0 (sym none.is ∙ done)) (head_says ending none.answer status none.is last.says) none.none last)
     (λ (some : NoStores on stores (record ends { held1 = middle }) ending ⊎ ServedStores on is_settled stores (record ends { held1 = middle }) ending). ⊎_elim
-    (λ (none : NoStores on stores (record ends { held1 = middle }) ending). kept_nothing on.seen stores ends middle ending status (Ok (none.plan, none.count)) none.reads (before_done ending none.is) none.none last)
+    (λ (none : NoStores on stores (record ends { held1 = middle }) ending). kept_nothing on.seen stores ends middle ending status (Ok (none.plan, none.count)) none.reads (before_done ending none.is) (before_says ending status none.is last.says) none.none last)
     (λ (served : ServedStores on is_settled stores (record ends { held1 = middle }) ending). by_serving served) some)
     works
   where
@@ -435,7 +447,7 @@ has_kept on is_settled stores ends middle ending status works finishes = ⊎_eli
     by_serving served = ⊎_elim
         (λ (none : NotOpened on (record ends { left0 = served.between; held1 = middle }) ending served.disks served.given).
         kept_nothing on.seen stores ends middle ending status (Ok (served.plan, served.count))
-        (subst (λ (left : Option (List ℕ)). ReadsHead ends.left0 left (Ok (served.plan, served.count))) (sym none.nothing_read) served.reads) (before_done ending none.before) none.nothing_written last)
+        (subst (λ (left : Option (List ℕ)). ReadsHead ends.left0 left (Ok (served.plan, served.count))) (sym none.nothing_read) served.reads) (before_done ending none.before) (before_says ending status none.before last.says) none.nothing_written last)
         (λ (ran : Ran on is_settled (record ends { left0 = served.between; held1 = middle }) served.plan served.count ending served.disks served.given).
         kept_run on is_settled stores ends served.between middle served.plan served.count ending status served.disks served.given served.reads served.are.back ran last)
         served.serves

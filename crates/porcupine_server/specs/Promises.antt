@@ -1,5 +1,5 @@
 -- The promises to clients, over the octets that the program read and wrote and the stores that it gave back.
-use Rattle.std.specs.Prelude.{◌≡◌, ◌⊎◌, ◌<◌, ◌^◌, ℕ, Bool, true, List, [], ◌∷◌, ◌++◌, length, flat_map, map, All, ⊤, Option, Some, Result, is_some}
+use Rattle.std.specs.Prelude.{◌≡◌, ◌⊎◌, ◌<◌, ◌^◌, ℕ, Bool, true, List, [], ◌∷◌, ◌++◌, length, flat_map, map, All, ⊤, Option, Some, Result, Ok, Err, is_some}
 use Rattle.std.specs.List.{list_all}
 use Rattle.std.specs.Io.KnownBytes.{Consumes, Appends, IsAtEnd}
 use Rattle.yard_stores.specs.Taken.{numbered_stores, TellsAll}
@@ -20,6 +20,7 @@ use Rattle.drive_tape.specs.declared.drove.Drove.{Drove}
 use Rattle.drive_tape.specs.Drive.{IsOrder, IsLineAtMost}
 use Rattle.drive_tape.specs.Plans.{DraftsTo, ReadsHead}
 use Rattle.drive_tape.specs.Kept.{AreBlindLines}
+use Rattle.porcupine_server.specs.Endings.{ending_of, status_of}
 use Rattle.porcupine_server.specs.Works.{Stores, SourceAndSink}
 
 -- The octets are plan lines, `go`, these run lines, and these octets behind them.
@@ -99,11 +100,17 @@ pub record KeepsAll {D : Type 0} (seen : D → Option (List ℕ)) (given : List 
   pub behind : IsLeft status lines others left
   pub promises : (all_tell seen given ≡ true) ⊎ AreBlindLines plan.nodes lines → KeepsOver plan (all_tell seen given) status lines entries (map seen given)
 
+-- the status where no run line was read: that of the fault of the plan lines, or that the stores were not there
+abbrev pub IsStatusOf : Result (Plan × ℕ) Drove → ℕ → Type 0
+IsStatusOf (Ok head) status = (status ≡ 6) ⊎ IsCut status
+IsStatusOf (Err answer) status = (status ≡ status_of (ending_of answer)) ⊎ IsCut status
+
 -- No run line was read: the plan lines had a fault, or the stores were not there. The status is not 0, and no session said anything.
 pub record HasNoRun (left0 left1 : Option (List ℕ)) (entries : List Entry) (status : ℕ) : Type 0 where
   pub not_done : status ≡ 0 → ⊥
   pub head : Result (Plan × ℕ) Drove
   pub reads : ReadsHead left0 left1 head
+  pub why : IsStatusOf head status
   pub unsaid : (k : ℕ) → lines_to k entries ≡ []
 
 -- No run line was read; or the stores were given back, and all that is promised to clients is kept.
