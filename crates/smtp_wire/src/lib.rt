@@ -40,6 +40,7 @@
 mod command;
 mod laws;
 mod octets;
+mod parameter;
 mod path;
 
 pub use command::{Command, SmtpFault, read_command};
