@@ -82,6 +82,7 @@ mod reply;
 mod session;
 mod stage;
 mod text;
+mod top;
 
 pub use laws::{asks_behind_user, listed_once, marked_is_none, numbered_alike, numbers_stay};
 pub use session::PopSession;

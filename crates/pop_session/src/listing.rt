@@ -2,6 +2,7 @@
 ghost use Rattle.std.specs.Prelude.{◌≡◌, ◌<◌, [], ℕ, Some, IfSome, IfOk, slice_get, length, map, sum_by, filter, not};
 ghost use Rattle.std.specs.Option.{option_copied, option_map};
 ghost use Rattle.mail_model.specs.Maildrop.{message_at, with_mark};
+ghost use Rattle.mail_model.specs.PopReplies.{without_marks};
 ghost use Rattle.mail_base.specs.Items.{item_seen};
 ghost use Rattle.pop_session.specs.Slots.{slots_seen, items_of_slots, marked_items, listed_slot, marked_at, message_in};
 
@@ -103,6 +104,16 @@ impl Listing {
     {
         if let Some(at) = (number as usize).checked_sub(1) {
             mark_at(&mut self.held, at);
+        }
+    }
+
+    /// No message is marked any more (RFC 1939, section 5).
+    pub(crate) fn unmark(&mut self)
+        ensures marks { slots_seen self.new ≡ without_marks (slots_seen self.old) }
+        ensures items { items_of_slots self.new ≡ items_of_slots self.old }
+    {
+        for slot in &mut self.held {
+            slot.marked = false;
         }
     }
 
