@@ -1,6 +1,7 @@
 // Payloads worked by hand: what is read of each, and that it is written again.
 use mail_base::{Key, ObjState, Value};
 use record_form::{DiskEntry, read_record, record_into};
+use std::alloc::{AllocError, Global};
 use std::test::Fail;
 
 /// The deletion of message 1.1.1 of `alice`, with the stamp (2, 1, 1), in a plan of two nodes.
@@ -52,18 +53,31 @@ const PROFILE_FAULTS: [(usize, u8); 9] = [
 ];
 
 // What is read of the payload, spelt again; nothing where nothing is read.
-fn read_and_written(rt: &HostRuntime, payload: &[u8]) -> Result<Option<Vec<u8>>, Fail> {
-    let Some(entry) = read_record(rt.alloc(), payload)? else {
+fn read_and_written(alloc: Global, payload: &[u8]) -> Result<Option<Vec<u8>>, AllocError> {
+    let Some(entry) = read_record(alloc, payload)? else {
         return Ok(None);
     };
-    let mut out = Vec::new(rt.alloc());
-    record_into(rt.alloc(), &mut out, &entry)?;
+    let mut out = Vec::new(alloc);
+    record_into(alloc, &mut out, &entry)?;
     Ok(Some(out))
 }
 
+// Whether the payload is read, and written again as it was.
+fn is_kept(alloc: Global, payload: &[u8]) -> Result<bool, AllocError> {
+    match read_and_written(alloc, payload)? {
+        Some(out) => Ok(out.as_slice() == payload),
+        None => Ok(false),
+    }
+}
+
+// Whether nothing is read of the payload.
+fn is_refused(alloc: Global, payload: &[u8]) -> Result<bool, AllocError> {
+    Ok(read_record(alloc, payload)?.is_none())
+}
+
 // The payload with another octet at this place.
-fn changed(rt: &HostRuntime, payload: &[u8], at: usize, octet: u8) -> Result<Vec<u8>, Fail> {
-    let mut other = payload.to_vec(rt.alloc())?;
+fn changed(alloc: Global, payload: &[u8], at: usize, octet: u8) -> Result<Vec<u8>, AllocError> {
+    let mut other = payload.to_vec(alloc)?;
     if at < other.len() {
         other[at] = octet;
     }
@@ -71,8 +85,8 @@ fn changed(rt: &HostRuntime, payload: &[u8], at: usize, octet: u8) -> Result<Vec
 }
 
 // A profile with this name and this secret, of at most 255 octets each.
-fn profile(rt: &HostRuntime, name: &[u8], secret: &[u8]) -> Result<Vec<u8>, Fail> {
-    let mut payload = b"\x04\x01".to_vec(rt.alloc())?;
+fn profile(alloc: Global, name: &[u8], secret: &[u8]) -> Result<Vec<u8>, AllocError> {
+    let mut payload = b"\x04\x01".to_vec(alloc)?;
     payload.push(name.len().min(255) as u8)?;
     payload.extend_from_slice(name)?;
     let base = PROFILE.as_slice();
@@ -94,11 +108,8 @@ fn reads_and_writes(rt: HostRuntime) -> Result<(), Fail> {
         DELETION,
         PROFILE,
     ];
-    for payload in good {
-        let Some(out) = read_and_written(&rt, payload)? else {
-            panic!(rt; "not read");
-        };
-        assert!(rt; out.as_slice() == payload);
+    for (at, payload) in good.iter().enumerate() {
+        assert!(rt; is_kept(rt.alloc(), payload)?, "at {at}");
     }
     for (at, octet) in [
         (0, 5),
@@ -109,11 +120,8 @@ fn reads_and_writes(rt: HostRuntime) -> Result<(), Fail> {
         (34, 16),
         (35, 128),
     ] {
-        let payload = changed(&rt, DELETION, at, octet)?;
-        let Some(out) = read_and_written(&rt, &payload)? else {
-            panic!(rt; "not read");
-        };
-        assert!(rt; out == payload);
+        let payload = changed(rt.alloc(), DELETION, at, octet)?;
+        assert!(rt; is_kept(rt.alloc(), &payload)?, "at {at}");
     }
     Ok(())
 }
@@ -136,21 +144,16 @@ fn refuses_other_payloads(rt: HostRuntime) -> Result<(), Fail> {
         b"\x03\x01\0\0\0\x01\0\0\0\0\0\0\0\0",
         b"\x06\0\0\0\x01",
     ];
-    for payload in bad {
-        assert!(rt; read_record(rt.alloc(), payload)?.is_none());
+    for (at, payload) in bad.iter().enumerate() {
+        assert!(rt; is_refused(rt.alloc(), payload)?, "at {at}");
     }
-    Ok(())
-}
-
-#[test]
-fn refuses_other_octets(rt: HostRuntime) -> Result<(), Fail> {
     for (at, octet) in DELETION_FAULTS {
-        let payload = changed(&rt, DELETION, at, octet)?;
-        assert!(rt; read_record(rt.alloc(), &payload)?.is_none(), "at {at}");
+        let payload = changed(rt.alloc(), DELETION, at, octet)?;
+        assert!(rt; is_refused(rt.alloc(), &payload)?, "at {at}");
     }
     for (at, octet) in PROFILE_FAULTS {
-        let payload = changed(&rt, PROFILE, at, octet)?;
-        assert!(rt; read_record(rt.alloc(), &payload)?.is_none(), "at {at}");
+        let payload = changed(rt.alloc(), PROFILE, at, octet)?;
+        assert!(rt; is_refused(rt.alloc(), &payload)?, "at {at}");
     }
     Ok(())
 }
@@ -165,99 +168,9 @@ fn bounds_names_and_secrets(rt: HostRuntime) -> Result<(), Fail> {
         (0, 64, false),
         (64, 0, false),
     ] {
-        let payload = profile(&rt, &[b'a'; 65][..name], &[b' '; 65][..secret])?;
-        let out = read_and_written(&rt, &payload)?;
-        assert!(rt; out.is_some() == read, "name of {name}");
-        assert!(rt; out.is_none_or(|out| out == payload));
-    }
-    Ok(())
-}
-
-// A message's octets end with the payload: the journal bounds it, and not the grammar.
-#[test]
-fn counts_the_octets_of_a_message(rt: HostRuntime) -> Result<(), Fail> {
-    for (len, count) in [
-        (14, 0),
-        (15, 1),
-        (16_842_752, 16_842_738),
-        (16_842_753, 16_842_739),
-    ] {
-        let mut payload = b"\x03\x02\0\0\0\x07\0\0\0\0\0\0\x01\0".to_vec(rt.alloc())?;
-        payload.resize(len, b'x')?;
-        let Some(entry) = read_record(rt.alloc(), &payload)? else {
-            panic!(rt; "not read");
-        };
-        match &entry {
-            DiskEntry::Octets { id, length } => {
-                assert!(rt; (id.node().number(), id.boot(), id.seq()) == (2, 7, 256));
-                assert!(rt; *length == count);
-            }
-            _ => panic!(rt; "no octets"),
-        }
-    }
-    Ok(())
-}
-
-// The parts of the stamp, and the mask of the targets.
-fn numbers_of(state: &ObjState) -> (u64, u32, u8, u16) {
-    let stamp = state.stamp;
-    (stamp.count, stamp.boot, stamp.node, state.targets.mask())
-}
-
-#[test]
-fn reads_a_boot_and_a_promise(rt: HostRuntime) -> Result<(), Fail> {
-    let payloads: [&[u8]; 2] = [b"\x01\x01\x02\x03\x04", b"\x02\0\0\0\0\0\0\x01\x02\x03"];
-    for payload in payloads {
-        let Some(entry) = read_record(rt.alloc(), payload)? else {
-            panic!(rt; "not read");
-        };
-        match &entry {
-            DiskEntry::Boot { boot } => assert!(rt; *boot == 16_909_060),
-            DiskEntry::Promise { epoch } => assert!(rt; (epoch.count, epoch.node) == (258, 3)),
-            _ => panic!(rt; "another kind"),
-        }
-    }
-    Ok(())
-}
-
-#[test]
-fn reads_a_deletion(rt: HostRuntime) -> Result<(), Fail> {
-    let Some(entry) = read_record(rt.alloc(), DELETION)? else {
-        panic!(rt; "not read");
-    };
-    match &entry {
-        DiskEntry::State { key, state } => {
-            assert!(rt; numbers_of(state) == (2, 1, 1, 3));
-            match (key, &state.value) {
-                (Key::Message(user, id), Value::Gone) => {
-                    assert!(rt; user.octets() == b"alice".as_slice());
-                    assert!(rt; (id.node().number(), id.boot(), id.seq()) == (1, 1, 1));
-                }
-                _ => panic!(rt; "no deletion"),
-            }
-        }
-        _ => panic!(rt; "no state"),
-    }
-    Ok(())
-}
-
-#[test]
-fn reads_a_profile(rt: HostRuntime) -> Result<(), Fail> {
-    let Some(entry) = read_record(rt.alloc(), PROFILE)? else {
-        panic!(rt; "not read");
-    };
-    match &entry {
-        DiskEntry::State { key, state } => {
-            assert!(rt; numbers_of(state) == (0, 0, 0, 65_535));
-            match (key, &state.value) {
-                (Key::Profile(user), Value::Secret(secret)) => {
-                    assert!(rt; user.octets() == b"ann".as_slice());
-                    assert!(rt; secret.octets() == b"open".as_slice());
-                }
-                _ => panic!(rt; "no profile"),
-            }
-        }
-        _ => panic!(rt; "no state"),
+        let payload = profile(rt.alloc(), &[b'a'; 65][..name], &[b' '; 65][..secret])?;
+        assert!(rt; is_kept(rt.alloc(), &payload)? == read, "name of {name}");
+        assert!(rt; is_refused(rt.alloc(), &payload)? != read, "name of {name}");
     }
     Ok(())
 }
@@ -266,14 +179,103 @@ fn reads_a_profile(rt: HostRuntime) -> Result<(), Fail> {
 fn wants_all_octets_and_no_more(rt: HostRuntime) -> Result<(), Fail> {
     for payload in [DELETION.as_slice(), PROFILE.as_slice()] {
         for len in 0..payload.len() {
-            assert!(rt;
-                read_record(rt.alloc(), &payload[..len])?.is_none(),
-                "of {len}"
-            );
+            assert!(rt; is_refused(rt.alloc(), &payload[..len])?, "of {len}");
         }
         let mut longer = payload.to_vec(rt.alloc())?;
         longer.push(0)?;
-        assert!(rt; read_record(rt.alloc(), &longer)?.is_none());
+        assert!(rt; is_refused(rt.alloc(), &longer)?);
+    }
+    Ok(())
+}
+
+// The parts of a stamp, and the mask of the targets.
+fn add_numbers(out: &mut String, alloc: Global, state: &ObjState) -> Result<(), AllocError> {
+    let (stamp, mask) = (state.stamp, state.targets.mask());
+    out.push_str(&format!(in alloc; " {}.{}.{} {mask}", stamp.count, stamp.boot, stamp.node)?)
+}
+
+fn add_text(out: &mut String, octets: &[u8]) -> Result<(), AllocError> {
+    for x in octets {
+        out.push(char::from(*x))?;
+    }
+    Ok(())
+}
+
+// Whose object it is and which, what stands of it, and the numbers of the state.
+fn object_text(alloc: Global, key: &Key, state: &ObjState) -> Result<String, AllocError> {
+    let mut out = String::new(alloc);
+    match key {
+        Key::Message(user, id) => {
+            add_text(&mut out, user.octets())?;
+            out.push_str(" ")?;
+            out.push_str(&id.id_text(alloc)?)?;
+        }
+        Key::Profile(user) => add_text(&mut out, user.octets())?,
+    }
+    out.push_str(" ")?;
+    match &state.value {
+        Value::Here => out.push_str("here")?,
+        Value::Gone => out.push_str("gone")?,
+        Value::Secret(secret) => add_text(&mut out, secret.octets())?,
+    }
+    add_numbers(&mut out, alloc, state)?;
+    Ok(out)
+}
+
+fn entry_text(alloc: Global, entry: &DiskEntry) -> Result<String, AllocError> {
+    match entry {
+        DiskEntry::Boot { boot } => format!(in alloc; "boot {boot}"),
+        DiskEntry::Promise { epoch } => {
+            format!(in alloc; "promise {}.{}", epoch.count, epoch.node)
+        }
+        DiskEntry::Octets { id, length } => {
+            format!(in alloc; "octets {} {length}", id.id_text(alloc)?)
+        }
+        DiskEntry::State { key, state } => object_text(alloc, key, state),
+        DiskEntry::Retired { key, state } => {
+            format!(in alloc; "retired {}", object_text(alloc, key, state)?)
+        }
+    }
+}
+
+// What the payload is read as; nothing where nothing is read.
+fn read_as(alloc: Global, payload: &[u8]) -> Result<String, AllocError> {
+    match &read_record(alloc, payload)? {
+        Some(entry) => entry_text(alloc, entry),
+        None => Ok(String::new(alloc)),
+    }
+}
+
+#[test]
+fn reads_what_is_spelt(rt: HostRuntime) -> Result<(), Fail> {
+    let cases: [(&[u8], &str); 4] = [
+        (b"\x01\x01\x02\x03\x04", "boot 16909060"),
+        (b"\x02\0\0\0\0\0\0\x01\x02\x03", "promise 258.3"),
+        (DELETION, "alice 1.1.1 gone 2.1.1 3"),
+        (PROFILE, "ann open 0.0.0 65535"),
+    ];
+    for (at, (payload, wanted)) in cases.iter().enumerate() {
+        let text = read_as(rt.alloc(), payload)?;
+        assert!(rt; text.as_str() == *wanted, "at {at}");
+    }
+    let retired = changed(rt.alloc(), DELETION, 0, 5)?;
+    assert!(rt; read_as(rt.alloc(), &retired)?.as_str() == "retired alice 1.1.1 gone 2.1.1 3");
+    Ok(())
+}
+
+// A message's octets end with the payload: the journal bounds it, and not the grammar.
+#[test]
+fn counts_the_octets_of_a_message(rt: HostRuntime) -> Result<(), Fail> {
+    for (len, wanted) in [
+        (14, "octets 2.7.256 0"),
+        (15, "octets 2.7.256 1"),
+        (16_842_752, "octets 2.7.256 16842738"),
+        (16_842_753, "octets 2.7.256 16842739"),
+    ] {
+        let mut payload = b"\x03\x02\0\0\0\x07\0\0\0\0\0\0\x01\0".to_vec(rt.alloc())?;
+        payload.resize(len, b'x')?;
+        let text = read_as(rt.alloc(), &payload)?;
+        assert!(rt; text.as_str() == wanted, "of {len}");
     }
     Ok(())
 }
