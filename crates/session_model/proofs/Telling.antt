@@ -20,7 +20,7 @@ use Rattle.session_model.proofs.Cuts.{goes_front}
 use Rattle.session_model.proofs.Replying.{Speaks, IsWhole, some_reply, next_replied}
 use Rattle.session_model.proofs.Readings.{SpeaksAt, next_behind, waits_last, one_reading}
 
--- a unit with the closing line of its reply
+-- a unit with the last line of its reply
 abbrev told_pair : Unit × List (List ℕ) → Unit × List ℕ
 told_pair seen = (seen.0, closing_line seen.1)
 

@@ -132,7 +132,7 @@ impl Told {
         ensures err { OnErr result ((self.new ≡ self.old) × (out.new.items ≡ out.old.items)) }
     {
         let reply = Reply::Reset.said(alloc, node, out)?;
-        self.envelope = None;
+        self.envelope.take();
         Ok(reply)
     }
 
