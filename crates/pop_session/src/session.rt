@@ -312,7 +312,10 @@ fn begun(heard: Heard) -> (Turn, Move)
             }),
         ),
         Heard::Fetches {
-            user, lines, item, ..
+            user,
+            lines,
+            item,
+            ..
         } => (
             Turn::Waits(Asked::Message(lines)),
             Move::Begin(fetch(user, item)),

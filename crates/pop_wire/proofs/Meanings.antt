@@ -288,8 +288,18 @@ alone_spaces command rest = rw (some_more (suc (length rest)), some_more (length
 
 said_spaces : (secret other verb rest : List ℕ) → pointwise nat_eq verb (codes "PASS") ≡ false → said secret verb (32 ∷ 32 ∷ rest) ≡ said other verb (32 ∷ rest)
 said_spaces secret other verb rest h =
-    rw (h, user_spaces (32 ∷ rest), maybe_spaces rest, number_spaces (32 ∷ rest), numbers_spaces (32 ∷ rest), alone_spaces Stat rest, alone_spaces Noop rest, alone_spaces Rset rest,
-    alone_spaces Quit rest, alone_spaces Capa rest)
+    rw (
+      h,
+      user_spaces (32 ∷ rest),
+      maybe_spaces rest,
+      number_spaces (32 ∷ rest),
+      numbers_spaces (32 ∷ rest),
+      alone_spaces Stat rest,
+      alone_spaces Noop rest,
+      alone_spaces Rset rest,
+      alone_spaces Quit rest,
+      alone_spaces Capa rest,
+    )
 
 said_trimmed : (secret other verb rest : List ℕ) → pointwise nat_eq verb (codes "PASS") ≡ false → said secret verb (trimmed (32 ∷ 32 ∷ rest)) ≡ said other verb (trimmed (32 ∷ rest))
 said_trimmed secret other verb rest h =

@@ -121,12 +121,7 @@ impl Told {
     }
 
     // RSET ends the transaction (RFC 5321, section 4.1.1.5). Unchanged on refusal.
-    fn reset(
-        &mut self,
-        alloc: Global,
-        node: NodeNo,
-        out: &mut Vec<u8>,
-    ) -> Result<Reply, AllocError>
+    fn reset(&mut self, alloc: Global, node: NodeNo, out: &mut Vec<u8>) -> Result<Reply, AllocError>
         ensures ok { IfOk result (λ reply. (plan : Plans) → DoesCommand plan (talk_of self.old) (Ok smtp.Command.Rset) reply (talk_of self.new)) }
         ensures said { IfOk result (λ reply. out.new.items ≡ out.old.items ++ octets_of reply node) }
         ensures err { OnErr result ((self.new ≡ self.old) × (out.new.items ≡ out.old.items)) }
@@ -156,11 +151,7 @@ impl Told {
             Err(SmtpFault::NotDone) => Reply::NotDone.said(alloc, node, out),
             Err(SmtpFault::BadParameter) => Reply::BadParameter.said(alloc, node, out),
             Ok(Command::Helo { name, extended }) => Ok(self.greet(
-                alloc,
-                node,
-                name,
-                *extended,
-                out,
+                alloc, node, name, *extended, out,
             )?),
             Ok(Command::Mail { sender, size }) => Ok(self.begin(alloc, node, sender, *size, out)?),
             Ok(Command::Rcpt { path }) => Ok(address(

@@ -14,7 +14,10 @@ use line_words::{is_word, split_verb, trimmed, unspaced};
 pub enum Command<'a> {
     /// The client's name for itself, 1 to 255 visible octets, and whether it said EHLO in place of
     /// HELO (RFC 5321, section 4.1.1.1).
-    Helo { name: &'a [u8], extended: bool },
+    Helo {
+        name: &'a [u8],
+        extended: bool,
+    },
     /// A message begins. The sender has no source route and at most 512 octets, and is empty for
     /// `<>` (section 4.1.1.2). The size in octets is what SIZE says, of any 20 digits (RFC 1870).
     Mail {
@@ -22,7 +25,9 @@ pub enum Command<'a> {
         size: Option<u128>,
     },
     /// One more recipient, with no source route, 1 to 512 octets (section 4.1.1.3).
-    Rcpt { path: &'a [u8] },
+    Rcpt {
+        path: &'a [u8],
+    },
     /// The text comes next (section 4.1.1.4).
     Data,
     /// The transaction is over (section 4.1.1.5).
@@ -93,7 +98,10 @@ fn read_mail(rest: &[u8]) -> Result<Command<'_>, SmtpFault>
     ensures limits { IfOk result IsWithinLimits }
 {
     match behind_keyword(b"FROM:", rest) {
-        Some(octets) => mail_with(path_content(octets).and_then(sender_in), behind_path(octets)),
+        Some(octets) => mail_with(
+            path_content(octets).and_then(sender_in),
+            behind_path(octets),
+        ),
         None => Err(SmtpFault::BadArgument),
     }
 }
@@ -118,7 +126,10 @@ fn read_rcpt(rest: &[u8]) -> Result<Command<'_>, SmtpFault>
     ensures limits { IfOk result IsWithinLimits }
 {
     match behind_keyword(b"TO:", rest) {
-        Some(octets) => rcpt_with(path_content(octets).and_then(recipient_in), behind_path(octets)),
+        Some(octets) => rcpt_with(
+            path_content(octets).and_then(recipient_in),
+            behind_path(octets),
+        ),
         None => Err(SmtpFault::BadArgument),
     }
 }

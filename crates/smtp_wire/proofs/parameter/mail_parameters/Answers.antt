@@ -15,5 +15,5 @@ loop-rest-preserved c =
     let rest = c.loop-rest.rest.now in
     ap (λ (l : List ℕ). with_words (given_seen c.in-Ok.next) (words_of l)) (c.split_front.ensures.others ∙ ap (drop 1) c.split_verb.ensures.rest)
     ∙ ap (and_then (λ next. with_words next (words_of (drop 1 (rest_of rest)))))
-        (sym (ap given_result c.in-Ok.is) ∙ c.with_word.ensures ∙ ap (with_word (given_seen c.loop-rest.given)) c.split_verb.ensures.verb)
+    (sym (ap given_result c.in-Ok.is) ∙ c.with_word.ensures ∙ ap (with_word (given_seen c.loop-rest.given)) c.split_verb.ensures.verb)
     ∙ sym (words_step (given_seen c.loop-rest.given) rest) ∙ c.loop-rest.invariant
