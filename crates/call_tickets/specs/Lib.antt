@@ -1,2 +1,5 @@
 pub mod Seen
 pub mod Moves
+pub mod Passes
+pub mod Begins
+pub mod Asks

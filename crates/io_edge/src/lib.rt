@@ -6,12 +6,12 @@
 //! not. Each has a count of its faults, which never falls: a call answers that the outside failed
 //! only where the count rose, so whoever sees that answer knows whose fault it was. A disk is
 //! settled once a sync of it succeeded, up to the next write. `write_all` writes a whole piece to a
-//! sink.
+//! sink. A `Gate` is told of each turn of a session, and may hold it.
 //!
 //! The crate stands on the standard library alone.
 //!
 //! In memory there are `SliceSource`, `VecSink`, `PlainDisk` and `MemoryYard`; over std's readers
-//! and writers `ReadSource` and `WriteSink`. The module `faulty` wraps a source, a sink or a yard so
+//! and writers `ReadSource` and `WriteSink`. `OpenGate` holds nobody. The module `faulty` wraps a source, a sink or a yard so
 //! that one chosen call fails, and cuts a sink's writes short, for the tests of the crates above. A
 //! disk that fails and tears is `MemoryDisk` of `node_disk`.
 //!
@@ -25,6 +25,7 @@
 
 mod disk;
 pub mod faulty;
+mod gate;
 mod memory;
 mod memory_yard;
 mod plain_disk;
@@ -33,6 +34,7 @@ mod streams;
 mod yard;
 
 pub use disk::Disk;
+pub use gate::{Gate, OpenGate};
 pub use memory::{SliceSource, VecSink};
 pub use memory_yard::MemoryYard;
 pub use plain_disk::{PlainDisk, overwrite};

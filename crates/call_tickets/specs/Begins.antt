@@ -1,0 +1,65 @@
+-- What the beginning of a call does, as its pass knows it.
+use Rattle.std.specs.Prelude.{◌≡◌, ℕ, List, length, ⊤, Option, Some, None, Result, Ok, Err}
+use Rattle.io_edge.specs.Causes.{Rose}
+use Rattle.sha2.specs.Sha256.{sha256}
+use Rattle.mail_model.specs.Mail.{IsStored}
+use Rattle.mail_model.specs.Told.{Mail}
+use Rattle.mail_base.specs.declared.filing.Begun.{Begun}
+use Rattle.mail_base.specs.declared.filing.Filing.{Filing}
+use Rattle.mail_base.specs.declared.filing.CallKind.TheVariants as kinds
+use Rattle.session_model.specs.Calls as model
+use Rattle.session_model.specs.Calls.Call.{Deliver, Login, Fetch, Strike}
+use Rattle.session_model.specs.Books.{struck_by}
+use Rattle.call_tickets.specs.Passes.{PassKnows, IsQuiet, NoneFell, with_more, with_leave}
+use Rattle.call_tickets.specs.declared.desk.DeskTicket.{DeskTicket}
+use Rattle.call_tickets.specs.declared.desk.DeskFault.{DeskFault}
+use Rattle.call_tickets.specs.declared.desk.DeskFault.TheVariants.{Down, Worn, NoMemory}
+
+-- The message is filed as it was told, with its trace lines.
+pub record IsFilingOf (mail : Mail) (filing : Filing) : Type 0 where
+  pub octets : List ℕ
+  pub stored : IsStored mail filing.id filing.seconds octets
+  pub users : filing.users ≡ mail.mailboxes
+  pub size : filing.length ≡ length octets
+  pub digest : filing.digest ≡ sha256 octets
+
+-- a delivery filed nothing, or this message
+abbrev pub FilingFits : Mail → Option Filing → Type 0
+FilingFits mail None = ⊤
+FilingFits mail (Some filing) = IsFilingOf mail filing
+
+-- what stands under the ticket is this call
+abbrev pub IsBegunFor : model.Call → Begun → Type 0
+IsBegunFor (Deliver mail) begun = (begun.kind ≡ kinds.Deliver) × FilingFits mail begun.filing
+IsBegunFor (Login user secret) begun = begun.kind ≡ kinds.Login
+IsBegunFor (Fetch user id) begun = begun.kind ≡ kinds.Fetch
+IsBegunFor (Strike user ids) begun = begun.kind ≡ kinds.Strike
+
+-- the call was begun: the copies that it is to delete are in the book
+pub record HasBegun (call : model.Call) (ticket : DeskTicket) (old new : PassKnows) : Type 0 where
+  pub is_for : IsBegunFor call ticket.begun
+  pub acked : new.acked ≡ old.acked
+  pub struck : new.struck ≡ with_more old.struck (struck_by call)
+  pub fell : NoneFell old.counts new.counts
+
+-- why a desk refused, by its counts
+abbrev pub RefusalCounted : DeskFault → PassKnows → PassKnows → Type 0
+RefusalCounted Down old new = Rose old.counts.down new.counts.down
+RefusalCounted Worn old new = Rose old.counts.worn new.counts.worn
+RefusalCounted NoMemory old new = ⊤
+
+-- what came of beginning a call
+abbrev pub DeskBegins : model.Call → Result DeskTicket DeskFault → PassKnows → PassKnows → Type 0
+DeskBegins call (Ok ticket) old new = HasBegun call ticket old new
+DeskBegins call (Err why) old new = IsQuiet old new × RefusalCounted why old new
+
+-- a Leave was begun, once
+pub record HasLeft (old new : PassKnows) : Type 0 where
+  pub acked : new.acked ≡ old.acked
+  pub struck : new.struck ≡ old.struck
+  pub fell : NoneFell (with_leave old.counts) new.counts
+
+-- what came of beginning a Leave
+abbrev pub DeskLeaves : Result (Unit {0}) DeskFault → PassKnows → PassKnows → Type 0
+DeskLeaves (Ok done) old new = HasLeft old new
+DeskLeaves (Err why) old new = IsQuiet old new × RefusalCounted why old new

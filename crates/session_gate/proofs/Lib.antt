@@ -1,0 +1,10 @@
+pub mod Knows
+pub mod Deals
+pub mod InTime
+pub mod Moves
+pub mod Hearing
+pub mod Listens
+pub mod Leaving
+pub mod Opening
+pub mod Ending
+pub mod Late

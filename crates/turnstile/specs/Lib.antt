@@ -1,0 +1,5 @@
+pub mod Lists
+pub mod Shares
+pub mod Rule
+pub mod Passes
+pub mod Worked
