@@ -1,5 +1,5 @@
 -- A call that begins is a list of moves, however it ends.
-use Rattle.std.proofs.Common.{◌≡◌, ◌+◌, ℕ, Bool, true, List, [], map, Option, Some, None, refl, sym, ap, ◌∙◌, subst}
+use Rattle.std.proofs.Common.{◌≡◌, ◌+◌, ℕ, Bool, true, List, [], map, Option, Some, None, refl, sym, ap, ◌∙◌, subst, arith}
 use Rattle.mail_model.specs.Identity.{Id}
 use Rattle.mail_model.specs.Plan.{Plan}
 use Rattle.mail_model.specs.Record.{Record}
@@ -125,5 +125,5 @@ module _ (plan : Plan) (tells : Bool) (old : World) (own : ℕ) (numbered : IsOf
   begins_lead call said new (FailsReading node disk user id from most up one reads is new_world) =
       down_leads plan.confirm (MayBring old (Begin own call)) old new own node disk (begin_read Fetching WrongSecret node disk) None None [] up
       (λ ready. read_acts own node disk ready Fetching WrongSecret) (λ letter e. absurd (cc e)) (λ user_ id_ m. absurd m) (λ content e. absurd (cc e))
-      (record { front = []; pending = []; cut = cut_nothing disk; is = new_world })
+      (record { front = []; pending = []; one = omega arith; cut = cut_nothing disk; is = new_world })
   begins_lead call said new (Leaves node disk user up one leaves is new_world) = no_move plan.confirm (MayBring old (Begin own call)) (cluster_of old) (cluster_of new) (ap cluster_of new_world)

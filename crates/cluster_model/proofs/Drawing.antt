@@ -6,7 +6,7 @@ use Rattle.mail_model.specs.Record.Record.{Octets, Stated}
 use Rattle.mail_model.specs.Identity.Key.{Message}
 use Rattle.cluster_model.specs.Cluster.{Slot, slot_at, with_slot, NodeFiling, AskedOfNodes}
 use Rattle.object_model.specs.Letters.{Number}
-use Rattle.cluster_model.specs.Claims.{Fact, SaysFact, SlotSays, FactStands, StoresMessage, NodesClaim, SlotClaims, NodesWant, NodesWait, LifeWaits, Covered, IsIdDrawn, DrawnAt}
+use Rattle.cluster_model.specs.Claims.{Fact, SaysFact, FactStands, StoresMessage, NodesClaim, SlotClaims, NodesWant, NodesWait, LifeWaits, Covered, IsIdDrawn, DrawnAt}
 use Rattle.cluster_model.specs.Claims.Fact.{HasCopies, IsGone, IsAtLeast}
 use Rattle.cluster_model.specs.Moves.{NodeAct, IsAct, LifeWants, Opens, Content}
 use Rattle.object_model.proofs.Lists.{among_front, same_some}
@@ -31,20 +31,19 @@ module _ (slots : List Slot) (act : NodeAct) (here : slot_at slots act.node ≡ 
   abbrev pub written : List Slot
   written = with_slot slots act.node act.after
 
-  slot_grows : (fact : Fact) → SlotSays act.before fact → SlotSays act.after fact
-  slot_grows fact (inl lost) = absurd (is.was lost)
-  slot_grows fact (inr says) = inr (subst (λ d. SaysFact d fact) (sym is.grows.1) (says_more act.before.disk is.grows.0 fact says))
+  slot_grows : (fact : Fact) → SaysFact act.before.disk fact → SaysFact act.after.disk fact
+  slot_grows fact says = subst (λ d. SaysFact d fact) (sym is.grows.1) (says_more act.before.disk is.grows.0 fact says)
 
   -- what stood stands
   pub still : (m : ℕ) (fact : Fact) → FactStands slots m fact → FactStands written m fact
   still m fact h = ⊎_elim
-      (λ at. record { slot = act.after; here = at.2; stands = slot_grows fact (subst (λ s. SlotSays s fact) at.1 h.stands) })
+      (λ at. record { slot = act.after; here = at.2; stands = slot_grows fact (subst (λ (s : Slot). SaysFact s.disk fact) at.1 h.stands) })
       (λ other. record { slot = h.slot; here = other; stands = h.stands })
       (read_before slots act.node m act.before act.after h.slot here h.here)
 
   -- what the node's own disk says stands
   pub own_says : (m : ℕ) (fact : Fact) → m ≡ act.node → SaysFact act.after.disk fact → FactStands written m fact
-  own_says m fact e says = subst (λ k. FactStands written k fact) (sym e) (record { slot = act.after; here = at_same slots act.node act.before act.after here; stands = inr says })
+  own_says m fact e says = subst (λ k. FactStands written k fact) (sym e) (record { slot = act.after; here = at_same slots act.node act.before act.after here; stands = says })
 
   -- a claim was made before, or by the node that acted
   pub claims_after : (m : ℕ) (fact : Fact) → NodesClaim written m fact → NodesClaim slots m fact ⊎ SlotClaims act.node act.after m fact

@@ -1,5 +1,5 @@
 -- An entry that may be added keeps each part.
-use Rattle.std.proofs.Common.{◌≡◌, inl, inr, ⊎_elim, ℕ, List, [], ◌∷◌, ◌++◌, true, ◌≤◌, subst, sym, ap, ◌∙◌}
+use Rattle.std.proofs.Common.{◌≡◌, inl, ⊎_elim, ℕ, List, [], ◌∷◌, ◌++◌, true, ◌≤◌, subst, sym, ap, ◌∙◌}
 use Rattle.mail_model.specs.Identity.{Id}
 use Rattle.mail_model.specs.Book.{Acked, BookEntry}
 use Rattle.mail_model.specs.Book.BookEntry.{Acknowledged, Struck, Dropped, WentDown, CameUp, WasLost}
@@ -7,7 +7,7 @@ use Rattle.object_model.specs.Sets.{has, count_in}
 use Rattle.object_model.specs.Lists.{Among}
 use Rattle.cluster_model.specs.Cluster.{Slot, NodeFiling}
 use Rattle.object_model.specs.Letters.{Letter}
-use Rattle.cluster_model.specs.Claims.{Fact, SaysFact, FactStands, NodesWant, EntryClaims, AreOf, IsIdDrawn, TicketClaims, fact_of}
+use Rattle.cluster_model.specs.Claims.{Fact, FactStands, NodesWant, EntryClaims, AreOf, IsIdDrawn, TicketClaims, fact_of}
 use Rattle.cluster_model.specs.Claims.Fact.{HasCopies, IsGone}
 use Rattle.cluster_model.specs.Moves.{MayEnter}
 use Rattle.cluster_model.specs.Parts.{IsHeldSomewhere, Contents, Deletions, Claims, Enough}
@@ -18,9 +18,7 @@ pub of_each : (slots : List Slot) (m : ℕ) (users : List (List ℕ)) (user : Li
 of_each slots m users user id inside h = record {
   slot = h.slot;
   here = h.here;
-  stands = ⊎_elim (λ lost. inl lost)
-      (λ (says : SaysFact h.slot.disk (HasCopies users id)). inr (λ other e. ⊎_elim (λ same. says other (subst (λ u. Among u users) same inside)) (λ none. absurd none) e))
-      h.stands;
+  stands = λ other e. ⊎_elim (λ same. h.stands other (subst (λ u. Among u users) same inside)) (λ none. absurd none) e;
 }
 
 module _ (confirm : ℕ) (slots : List Slot) (flying : List Letter) (book : List BookEntry) (entry : BookEntry) (may : MayEnter confirm entry slots)

@@ -43,3 +43,7 @@ pub mod Worked
 pub mod Counting
 pub mod Fairness
 pub mod Listings
+pub mod Waiting
+pub mod Entering
+pub mod Midst
+pub mod Merging

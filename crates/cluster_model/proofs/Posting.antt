@@ -132,6 +132,7 @@ module _ (plan : Plan) (May : Id → List ℕ → Type 0) (old : World) (in_plan
       (record {
         front = g.front;
         pending = g.pending;
+        one = g.one;
         cut = g.cut;
         is = g.is ∙ ap (λ (s : List Slot). record old { slots = s; book = old.book ++ WentDown flies.letter.to ∷ [] })
             (sym (slot_again old.slots flies.letter.to (slot_up known disk) (record { life = Down g.pending; disk = disk ++ g.front })));

@@ -4,7 +4,7 @@ use Rattle.sha2.specs.Sha256.{sha256}
 use Rattle.mail_model.specs.Identity.{Id, Key, Value, State}
 use Rattle.mail_model.specs.Identity.Key.{Message}
 use Rattle.mail_model.specs.Identity.Value.{Here, Gone, Secret}
-use Rattle.mail_model.specs.Record.{Record, IsAmongRecords, SaysHere, HoldsOctets}
+use Rattle.mail_model.specs.Record.{Record, IsAmongRecords, SaysHere, SaysGone, HoldsOctets}
 use Rattle.mail_model.specs.Record.Record.{Boot, Octets, Stated, Promise, Retired}
 use Rattle.mail_model.specs.Book.{Acked}
 use Rattle.mail_model.specs.Book.BookEntry.{Acknowledged, Struck, Dropped}
@@ -13,7 +13,7 @@ use Rattle.object_model.specs.Sets.{has, count_in}
 use Rattle.object_model.specs.Lists.{Among}
 use Rattle.mail_model.specs.Grammar.{IsOfKind}
 use Rattle.cluster_model.specs.Cluster.{Slot, Cluster, slot_at, pending_of}
-use Rattle.cluster_model.specs.Claims.{HasCopy, ShowsGone, StoresMessage, SaysFact}
+use Rattle.cluster_model.specs.Claims.{HasCopy, ShowsGone, StoresMessage}
 use Rattle.cluster_model.specs.Claims.Fact.{HasCopies, IsGone}
 use Rattle.cluster_model.specs.Parts.{Sound}
 use Rattle.cluster_model.specs.Laws.{KeepsCopyOf, HasCopyOf, LacksCopy}
@@ -30,7 +30,7 @@ among_of one [] m = m
 among_of one (other ∷ records) m = ⊎_elim (λ e. inl e) (λ behind. inr (among_of one records behind)) m
 
 -- where some octets of an id stand, there are first ones
-first_octets : (id : Id) (octets : List ℕ) (records : List Record) → Among (Octets id octets) records → (first : List ℕ) × HoldsOctets id first records × Among (Octets id first) records
+pub first_octets : (id : Id) (octets : List ℕ) (records : List Record) → Among (Octets id octets) records → (first : List ℕ) × HoldsOctets id first records × Among (Octets id first) records
 first_octets id octets [] m = absurd m
 first_octets id octets (Octets other held ∷ records) m = ⊎_elim
     (λ same. let e : Octets other held ≡ Octets id held = ap (λ i. Octets i held) same in (held, inl e, inl e))
@@ -46,13 +46,13 @@ first_octets id octets (Promise epoch ∷ records) m = let behind = first_octets
 first_octets id octets (Retired key state ∷ records) m = let behind = first_octets id octets records (⊎_elim (λ is. absurd (cc is)) (λ b. b) m) in (behind.0, inr (λ o is. cc, behind.1), inr behind.2)
 
 -- a state of a message is here or gone
-here_or_gone : (user : List ℕ) (id : Id) (value : Value) → IsOfKind (Message user id) value → (value ≡ Here) ⊎ (value ≡ Gone)
+pub here_or_gone : (user : List ℕ) (id : Id) (value : Value) → IsOfKind (Message user id) value → (value ≡ Here) ⊎ (value ≡ Gone)
 here_or_gone user id Here fits = inl refl
 here_or_gone user id Gone fits = inr refl
 here_or_gone user id (Secret octets) fits = absurd fits
 
 -- a state whose value is known
-valued : (key : Key) (state : State) (value : Value) → state.value ≡ value → Stated key state ≡ Stated key (record { value = value; stamp = state.stamp; targets = state.targets })
+pub valued : (key : Key) (state : State) (value : Value) → state.value ≡ value → Stated key state ≡ Stated key (record { value = value; stamp = state.stamp; targets = state.targets })
 valued key state value e = ap (λ v. Stated key (record { value = v; stamp = state.stamp; targets = state.targets })) e
 
 -- some record says that the copy is gone, or none does
@@ -127,6 +127,13 @@ module _ (confirm : ℕ) (w : Cluster) (s : Sound confirm w) where
         (first.0, first.1, of.0, of.1),
       )
 
+  says_gone : (user : List ℕ) (id : Id) (disk : List Record) → ShowsGone user id disk → SaysGone (Message user id) disk
+  says_gone user id disk g = record {
+    stamp = g.state.stamp;
+    targets = g.state.targets;
+    gone = member_of _ disk (subst (λ r. Among r disk) (valued (Message user id) g.state Gone g.gone) g.inside);
+  }
+
   pub acknowledged_stand : (copy : Acked) → Among (Acknowledged copy) w.book → (Among (Struck copy.user copy.id) w.book → ⊥)
       → (confirm ≤ count_in copy.confirmers) × ((m : ℕ) → has copy.confirmers m ≡ true → HasCopyOf copy w.slots m)
   acknowledged_stand copy acked unstruck = (
@@ -136,7 +143,7 @@ module _ (confirm : ℕ) (w : Cluster) (s : Sound confirm w) where
         record {
           slot = h.slot;
           here = h.here;
-          stands = ⊎_elim (λ lost. inl lost) (λ (says : SaysFact h.slot.disk (HasCopies (copy.user ∷ []) copy.id)). inr (has_copy copy acked m h.slot h.here (not_gone copy.user copy.id unstruck m h.slot h.here) (says copy.user (inl refl)))) h.stands;
+          stands = has_copy copy acked m h.slot h.here (not_gone copy.user copy.id unstruck m h.slot h.here) (h.stands copy.user (inl refl));
         },
   )
 
@@ -149,11 +156,7 @@ module _ (confirm : ℕ) (w : Cluster) (s : Sound confirm w) where
         record {
           slot = h.slot;
           here = h.here;
-          stands = ⊎_elim (λ lost. inl lost) (λ (g : ShowsGone user id h.slot.disk). inr (record {
-            stamp = g.state.stamp;
-            targets = g.state.targets;
-            gone = member_of _ h.slot.disk (subst (λ r. Among r h.slot.disk) (valued (Message user id) g.state Gone g.gone) g.inside);
-          })) h.stands;
+          stands = says_gone user id h.slot.disk h.stands;
         },
   )
 
@@ -166,15 +169,8 @@ module _ (confirm : ℕ) (w : Cluster) (s : Sound confirm w) where
           slot = h.slot;
           here = h.here;
           stands = ⊎_elim
-              (λ lost. inl lost)
-              (λ (says : SaysFact h.slot.disk (HasCopies (copy.user ∷ []) copy.id)). ⊎_elim
-              (λ (g : ShowsGone copy.user copy.id h.slot.disk). inr (inr (record {
-                stamp = g.state.stamp;
-                targets = g.state.targets;
-                gone = member_of _ h.slot.disk (subst (λ r. Among r h.slot.disk) (valued (Message copy.user copy.id) g.state Gone g.gone) g.inside);
-              })))
-              (λ none. inr (inl (has_copy copy acked m h.slot h.here none (says copy.user (inl refl)))))
-              (gone_or_not copy.user copy.id h.slot.disk))
-              h.stands;
+              (λ (g : ShowsGone copy.user copy.id h.slot.disk). inr (says_gone copy.user copy.id h.slot.disk g))
+              (λ none. inl (has_copy copy acked m h.slot h.here none (h.stands copy.user (inl refl))))
+              (gone_or_not copy.user copy.id h.slot.disk);
         },
   )

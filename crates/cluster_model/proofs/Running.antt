@@ -1,5 +1,5 @@
 -- Each step of a world is a list of moves, and so lists of steps keep a world sound.
-use Rattle.std.proofs.Common.{◌≡◌, ◌⊎◌, inl, ◌≢◌, inr, ⊎_elim, ℕ, Bool, false, List, [], ◌∷◌, ◌++◌, append-nil, Some, None, refl, sym, ap, ◌∙◌, subst}
+use Rattle.std.proofs.Common.{◌≡◌, ◌⊎◌, inl, ◌≢◌, inr, ⊎_elim, ℕ, Bool, false, List, [], ◌∷◌, ◌++◌, append-nil, Some, None, refl, sym, ap, ◌∙◌, subst, arith}
 use Rattle.mail_model.specs.Identity.{Id, Key}
 use Rattle.mail_model.specs.Identity.Key.{Message}
 use Rattle.mail_model.specs.Plan.{Plan}
@@ -75,7 +75,7 @@ module _ (confirm : ℕ) (May : Id → List ℕ → Type 0) (old : World) where
   pushes_lead own to said new (FailsPushing node disk up is new_world) =
       down_leads confirm May old new own node disk (push own to (keys_pushed old.flying own to node disk) node disk) None None [] up
       (λ ready. push_acts own node disk ready to (keys_pushed old.flying own to node disk)) (λ letter e. absurd (cc e)) (λ user id m. absurd m) (λ content e. absurd (cc e))
-      (record { front = []; pending = []; cut = cut_nothing disk; is = new_world })
+      (record { front = []; pending = []; one = omega arith; cut = cut_nothing disk; is = new_world })
 
   widening_leads : (own to : ℕ) (key : Key) (node : Node) (disk : List Record) (new : World) → IsUp old own node disk → NodeGoesDown old own disk (widen own to key node disk).disk new → To new
   widening_leads own to key node disk new up g = down_leads confirm May old new own node disk (widen own to key node disk) None None [] up

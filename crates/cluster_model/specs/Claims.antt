@@ -51,15 +51,11 @@ SaysFact disk (HasCopies users id) = (user : List ℕ) → Among user users → 
 SaysFact disk (IsGone user id) = ShowsGone user id disk
 SaysFact disk (IsAtLeast key state) = CoversAtLeast key state disk
 
--- a node that is lost, or whose disk says the fact
-abbrev pub SlotSays : Slot → Fact → Type 0
-SlotSays slot fact = (slot.life ≡ Lost) ⊎ SaysFact slot.disk fact
-
--- the same of node m
+-- The disk of node m says the fact. That of a node that is lost stays as it was, and so says what it said.
 pub record FactStands (slots : List Slot) (m : ℕ) (fact : Fact) : Type 0 where
   pub slot : Slot
   pub here : slot_at slots m ≡ Some slot
-  pub stands : SlotSays slot fact
+  pub stands : SaysFact slot.disk fact
 
 -- what a target that confirmed says
 abbrev pub fact_of : AskedOfNodes → Fact

@@ -22,3 +22,5 @@ pub mod Plain
 pub mod Rows
 pub mod TicketLaws
 pub mod ReadLaws
+pub mod StepLaws
+pub mod StepMerges

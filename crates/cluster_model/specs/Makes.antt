@@ -93,7 +93,7 @@ IsFound plan tells disk (Login user secret) found = ((opens plan user secret ≡
 IsFound plan tells disk (Fetch user id from most) found = FetchFinds tells user id from most disk found
 IsFound plan tells disk call found = ⊥
 
--- The disk of a node fails in its work: a prefix of its records stands, and the next may.
+-- The disk of a node fails in its work: the first of its records stand, and what is pending may.
 pub record IsWorkCut (disk whole : List Record) (front pending : List Record) : Type 0 where
   pub missing : List Record
   pub is : whole ≡ disk ++ ((front ++ pending) ++ missing)
@@ -102,10 +102,11 @@ pub record IsWorkCut (disk whole : List Record) (front pending : List Record) : 
 abbrev pub cut_world : World → ℕ → List Record → List Record → List Record → World
 cut_world w n disk front pending = record w { slots = with_slot w.slots n (record { life = Down pending; disk = disk ++ front }); book = w.book ++ WentDown n ∷ [] }
 
--- node n went down in work that would have left its disk so
+-- node n went down in work that would have left its disk so: one record at most is pending
 pub record NodeGoesDown (w : World) (n : ℕ) (disk whole : List Record) (new : World) : Type 0 where
   pub front : List Record
   pub pending : List Record
+  pub one : length pending ≤ 1
   pub cut : IsWorkCut disk whole front pending
   pub is : new ≡ cut_world w n disk front pending
 

@@ -5,6 +5,8 @@ ghost use Rattle.cluster_model.specs.Rows.{TwoOfThree, HeardTwiceCountsOnce, Tar
 ghost use Rattle.cluster_model.specs.TicketLaws.{TargetsAreEnough, TicketsBeginFair, TicketsStayFair, FailedHasCause, AllHeardIsDone};
 ghost use Rattle.cluster_model.specs.ReadLaws.{ListedOnce, ListedNamed, OneListing};
 ghost use Rattle.cluster_model.specs.WorldLaws.{StepsKeepSound, StepsBring, OpeningIsSound};
+ghost use Rattle.cluster_model.specs.StepLaws.{PendingHasLetter, StepsKeepInMidst};
+ghost use Rattle.cluster_model.specs.StepMerges.{StepsSayMerge};
 ghost use Rattle.cluster_model.specs.NodeLaws.{NodesHear, NodesDeliver, NodesStrike, NodesPush, NodesWiden, NodesEnd, NodesRefuse, NodesRead, NodesNote, NodesFault, NodesFall, NodesStart, NodesStopStart, StartsOwe, NodesLearn, TakesJoin, TakesOnly};
 
 /// Whatever moves are made, a sound cluster stays sound.
@@ -186,6 +188,22 @@ pub fn ids_are_new()
 /// All octets of one id, on disks and in letters, are the same.
 pub fn fetched_as_filed()
     ensures { FetchedAsFiled }
+{}
+
+/// A ticket that is pending has a letter of its own in flight.
+pub fn pending_has_letter()
+    ensures { PendingHasLetter }
+{}
+
+/// Once a step was made, the disk of one node says the merge of what it said and of what the step made it take, and every disk
+/// says of all else what it said.
+pub fn steps_say_merge()
+    ensures { StepsSayMerge }
+{}
+
+/// What was confirmed stands on the disks of the confirmers, also in the midst of each step.
+pub fn steps_keep_in_midst()
+    ensures { StepsKeepInMidst }
 {}
 
 /// A worked case: three nodes, three copies, two confirmations: the second confirmation stores the message.

@@ -14,7 +14,7 @@ use Rattle.object_model.specs.Letters.{Number}
 use Rattle.object_model.specs.Mishaps.{Mishaps}
 use Rattle.session_model.specs.Calls.{Call, Answer}
 use Rattle.session_model.specs.Logs.{Asked, Answered}
-use Rattle.session_model.specs.Books.{IsBookOf, acks_by, dropped_by}
+use Rattle.session_model.specs.Books.{acks_by, dropped_by}
 use Rattle.cluster_model.specs.Cluster.{AskedOfNodes, Want, Ticket, Node, Slot, slot_at, with_slot}
 use Rattle.cluster_model.specs.Cluster.AskedOfNodes.{Copies, Deletion}
 use Rattle.cluster_model.specs.Rules.{ticket_at, end_ticket}
@@ -29,7 +29,7 @@ use Rattle.cluster_owes.specs.Outcomes.{BegunCall}
 use Rattle.cluster_owes.proofs.Standing.{StandsAs, NoneNew, TicketsGo, slot_quiet, same_up}
 use Rattle.cluster_owes.proofs.NodeSteps.{end_goes, ended}
 use Rattle.cluster_owes.proofs.WorldSteps.{AreLives, TicketsStep, steps_so}
-use Rattle.cluster_owes.proofs.Books.{AreMasked, masked_both}
+use Rattle.cluster_owes.proofs.Books.{IsBooked, AreMasked, masked_both}
 use Rattle.cluster_owes.proofs.Known.{Filed, AreApart, AnswerStands, TicketFits, AckStands, Known, HoldsNoMore, calls_still, tickets_still, filed_still, acks_still, answers_still}
 use Rattle.cluster_owes.proofs.QuietSteps.{StepKept, known_quiet, known_answered, answers_either}
 
@@ -119,7 +119,7 @@ module _ (plan : Plan) (tells : Bool) (lines : List (List ℕ)) (asked : List As
       (record { entries = entries; lives = subst AreLives (sym none) (record { acked = refl; struck = refl; dropped = refl }); goes = record { seconds = seconds; book = book; tickets = step } }) holds)
 
   -- what is known in any case, with a book and answers of its own
-  module _ (answer : Answer) (book_is : IsBookOf lines asked (answered ++ record { session = k; call = call; answer = answer } ∷ []) (old.book ++ entries)) (masked : AreMasked entries)
+  module _ (answer : Answer) (book_is : IsBooked lines asked (answered ++ record { session = k; call = call; answer = answer } ∷ []) (old.book ++ entries)) (masked : AreMasked entries)
       (acks : (ack : Ack) → Among ack (flat_map acks_by (answered ++ record { session = k; call = call; answer = answer } ∷ [])) → AckStands lines new known.files ack)
       (others : HaveOtherIds (flat_map acks_by (answered ++ record { session = k; call = call; answer = answer } ∷ []))) (stands_so : AnswerStands tells new.slots call answer) where
     pub told_answer : Known plan tells lines asked (answered ++ record { session = k; call = call; answer = answer } ∷ []) begun new
@@ -127,7 +127,7 @@ module _ (plan : Plan) (tells : Bool) (lines : List (List ℕ)) (asked : List As
       in_plan = kept.in_plan;
       sound = kept.sound;
       clock = seconds ∙ known.clock;
-      book_is = subst (IsBookOf lines asked (answered ++ record { session = k; call = call; answer = answer } ∷ [])) (sym book) book_is;
+      book_is = subst (IsBooked lines asked (answered ++ record { session = k; call = call; answer = answer } ∷ [])) (sym book) book_is;
       masked = subst (λ b. AreMasked b) (sym book) (masked_both old.book entries known.masked masked);
       files = known.files;
       apart = known.apart;

@@ -16,7 +16,7 @@ use Rattle.object_model.specs.Mishaps.MishapKind.{Crowded}
 use Rattle.object_model.proofs.Lists.{among_either, same_some}
 use Rattle.object_model.proofs.MapLaws.{written}
 use Rattle.session_model.specs.Logs.{Asked, Answered}
-use Rattle.session_model.specs.Books.{IsBookOf, struck_by}
+use Rattle.session_model.specs.Books.{struck_by}
 use Rattle.cluster_model.specs.Cluster.{Ticket, Node, Life, Slot, slot_at, with_slot}
 use Rattle.cluster_model.specs.Cluster.Life.{Up, Down, Lost}
 use Rattle.cluster_model.specs.Claims.{IsIdDrawn, DrawnIn}
@@ -32,7 +32,7 @@ use Rattle.cluster_owes.specs.Outcomes.{BegunCall}
 use Rattle.cluster_owes.proofs.Standing.{StandsAs, IsWithinCalls, SameCall, NoneNew, TicketsGo, slot_goes, goes_through, put_goes, put_keeps, same_up}
 use Rattle.cluster_owes.proofs.NodeSteps.{begin_goes}
 use Rattle.cluster_owes.proofs.WorldSteps.{TicketsStep}
-use Rattle.cluster_owes.proofs.Books.{AreMasked, masked_both, masked_none, book_begun}
+use Rattle.cluster_owes.proofs.Books.{IsBooked, AreMasked, masked_both, masked_none, book_begun}
 use Rattle.cluster_owes.proofs.Known.{Filed, AreApart, TicketFits, FiledStands, BegunStands, Known, calls_still, tickets_still, filed_still, acks_still, answers_still}
 use Rattle.cluster_owes.proofs.QuietSteps.{StepKept}
 
@@ -174,7 +174,7 @@ module _ (plan : Plan) (tells : Bool) (lines : List (List ℕ)) (asked : List As
     in_plan = kept.in_plan;
     sound = kept.sound;
     clock = seconds ∙ known.clock;
-    book_is = subst (IsBookOf lines (asked ++ one ∷ []) answered) (sym book) (book_begun lines asked answered old.book more one struck dropped acked known.book_is);
+    book_is = subst (IsBooked lines (asked ++ one ∷ []) answered) (sym book) (book_begun lines asked answered old.book more one struck dropped acked known.book_is);
     masked = subst (λ b. AreMasked b) (sym book) (masked_both old.book more known.masked (masked_none more acked dropped));
     files = known.files ++ files;
     apart = apart;

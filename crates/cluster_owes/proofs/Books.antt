@@ -1,5 +1,5 @@
 -- What entries do to a book, and that it stays that of the calls that began and were answered.
-use Rattle.std.proofs.Common.{◌≡◌, ℕ, List, [], ◌∷◌, ◌++◌, map, flat_map, length, refl, sym, ap, ◌∙◌, subst, append_assoc, append-nil, AllPairs, ◌≢◌}
+use Rattle.std.proofs.Common.{◌≡◌, ⊎_elim, ℕ, List, [], ◌∷◌, ◌++◌, map, flat_map, length, refl, sym, ap, ◌∙◌, subst, append_assoc, append-nil, AllPairs, ◌≢◌}
 use Rattle.std.specs.Prelude.{⊤}
 use Rattle.std.proofs.lemmas.List.Concat.{flat_map-append}
 use Rattle.sha2.specs.Sha256.{sha256}
@@ -13,10 +13,11 @@ use Rattle.session_model.specs.Calls.Call.{Deliver, Strike as StrikeCall}
 use Rattle.session_model.specs.Calls.{Call, Answer}
 use Rattle.session_model.specs.Calls.Answer.{Stored, Dropped as WereDropped}
 use Rattle.session_model.specs.Logs.{Asked, Answered}
-use Rattle.session_model.specs.Books.{IsBookOf, struck_by, dropped_by, acks_by}
+use Rattle.session_model.specs.Books.{struck_by, dropped_by, acks_by}
 use Rattle.cluster_model.specs.Cluster.{Want}
 use Rattle.cluster_model.specs.Cluster.AskedOfNodes.{Deletion}
 use Rattle.cluster_model.specs.Progress.{confirmed_entries, wants_entries}
+use Rattle.object_model.specs.Lists.{Among}
 use Rattle.cluster_owes.proofs.Masks.{IsMask}
 use Rattle.cluster_owes.proofs.WorldSteps.{AreLives}
 
@@ -50,12 +51,21 @@ dropped_both (WentDown node ∷ book) more = dropped_both book more
 dropped_both (CameUp node boot ∷ book) more = dropped_both book more
 dropped_both (WasLost node ∷ book) more = dropped_both book more
 
+-- So far the entries of a book are those of the calls that were begun and answered; the nodes that confirmed each message are those of these masks.
+pub record IsBooked (lines : List (List ℕ)) (begun : List Asked) (answered : List Answered) (book : List BookEntry) : Type 0 where
+  pub struck : struck_in book ≡ flat_map (λ one. struck_by one.call) begun
+  pub dropped : dropped_in book ≡ flat_map (λ one. dropped_by one.call one.answer) answered
+  pub masks : List ℕ
+  pub acked : AreCopies lines (flat_map acks_by answered) masks (acked_in book)
+
 -- the copies of one message more
-copies_push : (lines : List (List ℕ)) (acks : List Ack) (ack : Ack) (copies more : List Acked) → AreCopies lines acks copies → AreCopiesOf lines ack more
-    → AreCopies lines (acks ++ ack ∷ []) (copies ++ more)
-copies_push lines [] ack copies more none are = (more, [], ap (λ (l : List Acked). l ++ more) none ∙ sym (append-nil more), are, refl)
-copies_push lines (first ∷ acks) ack copies more (one, rest, whole, is, all) are =
-    (one, rest ++ more, ap (λ (l : List Acked). l ++ more) whole ∙ append_assoc one rest more, is, copies_push lines acks ack rest more all are)
+copies_push : (lines : List (List ℕ)) (acks : List Ack) (ack : Ack) (masks : List ℕ) (mask : ℕ) (copies more : List Acked) → AreCopies lines acks masks copies → AreCopiesOf lines ack mask more
+    → AreCopies lines (acks ++ ack ∷ []) (masks ++ mask ∷ []) (copies ++ more)
+copies_push lines [] ack [] mask copies more (no_mask, none) are = (more, [], ap (λ (l : List Acked). l ++ more) none ∙ sym (append-nil more), are, (refl, refl))
+copies_push lines [] ack (other ∷ masks) mask copies more (no_mask, none) are = absurd (cc no_mask)
+copies_push lines (first ∷ acks) ack [] mask copies more all are = absurd all
+copies_push lines (first ∷ acks) ack (other ∷ masks) mask copies more (one, rest, whole, is, all) are =
+    (one, rest ++ more, ap (λ (l : List Acked). l ++ more) whole ∙ append_assoc one rest more, is, copies_push lines acks ack masks mask rest more all are)
 
 -- the masks of a book are sets of nodes
 abbrev pub AreMasked : List BookEntry → Type 0
@@ -76,6 +86,17 @@ masked_both (WentDown node ∷ book) more a b = masked_both book more a b
 masked_both (CameUp node boot ∷ book) more a b = masked_both book more a b
 masked_both (WasLost node ∷ book) more a b = masked_both book more a b
 
+pub masked_at : (book : List BookEntry) (copy : Acked) → AreMasked book → Among (Acknowledged copy) book → IsMask copy.confirmers
+masked_at [] copy a m = absurd m
+masked_at (Acknowledged first ∷ book) copy a m = ⊎_elim
+    (λ e. let same : first ≡ copy = cc in subst (λ (c : Acked). IsMask c.confirmers) same a.0)
+    (λ later. masked_at book copy a.1 later) m
+masked_at (Dropped user id confirmers ∷ book) copy a m = masked_at book copy a.1 (⊎_elim (λ e. absurd (cc e)) (λ k. k) m)
+masked_at (Struck user id ∷ book) copy a m = masked_at book copy a (⊎_elim (λ e. absurd (cc e)) (λ k. k) m)
+masked_at (WentDown node ∷ book) copy a m = masked_at book copy a (⊎_elim (λ e. absurd (cc e)) (λ k. k) m)
+masked_at (CameUp node boot ∷ book) copy a m = masked_at book copy a (⊎_elim (λ e. absurd (cc e)) (λ k. k) m)
+masked_at (WasLost node ∷ book) copy a m = masked_at book copy a (⊎_elim (λ e. absurd (cc e)) (λ k. k) m)
+
 -- so they are where no entry has one
 pub masked_none : (book : List BookEntry) → acked_in book ≡ [] → dropped_in book ≡ [] → AreMasked book
 masked_none [] a d = tt
@@ -92,71 +113,76 @@ with_more {A} f all one old new is were =
     is ∙ ap (λ (l : Pairs). l ++ f one) were ∙ ap (λ (l : Pairs). flat_map f all ++ l) (sym (append-nil (f one))) ∙ sym (flat_map-append f all (one ∷ []))
 
 -- entries that no client asked for
-pub book_lives : (lines : List (List ℕ)) (asked : List Asked) (answered : List Answered) (book more : List BookEntry) → AreLives more → IsBookOf lines asked answered book
-    → IsBookOf lines asked answered (book ++ more)
+pub book_lives : (lines : List (List ℕ)) (asked : List Asked) (answered : List Answered) (book more : List BookEntry) → AreLives more → IsBooked lines asked answered book
+    → IsBooked lines asked answered (book ++ more)
 book_lives lines asked answered book more lives is = record {
   struck = struck_both book more ∙ ap (λ (l : Pairs). struck_in book ++ l) lives.struck ∙ append-nil (struck_in book) ∙ is.struck;
   dropped = dropped_both book more ∙ ap (λ (l : Pairs). dropped_in book ++ l) lives.dropped ∙ append-nil (dropped_in book) ∙ is.dropped;
-  acked = subst (λ (l : List Acked). AreCopies lines (flat_map acks_by answered) l) (sym (acked_both book more ∙ ap (λ (l : List Acked). acked_in book ++ l) lives.acked ∙ append-nil (acked_in book))) is.acked;
+  masks = is.masks;
+  acked = subst (λ (l : List Acked). AreCopies lines (flat_map acks_by answered) is.masks l) (sym (acked_both book more ∙ ap (λ (l : List Acked). acked_in book ++ l) lives.acked ∙ append-nil (acked_in book))) is.acked;
 }
 
 -- a call was begun, and its deletions are noted
 pub book_begun : (lines : List (List ℕ)) (asked : List Asked) (answered : List Answered) (book more : List BookEntry) (one : Asked) → struck_in more ≡ struck_by one.call
-    → dropped_in more ≡ [] → acked_in more ≡ [] → IsBookOf lines asked answered book → IsBookOf lines (asked ++ one ∷ []) answered (book ++ more)
+    → dropped_in more ≡ [] → acked_in more ≡ [] → IsBooked lines asked answered book → IsBooked lines (asked ++ one ∷ []) answered (book ++ more)
 book_begun lines asked answered book more one struck dropped acked is = record {
   struck = with_more (λ (o : Asked). struck_by o.call) asked one (struck_in book) (struck_in (book ++ more)) (struck_both book more ∙ ap (λ (l : Pairs). struck_in book ++ l) struck) is.struck;
   dropped = dropped_both book more ∙ ap (λ (l : Pairs). dropped_in book ++ l) dropped ∙ append-nil (dropped_in book) ∙ is.dropped;
-  acked = subst (λ (l : List Acked). AreCopies lines (flat_map acks_by answered) l) (sym (acked_both book more ∙ ap (λ (l : List Acked). acked_in book ++ l) acked ∙ append-nil (acked_in book))) is.acked;
+  masks = is.masks;
+  acked = subst (λ (l : List Acked). AreCopies lines (flat_map acks_by answered) is.masks l) (sym (acked_both book more ∙ ap (λ (l : List Acked). acked_in book ++ l) acked ∙ append-nil (acked_in book))) is.acked;
 }
 
-module _ (lines : List (List ℕ)) (asked : List Asked) (answered : List Answered) (old more : List BookEntry) (k : ℕ) (is : IsBookOf lines asked answered old) where
+module _ (lines : List (List ℕ)) (asked : List Asked) (answered : List Answered) (old more : List BookEntry) (k : ℕ) (is : IsBooked lines asked answered old) where
   -- an answer that the book does not tell of
   pub book_quiet : (call : Call) (answer : Answer) → dropped_by call answer ≡ [] → acks_by (record { session = k; call = call; answer = answer }) ≡ []
-      → struck_in more ≡ [] → dropped_in more ≡ [] → acked_in more ≡ [] → IsBookOf lines asked (answered ++ record { session = k; call = call; answer = answer } ∷ []) (old ++ more)
+      → struck_in more ≡ [] → dropped_in more ≡ [] → acked_in more ≡ [] → IsBooked lines asked (answered ++ record { session = k; call = call; answer = answer } ∷ []) (old ++ more)
   book_quiet call answer dropped acks no_struck no_dropped no_acked =
       let one : Answered = record { session = k; call = call; answer = answer } in
       record {
         struck = struck_both old more ∙ ap (λ (l : Pairs). struck_in old ++ l) no_struck ∙ append-nil (struck_in old) ∙ is.struck;
         dropped = with_more (λ (o : Answered). dropped_by o.call o.answer) answered one (dropped_in old) (dropped_in (old ++ more))
             (dropped_both old more ∙ ap (λ (l : Pairs). dropped_in old ++ l) (no_dropped ∙ sym dropped)) is.dropped;
+        masks = is.masks;
         acked =
-            subst (λ (l : List Acked). AreCopies lines (flat_map acks_by (answered ++ one ∷ [])) l)
+            subst (λ (l : List Acked). AreCopies lines (flat_map acks_by (answered ++ one ∷ [])) is.masks l)
             (sym (acked_both old more ∙ ap (λ (l : List Acked). acked_in old ++ l) no_acked ∙ append-nil (acked_in old)))
-            (subst (λ (l : List Ack). AreCopies lines l (acked_in old))
+            (subst (λ (l : List Ack). AreCopies lines l is.masks (acked_in old))
             (sym (flat_map-append acks_by answered (one ∷ []) ∙ ap (λ (l : List Ack). flat_map acks_by answered ++ (l ++ [])) acks ∙ append-nil (flat_map acks_by answered))) is.acked);
       }
 
   -- a message is acknowledged to each of its users
   pub book_acknowledged : (mail : Mail) (id : Id) (octets : List ℕ) (confirmers : ℕ) → AllPairs (λ one other. one ≢ other) mail.mailboxes → IsStored mail id 0 octets
       → struck_in more ≡ [] → dropped_in more ≡ [] → acked_in more ≡ copies_acked id 0 octets confirmers mail.mailboxes
-      → IsBookOf lines asked (answered ++ record { session = k; call = Deliver mail; answer = Stored id } ∷ []) (old ++ more)
+      → IsBooked lines asked (answered ++ record { session = k; call = Deliver mail; answer = Stored id } ∷ []) (old ++ more)
   book_acknowledged mail id octets confirmers once stored no_struck no_dropped copies =
       let one : Answered = record { session = k; call = Deliver mail; answer = Stored id } in
       record {
         struck = struck_both old more ∙ ap (λ (l : Pairs). struck_in old ++ l) no_struck ∙ append-nil (struck_in old) ∙ is.struck;
         dropped = with_more (λ (o : Answered). dropped_by o.call o.answer) answered one (dropped_in old) (dropped_in (old ++ more))
             (dropped_both old more ∙ ap (λ (l : Pairs). dropped_in old ++ l) no_dropped) is.dropped;
+        masks = is.masks ++ confirmers ∷ [];
         acked =
-            subst (λ (l : List Acked). AreCopies lines (flat_map acks_by (answered ++ one ∷ [])) l)
+            subst (λ (l : List Acked). AreCopies lines (flat_map acks_by (answered ++ one ∷ [])) (is.masks ++ confirmers ∷ []) l)
             (sym (acked_both old more ∙ ap (λ (l : List Acked). acked_in old ++ l) copies))
-            (subst (λ (l : List Ack). AreCopies lines l (acked_in old ++ copies_acked id 0 octets confirmers mail.mailboxes)) (sym (flat_map-append acks_by answered (one ∷ [])))
-            (copies_push lines (flat_map acks_by answered) (record { session = k; mail = mail; id = id; seconds = 0 }) (acked_in old) (copies_acked id 0 octets confirmers mail.mailboxes) is.acked
-            (record { octets = octets; confirmers = confirmers; at_clock = refl; stored = stored; each_once = once; are = refl })));
+            (subst (λ (l : List Ack). AreCopies lines l (is.masks ++ confirmers ∷ []) (acked_in old ++ copies_acked id 0 octets confirmers mail.mailboxes)) (sym (flat_map-append acks_by answered (one ∷ [])))
+            (copies_push lines (flat_map acks_by answered) (record { session = k; mail = mail; id = id; seconds = 0 }) is.masks confirmers (acked_in old) (copies_acked id 0 octets confirmers mail.mailboxes) is.acked
+            (record { octets = octets; at_clock = refl; stored = stored; each_once = once; are = refl })));
       }
 
   -- copies are gone
   pub book_dropped : (user : List ℕ) (ids : List Id) → struck_in more ≡ [] → dropped_in more ≡ map (λ id. (user, id)) ids → acked_in more ≡ []
-      → IsBookOf lines asked (answered ++ record { session = k; call = StrikeCall user ids; answer = WereDropped } ∷ []) (old ++ more)
+      → IsBooked lines asked (answered ++ record { session = k; call = StrikeCall user ids; answer = WereDropped } ∷ []) (old ++ more)
   book_dropped user ids no_struck dropped no_acked =
       let one : Answered = record { session = k; call = StrikeCall user ids; answer = WereDropped } in
       record {
         struck = struck_both old more ∙ ap (λ (l : Pairs). struck_in old ++ l) no_struck ∙ append-nil (struck_in old) ∙ is.struck;
         dropped = with_more (λ (o : Answered). dropped_by o.call o.answer) answered one (dropped_in old) (dropped_in (old ++ more))
             (dropped_both old more ∙ ap (λ (l : Pairs). dropped_in old ++ l) dropped) is.dropped;
+        masks = is.masks;
         acked =
-            subst (λ (l : List Acked). AreCopies lines (flat_map acks_by (answered ++ one ∷ [])) l)
+            subst (λ (l : List Acked). AreCopies lines (flat_map acks_by (answered ++ one ∷ [])) is.masks l)
             (sym (acked_both old more ∙ ap (λ (l : List Acked). acked_in old ++ l) no_acked ∙ append-nil (acked_in old)))
-            (subst (λ (l : List Ack). AreCopies lines l (acked_in old)) (sym (flat_map-append acks_by answered (one ∷ []) ∙ append-nil (flat_map acks_by answered))) is.acked);
+            (subst (λ (l : List Ack). AreCopies lines l is.masks (acked_in old)) (sym (flat_map-append acks_by answered (one ∷ []) ∙ append-nil (flat_map acks_by answered))) is.acked);
       }
 
 -- the entries of one message

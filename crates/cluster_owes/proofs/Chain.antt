@@ -65,7 +65,7 @@ module _ (plan : Plan) (tells : Bool) (lines : List (List ℕ)) where
     in_plan = both.0;
     sound = both.1;
     clock = refl;
-    book_is = record { struck = refl; dropped = refl; acked = refl };
+    book_is = record { struck = refl; dropped = refl; masks = []; acked = (refl, refl) };
     masked = tt;
     files = [];
     apart = tt;

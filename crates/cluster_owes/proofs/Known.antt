@@ -17,7 +17,7 @@ use Rattle.session_model.specs.Calls.{Call, Answer, IsAnswerTo}
 use Rattle.session_model.specs.Calls.Call.{Deliver, Login, Fetch, Strike}
 use Rattle.session_model.specs.Calls.Answer.{Listed, Part}
 use Rattle.session_model.specs.Logs.{Asked, Answered}
-use Rattle.session_model.specs.Books.{AmongAnswers, IsBookOf, acks_by}
+use Rattle.session_model.specs.Books.{AmongAnswers, acks_by}
 use Rattle.session_model.specs.OneNode.{IsSoundMail}
 use Rattle.cluster_model.specs.Reads.{Found}
 use Rattle.cluster_model.specs.Cluster.{NodeFiling, Want, Ticket, Slot, slot_at}
@@ -32,7 +32,7 @@ use Rattle.cluster_owes.proofs.Masks.{IsMask}
 use Rattle.cluster_owes.proofs.Standing.{StandsAs, IsWithinCalls, SameWant, SameWants, SameCall}
 use Rattle.cluster_owes.proofs.WorldSteps.{TicketsStep, boot_id}
 use Rattle.cluster_owes.proofs.Growing.{ClusterGrew}
-use Rattle.cluster_owes.proofs.Books.{AreMasked, AreDeletions}
+use Rattle.cluster_owes.proofs.Books.{IsBooked, AreMasked, AreDeletions}
 
 -- a message that a call filed, under this ticket
 pub record Filed : Type 0 where
@@ -112,7 +112,7 @@ pub record Known (plan : Plan) (tells : Bool) (lines : List (List ℕ)) (asked :
   pub in_plan : InPlan plan.nodes w.slots
   pub sound : Sound plan.confirm (cluster_of w)
   pub clock : w.seconds ≡ 0
-  pub book_is : IsBookOf lines asked answered w.book
+  pub book_is : IsBooked lines asked answered w.book
   pub masked : AreMasked w.book
   pub files : List Filed
   pub apart : AreApart files

@@ -8,9 +8,8 @@ use Rattle.mail_model.specs.Listing.{is_same_id, octets_in}
 use Rattle.mail_model.specs.Tape.{or_else}
 use Rattle.mail_model.specs.Record.{Record, HoldsOctets}
 use Rattle.mail_model.specs.Record.Record.{Boot, Promise, Octets, Stated, Retired}
-use Rattle.mail_model.specs.Book.{Acked, BookEntry, AreCopies, AreCopiesOf, acked_in, struck_in, dropped_in}
+use Rattle.mail_model.specs.Book.{Acked, BookEntry, acked_in, struck_in, dropped_in}
 use Rattle.mail_model.specs.Book.BookEntry.{Acknowledged, Struck, Dropped, WentDown, CameUp, WasLost}
-use Rattle.mail_model.specs.Stored.{Ack}
 use Rattle.object_model.specs.Lists.{Among}
 use Rattle.object_model.proofs.Lists.{among_front, among_behind, among_either}
 use Rattle.object_model.proofs.StateLaws.{id_self}
@@ -120,15 +119,6 @@ dropped_among (Dropped name other confirmers ∷ book) user id m = ⊎_elim
 dropped_among (WentDown node ∷ book) user id m = let r = dropped_among book user id m in (r.0, inr r.1)
 dropped_among (CameUp node boot ∷ book) user id m = let r = dropped_among book user id m in (r.0, inr r.1)
 dropped_among (WasLost node ∷ book) user id m = let r = dropped_among book user id m in (r.0, inr r.1)
-
--- the copies of one answer are among those of all
-pub copies_of_ack : (lines : List (List ℕ)) (acks : List Ack) (copies : List Acked) (ack : Ack) → AreCopies lines acks copies → Among ack acks
-    → (mine : List Acked) × AreCopiesOf lines ack mine × ((copy : Acked) → Among copy mine → Among copy copies)
-copies_of_ack lines [] copies ack are m = absurd m
-copies_of_ack lines (first ∷ acks) copies ack (one, rest, whole, is, more) m = ⊎_elim
-    (λ same. (one, subst (λ (a : Ack). AreCopiesOf lines a one) same is, λ copy k. subst (Among copy) (sym whole) (among_front copy one rest k)))
-    (λ later. let r = copies_of_ack lines acks rest ack more later in (r.0, r.1, λ copy k. subst (Among copy) (sym whole) (among_behind copy one rest (r.2 copy k))))
-    m
 
 -- the calls that asked for a deletion, and the answers that say that it is done
 among_pair : (user name : List ℕ) (id : Id) (ids : List Id) → Among {X = List ℕ × Id} (user, id) (map (λ (i : Id). (name, i)) ids) → (name ≡ user) × IsIn id ids

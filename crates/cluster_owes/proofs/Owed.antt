@@ -5,24 +5,25 @@ use Rattle.object_model.specs.Letters.{Number}
 use Rattle.session_model.specs.Calls.{Call, Answer}
 use Rattle.session_model.specs.Logs.{Answered}
 use Rattle.session_model.specs.Books.{AmongAnswers}
-use Rattle.session_model.specs.Losses.{IsLostIn}
 use Rattle.cluster_owes.specs.Outcomes.{Outcome, asked_by_outcome, answered_by_outcome}
 use Rattle.cluster_owes.specs.Outcomes.Outcome.{Answers}
 use Rattle.cluster_owes.specs.Laws.{ClusterOwes, AnswersFit}
 use Rattle.cluster_owes.proofs.Chain.{known_last}
-use Rattle.cluster_owes.proofs.Owing.{owes_stored, owes_deletions, owes_parts, owes_book}
+use Rattle.cluster_owes.proofs.Owing.{one_content, all_standing, owes_stored, owes_deletions, owes_parts, owes_book}
 
 pub cluster_owes : ClusterOwes
-cluster_owes plan tells stop lines entries stores disks outcomes last few makes sessions held are counted lost =
+cluster_owes plan tells lines stores disks outcomes last few makes sessions held are counted =
     let known = known_last plan tells lines outcomes last few sessions makes in
     let asked = flat_map asked_by_outcome outcomes in
     let answered = flat_map answered_by_outcome outcomes in
     record {
       holds = are;
-      stored = owes_stored plan tells lines asked answered known.0 last known.1 (IsLostIn stop lines entries) lost stores disks held are counted;
-      deletions = owes_deletions plan tells lines asked answered known.0 last known.1 (IsLostIn stop lines entries) lost stores disks held are counted;
-      parts = owes_parts plan tells lines asked answered known.0 last known.1 (IsLostIn stop lines entries) lost stores disks held are counted;
-      books = owes_book plan tells lines asked answered known.0 last known.1 (IsLostIn stop lines entries) lost stores disks held are counted;
+      one_content = one_content plan tells lines asked answered known.0 last known.1 stores disks held are counted;
+      confirmers = (all_standing plan tells lines asked answered known.0 last known.1 stores disks held are counted).confirmers;
+      stored = owes_stored plan tells lines asked answered known.0 last known.1 stores disks held are counted;
+      deletions = owes_deletions plan tells lines asked answered known.0 last known.1 stores disks held are counted;
+      parts = owes_parts plan tells lines asked answered known.0 last known.1 stores disks held are counted;
+      books = owes_book plan tells lines asked answered known.0 last known.1 stores disks held are counted;
     }
 
 -- an answer of one of the steps is one of all

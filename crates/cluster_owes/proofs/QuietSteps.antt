@@ -9,7 +9,7 @@ use Rattle.session_model.specs.Calls.{Call, Answer}
 use Rattle.session_model.specs.Calls.Call.{Deliver, Login, Fetch, Strike}
 use Rattle.session_model.specs.Calls.Answer.{Failed}
 use Rattle.session_model.specs.Logs.{Asked, Answered}
-use Rattle.session_model.specs.Books.{AmongAnswers, IsBookOf, acks_by, dropped_by}
+use Rattle.session_model.specs.Books.{AmongAnswers, acks_by, dropped_by}
 use Rattle.cluster_model.specs.Parts.{IsHeldSomewhere, Sound}
 use Rattle.cluster_model.specs.World.{World, letters_of, cluster_of}
 use Rattle.cluster_model.specs.WorldLaws.{InPlan, MayBring}
@@ -22,7 +22,7 @@ use Rattle.cluster_model.proofs.Running.{steps_sound, steps_bring}
 use Rattle.cluster_owes.specs.Outcomes.{IsIdleStep, BegunCall}
 use Rattle.cluster_owes.proofs.WorldSteps.{OtherGoes, other_goes}
 use Rattle.cluster_owes.proofs.Growing.{ClusterGrew, step_grew}
-use Rattle.cluster_owes.proofs.Books.{AreMasked, masked_both, masked_none, book_lives, book_quiet}
+use Rattle.cluster_owes.proofs.Books.{IsBooked, AreMasked, masked_both, masked_none, book_lives, book_quiet}
 use Rattle.cluster_owes.proofs.Known.{Filed, AnswerStands, TicketFits, AckStands, Known, HoldsNoMore, calls_still, tickets_still, filed_still, acks_still, answers_still}
 
 -- what a step keeps in any case
@@ -48,7 +48,7 @@ known_quiet plan tells lines asked answered begun old new known kept other no_mo
   in_plan = kept.in_plan;
   sound = kept.sound;
   clock = other.goes.seconds ∙ known.clock;
-  book_is = subst (IsBookOf lines asked answered) (sym other.goes.book) (book_lives lines asked answered old.book other.entries other.lives known.book_is);
+  book_is = subst (IsBooked lines asked answered) (sym other.goes.book) (book_lives lines asked answered old.book other.entries other.lives known.book_is);
   masked = subst (λ b. AreMasked b) (sym other.goes.book) (masked_both old.book other.entries known.masked (masked_none other.entries other.lives.acked other.lives.dropped));
   files = known.files;
   apart = known.apart;
@@ -133,7 +133,7 @@ known_answered plan tells lines asked answered begun w k one answer no_drop no_a
   in_plan = known.in_plan;
   sound = known.sound;
   clock = known.clock;
-  book_is = subst (IsBookOf lines asked (answered ++ last ∷ [])) (append-nil w.book) (book_quiet lines asked answered w.book [] k known.book_is one answer no_drop no_ack refl refl refl);
+  book_is = subst (IsBooked lines asked (answered ++ last ∷ [])) (append-nil w.book) (book_quiet lines asked answered w.book [] k known.book_is one answer no_drop no_ack refl refl refl);
   masked = known.masked;
   files = known.files;
   apart = known.apart;

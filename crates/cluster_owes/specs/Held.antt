@@ -6,8 +6,7 @@ use Rattle.mail_model.specs.Record.{Record}
 use Rattle.mail_model.specs.Record.Record.{Octets}
 use Rattle.mail_model.specs.Listing.{octets_in}
 use Rattle.object_model.specs.Lists.{Among}
-use Rattle.cluster_model.specs.Cluster.{Slot, slot_at, pending_of}
-use Rattle.cluster_model.specs.Cluster.Life.{Lost}
+use Rattle.cluster_model.specs.Cluster.{Slot, pending_of}
 
 -- A store holds the records of its node, with what was pending or without it.
 abbrev pub IsHeld : Slot → List Record → Type 0
@@ -26,7 +25,3 @@ filed_on (records ∷ disks) id = or_else (octets_in id records) (filed_on disks
 -- 64 bits count the octets of each message
 abbrev pub AreCounted : List (List Record) → Type 0
 AreCounted disks = (n : ℕ) (records : List Record) (id : Id) (octets : List ℕ) → slice_get disks n ≡ Some records → Among (Octets id octets) records → length octets < 2 ^ 64
-
--- the node is lost for good
-abbrev pub IsLostAt : List Slot → ℕ → Type 0
-IsLostAt slots n = (slot : Slot) × (slot_at slots n ≡ Some slot) × (slot.life ≡ Lost)

@@ -2,9 +2,6 @@
 use Rattle.std.specs.Prelude.{◌≡◌, ◌≤◌, ℕ, Bool, true, List, [], flat_map, Option}
 use Rattle.mail_model.specs.Plan.{Plan}
 use Rattle.mail_model.specs.Record.{Record}
-use Rattle.mail_model.specs.Transcript.{Entry}
-use Rattle.session_model.specs.Run.{Stop}
-use Rattle.session_model.specs.Losses.{IsLostIn}
 use Rattle.session_model.specs.Copies.{AreDisks}
 use Rattle.session_model.specs.Owes.{Owes}
 use Rattle.object_model.specs.Lists.{Among}
@@ -18,15 +15,15 @@ use Rattle.cluster_model.specs.Steps.Step.{AskFor}
 use Rattle.cluster_model.specs.Steps.Said.{Asked as AskedFor}
 use Rattle.cluster_model.specs.Steps.StepOutcome.{Says}
 use Rattle.cluster_owes.specs.Outcomes.Outcome.{Answers, Other}
-use Rattle.cluster_owes.specs.Held.{AreHeld, AreCounted, IsLostAt, filed_on}
+use Rattle.cluster_owes.specs.Held.{AreHeld, AreCounted, filed_on}
 
 -- From its opening a cluster makes steps, in whatever order its calls begin and are asked for, whatever becomes of its letters and of its nodes. Whatever its stores then
 -- turn out to hold of what was pending: it owes of its calls what sessions are promised, and has it.
 abbrev pub ClusterOwes : Type 0
-ClusterOwes = (plan : Plan) (tells : Bool) (stop : Stop) (lines : List (List ℕ)) (entries : List Entry) (stores : List (Option (List ℕ))) (disks : List (List Record))
+ClusterOwes = (plan : Plan) (tells : Bool) (lines : List (List ℕ)) (stores : List (Option (List ℕ))) (disks : List (List Record))
     (outcomes : List Outcome) (last : World) → plan.nodes ≤ 64 → Makes plan tells outcomes [] (opening_world plan.nodes) last → AreOfSessions lines outcomes
-    → AreHeld last.slots disks → AreDisks 1 stores disks → (tells ≡ true → AreCounted disks) → ((n : ℕ) → IsLostAt last.slots n → IsLostIn stop lines entries n)
-    → Owes plan tells lines (IsLostIn stop lines entries) stores disks (filed_on disks) (flat_map asked_by_outcome outcomes) (flat_map answered_by_outcome outcomes) last.book
+    → AreHeld last.slots disks → AreDisks 1 stores disks → (tells ≡ true → AreCounted disks)
+    → Owes plan tells lines stores disks (filed_on disks) (flat_map asked_by_outcome outcomes) (flat_map answered_by_outcome outcomes) last.book
 
 -- And each call that was answered was answered by an answer of its kind.
 abbrev pub AnswersFit : Type 0

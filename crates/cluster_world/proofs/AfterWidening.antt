@@ -1,12 +1,12 @@
 -- What a step leaves in which one node worked: that node is up as before, did its work, or went down in it.
-use Rattle.std.proofs.Common.{get_or, ◌≡◌, ◌≢◌, ◌⊎◌, inl, ℕ, zero, suc, ◌+◌, ◌≤◌, true, false, List, [], ◌∷◌, ◌++◌, append-nil, Option, Some, None, Result, Ok, refl, sym, ap, ◌∙◌, subst, arith}
+use Rattle.std.proofs.Common.{get_or, ◌≡◌, ◌≢◌, ◌⊎◌, inl, ℕ, zero, suc, ◌+◌, ◌≤◌, true, false, List, [], ◌∷◌, ◌++◌, append-nil, Option, Some, None, Result, Ok, refl, sym, ap, ◌∙◌, subst, arith, length}
 use Rattle.std.specs.Prelude.{⊤, IfSome, is_some, slice_get}
 use Rattle.std.proofs.lemmas.Option.{slice_get-get_or}
 use Rattle.std.specs.List.{list_all}
 use Rattle.std.proofs.lemmas.Bool.{and_parts}
 use Rattle.std.proofs.lemmas.Bool.Decides.{nat_tests}
 use Rattle.io_edge.specs.Causes.{Rose}
-use Rattle.io_edge.specs.Moments.{Passed, Keeps as KeepsImages}
+use Rattle.io_edge.specs.Moments.{Passed}
 use Rattle.io_edge.specs.Octets.{IsToldAlike}
 use Rattle.mail_model.specs.Plan.{Plan}
 use Rattle.mail_model.specs.Record.{Record, payloads_of}
@@ -48,13 +48,6 @@ use Rattle.cluster_world.proofs.Falling.{fallen}
 use Rattle.cluster_world.proofs.Turned.{disk_there, slot_of, slots_stand, stops_kept, lives_turned, told_by, quiet_by, settled_by, still_ready, falls_now}
 use Rattle.cluster_world.proofs.Changing.{node_at}
 use Rattle.cluster_world.proofs.Asked.{ready_of, turned_same, disk_of}
-
--- nothing was read, and all the less written
-pub nothing_read : {D : Type 0} (on : View D) (d d' : D) → d' ≡ d → IsOnlyRead on d d'
-nothing_read on d d' e = record {
-  seen = ap on.seen e;
-  images = subst (λ x. KeepsImages on.clock d x) (sym e) (record { later = omega arith; since = λ t c le was. inl was; now = λ c image. image });
-}
 
 -- nodes that a step names are the plan's
 pub within_first : (plan : Plan) (n to : ℕ) → list_all (is_node plan) (n ∷ to ∷ []) ≡ true → (1 ≤ n) × (n ≤ plan.nodes)
@@ -192,7 +185,7 @@ module _ {D : Type 0} (on : View D) (n : ℕ) (P : Life → D → Life → D →
       stays_told = told_by n P old new ch flying flying' seconds seconds' book book' on.seen s.told
 
       pub stays_quiet : IsQuiet on.faults (state_with old flying seconds book) (state_with new flying' seconds' book')
-      stays_quiet = quiet_by n P old new ch flying flying' seconds seconds' book book' on.faults (omega (arith, s.faults)) (λ boot _ _. s.faults)
+      stays_quiet = quiet_by n P old new ch flying flying' seconds seconds' book book' on.faults (omega (arith, s.faults)) (λ boot _. s.faults)
 
       pub stays_settled : (is_settled : D → Type 0) → (is_settled ch.disk → is_settled ch.disk') → AreSettled is_settled (state_with old flying seconds book)
           → AreSettled is_settled (state_with new flying' seconds' book')
@@ -219,7 +212,7 @@ module _ {D : Type 0} (on : View D) (n : ℕ) (P : Life → D → Life → D →
       down_told = told_by n P old new ch flying flying' seconds seconds' book book' on.seen f.told
 
       pub down_quiet : IsQuiet on.faults (state_with old flying seconds book) (state_with new flying' seconds' book')
-      down_quiet = quiet_by n P old new ch flying flying' seconds seconds' book book' on.faults f.later (λ boot _ up. absurd (never_up boot up))
+      down_quiet = quiet_by n P old new ch flying flying' seconds seconds' book book' on.faults f.later (λ boot up. absurd (never_up boot up))
 
       pub down_settled : (is_settled : D → Type 0) → AreSettled is_settled (state_with old flying seconds book) → AreSettled is_settled (state_with new flying' seconds' book')
       down_settled is_settled = settled_by n P old new ch flying flying' seconds seconds' book book' is_settled (λ boot up _. absurd (never_up boot up))
@@ -278,6 +271,7 @@ module _ {D : Type 0} (on : View D) (n : ℕ) (P : Life → D → Life → D →
     pub record CutThere (rule : Rule) (found : FoundUp) : Type 0 where
       pub front : List Record
       pub pending : List Record
+      pub one : length pending ≤ 1
       pub cut : IsWorkCut found.slot.disk (rule (node_seen a) found.slot.disk).disk front pending
       pub moved : SlotsMoved found.slot (record { life = plain.Life.Down pending; disk = found.slot.disk ++ front })
 
@@ -288,6 +282,7 @@ module _ {D : Type 0} (on : View D) (n : ℕ) (P : Life → D → Life → D →
         record {
           front = t.front;
           pending = t.pending;
+          one = t.one;
           cut = subst (λ m. IsWorkCut found.slot.disk (rule m found.slot.disk).disk t.front t.pending) same t.cut;
           moved = moved found.slot (record { life = plain.Life.Down t.pending; disk = found.slot.disk ++ t.front }) Down found.here is t.stands t.keeps;
         }

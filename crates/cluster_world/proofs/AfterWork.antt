@@ -1,5 +1,5 @@
 -- What a step leaves in which one node worked, and after which tickets may have changed: the node did its work, or stopped in it, or went down after it.
-use Rattle.std.proofs.Common.{◌≡◌, ◌≢◌, ℕ, zero, suc, ◌+◌, ◌≤◌, List, [], ◌∷◌, ◌++◌, length, append-nil, Option, Some, Result, refl, sym, ap, ◌∙◌, subst}
+use Rattle.std.proofs.Common.{◌≡◌, ◌≢◌, ℕ, zero, suc, ◌+◌, ◌≤◌, List, [], ◌∷◌, ◌++◌, length, append-nil, Option, Some, Result, refl, sym, ap, ◌∙◌, subst, arith}
 use Rattle.std.specs.Prelude.{slice_set, IfSome, IfOk}
 use Rattle.mail_model.specs.Plan.{Plan}
 use Rattle.mail_model.specs.Record.{Record, payloads_of}
@@ -31,7 +31,7 @@ use Rattle.cluster_world.specs.Missing.{all_missed, OnlyTickets, SentOff}
 use Rattle.cluster_world.specs.Moments.{StopsKeep}
 use Rattle.cluster_world.specs.Works.{slot_after, SlotTurned, SlotCut}
 use Rattle.cluster_world.specs.Turns.{node_refusal, life_after_step}
-use Rattle.cluster_world.specs.Steps.{AreToldAlike, IsQuiet, AreSettled, EveryStopKeeps, StepDid, LeadsTo, FaultHasCause, IsRefusedRight, SaysSo, FallsSo, IsLighter}
+use Rattle.cluster_world.specs.Steps.{AreToldAlike, IsQuiet, AreSettled, EveryStopKeeps, StepDid, LeadsTo, FaultHasCause, IsRefusedRight, SaysSo, FallsSo, IsLighter, ChangesNothing}
 use Rattle.cluster_world.specs.declared.step.Step.{Step}
 use Rattle.cluster_world.specs.declared.step.Said.{Said}
 use Rattle.cluster_world.specs.declared.fault.StepFault.{StepFault}
@@ -119,13 +119,13 @@ module _ {D : Type 0} (on : View D) (n : ℕ) (P : Life → D → Life → D →
         let told = told_by n P old mid ch flying flying' seconds seconds book book' seen here in
         record { each = λ m d d' e f. told.each m d d' e (of_mid m d' f) }
 
-    pub work_quiet : (faults : D → ℕ) → faults ch.disk ≤ faults ch.disk' → ((boot : ℕ) → life_seen ch.life ≡ life.Up boot → life_seen ch.life' ≡ life.Up boot → faults ch.disk' ≡ faults ch.disk)
+    pub work_quiet : (faults : D → ℕ) → faults ch.disk ≤ faults ch.disk' → ((boot : ℕ) → life_seen ch.life' ≡ life.Up boot → faults ch.disk' ≡ faults ch.disk)
         → IsQuiet faults before behind
     work_quiet faults later same =
         let quiet = quiet_by n P old mid ch flying flying' seconds seconds book book' faults later same in
         record {
           later = λ m d d' e f. quiet.later m d d' e (of_mid m d' f);
-          same = λ m boot d d' a b e f. quiet.same m boot d d' a (sym (only.lives m) ∙ b) e (of_mid m d' f);
+          same = λ m boot d d' b e f. quiet.same m boot d d' (sym (only.lives m) ∙ b) e (of_mid m d' f);
         }
 
     pub work_settled : (is_settled : D → Type 0) → ((boot : ℕ) → life_seen ch.life' ≡ life.Up boot → (life_seen ch.life ≡ life.Up boot → is_settled ch.disk) → is_settled ch.disk')
@@ -157,9 +157,9 @@ module _ {D : Type 0} (on : View D) (n : ℕ) (P : Life → D → Life → D →
     pub work_did : (result : Result Said StepFault) (step : Step) → IsRefusedRight result (node_refusal old.plan (life_among old) step) → IfOk result (SaysSo step)
         → FallsSo result old.plan.nodes step (life_among old) → ((m : ℕ) → life_among new m ≡ life_after_step result step m (life_among old m))
         → IsToldAlike (on.seen ch.disk) (on.seen ch.disk') → on.faults ch.disk ≤ on.faults ch.disk'
-        → ((boot : ℕ) → life_seen ch.life ≡ life.Up boot → life_seen ch.life' ≡ life.Up boot → on.faults ch.disk' ≡ on.faults ch.disk) → IsLighter result step before behind
+        → ((boot : ℕ) → life_seen ch.life' ≡ life.Up boot → on.faults ch.disk' ≡ on.faults ch.disk) → IsLighter result step before behind → ChangesNothing on result step before behind
         → ((w : machine.World) → StateStandsFor on before w → LeadsTo on result step before behind w) → FaultHasCause on result step before behind → StepDid on result step before behind
-    work_did result step refused kind falls lives told later same lighter leads cause = record {
+    work_did result step refused kind falls lives told later same lighter kept leads cause = record {
       plan = work_plan;
       handed = work_handed;
       refused = refused;
@@ -169,6 +169,7 @@ module _ {D : Type 0} (on : View D) (n : ℕ) (P : Life → D → Life → D →
       told = work_told on.seen told;
       quiet = work_quiet on.faults later same;
       lighter = lighter;
+      kept = kept;
       leads = λ known ended w st. leads w st;
       cause = λ w st. cause;
     }
@@ -256,6 +257,7 @@ module _ {D : Type 0} (on : View D) (n : ℕ) (P : Life → D → Life → D →
     pub node_is : node ≡ node_seen a
     pub front : List Record
     pub pending : List Record
+    pub one : length pending ≤ 1
     pub cut : IsWorkCut disk (rule node disk).disk front pending
     pub stands : SlotStands on n Down ch.disk' (record { life = plain.Life.Down pending; disk = disk ++ front })
     pub keeps : StopsKeep on n ch.disk ch.disk' (slot_up node disk) (record { life = plain.Life.Down pending; disk = disk ++ front })
@@ -271,6 +273,7 @@ module _ {D : Type 0} (on : View D) (n : ℕ) (P : Life → D → Life → D →
         node_is = node_of slot c.node c.was stood;
         front = c.front;
         pending = c.pending;
+        one = c.one;
         cut = c.cut;
         stands = c.stands;
         keeps = subst (λ s. StopsKeep on n ch.disk ch.disk' s (record { life = plain.Life.Down c.pending; disk = slot.disk ++ c.front })) c.was c.keeps;
@@ -291,6 +294,7 @@ module _ {D : Type 0} (on : View D) (n : ℕ) (P : Life → D → Life → D →
         node_is = node_is;
         front = did.added;
         pending = [];
+        one = omega arith;
         cut = record { missing = []; is = grew ∙ ap (λ xs. slot.disk ++ xs) (sym (no_more did.added)) };
         stands = subst (λ xs. SlotStands on n Down ch.disk' (record { life = plain.Life.Down []; disk = xs })) grew ([], refl, fit, holds);
         keeps = subst (λ xs. StopsKeep on n ch.disk ch.disk' (slot_up t.node slot.disk) (record { life = plain.Life.Down []; disk = xs })) grew

@@ -1,6 +1,6 @@
 -- What an ask of a ticket does.
 use Rattle.std.proofs.Common.{◌≡◌, ◌≢◌, inl, ℕ, zero, suc, ◌+◌, ◌≤◌, Bool, true, false, List, [], ◌∷◌, ◌++◌, length, append-nil, Option, Some, None, Result, Ok, Err, refl, sym, ap, ◌∙◌, subst, arith, nat_eq, nat_le, if◌then◌else◌}
-use Rattle.std.specs.Prelude.{IfSome, is_some}
+use Rattle.std.specs.Prelude.{IfSome, is_some, MatchBool}
 use Rattle.std.specs.List.{list_all}
 use Rattle.std.specs.FinMap as fin
 use Rattle.mail_model.specs.Plan.{Plan}
@@ -22,7 +22,7 @@ use Rattle.cluster_model.specs.Rules.{end_ticket}
 use Rattle.disk_journal.specs.Journal.{TellsJournal, EndsAt}
 use Rattle.call_tickets.specs.declared.answer.Ask as code
 use Rattle.node_tickets.specs.Seen.{ask_seen}
-use Rattle.node_tickets.specs.Standing.{is_done, asks_seen, asks_at, asked_out, wants_at, ticket_taken_out}
+use Rattle.node_tickets.specs.Standing.{is_done, asks_seen, asks_at, asked_out, wants_at, ticket_taken_out, done_at}
 use Rattle.node_store.specs.Disks.{View}
 use Rattle.node_core.specs.Nodes.{node_seen, CanWork, IsNodeOf}
 use Rattle.node_core.specs.Standing.{ticket_standing}
@@ -34,9 +34,9 @@ use Rattle.cluster_world.specs.Books.{entries_seen, booked_by}
 use Rattle.cluster_world.specs.Flights.{InFlight}
 use Rattle.cluster_world.specs.Lives.{life_seen, of_node, falls_left, all_falls_left, CanWorkOn}
 use Rattle.cluster_world.specs.Stands.{SlotStands}
-use Rattle.cluster_world.specs.Worlds.{seen_life, life_among, state_with, StateStandsFor}
+use Rattle.cluster_world.specs.Worlds.{seen_life, life_among, state_with, StateStandsFor, node_of_life}
 use Rattle.cluster_world.specs.Changes.{ChangesNode}
-use Rattle.cluster_world.specs.Asking.{IsUpWhole, AreForTicket, confirms, IsAskedOn, IsRetold, IsRetoldOn, tickets_without}
+use Rattle.cluster_world.specs.Asking.{IsUpWhole, AreForTicket, confirms, IsAskedOn, IsRetold, IsRetoldOn, tickets_without, IsDoneAt}
 use Rattle.cluster_world.specs.Turns.{life_refusal, node_refusal}
 use Rattle.cluster_world.specs.Moments.{StopsKeep}
 use Rattle.cluster_world.specs.Steps.{StepDid, AreSettled, LeadsTo, AreToldAlike, IsQuiet}
@@ -49,11 +49,18 @@ use Rattle.cluster_world.specs.declared.step.Step.TheVariants as step
 use Rattle.cluster_world.specs.declared.step.Said.TheVariants.{Asked, Done}
 use Rattle.cluster_world.specs.declared.fault.StepFault.{StepFault}
 use Rattle.cluster_world.specs.declared.fault.StepFault.TheVariants as fault
-use Rattle.cluster_world.proofs.Still.{some_same, both_at}
+use Rattle.cluster_world.proofs.Still.{some_same, both_at, nothing_read}
 use Rattle.cluster_world.proofs.Changing.{set_same}
 use Rattle.cluster_world.proofs.Turned.{slot_of, lives_turned, as_many, told_by, quiet_by, settled_by, still_ready, falls_now, stops_kept, stands_now}
 use Rattle.cluster_world.proofs.Refusing.{fit_of, ask_goes, no_ticket_asked, give_up_goes}
 use Rattle.cluster_world.proofs.Falling.{falls_kept, entries_more}
+use Rattle.cluster_world.proofs.Unchanged.{unchanged_by}
+use Rattle.cluster_world.specs.Sure.{is_done_in}
+use Rattle.cluster_world.specs.Telling.{standing_on}
+
+when_done : (b : Bool) (X Y : Type 0) → b ≡ true → MatchBool b X Y → X
+when_done true X Y e m = m
+when_done false X Y e m = absurd (let never : false ≡ true = e in cc)
 
 -- where a node turns to what it was, nothing has changed
 pub turned_same : (f : ℕ → NodeLife) (n m : ℕ) → turned n (f n) m (f m) ≡ f m
@@ -174,7 +181,7 @@ module _ {D : Type 0} (on : View D) (ticket : Number) (left_of : Node → plain.
     retold_quiet : IsQuiet on.faults before behind
     retold_quiet = quiet_by ticket.node (IsRetoldOn left_of) old new ch flying flying seconds seconds book book' on.faults
         (subst (λ d. on.faults ch.disk ≤ on.faults d) (sym ch.does.1) (omega arith))
-        (λ boot _ _. ap on.faults ch.does.1)
+        (λ boot _. ap on.faults ch.does.1)
 
     pub retold_settled : (is_settled : D → Type 0) → AreSettled is_settled before → AreSettled is_settled behind
     retold_settled is_settled = settled_by ticket.node (IsRetoldOn left_of) old new ch flying flying seconds seconds book book' is_settled
@@ -226,6 +233,9 @@ module _ {D : Type 0} (on : View D) (ticket : Number) (left_of : Node → plain.
             told = retold_told;
             quiet = retold_quiet;
             lighter = tt;
+            kept = unchanged_by ticket.node (IsRetoldOn left_of) old new ch flying flying seconds seconds book book' on (step.Ask ticket)
+                (ap (λ (l : Life). node_of_life (Some l)) a.is ∙ ap Some (a.tickets.seen ∙ ap (λ (l : plain.Tickets). record (node_seen a.old) { tickets = l }) left_is) ∙ sym (ap (λ (l : Life). node_of_life (Some l)) a.was))
+                (λ _. ch.does.1) (λ _. (nothing_read on ch.disk ch.disk' ch.does.1, ap on.faults ch.does.1)) refl refl wrote;
             leads = λ known ended w st.
                 let (slot, here, stood) = slot_of on old.lives.items old.disks.items w.slots ticket.node ch.life ch.disk st.slots ch.was ch.held in
                 let is = seen_there slot stood in
@@ -269,7 +279,7 @@ module _ {D : Type 0} (on : View D) (ticket : Number) (left_of : Node → plain.
             left_out ∙ ap (λ o. asked_out a.old.shape.confirm ticket.seq o (node_seen a.old).tickets) stands
             ∙ ap (λ x. if is_done x then fin.remove (node_seen a.old).tickets ticket.seq else (node_seen a.old).tickets) (answer ∙ e) in
             let made_for : is_done (ask_of a.old.shape.confirm t) ≡ true → entries_seen items ≡ wants_entries t.wants =
-            λ done. for (ap (Rattle.node_tickets.specs.Standing.done_at a.old.shape.confirm) stands ∙ done) ∙ ap (λ o. wants_entries (wants_at o)) stands in
+            λ done. when_done (done_at a.old.shape.confirm (ticket_standing a.old ticket)) _ _ (ap (done_at a.old.shape.confirm) stands ∙ done) for ∙ ap (λ o. wants_entries (wants_at o)) stands in
             let says : entries_seen (if confirms (ask_seen ask) then items else []) ≡ entries_with given t =
             ap (λ x. entries_seen (if confirms x then items else [])) e ∙ entered a.old.shape.confirm t given items made_for (answer ∙ e) in
             leads_so (step.Ask ticket) (Ok (Asked ask)) (entries_with given t) (booked ∙ ap (λ x. booked_by book ++ x) says) w st slot here stood (
@@ -290,6 +300,7 @@ module _ {D : Type 0} (on : View D) (ticket : Number) (left_of : Node → plain.
           told = retold_told;
           quiet = retold_quiet;
           lighter = tt;
+          kept = tt;
           leads = λ known ended w st. ask_leads (ask_seen ask) refl w st;
           cause = λ w st. tt;
         }
@@ -325,6 +336,7 @@ module _ {D : Type 0} (on : View D) (ticket : Number) (left_of : Node → plain.
         told = retold_told;
         quiet = retold_quiet;
         lighter = tt;
+        kept = tt;
         leads = λ known ended w st. give_up_leads w st;
         cause = λ w st. tt;
       }
@@ -404,3 +416,23 @@ same_book {D} on outcome s old new flying seconds book book' e did =
 pub none_of : {X : Type 0} (o : Option X) → ((x : X) → o ≡ Some x → ⊥) → o ≡ None
 none_of None h = refl
 none_of (Some x) h = absurd (h x refl)
+
+-- a ticket whose call is done at its node is done in the world
+pub done_in_world : {D : Type 0} (seen : D → Option (List ℕ)) (ticket : Number) (nodes : Nodes D) (flying : InFlight) (seconds : ℕ) (book : Book) → CanWorkOn seen nodes.plan nodes.lives.items nodes.disks.items
+    → (life : Life) → of_node nodes.lives.items ticket.node ≡ Some life → IsDoneAt ticket life → is_done_in (state_with nodes flying seconds book) ticket ≡ true
+done_in_world seen ticket nodes flying seconds book ready (Up node) here done =
+    let (disk, held) = disk_of nodes.disks.items nodes.lives.items ticket.node (Up node) (nodes.all ∙ sym nodes.disk_each) here in
+    let (of, works) = ready_of seen nodes.plan nodes.lives.items nodes.disks.items ready ticket.node node disk here held in
+    ap (λ o. done_at nodes.plan.confirm (standing_on o ticket)) here ∙ ap (λ c. done_at c (ticket_standing node ticket)) (sym of.confirm) ∙ done
+done_in_world seen ticket nodes flying seconds book ready Down here done = absurd done
+done_in_world seen ticket nodes flying seconds book ready Lost here done = absurd done
+
+-- where there are entries the call is done
+pub entries_done : (ticket : Number) (life : Life) (entries : List Entry) → AreForTicket ticket life entries → 1 ≤ length entries → IsDoneAt ticket life
+entries_done ticket (Up node) entries for some = by _ (done_at node.shape.confirm (ticket_standing node ticket)) for
+  where
+    by : (X : Type 0) (b : Bool) → MatchBool b X (entries ≡ []) → b ≡ true
+    by X true m = refl
+    by X false m = absurd (omega (arith, some, ap length m))
+entries_done ticket Down entries none some = absurd (omega (arith, some, ap length none))
+entries_done ticket Lost entries none some = absurd (omega (arith, some, ap length none))

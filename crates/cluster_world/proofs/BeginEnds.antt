@@ -40,7 +40,7 @@ use Rattle.cluster_world.specs.declared.step.Said.{Said}
 use Rattle.cluster_world.specs.declared.step.Said.TheVariants as said
 use Rattle.cluster_world.specs.declared.fault.StepFault.{StepFault}
 use Rattle.cluster_world.specs.declared.fault.StepFault.TheVariants as fault
-use Rattle.cluster_world.proofs.Same.{same_told, same_quiet, same_stops}
+use Rattle.cluster_world.proofs.Same.{same_told, same_quiet, same_stops, same_unchanged}
 use Rattle.cluster_world.proofs.Asked.{disk_of}
 use Rattle.cluster_world.proofs.Kept.{only_settled}
 use Rattle.cluster_world.proofs.Refusing.{fit_of}
@@ -51,6 +51,7 @@ use Rattle.cluster_world.proofs.BeginIdle.{read_stands, read_stops}
 use Rattle.cluster_world.proofs.BeginSteps.{begun_step}
 use Rattle.cluster_world.proofs.BeginFalls.{unsent_step, stopped_step, failed_step}
 use Rattle.cluster_world.proofs.BeginParts.{begin_ready, begin_settles, begin_falls, begin_up, not_up, Began, begin_named, begin_life, begin_did, read_none}
+use Rattle.cluster_world.proofs.Unchanged.{unchanged_by, node_kept, changes_none}
 
 -- where the numbers of letters are used up
 module _ {D : Type 0} (on : View D) (n : ℕ) (call : Call) (seconds : ℕ) (old : Nodes D) (fit : node_refusal old.plan (life_among old) (step.Begin n call) ≡ None) (flying : InFlight) (book : Book)
@@ -70,6 +71,7 @@ module _ {D : Type 0} (on : View D) (n : ℕ) (call : Call) (seconds : ℕ) (old
     told = same_told on (state_with old flying seconds book);
     quiet = same_quiet on (state_with old flying seconds book);
     lighter = tt;
+    kept = same_unchanged on (state_with old flying seconds book) (step.Begin n call);
     leads = λ known ended w st.
         let (node, up) = here_up (of_node old.lives.items n) (fit_of (list_all (is_node old.plan) (n ∷ [])) (Rattle.cluster_world.specs.Turns.life_refusal (step.Begin n call) (life_among old n)) fit).1 in
         let (disk, held) = disk_of old.disks.items old.lives.items n (Up node) (old.all ∙ sym old.disk_each) up in
@@ -122,8 +124,10 @@ module _ {D : Type 0} (on : View D) (is_settled : D → Type 0) (n : ℕ) (call 
         lives = λ m. work_goes_on on n B old mid mid ch (λ slots. slots) (nothing_else on mid)
             (ap life_seen is ∙ ap (λ (x : plain.Node). life.Up x.boot) same.seen ∙ sym (ap life_seen ch.does.0.was)) m ∙ sym (lives m);
         told = work_told on n B old mid mid ch (λ slots. slots) (nothing_else on mid) flying flying seconds book book' on.seen (ap (λ (o : Option (List ℕ)). is_some o) read.seen);
-        quiet = work_quiet on n B old mid mid ch (λ slots. slots) (nothing_else on mid) flying flying seconds book book' on.faults (omega (arith, quiet)) (λ boot up now. quiet);
+        quiet = work_quiet on n B old mid mid ch (λ slots. slots) (nothing_else on mid) flying flying seconds book book' on.faults (omega (arith, quiet)) (λ boot now. quiet);
         lighter = tt;
+        kept = changes_none on why (step.Begin n call) start final (unchanged_by n B old mid ch flying flying seconds seconds book book' on (step.Begin n call)
+            (node_kept ch.life ch.life' a b ch.does.0.was is same) (λ away. absurd (away refl)) (λ _. (read, quiet)) refl refl (ap entries_seen (wrote ∙ append-nil (entries_of book))));
         leads = λ known ended w st. record {
           next = w;
           stands = read_stands on n B old mid mid ch (nothing_else on mid) a ch.does.0.was read flying flying seconds book book' b is same refl w st (booked w st);

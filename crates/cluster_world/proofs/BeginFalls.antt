@@ -1,5 +1,5 @@
 -- A call that begins takes its node down: its disk failed, or memory ran out.
-use Rattle.std.proofs.Common.{◌≡◌, ◌⊎◌, inl, inr, ⊎_elim, ℕ, ◌+◌, ◌≤◌, nat_le, true, false, List, [], ◌∷◌, ◌++◌, length, append-nil, append_assoc, Option, Some, None, Result, Ok, Err, refl, sym, ap, ◌∙◌, subst, arith}
+use Rattle.std.proofs.Common.{◌≡◌, ◌⊎◌, inl, inr, ⊎_elim, ℕ, ◌≤◌, nat_le, true, false, List, [], ◌∷◌, ◌++◌, length, append-nil, append_assoc, Option, Some, None, Result, Ok, Err, refl, sym, ap, ◌∙◌, subst, arith}
 use Rattle.std.specs.Prelude.{IfOk, is_some}
 use Rattle.io_edge.specs.Causes.{Rose}
 use Rattle.io_edge.specs.Octets.{IsToldAlike}
@@ -37,7 +37,7 @@ use Rattle.cluster_world.specs.Changes.{ChangesNode, IsTurnedTo}
 use Rattle.cluster_world.specs.Flights.{InFlight}
 use Rattle.cluster_world.specs.Lives.{life_seen, CanWorkOn}
 use Rattle.cluster_world.specs.Seen.{outcome_seen}
-use Rattle.cluster_world.specs.Steps.{StepDid, LeadsTo, FaultHasCause, MayReadAmiss, WasToWork, IsRefusedRight, SaysSo, FallsSo, IsLighter, MayMisread}
+use Rattle.cluster_world.specs.Steps.{StepDid, LeadsTo, FaultHasCause, MayReadAmiss, WasToWork, IsRefusedRight, SaysSo, FallsSo, IsLighter, MayMisread, ChangesNothing}
 use Rattle.cluster_world.specs.Turns.{node_refusal, life_after_step}
 use Rattle.cluster_world.specs.Worlds.{WorldState, life_among, state_with, tells_in, StateStandsFor}
 use Rattle.cluster_world.specs.declared.life.Life.{Life}
@@ -117,6 +117,7 @@ module _ {D : Type 0} (on : View D) (n : ℕ) (call : Call) (seconds : ℕ) (old
   goes_down octets w st k = record {
     front = k.front;
     pending = k.pending;
+    one = k.one;
     cut = subst (λ xs. IsWorkCut k.disk xs k.front k.pending)
         (ap (λ x. (begun_by old.plan (at_second seconds) n x k.disk c octets).disk) k.node_is
         ∙ ap (λ s. (begun_by old.plan (at_second s) n (node_seen a) k.disk c octets).disk) st.seconds
@@ -138,9 +139,9 @@ module _ {D : Type 0} (on : View D) (n : ℕ) (call : Call) (seconds : ℕ) (old
 
   fell_did : (result : Result Said StepFault) → IsRefusedRight result (node_refusal old.plan (life_among old) (step.Begin n call)) → IfOk result (SaysSo (step.Begin n call))
       → FallsSo result old.plan.nodes (step.Begin n call) (life_among old) → ((m : ℕ) → life_after_step result (step.Begin n call) m (life_among old m) ≡ turned n life.Down m (life_among old m))
-      → IsLighter result (step.Begin n call) start final → ((w : machine.World) → StateStandsFor on start w → LeadsTo on result (step.Begin n call) start final w)
+      → IsLighter result (step.Begin n call) start final → ChangesNothing on result (step.Begin n call) start final → ((w : machine.World) → StateStandsFor on start w → LeadsTo on result (step.Begin n call) start final w)
       → ((w : machine.World) → StateStandsFor on start w → FaultHasCause on result (step.Begin n call) start final) → StepDid on result (step.Begin n call) start final
-  fell_did result refused kind_so falls lives lighter leads cause = record {
+  fell_did result refused kind_so falls lives lighter kept leads cause = record {
     plan = ch.plan;
     handed = as_many n P old new ch;
     refused = refused;
@@ -148,8 +149,9 @@ module _ {D : Type 0} (on : View D) (n : ℕ) (call : Call) (seconds : ℕ) (old
     falls = falls;
     lives = λ m. lives_turned n P old new ch m ∙ ap (λ l. turned n (life_seen l) m (life_among old m)) down ∙ sym (lives m);
     told = told_by n P old new ch flying flying seconds seconds book book' on.seen told;
-    quiet = quiet_by n P old new ch flying flying seconds seconds book book' on.faults later (λ boot up now. absurd (let never : life.Down ≡ life.Up boot = sym (ap life_seen down) ∙ now in cc));
+    quiet = quiet_by n P old new ch flying flying seconds seconds book book' on.faults later (λ boot now. absurd (let never : life.Down ≡ life.Up boot = sym (ap life_seen down) ∙ now in cc));
     lighter = lighter;
+    kept = kept;
     leads = λ known ended w st. leads w st;
     cause = cause;
   }
@@ -157,7 +159,7 @@ module _ {D : Type 0} (on : View D) (n : ℕ) (call : Call) (seconds : ℕ) (old
   -- Memory ran out once its work had begun.
   pub short_did : ((w : machine.World) → StateStandsFor on start w → (octets : List ℕ) × IsFiled (at_second seconds) n (node_seen a) c octets × Cut (begin_rule octets) w)
       → StepDid on (Err (fault.NoMemory (Some n))) (step.Begin n call) start final
-  short_did cuts = fell_did (Err (fault.NoMemory (Some n))) tt tt worked (λ m. refl) tt
+  short_did cuts = fell_did (Err (fault.NoMemory (Some n))) tt tt worked (λ m. refl) tt tt
       (λ w st.
       let (octets, filed, k) = cuts w st in
       fell_leads (Err (fault.NoMemory (Some n))) (begin_rule octets) w st k
@@ -175,7 +177,7 @@ module _ {D : Type 0} (on : View D) (n : ℕ) (call : Call) (seconds : ℕ) (old
   pub failed_did : nat_le letters_end flying.sent ≡ false → is_worn_for old.plan seconds (node_seen a) c ≡ false → Rose (on.faults ch.disk) (on.faults ch.disk')
       → (octets : List ℕ) → IsFiled (at_second seconds) n (node_seen a) c octets → ((w : machine.World) → StateStandsFor on start w → Cut (begin_rule octets) w)
       → StepDid on (Ok (said.Faulted n)) (step.Begin n call) start final
-  failed_did early fresh rose octets filed cuts = fell_did (Ok (said.Faulted n)) (sym fit) (fault_so call n (λ none. filed_kind (at_second seconds) n (node_seen a) c octets filed none)) worked (λ m. refl) tt
+  failed_did early fresh rose octets filed cuts = fell_did (Ok (said.Faulted n)) (sym fit) (fault_so call n (λ none. filed_kind (at_second seconds) n (node_seen a) c octets filed none)) worked (λ m. refl) tt tt
       (λ w st.
       let k = cuts w st in
       let up = up_now (begin_rule octets) w k in
@@ -188,7 +190,7 @@ module _ {D : Type 0} (on : View D) (n : ℕ) (call : Call) (seconds : ℕ) (old
       → IsOnlyRead on ch.disk ch.disk' → (on.seen ch.disk ≡ None) ⊎ Rose (on.faults ch.disk) (on.faults ch.disk')
       ⊎ ((records : List Record) → NodeKeeps records a → TellsJournal (on.seen ch.disk) n (payloads_of records) (end_in a) → ⊥)
       → StepDid on (Ok (said.Faulted n)) (step.Begin n call) start final
-  unread_did early rule fresh user id from most called read cause = fell_did (Ok (said.Faulted n)) (sym fit) (fault_so call n (fetch_kind c user id from most called)) worked (λ m. refl) tt
+  unread_did early rule fresh user id from most called read cause = fell_did (Ok (said.Faulted n)) (sym fit) (fault_so call n (fetch_kind c user id from most called)) worked (λ m. refl) tt tt
       (λ w st.
       let f = read_fell on n P old new new ch (nothing_else on new) a was read flying flying seconds book book' w st in
       let k : Cut (λ x d. idle x d) w = f.cut in

@@ -1,5 +1,5 @@
 -- A node that only read its disk, and is as it was; or that goes down after it.
-use Rattle.std.proofs.Common.{◌≡◌, ◌≢◌, inl, inr, ℕ, List, [], ◌++◌, append-nil, All, Option, Some, refl, sym, ap, ◌∙◌, subst}
+use Rattle.std.proofs.Common.{◌≡◌, ◌≢◌, inl, inr, ℕ, List, [], ◌++◌, append-nil, All, Option, Some, refl, sym, ap, ◌∙◌, subst, arith}
 use Rattle.std.specs.Prelude.{is_some}
 use Rattle.mail_model.specs.Record.{payloads_of}
 use Rattle.mail_model.specs.Grammar.{IsRecord}
@@ -133,6 +133,7 @@ module _ {D : Type 0} (on : View D) (n : ℕ) (P : Life → D → Life → D →
           node_is = refl;
           front = [];
           pending = [];
+          one = omega arith;
           cut = record { missing = []; is = sym (append-nil slot.disk) };
           stands = read_down on n a ch.disk ch.disk' read slot stood;
           keeps = subst (λ x. StopsKeep on n ch.disk ch.disk' x (record { life = plain.Life.Down []; disk = slot.disk ++ [] })) whole (read_cut on n a ch.disk ch.disk' read slot stood);

@@ -1,11 +1,11 @@
 -- A call that begins at a node that is up, as a step of the machine.
-use Rattle.std.proofs.Common.{◌≡◌, ℕ, zero, suc, ◌+◌, nat_le, Bool, true, false, ◌&&◌, List, [], ◌∷◌, ◌++◌, length, append-nil, Option, Some, None, Ok, refl, sym, ap, ◌∙◌, subst, arith}
+use Rattle.std.proofs.Common.{◌≡◌, ℕ, zero, suc, nat_le, Bool, true, false, ◌&&◌, List, [], ◌∷◌, ◌++◌, length, append-nil, Option, Some, None, Ok, refl, sym, ap, ◌∙◌, subst, arith}
 use Rattle.std.specs.Prelude.{is_some}
 use Rattle.std.specs.List.{list_all}
 use Rattle.mail_model.specs.Plan.{Plan}
 use Rattle.mail_model.specs.Record.{Record, payloads_of}
 use Rattle.object_model.specs.Letters.{Number, Letter}
-use Rattle.session_model.specs.Events.{NodeLife, NodeLife as life}
+use Rattle.session_model.specs.Events.{NodeLife}
 use Rattle.cluster_model.specs.Cluster as plain
 use Rattle.cluster_model.specs.Deeds.{slot_up}
 use Rattle.cluster_model.specs.Reads.{Found}
@@ -243,8 +243,9 @@ module _ {D : Type 0} (on : View D) (is_settled : D → Type 0) (n : ℕ) (call 
             falls = said_goes begun.0 old.plan.nodes n call (life_among old);
             lives = λ m. work_goes_on on n B old mid new ch _ only (begin_seen on is_settled n call seconds old mid fit ready began ch s) m ∙ sym (said_stays begun.0 n call m (life_among old m));
             told = work_told on n B old mid new ch _ only flying flying' seconds book book' on.seen s.told;
-            quiet = work_quiet on n B old mid new ch _ only flying flying' seconds book book' on.faults (omega (arith, s.quiet)) (λ boot up now. s.quiet);
+            quiet = work_quiet on n B old mid new ch _ only flying flying' seconds book book' on.faults (omega (arith, s.quiet)) (λ boot now. s.quiet);
             lighter = tt;
+            kept = tt;
             leads = λ known ended w st. did_leads begun.0 begun.1.letters s.is did.fresh w st (subst (λ x. CallDid on old.plan n x c a ch.disk b ch.disk' begun.0 begun.1.letters) st.seconds did.did) off;
             cause = λ w st. said_causes on begun.0 n call start final;
           }

@@ -21,7 +21,7 @@ use Rattle.cluster_world.specs.declared.nodes.Nodes.{Nodes}
 use Rattle.cluster_world.specs.declared.step.Step.TheVariants as step
 use Rattle.cluster_world.specs.declared.step.Said.TheVariants.{Done}
 use Rattle.cluster_world.specs.declared.fault.StepFault.TheVariants as fault
-use Rattle.cluster_world.proofs.Same.{same_stops, same_told, same_quiet}
+use Rattle.cluster_world.proofs.Same.{same_stops, same_told, same_quiet, same_unchanged}
 use Rattle.cluster_world.proofs.Kept.{missed_kept, stops_on, only_told, only_quiet}
 use Rattle.cluster_world.proofs.Posted.{flies_so}
 
@@ -42,6 +42,7 @@ module _ {D : Type 0} (on : View D) (nodes : Nodes D) (flying : InFlight) (secon
     plan = refl;
     handed = refl;
     lighter = tt;
+    kept = same_unchanged on (state_with nodes flying seconds book) (step.Drop number);
     refused = refl;
     kind = tt;
     falls = tt;
@@ -64,6 +65,7 @@ module _ {D : Type 0} (on : View D) (nodes : Nodes D) (flying : InFlight) (secon
       plan = refl;
       handed = refl;
       lighter = tt;
+      kept = same_unchanged on (state_with nodes flying seconds book) (step.Drop number);
       refused = refl;
       kind = tt;
       falls = tt;
@@ -90,6 +92,7 @@ module _ {D : Type 0} (on : View D) (nodes : Nodes D) (flying : InFlight) (secon
       plan = noted.only.plan;
       handed = ap length noted.only.disks;
       lighter = tt;
+      kept = tt;
       refused = refl;
       kind = tt;
       falls = tt;

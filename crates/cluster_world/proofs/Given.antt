@@ -29,7 +29,7 @@ use Rattle.cluster_world.specs.declared.step.Step.TheVariants as step
 use Rattle.cluster_world.specs.declared.step.Said.TheVariants.{Done}
 use Rattle.cluster_world.specs.declared.fault.StepFault.TheVariants as fault
 use Rattle.cluster_world.proofs.Still.{some_same}
-use Rattle.cluster_world.proofs.Same.{same_told, same_quiet, same_stops}
+use Rattle.cluster_world.proofs.Same.{same_told, same_quiet, same_stops, same_unchanged}
 use Rattle.cluster_world.proofs.Turned.{slot_of, falls_now}
 use Rattle.cluster_world.proofs.Refusing.{fit_of, no_ticket_given_up, give_up_is_worn}
 use Rattle.cluster_world.proofs.Asked.{ready_of, disk_of, give_up_done, retold_ready, retold_settled}
@@ -97,6 +97,7 @@ module _ {D : Type 0} (on : View D) (ticket : Number) (nodes : Nodes D) (fit : n
       told = same_told on (state_with nodes flying seconds book);
       quiet = same_quiet on (state_with nodes flying seconds book);
       lighter = tt;
+      kept = same_unchanged on (state_with nodes flying seconds book) (step.GiveUp ticket);
       leads = λ known ended w st. let f = finds w st in record {
         next = w;
         stands = st;
@@ -118,6 +119,7 @@ module _ {D : Type 0} (on : View D) (ticket : Number) (nodes : Nodes D) (fit : n
       told = same_told on (state_with nodes flying seconds book);
       quiet = same_quiet on (state_with nodes flying seconds book);
       lighter = tt;
+      kept = same_unchanged on (state_with nodes flying seconds book) (step.GiveUp ticket);
       leads = λ known ended w st. let f = finds w st in record {
         next = w;
         stands = st;

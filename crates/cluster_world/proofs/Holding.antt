@@ -1,5 +1,5 @@
 -- Which records the disks of a world hold, once it is done with.
-use Rattle.std.proofs.Common.{◌≡◌, ⊎_elim, ◌⊎◌, inl, inr, ℕ, zero, suc, ◌+◌, ◌<◌, ◌≤◌, true, false, List, [], ◌∷◌, ◌++◌, length, length-append, map, Option, Some, None, refl, sym, ap, ◌∙◌, subst, arith}
+use Rattle.std.proofs.Common.{◌≡◌, ⊎_elim, inl, inr, ℕ, zero, suc, ◌+◌, ◌<◌, ◌≤◌, true, false, List, [], ◌∷◌, ◌++◌, length, length-append, map, Option, Some, None, refl, sym, ap, ◌∙◌, subst, arith}
 use Rattle.std.specs.Prelude.{IfSome, All, ◌^◌, is_some, slice_get}
 use Rattle.std.specs.List.{list_all}
 use Rattle.std.proofs.lemmas.List.{get_or_append_left}
@@ -13,7 +13,7 @@ use Rattle.session_model.specs.Copies.{AreDisks}
 use Rattle.session_model.specs.Events.{NodeLife as life}
 use Rattle.cluster_model.specs.Cluster as plain
 use Rattle.cluster_model.specs.Cluster.{pending_of}
-use Rattle.cluster_owes.specs.Held.{IsHeld, AreHeld, AreCounted, IsLostAt}
+use Rattle.cluster_owes.specs.Held.{IsHeld, AreHeld, AreCounted}
 use Rattle.node_store.specs.Disks.{View}
 use Rattle.node_core.specs.Starting.{MayHold}
 use Rattle.disk_journal.specs.Journal.{EndsAt}
@@ -98,20 +98,3 @@ counted node (None ∷ stores) (d ∷ disks) all are n records id octets here m 
 counted node (Some held ∷ stores) (d ∷ disks) all are zero records id octets here m =
     short_octets records id octets (subst (λ rs. AreShort (payloads_of rs)) (let e : d ≡ records = cc here in e) (are.1).short) m
 counted node (Some held ∷ stores) (d ∷ disks) all are (suc n) records id octets here m = counted (node + 1) stores disks all are.2 n records id octets here m
-
--- a slot is lost where its node is
-module _ {D : Type 0} (on : View D) (lives : List Life) (disks : List D) (slots : List plain.Slot) (p : length disks ≡ length lives) (stands : SlotsStand on lives disks slots) where
-  is_lost : (own : ℕ) (one : Life) (disk : D) (slot : plain.Slot) → slot.life ≡ plain.Life.Lost → SlotStands on own one disk slot → seen_life (Some one) ≡ life.Lost
-  is_lost own (Up node) disk slot lost (seen, is, up) = absurd (let never : plain.Life.Up seen ≡ plain.Life.Lost = sym is ∙ lost in cc)
-  is_lost own Down disk slot lost (pending, is, fit, holds) = absurd (let never : plain.Life.Down pending ≡ plain.Life.Lost = sym is ∙ lost in cc)
-  is_lost own Lost disk slot lost s = refl
-
-  pub lost_there : (n : ℕ) → IsLostAt slots n → (1 ≤ n) × (n ≤ length lives) × (seen_life (of_node lives n) ≡ life.Lost)
-  lost_there zero (slot, here, lost) = absurd (let never : ◌≡◌ {A = Option plain.Slot} None (Some slot) = here in cc)
-  lost_there (suc k) (slot, here, lost) =
-      let own = has_too slots lives k slot (sym stands.count) here in
-      let disk = has_too lives disks k own.0 p own.1 in (
-        omega (arith),
-        (let e : suc k ≤ length lives = omega (arith, slice_get_within lives k own.0 own.1) in e),
-        ap seen_life own.1 ∙ is_lost (suc k) own.0 disk.0 slot lost (stands.each k own.0 disk.0 slot own.1 disk.1 here),
-      )

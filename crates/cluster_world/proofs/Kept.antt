@@ -1,5 +1,5 @@
 -- A mishap leaves each disk's records, so what a step kept it keeps with its mishaps too.
-use Rattle.std.proofs.Common.{◌≡◌, ◌≢◌, ◌⊎◌, ⊎_elim, ℕ, Bool, true, false, List, [], ◌∷◌, ◌++◌, Option, Some, None, refl, sym, ap, ◌∙◌, subst, arith, ◌≤◌, if◌then◌else◌}
+use Rattle.std.proofs.Common.{◌≡◌, ◌≢◌, ⊎_elim, ℕ, Bool, true, false, List, [], ◌∷◌, ◌++◌, Option, Some, None, refl, sym, ap, ◌∙◌, subst, arith, ◌≤◌, if◌then◌else◌}
 use Rattle.std.specs.Prelude.{nat_eq, is_some}
 use Rattle.std.specs.FinMap as fin
 use Rattle.mail_model.specs.Record.{Record}
@@ -93,7 +93,7 @@ module _ {D : Type 0} (on : View D) where
     pub only_quiet : (faults : D → ℕ) → IsQuiet faults (state_with old flying seconds book) (state_with new flying' seconds' book')
     only_quiet faults = record {
       later = λ n disk disk' e f. subst (λ d. faults disk ≤ faults d) (sym (same_disk n disk disk' e f)) (omega arith);
-      same = λ n boot disk disk' a b e f. ap faults (same_disk n disk disk' e f);
+      same = λ n boot disk disk' b e f. ap faults (same_disk n disk disk' e f);
     }
 
     pub only_settled : (is_settled : D → Type 0) → AreSettled is_settled (state_with old flying seconds book) → AreSettled is_settled (state_with new flying' seconds' book')

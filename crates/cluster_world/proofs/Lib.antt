@@ -23,6 +23,7 @@ pub mod Handing
 pub mod Holding
 pub mod InTurn
 pub mod Kept
+pub mod Lasting
 pub mod Losing
 pub mod Mirroring
 pub mod Mirrors
@@ -43,6 +44,7 @@ pub mod SeenAlike
 pub mod Starts
 pub mod Still
 pub mod Turned
+pub mod Unchanged
 pub mod Whole
 pub mod Widening
 pub mod Worked

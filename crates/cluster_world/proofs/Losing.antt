@@ -1,5 +1,5 @@
 -- What the step does that loses a node for good.
-use Rattle.std.proofs.Common.{◌≡◌, ◌≢◌, ◌⊎◌, inl, inr, ⊎_elim, ℕ, ◌+◌, ◌≤◌, List, [], ◌∷◌, ◌++◌, append-nil, length-append, All, Option, Some, None, Ok, refl, sym, ap, ◌∙◌, subst, arith}
+use Rattle.std.proofs.Common.{◌≡◌, ◌≢◌, ◌⊎◌, inl, inr, ⊎_elim, ℕ, ◌≤◌, List, [], ◌∷◌, ◌++◌, append-nil, length-append, All, Option, Some, None, Ok, refl, sym, ap, ◌∙◌, subst, arith}
 use Rattle.std.specs.Prelude.{IfSome, is_some}
 use Rattle.std.specs.List.{list_all}
 use Rattle.std.proofs.lemmas.List.{get_or_append_left}
@@ -144,8 +144,9 @@ module _ {D : Type 0} (on : View D) (n : ℕ) (old new : Nodes D) (book book' : 
     told = told_by n (IsTurnedTo Lost) old new ch flying flying seconds seconds book book' on.seen (ap (λ d. is_some (on.seen d)) ch.does.1);
     quiet = quiet_by n (IsTurnedTo Lost) old new ch flying flying seconds seconds book book' on.faults
         (subst (λ d. on.faults ch.disk ≤ on.faults d) (sym ch.does.1) (omega arith))
-        (λ boot _ up. absurd (let never : life.Lost ≡ life.Up boot = sym (ap life_seen ch.does.0) ∙ up in cc));
+        (λ boot up. absurd (let never : life.Lost ≡ life.Up boot = sym (ap life_seen ch.does.0) ∙ up in cc));
     lighter = tt;
+    kept = tt;
     leads = λ known ended w st. lose_leads wrote w st;
     cause = λ w st. tt;
   }

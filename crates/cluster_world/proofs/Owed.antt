@@ -1,11 +1,10 @@
 -- A world that was driven has what a cluster owes.
-use Rattle.std.proofs.Common.{◌≡◌, ⊎_elim, ◌⊎◌, inl, inr, ℕ, ◌+◌, ◌≤◌, Bool, true, List, [], ◌∷◌, ◌++◌, append-nil, append_assoc, length, map, refl, sym, ap, ◌∙◌, subst, arith}
+use Rattle.std.proofs.Common.{◌≡◌, ⊎_elim, ◌⊎◌, inl, inr, ℕ, ◌≤◌, Bool, true, List, [], ◌∷◌, ◌++◌, append-nil, append_assoc, length, map, refl, sym, ap, ◌∙◌, subst, arith}
 use Rattle.std.specs.Prelude.{flat_map, is_some, Ok}
 use Rattle.std.proofs.lemmas.List.Folds.{list_all-map}
 use Rattle.mail_model.specs.Plan.{Plan}
 use Rattle.object_model.specs.Lists.{Among}
 use Rattle.object_model.proofs.Lists.{among_front, among_behind}
-use Rattle.session_model.specs.Losses.{IsLostIn}
 use Rattle.session_model.specs.Owes.{Owes}
 use Rattle.cluster_model.specs.World as machine
 use Rattle.cluster_model.specs.WorldLaws.{opening_world}
@@ -27,7 +26,7 @@ use Rattle.cluster_world.specs.declared.world.World.{World}
 use Rattle.cluster_world.proofs.Chained.{stays, stays_came}
 use Rattle.cluster_world.proofs.Mirrors.{Mirrored, IsOf, led, joined, makes_both, sessions_both}
 use Rattle.cluster_world.proofs.Mirroring.{AnswersFitAt, mirror}
-use Rattle.cluster_world.proofs.Holding.{holding, counted, lost_there}
+use Rattle.cluster_world.proofs.Holding.{holding, counted}
 
 module _ {D : Type 0} (on : View D) where
   module _ (plan : Plan) (told : Bool) (lines : List (List ℕ)) (few : plan.nodes ≤ 64) where
@@ -47,7 +46,7 @@ module _ {D : Type 0} (on : View D) where
         (sessions_both on plan told lines m.outs (one ∷ []) (m.sessions lines of) (tt, tt))
         k asked ticket (answer_told own) (among_behind one m.outs (one ∷ []) (inl refl))
 
-    mirror_all : (more done : List Outcome) (between left : List Awaited) (mid last : World D) → IsOf on plan told mid → SoFar done between mid → (told ≡ true) ⊎ AllBlind plan.nodes more
+    pub mirror_all : (more done : List Outcome) (between left : List Awaited) (mid last : World D) → IsOf on plan told mid → SoFar done between mid → (told ≡ true) ⊎ AllBlind plan.nodes more
         → AreOfSessions lines (done ++ more) → Makes on more between mid left last → SoFar (done ++ more) left last
     mirror_all [] done between left mid last of m known sessions (left_is, is) =
         subst (λ o. SoFar o left last) (sym (append-nil done)) (subst (λ a. SoFar done a last) (sym left_is) (subst (λ w. SoFar done between w) (sym is) m))
@@ -113,7 +112,7 @@ module _ {D : Type 0} (on : View D) where
       ticket got wanted (among_behind other m.outs (other ∷ []) (inl refl))
 
   pub world_owes : TellsImages on → WorldOwes on
-  world_owes images plan stop lines entries outcomes left start last begins known makes sessions losses =
+  world_owes images plan lines outcomes left start last begins known makes sessions =
       let s = stays on outcomes [] left start last makes in
       let told = disks_tell on.seen last in
       let few : plan.nodes ≤ 64 = omega (arith, start.nodes.few, ap (λ (p : Plan). p.nodes) begins.plan_is) in
@@ -122,12 +121,10 @@ module _ {D : Type 0} (on : View D) where
       (⊎_elim (λ t. inl (s.told ∙ t)) (λ b. inr (subst (λ (p : Plan). AllBlind p.nodes outcomes) begins.plan_is b)) known) sessions makes in
       let each : length (disks_of last) ≡ length (lives_of last) = last.nodes.disk_each ∙ sym last.nodes.all in
       let h = holding on images (lives_of last) (disks_of last) m.next.slots each m.stands.slots in
-      let owed = cluster_owes plan told stop lines entries (map on.seen (disks_of last)) h.records m.outs m.next few m.makes (m.sessions lines sessions) h.held h.are
-      (λ t. counted 1 (map on.seen (disks_of last)) h.records (list_all-map is_some on.seen (disks_of last) ∙ t) h.are)
-      (λ n at. let l = lost_there on (lives_of last) (disks_of last) m.next.slots each m.stands.slots n at in
-      losses n l.0 (subst (λ k. n ≤ k) last.nodes.all l.1) l.2) in (
+      let owed = cluster_owes plan told lines (map on.seen (disks_of last)) h.records m.outs m.next few m.makes (m.sessions lines sessions) h.held h.are
+      (λ t. counted 1 (map on.seen (disks_of last)) h.records (list_all-map is_some on.seen (disks_of last) ∙ t) h.are) in (
         h.records,
-        subst (λ b. Owes plan told lines (IsLostIn stop lines entries) (map on.seen (disks_of last)) h.records (filed_on h.records) (flat_map asked_by_outcome outcomes) (flat_map answered_by_outcome outcomes) b) (sym m.stands.book)
-            (subst (λ a. Owes plan told lines (IsLostIn stop lines entries) (map on.seen (disks_of last)) h.records (filed_on h.records) (flat_map asked_by_outcome outcomes) a m.next.book) m.answered
-            (subst (λ a. Owes plan told lines (IsLostIn stop lines entries) (map on.seen (disks_of last)) h.records (filed_on h.records) a (flat_map owes.answered_by_outcome m.outs) m.next.book) m.asked owed)),
+        subst (λ b. Owes plan told lines (map on.seen (disks_of last)) h.records (filed_on h.records) (flat_map asked_by_outcome outcomes) (flat_map answered_by_outcome outcomes) b) (sym m.stands.book)
+            (subst (λ a. Owes plan told lines (map on.seen (disks_of last)) h.records (filed_on h.records) (flat_map asked_by_outcome outcomes) a m.next.book) m.answered
+            (subst (λ a. Owes plan told lines (map on.seen (disks_of last)) h.records (filed_on h.records) a (flat_map owes.answered_by_outcome m.outs) m.next.book) m.asked owed)),
       )

@@ -1,5 +1,5 @@
 -- A letter is handed to its receiver.
-use Rattle.std.proofs.Common.{◌≡◌, ◌⊎◌, inl, inr, ℕ, zero, suc, ◌+◌, ◌≤◌, ◌<◌, Bool, true, false, ◌||◌, nat_le, List, [], ◌∷◌, ◌++◌, length, Option, Some, None, is_some, Ok, Err, refl, sym, ap, ◌∙◌, subst, arith, if◌then◌else◌}
+use Rattle.std.proofs.Common.{◌≡◌, ◌⊎◌, inl, inr, ℕ, zero, suc, ◌≤◌, ◌<◌, Bool, true, false, ◌||◌, nat_le, List, [], ◌∷◌, ◌++◌, length, Option, Some, None, is_some, Ok, Err, refl, sym, ap, ◌∙◌, subst, arith, if◌then◌else◌}
 use Rattle.io_edge.specs.Causes.{Rose}
 use Rattle.mail_model.specs.Plan.{Plan}
 use Rattle.mail_model.specs.Record.{Record}
@@ -45,12 +45,13 @@ use Rattle.cluster_world.specs.declared.step.Step.TheVariants as step
 use Rattle.cluster_world.specs.declared.step.Said.{Said}
 use Rattle.cluster_world.specs.declared.step.Said.TheVariants as said
 use Rattle.cluster_world.specs.declared.fault.StepFault.TheVariants as fault
-use Rattle.cluster_world.proofs.Still.{both_at}
-use Rattle.cluster_world.proofs.Same.{same_stops, same_told, same_quiet}
+use Rattle.cluster_world.proofs.Still.{both_at, nothing_read}
+use Rattle.cluster_world.proofs.Same.{same_stops, same_told, same_quiet, same_unchanged}
 use Rattle.cluster_world.proofs.Kept.{missed_kept, stops_on, only_told, only_quiet}
 use Rattle.cluster_world.proofs.Falling.{entries_more}
 use Rattle.cluster_world.proofs.Posted.{Standing, standing, some_weight, weight_taken, weight_put}
 use Rattle.cluster_world.proofs.AfterWork.{nothing_else, work_did, work_goes_on, work_lives, up_slot, up_is, WorkSent, work_sent, CutSlot, cut_stands, cut_stops, idle_stands, idle_stops}
+use Rattle.cluster_world.proofs.Unchanged.{unchanged_by, node_kept}
 
 -- what makes the machine refuse a post
 module _ (plan : Plan) (w : machine.World) (number : ℕ) (keep : Bool) where
@@ -96,6 +97,7 @@ module _ {D : Type 0} (on : View D) (old : Nodes D) (flying : InFlight) (seconds
     plan = refl;
     handed = refl;
     lighter = tt;
+    kept = same_unchanged on before (step.Post number keep);
     refused = refl;
     kind = tt;
     falls = tt;
@@ -120,6 +122,7 @@ module _ {D : Type 0} (on : View D) (old : Nodes D) (flying : InFlight) (seconds
       plan = refl;
       handed = refl;
       lighter = tt;
+      kept = same_unchanged on before (step.Post number keep);
       refused = refl;
       kind = tt;
       falls = tt;
@@ -174,6 +177,7 @@ module _ {D : Type 0} (on : View D) (old : Nodes D) (flying : InFlight) (seconds
         plan = noted.only.plan;
         handed = ap length noted.only.disks;
         lighter = lighter_left keep (said.Thrown why.Down) new flying' book left;
+        kept = tt;
         refused = refl;
         kind = tt;
         falls = tt;
@@ -217,8 +221,9 @@ module _ {D : Type 0} (on : View D) (old : Nodes D) (flying : InFlight) (seconds
               (work_goes_on on letter.to P old mid new ch change only (up_boot b is (ap (λ (n : plain.Node). n.boot) alike.seen)))
               (ap (λ d. is_some (on.seen d)) untold)
               (subst (λ d. on.faults ch.disk ≤ on.faults d) (sym untold) (omega arith))
-              (λ boot _ _. ap on.faults untold)
+              (λ boot _. ap on.faults untold)
               (lighter_left keep (said.Thrown what) new flying' book left)
+              tt
               (λ w st.
               let s = standing w.flying number letter (there w st) in
               let flies : Flies w number = flies_of w number letter s in
@@ -264,8 +269,10 @@ module _ {D : Type 0} (on : View D) (old : Nodes D) (flying : InFlight) (seconds
             (work_goes_on on letter.to P old mid mid ch (λ slots. slots) (nothing_else on mid) (up_boot b is (ap (λ (n : plain.Node). n.boot) alike.seen)))
             (ap (λ d. is_some (on.seen d)) untold)
             (subst (λ d. on.faults ch.disk ≤ on.faults d) (sym untold) (omega arith))
-            (λ boot _ _. ap on.faults untold)
+            (λ boot _. ap on.faults untold)
             tt
+            (unchanged_by letter.to P old mid ch flying flying seconds seconds book book on (step.Post number keep) (node_kept ch.life ch.life' a b was is alike)
+            (λ _. untold) (λ _. (nothing_read on ch.disk ch.disk' untold, ap on.faults untold)) refl refl refl)
             (λ w st. record {
               next = w;
               stands = idle_stands on letter.to P old mid mid ch rule a was flying flying seconds book book b is alike untold (λ slots. slots) (nothing_else on mid) w st w.flying st.flying refl refl;
@@ -282,8 +289,9 @@ module _ {D : Type 0} (on : View D) (old : Nodes D) (flying : InFlight) (seconds
             (work_goes_on on letter.to P old mid new ch _ off.noticed.only (up_boot b is did.boot))
             did.appends.told
             (subst (λ f. on.faults ch.disk ≤ f) (sym did.appends.quiet) (omega arith))
-            (λ boot _ _. did.appends.quiet)
+            (λ boot _. did.appends.quiet)
             (lighter_sent keep said.Heard new flying' book letters less off.flies)
+            tt
             (λ w st.
             let s = standing w.flying number letter (there w st) in
             let flies : Flies w number = flies_of w number letter s in
@@ -317,8 +325,9 @@ module _ {D : Type 0} (on : View D) (old : Nodes D) (flying : InFlight) (seconds
           pub faulted_posted : Rose (on.faults ch.disk) (on.faults ch.disk') → Noticed on old.plan (λ slots. missed mishap.Disk slots letter) mid new → flying' ≡ taken_out (out_of number keep) flying
               → StepDid on (Ok (said.Faulted letter.to)) (step.Post number keep) before (state_with new flying' seconds book')
           faulted_posted rose noted left = work_did on letter.to P old mid new ch (λ slots. missed mishap.Disk slots letter) noted.only flying flying' seconds book book' (Ok (said.Faulted letter.to)) (step.Post number keep)
-              refl tt was_to_work (lives_down (λ slots. missed mishap.Disk slots letter) noted.only) told later (λ boot _ up. absurd (not_up boot up))
+              refl tt was_to_work (lives_down (λ slots. missed mishap.Disk slots letter) noted.only) told later (λ boot up. absurd (not_up boot up))
               (lighter_left keep (said.Faulted letter.to) new flying' book' left)
+              tt
               (λ w st.
               let s = standing w.flying number letter (there w st) in
               let flies : Flies w number = flies_of w number letter s in
@@ -330,7 +339,7 @@ module _ {D : Type 0} (on : View D) (old : Nodes D) (flying : InFlight) (seconds
                     (flies_on w number flies keep) (left_is w st s flying' left) (ap (λ (f : InFlight). f.sent) left) w.book (booked_is w st);
                 made = (
                   goes w st,
-                  Posts.FailsHearing flies c.node c.disk c.up (ap (λ n. thrown_by letter.to n letter) c.node_is ∙ taken) refl fell (record { front = c.front; pending = c.pending; cut = c.cut; is = refl }) refl,
+                  Posts.FailsHearing flies c.node c.disk c.up (ap (λ n. thrown_by letter.to n letter) c.node_is ∙ taken) refl fell (record { front = c.front; pending = c.pending; one = c.one; cut = c.cut; is = refl }) refl,
                 );
                 stops = cut_stops on letter.to P old mid new ch rule a was flying flying' seconds book book' down (λ slots. missed mishap.Disk slots letter) noted.only w st c (missed mishap.Disk fell.slots letter)
                     (λ n. missed_kept mishap.Disk fell.slots n letter);
@@ -348,7 +357,7 @@ module _ {D : Type 0} (on : View D) (old : Nodes D) (flying : InFlight) (seconds
           fallen_posted same_nodes left =
               let only : OnlyTickets on (λ slots. slots) mid new = subst (λ (m : Nodes D). OnlyTickets on (λ slots. slots) mid m) (sym same_nodes) (nothing_else on mid) in
               work_did on letter.to P old mid new ch (λ slots. slots) only flying flying' seconds book book' (Err (fault.NoMemory (Some letter.to))) (step.Post number keep)
-              tt tt was_to_work (lives_down (λ slots. slots) only) told later (λ boot _ up. absurd (not_up boot up)) tt
+              tt tt was_to_work (lives_down (λ slots. slots) only) told later (λ boot up. absurd (not_up boot up)) tt tt
               (λ w st.
               let s = standing w.flying number letter (there w st) in
               let flies : Flies w number = flies_of w number letter s in
@@ -358,7 +367,7 @@ module _ {D : Type 0} (on : View D) (old : Nodes D) (flying : InFlight) (seconds
                 next = fell;
                 stands = cut_stands on letter.to P old mid new ch rule a was flying flying' seconds book book' down (λ slots. slots) only w st c
                     w.flying (ap (λ (f : InFlight). f.flights) left ∙ st.flying) (ap (λ (f : InFlight). f.sent) left) w.book (booked_is w st);
-                made = RunsShort.Hearing number keep flies c.node c.disk refl refl c.up (record { front = c.front; pending = c.pending; cut = c.cut; is = refl });
+                made = RunsShort.Hearing number keep flies c.node c.disk refl refl c.up (record { front = c.front; pending = c.pending; one = c.one; cut = c.cut; is = refl });
                 stops = cut_stops on letter.to P old mid new ch rule a was flying flying' seconds book book' down (λ slots. slots) only w st c fell.slots (λ n. refl);
               })
               tt

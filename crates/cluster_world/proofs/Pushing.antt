@@ -1,5 +1,5 @@
 -- What a step does in which a node pushes to another.
-use Rattle.std.proofs.Common.{◌≡◌, ◌⊎◌, inl, inr, ⊎_elim, ℕ, ◌+◌, ◌≤◌, ◌&&◌, nat_le, Bool, true, false, List, [], ◌∷◌, ◌++◌, length, append-nil, Option, Some, None, Result, Ok, Err, refl, sym, ap, ◌∙◌, subst, arith}
+use Rattle.std.proofs.Common.{◌≡◌, inl, inr, ⊎_elim, ℕ, ◌≤◌, ◌&&◌, nat_le, Bool, true, false, List, [], ◌∷◌, ◌++◌, length, append-nil, Option, Some, None, Result, Ok, Err, refl, sym, ap, ◌∙◌, subst, arith}
 use Rattle.std.specs.Prelude.{IfOk, IfErr, is_some, nat_lt, nat_eq}
 use Rattle.std.specs.List.{list_all}
 use Rattle.std.specs.FinMap as fin
@@ -52,7 +52,7 @@ use Rattle.cluster_world.specs.declared.step.Said.TheVariants as said
 use Rattle.cluster_world.specs.declared.fault.StepFault.{StepFault}
 use Rattle.cluster_world.specs.declared.fault.StepFault.TheVariants as fault
 use Rattle.cluster_world.proofs.Still.{some_same}
-use Rattle.cluster_world.proofs.Same.{same_told, same_quiet, same_stops}
+use Rattle.cluster_world.proofs.Same.{same_told, same_quiet, same_stops, same_unchanged}
 use Rattle.cluster_world.proofs.Kept.{all_kept, stops_on, only_settled}
 use Rattle.cluster_world.proofs.Putting.{with_put, put_is}
 use Rattle.cluster_world.proofs.Turned.{slot_of, as_many}
@@ -61,6 +61,7 @@ use Rattle.cluster_world.proofs.Falling.{entries_more}
 use Rattle.cluster_world.proofs.Asked.{ready_of, disk_of, slot_same}
 use Rattle.cluster_world.proofs.AfterWidening.{StaysUp, FallsDown, read_stays, stays_lives, stays_ready, stays_falls, stays_told, stays_quiet, stays_settled, down_lives, down_ready, down_falls, down_told, down_quiet, down_settled, found_up, read_there, read_down, within_first, within_second, told_there, when_told, caused, up_of}
 use Rattle.cluster_world.proofs.PushRoom.{keys_same, push_goes, push_is_crowded, push_is_worn, alone, none_long}
+use Rattle.cluster_world.proofs.Unchanged.{unchanged_by, node_kept}
 
 module _ {D : Type 0} (on : View D) (n to : ℕ) (old : Nodes D) (fit : node_refusal old.plan (life_among old) (step.Push n to) ≡ None) (ready : CanWorkOn on.seen old.plan old.lives.items old.disks.items) where
   named : list_all (is_node old.plan) (n ∷ to ∷ []) ≡ true
@@ -121,6 +122,7 @@ module _ {D : Type 0} (on : View D) (n to : ℕ) (old : Nodes D) (fit : node_ref
       told = same_told on before;
       quiet = same_quiet on before;
       lighter = tt;
+      kept = same_unchanged on before (step.Push n to);
       leads = λ known ended w st.
           let (node, up) = push_up in
           let h = here node up w.slots st.slots in
@@ -145,6 +147,7 @@ module _ {D : Type 0} (on : View D) (n to : ℕ) (old : Nodes D) (fit : node_ref
       told = same_told on before;
       quiet = same_quiet on before;
       lighter = tt;
+      kept = same_unchanged on before (step.Push n to);
       leads = λ known ended w st.
           let (node, up) = push_up in
           let h = here node up w.slots st.slots in
@@ -280,6 +283,8 @@ module _ {D : Type 0} (on : View D) (n to : ℕ) (old : Nodes D) (fit : node_ref
         told = stays_told on n P old mid ch ready a was b (stays r) flying flying seconds seconds book book';
         quiet = stays_quiet on n P old mid ch ready a was b (stays r) flying flying seconds seconds book book';
         lighter = tt;
+        kept = unchanged_by n P old mid ch flying flying seconds seconds book book' on (step.Push n to) (node_kept ch.life ch.life' a b was r.is r.as_before)
+            (λ away. absurd (away refl)) (λ _. (r.read, r.quiet)) refl refl (ap entries_seen wrote);
         leads = λ known ended w st.
             let u = unmoved r w st in
             record {
@@ -319,6 +324,7 @@ module _ {D : Type 0} (on : View D) (n to : ℕ) (old : Nodes D) (fit : node_ref
           told = down_told on n P old mid ch ready a was (falls_so c) flying flying seconds seconds book book';
           quiet = down_quiet on n P old mid ch ready a was (falls_so c) flying flying seconds seconds book book';
           lighter = tt;
+          kept = tt;
           leads = λ known ended w st.
               let f = found_up on n P old mid ch ready a was w.slots st.slots in
               let m = read_down on n P old mid ch ready a was w.slots st.slots c.0.read f c.1 in
@@ -427,9 +433,10 @@ module _ {D : Type 0} (on : View D) (n to : ℕ) (old : Nodes D) (fit : node_ref
                 told = record { each = λ k d d' p q. told.each k d d' p (same_disk k d' q) };
                 quiet = record {
                   later = λ k d d' p q. quiet.later k d d' p (same_disk k d' q);
-                  same = λ k boot d d' x y p q. quiet.same k boot d d' x (sym (off.noticed.only.lives k) ∙ y) p (same_disk k d' q);
+                  same = λ k boot d d' y p q. quiet.same k boot d d' (sym (off.noticed.only.lives k) ∙ y) p (same_disk k d' q);
                 };
                 lighter = tt;
+                kept = tt;
                 leads = λ known ended w st. sent_leads known w st;
                 cause = λ w st. tt;
               }

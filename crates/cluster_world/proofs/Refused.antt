@@ -11,11 +11,12 @@ use Rattle.cluster_world.specs.Seen.{step_seen, fault_seen}
 use Rattle.cluster_world.specs.Turns.{life_refusal, actor_refusal, node_refusal}
 use Rattle.cluster_world.specs.Worlds.{WorldState, life_in, tells_in, StateStandsFor}
 use Rattle.cluster_world.specs.Steps.{StepDid}
+use Rattle.cluster_world.specs.Sure.{IsSurelyDone}
 use Rattle.cluster_world.specs.declared.step.Step.{Step}
 use Rattle.cluster_world.specs.declared.step.Step.TheVariants.{Begin, Ask, GiveUp, Post, Drop, Push, Widen, Crash, Start, Lose}
 use Rattle.cluster_world.specs.declared.fault.StepFault.{StepFault}
 use Rattle.cluster_world.specs.declared.fault.StepFault.TheVariants as fault
-use Rattle.cluster_world.proofs.Same.{same_stops, same_told, same_quiet}
+use Rattle.cluster_world.proofs.Same.{same_stops, same_told, same_quiet, same_unchanged}
 use Rattle.cluster_world.proofs.Refusals.{named_fault}
 
 -- it is a fault for the sake of a node
@@ -75,6 +76,7 @@ module _ {D : Type 0} (on : View D) (state : WorldState D) (even : length state.
     plan = refl;
     handed = refl;
     lighter = tt;
+    kept = same_unchanged on state step;
     refused = sym e;
     kind = tt;
     falls = tt;
@@ -88,6 +90,7 @@ module _ {D : Type 0} (on : View D) (state : WorldState D) (even : length state.
     plan = refl;
     handed = refl;
     lighter = tt;
+    kept = same_unchanged on state step;
     refused = sym e;
     kind = tt;
     falls = tt;
@@ -101,6 +104,7 @@ module _ {D : Type 0} (on : View D) (state : WorldState D) (even : length state.
     plan = refl;
     handed = refl;
     lighter = tt;
+    kept = same_unchanged on state step;
     refused = sym e;
     kind = tt;
     falls = tt;
@@ -114,6 +118,7 @@ module _ {D : Type 0} (on : View D) (state : WorldState D) (even : length state.
     plan = refl;
     handed = refl;
     lighter = tt;
+    kept = same_unchanged on state step;
     refused = sym e;
     kind = tt;
     falls = tt;
@@ -131,3 +136,42 @@ module _ {D : Type 0} (on : View D) (state : WorldState D) (even : length state.
 
   pub refused_did : (f : StepFault) → node_refusal state.plan (life_in state) step ≡ Some f → StepDid on (Err f) step state state
   refused_did f e = did_so f (subst OfNode e (refusal_of_node state.plan (life_in state) step)) e
+
+-- and it is refused for nothing else
+module _ {D : Type 0} (state : WorldState D) where
+  sure_by : (step : Step) (f : StepFault) → IsOfNode f → node_refusal state.plan (life_in state) step ≡ Some f → IsSurelyDone state step (Err f)
+  sure_by (Crash node) f of e = e
+  sure_by (Lose node) f of e = e
+  sure_by (Drop letter) f of e = let never : None ≡ Some f = e in cc
+  sure_by (Ask ticket) f of e = ask_sure f of
+    where
+      ask_sure : (f : StepFault) → IsOfNode f → IsSurelyDone state (Ask ticket) (Err f)
+      ask_sure fault.NoSuchNode of = tt
+      ask_sure fault.NodeLost of = tt
+      ask_sure fault.NodeDown of = tt
+      ask_sure fault.NodeUp of = tt
+      ask_sure fault.NoSuchLetter of = tt
+      ask_sure fault.NoSuchTicket of = tt
+      ask_sure fault.Worn of = tt
+      ask_sure fault.NoRoom of = tt
+      ask_sure (fault.NoMemory down) of = absurd of
+  sure_by (GiveUp ticket) f of e = give_up_sure f of
+    where
+      give_up_sure : (f : StepFault) → IsOfNode f → IsSurelyDone state (GiveUp ticket) (Err f)
+      give_up_sure fault.NoSuchNode of = tt
+      give_up_sure fault.NodeLost of = tt
+      give_up_sure fault.NodeDown of = tt
+      give_up_sure fault.NodeUp of = tt
+      give_up_sure fault.NoSuchLetter of = tt
+      give_up_sure fault.NoSuchTicket of = tt
+      give_up_sure fault.Worn of = tt
+      give_up_sure fault.NoRoom of = tt
+      give_up_sure (fault.NoMemory down) of = absurd of
+  sure_by (Begin node call) f of e = tt
+  sure_by (Post letter keep) f of e = tt
+  sure_by (Push from to) f of e = tt
+  sure_by (Widen at user id to) f of e = tt
+  sure_by (Start node) f of e = tt
+
+  pub refused_sure : (step : Step) (f : StepFault) → node_refusal state.plan (life_in state) step ≡ Some f → IsSurelyDone state step (Err f)
+  refused_sure step f e = sure_by step f (subst OfNode e (refusal_of_node state.plan (life_in state) step)) e

@@ -4,8 +4,8 @@ use Rattle.std.specs.Prelude.{is_some}
 use Rattle.cluster_model.specs.World as machine
 use Rattle.node_store.specs.Disks.{View}
 use Rattle.cluster_world.specs.Worlds.{WorldState, disk_in, StateStandsFor}
-use Rattle.cluster_world.specs.Steps.{AreToldAlike, IsQuiet, EveryStopKeeps, StepDid}
-use Rattle.cluster_world.proofs.Still.{some_same, all_untouched}
+use Rattle.cluster_world.specs.Steps.{AreToldAlike, IsQuiet, IsUnchanged, EveryStopKeeps, StepDid}
+use Rattle.cluster_world.proofs.Still.{some_same, nothing_read, all_untouched}
 use Rattle.cluster_world.specs.Moments.{StopsKeep}
 use Rattle.cluster_world.specs.declared.step.Step.{Step}
 use Rattle.cluster_world.specs.declared.fault.StepFault.TheVariants as fault
@@ -27,7 +27,17 @@ module _ {D : Type 0} (on : View D) (state : WorldState D) where
   pub same_quiet : IsQuiet on.faults state state
   same_quiet = record {
     later = λ n disk disk' e f. subst (λ d. on.faults disk ≤ on.faults d) (sym (same_disk n disk disk' e f)) (omega arith);
-    same = λ n boot disk disk' a b e f. ap on.faults (same_disk n disk disk' e f);
+    same = λ n boot disk disk' b e f. ap on.faults (same_disk n disk disk' e f);
+  }
+
+  pub same_unchanged : (step : Step) → IsUnchanged on step state state
+  same_unchanged step = record {
+    nodes = λ n. refl;
+    disks = λ n disk disk' e f _. same_disk n disk disk' e f;
+    reads = λ n disk disk' e f _. (nothing_read on disk disk' (same_disk n disk disk' e f), ap on.faults (same_disk n disk disk' e f));
+    flying = refl;
+    seconds = refl;
+    book = refl;
   }
 
   -- out of memory, and nothing was done
@@ -36,6 +46,7 @@ module _ {D : Type 0} (on : View D) (state : WorldState D) where
     plan = refl;
     handed = refl;
     lighter = tt;
+    kept = same_unchanged step;
     refused = tt;
     kind = tt;
     falls = tt;

@@ -33,13 +33,13 @@ use Rattle.cluster_world.specs.Books.{entries_seen, booked_by}
 use Rattle.cluster_world.specs.Flights.{InFlight}
 use Rattle.cluster_world.specs.Lives.{life_seen, of_node, falls_left, all_falls_left, CanWorkOn}
 use Rattle.cluster_world.specs.Stands.{SlotStands}
-use Rattle.cluster_world.specs.Worlds.{WorldState, seen_life, life_among, state_with, tells_in, StateStandsFor}
+use Rattle.cluster_world.specs.Worlds.{WorldState, seen_life, life_among, state_with, tells_in, StateStandsFor, node_of_life}
 use Rattle.cluster_world.specs.Changes.{ChangesNode}
 use Rattle.cluster_world.specs.Starting.{said_of_start, entries_of_start, IsUpIn, ComesToThis, HasStarted}
 use Rattle.cluster_world.specs.Seen.{outcome_seen}
 use Rattle.cluster_world.specs.Turns.{life_refusal, node_refusal, life_after_step}
 use Rattle.cluster_world.specs.Moments.{IsStopOf, StopsKeep}
-use Rattle.cluster_world.specs.Steps.{StepDid, AreSettled, LeadsTo, StepIsKnown, IsRefusedRight, SaysSo, FallsSo, WasToWork, FaultHasCause}
+use Rattle.cluster_world.specs.Steps.{StepDid, AreSettled, LeadsTo, StepIsKnown, IsRefusedRight, SaysSo, FallsSo, WasToWork, FaultHasCause, ChangesNothing, IsUnchanged}
 use Rattle.cluster_world.specs.declared.life.Life.{Life}
 use Rattle.cluster_world.specs.declared.life.Life.TheVariants.{Up, Down, Lost}
 use Rattle.cluster_world.specs.declared.nodes.Nodes.{Nodes}
@@ -49,12 +49,13 @@ use Rattle.cluster_world.specs.declared.step.Said.TheVariants as said
 use Rattle.cluster_world.specs.declared.fault.StepFault.{StepFault}
 use Rattle.cluster_world.specs.declared.fault.StepFault.TheVariants as fault
 use Rattle.cluster_world.proofs.Still.{some_same}
-use Rattle.cluster_world.proofs.Same.{same_told, same_quiet, same_stops}
+use Rattle.cluster_world.proofs.Same.{same_told, same_quiet, same_stops, same_unchanged}
 use Rattle.cluster_world.proofs.Worked.{passed, if_both}
 use Rattle.cluster_world.proofs.Turned.{slot_of, lives_turned, as_many, told_by, quiet_by, settled_by, still_ready, falls_now, stops_kept, stands_now}
 use Rattle.cluster_world.proofs.Refusing.{fit_of, start_goes, start_is_worn}
 use Rattle.cluster_world.proofs.Falling.{entries_more}
 use Rattle.cluster_world.proofs.Asked.{turned_same, slot_same}
+use Rattle.cluster_world.proofs.Unchanged.{unchanged_by}
 
 -- a disk of those that all tell tells
 told_at : {D : Type 0} (seen : D → Option (List ℕ)) (disks : List D) (n : ℕ) (disk : D) → list_all (λ d. is_some (seen d)) disks ≡ true → of_node disks n ≡ Some disk → is_some (seen disk) ≡ true
@@ -218,8 +219,8 @@ module _ {D : Type 0} (on : View D) (is_settled : D → Type 0) (only : (disk : 
         → ((m : ℕ) → life_after_step (said_of_start n (Err why)) (step.Start n) m (life_among old m) ≡ turned n life.Down m (life_among old m))
         → (StepIsKnown on.seen before (step.Start n) → (w : machine.World) → StateStandsFor on before w → LeadsTo on (said_of_start n (Err why)) (step.Start n) before behind w)
         → ((w : machine.World) → StateStandsFor on before w → FaultHasCause on (said_of_start n (Err why)) (step.Start n) before behind)
-        → StepDid on (said_of_start n (Err why)) (step.Start n) before behind
-    down_did why down refused kind falls lives leads cause = record {
+        → ChangesNothing on (said_of_start n (Err why)) (step.Start n) before behind → StepDid on (said_of_start n (Err why)) (step.Start n) before behind
+    down_did why down refused kind falls lives leads cause kept = record {
       plan = ch.plan;
       handed = as_many n P old new ch;
       refused = refused;
@@ -227,8 +228,9 @@ module _ {D : Type 0} (on : View D) (is_settled : D → Type 0) (only : (disk : 
       falls = falls;
       lives = λ m. lives_turned n P old new ch m ∙ ap (λ l. turned n (life_seen l) m (life_among old m)) down ∙ sym (lives m);
       told = told_by n P old new ch flying flying seconds seconds book book' on.seen ch.does.told;
-      quiet = quiet_by n P old new ch flying flying seconds seconds book book' on.faults ch.does.faults (λ boot up _. absurd (let never : life.Down ≡ life.Up boot = sym (ap life_seen was_down) ∙ up in cc));
+      quiet = quiet_by n P old new ch flying flying seconds seconds book book' on.faults ch.does.faults (λ boot up. absurd (let never : life.Down ≡ life.Up boot = sym (ap life_seen down) ∙ up in cc));
       lighter = lighter_by why;
+      kept = kept;
       leads = λ known ended w st. leads known w st;
       cause = cause;
     }
@@ -238,6 +240,12 @@ module _ {D : Type 0} (on : View D) (is_settled : D → Type 0) (only : (disk : 
         lighter_by Worn = tt
         lighter_by (NoMemory true) = tt
         lighter_by (NoMemory false) = tt
+
+    -- down it stays, and its disk was started again
+    left_down : ch.life' ≡ Down → booked_by book' ≡ booked_by book → IsUnchanged on (step.Start n) before behind
+    left_down down same = unchanged_by n P old new ch flying flying seconds seconds book book' on (step.Start n)
+        (ap (λ (l : Life). node_of_life (Some l)) down ∙ sym (ap (λ (l : Life). node_of_life (Some l)) was_down))
+        (λ away. absurd (away refl)) (λ never. absurd (never n refl)) refl refl same
 
     -- the node was down
     was_life : life_among old n ≡ life.Down
@@ -276,6 +284,7 @@ module _ {D : Type 0} (on : View D) (is_settled : D → Type 0) (only : (disk : 
         let d'_is : ch.disk' ≡ d' = some_same ch.disk' d' (sym (Rattle.cluster_world.proofs.Turned.disk_there n P old new ch) ∙ e') in
         subst (λ x. Rose (on.faults d) (on.faults x) ⊎ ((on.seen d ≡ None) × Rattle.cluster_world.specs.Steps.MayMisread (step.Start n))) d'_is
         (subst (λ x. Rose (on.faults x) (on.faults ch.disk') ⊎ ((on.seen x ≡ None) × Rattle.cluster_world.specs.Steps.MayMisread (step.Start n))) d_is (caused f.slot.disk f.pending (on.seen ch.disk) refl f.holds)))
+        tt
       where
         caused : (records pending : List Record) (o : Option (List ℕ)) → on.seen ch.disk ≡ o → IfSome (on.seen ch.disk) (λ _. MayHold on ch.disk n records pending)
             → Rose (on.faults ch.disk) (on.faults ch.disk') ⊎ ((on.seen ch.disk ≡ None) × Rattle.cluster_world.specs.Steps.MayMisread (step.Start n))
@@ -290,6 +299,7 @@ module _ {D : Type 0} (on : View D) (is_settled : D → Type 0) (only : (disk : 
         f.slot (still_down w f so.holds down) (keeps_so w f f.slot (f.slot.disk ++ f.pending) (all_there w f) so.stops_keep)
         (inr (start_goes_now w stands f, refl, record { disk = f.slot.disk; pending = f.pending; here = f.here ∙ ap Some f.whole; kept = so.kept; pending_is = so.pending_is; last = so.last }), unchanged w f))
         (λ w stands. tt)
+        (left_down down (booked ∙ ap (λ r. booked_by book ++ entries_seen (entries_of_start n r)) e ∙ append-nil (booked_by book)))
     did_fail (NoMemory true) e down st = down_did (NoMemory true) down tt tt falls_here (λ m. refl)
         (λ known w stands.
         let f = found w stands in
@@ -298,6 +308,7 @@ module _ {D : Type 0} (on : View D) (is_settled : D → Type 0) (only : (disk : 
         (record { life = plain.Life.Down so.next; disk = so.new }) (stands_down so.next so.new so.holds down) (keeps_so w f (record { life = plain.Life.Down so.next; disk = so.new }) (so.new ++ so.next) refl so.stops_keep)
         (RunsShort.Starting f.slot.disk f.pending so.next so.new refl (f.here ∙ ap Some f.whole) so.stops refl))
         (λ w stands. tt)
+        tt
     did_fail (NoMemory false) e down st = down_did (NoMemory false) down tt tt tt stays
         (λ known w stands.
         let f = found w stands in
@@ -305,6 +316,7 @@ module _ {D : Type 0} (on : View D) (is_settled : D → Type 0) (only : (disk : 
         leads_so (Err (fault.NoMemory None)) [] (booked ∙ ap (λ r. booked_by book ++ entries_seen (entries_of_start n r)) e) w stands f
         f.slot (still_down w f holds down) (keeps_so w f f.slot (f.slot.disk ++ f.pending) (all_there w f) so) (unchanged w f))
         (λ w stands. tt)
+        (left_down down (booked ∙ ap (λ r. booked_by book ++ entries_seen (entries_of_start n r)) e ∙ append-nil (booked_by book)))
 
     did_start : (boot : ℕ) → started ≡ Ok boot → is_settled ch.disk' → (node : Node) → IsUpIn boot node ch.life' → NodeStarted on old.plan n ch.disk ch.disk' node → StepDid on (Ok (said.NodeUp boot)) (step.Start n) before behind
     did_start boot e settled node up st = record {
@@ -315,8 +327,9 @@ module _ {D : Type 0} (on : View D) (is_settled : D → Type 0) (only : (disk : 
       falls = tt;
       lives = λ m. lives_turned n P old new ch m ∙ ap (λ l. turned n l m (life_among old m)) (ap life_seen up.is ∙ ap life.Up (sym up.boot_is));
       told = told_by n P old new ch flying flying seconds seconds book book' on.seen ch.does.told;
-      quiet = quiet_by n P old new ch flying flying seconds seconds book book' on.faults ch.does.faults (λ boot up _. absurd (let never : life.Down ≡ life.Up boot = sym (ap life_seen was_down) ∙ up in cc));
+      quiet = quiet_by n P old new ch flying flying seconds seconds book book' on.faults ch.does.faults (λ boot _. st.quiet);
       lighter = tt;
+      kept = tt;
       leads = λ known ended w stands.
           let f = found w stands in
           let so = over (StartedOver on old.plan n ch.disk ch.disk' node) known w f st.over in
@@ -363,6 +376,7 @@ module _ {D : Type 0} (on : View D) (n : ℕ) (old : Nodes D) (fit : node_refusa
     told = same_told on (state_with old flying seconds book);
     quiet = same_quiet on (state_with old flying seconds book);
     lighter = tt;
+    kept = same_unchanged on (state_with old flying seconds book) (step.Start n);
     leads = λ known ended w st.
         let down : of_node old.lives.items n ≡ Some Down =
         here_down (of_node old.lives.items n) (fit_of (list_all (is_node old.plan) (n ∷ [])) (life_refusal (step.Start n) (life_among old n)) fit).1 in

@@ -2,9 +2,11 @@
 use Rattle.std.proofs.Common.{◌≡◌, ◌≢◌, inl, inr, ⊎_elim, ℕ, zero, suc, List, [], ◌++◌, length, append-nil, Option, Some, None, refl, sym, ap, ◌∙◌, subst, arith}
 use Rattle.std.specs.Prelude.{slice_get, IfSome}
 use Rattle.std.proofs.lemmas.Option.{slice_get_within, slice_get_cases}
+use Rattle.io_edge.specs.Moments.{Keeps as KeepsImages}
 use Rattle.mail_model.specs.Record.{Record, IsJournal, payloads_of}
 use Rattle.cluster_model.specs.Cluster as plain
 use Rattle.node_store.specs.Disks.{View}
+use Rattle.node_core.specs.Works.{IsOnlyRead}
 use Rattle.cluster_world.specs.Lives.{of_node}
 use Rattle.cluster_world.specs.Stands.{SlotStands, SlotsStand}
 use Rattle.cluster_world.specs.Moments.{IsStopOf, StopsKeep}
@@ -18,6 +20,13 @@ some_same a b e = cc
 pub if_some : (o : Option (List ℕ)) (P Q : List ℕ → Type 0) → ((c : List ℕ) → P c → Q c) → IfSome o P → IfSome o Q
 if_some None P Q f h = tt
 if_some (Some c) P Q f h = f c h
+
+-- nothing was read, and all the less written
+pub nothing_read : {D : Type 0} (on : View D) (d d' : D) → d' ≡ d → IsOnlyRead on d d'
+nothing_read on d d' e = record {
+  seen = ap on.seen e;
+  images = subst (λ x. KeepsImages on.clock d x) (sym e) (record { later = omega arith; since = λ t c le was. inl was; now = λ c image. image });
+}
 
 no_more : (xs : List Record) → (xs ++ []) ++ [] ≡ xs
 no_more xs = append-nil (xs ++ []) ∙ append-nil xs

@@ -176,17 +176,16 @@ module _ {D : Type 0} (n : ℕ) (P : Life → D → Life → D → Type 0) (old 
     pub told_by : (seen : D → Option (List ℕ)) → IsToldAlike (seen ch.disk) (seen ch.disk') → AreToldAlike seen (state_with old flying seconds book) (state_with new flying' seconds' book')
     told_by seen here = record { each = each_disk (λ d d'. IsToldAlike (seen d) (seen d')) (λ d. refl) here }
 
-    pub quiet_by : (faults : D → ℕ) → faults ch.disk ≤ faults ch.disk' → ((boot : ℕ) → life_seen ch.life ≡ life.Up boot → life_seen ch.life' ≡ life.Up boot → faults ch.disk' ≡ faults ch.disk)
+    pub quiet_by : (faults : D → ℕ) → faults ch.disk ≤ faults ch.disk' → ((boot : ℕ) → life_seen ch.life' ≡ life.Up boot → faults ch.disk' ≡ faults ch.disk)
         → IsQuiet faults (state_with old flying seconds book) (state_with new flying' seconds' book')
     quiet_by faults later same = record {
       later = each_disk (λ d d'. faults d ≤ faults d') (λ d. omega arith) later;
-      same = λ m boot d d' a b e f. ⊎_elim
+      same = λ m boot d d' b e f. ⊎_elim
           (λ (here : m ≡ n).
-          let was : life_seen ch.life ≡ life.Up boot = sym (ap seen_life ch.was) ∙ ap (λ k. seen_life (of_node old.lives.items k)) (sym here) ∙ a in
           let now : life_seen ch.life' ≡ life.Up boot = sym (ap seen_life life_there) ∙ ap (λ k. seen_life (of_node new.lives.items k)) (sym here) ∙ b in
           let d_is : ch.disk ≡ d = some_same ch.disk d (sym ch.held ∙ ap (of_node old.disks.items) (sym here) ∙ e) in
           let d'_is : ch.disk' ≡ d' = some_same ch.disk' d' (sym disk_there ∙ ap (of_node new.disks.items) (sym here) ∙ f) in
-          ap faults (sym d'_is) ∙ same boot was now ∙ ap faults d_is)
+          ap faults (sym d'_is) ∙ same boot now ∙ ap faults d_is)
           (λ (other : m ≢ n). ap faults (some_same d' d (sym f ∙ disk_else m other ∙ e)))
           (same_or m n);
     }

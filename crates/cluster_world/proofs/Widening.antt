@@ -1,5 +1,5 @@
 -- What a step does that gives a copy a target more.
-use Rattle.std.proofs.Common.{◌≡◌, inl, ℕ, ◌+◌, ◌≤◌, ◌||◌, nat_le, Bool, true, false, List, [], ◌∷◌, ◌++◌, append-nil, Option, Some, None, Result, Ok, Err, refl, sym, ap, ◌∙◌, subst, arith, if◌then◌else◌}
+use Rattle.std.proofs.Common.{◌≡◌, inl, ℕ, ◌≤◌, ◌||◌, nat_le, Bool, true, false, List, [], ◌∷◌, ◌++◌, append-nil, Option, Some, None, Result, Ok, Err, refl, sym, ap, ◌∙◌, subst, arith, if◌then◌else◌}
 use Rattle.std.specs.List.{list_all}
 use Rattle.mail_model.specs.Identity.{Id}
 use Rattle.mail_model.specs.Identity.Key.{Message}
@@ -39,12 +39,14 @@ use Rattle.cluster_world.specs.declared.nodes.Nodes.{Nodes}
 use Rattle.cluster_world.specs.declared.step.Step.TheVariants as step
 use Rattle.cluster_world.specs.declared.step.Said.TheVariants as said
 use Rattle.cluster_world.specs.declared.fault.StepFault.TheVariants as fault
-use Rattle.cluster_world.proofs.Same.{same_told, same_quiet, same_stops}
+use Rattle.cluster_world.proofs.Same.{same_told, same_quiet, same_stops, same_unchanged}
+use Rattle.cluster_world.proofs.Still.{nothing_read}
 use Rattle.cluster_world.proofs.Turned.{as_many}
 use Rattle.cluster_world.proofs.Refusing.{fit_of}
 use Rattle.cluster_world.proofs.Falling.{entries_more}
 use Rattle.cluster_world.proofs.Asked.{slot_same}
-use Rattle.cluster_world.proofs.AfterWidening.{StaysUp, FallsDown, did_stay, read_stays, stopped_falls, stays_lives, stays_ready, stays_falls, stays_told, stays_quiet, stays_settled, down_lives, down_ready, down_falls, down_told, down_quiet, down_settled, FoundUp, found_up, did_there, CutThere, cut_there, read_there, within_first, nothing_read, caused, up_of, slot_up_of}
+use Rattle.cluster_world.proofs.AfterWidening.{StaysUp, FallsDown, did_stay, read_stays, stopped_falls, stays_lives, stays_ready, stays_falls, stays_told, stays_quiet, stays_settled, down_lives, down_ready, down_falls, down_told, down_quiet, down_settled, FoundUp, found_up, did_there, CutThere, cut_there, read_there, within_first, caused, up_of, slot_up_of}
+use Rattle.cluster_world.proofs.Unchanged.{unchanged_by, node_kept}
 
 -- The machine refuses it only once no letters are sent any more.
 module _ (plan : Plan) (w : machine.World) (n to : ℕ) (user : List ℕ) (id : Id) (slot : Slot) (node : plain.Node)
@@ -164,6 +166,7 @@ module _ {D : Type 0} (on : View D) (n to : ℕ) (user : List ℕ) (id : Id) (ol
           told = stays_told on n P old new ch ready a was b s flying flying seconds seconds book book';
           quiet = stays_quiet on n P old new ch ready a was b s flying flying seconds seconds book book';
           lighter = tt;
+          kept = tt;
           leads = λ known ended w st.
               let f = found_up on n P old new ch ready a was w.slots st.slots in
               let t = did_there on n P old new ch ready a was w.slots st.slots widens b [] c.1 c.0.1 f in
@@ -205,13 +208,14 @@ module _ {D : Type 0} (on : View D) (n to : ℕ) (user : List ℕ) (id : Id) (ol
           told = down_told on n P old new ch ready a was s flying flying seconds seconds book book';
           quiet = down_quiet on n P old new ch ready a was s flying flying seconds seconds book book';
           lighter = tt;
+          kept = tt;
           leads = λ known ended w st.
               let f = found_up on n P old new ch ready a was w.slots st.slots in
               let t = cut_there on n P old new ch ready a was w.slots st.slots widens c.1 c.0.1 f in
               record {
                 next = cut_world w n f.slot.disk t.front t.pending;
                 stands = cut_stands (Err Disk) e refl w st f t;
-                made = (goes w st f, Widens.FailsWidening (node_seen a) f.slot.disk f.up refl (record { front = t.front; pending = t.pending; cut = t.cut; is = refl }));
+                made = (goes w st f, Widens.FailsWidening (node_seen a) f.slot.disk f.up refl (record { front = t.front; pending = t.pending; one = t.one; cut = t.cut; is = refl }));
                 stops = record { each = t.moved.stops };
               };
           cause = λ w st. caused on n P old new ch (step.Widen n user id to) flying flying seconds seconds book book' (inl c.0.2.1);
@@ -228,13 +232,14 @@ module _ {D : Type 0} (on : View D) (n to : ℕ) (user : List ℕ) (id : Id) (ol
           told = down_told on n P old new ch ready a was s flying flying seconds seconds book book';
           quiet = down_quiet on n P old new ch ready a was s flying flying seconds seconds book book';
           lighter = tt;
+          kept = tt;
           leads = λ known ended w st.
               let f = found_up on n P old new ch ready a was w.slots st.slots in
               let t = cut_there on n P old new ch ready a was w.slots st.slots widens c.1 c.0.1 f in
               record {
                 next = cut_world w n f.slot.disk t.front t.pending;
                 stands = cut_stands (Err (NoMemory true)) e refl w st f t;
-                made = RunsShort.Widening user id to (node_seen a) f.slot.disk refl f.up (record { front = t.front; pending = t.pending; cut = t.cut; is = refl });
+                made = RunsShort.Widening user id to (node_seen a) f.slot.disk refl f.up (record { front = t.front; pending = t.pending; one = t.one; cut = t.cut; is = refl });
                 stops = record { each = t.moved.stops };
               };
           cause = λ w st. tt;
@@ -252,6 +257,8 @@ module _ {D : Type 0} (on : View D) (n to : ℕ) (user : List ℕ) (id : Id) (ol
           told = stays_told on n P old new ch ready a was b s flying flying seconds seconds book book';
           quiet = stays_quiet on n P old new ch ready a was b s flying flying seconds seconds book book';
           lighter = tt;
+          kept = unchanged_by n P old new ch flying flying seconds seconds book book' on (step.Widen n user id to) (node_kept ch.life ch.life' a b was c.1 c.0.0)
+              (λ _. c.0.1) (λ _. (nothing_read on ch.disk ch.disk' c.0.1, ap on.faults c.0.1)) refl refl (booked (Err (NoMemory false)) e ∙ append-nil (booked_by book));
           leads = λ known ended w st.
               let f = found_up on n P old new ch ready a was w.slots st.slots in
               let m = read_there on n P old new ch ready a was w.slots st.slots (nothing_read on ch.disk ch.disk' c.0.1) f b c.1 c.0.0 in
@@ -291,6 +298,7 @@ module _ {D : Type 0} (on : View D) (n to : ℕ) (user : List ℕ) (id : Id) (ol
       told = same_told on (state_with old flying seconds book);
       quiet = same_quiet on (state_with old flying seconds book);
       lighter = tt;
+      kept = same_unchanged on (state_with old flying seconds book) (step.Widen n user id to);
       leads = λ known ended w st.
           let (node, here) = up_of (step.Widen n user id to) (of_node old.lives.items n) tt (fit_of (list_all (is_node old.plan) (n ∷ to ∷ [])) (life_refusal (step.Widen n user id to) (life_among old n)) fit).1 in
           let (slot, found, (seen, up)) = slot_up_of on old n node here w.slots st.slots in

@@ -1,5 +1,5 @@
 -- A node that did its work, or stopped in it, as a slot of the machine.
-use Rattle.std.proofs.Common.{◌≡◌, ◌⊎◌, inl, inr, ⊎_elim, ℕ, ◌+◌, true, false, List, [], ◌∷◌, ◌++◌, length-append, append-nil, append_assoc, Option, Some, None, refl, sym, ap, ◌∙◌, subst, arith}
+use Rattle.std.proofs.Common.{◌≡◌, inl, inr, ⊎_elim, ℕ, true, false, List, [], ◌∷◌, ◌++◌, length-append, append-nil, append_assoc, Option, Some, None, refl, sym, ap, ◌∙◌, subst, arith}
 use Rattle.std.specs.Prelude.{IfSome, is_some, All}
 use Rattle.std.proofs.lemmas.List.{get_or_append_left}
 use Rattle.io_edge.specs.Moments.{Clock, Passed}
@@ -155,6 +155,7 @@ module _ {D : Type 0} (on : View D) (own : ℕ) (rule : Rule) (old : Node) (befo
         was = ap (λ l. record { life = l; disk = slot.disk }) (is ∙ ap plain.Life.Up (sym st.seen_is));
         front = stopped.front;
         pending = stopped.pending;
+        one = stops.one;
         cut = cut;
         stands = (
           stopped.pending,

@@ -1,5 +1,5 @@
 -- What is known of a ticket that is asked at a node.
-use Rattle.std.specs.Prelude.{◌≡◌, Bool, true, false, List, [], Option, is_some}
+use Rattle.std.specs.Prelude.{◌≡◌, Bool, true, false, List, [], Option, is_some, MatchBool}
 use Rattle.object_model.specs.Letters.{Number}
 use Rattle.cluster_model.specs.Cluster as plain
 use Rattle.cluster_model.specs.Progress.{Ask, wants_entries}
@@ -29,10 +29,16 @@ confirms (Done (Dropped confirmers)) = true
 confirms (Done (Read found)) = false
 confirms (Done (Failed mishaps)) = false
 
--- the entries of what the ticket wants, where it is done
+-- the call of the ticket is done at a node that is up
+abbrev pub IsDoneAt : Number → Life → Type 0
+IsDoneAt ticket (Up node) = done_at node.shape.confirm (ticket_standing node ticket) ≡ true
+IsDoneAt ticket Down = ⊥
+IsDoneAt ticket Lost = ⊥
+
+-- the entries of what the ticket wants, where it is done, and none where it is not
 abbrev pub AreForTicket : Number → Life → List Entry → Type 0
 AreForTicket ticket (Up node) entries =
-    done_at node.shape.confirm (ticket_standing node ticket) ≡ true → entries_seen entries ≡ wants_entries (wants_at (ticket_standing node ticket))
+    MatchBool (done_at node.shape.confirm (ticket_standing node ticket)) (entries_seen entries ≡ wants_entries (wants_at (ticket_standing node ticket))) (entries ≡ [])
 AreForTicket ticket Down entries = entries ≡ []
 AreForTicket ticket Lost entries = entries ≡ []
 

@@ -1,5 +1,5 @@
 -- A call that begins at a node of the world.
-use Rattle.std.specs.Prelude.{◌≡◌, ℕ, ◌≤◌, List, [], ◌∷◌, ◌++◌, length, true, false, ⊤, Option, Some, None, Result, Ok, Err}
+use Rattle.std.specs.Prelude.{◌≡◌, ℕ, ◌≤◌, List, [], ◌∷◌, ◌++◌, length, ⊤, Option, Some, None, Result, Ok, Err, if◌then◌else◌}
 use Rattle.mail_model.specs.Plan.{Plan}
 use Rattle.mail_model.specs.Book.{BookEntry}
 use Rattle.object_model.specs.Letters.{Number, Letter}
@@ -10,7 +10,6 @@ use Rattle.cluster_model.specs.Makes.{struck_entries}
 use Rattle.node_core.specs.Beginning.{NodeBegins}
 use Rattle.node_core.specs.Works.{LeavesUp}
 use Rattle.node_core.specs.declared.fault.NodeFault.{NodeFault}
-use Rattle.node_core.specs.declared.fault.NodeFault.TheVariants.{Disk, Worn, NoMemory}
 use Rattle.node_core.specs.declared.outbox.Outbox.{Outbox}
 use Rattle.world_book.specs.Books.{entries_of}
 use Rattle.world_book.specs.declared.book.Book.{Book}
@@ -20,7 +19,7 @@ use Rattle.cluster_world.specs.Changes.{ChangesNode, IsTurnedTo}
 use Rattle.cluster_world.specs.Flights.{InFlight}
 use Rattle.cluster_world.specs.Missing.{SentOff}
 use Rattle.cluster_world.specs.Turning.{TurnsBy}
-use Rattle.cluster_world.specs.Unfinished.{said_of_fault}
+use Rattle.cluster_world.specs.Unfinished.{said_of_fault, takes_down}
 use Rattle.cluster_world.specs.declared.life.Life.{Life}
 use Rattle.cluster_world.specs.declared.life.Life.TheVariants as lives
 use Rattle.cluster_world.specs.declared.nodes.Nodes.{Nodes}
@@ -53,10 +52,7 @@ said_of_begin None = said.Noted
 
 -- what the book has of a call that node n did not begin, or did not end beginning: what is to be deleted, where that may be on the disk, and that the node went down
 abbrev pub entries_of_failure : ℕ → List Entry → NodeFault → List Entry
-entries_of_failure n entries Disk = entries ++ entry.Down n ∷ []
-entries_of_failure n entries Worn = []
-entries_of_failure n entries (NoMemory true) = entries ++ entry.Down n ∷ []
-entries_of_failure n entries (NoMemory false) = []
+entries_of_failure n entries why = if takes_down why then entries ++ entry.Down n ∷ [] else []
 
 module _ {D : Type 0} (on : View D) (n : ℕ) (entries : List Entry) (result : Result Said StepFault) (old : Nodes D) (flying : InFlight) (book : Book) (new : Nodes D) (flying' : InFlight) (book' : Book) where
   -- A call has begun: its letters are in flight. Or memory ran out for them, and its node is down.

@@ -16,15 +16,16 @@ pub mod Missing
 pub mod Noting
 pub mod Ended
 pub mod Steps
+pub mod Telling
 pub mod Sure
 pub mod Opens
 pub mod Outcomes
 pub mod Flows
 pub mod Chains
 pub mod Owing
+pub mod Lasting
 pub mod Begins
 pub mod Widens
 pub mod Pushes
 pub mod Posts
 pub mod Runs
-pub mod Telling

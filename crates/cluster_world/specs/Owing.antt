@@ -2,18 +2,14 @@
 use Rattle.std.specs.Prelude.{◌≡◌, ◌⊎◌, ◌≤◌, ℕ, true, List, [], ◌∷◌, flat_map, map, ⊤, IfSome}
 use Rattle.mail_model.specs.Plan.{Plan}
 use Rattle.mail_model.specs.Record.{Record}
-use Rattle.mail_model.specs.Transcript.{Entry}
 use Rattle.object_model.specs.Letters.{Number}
 use Rattle.object_model.specs.Lists.{Among}
-use Rattle.session_model.specs.Run.{Stop}
-use Rattle.session_model.specs.Losses.{IsLostIn}
-use Rattle.session_model.specs.Events.NodeLife.{Lost}
 use Rattle.session_model.specs.OneNode.{IsSoundMail}
 use Rattle.session_model.specs.Owes.{Owes}
 use Rattle.cluster_owes.specs.Held.{filed_on}
 use Rattle.cluster_owes.specs.Outcomes.{IsTakenAt}
 use Rattle.node_store.specs.Disks.{View}
-use Rattle.cluster_world.specs.Worlds.{plan_of, disks_of, book_of, life_of, disks_tell}
+use Rattle.cluster_world.specs.Worlds.{plan_of, disks_of, book_of, disks_tell}
 use Rattle.cluster_world.specs.Steps.{IsBlind}
 use Rattle.cluster_world.specs.Opens.{IsAtBeginning}
 use Rattle.cluster_world.specs.Outcomes.{Outcome, Awaited, StepMade, Makes, asked_by_outcome, answered_by_outcome}
@@ -49,16 +45,12 @@ IsOfSession lines outcome = ⊤
 abbrev pub AreOfSessions : List (List ℕ) → List Outcome → Type 0
 AreOfSessions lines outcomes = (outcome : Outcome) → Among outcome outcomes → IsOfSession lines outcome
 
--- each node that the world has lost for good is one of these
-abbrev pub AreLost : {D : Type 0} → World D → (ℕ → Type 0) → Type 0
-AreLost world lost = (n : ℕ) → 1 ≤ n → n ≤ (plan_of world).nodes → life_of world n ≡ Lost → lost n
-
 -- Whatever steps a world makes from its opening on, in whatever order its calls begin and are asked for, whatever becomes of its letters and of its nodes: it owes of its
 -- calls what sessions are promised, and has it.
 abbrev pub WorldOwes : {D : Type 0} → View D → Type 0
-WorldOwes {D} on = (plan : Plan) (stop : Stop) (lines : List (List ℕ)) (entries : List Entry) (outcomes : List Outcome) (left : List Awaited) (start last : World D)
-    → IsAtBeginning on plan start → AreKnown on start outcomes → Makes on outcomes [] start left last → AreOfSessions lines outcomes → AreLost last (IsLostIn stop lines entries)
-    → (disks : List (List Record)) × Owes plan (disks_tell on.seen last) lines (IsLostIn stop lines entries) (map on.seen (disks_of last)) disks (filed_on disks)
+WorldOwes {D} on = (plan : Plan) (lines : List (List ℕ)) (outcomes : List Outcome) (left : List Awaited) (start last : World D)
+    → IsAtBeginning on plan start → AreKnown on start outcomes → Makes on outcomes [] start left last → AreOfSessions lines outcomes
+    → (disks : List (List Record)) × Owes plan (disks_tell on.seen last) lines (map on.seen (disks_of last)) disks (filed_on disks)
     (flat_map asked_by_outcome outcomes) (flat_map answered_by_outcome outcomes) (book_of last)
 
 -- In a plan of one node no call that has begun ever waits: it is done as it is asked for.

@@ -1,5 +1,5 @@
 -- What becomes of a letter that is posted, and of its receiver.
-use Rattle.std.specs.Prelude.{◌≡◌, ℕ, ◌+◌, Bool, true, false, List, [], ◌∷◌, ◌++◌, Option, Some, None, Result, Ok, Err}
+use Rattle.std.specs.Prelude.{◌≡◌, ℕ, ◌+◌, Bool, true, false, List, [], ◌∷◌, ◌++◌, Option, Some, None, Result, Ok, Err, MatchBool}
 use Rattle.mail_model.specs.Plan.{Plan}
 use Rattle.object_model.specs.Letters.{Letter}
 use Rattle.object_model.specs.Mishaps.{MishapKind, MishapKind as mishap}
@@ -18,12 +18,13 @@ use Rattle.world_book.specs.declared.entry.Entry.TheVariants as entry
 use Rattle.cluster_world.specs.Flights.{InFlight, taken_out}
 use Rattle.cluster_world.specs.Turning.{TurnsBy}
 use Rattle.cluster_world.specs.Changes.{ChangesNode, IsTurnedTo}
+use Rattle.cluster_world.specs.Unfinished.{said_of_fault, takes_down}
 use Rattle.cluster_world.specs.Missing.{Noticed, SentOff}
 use Rattle.cluster_world.specs.declared.life.Life.{Life}
 use Rattle.cluster_world.specs.declared.life.Life.TheVariants.{Down}
 use Rattle.cluster_world.specs.declared.nodes.Nodes.{Nodes}
 use Rattle.cluster_world.specs.declared.step.Said.{Said}
-use Rattle.cluster_world.specs.declared.step.Said.TheVariants.{Heard, Thrown, Faulted}
+use Rattle.cluster_world.specs.declared.step.Said.TheVariants.{Heard, Thrown}
 use Rattle.cluster_world.specs.declared.fault.StepFault.{StepFault}
 use Rattle.cluster_world.specs.declared.fault.StepFault.TheVariants as fault
 
@@ -59,12 +60,16 @@ abbrev pub IsNotedIf : {D : Type 0} → View D → Plan → Letter → Option Mi
 IsNotedIf on plan letter None old new = new ≡ old
 IsNotedIf on plan letter (Some kind) old new = Noticed on plan (λ slots. missed kind slots letter) old new
 
--- Where the work of receiver n stopped, the book has it. The letter leaves with a disk fault alone, if it is to.
+-- with a disk fault alone the letter leaves, if it is to
+abbrev pub LeavesIfFailed : Option ℕ → NodeFault → InFlight → InFlight → Type 0
+LeavesIfFailed posted Disk flying flying' = flying' ≡ taken_out posted flying
+LeavesIfFailed posted Worn flying flying' = flying' ≡ flying
+LeavesIfFailed posted (NoMemory down) flying flying' = flying' ≡ flying
+
+-- Where the work of receiver n stopped, the book has it.
 abbrev pub EndsStopped : ℕ → Option ℕ → NodeFault → Result Said StepFault → InFlight → Book → InFlight → Book → Type 0
-EndsStopped n posted Disk result flying book flying' book' = (result ≡ Ok (Faulted n)) × (flying' ≡ taken_out posted flying) × IsEntered n book book'
-EndsStopped n posted Worn result flying book flying' book' = (result ≡ Err fault.Worn) × (flying' ≡ flying) × (book' ≡ book)
-EndsStopped n posted (NoMemory true) result flying book flying' book' = (result ≡ Err (fault.NoMemory (Some n))) × (flying' ≡ flying) × IsEntered n book book'
-EndsStopped n posted (NoMemory false) result flying book flying' book' = (result ≡ Err (fault.NoMemory None)) × (flying' ≡ flying) × (book' ≡ book)
+EndsStopped n posted why result flying book flying' book' =
+    (result ≡ said_of_fault n why) × LeavesIfFailed posted why flying flying' × MatchBool (takes_down why) (IsEntered n book book') (book' ≡ book)
 
 module _ {D : Type 0} (on : View D) (plan : Plan) (n : ℕ) (posted : Option ℕ) where
   -- what the receiver answers is in flight; or memory ran out, and the receiver went down

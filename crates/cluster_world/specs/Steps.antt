@@ -7,12 +7,13 @@ use Rattle.cluster_model.specs.Cluster.{slot_at}
 use Rattle.cluster_model.specs.World as machine
 use Rattle.cluster_model.specs.Makes.{MakesStep}
 use Rattle.node_store.specs.Disks.{View}
+use Rattle.node_core.specs.Works.{IsOnlyRead}
 use Rattle.call_tickets.specs.declared.call.Call.{Call}
 use Rattle.call_tickets.specs.declared.call.Call.TheVariants.{Fetch, Leave}
 use Rattle.session_model.specs.Events.{NodeLife}
 use Rattle.session_model.specs.Events.NodeLife.{Up}
 use Rattle.cluster_world.specs.Flights.{weight_of_flights}
-use Rattle.cluster_world.specs.Worlds.{WorldState, state_of, life_in, disk_in, tells_in, steps_of, one_more, StateStandsFor}
+use Rattle.cluster_world.specs.Worlds.{WorldState, state_of, life_in, node_in, disk_in, tells_in, steps_of, one_more, StateStandsFor}
 use Rattle.cluster_world.specs.Seen.{step_seen, outcome_seen}
 use Rattle.cluster_world.specs.Ended.{IsEnded}
 use Rattle.cluster_world.specs.Turns.{node_refusal, refused_for_node, life_after_step}
@@ -51,10 +52,10 @@ pub record LeadsTo {D : Type 0} (on : View D) (result : Result Said StepFault) (
 pub record AreToldAlike {D : Type 0} (seen : D → Option (List ℕ)) (old new : WorldState D) : Type 0 where
   pub each : (n : ℕ) (disk disk' : D) → disk_in old n ≡ Some disk → disk_in new n ≡ Some disk' → IsToldAlike (seen disk) (seen disk')
 
--- No count of faults falls. A node that was up in the same boot and still is has the count that its disk had.
+-- No count of faults falls. Where a node is up afterwards the count of its disk has not risen, however the node was before: no failed call is passed over, nor by a start.
 pub record IsQuiet {D : Type 0} (faults : D → ℕ) (old new : WorldState D) : Type 0 where
   pub later : (n : ℕ) (disk disk' : D) → disk_in old n ≡ Some disk → disk_in new n ≡ Some disk' → faults disk ≤ faults disk'
-  pub same : (n boot : ℕ) (disk disk' : D) → life_in old n ≡ Up boot → life_in new n ≡ Up boot → disk_in old n ≡ Some disk → disk_in new n ≡ Some disk' → faults disk' ≡ faults disk
+  pub same : (n boot : ℕ) (disk disk' : D) → life_in new n ≡ Up boot → disk_in old n ≡ Some disk → disk_in new n ≡ Some disk' → faults disk' ≡ faults disk
 
 -- the call reads octets of a message
 abbrev pub MayReadAmiss : Call → Type 0
@@ -133,6 +134,30 @@ abbrev pub IsLighter : {D : Type 0} → Result Said StepFault → Step → World
 IsLighter (Ok said) (Post letter false) old new = weight_of_flights new.flying.flights < weight_of_flights old.flying.flights
 IsLighter result step old new = ⊤
 
+-- the node whose disk the step may read before it is refused
+abbrev pub reader_in : Step → Option ℕ
+reader_in (Begin node call) = Some node
+reader_in (Push from to) = Some from
+reader_in (Start node) = Some node
+reader_in step = None
+
+-- Nothing was changed: no node in what it has in memory, no disk, no letter in flight, no second and no entry of the book. A disk may have been read, that of one node; a start reads
+-- all of it again, and what it may then hold is said by the machine.
+pub record IsUnchanged {D : Type 0} (on : View D) (step : Step) (old new : WorldState D) : Type 0 where
+  pub nodes : (n : ℕ) → node_in new n ≡ node_in old n
+  pub disks : (n : ℕ) (disk disk' : D) → disk_in old n ≡ Some disk → disk_in new n ≡ Some disk' → (reader_in step ≡ Some n → ⊥) → disk' ≡ disk
+  pub reads : (n : ℕ) (disk disk' : D) → disk_in old n ≡ Some disk → disk_in new n ≡ Some disk' → ((node : ℕ) → step ≡ Start node → ⊥)
+      → IsOnlyRead on disk disk' × (on.faults disk' ≡ on.faults disk)
+  pub flying : new.flying ≡ old.flying
+  pub seconds : new.seconds ≡ old.seconds
+  pub book : new.book ≡ old.book
+
+-- A step that is refused changes nothing, whatever the disks tell. One that ran out of memory and took a node down is not refused.
+abbrev pub ChangesNothing : {D : Type 0} → View D → Result Said StepFault → Step → WorldState D → WorldState D → Type 0
+ChangesNothing on (Ok said) step old new = ⊤
+ChangesNothing on (Err (NoMemory (Some failed))) step old new = ⊤
+ChangesNothing on (Err why) step old new = IsUnchanged on step old new
+
 -- What a step does, whatever comes of it.
 pub record StepDid {D : Type 0} (on : View D) (result : Result Said StepFault) (step : Step) (old new : WorldState D) : Type 0 where
   pub plan : new.plan ≡ old.plan
@@ -144,6 +169,7 @@ pub record StepDid {D : Type 0} (on : View D) (result : Result Said StepFault) (
   pub told : AreToldAlike on.seen old new
   pub quiet : IsQuiet on.faults old new
   pub lighter : IsLighter result step old new
+  pub kept : ChangesNothing on result step old new
   pub leads : StepIsKnown on.seen old step → IsEnded step → (w : machine.World) → StateStandsFor on old w → LeadsTo on result step old new w
   pub cause : (w : machine.World) → StateStandsFor on old w → FaultHasCause on result step old new
 

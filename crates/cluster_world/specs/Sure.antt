@@ -1,12 +1,37 @@
--- Which steps come to nothing only for the sake of a node.
-use Rattle.std.specs.Prelude.{◌≡◌, ⊤, Option, Some, Result, Err}
+-- Which steps take no memory, and why they are then refused.
+use Rattle.std.specs.Prelude.{◌≡◌, ℕ, true, Bool, ◌&&◌, nat_le, ⊤, Option, Some, None, Result, Err, if◌then◌else◌}
+use Rattle.object_model.specs.Letters.{Number, Letter}
+use Rattle.cluster_model.specs.Steps.{letter_at, has_ticket, letters_end}
+use Rattle.node_tickets.specs.Standing.{done_at}
+use Rattle.cluster_world.specs.Flights.{InFlight}
+use Rattle.cluster_world.specs.Lives.{of_node}
+use Rattle.cluster_world.specs.Telling.{standing_on}
+use Rattle.cluster_world.specs.Worlds.{WorldState, life_in}
+use Rattle.cluster_world.specs.Turns.{node_refusal}
 use Rattle.cluster_world.specs.declared.step.Step.{Step}
-use Rattle.cluster_world.specs.declared.step.Step.TheVariants.{Crash, Lose}
+use Rattle.cluster_world.specs.declared.step.Step.TheVariants.{Ask, GiveUp, Drop, Crash, Lose}
 use Rattle.cluster_world.specs.declared.step.Said.{Said}
 use Rattle.cluster_world.specs.declared.fault.StepFault.{StepFault}
+use Rattle.cluster_world.specs.declared.fault.StepFault.TheVariants.{NoSuchLetter, Worn, NoMemory}
 
--- A node that is to stop, or to be lost, is refused only for the sake of a node: the step needs no memory.
-abbrev pub IsSurelyDone : Step → Result Said StepFault → Option StepFault → Type 0
-IsSurelyDone (Crash node) (Err why) refusal = refusal ≡ Some why
-IsSurelyDone (Lose node) (Err why) refusal = refusal ≡ Some why
-IsSurelyDone step result refusal = ⊤
+-- why a letter is not dropped: it is not in flight, or it has a ticket and no letters are sent any more
+abbrev pub refusal_to_drop : ℕ → Option Letter → Option StepFault
+refusal_to_drop sent None = Some NoSuchLetter
+refusal_to_drop sent (Some letter) = if has_ticket (Some letter) && nat_le letters_end sent then Some Worn else None
+
+abbrev pub drop_refusal : ℕ → InFlight → Option StepFault
+drop_refusal number flying = refusal_to_drop flying.sent (letter_at number flying.flights)
+
+-- whether the call of the ticket is done, so that an Ask ends it
+abbrev pub is_done_in : {D : Type 0} → WorldState D → Number → Bool
+is_done_in state number = done_at state.plan.confirm (standing_on (of_node state.lives number.node) number)
+
+-- A node that is to stop, or to be lost, is refused only for the sake of a node, and a letter is dropped unless it is refused for its own: these steps need no memory. Nor does a
+-- GiveUp, and an Ask needs it only to end a call that is done.
+abbrev pub IsSurelyDone : {D : Type 0} → WorldState D → Step → Result Said StepFault → Type 0
+IsSurelyDone state (Crash node) (Err why) = node_refusal state.plan (life_in state) (Crash node) ≡ Some why
+IsSurelyDone state (Lose node) (Err why) = node_refusal state.plan (life_in state) (Lose node) ≡ Some why
+IsSurelyDone state (Drop letter) (Err why) = drop_refusal letter state.flying ≡ Some why
+IsSurelyDone state (GiveUp ticket) (Err (NoMemory down)) = ⊥
+IsSurelyDone state (Ask ticket) (Err (NoMemory down)) = (down ≡ None) × (is_done_in state ticket ≡ true)
+IsSurelyDone state step result = ⊤

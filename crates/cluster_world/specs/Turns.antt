@@ -1,16 +1,21 @@
 -- What a step asks of the lives of nodes, and what it makes of them.
-use Rattle.std.specs.Prelude.{ℕ, Option, Some, None, if◌then◌else◌, Result, Ok, Err}
+use Rattle.std.specs.Prelude.{ℕ, ⊤, Option, Some, None, if◌then◌else◌, Result, Ok, Err}
 use Rattle.std.specs.List.{list_all}
 use Rattle.mail_model.specs.Plan.{Plan}
 use Rattle.cluster_model.specs.Steps.{nodes_named, actor_of, is_node}
 use Rattle.session_model.specs.Events.{NodeLife, NodeLife as life, turned}
 use Rattle.cluster_world.specs.Seen.{step_seen}
 use Rattle.cluster_world.specs.declared.step.Step.{Step}
-use Rattle.cluster_world.specs.declared.step.Step.TheVariants.{Crash, Start, Lose}
+use Rattle.cluster_world.specs.declared.step.Step.TheVariants.{Begin, Crash, Start, Lose}
 use Rattle.cluster_world.specs.declared.step.Said.{Said}
 use Rattle.cluster_world.specs.declared.step.Said.TheVariants.{NodeUp, Done, Faulted}
 use Rattle.cluster_world.specs.declared.fault.StepFault.{StepFault}
 use Rattle.cluster_world.specs.declared.fault.StepFault.TheVariants as fault
+
+-- the step begins no call
+abbrev pub BeginsNone : Step → Type 0
+BeginsNone (Begin node call) = ⊥
+BeginsNone step = ⊤
 
 -- what is wrong with the life of the node that is to act, or that is to stop, to start or to be lost
 abbrev pub life_refusal : Step → NodeLife → Option StepFault

@@ -1,5 +1,5 @@
 -- What a node's work does to its slot of the machine.
-use Rattle.std.specs.Prelude.{◌≡◌, ℕ, List, ◌++◌}
+use Rattle.std.specs.Prelude.{◌≡◌, ◌≤◌, ℕ, List, ◌++◌, length}
 use Rattle.mail_model.specs.Record.{Record}
 use Rattle.object_model.specs.Letters.{Letter}
 use Rattle.cluster_model.specs.Cluster as plain
@@ -30,6 +30,7 @@ module _ {D : Type 0} (on : View D) (own : ℕ) (rule : Rule) (old : Life) (befo
     pub was : slot ≡ slot_up node slot.disk
     pub front : List Record
     pub pending : List Record
+    pub one : length pending ≤ 1
     pub cut : IsWorkCut slot.disk (rule node slot.disk).disk front pending
     pub stands : SlotStands on own new after (record { life = plain.Life.Down pending; disk = slot.disk ++ front })
     pub keeps : StopsKeep on own before after slot (record { life = plain.Life.Down pending; disk = slot.disk ++ front })

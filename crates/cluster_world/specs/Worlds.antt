@@ -4,14 +4,17 @@ use Rattle.std.specs.List.{list_all}
 use Rattle.mail_model.specs.Plan.{Plan}
 use Rattle.mail_model.specs.Book.{BookEntry}
 use Rattle.session_model.specs.Events.{NodeLife, NodeLife as life}
+use Rattle.cluster_model.specs.Cluster as plain
 use Rattle.cluster_model.specs.World as machine
 use Rattle.node_store.specs.Disks.{View}
+use Rattle.node_core.specs.Nodes.{node_seen}
 use Rattle.cluster_world.specs.Books.{booked_by}
 use Rattle.cluster_world.specs.Flights.{InFlight}
 use Rattle.cluster_world.specs.Lives.{life_seen, of_node, CanWorkOn}
 use Rattle.cluster_world.specs.Stands.{SlotsStand}
 use Rattle.world_book.specs.declared.book.Book.{Book}
 use Rattle.cluster_world.specs.declared.life.Life.{Life}
+use Rattle.cluster_world.specs.declared.life.Life.TheVariants.{Up}
 use Rattle.cluster_world.specs.declared.nodes.Nodes.{Nodes}
 use Rattle.cluster_world.specs.declared.world.World.{World}
 
@@ -47,6 +50,14 @@ life_among nodes n = seen_life (of_node nodes.lives.items n)
 
 abbrev pub life_in : {D : Type 0} → WorldState D → ℕ → NodeLife
 life_in state n = seen_life (of_node state.lives n)
+
+-- what a node that is up has in memory, in the machine's words
+abbrev pub node_of_life : Option Life → Option plain.Node
+node_of_life (Some (Up node)) = Some (node_seen node)
+node_of_life life = None
+
+abbrev pub node_in : {D : Type 0} → WorldState D → ℕ → Option plain.Node
+node_in state n = node_of_life (of_node state.lives n)
 
 abbrev pub disk_in : {D : Type 0} → WorldState D → ℕ → Option D
 disk_in state n = of_node state.disks n

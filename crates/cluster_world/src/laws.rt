@@ -2,6 +2,7 @@
 ghost use Rattle.node_store.specs.Disks.{view_of};
 ghost use Rattle.cluster_world.specs.Chains.{MakesMore, StepsAreCounted, PlanStays, LaterAfter};
 ghost use Rattle.cluster_world.specs.Owing.{WorldOwes, NonePending};
+ghost use Rattle.cluster_world.specs.Lasting.{PendingHasLetter, ConfirmedInEveryImage};
 
 use io_edge::Disk;
 
@@ -33,4 +34,14 @@ pub fn world_owes<D: Disk>()
 /// In a plan of one node no call waits.
 pub fn none_pending<D: Disk>()
     ensures { NonePending (view_of D.seen D.faults D.clock) }
+{}
+
+/// A ticket that is pending has a letter of its own in flight.
+pub fn pending_has_letter<D: Disk>()
+    ensures { PendingHasLetter (view_of D.seen D.faults D.clock) }
+{}
+
+/// Whatever a stop of the machine leaves at any moment of a step has what was confirmed.
+pub fn confirmed_in_every_image<D: Disk>()
+    ensures { ConfirmedInEveryImage (view_of D.seen D.faults D.clock) }
 {}

@@ -32,7 +32,7 @@ fn open_node<D: Disk>(
     match Node::first(alloc, disk, plan, node) {
         Ok(up) => Ok(Life::Up(up)),
         Err(NodeFault::Disk) => Err(OpenFault::DiskFault(node)),
-        Err(NodeFault::Worn) => Err(OpenFault::NoMemory),
+        Err(NodeFault::Worn) => unreachable!(),
         Err(NodeFault::NoMemory { .. }) => Err(OpenFault::NoMemory),
     }
 }

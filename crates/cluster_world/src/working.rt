@@ -57,7 +57,7 @@ pub(crate) fn hear_at<D: Disk>(
 {
     let done = match life {
         Life::Up(node) => node.hear(alloc, disk, letter),
-        Life::Down | Life::Lost => return Err(NodeFault::NoMemory { down: false }),
+        Life::Down | Life::Lost => unreachable!(),
     };
     settle(life, &done);
     done
@@ -79,7 +79,7 @@ pub(crate) fn begin_at<D: Disk>(
 {
     let done = match life {
         Life::Up(node) => node.begin(alloc, disk, users, call, seconds),
-        Life::Down | Life::Lost => return Err(NodeFault::NoMemory { down: false }),
+        Life::Down | Life::Lost => unreachable!(),
     };
     settle(life, &done);
     done
@@ -101,7 +101,7 @@ pub(crate) fn widen_at<D: Disk>(
 {
     let done = match life {
         Life::Up(node) => node.widen(alloc, disk, user, id, to),
-        Life::Down | Life::Lost => return Err(NodeFault::NoMemory { down: false }),
+        Life::Down | Life::Lost => unreachable!(),
     };
     settle(life, &done);
     done
@@ -123,7 +123,7 @@ pub(crate) fn push_at<D: Disk>(
 {
     let done = match life {
         Life::Up(node) => node.push(alloc, disk, to, most, room),
-        Life::Down | Life::Lost => return Err(NodeFault::NoMemory { down: false }),
+        Life::Down | Life::Lost => unreachable!(),
     };
     settle(life, &done);
     done

@@ -74,11 +74,9 @@ impl<D: Disk> World<D> {
     ghost use Rattle.cluster_world.specs.Books.{booked_by};
     ghost use Rattle.cluster_world.specs.Steps.{IsStep, StepDid, AreSettled};
     ghost use Rattle.cluster_world.specs.Sure.{IsSurelyDone};
-    ghost use Rattle.cluster_world.specs.declared.fault.StepFault.{StepFault as AFault};
-    ghost use Rattle.cluster_world.specs.Turns.{node_refusal};
+    ghost use Rattle.cluster_world.specs.Turns.{node_refusal, BeginsNone};
     ghost use Rattle.cluster_world.specs.Lives.{is_up_life, is_lost_life, boot_in_life};
     ghost use Rattle.cluster_world.specs.Flows.{HasFlowed};
-    ghost use Rattle.cluster_world.specs.Turns.{node_refusal};
     ghost use Rattle.cluster_world.specs.declared.step.Step.TheVariants.{Begin};
     ghost use Rattle.cluster_world.specs.Opens.{CanBeOpened, AreEmpty, Opened, Refused};
 
@@ -128,12 +126,13 @@ impl<D: Disk> World<D> {
     // A step that begins no call.
     fn make_other(&mut self, alloc: Global, step: &Step) -> Result<Said, StepFault>
         requires fit { node_refusal (plan_of self.old) (life_of self.old) step.now ≡ None }
+        requires other { BeginsNone step.now }
         requires ready { CanMakeSteps D.seen self.old }
         ensures ready { CanMakeSteps D.seen self.new }
         ensures did { StepDid (view_of D.seen D.faults D.clock) result step.now (state_of self.old) (state_of self.new) }
         ensures settled { AreSettled D.settled (state_of self.old) → AreSettled D.settled (state_of self.new) }
         ensures steps { self.new.steps ≡ self.old.steps }
-        ensures sure { (refusal : Option AFault) → IsSurelyDone step.now result refusal }
+        ensures sure { IsSurelyDone (state_of self.old) step.now result }
     {
         match step {
             Step::Ask { ticket } => ask_for(alloc, &mut self.nodes, &mut self.book, ticket),
@@ -177,7 +176,7 @@ impl<D: Disk> World<D> {
                 *to,
             ),
             // `make_fit` takes the beginning of a call.
-            Step::Begin { .. } => Err(StepFault::NoMemory { down: None }),
+            Step::Begin { .. } => unreachable!(),
         }
     }
 
@@ -209,7 +208,7 @@ impl<D: Disk> World<D> {
         ensures did { StepDid (view_of D.seen D.faults D.clock) result step (state_of self.old) (state_of self.new) }
         ensures settled { AreSettled D.settled (state_of self.old) → AreSettled D.settled (state_of self.new) }
         ensures steps { self.new.steps ≡ self.old.steps }
-        ensures sure { (refusal : Option AFault) → IsSurelyDone step result refusal }
+        ensures sure { IsSurelyDone (state_of self.old) step result }
     {
         match step {
             Step::Begin { node, call } => self.begin(alloc, node, call),
@@ -224,7 +223,7 @@ impl<D: Disk> World<D> {
         ensures did { StepDid (view_of D.seen D.faults D.clock) result step (state_of self.old) (state_of self.new) }
         ensures settled { AreSettled D.settled (state_of self.old) → AreSettled D.settled (state_of self.new) }
         ensures steps { self.new.steps ≡ self.old.steps }
-        ensures sure { IsSurelyDone step result (node_refusal (plan_of self.old) (life_of self.old) step) }
+        ensures sure { IsSurelyDone (state_of self.old) step result }
     {
         if let Some(fault) = self.nodes.refuses(&step) {
             return Err(fault);
@@ -238,7 +237,7 @@ impl<D: Disk> World<D> {
         ensures ready { CanMakeSteps D.seen self.new }
         ensures is { IsStep (view_of D.seen D.faults D.clock) result step self.old self.new }
         ensures settled { AreSettled D.settled (state_of self.old) → AreSettled D.settled (state_of self.new) }
-        ensures sure { IsSurelyDone step result (node_refusal (plan_of self.old) (life_of self.old) step) }
+        ensures sure { IsSurelyDone (state_of self.old) step result }
     {
         self.steps = self.steps.saturating_add(1);
         self.make_step(alloc, step)

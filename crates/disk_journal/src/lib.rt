@@ -31,5 +31,3 @@ pub use fault::JournalFault;
 pub use journal::Journal;
 pub use place::Place;
 
-#[cfg(test)]
-mod tests;

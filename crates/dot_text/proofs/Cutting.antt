@@ -1,7 +1,9 @@
 -- Lines cut off and octets skipped.
 use Rattle.std.proofs.Common.{◌≡◌, ◌≢◌, ◌+◌, ◌-◌, ◌<◌, ◌≤◌, ℕ, List, [], ◌∷◌, ◌++◌, length, take, drop, get_or, flat_map, sym, ap, ap₂, subst, ◌∙◌, arith, append_assoc}
 use Rattle.std.specs.Prelude.{slice_index}
-use Rattle.std.proofs.lemmas.List.{append-nil, drop_more, length-drop, get_or-drop, get_or_append_left, get_or-take, length-take-le, length-append, drop-drop, take-append-drop, take_at}
+use Rattle.std.proofs.lemmas.List.{append-nil, drop_more, length-drop, get_or-drop, get_or_append_left, get_or-take, length-take-le, length-append, drop-drop, take-append-drop, take_all}
+use Rattle.std.proofs.lemmas.List.Edits.{take-paste}
+use lib.Seq.{paste}
 use Rattle.std.proofs.Math.Seq.{take-append_seam}
 use Rattle.std.proofs.lemmas.List.Concat.{flat_map-append}
 use Rattle.mail_model.specs.Lines.{HasNoCrlf, sent_line}
@@ -80,9 +82,14 @@ seen_skipped octets start count seen none k before =
 pub seen_all : (octets : List ℕ) → HasNoCrlf octets → HasNoneBefore octets (length octets - 1)
 seen_all octets none k before = (omega arith, none k (omega arith))
 
--- what is left once the prefix was moved after it and cut off
-pub moved : (octets : List ℕ) (start left : ℕ) → left ≡ length octets - start → take left (drop start octets ++ take start octets) ≡ drop start octets
-moved octets start left is = take_at (drop start octets) (take start octets) left (length-drop start octets ∙ sym is)
+-- what is left once it was copied to the beginning and the octets after it cut off
+pub moved : (octets : List ℕ) (start size left : ℕ) → start ≤ length octets → size ≡ length octets → left ≡ size - start → take left (paste octets 0 (drop start octets) (size - start)) ≡ drop start octets
+moved octets start size left within all is =
+    let few : size - start ≤ length (drop start octets) = omega (arith, all, length-drop start octets) in
+    let most : length (drop start octets) ≤ size - start = omega (arith, all, length-drop start octets) in
+    ap (λ (n : ℕ). take n (paste octets 0 (drop start octets) (size - start))) (let same : left ≡ 0 + (size - start) = omega (arith, is) in same)
+    ∙ take-paste octets 0 (drop start octets) (size - start) (omega arith) few
+    ∙ take_all (size - start) (drop start octets) most
 
 -- the first line of the rest, which begins at this place
 module _ (octets : List ℕ) (start len : ℕ) (is : IsFirstCrlf (drop start octets) len) where

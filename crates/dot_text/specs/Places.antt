@@ -1,5 +1,6 @@
 -- Where in its line an undotter stands.
 use Rattle.std.specs.Prelude.{◌≡◌, ◌≢◌, ◌<◌, ◌≤◌, ⊤, ℕ, List, [], ◌∷◌, ◌++◌, length, take, nat_eq, true, false, Option, Some, None, if◌then◌else◌}
+use Rattle.std.specs.List.{list_any}
 use Rattle.mail_model.specs.Session.{is_period}
 use Rattle.mail_model.specs.Told.{HasNoUnit}
 use Rattle.dot_text.specs.Texts.{IsText, IsTextBegun}
@@ -36,6 +37,14 @@ told Period x = if nat_eq x 13 then [] else x ∷ []
 told PeriodCr x = if nat_eq x 10 then [] else 13 ∷ x ∷ []
 told Inside x = x ∷ []
 told Cr x = x ∷ []
+
+-- octets that are given as they are at this place, and leave it: inside a line those that are no CR
+abbrev pub IsRun : Place → List ℕ → Type 0
+IsRun Inside octets = list_any (λ x. nat_eq x 13) octets ≡ false
+IsRun LineStart octets = octets ≡ []
+IsRun Period octets = octets ≡ []
+IsRun PeriodCr octets = octets ≡ []
+IsRun Cr octets = octets ≡ []
 
 -- At this place the octets so far are no whole text, and they have given so much of it.
 abbrev pub UndotsAt : Place → List ℕ → List ℕ → Type 0

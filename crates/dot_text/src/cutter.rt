@@ -123,21 +123,32 @@ impl LineCutter {
         ensures shows { OnOk result ((fed : List ℕ) (taken : List Taken) (pending : List ℕ) → Cuts fed taken pending → Cuts (fed ++ piece.now) taken (pending ++ piece.now)) }
         ensures err { OnErr result (self.new ≡ self.old) }
     {
-        self.octets.extend_from_slice(piece)?;
         self.compact();
-        Ok(())
+        self.append(piece)
     }
 
-    // Moves the octets that are held to the beginning, where as many were taken before them.
+    // Moves the octets that are held to the beginning, where as many were taken before them. Mostly none is held.
     fn compact(&mut self)
         ensures { self.new ≡ self.old }
     {
-        let left = self.octets.len() - self.start;
-        if left <= self.start {
-            self.octets.rotate_left(self.start);
+        let start = self.start;
+        let left = self.octets.len() - start;
+        if left <= start {
+            self.octets.copy_within(start.., 0);
             self.octets.truncate(left);
             self.start = 0;
         }
+    }
+
+    // Puts the octets behind those that are held.
+    fn append(&mut self, piece: &[u8]) -> Result<(), AllocError>
+        ensures ok { OnOk result (self.new ≡ record self.old { rest = self.old.rest ++ piece.now }) }
+        ensures pends { OnOk result ((pending : List ℕ) → Pending self.old pending → Pending self.new (pending ++ piece.now)) }
+        ensures shows { OnOk result ((fed : List ℕ) (taken : List Taken) (pending : List ℕ) → Cuts fed taken pending → Cuts (fed ++ piece.now) taken (pending ++ piece.now)) }
+        ensures err { OnErr result (self.new ≡ self.old) }
+    {
+        self.octets.extend_from_slice(piece)?;
+        Ok(())
     }
 
     // Lets the octets of a line go that is too long already, all but a CR, which may be that of its CRLF.

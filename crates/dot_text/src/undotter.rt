@@ -1,7 +1,8 @@
 // A text out of its octets as they come.
-ghost use Rattle.std.specs.Prelude.{◌≡◌, ◌++◌, [], List, ℕ, IfOk, OnOk, OnErr};
-ghost use Rattle.dot_text.specs.Places.{next_place, told, Undots, UndotsAt, Behind, Feeds, IsWithin};
+ghost use Rattle.std.specs.Prelude.{◌≡◌, ◌≤◌, ◌++◌, [], List, ℕ, length, take, IfOk, OnOk, OnErr};
+ghost use Rattle.dot_text.specs.Places.{next_place, told, IsRun, Undots, UndotsAt, Behind, Feeds, IsWithin};
 
+use line_words::len_before;
 use std::alloc::AllocError;
 
 /// Where a text stands after a piece of its octets.
@@ -104,6 +105,27 @@ fn tell(place: Place, octet: u8, out: &mut Vec<u8>) -> Result<(), AllocError>
     }
 }
 
+// How many octets at the beginning are given as they are and change no place: inside a line those before a CR.
+fn run_len(place: Place, rest: &[u8]) -> usize
+    ensures within { result ≤ length rest.now }
+    ensures run { IsRun place (take result rest.now) }
+{
+    match place {
+        Place::Inside => len_before(b'\r', rest),
+        Place::LineStart | Place::Period | Place::PeriodCr | Place::Cr => 0,
+    }
+}
+
+// Appends those octets to `out`, and says how many they are.
+fn give_run(place: Place, rest: &[u8], out: &mut Vec<u8>) -> Result<usize, AllocError>
+    ensures ok { IfOk result (λ count. (count ≤ length rest.now) × IsRun place (take count rest.now) × (out.new.items ≡ out.old.items ++ take count rest.now)) }
+    ensures err { OnErr result (out.new.items ≡ out.old.items) }
+{
+    let count = run_len(place, rest);
+    out.extend_from_slice(&rest[..count])?;
+    Ok(count)
+}
+
 // Appends to `out` what the octets give, up to the end of the text.
 fn undot(place: &mut Place, piece: &[u8], out: &mut Vec<u8>) -> Result<Cut, AllocError>
     ensures ok { IfOk result (λ cut. (more : List ℕ) × (out.new.items ≡ out.old.items ++ more)
@@ -111,15 +133,22 @@ fn undot(place: &mut Place, piece: &[u8], out: &mut Vec<u8>) -> Result<Cut, Allo
     ensures used { IfOk result (λ cut. IsWithin cut piece.now) }
     ensures err { OnErr result ((more : List ℕ) × (out.new.items ≡ out.old.items ++ more)) }
 {
-    for (at, octet) in piece.iter().enumerate() {
-        tell(*place, *octet, out)?;
-        match next_place(*place, *octet) {
+    let mut at = 0;
+    while at < piece.len() {
+        let run = give_run(*place, &piece[at..], out)?;
+        if run > 0 {
+            at += run;
+            continue;
+        }
+        tell(*place, piece[at], out)?;
+        match next_place(*place, piece[at]) {
             Some(next) => *place = next,
             None => {
                 *place = Place::LineStart;
                 return Ok(Cut::Ended(at + 1));
             }
         }
+        at += 1;
     }
     Ok(Cut::More)
 }

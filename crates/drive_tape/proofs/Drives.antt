@@ -436,7 +436,7 @@ no_line_why line.LongLine plan been sessions left taken room outcomes reads =
     record { stop = BehindLine; other = behind_not_sink; undenied = behind_not_denied; stops = inl (refl, refl, inr (inl (refl, reads.0, reads.1))) }
 no_line_why line.TooLong plan been sessions left taken room outcomes reads =
     record { stop = BehindLine; other = behind_not_sink; undenied = behind_not_denied; stops = inl (refl, refl, inr (inr (inr (inl (refl, reads.0, reads.1))))) }
-no_line_why line.NoMemory plan been sessions left taken room outcomes reads = record { stop = OutOfMemory; other = memory_not_sink; undenied = memory_not_denied; stops = refl }
+no_line_why line.NoMemory plan been sessions left taken room outcomes reads = record { stop = OutOfMemory; other = memory_not_sink; undenied = memory_not_denied; stops = (refl, inl reads) }
 
 -- the octets of the line at which the work stopped, and why
 record LineWhy (reason : Why) (plan : Plan) (p : Point) (line : List ℕ) (stop : Stop) (midst : List (List ℕ)) (sessions : List Session) (left : Option (List ℕ)) (room : ℕ) (new : List Outcome) : Type 0 where
@@ -497,8 +497,8 @@ line_why (why.Bad fault) plan p line stop midst sessions left room new one same 
 line_why why.WriteFault plan p line stop midst sessions left room new one same at is =
     record { others = []; parts = in_midst line midst is.1; each = one_each line midst one is.1; stops = (is.0, refl) }
 line_why why.NoMemory plan p line stop midst sessions left room new one same at is = ⊎_elim
-    (λ (none : midst ≡ []). record { others = ended line; parts = unread line midst none; each = none_each midst none; stops = is })
-    (λ (some : midst ≡ line ∷ []). record { others = []; parts = in_midst line midst some; each = one_each line midst one some; stops = is })
+    (λ (none : midst ≡ []). record { others = ended line; parts = unread line midst none; each = none_each midst none; stops = (is, inr (line, refl, one)) })
+    (λ (some : midst ≡ line ∷ []). record { others = []; parts = in_midst line midst some; each = one_each line midst one some; stops = (is, inl (All-nil _)) })
     at
 line_why why.ReadFault plan p line stop midst sessions left room new one same at is = absurd is
 

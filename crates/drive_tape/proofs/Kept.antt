@@ -15,7 +15,6 @@ use Rattle.object_model.specs.Lists.{Among}
 use Rattle.object_model.proofs.Lists.{among_front, among_behind}
 use Rattle.session_model.specs.Calls.{Call}
 use Rattle.session_model.specs.Calls.Call.{Deliver, Login, Fetch, Strike}
-use Rattle.session_model.specs.Events.NodeLife.{Up, Lost}
 use Rattle.session_model.specs.Sessions.{Session, session_at, exchanges_of}
 use Rattle.session_model.specs.Acts.{Act}
 use Rattle.session_model.specs.Acts.Act.{StillWaits}
@@ -24,7 +23,6 @@ use Rattle.session_model.specs.Turns.{IsAtNode}
 use Rattle.session_model.specs.Run.{Stop, Made, IsDriven}
 use Rattle.session_model.specs.Run.Stop.{BehindLine, Denied, SinkFailed, OutOfMemory}
 use Rattle.session_model.specs.Runs.{Shows}
-use Rattle.session_model.specs.Losses.{IsLostIn}
 use Rattle.session_model.specs.Books.{AreBegun}
 use Rattle.session_model.specs.Owes.{Owes}
 use Rattle.session_model.specs.OneNode.{IsSoundMail}
@@ -40,7 +38,7 @@ use Rattle.cluster_owes.specs.Outcomes.{IsTakenAt}
 use Rattle.node_store.specs.Disks.{View}
 use Rattle.cluster_world.specs.Worlds.{plan_of, disks_of, book_of, disks_tell}
 use Rattle.cluster_world.specs.Opens.{IsAtBeginning}
-use Rattle.cluster_world.specs.Owing.{AreBlind, IsOfBlind, AllBlind, AreKnown, AreOfSessions, AreLost, WorldOwes}
+use Rattle.cluster_world.specs.Owing.{AreBlind, IsOfBlind, AllBlind, AreKnown, AreOfSessions, WorldOwes}
 use Rattle.cluster_world.specs.Outcomes.{Outcome, Awaited, StepMade, Came, Makes, AreStepsOf, IsPost, IsPushOf, made_of, asked_by_outcome, answered_by_outcome}
 use Rattle.cluster_world.specs.Outcomes.Outcome.{Began, Refused, Fell, Broke, Answers, StillPending, Unanswered, GaveUp, Abandoned, KeptUp, Left, Moved}
 use Rattle.cluster_world.specs.declared.world.World.{World}
@@ -49,8 +47,7 @@ use Rattle.cluster_world.proofs.Owed.{none_pending}
 use Rattle.drive_tape.specs.Drive.{MayLackOne}
 use Rattle.drive_tape.specs.Kept.{IsBlindOrder, AreBlindLines, AreToldOrBlind, KeptIn}
 use Rattle.drive_tape.specs.Points.{IsAtOwnNode, AreAtOwnNodes, waits_by, waits_by_outcome}
-use Rattle.drive_tape.proofs.AtFirst.{first_lives, makes_lost}
-use Rattle.drive_tape.proofs.LineActs.{begun_is_asked, moved_by_line, lost_by_line, lost_more}
+use Rattle.drive_tape.proofs.LineActs.{begun_is_asked, moved_by_line}
 use Rattle.drive_tape.proofs.OpenedKinds.{driven_kinds}
 
 -- what was begun of what was asked
@@ -235,23 +232,16 @@ module _ {D : Type 0} (on : View D) (start last : World D) (begins : IsAtBeginni
       let found = moved_by_line plan stop handled midst acts behind made entries sessions driven asked (subst (Among (Made.Moves asked)) made_are among) in
       subst (IsBlindOrder plan.nodes) found.2 (line_blind plan.nodes lines found.0 blind found.1)))) told
 
-  -- a node that is lost is so by tape and transcript
-  lost : (plan_of last ≡ plan_of start) → (ending : List Entry) → AreLost last (IsLostIn stop lines (entries ++ ending))
-  lost same ending n above within is = lost_more stop lines entries ending n (⊎_elim
-      (λ was. absurd (let never : Up 1 ≡ Lost = sym (first_lives on plan start begins n above (subst (λ (p : Plan). n ≤ p.nodes) same within)) ∙ was in cc))
-      (λ some. lost_by_line plan stop handled midst acts behind made entries sessions driven n (made_in (Moved (order.Lose n) some.0) some.1))
-      (makes_lost on n outcomes [] awaited start last steps is))
-
   -- whatever line says why the program ended
   pub kept_in : WorldOwes on → (lacking : List Asked) → flat_map asked_by done ≡ begun ++ lacking → MayLackOne stop lacking → flat_map answered_by done ≡ flat_map answered_by_outcome outcomes → (plan_of last ≡ plan_of start)
       → AreToldOrBlind on start lines → (ending : List Entry) → IsEnding ending → KeptIn on last plan stop lines (entries ++ ending) done begun
   kept_in owing lacking asked_are lack answered_are same told ending ends =
-      let owed = owing plan stop lines (entries ++ ending) outcomes awaited start last begins (known told) steps of_sessions (lost same ending) in
+      let owed = owing plan lines outcomes awaited start last begins (known told) steps of_sessions in
       record {
         records = owed.0;
         promises = owed_is_kept plan (disks_tell on.seen last) stop handled midst acts behind made entries ending sessions (map on.seen (disks_of last)) owed.0 (filed_on owed.0) begun (book_of last) driven ends
             (were_begun stop (flat_map asked_by done) begun lacking asked_are lack)
-            (subst (λ (l : List Answered). Owes plan (disks_tell on.seen last) lines (IsLostIn stop lines (entries ++ ending)) (map on.seen (disks_of last)) owed.0 (filed_on owed.0) begun l (book_of last)) (sym answered_are) owed.1);
+            (subst (λ (l : List Answered). Owes plan (disks_tell on.seen last) lines (map on.seen (disks_of last)) owed.0 (filed_on owed.0) begun l (book_of last)) (sym answered_are) owed.1);
       }
 
   -- where one node is all there is, no session waits

@@ -139,7 +139,7 @@ module _ {D : Type 0} (on : View D) (n now : ℕ) where
     was = was;
     same = λ disk disk' there at.
         let between = there_too (disks_of old) (disks_of mid) n disk is.did.handed there in
-        later.same between.0 disk' between.1 at ∙ is.did.quiet.same n now disk between.0 was later.was there between.1;
+        later.same between.0 disk' between.1 at ∙ is.did.quiet.same n now disk between.0 later.was there between.1;
   }
     where
       was : life_of old n ≡ Up now

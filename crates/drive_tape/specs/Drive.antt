@@ -83,6 +83,10 @@ IsDenied fault outcome = ⊥
 abbrev pub EndsDenied : TapeFault → List Outcome → Type 0
 EndsDenied fault outcomes = (before : List Outcome) × (last : Outcome) × (outcomes ≡ before ++ last ∷ []) × IsDenied fault last
 
+-- the octets are one line, or a part of one
+abbrev pub IsLineAtMost : List ℕ → Type 0
+IsLineAtMost octets = HasNoLf octets ⊎ ((line : List ℕ) × (octets ≡ ended line) × HasNoLf line)
+
 -- Why the work stopped: at the line `end`, a fault of the source, the sink or the tape, a step that was refused, or as memory ran out.
 abbrev pub Stops : Why → Stop → Plan → List Act → List Session → List (List ℕ) → Option (List ℕ) → List ℕ → ℕ → List Outcome → Type 0
 Stops why.Ended stop plan been sessions midst left octets room outcomes = (stop ≡ BehindLine) × (midst ≡ []) × IsOrder octets End
@@ -90,7 +94,7 @@ Stops why.ReadFault stop plan been sessions midst left octets room outcomes = (s
 Stops why.WriteFault stop plan been sessions midst left octets room outcomes = (stop ≡ SinkFailed) × (octets ≡ [])
 Stops (why.Bad fault) stop plan been sessions midst left octets room outcomes =
     ((stop ≡ BehindLine) × (midst ≡ []) × StopsAt fault plan been sessions left octets room) ⊎ ((stop ≡ Denied) × (octets ≡ []) × EndsDenied fault outcomes)
-Stops why.NoMemory stop plan been sessions midst left octets room outcomes = stop ≡ OutOfMemory
+Stops why.NoMemory stop plan been sessions midst left octets room outcomes = (stop ≡ OutOfMemory) × IsLineAtMost octets
 
 -- What the clients asked is what the cluster began; where memory ran out, one call may have come to nothing.
 abbrev pub MayLackOne : Stop → List Asked → Type 0

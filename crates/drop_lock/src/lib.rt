@@ -23,7 +23,5 @@
 #![tactic(auto)]
 
 mod locks;
-#[cfg(test)]
-mod tests;
 
 pub use locks::{LockFault, Locks};

@@ -37,8 +37,6 @@ mod map;
 mod profiles;
 mod rows;
 mod teller;
-#[cfg(test)]
-mod tests;
 
 pub use laws::{
     installs_as_the_machine, keeps_as_the_machine, names_as_the_machine, the_latest_row_stands,

@@ -4,10 +4,10 @@ ghost use Rattle.mail_model.specs.Lines.{sent_line};
 ghost use Rattle.mail_model.specs.Tape.{tape_order};
 ghost use Rattle.mail_model.specs.Told.{fed_by, sent};
 ghost use Rattle.mail_model.specs.Plain.{lists_of};
-ghost use Rattle.mail_plain.specs.SeenTape.{order_seen};
+ghost use Rattle.tape_lines.specs.Orders.{order_seen};
 
-use crate::run_line::{Order, run_line};
 use std::alloc::{AllocError, Global};
+use tape_lines::{Order, read_order};
 
 fn said(alloc: Global, text: &[u8]) -> Result<Vec<u8>, AllocError>
     ensures { IfOk result (λ octets. octets.items ≡ sent_line text.now) }
@@ -36,7 +36,7 @@ fn fed_by(alloc: Global, wanted: u64, order: &Order<'_>) -> Result<Vec<u8>, Allo
 fn fed_in(alloc: Global, wanted: u64, line: &[u8]) -> Result<Vec<u8>, AllocError>
     ensures { IfOk result (λ octets. octets.items ≡ fed_by wanted (tape_order line.now)) }
 {
-    match run_line(alloc, line)? {
+    match read_order(alloc, line)? {
         Some(order) => fed_by(alloc, wanted, &order),
         None => Ok(Vec::new(alloc)),
     }

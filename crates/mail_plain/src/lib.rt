@@ -3,16 +3,13 @@
 //! SUMMARY
 //!
 //! For each of these definitions of `mail_model` there is a function that reads as the definition's
-//! table does, and whose contract is that it gives the definition's value: the command lines of both
-//! protocols, the octets that a tape sends to a session, the messages that a node's records list, the
-//! marks of a POP3 session, and what a session got by a transcript. Tests hold the functions against
-//! rows that were worked by hand, and so the definitions too.
+//! table does, and whose contract is that it gives the definition's value: the octets that a tape sends
+//! to a session, the messages that a node's records list, the marks of a POP3 session, and what a
+//! session got by a transcript. Tests hold the functions against rows that were worked by hand, and so
+//! the definitions too.
 //!
 //! DESCRIPTION
 //!
-//! - `smtp_command(line)`: the command that a line of SMTP is, or the first rule that it breaks
-//!   (`command_of`).
-//! - `pop_command(line)`: the same for a line of POP3 (`pop_command_of`).
 //! - `sent(session, lines)`: all octets that the run lines of a tape send to the session (`sent`).
 //! - `messages(user, records)`: the messages of the user's mailbox (`listing_of`). A copy is listed
 //!   where a record says that it is here, no record says that it is gone, and some record holds its
@@ -23,17 +20,17 @@
 //! - `lines_to(session, entries)`, `answers_to(session, entries)`: all lines that a session got, and the
 //!   last lines of its replies (`lines_to`, `got`).
 //!
-//! A command borrows its words from the line. All else is copied into new vectors.
+//! All of them copy what they give into new vectors.
 //!
 //! DIAGNOSTICS
 //!
-//! Every call fails only where memory runs out. That a line is no command is a value: `SmtpFault` or
-//! `PopFault`.
+//! Every call fails only where memory runs out.
 //!
 //! STANDS ON
 //!
-//! `mail_model`, whose definitions the contracts are, and `hex`, for the octets that `feed` spells. It
-//! stands on none of the crates that the service reads lines with, so that a test may compare the two.
+//! `mail_model`, whose definitions the contracts are. Run lines are read by `tape_lines` and lines of
+//! POP3 by `pop_wire`, whose contracts are definitions too: a table over these readers tests those
+//! definitions, and a second reader would show no more.
 //!
 //! WHAT IT DOES NOT DO
 //!
@@ -43,25 +40,16 @@
 //! that are retired; a profile that is retired cannot be written down.
 #![tactic(auto)]
 
-mod cluster_line;
 mod fed;
 mod item;
 mod listing;
 mod marks;
-mod names;
-mod numbers;
-mod pieces;
-mod pop;
 mod record;
-mod run_line;
-mod smtp;
 mod transcript;
 
 pub use fed::sent;
 pub use item::Item;
 pub use listing::messages;
 pub use marks::{Slot, marked_ids, slots, slots_after, unmarked};
-pub use pop::{Command as PopCommand, Fault as PopFault, pop_command};
 pub use record::Record;
-pub use smtp::{Command as SmtpCommand, Fault as SmtpFault, smtp_command};
 pub use transcript::{Entry, answers_to, lines_to};

@@ -4,8 +4,8 @@ ghost use Rattle.mail_model.specs.PopReplies.{listed_slots, marked_ids, unmarked
 ghost use Rattle.mail_model.specs.Maildrop.{deleted_in, with_mark};
 
 use crate::item::Item;
-use crate::pop::{Command, pop_command};
 use mail_model::plain::Id;
+use pop_wire::{PopCommand, read_command};
 use std::alloc::{AllocError, Global};
 use std::marker::Model;
 
@@ -107,16 +107,16 @@ pub fn slots_after(alloc: Global, slots: &[Slot], line: &[u8]) -> Result<Vec<Slo
     if line.len() > 1022 {
         return with_mark(alloc, slots, 0);
     }
-    match pop_command(alloc, line)? {
-        Ok(Command::Dele { number }) => with_mark(alloc, slots, number),
+    match read_command(line) {
+        Ok(PopCommand::Dele { number }) => with_mark(alloc, slots, number),
         Ok(
-            Command::User { .. }
-            | Command::Pass { .. }
-            | Command::Stat
-            | Command::List { .. }
-            | Command::Uidl { .. }
-            | Command::Retr { .. }
-            | Command::Quit,
+            PopCommand::User { .. }
+            | PopCommand::Pass { .. }
+            | PopCommand::Stat
+            | PopCommand::List { .. }
+            | PopCommand::Uidl { .. }
+            | PopCommand::Retr { .. }
+            | PopCommand::Quit,
         )
         | Err(_) => with_mark(alloc, slots, 0),
     }

@@ -25,7 +25,5 @@
 #![tactic(auto)]
 
 mod fragments;
-#[cfg(test)]
-mod tests;
 
 pub use fragments::Fragments;

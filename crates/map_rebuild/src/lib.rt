@@ -35,8 +35,6 @@
 mod laws;
 mod marks;
 mod reports;
-#[cfg(test)]
-mod tests;
 mod versions;
 
 pub use laws::{

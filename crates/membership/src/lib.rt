@@ -43,8 +43,6 @@ mod group;
 mod install;
 pub mod laws;
 mod opened;
-#[cfg(test)]
-mod tests;
 
 pub use fault::GroupFault;
 pub use group::Group;

@@ -39,8 +39,6 @@
 
 mod fault;
 mod store;
-#[cfg(test)]
-mod tests;
 
 pub use fault::StoreFault;
 pub use store::MessageStore;

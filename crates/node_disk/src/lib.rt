@@ -16,5 +16,3 @@ pub use held::Range;
 pub use image::Image;
 pub use memory::{Asked, Call, MemoryDisk};
 
-#[cfg(test)]
-mod tests;

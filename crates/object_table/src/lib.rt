@@ -15,8 +15,6 @@ mod laws;
 mod mailbox;
 mod states;
 mod table;
-#[cfg(test)]
-mod tests;
 mod user_keys;
 
 pub use joins::{is_news, join};

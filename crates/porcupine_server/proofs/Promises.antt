@@ -1,6 +1,7 @@
 -- All promises are kept, over the octets that the program read and wrote and the stores that it gave back.
-use Rattle.std.proofs.Common.{◌≡◌, ◌≢◌, ◌⊎◌, inl, inr, ⊎_elim, ◌+◌, ◌<◌, ℕ, true, List, [], ◌∷◌, ◌++◌, length, drop, map, flat_map, All, Option, Some, Ok, refl, sym, ap, ◌∙◌, subst, arith, append_assoc, length-append, codes}
+use Rattle.std.proofs.Common.{◌≡◌, ◌≢◌, ◌⊎◌, inl, inr, ⊎_elim, ◌+◌, ◌<◌, ℕ, true, List, [], ◌∷◌, ◌++◌, length, drop, map, flat_map, All, Option, Some, Result, Ok, Err, refl, sym, ap, ◌∙◌, subst, arith, append_assoc, length-append, codes}
 use Rattle.std.specs.List.{slice_index}
+use Rattle.std.proofs.lemmas.Option.{none-some}
 use Rattle.std.specs.Fmt.{decimal}
 use Rattle.std.specs.Io.KnownBytes.{Consumes, Appends}
 use Rattle.std.proofs.lemmas.List.{append-nil, map-append}
@@ -14,29 +15,29 @@ use Rattle.mail_model.specs.Transcript.{Entry, entry_line, written_of}
 use Rattle.mail_model.specs.Transcript.Entry.{Said, Event, Refused}
 use Rattle.mail_model.specs.Site.{TapeFault, fault_name}
 use Rattle.mail_model.specs.Shown.{lines_to}
-use Rattle.mail_model.specs.Record.{Record}
 use Rattle.mail_model.proofs.OneLine.{by_test, decimal_no_lf}
+use Rattle.mail_model.specs.Tape.{Draft, Order, tape_order}
+use Rattle.mail_model.specs.Tape.Order.{Open, Say, Feed, Close, GiveUp, Moves, End}
+use Rattle.session_model.specs.Sessions.{Session}
 use Rattle.session_model.specs.Acts.{Act}
-use Rattle.session_model.specs.Logs.{Asked}
-use Rattle.session_model.specs.Kept.{KeepsPromises, IsEnding}
-use Rattle.session_model.specs.Run.{IsCutShort}
-use Rattle.cluster_owes.specs.Held.{filed_on}
+use Rattle.session_model.specs.Kept.{IsEnding}
+use Rattle.session_model.specs.Run.{Stop, Made, FirstStep, IsLeftOff, MayMiss, IsCutShort, refusal}
+use Rattle.session_model.specs.Run.Stop.{Denied}
 use Rattle.node_store.specs.Disks.{View}
-use Rattle.cluster_world.specs.Worlds.{plan_of, book_of, disks_tell}
-use Rattle.cluster_world.specs.Outcomes.{asked_by_outcome}
+use Rattle.cluster_world.specs.Worlds.{plan_of, disks_tell}
 use Rattle.cluster_world.proofs.Chained.{plan_stays}
 use Rattle.drive_tape.specs.declared.drove.Drove.{Drove}
 use Rattle.drive_tape.specs.declared.drove.Drove.TheVariants as drove
 use Rattle.drive_tape.specs.Faults.{tape_fault_seen}
 use Rattle.drive_tape.specs.Parts.{IsCutEntry, IsPartOfLine}
-use Rattle.drive_tape.specs.Drive.{Stops, stop_of}
-use Rattle.drive_tape.specs.Plans.{ReadsHead}
+use Rattle.drive_tape.specs.Drive.{Stops, IsNoOrder, stop_of}
+use Rattle.drive_tape.specs.Plans.{ReadsHead, PlanStops}
 use Rattle.drive_tape.specs.Kept.{AreBlindLines}
 use Rattle.porcupine_server.specs.declared.ending.Ending.{Ending}
 use Rattle.porcupine_server.specs.declared.ending.Ending.TheVariants.{Done, Line, Read, Write, Store, NoMemory}
 use Rattle.porcupine_server.specs.Endings.{ending_of, status_of, last_entries, Finishes}
-use Rattle.porcupine_server.specs.Works.{SourceAndSink, Stores, Works, NoPlan, NoStores, ServedStores, NotOpened, Ran}
-use Rattle.porcupine_server.specs.Promises.{HasKept, all_tell}
+use Rattle.porcupine_server.specs.Works.{SourceAndSink, Stores, Works, NoPlan, NoStores, ServedStores, NotOpened, Ran, IsBeforeRun}
+use Rattle.porcupine_server.specs.Promises.{HasKept, KeepsOver, IsLeft, IsRefused, IsDeniable, IsCut, all_tell}
 
 abbrev IsNoLf : ℕ → Type 0
 IsNoLf x = x ≢ 10
@@ -125,7 +126,8 @@ cut_line missing cut part all = ⊎_elim (λ (none : cut ≡ []). subst HasNoLf 
     part
 
 -- what the last line, or the part of it that was written, is
-pub record Last (held0 held1 : Option (List ℕ)) (ending : Ending) : Type 0 where
+pub record Last (held0 held1 : Option (List ℕ)) (ending : Ending) (status : ℕ) : Type 0 where
+  pub says : (status ≡ status_of ending) ⊎ ((status ≡ 5) ⊎ (status ≡ 7))
   pub front : List Entry
   pub cut : List ℕ
   pub gave : Appends held0 held1 (written_of front ++ cut)
@@ -134,9 +136,10 @@ pub record Last (held0 held1 : Option (List ℕ)) (ending : Ending) : Type 0 whe
   pub ends : IsEnding front
   pub none : last_entries ending ≡ [] → (front ≡ []) × (cut ≡ [])
 
-lasts : (held0 held1 : Option (List ℕ)) (ending : Ending) (status : ℕ) → Finishes held0 held1 ending status → Last held0 held1 ending
+lasts : (held0 held1 : Option (List ℕ)) (ending : Ending) (status : ℕ) → Finishes held0 held1 ending status → Last held0 held1 ending status
 lasts held0 held1 ending status finishes = ⊎_elim
     (λ (whole : (status ≡ status_of ending) × Appends held0 held1 (written_of (last_entries ending))). record {
+      says = inl whole.0;
       front = last_entries ending;
       cut = [];
       gave = subst (Appends held0 held1) (sym (append-nil (written_of (last_entries ending)))) whole.1;
@@ -148,6 +151,7 @@ lasts held0 held1 ending status finishes = ⊎_elim
     (λ (part : ((status ≡ 5) ⊎ (status ≡ 7)) × ((front : List Entry) × (missing : List Entry) × (cut : List ℕ)
     × (last_entries ending ≡ front ++ missing) × IsCutEntry missing cut × Appends held0 held1 (written_of front ++ cut))).
     let p = part.1 in record {
+      says = inr part.0;
       front = p.0;
       cut = p.2;
       gave = p.5;
@@ -169,45 +173,183 @@ written_more xs ys = flat_map-append (λ (entry : Entry). ended (entry_line entr
 lines_more : (xs ys : List Entry) → AreLines xs → AreLines ys → AreLines (xs ++ ys)
 lines_more xs ys all more = subst (All HasNoLf) (sym (map-append entry_line xs ys)) (All-append HasNoLf (map entry_line xs) (map entry_line ys) all more)
 
+-- the status is none of these
+not_it : (status own other : ℕ) → (status ≡ own) ⊎ ((status ≡ 5) ⊎ (status ≡ 7)) → status ≡ other → (own ≡ other → ⊥) → (5 ≡ other → ⊥) → (7 ≡ other → ⊥) → ⊥
+not_it status own other says is a b c = ⊎_elim (λ e. a (sym e ∙ is)) (λ cut. ⊎_elim (λ e. b (sym e ∙ is)) (λ e. c (sym e ∙ is)) cut) says
+
+-- the work was not done
+not_done : (ending : Ending) (status : ℕ) → (ending ≡ Done → ⊥) → (status ≡ status_of ending) ⊎ ((status ≡ 5) ⊎ (status ≡ 7)) → status ≡ 0 → ⊥
+not_done Done status other says is = other refl
+not_done (Line number why) status other says is = not_it status 3 0 says is (λ e. absurd (omega (arith, e))) (λ e. absurd (omega (arith, e))) (λ e. absurd (omega (arith, e)))
+not_done Read status other says is = not_it status 4 0 says is (λ e. absurd (omega (arith, e))) (λ e. absurd (omega (arith, e))) (λ e. absurd (omega (arith, e)))
+not_done Write status other says is = not_it status 5 0 says is (λ e. absurd (omega (arith, e))) (λ e. absurd (omega (arith, e))) (λ e. absurd (omega (arith, e)))
+not_done (Store node) status other says is = not_it status 6 0 says is (λ e. absurd (omega (arith, e))) (λ e. absurd (omega (arith, e))) (λ e. absurd (omega (arith, e)))
+not_done NoMemory status other says is = not_it status 7 0 says is (λ e. absurd (omega (arith, e))) (λ e. absurd (omega (arith, e))) (λ e. absurd (omega (arith, e)))
+
+-- nor was it where there is no plan, or it ended before the run lines
+no_plan_done : (answer : Drove) (left : Option (List ℕ)) (octets : List ℕ) (room : ℕ) (draft : Draft) → PlanStops (stop_of answer) left octets room draft → ending_of answer ≡ Done → ⊥
+no_plan_done drove.Ended left octets room draft stops is = stops
+no_plan_done drove.ReadFault left octets room draft stops is = cc is
+no_plan_done (drove.WriteFault n) left octets room draft stops is = cc is
+no_plan_done (drove.BadTape n fault) left octets room draft stops is = cc is
+no_plan_done (drove.NoMemory n) left octets room draft stops is = cc is
+
+before_done : (ending : Ending) → IsBeforeRun ending → ending ≡ Done → ⊥
+before_done Done before is = before
+before_done (Line number why) before is = before
+before_done Read before is = before
+before_done Write before is = before
+before_done (Store node) before is = cc is
+before_done NoMemory before is = cc is
+
 -- no run line was handled
-kept_nothing : {D : Type 0} (seen : D → Option (List ℕ)) (stores : Stores D) (ends : SourceAndSink) (middle : Option (List ℕ)) (ending : Ending) (read : List ℕ)
-    → Consumes ends.left0 ends.left1 read → middle ≡ ends.held0 → Last middle ends.held1 ending → HasKept seen stores ends
-kept_nothing seen stores ends middle ending read took none last = record {
-  read = read;
+kept_nothing : {D : Type 0} (seen : D → Option (List ℕ)) (stores : Stores D) (ends : SourceAndSink) (middle : Option (List ℕ)) (ending : Ending) (status : ℕ) (head : Result (Plan × ℕ) Drove)
+    → ReadsHead ends.left0 ends.left1 head → (ending ≡ Done → ⊥) → middle ≡ ends.held0 → Last middle ends.held1 ending status → HasKept seen stores ends status
+kept_nothing seen stores ends middle ending status head reads other none last = record {
+  read = flat_map ended reads.lines ++ reads.others;
   written = written_of last.front ++ last.cut;
   entries = last.front;
-  took = took;
+  took = reads.took;
   gave = subst (λ (held : Option (List ℕ)). Appends held ends.held1 (written_of last.front ++ last.cut)) none last.gave;
   transcript = record { cut = last.cut; whole = refl; lines = last.each; rest = last.rest };
-  promise = inl (ending_unsaid last.front last.ends);
+  promise = inl (record { not_done = not_done ending status other last.says; head = head; reads = reads; unsaid = ending_unsaid last.front last.ends });
 }
 
+-- a line that the cluster refused is one that it may
+deniable : (order : Order) (sessions : List Session) (step : Made) → FirstStep order sessions step → IsDeniable order
+deniable (Close k) sessions step first = tt
+deniable (GiveUp k) sessions step first = tt
+deniable (Moves order) sessions step first = tt
+deniable (Open protocol node) sessions step first = first
+deniable (Say k text) sessions step first = first
+deniable (Feed k octets) sessions step first = first
+deniable End sessions step first = first
+
+denied_line : (plan : Plan) (been : List Act) (stop : Stop) (old : List Session) (left : List (List ℕ)) (by_line : List (List Act)) (tail : List Entry) (extra : List Made) (new : List Session)
+    → stop ≡ Denied → IsLeftOff plan been stop old left by_line tail extra new → (line : List ℕ) × (left ≡ line ∷ []) × (order : Order) × (tape_order line ≡ Some order) × IsDeniable order
+denied_line plan been stop old [] [] tail extra new denied off = absurd (off.4 denied)
+denied_line plan been stop old [] (acts ∷ by_line) tail extra new denied off = absurd off
+denied_line plan been stop old (line ∷ []) [] tail extra new denied off = absurd off
+denied_line plan been stop old (line ∷ []) ([] ∷ []) tail extra new denied (tried, is) = (line, refl, tried.order, tried.spelled, deniable tried.order old tried.step tried.first)
+denied_line plan been stop old (line ∷ []) ([] ∷ (acts ∷ by_line)) tail extra new denied off = absurd off
+denied_line plan been stop old (line ∷ []) ((act ∷ acts) ∷ []) tail extra new denied (turn, cut, may) = absurd (subst (λ (s : Stop). MayMiss s cut.missing) denied cut.may)
+denied_line plan been stop old (line ∷ []) ((act ∷ acts) ∷ (other ∷ by_line)) tail extra new denied off = absurd off
+denied_line plan been stop old (line ∷ (other ∷ left)) by_line tail extra new denied off = absurd off
+
 -- run lines were handled
-module _ {D : Type 0} (on : View D) (is_settled : D → Type 0) (stores : Stores D) (ends : SourceAndSink) (between middle : Option (List ℕ)) (plan : Plan) (count : ℕ) (ending : Ending)
+module _ {D : Type 0} (on : View D) (is_settled : D → Type 0) (stores : Stores D) (ends : SourceAndSink) (between middle : Option (List ℕ)) (plan : Plan) (count : ℕ) (ending : Ending) (status : ℕ)
     (disks given : List D) (reads : ReadsHead ends.left0 between (Ok (plan, count))) (back : TellsAll stores.returned0 stores.returned1 (numbered_stores 1 given))
-    (ran : Ran on is_settled (record ends { left0 = between; held1 = middle }) plan count ending disks given) (last : Last middle ends.held1 ending) where
+    (ran : Ran on is_settled (record ends { left0 = between; held1 = middle }) plan count ending disks given) (last : Last middle ends.held1 ending status) where
   abbrev lines : List (List ℕ)
   lines = ran.drives.handled ++ ran.drives.midst
-
-  abbrev done : List Act
-  done = flat_map (λ a. a) (ran.drives.acts ++ ran.drives.behind)
-
-  abbrev begun : List Asked
-  begun = flat_map asked_by_outcome ran.drives.outcomes
 
   -- all stores told what they held at first, if they do at last
   told : all_tell on.seen given ≡ true → disks_tell on.seen ran.start ≡ true
   told all = sym (plan_stays on ran.drives.outcomes [] ran.drives.awaited ran.start ran.last ran.drives.steps).2 ∙ ap (all_tell on.seen) (sym ran.stores) ∙ all
 
+  -- where the work was not cut short, it stopped between two lines
+  whole : (answer : Drove) → ending ≡ ending_of answer
+      → Stops (stop_of answer) ran.drives.stop (plan_of ran.start) (flat_map (λ a. a) ran.drives.acts) ran.drives.sessions ran.drives.midst ends.left1 ran.drives.others ran.drives.room ran.drives.outcomes
+      → (IsCut status → ⊥) → IsCutShort ran.drives.stop → ⊥
+  whole drove.Ended is why uncut short = subst IsCutShort why.0 short
+  whole drove.ReadFault is why uncut short = subst IsCutShort why.0 short
+  whole (drove.BadTape n fault) is why uncut short = ⊎_elim (λ bad. subst IsCutShort bad.0 short) (λ denied. subst IsCutShort denied.0 short) why
+  whole (drove.WriteFault n) is why uncut short = uncut (⊎_elim (λ e. inl (e ∙ ap status_of is)) (λ cut. cut) last.says)
+  whole (drove.NoMemory n) is why uncut short = uncut (⊎_elim (λ e. inr (e ∙ ap status_of is)) (λ cut. cut) last.says)
+
+  -- what was taken and is none of the lines
+  left_over : (answer : Drove) → ending ≡ ending_of answer
+      → Stops (stop_of answer) ran.drives.stop (plan_of ran.start) (flat_map (λ a. a) ran.drives.acts) ran.drives.sessions ran.drives.midst ends.left1 ran.drives.others ran.drives.room ran.drives.outcomes
+      → IsLeft status lines ran.drives.others ends.left1
+  left_over drove.Ended is why =
+      let says : (status ≡ 0) ⊎ ((status ≡ 5) ⊎ (status ≡ 7)) = ⊎_elim (λ e. inl (e ∙ ap status_of is)) (λ cut. inr cut) last.says in
+      record {
+        some_status = ⊎_elim (λ e. inl e) (λ cut. ⊎_elim (λ e. inr (inr (inr (inl e)))) (λ e. inr (inr (inr (inr e)))) cut) says;
+        ended_so = λ at. why.2;
+        refused = λ at. absurd (not_it status 0 3 says at (λ e. absurd (omega (arith, e))) (λ e. absurd (omega (arith, e))) (λ e. absurd (omega (arith, e))));
+        in_line = λ at. absurd (not_it status 0 4 says at (λ e. absurd (omega (arith, e))) (λ e. absurd (omega (arith, e))) (λ e. absurd (omega (arith, e))));
+        at_most_one = inr (why.2.line, why.2.whole, why.2.one);
+      }
+  left_over drove.ReadFault is why =
+      let says : (status ≡ 4) ⊎ ((status ≡ 5) ⊎ (status ≡ 7)) = ⊎_elim (λ e. inl (e ∙ ap status_of is)) (λ cut. inr cut) last.says in
+      record {
+        some_status = ⊎_elim (λ e. inr (inr (inl e))) (λ cut. ⊎_elim (λ e. inr (inr (inr (inl e)))) (λ e. inr (inr (inr (inr e)))) cut) says;
+        ended_so = λ at. absurd (not_it status 4 0 says at (λ e. absurd (omega (arith, e))) (λ e. absurd (omega (arith, e))) (λ e. absurd (omega (arith, e))));
+        refused = λ at. absurd (not_it status 4 3 says at (λ e. absurd (omega (arith, e))) (λ e. absurd (omega (arith, e))) (λ e. absurd (omega (arith, e))));
+        in_line = λ at. why.2;
+        at_most_one = inl why.2;
+      }
+  left_over (drove.WriteFault n) is why =
+      let says : (status ≡ 5) ⊎ ((status ≡ 5) ⊎ (status ≡ 7)) = ⊎_elim (λ e. inl (e ∙ ap status_of is)) (λ cut. inr cut) last.says in
+      record {
+        some_status = ⊎_elim (λ e. inr (inr (inr (inl e)))) (λ cut. ⊎_elim (λ e. inr (inr (inr (inl e)))) (λ e. inr (inr (inr (inr e)))) cut) says;
+        ended_so = λ at. absurd (not_it status 5 0 says at (λ e. absurd (omega (arith, e))) (λ e. absurd (omega (arith, e))) (λ e. absurd (omega (arith, e))));
+        refused = λ at. absurd (not_it status 5 3 says at (λ e. absurd (omega (arith, e))) (λ e. absurd (omega (arith, e))) (λ e. absurd (omega (arith, e))));
+        in_line = λ at. absurd (not_it status 5 4 says at (λ e. absurd (omega (arith, e))) (λ e. absurd (omega (arith, e))) (λ e. absurd (omega (arith, e))));
+        at_most_one = inl (subst HasNoLf (sym why.1) (All-nil IsNoLf));
+      }
+  left_over (drove.NoMemory n) is why =
+      let says : (status ≡ 7) ⊎ ((status ≡ 5) ⊎ (status ≡ 7)) = ⊎_elim (λ e. inl (e ∙ ap status_of is)) (λ cut. inr cut) last.says in
+      record {
+        some_status = ⊎_elim (λ e. inr (inr (inr (inr e)))) (λ cut. ⊎_elim (λ e. inr (inr (inr (inl e)))) (λ e. inr (inr (inr (inr e)))) cut) says;
+        ended_so = λ at. absurd (not_it status 7 0 says at (λ e. absurd (omega (arith, e))) (λ e. absurd (omega (arith, e))) (λ e. absurd (omega (arith, e))));
+        refused = λ at. absurd (not_it status 7 3 says at (λ e. absurd (omega (arith, e))) (λ e. absurd (omega (arith, e))) (λ e. absurd (omega (arith, e))));
+        in_line = λ at. absurd (not_it status 7 4 says at (λ e. absurd (omega (arith, e))) (λ e. absurd (omega (arith, e))) (λ e. absurd (omega (arith, e))));
+        at_most_one = why.1;
+      }
+  left_over (drove.BadTape n fault) is why =
+      let says : (status ≡ 3) ⊎ ((status ≡ 5) ⊎ (status ≡ 7)) = ⊎_elim (λ e. inl (e ∙ ap status_of is)) (λ cut. inr cut) last.says in
+      let fault_so = refused_so fault why in
+      record {
+        some_status = ⊎_elim (λ e. inr (inl e)) (λ cut. ⊎_elim (λ e. inr (inr (inr (inl e)))) (λ e. inr (inr (inr (inr e)))) cut) says;
+        ended_so = λ at. absurd (not_it status 3 0 says at (λ e. absurd (omega (arith, e))) (λ e. absurd (omega (arith, e))) (λ e. absurd (omega (arith, e))));
+        refused = λ at. fault_so;
+        in_line = λ at. absurd (not_it status 3 4 says at (λ e. absurd (omega (arith, e))) (λ e. absurd (omega (arith, e))) (λ e. absurd (omega (arith, e))));
+        at_most_one = ⊎_elim (λ short. inl short.0) (λ more. ⊎_elim (λ (line, is, one, other). inr (line, is, one)) (λ none. inl (subst HasNoLf (sym none.0) (All-nil IsNoLf))) more) fault_so;
+      }
+    where
+      no_end : (line : List ℕ) (order : Order) (found : _) → tape_order line ≡ Some order
+          → refusal (plan_of ran.start) (flat_map (λ a. a) ran.drives.acts) ran.drives.sessions order ≡ Some found → tape_order line ≡ Some End → ⊥
+      no_end line order found spelled refused ends =
+          let same : order ≡ End = (let e : Some order ≡ Some End = sym spelled ∙ ends in cc e) in
+          none-some found (ap (refusal (plan_of ran.start) (flat_map (λ a. a) ran.drives.acts) ran.drives.sessions) (sym same) ∙ refused)
+
+      refused_so : (fault : _) → Stops (stop_of (drove.BadTape n fault)) ran.drives.stop (plan_of ran.start) (flat_map (λ a. a) ran.drives.acts) ran.drives.sessions ran.drives.midst ends.left1
+          ran.drives.others ran.drives.room ran.drives.outcomes → IsRefused lines ran.drives.others ends.left1
+      refused_so fault why = ⊎_elim
+          (λ bad. ⊎_elim
+          (λ ended. inl (ended.1, inl ended.2))
+          (λ a. ⊎_elim
+          (λ long. inl (long.1, inr (inl long.2)))
+          (λ b. ⊎_elim
+          (λ (none : (fault ≡ _) × IsNoOrder ran.drives.others). inr (inl (none.1.line, none.1.whole, none.1.one, λ ends. none-some End (sym none.1.spelled ∙ ends))))
+          (λ c. ⊎_elim
+          (λ full. inl (full.1, inr (inr (ap length (sym ran.drives.tape) ∙ omega (arith, ran.drives.limit, full.2)))))
+          (λ (order, is, refused). inr (inl (is.line, is.whole, is.one, no_end is.line order _ is.spelled refused)))
+          c)
+          b)
+          a)
+          bad.2)
+          (λ denied.
+          let found = denied_line (plan_of ran.start) (flat_map (λ a. a) ran.drives.acts) ran.drives.stop ran.drives.driven.mid ran.drives.midst ran.drives.behind ran.drives.driven.tail ran.drives.driven.extra
+          ran.drives.sessions denied.0 ran.drives.driven.off in
+          inr (inr (denied.1, (ran.drives.handled, found.0, found.2, ap (λ (l : List (List ℕ)). ran.drives.handled ++ l) found.1, found.3, found.4))))
+          why
+
   -- the promises, with this last line
-  kept_with : (front : List Entry) → IsEnding front → (all_tell on.seen given ≡ true) ⊎ AreBlindLines (plan_of ran.start).nodes lines → (records : List (List Record))
-      × KeepsPromises (plan_of ran.start) (all_tell on.seen given) ran.drives.stop lines (ran.drives.entries ++ front) (map on.seen given) records (filed_on records) (book_of ran.last) done begun
+  kept_with : (front : List Entry) → IsEnding front → (all_tell on.seen given ≡ true) ⊎ AreBlindLines (plan_of ran.start).nodes lines
+      → KeepsOver (plan_of ran.start) (all_tell on.seen given) status lines (ran.drives.entries ++ front) (map on.seen given)
   kept_with front ended_so which =
-      let kept = ran.drives.kept (⊎_elim (λ all. inl (told all)) (λ blind. inr blind) which) front ended_so in (
-        kept.records,
-        subst (λ (l : List D). KeepsPromises (plan_of ran.start) (all_tell on.seen l) ran.drives.stop lines (ran.drives.entries ++ front) (map on.seen l) kept.records (filed_on kept.records) (book_of ran.last) done begun)
-            (sym ran.stores) kept.promises,
-      )
+      let kept = ran.drives.kept (⊎_elim (λ all. inl (told all)) (λ blind. inr blind) which) front ended_so in
+      subst (λ (l : List D). KeepsOver (plan_of ran.start) (all_tell on.seen l) status lines (ran.drives.entries ++ front) (map on.seen l)) (sym ran.stores) (record {
+        records = kept.records;
+        holds = kept.promises.holds;
+        sessions = kept.promises.sessions;
+        acks = kept.promises.acks;
+        confirmers = kept.promises.confirmers;
+        clients = kept.promises.clients;
+        answered = λ uncut. kept.promises.answered (whole ran.answer ran.is ran.drives.why uncut);
+      })
 
   -- where a line was cut, nothing follows it
   uncut : (answer : Drove) → ending ≡ ending_of answer
@@ -238,7 +380,7 @@ module _ {D : Type 0} (on : View D) (is_settled : D → Type 0) (stores : Stores
       ))
       which
 
-  pub kept_run : HasKept on.seen stores ends
+  pub kept_run : HasKept on.seen stores ends status
   kept_run =
       let wrote = all_written (uncut ran.answer ran.is ran.drives.why) in
       let go = reads.did in
@@ -255,11 +397,11 @@ module _ {D : Type 0} (on : View D) (is_settled : D → Type 0) (stores : Stores
           record {
             plan = plan_of ran.start;
             lines = lines;
+            others = ran.drives.others;
             tape = record {
               head = reads.lines;
               draft = reads.draft;
               go = go.0;
-              others = ran.drives.others;
               whole = ap (λ (l : List ℕ). (flat_map ended reads.lines ++ l) ++ ran.drives.read) go.1 ∙ append_assoc (flat_map ended reads.lines) (ended go.0) ran.drives.read
                   ∙ ap (λ (l : List ℕ). flat_map ended reads.lines ++ (ended go.0 ++ l)) ran.drives.tape;
               head_each = reads.each;
@@ -269,10 +411,7 @@ module _ {D : Type 0} (on : View D) (is_settled : D → Type 0) (stores : Stores
               goes = go.3;
               plan_is = go.4 ∙ ap Some (sym ran.opened.begins.plan_is);
             };
-            stop = ran.drives.stop;
-            book = book_of ran.last;
-            acts = done;
-            begun = begun;
+            behind = left_over ran.answer ran.is ran.drives.why;
             promises = kept_with last.front last.ends;
           },
         );
@@ -280,22 +419,23 @@ module _ {D : Type 0} (on : View D) (is_settled : D → Type 0) (stores : Stores
 
 -- whatever the work did
 pub has_kept : {D : Type 0} (on : View D) (is_settled : D → Type 0) (stores : Stores D) (ends : SourceAndSink) (middle : Option (List ℕ)) (ending : Ending) (status : ℕ)
-    → Works on is_settled stores (record ends { held1 = middle }) ending → Finishes middle ends.held1 ending status → HasKept on.seen stores ends
+    → Works on is_settled stores (record ends { held1 = middle }) ending → Finishes middle ends.held1 ending status → HasKept on.seen stores ends status
 has_kept on is_settled stores ends middle ending status works finishes = ⊎_elim
-    (λ (none : NoPlan stores (record ends { held1 = middle }) ending). kept_nothing on.seen stores ends middle ending (flat_map ended none.reads.lines ++ none.reads.others) none.reads.took none.none last)
+    (λ (none : NoPlan stores (record ends { held1 = middle }) ending). kept_nothing on.seen stores ends middle ending status (Err none.answer) none.reads
+    (λ done. no_plan_done none.answer ends.left1 none.reads.others none.reads.room none.reads.draft none.reads.did.0 (sym none.is ∙ done)) none.none last)
     (λ (some : NoStores on stores (record ends { held1 = middle }) ending ⊎ ServedStores on is_settled stores (record ends { held1 = middle }) ending). ⊎_elim
-    (λ (none : NoStores on stores (record ends { held1 = middle }) ending). kept_nothing on.seen stores ends middle ending (flat_map ended none.reads.lines ++ none.reads.others) none.reads.took none.none last)
+    (λ (none : NoStores on stores (record ends { held1 = middle }) ending). kept_nothing on.seen stores ends middle ending status (Ok (none.plan, none.count)) none.reads (before_done ending none.is) none.none last)
     (λ (served : ServedStores on is_settled stores (record ends { held1 = middle }) ending). by_serving served) some)
     works
   where
-    last : Last middle ends.held1 ending
+    last : Last middle ends.held1 ending status
     last = lasts middle ends.held1 ending status finishes
 
-    by_serving : ServedStores on is_settled stores (record ends { held1 = middle }) ending → HasKept on.seen stores ends
+    by_serving : ServedStores on is_settled stores (record ends { held1 = middle }) ending → HasKept on.seen stores ends status
     by_serving served = ⊎_elim
         (λ (none : NotOpened on (record ends { left0 = served.between; held1 = middle }) ending served.disks served.given).
-        kept_nothing on.seen stores ends middle ending (flat_map ended served.reads.lines ++ served.reads.others)
-        (subst (λ (left : Option (List ℕ)). Consumes ends.left0 left (flat_map ended served.reads.lines ++ served.reads.others)) (sym none.nothing_read) served.reads.took) none.nothing_written last)
+        kept_nothing on.seen stores ends middle ending status (Ok (served.plan, served.count))
+        (subst (λ (left : Option (List ℕ)). ReadsHead ends.left0 left (Ok (served.plan, served.count))) (sym none.nothing_read) served.reads) (before_done ending none.before) none.nothing_written last)
         (λ (ran : Ran on is_settled (record ends { left0 = served.between; held1 = middle }) served.plan served.count ending served.disks served.given).
-        kept_run on is_settled stores ends served.between middle served.plan served.count ending served.disks served.given served.reads served.are.back ran last)
+        kept_run on is_settled stores ends served.between middle served.plan served.count ending status served.disks served.given served.reads served.are.back ran last)
         served.serves

@@ -115,7 +115,7 @@ pub fn porcupine<S: Source, K: Sink, Y: Yard>(
 ) -> u8
     ensures promises { IsDrive words.now → HasKept Y.Store.seen
         (record { handed0 = Y.handed yard.old; handed1 = Y.handed yard.new; returned0 = Y.returned yard.old; returned1 = Y.returned yard.new })
-        (record { left0 = S.left source.old; left1 = S.left source.new; held0 = K.contents sink.old; held1 = K.contents sink.new }) }
+        (record { left0 = S.left source.old; left1 = S.left source.new; held0 = K.contents sink.old; held1 = K.contents sink.new }) result }
     ensures transcript_follows { IsDrive words.now → TranscriptFollows (view_of Y.Store.seen Y.Store.faults Y.Store.clock) Y.Store.settled
         (record { handed0 = Y.handed yard.old; handed1 = Y.handed yard.new; returned0 = Y.returned yard.old; returned1 = Y.returned yard.new })
         (record { left0 = S.left source.old; left1 = S.left source.new; held0 = K.contents sink.old; held1 = K.contents sink.new }) result }

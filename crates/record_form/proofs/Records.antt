@@ -1,6 +1,6 @@
 -- What is read of a payload is the record that it spells, and each record is read again.
 use Rattle.std.proofs.Common.{◌≡◌, ℕ, ◌^◌, Bool, true, false, cond, ◌&&◌, not, List, [], ◌∷◌, ◌++◌, Option, Some, None, option_map, Result, Ok, Err, refl, sym, ap, ap₂, subst, get_or, ◌∙◌, arith, nat_eq}
-use Rattle.std.specs.Prelude.{IfOk}
+use Rattle.std.specs.Prelude.{IfOk, IfSome}
 use Rattle.std.specs.Int.{w32, w64, to_be_bytes}
 use Rattle.std.proofs.lemmas.Bool.{and_parts, eqb-true, eqb-false, not-true, ne_eqb}
 use Rattle.mail_model.specs.Identity.{EpochId, Key, State, Id}
@@ -128,3 +128,9 @@ head_fits payload (Entry.Promise epoch) s = subst IsRecord s.told s.fits
 head_fits payload (Entry.Octets id count) s = let fits : IsRecord (Octets id s.told.0) = subst IsRecord s.told.2 s.fits in fits
 head_fits payload (Entry.State key state) s = subst IsRecord s.told s.fits
 head_fits payload (Entry.Retired key state) s = subst IsRecord s.told s.fits
+
+-- and so what was read can be written again
+pub read_fits : {E : Type 0} (payload : List ℕ) (found : Result (Option DiskEntry) E) → IfOk found (ReadsAs payload) → IfOk found (λ entry. IfSome entry (λ held. IsRecord (head_record held)))
+read_fits payload (Err e) reads = tt
+read_fits payload (Ok None) reads = tt
+read_fits payload (Ok (Some entry)) reads = head_fits payload entry reads

@@ -33,8 +33,6 @@ mod entry;
 mod fields;
 mod kinds;
 mod reading;
-#[cfg(test)]
-mod tests;
 mod writing;
 
 pub use entry::DiskEntry;

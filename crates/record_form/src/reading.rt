@@ -1,7 +1,8 @@
 // Payloads that are read as entries.
-ghost use Rattle.std.specs.Prelude.{◌≡◌, length, IfOk, option_map};
+ghost use Rattle.std.specs.Prelude.{◌≡◌, length, IfOk, IfSome, option_map};
+ghost use Rattle.mail_model.specs.Grammar.{IsRecord};
 ghost use Rattle.mail_model.specs.Record.Record.{Boot, Promise, Octets, Stated, Retired};
-ghost use Rattle.record_form.specs.Entries.{IsEntryOf, FindsEntry, AnswersEntry, ReadsAs};
+ghost use Rattle.record_form.specs.Entries.{head_record, IsEntryOf, FindsEntry, AnswersEntry, ReadsAs};
 ghost use Rattle.mail_base.specs.Seen.{key_seen, value_seen};
 ghost use Rattle.record_form.specs.Reading.{ReadsPart, FindsAsRead, name_at, secret_at, key_for, key_at, value_at, state_at, object_in, boot_in, promise_in, is_of_kind, id_at, record_in};
 
@@ -225,13 +226,14 @@ fn entry_in(alloc: Global, kind: u8, octets: &[u8]) -> Result<Option<DiskEntry>,
     }
 }
 
-/// The entry that the payload spells; nothing where it spells none.
+/// The entry that the payload spells; nothing where it spells none. What was read can be written again.
 ///
 /// # Errors
 ///
 /// Out of memory alone.
 pub fn read_record(alloc: Global, payload: &[u8]) -> Result<Option<DiskEntry>, AllocError>
-    ensures { IfOk result (λ found. ReadsAs payload.now found) }
+    ensures reads { IfOk result (λ found. ReadsAs payload.now found) }
+    ensures again { IfOk result (λ found. IfSome found (λ entry. IsRecord (head_record entry))) }
 {
     let Some((kind, octets)) = octet_at(payload) else {
         return Ok(None);

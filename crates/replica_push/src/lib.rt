@@ -11,8 +11,6 @@
 mod acks;
 mod laws;
 mod pushes;
-#[cfg(test)]
-mod tests;
 mod wider;
 
 pub use acks::{hear_ack, hear_retired};

@@ -63,7 +63,7 @@ module _ (plan : Plan) (lines : List (List ℕ)) (entries : List Entry) (k : ℕ
       let last : exchanges_of session ≡ before ++ one ∷ [] = are ∙ ap (λ (l : List Exchange). before ++ one ∷ l) law.0 in
       let got = got_before session.whole session.others before one (drop 1 (lines_to k entries)) (farewell session.protocol session.node session.standing) is.gets.part is.gets.missing last
       is.gets.are is.gets.cut in
-      record { before = before; tail = got.0; are = last; got = got.1; marked = law.1 }
+      record { before = before; tail = got.0; are = last; got = got.1; asks = call; marked = law.1 }
 
   -- `+OK bye` to a deletion says that it is done
   bye_is : (user : List ℕ) (ids : List Id) (answer : Option Answer) (reply : List (List ℕ)) → Awaits (Strike user ids) answer reply → reply ≡ one_line bye_text → answer ≡ Some Dropped
@@ -82,7 +82,7 @@ module _ (plan : Plan) (lines : List (List ℕ)) (entries : List Entry) (k : ℕ
       bye_is user ids one.answer one.reply (awaits (lead_of plan session.node at.state one.unit) one (Strike user ids) at.next.led call) bye
 
 pub true_answers_delete : TrueAnswersDelete
-true_answers_delete plan stop lines entries disks sessions are facts = record {
+true_answers_delete plan lines entries disks sessions are facts = record {
   only = λ node user id gone.
       let (k, session, ids, one, at, strikes, among) = facts.asked node user id gone in
       let is = are.each k session at in

@@ -20,7 +20,7 @@ use Rattle.session_model.specs.Acts.Deed.{Hears, IsAnswered, Falls, Closes}
 use Rattle.session_model.specs.Logs.{IsLogged, asked_by, answered_by, asked_in, answered_in}
 use Rattle.session_model.specs.Turns.{Turn, Next, ActsGo, Starts}
 use Rattle.session_model.specs.Turns.Turn.{Hearing, Beginning, Closing, Falling, Asking}
-use Rattle.session_model.specs.Run.{Stop, Made, MayMiss, FirstStep, IsTried, IsBegun, AreHandled, IsLeftOff, IsDriven}
+use Rattle.session_model.specs.Run.{Stop, Made, MayMiss, FirstStep, IsTried, IsBegun, AreHandled, IsLeftOff, IsDriven, IsCutShort}
 use Rattle.session_model.specs.Run.Stop.{BehindLine, Denied, SinkFailed, OutOfMemory}
 use Rattle.session_model.specs.Runs.{Shows, DrivenIsShown}
 use Rattle.session_model.specs.Books.{MayBeUnwritten}
@@ -353,6 +353,14 @@ module _ (plan : Plan) (lines : List (List ℕ)) (acts : List Act) (entries : Li
   wrote_shown Denied wrote = all_shown wrote
   wrote_shown SinkFailed wrote = ⊎_elim all_shown part_shown wrote
   wrote_shown OutOfMemory wrote = ⊎_elim all_shown part_shown wrote
+
+  -- between two lines these are the sessions that the acts left
+  pub shown_last : (stop : Stop) → (IsCutShort stop → ⊥) → (wrote : Wrote plan stop acts entries last) → (wrote_shown stop wrote).0 ≡ last
+  unfolding wrote_shown all_shown
+  shown_last BehindLine whole wrote = refl
+  shown_last Denied whole wrote = refl
+  shown_last SinkFailed whole wrote = absurd (whole tt)
+  shown_last OutOfMemory whole wrote = absurd (whole tt)
 
 pub driven_is_shown : DrivenIsShown
 driven_is_shown plan stop handled left acts others made entries last driven =

@@ -14,7 +14,7 @@ use Rattle.mail_model.specs.Told.{Mail}
 use Rattle.mail_model.specs.Shown.{lines_to}
 use Rattle.mail_model.specs.Stored.{Ack, HaveOtherIds, IsOther, mails_in, opened, stored_sessions, takes_mail, is_taking}
 use Rattle.mail_model.specs.Book.{BookEntry, AreCopies, acked_in}
-use Rattle.mail_model.specs.Deleted.{IsMarked}
+use Rattle.mail_model.specs.Deleted.{IsMarked, mask_of}
 use Rattle.mail_model.specs.Record.{Record}
 use Rattle.mail_model.proofs.ShownLists as shown
 use Rattle.session_model.specs.Calls.{Call, Answer}
@@ -23,17 +23,16 @@ use Rattle.session_model.specs.Calls.Answer.{Dropped}
 use Rattle.session_model.specs.Talk.{Exchange}
 use Rattle.session_model.specs.Reading.{IsQuitUnit, all_seen}
 use Rattle.session_model.specs.Mailing.{StoredMail, filings, stored_lines}
-use Rattle.session_model.specs.Sessions.{Session, Gets, session_at, exchanges_of}
+use Rattle.session_model.specs.Sessions.{Session, Gets, AreAnswered, session_at, exchanges_of}
 use Rattle.session_model.specs.Acts.{Act}
 use Rattle.session_model.specs.Logs.{Asked, calls_of, asked_by, answered_by, asked_in}
-use Rattle.session_model.specs.Run.{Stop}
+use Rattle.session_model.specs.Run.{Stop, IsCutShort}
 use Rattle.session_model.specs.Run.Stop.{BehindLine, Denied, SinkFailed, OutOfMemory}
 use Rattle.session_model.specs.Runs.{Shows}
 use Rattle.session_model.specs.Promises.{Deletes, IsTold}
 use Rattle.session_model.specs.Copies.{EachStands}
 use Rattle.session_model.specs.Facts.{DroppedAreTrue}
-use Rattle.session_model.specs.Books.{Among, AreBegun, IsBookOf, MayBeUnwritten, StruckAsMarked}
-use Rattle.session_model.specs.Losses.{IsLostIn}
+use Rattle.session_model.specs.Books.{Among, AreBegun, IsBookOf, AcknowledgedStand, MayBeUnwritten, StruckAsMarked}
 use Rattle.session_model.specs.Owes.{OwesDeletions}
 use Rattle.session_model.specs.Kept.{OwedIsKept, IsEnding}
 use Rattle.session_model.proofs.Acts.{kind_of}
@@ -45,7 +44,8 @@ use Rattle.session_model.proofs.Filing.{true_answers_show}
 use Rattle.session_model.proofs.Once.{true_listings_show}
 use Rattle.session_model.proofs.Owed.{logged, answer_among, owed_deletions_are_true, owed_listings_are_true, owed_parts_are_true}
 use Rattle.session_model.proofs.Striking.{quit_strikes}
-use Rattle.session_model.proofs.Driven.{IsWritten, driven_written, wrote_shown, wrote_acked}
+use Rattle.session_model.proofs.Driven.{IsWritten, driven_written, wrote_shown, shown_last, wrote_acked}
+use Rattle.session_model.proofs.Resting.{driven_answers_units}
 
 -- the line that says why the program ended is no session's
 ending_silent : (k : ℕ) (ending : List Entry) → IsEnding ending → lines_to k ending ≡ []
@@ -163,10 +163,11 @@ ids_front : (acks more : List Ack) → HaveOtherIds (acks ++ more) → HaveOther
 ids_front [] more have = tt
 ids_front (ack ∷ acks) more have = (other_front ack.id acks more have.0, ids_front acks more have.1)
 
-stand_front : (plan : Plan) (lines : List (List ℕ)) (lost : ℕ → Type 0) (disks : List (List Record)) (acks more : List Ack) → EachStands plan lines lost disks (acks ++ more)
-    → EachStands plan lines lost disks acks
-stand_front plan lines lost disks [] more stand = tt
-stand_front plan lines lost disks (ack ∷ acks) more stand = (stand.0, stand.1, stand.2, stand_front plan lines lost disks acks more stand.3)
+stand_front : (plan : Plan) (lines : List (List ℕ)) (disks : List (List Record)) (acks more : List Ack) (confirmers : List (List ℕ)) → EachStands plan lines disks (acks ++ more) confirmers
+    → EachStands plan lines disks acks confirmers
+stand_front plan lines disks [] more confirmers stand = tt
+stand_front plan lines disks (ack ∷ acks) more [] stand = absurd stand
+stand_front plan lines disks (ack ∷ acks) more (nodes ∷ confirmers) stand = (stand.0, stand_front plan lines disks acks more confirmers stand.1)
 
 module _ (plan : Plan) (lines : List (List ℕ)) (entries : List Entry) (acts : List Act) (sessions : List Session) (shows : Shows plan lines entries acts sessions) where
   -- the messages of a session
@@ -203,10 +204,10 @@ module _ (plan : Plan) (lines : List (List ℕ)) (entries : List Entry) (acts : 
       front = same_front (mails_in k acked.acks) (mails_in k unwritten) (mails (filings session.whole)) (mails (filings session.others)) whole long
 
   -- The book has the deletions that clients marked.
-  struck : (stop : Stop) (disks : List (List Record)) (begun : List Asked) (book : List BookEntry) (facts : DroppedAreTrue plan (IsLostIn stop lines entries) disks sessions)
-      → AreBegun stop (flat_map asked_by acts) begun → IsBookOf lines begun (flat_map answered_by acts) book
+  struck : (stop : Stop) (disks : List (List Record)) (begun : List Asked) (book : List BookEntry) (confirmers : List (List ℕ)) (facts : DroppedAreTrue plan disks sessions)
+      → AreBegun stop (flat_map asked_by acts) begun → IsBookOf lines begun (flat_map answered_by acts) confirmers book
       → StruckAsMarked stop entries sessions (flat_map asked_by acts) begun (flat_map answered_by acts) book
-  struck stop disks begun book facts were is_book = record {
+  struck stop disks begun book confirmers facts were is_book = record {
     were = were;
     struck = is_book.struck;
     marked = λ k user ids among.
@@ -265,36 +266,38 @@ pub owed_is_kept : OwedIsKept
 owed_is_kept plan tells stop handled left acts others made entries ending last stores disks filed begun book driven ends were owes = record {
   holds = owes.holds;
   sessions = sessions;
-  shows = shows;
   acks = acked.acks;
   unwritten = all.0;
-  stored_stands = record {
-    lines_of = acked.lines_of;
-    told = told_of plan lines (entries ++ ending) done sessions shows all.0 acked;
-    other_ids = ids_front acked.acks all.0 (subst HaveOtherIds (sym acked.are) owes.stored.other_ids);
-    stands = stand_front plan lines lost disks acked.acks all.0 (subst (EachStands plan lines lost disks) (sym acked.are) owes.stored.stand);
+  confirmers = owes.confirmers;
+  clients = record {
+    are = shows.are;
+    stored_stands = record {
+      lines_of = acked.lines_of;
+      told = told_of plan lines (entries ++ ending) done sessions shows all.0 acked;
+      other_ids = ids_front acked.acks all.0 (subst HaveOtherIds (sym acked.are) owes.stored.other_ids);
+      stands = stand_front plan lines disks acked.acks all.0 owes.confirmers (subst (λ (a : List Ack). EachStands plan lines disks a owes.confirmers) (sym acked.are) owes.stored.stand);
+    };
+    deleted_by_quit = true_answers_delete plan lines (entries ++ ending) disks sessions shows.are facts;
+    shown_as_filed = λ told. true_answers_show plan lines (entries ++ ending) filed sessions shows.are
+        (owed_parts_are_true plan lines (entries ++ ending) filed done sessions shows (owes.parts told));
+    shown_once = true_listings_show plan lines (entries ++ ending) sessions shows.are (owed_listings_are_true plan lines (entries ++ ending) disks done sessions shows owed);
+    one_content = owes.one_content;
   };
-  deleted_by_quit = true_answers_delete plan stop lines (entries ++ ending) disks sessions shows.are facts;
-  shown_as_filed = λ told. true_answers_show plan lines (entries ++ ending) filed sessions shows.are
-      (owed_parts_are_true plan lines (entries ++ ending) filed done sessions shows (owes.parts told));
-  shown_once = true_listings_show plan lines (entries ++ ending) sessions shows.are (owed_listings_are_true plan stop lines (entries ++ ending) disks done sessions shows owed);
+  answered = answered;
+  logged = shows.logged;
   acknowledged_as_told = record {
     may = all.1;
-    copies = subst (λ (a : List Ack). AreCopies lines a (acked_in book)) (sym acked.are) owes.books.is_book.acked;
-    confirmed = owes.books.confirmed;
+    copies = subst (λ (a : List Ack). AreCopies lines a (map mask_of owes.confirmers) (acked_in book)) (sym acked.are) owes.books.is_book.acked;
     other_ids = subst HaveOtherIds (sym acked.are) owes.stored.other_ids;
     of_sessions = λ k session at. ap (mails_in k) acked.are ∙ of_session plan lines (entries ++ ending) done sessions shows k session at;
   };
-  struck_as_marked = struck plan lines (entries ++ ending) done sessions shows stop disks begun book facts were owes.books.is_book;
-  acknowledged_stand = owes.books.stand;
+  struck_as_marked = struck plan lines (entries ++ ending) done sessions shows stop disks begun book owes.confirmers facts were owes.books.is_book;
+  acknowledged_stand = subst (λ (a : List Ack). AcknowledgedStand plan disks book a owes.confirmers) (sym acked.are) owes.books.stand;
   dropped_are_gone = owes.books.dropped;
 }
   where
     lines : List (List ℕ)
     lines = handled ++ left
-
-    lost : ℕ → Type 0
-    lost = IsLostIn stop lines (entries ++ ending)
 
     done : List Act
     done = flat_map (λ a. a) (acts ++ others)
@@ -311,6 +314,13 @@ owed_is_kept plan tells stop handled left acts others made entries ending last s
     shows : Shows plan lines (entries ++ ending) done sessions
     shows = shows_ended plan lines entries ending done sessions ends first.1
 
+    -- between two lines they are those that the acts left
+    answered : (IsCutShort stop → ⊥) → AreAnswered sessions
+    answered whole k session at =
+        let same : sessions ≡ last = shown_last plan lines done entries last written.acts_of stop whole written.wrote in
+        let law = driven_answers_units plan stop handled left acts others made entries last driven whole k session (ap (λ (l : List Session). session_at l k) (sym same) ∙ at) in
+        (law.1, law.2)
+
     all : (unwritten : List Ack) × MayBeUnwritten stop unwritten × AreAcked (opened lines) done entries unwritten
     all = wrote_acked plan (opened lines) done entries last written.greeted written.acts_of.opens stop written.wrote
 
@@ -326,7 +336,7 @@ owed_is_kept plan tells stop handled left acts others made entries ending last s
     }
 
     -- what is owed of what was begun is owed of what was asked
-    owed : OwesDeletions plan lost disks (flat_map asked_by done) (flat_map answered_by done)
+    owed : OwesDeletions plan disks (flat_map asked_by done) (flat_map answered_by done)
     owed = record {
       asks = λ n user id gone. let found = owes.deletions.asks n user id gone in
           (found.0, found.1, begun_asked stop (flat_map asked_by done) begun were (record { session = found.0; call = Strike user found.1 }) found.2, found.3);
@@ -335,5 +345,5 @@ owed_is_kept plan tells stop handled left acts others made entries ending last s
       named = owes.deletions.named;
     }
 
-    facts : DroppedAreTrue plan lost disks sessions
-    facts = owed_deletions_are_true plan stop lines (entries ++ ending) disks done sessions shows owed
+    facts : DroppedAreTrue plan disks sessions
+    facts = owed_deletions_are_true plan lines (entries ++ ending) disks done sessions shows owed

@@ -79,7 +79,7 @@ module _ (plan : Plan) (lines : List (List ℕ)) (entries : List Entry) (acts : 
       (session, found.2, at, (found.0, found.1, found.3, found.4))
 
 pub owed_deletions_are_true : OwedDeletionsAreTrue
-owed_deletions_are_true plan stop lines entries disks acts sessions shows owes = record {
+owed_deletions_are_true plan lines entries disks acts sessions shows owes = record {
   asked = λ n user id gone.
       let (k, ids, among, within) = owes.asks n user id gone in
       let found = strike_of plan lines entries acts sessions shows k user ids (session_at sessions k) refl
@@ -92,7 +92,7 @@ owed_deletions_are_true plan stop lines entries disks acts sessions shows owes =
 }
 
 pub owed_listings_are_true : OwedListingsAreTrue
-owed_listings_are_true plan stop lines entries disks acts sessions shows owes = record {
+owed_listings_are_true plan lines entries disks acts sessions shows owes = record {
   once = λ k session at. each_from ListsOnce [] (exchanges_of session) (λ before behind one are user secret items asks told.
       owes.once k user secret items (answer_among plan lines entries acts sessions shows k session at (Login user secret) (Listed items) before behind one are asks told));
   named = λ k session at. each_from ListsNamed [] (exchanges_of session) (λ before behind one are user secret items asks told.

@@ -27,14 +27,14 @@ use Rattle.session_model.specs.Readings.{OneReadingOfSession, view, views}
 use Rattle.session_model.proofs.Replying.{IsWhole, IsReplied, Speaks, some_reply, one_whole, next_replied}
 
 -- how a session of a protocol stands, and whether a text comes next
-abbrev SpeaksAt : Protocol → Standing → Type 0
+abbrev pub SpeaksAt : Protocol → Standing → Type 0
 SpeaksAt protocol (Hearing state) = Speaks protocol state
 SpeaksAt protocol (Waiting told call) = ⊤
 SpeaksAt protocol EndedByQuit = ⊤
 SpeaksAt protocol EndedDown = ⊤
 SpeaksAt protocol EndedClosed = ⊤
 
-abbrev ModeIs : Bool → Standing → Type 0
+abbrev pub ModeIs : Bool → Standing → Type 0
 ModeIs mode (Hearing state) = in_text state ≡ mode
 ModeIs mode (Waiting told call) = ⊤
 ModeIs mode EndedByQuit = ⊤
@@ -42,12 +42,12 @@ ModeIs mode EndedDown = ⊤
 ModeIs mode EndedClosed = ⊤
 
 -- the reply tells it
-abbrev mode_by : Protocol → List (List ℕ) → Bool
+abbrev pub mode_by : Protocol → List (List ℕ) → Bool
 mode_by Smtp reply = asks_text (first_line reply)
 mode_by Pop reply = false
 
 -- after an exchange
-record IsBehind (protocol : Protocol) (one : Exchange) (standing : Standing) : Type 0 where
+pub record IsBehind (protocol : Protocol) (one : Exchange) (standing : Standing) : Type 0 where
   pub speaks : SpeaksAt protocol standing
   pub mode : ModeIs (mode_by protocol one.reply) standing
 
@@ -129,7 +129,7 @@ reader_outcome plan state told one user (AsksDeletion ids) is speaks off =
     subst (λ (s : TalkState). SpeaksAt Pop (standing_asked s (Strike user ids) one.answer) × ModeIs false (standing_asked s (Strike user ids) one.answer)) (sym (is []))
     (reader_asked told (Strike user ids) one.answer speaks off)
 
-next_behind : (plan : Plan) (node : ℕ) (protocol : Protocol) (state : TalkState) (there left : List ℕ) (one : Exchange) → Speaks protocol state → IsNext plan node state there one left
+pub next_behind : (plan : Plan) (node : ℕ) (protocol : Protocol) (state : TalkState) (there left : List ℕ) (one : Exchange) → Speaks protocol state → IsNext plan node state there one left
     → IsBehind protocol one (stands_by plan node state one)
 next_behind plan node Smtp (Mailing talk) there left one speaks n = mailing_behind plan node talk one n.is_unit n.led
 next_behind plan node Smtp (Entering named) there left one speaks n = absurd speaks
@@ -153,7 +153,7 @@ next_behind plan node Pop (Reading user slots) there left one speaks n = by_unit
         subst (λ (u : Unit). IsBehind Pop one (stands plan (Reading user slots) one (lead_of plan node (Reading user slots) u))) (sym is) (record { speaks = both.0; mode = both.1 })
 
 -- an exchange that waits is the last
-waits_last : (plan : Plan) (node : ℕ) (state : TalkState) (one : Exchange) (call : Call) (lead : Lead) → IsLed lead one → one.call ≡ Some call → one.answer ≡ None
+pub waits_last : (plan : Plan) (node : ℕ) (state : TalkState) (one : Exchange) (call : Call) (lead : Lead) → IsLed lead one → one.call ≡ Some call → one.answer ≡ None
     → (left : List ℕ) (xs : List Exchange) (last : Standing) (rest : List ℕ) → TalkGoes plan node (stands plan state one lead) left xs last rest → xs ≡ []
 waits_last plan node state one call (Says reply) led is none left xs last rest g = absurd (none-some call (sym led.0 ∙ is))
 waits_last plan node state one call (Ends reply) led is none left xs last rest g = absurd (none-some call (sym led.0 ∙ is))

@@ -1,17 +1,16 @@
 -- The book of a cluster, against what the clients of a tape did and were told.
-use Rattle.std.specs.Prelude.{◌≡◌, ◌⊎◌, ℕ, ◌≤◌, List, [], ◌∷◌, ◌++◌, length, flat_map, map, ⊤, Some}
-use Rattle.sha2.specs.Sha256.{sha256}
+use Rattle.std.specs.Prelude.{◌≡◌, ◌⊎◌, ℕ, List, [], ◌∷◌, ◌++◌, flat_map, map, All, Some}
 use Rattle.mail_model.specs.Identity.{Id}
 use Rattle.mail_model.specs.Identity.Key.{Message}
+use Rattle.mail_model.specs.Mail.{IsStored}
 use Rattle.mail_model.specs.Plan.{Plan}
 use Rattle.mail_model.specs.Tape.Protocol.{Pop}
 use Rattle.mail_model.specs.Transcript.{Entry}
 use Rattle.mail_model.specs.PopReplies.{one_line}
 use Rattle.mail_model.specs.Maildrop.{bye_text}
-use Rattle.mail_model.specs.Stored.{Ack, HaveOtherIds, AreRising, mails_in}
+use Rattle.mail_model.specs.Stored.{Ack, HaveOtherIds, mails_in}
 use Rattle.mail_model.specs.Record.{Record, SaysHere, SaysGone, HoldsOctets}
-use Rattle.mail_model.specs.Book.{Acked, BookEntry, AreCopies, acked_in, struck_in, dropped_in}
-use Rattle.mail_model.specs.Book.BookEntry.{Acknowledged}
+use Rattle.mail_model.specs.Book.{BookEntry, AreCopies, acked_in, struck_in, dropped_in}
 use Rattle.mail_model.specs.Deleted.{IsMarked, IsCopyOf, mask_of}
 use Rattle.session_model.specs.Calls.{Call, Answer}
 use Rattle.session_model.specs.Calls.Call.{Strike}
@@ -41,40 +40,25 @@ dropped_by call answer = []
 abbrev pub acks_by : Answered → List Ack
 acks_by one = map (ack_of one.session) (filing_of (Some one.call) (Some one.answer))
 
--- What a cluster owes of its book: its entries are those of the calls that it began and that it answered, in their order, and no others.
-pub record IsBookOf (lines : List (List ℕ)) (begun : List Asked) (answered : List Answered) (book : List BookEntry) : Type 0 where
+-- What a cluster owes of its book: its entries are those of the calls that it began and that it answered, in their order, and no others. These nodes confirmed each
+-- message.
+pub record IsBookOf (lines : List (List ℕ)) (begun : List Asked) (answered : List Answered) (confirmers : List (List ℕ)) (book : List BookEntry) : Type 0 where
   pub struck : struck_in book ≡ flat_map (λ one. struck_by one.call) begun
   pub dropped : dropped_in book ≡ flat_map (λ one. dropped_by one.call one.answer) answered
-  pub acked : AreCopies lines (flat_map acks_by answered) (acked_in book)
+  pub acked : AreCopies lines (flat_map acks_by answered) (map mask_of confirmers) (acked_in book)
 
--- the mask is that of nodes of the plan, as many as it confirms or more
-pub record IsConfirmed (plan : Plan) (confirmers : ℕ) : Type 0 where
-  pub nodes : List ℕ
-  pub mask : confirmers ≡ mask_of nodes
-  pub rising : AreRising 0 nodes plan.nodes
-  pub enough : plan.confirm ≤ length nodes
+-- The user's copy of a message is here with the octets that were told; or it is gone, and the book has it among those that were to be deleted.
+abbrev pub IsAsBooked : List BookEntry → Ack → List ℕ → List Record → Type 0
+IsAsBooked book ack user records =
+    (SaysHere (Message user ack.id) records × ((octets : List ℕ) × IsStored ack.mail ack.id ack.seconds octets × HoldsOctets ack.id octets records))
+    ⊎ (SaysGone (Message user ack.id) records × IsCopyOf user ack.id (struck_in book))
 
--- each copy that was acknowledged is confirmed so
-abbrev pub AreConfirmed : Plan → List BookEntry → Type 0
-AreConfirmed plan [] = ⊤
-AreConfirmed plan (Acknowledged copy ∷ book) = IsConfirmed plan copy.confirmers × AreConfirmed plan book
-AreConfirmed plan (entry ∷ book) = AreConfirmed plan book
-
--- The copy is here with octets of the size and of the digest that the book has; or it is gone, and the book has it among those that were to be deleted.
-abbrev pub IsAsBooked : List BookEntry → Acked → List Record → Type 0
-IsAsBooked book copy records =
-    (SaysHere (Message copy.user copy.id) records × ((octets : List ℕ) × HoldsOctets copy.id octets records × (copy.size ≡ length octets) × (copy.digest ≡ sha256 octets)))
-    ⊎ (SaysGone (Message copy.user copy.id) records × IsCopyOf copy.user copy.id (struck_in book))
-
--- so is each of these copies, on each node that confirmed it
-abbrev pub AreAsBooked : Plan → (ℕ → Type 0) → List (List Record) → List BookEntry → List Acked → Type 0
-AreAsBooked plan lost disks book [] = ⊤
-AreAsBooked plan lost disks book (copy ∷ copies) =
-    ((nodes : List ℕ) × (copy.confirmers ≡ mask_of nodes) × OnEnough plan lost disks (IsAsBooked book copy) nodes) × AreAsBooked plan lost disks book copies
-
--- Each copy that the book says was acknowledged stands as the book says on each node that confirmed it, and these are as many as the plan confirms or more.
-abbrev pub AcknowledgedStand : Plan → (ℕ → Type 0) → List (List Record) → List BookEntry → Type 0
-AcknowledgedStand plan lost disks book = AreAsBooked plan lost disks book (acked_in book)
+-- Of each of these messages the copy of each user is so on each node that confirmed it, and these are as many as the plan confirms or more.
+abbrev pub AcknowledgedStand : Plan → List (List Record) → List BookEntry → List Ack → List (List ℕ) → Type 0
+AcknowledgedStand plan disks book [] confirmers = confirmers ≡ []
+AcknowledgedStand plan disks book (ack ∷ acks) [] = ⊥
+AcknowledgedStand plan disks book (ack ∷ acks) (nodes ∷ confirmers) =
+    All (λ user. OnEnough plan disks (IsAsBooked book ack user) nodes) ack.mail.mailboxes × AcknowledgedStand plan disks book acks confirmers
 
 -- what was asked was begun; where memory ran out, the last call may not have been
 abbrev pub AreBegun : Stop → List Asked → List Asked → Type 0
@@ -92,11 +76,10 @@ MayBeUnwritten Denied unwritten = unwritten ≡ []
 MayBeUnwritten stop unwritten = AtMostOne unwritten
 
 -- The copies of the book are those of the messages that were answered `250 stored`, in the order of these lines, and after them those of one message at most whose
--- line was not written; each is confirmed by as many nodes as the plan asks for.
-pub record AcknowledgedAsTold (plan : Plan) (stop : Stop) (lines : List (List ℕ)) (sessions : List Session) (acks unwritten : List Ack) (book : List BookEntry) : Type 0 where
+-- line was not written; each entry has the nodes that confirmed the message.
+pub record AcknowledgedAsTold (stop : Stop) (lines : List (List ℕ)) (sessions : List Session) (acks unwritten : List Ack) (confirmers : List (List ℕ)) (book : List BookEntry) : Type 0 where
   pub may : MayBeUnwritten stop unwritten
-  pub copies : AreCopies lines (acks ++ unwritten) (acked_in book)
-  pub confirmed : AreConfirmed plan book
+  pub copies : AreCopies lines (acks ++ unwritten) (map mask_of confirmers) (acked_in book)
   pub other_ids : HaveOtherIds (acks ++ unwritten)
   -- the message is one that its session asked to be stored, and of which it was answered that it is
   pub of_sessions : (k : ℕ) (session : Session) → session_at sessions k ≡ Some session → mails_in k (acks ++ unwritten) ≡ map (λ filing. filing.mail) (filings (exchanges_of session))

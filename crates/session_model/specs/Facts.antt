@@ -33,11 +33,11 @@ abbrev pub IsGoneIn : List (List Record) → ℕ → List ℕ → Id → Type 0
 IsGoneIn disks n user id = (records : List Record) × (slice_get disks n ≡ Some records) × SaysGone (Message user id) records
 
 -- what is gone was to be deleted, each `Dropped` is gone, and a listing has each id once
-pub record DroppedAreTrue (plan : Plan) (lost : ℕ → Type 0) (disks : List (List Record)) (sessions : List Session) : Type 0 where
+pub record DroppedAreTrue (plan : Plan) (disks : List (List Record)) (sessions : List Session) : Type 0 where
   pub asked : (n : ℕ) (user : List ℕ) (id : Id) → IsGoneIn disks n user id
       → (k : ℕ) × (session : Session) × (ids : List Id) × (one : Exchange) × (session_at sessions k ≡ Some session) × AsksDeletion session user ids one × IsIn id ids
   pub gone : (k : ℕ) (session : Session) (user : List ℕ) (ids : List Id) (one : Exchange) → session_at sessions k ≡ Some session → AsksDeletion session user ids one
-      → one.answer ≡ Some Dropped → (id : Id) → IsIn id ids → (nodes : List ℕ) × AreGoneOn plan lost disks user id nodes
+      → one.answer ≡ Some Dropped → (id : Id) → IsIn id ids → (nodes : List ℕ) × AreGoneOn plan disks user id nodes
   pub once : (k : ℕ) (session : Session) → session_at sessions k ≡ Some session → Each ListsOnce (exchanges_of session)
 
 -- each listing has each id once, and only ids that a journal can spell

@@ -1,24 +1,16 @@
 -- A cluster of one node, by its calls: what each leaves on its disk, and what it answers.
-use Rattle.std.specs.Prelude.{◌≡◌, ◌≢◌, ◌⊎◌, ℕ, ◌+◌, Bool, true, false, List, [], ◌∷◌, ◌++◌, length, map, flat_map, ⊤, All, AllPairs, Option, Some, None}
+use Rattle.std.specs.Prelude.{◌≡◌, ◌≢◌, ◌⊎◌, ℕ, ◌+◌, Bool, true, false, List, [], ◌∷◌, ◌++◌, length, ⊤, AllPairs, Option, Some, None}
 use Rattle.mail_model.specs.Plan.{Plan, opens}
 use Rattle.mail_model.specs.Session.{Told}
 use Rattle.mail_model.specs.Told.{mail_of}
 use Rattle.mail_model.specs.Mail.{IsStored}
-use Rattle.mail_model.specs.Tape.Protocol.{Smtp}
-use Rattle.mail_model.specs.Stored.{opened, kind_at}
-use Rattle.mail_model.specs.Transcript.{Entry}
 use Rattle.mail_model.specs.Record.{Record}
 use Rattle.mail_model.specs.Record.Record.{Boot}
-use Rattle.mail_model.specs.Grammar.{IsRecord}
 use Rattle.mail_model.specs.Listing.{octets_in, listing_of, size_in}
 use Rattle.mail_model.specs.Site.{nth_id, nth_stamp, message_records, gone_records, drawn_through}
 use Rattle.session_model.specs.Calls.{Call, Answer}
 use Rattle.session_model.specs.Calls.Call.{Deliver, Login, Fetch, Strike}
 use Rattle.session_model.specs.Calls.Answer.{Stored, Listed, Wrong, Part, GoneAlready, Dropped}
-use Rattle.session_model.specs.Logs.{Asked, Answered}
-use Rattle.session_model.specs.Run.{Stop}
-use Rattle.session_model.specs.Losses.{IsLostIn}
-use Rattle.session_model.specs.Owes.{OwesStored, OwesDeletions, OwesParts}
 
 -- the numbers that it drew, and its records
 pub record NodeState : Type 0 where
@@ -89,37 +81,3 @@ IsSoundMail (Strike user ids) = ⊤
 abbrev pub AreSoundMails : List Served → Type 0
 AreSoundMails [] = ⊤
 AreSoundMails (one ∷ more) = IsSoundMail one.call × AreSoundMails more
-
--- what was asked, and what was answered
-abbrev pub asked_of : List Served → List Asked
-asked_of served = map (λ one. record { session = one.session; call = one.call }) served
-
-abbrev pub told_of : ℕ → Call → Option Answer → List Answered
-told_of k call None = []
-told_of k call (Some answer) = record { session = k; call = call; answer = answer } ∷ []
-
-abbrev pub answered_of : List Served → List Answered
-answered_of served = flat_map (λ one. told_of one.session one.call one.answer) served
-
--- One node gives what a cluster owes.
-abbrev pub OneNodeOwes : Type 0
-OneNodeOwes = (plan : Plan) (tells : Bool) (stop : Stop) (lines : List (List ℕ)) (entries : List Entry) (served : List Served) (last : NodeState) → plan.nodes ≡ 1 → plan.confirm ≡ 1
-    → AreSoundMails served → ServesAll plan tells first_node served last → All IsRecord last.records
-    → OwesDeletions plan (IsLostIn stop lines entries) (last.records ∷ []) (asked_of served) (answered_of served)
-    × (tells ≡ true → OwesParts (λ id. octets_in id last.records) (answered_of served))
-
--- a session of the node that takes mail asked for each message
-abbrev pub IsTaken : List (List ℕ) → ℕ → Call → Type 0
-IsTaken lines k (Deliver mail) = kind_at (opened lines) k ≡ Some (Smtp, 1)
-IsTaken lines k (Login user secret) = ⊤
-IsTaken lines k (Fetch user id) = ⊤
-IsTaken lines k (Strike user ids) = ⊤
-
-abbrev pub AreCallsTaken : List (List ℕ) → List Served → Type 0
-AreCallsTaken lines [] = ⊤
-AreCallsTaken lines (one ∷ more) = IsTaken lines one.session one.call × AreCallsTaken lines more
-
-abbrev pub OneNodeStores : Type 0
-OneNodeStores = (plan : Plan) (tells : Bool) (stop : Stop) (lines : List (List ℕ)) (entries : List Entry) (served : List Served) (last : NodeState) → plan.nodes ≡ 1 → plan.confirm ≡ 1
-    → AreCallsTaken lines served → ServesAll plan tells first_node served last
-    → OwesStored plan lines (IsLostIn stop lines entries) (last.records ∷ []) (answered_of served)

@@ -11,29 +11,27 @@ use Rattle.mail_model.specs.Stored.{HaveOtherIds}
 use Rattle.mail_model.specs.Book.{BookEntry}
 use Rattle.session_model.specs.Calls.Call.{Login, Fetch, Strike}
 use Rattle.session_model.specs.Calls.Answer.{Listed, Part, Dropped}
-use Rattle.session_model.specs.Copies.{AreDisks, EachStands, AreGoneOn, DroppedAreGone}
+use Rattle.session_model.specs.Copies.{AreDisks, EachStands, AreGoneOn, DroppedAreGone, OneContent}
 use Rattle.session_model.specs.Sessions.{Session}
 use Rattle.session_model.specs.Facts.{IsIn, IsGoneIn, DroppedAreTrue, ListingsAreTrue, PartsAreTrue}
 use Rattle.session_model.specs.Acts.{Act}
 use Rattle.session_model.specs.Logs.{Asked, Answered, asked_by, answered_by}
-use Rattle.session_model.specs.Books.{Among, AmongAnswers, IsBookOf, AreConfirmed, AcknowledgedStand, acks_by}
-use Rattle.session_model.specs.Run.{Stop}
-use Rattle.session_model.specs.Losses.{IsLostIn}
+use Rattle.session_model.specs.Books.{Among, AmongAnswers, IsBookOf, AcknowledgedStand, acks_by}
 use Rattle.session_model.specs.Runs.{Shows}
 
 -- what is gone was asked for, what was answered `Dropped` is gone, and a listing has each id once, and only ids that a journal can spell
-pub record OwesDeletions (plan : Plan) (lost : ℕ → Type 0) (disks : List (List Record)) (begun : List Asked) (answered : List Answered) : Type 0 where
+pub record OwesDeletions (plan : Plan) (disks : List (List Record)) (begun : List Asked) (answered : List Answered) : Type 0 where
   pub asks : (n : ℕ) (user : List ℕ) (id : Id) → IsGoneIn disks n user id → (k : ℕ) × (ids : List Id) × Among (record { session = k; call = Strike user ids }) begun × IsIn id ids
   pub gone : (k : ℕ) (user : List ℕ) (ids : List Id) (id : Id) → AmongAnswers (record { session = k; call = Strike user ids; answer = Dropped }) answered → IsIn id ids
-      → (nodes : List ℕ) × AreGoneOn plan lost disks user id nodes
+      → (nodes : List ℕ) × AreGoneOn plan disks user id nodes
   pub once : (k : ℕ) (user secret : List ℕ) (items : List Item) → AmongAnswers (record { session = k; call = Login user secret; answer = Listed items }) answered
       → AllPairs (λ (a b : Id). a ≢ b) (map (λ (item : Item). item.id) items)
   pub named : (k : ℕ) (user secret : List ℕ) (items : List Item) → AmongAnswers (record { session = k; call = Login user secret; answer = Listed items }) answered
       → (i : ℕ) (item : Item) → slice_get items i ≡ Some item → IsId item.id
 
--- each message that was answered `Stored` stands, under an id of its own and of the node of its session
-pub record OwesStored (plan : Plan) (lines : List (List ℕ)) (lost : ℕ → Type 0) (disks : List (List Record)) (answered : List Answered) : Type 0 where
-  pub stand : EachStands plan lines lost disks (flat_map acks_by answered)
+-- each message that was answered `Stored` stands on the nodes that confirmed it, under an id of its own and of the node of its session
+pub record OwesStored (plan : Plan) (lines : List (List ℕ)) (disks : List (List Record)) (answered : List Answered) (confirmers : List (List ℕ)) : Type 0 where
+  pub stand : EachStands plan lines disks (flat_map acks_by answered) confirmers
   pub other_ids : HaveOtherIds (flat_map acks_by answered)
 
 -- listings and parts are as it is filed
@@ -43,34 +41,35 @@ pub record OwesParts (filed : Id → Option (List ℕ)) (answered : List Answere
   pub parts : (k : ℕ) (user : List ℕ) (id : Id) (part : List ℕ) → AmongAnswers (record { session = k; call = Fetch user id; answer = Part part }) answered
       → (filed id ≡ Some part) × (closed part ≡ part)
 
--- Its entries are those of the calls that were begun and that were answered, in their order, and no others; they are confirmed by enough nodes, each copy that was
--- acknowledged stands on those that confirmed it, and each copy whose deletion was confirmed is gone.
-pub record OwesBook (plan : Plan) (lines : List (List ℕ)) (lost : ℕ → Type 0) (disks : List (List Record)) (begun : List Asked) (answered : List Answered) (book : List BookEntry) : Type 0 where
-  pub is_book : IsBookOf lines begun answered book
-  pub confirmed : AreConfirmed plan book
-  pub stand : AcknowledgedStand plan lost disks book
-  pub dropped : DroppedAreGone plan lost disks book
+-- Its entries are those of the calls that were begun and that were answered, in their order, and no others; each copy that was acknowledged stands on the nodes that
+-- confirmed it, which are enough, and each copy whose deletion was confirmed is gone.
+pub record OwesBook (plan : Plan) (lines : List (List ℕ)) (disks : List (List Record)) (begun : List Asked) (answered : List Answered) (confirmers : List (List ℕ)) (book : List BookEntry) : Type 0 where
+  pub is_book : IsBookOf lines begun answered confirmers book
+  pub stand : AcknowledgedStand plan disks book (flat_map acks_by answered) confirmers
+  pub dropped : DroppedAreGone plan disks book
 
--- All that a cluster owes of the calls that it began and that it answered, where these of its nodes are lost for good. The octets of a message are told by
--- `filed` where the disks tell theirs.
-pub record Owes (plan : Plan) (tells : Bool) (lines : List (List ℕ)) (lost : ℕ → Type 0) (stores : List (Option (List ℕ))) (disks : List (List Record)) (filed : Id → Option (List ℕ))
+-- All that a cluster owes of the calls that it began and that it answered. The octets of a message are told by `filed` where the disks tell theirs.
+pub record Owes (plan : Plan) (tells : Bool) (lines : List (List ℕ)) (stores : List (Option (List ℕ))) (disks : List (List Record)) (filed : Id → Option (List ℕ))
     (begun : List Asked) (answered : List Answered) (book : List BookEntry) : Type 0 where
   -- the stores hold the records of the nodes
   pub holds : AreDisks 1 stores disks
-  pub stored : OwesStored plan lines lost disks answered
-  pub deletions : OwesDeletions plan lost disks begun answered
+  pub one_content : OneContent filed disks
+  -- the nodes that confirmed each message, in the order of the answers
+  pub confirmers : List (List ℕ)
+  pub stored : OwesStored plan lines disks answered confirmers
+  pub deletions : OwesDeletions plan disks begun answered
   pub parts : tells ≡ true → OwesParts filed answered
-  pub books : OwesBook plan lines lost disks begun answered book
+  pub books : OwesBook plan lines disks begun answered confirmers book
 
 -- what is owed of the calls is true in the sessions
 abbrev pub OwedDeletionsAreTrue : Type 0
-OwedDeletionsAreTrue = (plan : Plan) (stop : Stop) (lines : List (List ℕ)) (entries : List Entry) (disks : List (List Record)) (acts : List Act) (sessions : List Session)
-    → Shows plan lines entries acts sessions → OwesDeletions plan (IsLostIn stop lines entries) disks (flat_map asked_by acts) (flat_map answered_by acts)
-    → DroppedAreTrue plan (IsLostIn stop lines entries) disks sessions
+OwedDeletionsAreTrue = (plan : Plan) (lines : List (List ℕ)) (entries : List Entry) (disks : List (List Record)) (acts : List Act) (sessions : List Session)
+    → Shows plan lines entries acts sessions → OwesDeletions plan disks (flat_map asked_by acts) (flat_map answered_by acts)
+    → DroppedAreTrue plan disks sessions
 
 abbrev pub OwedListingsAreTrue : Type 0
-OwedListingsAreTrue = (plan : Plan) (stop : Stop) (lines : List (List ℕ)) (entries : List Entry) (disks : List (List Record)) (acts : List Act) (sessions : List Session)
-    → Shows plan lines entries acts sessions → OwesDeletions plan (IsLostIn stop lines entries) disks (flat_map asked_by acts) (flat_map answered_by acts) → ListingsAreTrue sessions
+OwedListingsAreTrue = (plan : Plan) (lines : List (List ℕ)) (entries : List Entry) (disks : List (List Record)) (acts : List Act) (sessions : List Session)
+    → Shows plan lines entries acts sessions → OwesDeletions plan disks (flat_map asked_by acts) (flat_map answered_by acts) → ListingsAreTrue sessions
 
 abbrev pub OwedPartsAreTrue : Type 0
 OwedPartsAreTrue = (plan : Plan) (lines : List (List ℕ)) (entries : List Entry) (filed : Id → Option (List ℕ)) (acts : List Act) (sessions : List Session)

@@ -6,7 +6,7 @@ use Rattle.mail_model.specs.Transcript.{Entry}
 use Rattle.mail_model.specs.Told.{sent}
 use Rattle.mail_model.specs.Stored.{opened}
 use Rattle.mail_model.specs.Shown.{lines_to}
-use Rattle.session_model.specs.Talk.{Exchange, Standing, IsTalk, farewell, replies}
+use Rattle.session_model.specs.Talk.{Exchange, Standing, IsTalk, IsIdle, farewell, replies}
 
 -- A session: its protocol and its node, what it was fed, the exchanges whose whole reply its client got, the one that is not so, where there is one, how it
 -- stands, and what was not heard.
@@ -51,3 +51,7 @@ pub record IsSession (plan : Plan) (lines : List (List ℕ)) (entries : List Ent
 pub record AreSessions (plan : Plan) (lines : List (List ℕ)) (entries : List Entry) (sessions : List Session) : Type 0 where
   pub kinds : opened lines ≡ map (λ session. (session.protocol, session.node)) sessions
   pub each : (k : ℕ) (session : Session) → session_at sessions k ≡ Some session → IsSession plan lines entries k session
+
+-- Each unit that a session has reached is replied to: its client got all replies whole, and it waits for an answer, has ended, or has no whole unit left.
+abbrev pub AreAnswered : List Session → Type 0
+AreAnswered sessions = (k : ℕ) (session : Session) → session_at sessions k ≡ Some session → (session.others ≡ []) × IsIdle session.standing session.rest

@@ -8,10 +8,8 @@ ghost use Rattle.session_model.specs.Runs.{ActsAreShown, DrivenIsShown, DrivenWr
 ghost use Rattle.session_model.specs.Losses.{LostIsShown};
 ghost use Rattle.session_model.specs.Owes.{OwedDeletionsAreTrue, OwedListingsAreTrue, OwedPartsAreTrue};
 ghost use Rattle.session_model.specs.Kept.{OwedIsKept};
-ghost use Rattle.session_model.specs.Alone.{OneNodePromises};
-ghost use Rattle.session_model.specs.Readings.{OneReadingOfSession};
-ghost use Rattle.session_model.specs.OneNode.{OneNodeOwes, OneNodeStores};
-ghost use Rattle.session_model.specs.Promises.{TrueAnswersDelete, TrueAnswersShow, TrueListingsShow};
+ghost use Rattle.session_model.specs.Readings.{OneReadingOfSession, OneTelling, QuitWasSent};
+ghost use Rattle.session_model.specs.Promises.{GoneAtMostMarked, TrueAnswersDelete, TrueAnswersShow, TrueListingsShow};
 
 /// A session that was opened has said nothing but its greeting.
 pub fn begins()
@@ -73,6 +71,11 @@ pub fn true_answers_delete()
     ensures { TrueAnswersDelete }
 {}
 
+/// No more copies are gone than sessions marked.
+pub fn gone_at_most_marked()
+    ensures { GoneAtMostMarked }
+{}
+
 /// Where listings and parts are true, readers were shown what is filed.
 pub fn true_answers_show()
     ensures { TrueAnswersShow }
@@ -104,16 +107,6 @@ pub fn owed_parts_are_true()
     ensures { OwedPartsAreTrue }
 {}
 
-/// One node gives what a cluster owes.
-pub fn one_node_owes()
-    ensures { OneNodeOwes }
-{}
-
-/// One node gives what a cluster owes of messages.
-pub fn one_node_stores()
-    ensures { OneNodeStores }
-{}
-
 /// A message that a session asks to be stored is that of a transaction.
 pub fn asks_as_told()
     ensures { AsksAsTold }
@@ -129,16 +122,20 @@ pub fn one_reading()
     ensures { OneReadingOfSession }
 {}
 
+/// Two sessions that are shown alike were told the same messages.
+pub fn one_telling()
+    ensures { OneTelling }
+{}
+
+/// A QUIT that a session shows is one that its client sent.
+pub fn quit_was_sent()
+    ensures { QuitWasSent }
+{}
+
 /// However a tape is driven, the promises to clients are kept where the cluster gives what it owes
 /// of the calls.
 pub fn owed_is_kept()
     ensures { OwedIsKept }
-{}
-
-/// The promises to clients hold of a cluster of one node, for every tape and however the work on it
-/// is left off.
-pub fn one_node_promises()
-    ensures { OneNodePromises }
 {}
 
 /// Each answer of a call's kind has a reply, whatever octets it carries.

@@ -20,11 +20,12 @@
 //!   (what was asked and answered), `Runs` and `Losses` (what tape and transcript tell of a run).
 //! - What is promised: `Sessions` (the sessions as tape and transcript show them), `Copies`,
 //!   `Facts`, `Promises`, `Books` and `Kept`.
-//! - What a cluster owes for that: `Owes`; and that one node gives it: `OneNode`, `Alone`.
+//! - What a cluster owes for that: `Owes`. `OneNode` has what one node does, call by call.
 //!
 //! A cluster has 1 to 16 nodes. They go down, come up in another boot, and are lost for good; as a
-//! node goes down all its sessions end, those that wait too (`standing_are_up`). A node that is
-//! lost owes nothing, and is one only where tape and transcript say so (`lost_is_shown`).
+//! node goes down all its sessions end, those that wait too (`standing_are_up`). Tape and transcript
+//! tell which nodes are lost (`lost_is_shown`). No promise makes an exception of these: the store of
+//! a lost node is given back as it was when it was lost.
 //!
 //! The laws are functions that do nothing, and their contracts hold of the definitions alone. The
 //! one that joins all is `owed_is_kept`: however a tape is driven, and wherever the work stops, the

@@ -10,8 +10,6 @@
 
 mod log;
 mod logged;
-#[cfg(test)]
-mod tests;
 
 pub use log::UpdateLog;
 pub use logged::{Acked, Logged};

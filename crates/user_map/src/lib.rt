@@ -34,8 +34,6 @@ mod cells;
 pub mod laws;
 mod loads;
 mod managers;
-#[cfg(test)]
-mod tests;
 
 pub use assignment::assign;
 pub use mail_base::{Claim, MapRow, Member, UserMap};

@@ -1,5 +1,5 @@
 -- A tape whose node stops, starts again, and is lost.
-use Rattle.std.proofs.Common.{◌≡◌, ◌≢◌, inl, inr, ◌+◌, ℕ, zero, suc, List, [], ◌∷◌, ◌++◌, flat_map, Some, refl, ap, subst, arith, codes, slice_get, get_or}
+use Rattle.std.proofs.Common.{◌≡◌, ◌≢◌, inl, inr, ℕ, zero, suc, List, [], ◌∷◌, ◌++◌, flat_map, Some, refl, ap, subst, arith, codes, slice_get, get_or}
 use Rattle.std.specs.Fmt.{decimal}
 use Rattle.std.proofs.lemmas.Fmt.{decimal_digit}
 use Rattle.mail_model.specs.Smtp.{greeting_text, helo_text, down_text}

@@ -3,3 +3,7 @@ pub mod OneMessage
 pub mod OneDeletion
 pub mod ThreeNodes
 pub mod CrashedNode
+pub mod Alike
+pub mod WrongStores
+pub mod WrongReaders
+pub mod WrongBooks

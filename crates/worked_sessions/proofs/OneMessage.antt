@@ -1,17 +1,19 @@
 -- A tape that meets every premise.
-use Rattle.std.proofs.Common.{◌≡◌, inl, inr, ◌+◌, ◌<◌, ◌^◌, ℕ, Bool, true, List, [], ◌∷◌, ◌++◌, length, All, Some, refl, ap, arith, codes}
+use Rattle.std.proofs.Common.{◌≡◌, inl, inr, ◌<◌, ◌^◌, ℕ, zero, suc, Bool, true, List, [], ◌∷◌, ◌++◌, length, All, Some, refl, sym, ap, subst, arith, codes, slice_get}
 use Rattle.std.specs.Prelude.{unwrap_or}
 use Rattle.std.proofs.lemmas.Fmt.{decimal_digit}
 use Rattle.std.proofs.lemmas.List.Elements.{All-nil, All-cons}
-use Rattle.sha2.specs.Sha256.{sha256}
+use Rattle.std.proofs.lemmas.Option.{none-some}
 use Rattle.mail_model.specs.Identity.Key.{Message}
 use Rattle.mail_model.specs.Identity.Value.{Here, Gone}
-use Rattle.mail_model.specs.Identity.{Stamp, Value}
+use Rattle.mail_model.specs.Identity.{Id, Stamp, Value}
 use Rattle.mail_model.specs.Grammar.{IsId, IsRecord}
 use Rattle.mail_model.specs.Lines.{sent_line}
 use Rattle.mail_model.specs.Mail.{IsStored}
 use Rattle.mail_model.specs.Record.{Record, IsAmongRecords, SaysHere, HoldsOctets, payload_of}
-use Rattle.mail_model.specs.Book.{Acked, copies_acked}
+use Rattle.mail_model.specs.Book.{copies_acked}
+use Rattle.mail_model.specs.Listing.{octets_in}
+use Rattle.mail_model.specs.Stored.{Ack}
 use Rattle.mail_model.specs.Record.Record.{Boot, Octets, Stated}
 use Rattle.mail_model.specs.Smtp.{helo_text, closing_text, greeting_text, stored_text}
 use Rattle.mail_model.specs.PopReplies.{one_line}
@@ -22,7 +24,8 @@ use Rattle.mail_model.specs.Tape.Order.{Open, Say}
 use Rattle.mail_model.specs.Transcript.{closed_event}
 use Rattle.mail_model.specs.Transcript.Entry.{Said}
 use Rattle.mail_model.proofs.FirstDate.{first_date}
-use Rattle.session_model.specs.Calls.Call.{Deliver}
+use Rattle.session_model.specs.Calls.{Call, Answer}
+use Rattle.session_model.specs.Calls.Call.{Deliver, Login, Fetch, Strike}
 use Rattle.session_model.specs.Calls.Answer.{Stored}
 use Rattle.session_model.specs.Talk.TalkState.{Mailing}
 use Rattle.session_model.specs.Acts.Act.{Opens, Does}
@@ -30,13 +33,14 @@ use Rattle.session_model.specs.Acts.Deed.{IsFed, Hears, IsAnswered}
 use Rattle.session_model.specs.Turns.Turn.{Hearing as Hears_on, Beginning, Asking}
 use Rattle.session_model.specs.Run.{IsHandled, IsDriven}
 use Rattle.session_model.specs.Run.Stop.{BehindLine, Denied, SinkFailed}
-use Rattle.session_model.specs.Copies.{OnNode}
-use Rattle.session_model.specs.Losses.{IsLostIn}
-use Rattle.session_model.specs.Books.{IsBookOf, IsAsBooked, AcknowledgedStand}
-use Rattle.session_model.specs.OneNode.{NodeState, ServesAll, first_node, asked_of, answered_of}
-use Rattle.worked_sessions.specs.OneMessage.{OneMessageKept, small_plan, greeted, texting, small_mail, small_octets, waiting, fed_with, at_open, at_helo, at_mail, at_rcpt, at_data, at_subject, at_gap, at_hello, at_wait, at_stored, at_quit, said_once, small_lines, small_acts, small_made, small_entries, small_served, small_records, small_store, small_book}
+use Rattle.session_model.specs.Copies.{OnNode, OnEnough, KeepsCopy, OneContent}
+use Rattle.session_model.specs.Books.{AmongAnswers, IsAsBooked}
+use Rattle.session_model.specs.Owes.{Owes}
+use Rattle.session_model.specs.Logs.{Answered}
+use Rattle.session_model.specs.Facts.{IsGoneIn, ack_of}
+use Rattle.worked_sessions.specs.OneMessage.{OneMessageKept, small_plan, greeted, texting, small_mail, small_octets, waiting, fed_with, at_open, at_helo, at_mail, at_rcpt, at_data, at_subject, at_gap, at_hello, at_wait, at_stored, at_quit, said_once, small_lines, small_acts, small_made, small_entries, small_asked, small_answered, small_records, small_store, small_book}
 use Rattle.session_model.specs.Acts.{Act}
-use Rattle.session_model.proofs.Alone.{one_node_promises}
+use Rattle.session_model.proofs.Kept.{owed_is_kept}
 use Rattle.worked_sessions.proofs.Lines.{idle_line, nobody, never_waits, whole_line, has_alice, told_where, text_lines, answered, helo, mail, rcpt, data_line, subject, gap, hello}
 
 -- `open`
@@ -159,9 +163,6 @@ driven = record {
 pub stored : IsStored small_mail (nth_id 1) 0 small_octets
 stored = record { date = codes "Thu, 01 Jan 1970 00:00:00 +0000"; dated = first_date; whole = refl }
 
-abbrev small_node : NodeState
-small_node = record { drawn = 1; stamps = 1; records = small_records }
-
 pub id_fits : IsId (nth_id 1)
 id_fits = record { node = (omega arith, omega arith); boot = (omega arith, omega arith); seq = (omega arith, omega arith) }
 
@@ -183,7 +184,7 @@ octets_with d =
     ++ sent_line (codes " by node" ++ d ++ codes " with " ++ codes "SMTP" ++ codes " id <" ++ (d ++ 46 ∷ [] ++ d ++ 46 ∷ [] ++ d) ++ codes "@node" ++ d ++ codes ">;")
     ++ sent_line (codes " " ++ codes "Thu, 01 Jan 1970 00:00:00 +0000") ++ small_mail.text
 
-size : length small_octets ≡ 151
+pub size : length small_octets ≡ 151
 size = ap (λ (d : List ℕ). length (octets_with d)) (decimal_digit 1 (omega arith))
 
 -- the record of the octets is short enough for a journal
@@ -197,59 +198,109 @@ abbrev value_in : Record → Value
 value_in (Stated key state) = state.value
 value_in other = Here
 
-not_gone : (stamp : Stamp) (targets : ℕ) → IsAmongRecords (Stated (Message (codes "alice") (nth_id 1)) (record { value = Gone; stamp = stamp; targets = targets })) small_records → ⊥
-not_gone stamp targets (inl is) = cc
-not_gone stamp targets (inr (inl is)) = cc
-not_gone stamp targets (inr (inr (inl is))) = let never : Here ≡ Gone = ap value_in is in cc
-not_gone stamp targets (inr (inr (inr is))) = is
-
-served : ServesAll small_plan true first_node small_served small_node
-served = (small_node, (small_octets, refl, stored, refl), refl)
-
-book : IsBookOf (small_lines ++ []) (asked_of small_served) (answered_of small_served) small_book
-book = record {
-  struck = refl;
-  dropped = refl;
-  acked = (
-    copies_acked (nth_id 1) 0 small_octets 1 (codes "alice" ∷ []),
-    [],
-    refl,
-    record { octets = small_octets; confirmers = 1; at_clock = refl; stored = stored; each_once = λ i j d before within. absurd (omega (arith, before, within)); are = refl },
-    refl,
-  );
-}
+not_gone : (user : List ℕ) (id : Id) (stamp : Stamp) (targets : ℕ) → IsAmongRecords (Stated (Message user id) (record { value = Gone; stamp = stamp; targets = targets })) small_records → ⊥
+not_gone user id stamp targets (inl is) = cc
+not_gone user id stamp targets (inr (inl is)) = cc
+not_gone user id stamp targets (inr (inr (inl is))) = let never : Here ≡ Gone = ap value_in is in cc
+not_gone user id stamp targets (inr (inr (inr is))) = is
 
 says_here : SaysHere (Message (codes "alice") (nth_id 1)) small_records
-says_here = record { stamp = nth_stamp 1; targets = 1; here = inr (inr (inl refl)); not_gone = not_gone }
+says_here = record { stamp = nth_stamp 1; targets = 1; here = inr (inr (inl refl)); not_gone = not_gone (codes "alice") (nth_id 1) }
 
 has_octets : HoldsOctets (nth_id 1) small_octets small_records
 has_octets = inr (λ other is. absurd (let never : Boot 1 ≡ Octets (nth_id 1) other = is in cc), inl refl)
 
--- the copy that the book says was acknowledged
-abbrev small_copy : Acked
-small_copy = record { user = codes "alice"; id = nth_id 1; seconds = 0; size = length small_octets; digest = sha256 small_octets; confirmers = 1 }
+-- the one disk has these records
+one_disk : (n : ℕ) (records : List Record) → slice_get (small_records ∷ []) n ≡ Some records → small_records ≡ records
+one_disk zero records there = cc
+one_disk (suc n) records there = absurd (none-some records there)
 
-stand : (lost : ℕ → Type 0) → AcknowledgedStand small_plan lost (small_records ∷ []) small_book
-stand lost = (
-  (
-    1 ∷ [],
-    refl,
-    record {
-      rising = (omega arith, omega arith, tt);
-      enough = omega arith;
-      each = All-cons (OnNode lost (small_records ∷ []) (IsAsBooked small_book small_copy)) 1 []
-          (inr (small_records, refl, inl (says_here, (small_octets, has_octets, refl, refl))))
-          (All-nil (OnNode lost (small_records ∷ []) (IsAsBooked small_book small_copy)));
-    },
-  ),
-  tt,
-)
+-- and says that no copy is gone
+none_gone : (n : ℕ) (user : List ℕ) (id : Id) → IsGoneIn (small_records ∷ []) n user id → ⊥
+none_gone n user id (records, at, gone) = not_gone user id gone.stamp gone.targets (subst (IsAmongRecords _) (sym (one_disk n records at)) gone.gone)
+
+-- it has the octets of one message
+pub one_octets : (targets : ℕ) (id : Id) (octets : List ℕ) → IsAmongRecords (Octets id octets) (Boot 1 ∷ Octets (nth_id 1) small_octets ∷ Stated (Message (codes "alice") (nth_id 1)) (record { value = Here; stamp = nth_stamp 1; targets = targets }) ∷ [])
+    → ◌≡◌ {A = Record} (Octets (nth_id 1) small_octets) (Octets id octets)
+one_octets targets id octets (inl is) = cc
+one_octets targets id octets (inr (inl is)) = is
+one_octets targets id octets (inr (inr (inl is))) = cc
+one_octets targets id octets (inr (inr (inr is))) = absurd is
+
+one_content : OneContent (λ id. octets_in id small_records) (small_records ∷ [])
+one_content n records id octets at inside =
+    let is = one_octets 1 id octets (subst (IsAmongRecords (Octets id octets)) (sym (one_disk n records at)) inside) in
+    let same_id : nth_id 1 ≡ id = cc is in
+    let same : small_octets ≡ octets = cc is in
+    subst (λ (i : Id). octets_in i small_records ≡ Some octets) same_id (ap Some same)
+
+pub only_delivery : (k : ℕ) (call : Call) (answer : Answer) → AmongAnswers (record { session = k; call = call; answer = answer }) small_answered → Deliver small_mail ≡ call
+only_delivery k call answer (inl is) = ap (λ (one : Answered). one.call) is
+only_delivery k call answer (inr none) = absurd none
+
+-- what is so of the records is so on the node, which is enough
+on_it : (so : List Record → Type 0) → so small_records → OnEnough small_plan (small_records ∷ []) so (1 ∷ [])
+on_it so is = record {
+  are = record { rising = (omega arith, omega arith, tt); enough = omega arith };
+  each = All-cons (OnNode (small_records ∷ []) so) 1 [] (small_records, refl, is) (All-nil (OnNode (small_records ∷ []) so));
+}
+
+abbrev small_ack : Ack
+small_ack = ack_of 1 (record { mail = small_mail; id = nth_id 1 })
+
+owes : Owes small_plan true (small_lines ++ []) (Some small_store ∷ []) (small_records ∷ []) (λ id. octets_in id small_records) small_asked small_answered small_book
+owes = record {
+  holds = (grammar, holds, tt);
+  one_content = one_content;
+  confirmers = (1 ∷ []) ∷ [];
+  stored = record {
+    stand = (
+      record {
+        at_node = refl;
+        at_clock = refl;
+        copies = All-cons (λ (user : List ℕ). OnEnough small_plan (small_records ∷ []) (KeepsCopy small_ack user) (1 ∷ [])) (codes "alice") []
+            (on_it (KeepsCopy small_ack (codes "alice")) (inl (says_here, (small_octets, stored, has_octets)))) (All-nil _);
+      },
+      tt,
+    );
+    other_ids = (tt, tt);
+  };
+  deletions = record {
+    asks = λ n user id gone. absurd (none_gone n user id gone);
+    gone = λ k user ids id among within. absurd (let never = only_delivery k (Strike user ids) _ among in cc);
+    once = λ k user secret items among. absurd (let never = only_delivery k (Login user secret) _ among in cc);
+    named = λ k user secret items among. absurd (let never = only_delivery k (Login user secret) _ among in cc);
+  };
+  parts = λ told. record {
+    sizes = λ k user secret items among. absurd (let never = only_delivery k (Login user secret) _ among in cc);
+    parts = λ k user id part among. absurd (let never = only_delivery k (Fetch user id) _ among in cc);
+  };
+  books = record {
+    is_book = record {
+      struck = refl;
+      dropped = refl;
+      acked = (
+        copies_acked (nth_id 1) 0 small_octets 1 (codes "alice" ∷ []),
+        [],
+        refl,
+        record { octets = small_octets; at_clock = refl; stored = stored; each_once = λ i j d before within. absurd (omega (arith, before, within)); are = refl },
+        (refl, refl),
+      );
+    };
+    stand = (
+      All-cons (λ (user : List ℕ). OnEnough small_plan (small_records ∷ []) (IsAsBooked small_book small_ack user) (1 ∷ [])) (codes "alice") []
+          (on_it (IsAsBooked small_book small_ack (codes "alice")) (inl (says_here, (small_octets, stored, has_octets)))) (All-nil _),
+      refl,
+    );
+    dropped = tt;
+  };
+}
 
 pub one_message_kept : OneMessageKept
 one_message_kept = record {
   driven = driven;
-  kept = one_node_promises small_plan true BehindLine small_lines [] small_acts [] small_made small_entries [] (at_quit ∷ []) small_served small_node (Some small_store) small_book refl refl
-      driven tt served grammar holds refl refl book (refl, tt) (stand (IsLostIn BehindLine (small_lines ++ []) (small_entries ++ [])));
+  kept = owed_is_kept small_plan true BehindLine small_lines [] small_acts [] small_made small_entries [] (at_quit ∷ []) (Some small_store ∷ []) (small_records ∷ [])
+      (λ id. octets_in id small_records) small_asked small_book driven tt refl owes;
   told = ap (λ (b : Bool). record small_mail { mailboxes = (unwrap_or (told_where b).envelope (record { sender = []; mailboxes = [] })).mailboxes } ∷ []) has_alice;
   size = size;
   stands = says_here;

@@ -1,8 +1,7 @@
 -- A tape of three nodes that meets every premise.
-use Rattle.std.proofs.Common.{◌≡◌, inl, inr, ◌+◌, ℕ, zero, suc, true, List, [], ◌∷◌, ◌++◌, map, flat_map, length, All, Some, refl, sym, ap, subst, arith, codes, slice_get}
+use Rattle.std.proofs.Common.{◌≡◌, inl, inr, ℕ, zero, suc, true, List, [], ◌∷◌, ◌++◌, map, flat_map, All, Some, refl, sym, ap, subst, arith, codes, slice_get}
 use Rattle.std.proofs.lemmas.List.Elements.{All-nil, All-cons}
 use Rattle.std.proofs.lemmas.Option.{none-some}
-use Rattle.sha2.specs.Sha256.{sha256}
 use Rattle.mail_model.specs.Identity.{Id, Stamp, Value}
 use Rattle.mail_model.specs.Identity.Key.{Message}
 use Rattle.mail_model.specs.Identity.Value.{Here, Gone}
@@ -10,7 +9,8 @@ use Rattle.mail_model.specs.Grammar.{IsRecord}
 use Rattle.mail_model.specs.Record.{Record, IsJournal, IsAmongRecords, SaysHere, HoldsOctets, payloads_of}
 use Rattle.mail_model.specs.Record.Record.{Boot, Octets, Stated}
 use Rattle.mail_model.specs.Listing.{octets_in}
-use Rattle.mail_model.specs.Book.{Acked, copies_acked}
+use Rattle.mail_model.specs.Book.{copies_acked}
+use Rattle.mail_model.specs.Stored.{Ack}
 use Rattle.mail_model.specs.Site.{nth_id, nth_stamp}
 use Rattle.mail_model.specs.Smtp.{greeting_text, helo_text, stored_text}
 use Rattle.mail_model.specs.PopReplies.{one_line}
@@ -19,29 +19,25 @@ use Rattle.mail_model.specs.Tape.Protocol.{Smtp}
 use Rattle.mail_model.specs.Tape.Order.{Open, Moves}
 use Rattle.mail_model.specs.Tape.ClusterOrder.{Post, Again}
 use Rattle.mail_model.specs.Transcript.Entry.{Said}
-use Rattle.session_model.specs.Calls.{Call, Answer}
 use Rattle.session_model.specs.Calls.Call.{Deliver, Login, Fetch, Strike}
-use Rattle.session_model.specs.Calls.Answer.{Stored}
 use Rattle.session_model.specs.Talk.TalkState.{Mailing}
-use Rattle.session_model.specs.Copies.{OnNode, KeepsCopy}
+use Rattle.session_model.specs.Copies.{OnNode, OnEnough, KeepsCopy, OneContent}
 use Rattle.session_model.specs.Facts.{IsGoneIn, ack_of}
 use Rattle.session_model.specs.Events.{event_entries}
 use Rattle.session_model.specs.Events.ClusterEvent.{WasHeard}
 use Rattle.session_model.specs.Acts.{Act}
 use Rattle.session_model.specs.Acts.Act.{Opens, Makes}
-use Rattle.session_model.specs.Logs.{Answered}
 use Rattle.session_model.specs.Turns.{Waits}
 use Rattle.session_model.specs.Turns.Turn.{Hearing as Hears_on, Asking}
 use Rattle.session_model.specs.Run.{IsHandled, AreHandled, IsDriven}
 use Rattle.session_model.specs.Run.Stop.{BehindLine, Denied, SinkFailed}
-use Rattle.session_model.specs.Losses.{IsLostIn}
-use Rattle.session_model.specs.Books.{AmongAnswers, IsAsBooked}
+use Rattle.session_model.specs.Books.{IsAsBooked}
 use Rattle.session_model.specs.Owes.{Owes}
 use Rattle.session_model.proofs.Kept.{owed_is_kept}
-use Rattle.worked_sessions.specs.OneMessage.{small_mail, small_octets, greeted, waiting, at_open, at_helo, at_mail, at_rcpt, at_data, at_subject, at_gap, at_hello, at_wait, at_stored, text_acts, tells_stored}
+use Rattle.worked_sessions.specs.OneMessage.{small_mail, small_octets, small_answered, greeted, waiting, at_open, at_helo, at_mail, at_rcpt, at_data, at_subject, at_gap, at_hello, at_wait, at_stored, text_acts, tells_stored}
 use Rattle.worked_sessions.specs.ThreeNodes.{ThreeNodesKept, three_nodes, heard_in_vain, waits_first, posted_lines, posted_acts, posted_made, posted_entries, copy_record, node_records, node_store, three_disks, posted_book, posted_asked}
 use Rattle.worked_sessions.proofs.Lines.{idle_line, nobody, only_one, never_waits, helo, mail, rcpt, data_line, subject, gap, hello, waits_line, heard_line}
-use Rattle.worked_sessions.proofs.OneMessage.{stored, id_fits, octets_fit}
+use Rattle.worked_sessions.proofs.OneMessage.{stored, id_fits, octets_fit, one_octets, only_delivery}
 
 -- `open` at one of three nodes
 pub opens_at_1 : IsHandled three_nodes [] [] (codes "open smtp 1") (Opens Smtp 1 (greeting_text 1) ∷ []) ((Said 1 (greeting_text 1) ∷ []) ∷ []) (at_open ∷ [])
@@ -198,42 +194,46 @@ says_here = record { stamp = nth_stamp 1; targets = 7; here = inr (inr (inl refl
 has_octets : HoldsOctets (nth_id 1) small_octets node_records
 has_octets = inr (λ other is. absurd (let never : Boot 1 ≡ Octets (nth_id 1) other = is in cc), inl refl)
 
--- the copy that the book says was acknowledged
-abbrev posted_copy : Acked
-posted_copy = record { user = codes "alice"; id = nth_id 1; seconds = 0; size = length small_octets; digest = sha256 small_octets; confirmers = 7 }
+-- each disk has these records
+each_disk : (n : ℕ) (records : List Record) → slice_get three_disks n ≡ Some records → node_records ≡ records
+each_disk zero records there = cc
+each_disk (suc zero) records there = cc
+each_disk (suc (suc zero)) records there = cc
+each_disk (suc (suc (suc n))) records there = absurd (none-some records there)
 
-module _ (lost : ℕ → Type 0) where
-  -- what is so of the records of each node is so on all three
-  on_all : (so : List Record → Type 0) → so node_records → All (OnNode lost three_disks so) (1 ∷ 2 ∷ 3 ∷ [])
-  on_all so is =
-      All-cons (OnNode lost three_disks so) 1 (2 ∷ 3 ∷ []) (inr (node_records, refl, is))
-      (All-cons (OnNode lost three_disks so) 2 (3 ∷ []) (inr (node_records, refl, is))
-      (All-cons (OnNode lost three_disks so) 3 [] (inr (node_records, refl, is)) (All-nil (OnNode lost three_disks so))))
+one_content : OneContent (λ id. octets_in id node_records) three_disks
+one_content n records id octets at inside =
+    let is = one_octets 7 id octets (subst (IsAmongRecords (Octets id octets)) (sym (each_disk n records at)) inside) in
+    let same_id : nth_id 1 ≡ id = cc is in
+    let same : small_octets ≡ octets = cc is in
+    subst (λ (i : Id). octets_in i node_records ≡ Some octets) same_id (ap Some same)
 
-  booked_on_each : All (OnNode lost three_disks (IsAsBooked posted_book posted_copy)) (1 ∷ 2 ∷ 3 ∷ [])
-  booked_on_each = on_all (IsAsBooked posted_book posted_copy) (inl (says_here, (small_octets, has_octets, refl, refl)))
+-- what is so of the records of each node is so on all three, which are enough
+on_all : (so : List Record → Type 0) → so node_records → OnEnough three_nodes three_disks so (1 ∷ 2 ∷ 3 ∷ [])
+on_all so is = record {
+  are = record { rising = (omega arith, omega arith, (omega arith, omega arith, (omega arith, omega arith, tt))); enough = omega arith };
+  each =
+      All-cons (OnNode three_disks so) 1 (2 ∷ 3 ∷ []) (node_records, refl, is)
+      (All-cons (OnNode three_disks so) 2 (3 ∷ []) (node_records, refl, is)
+      (All-cons (OnNode three_disks so) 3 [] (node_records, refl, is) (All-nil (OnNode three_disks so))));
+}
 
-  on_each : All (OnNode lost three_disks (KeepsCopy (ack_of 1 (record { mail = small_mail; id = nth_id 1 })) (codes "alice"))) (1 ∷ 2 ∷ 3 ∷ [])
-  on_each =
-      on_all (KeepsCopy (ack_of 1 (record { mail = small_mail; id = nth_id 1 })) (codes "alice")) (inl (says_here, (small_octets, stored, has_octets)))
+abbrev posted_ack : Ack
+posted_ack = ack_of 1 (record { mail = small_mail; id = nth_id 1 })
 
--- the one answer is that the message is stored
-abbrev answers : List Answered
-answers = record { session = 1; call = Deliver small_mail; answer = Stored (nth_id 1) } ∷ []
-
-only_delivery : (k : ℕ) (call : Call) (answer : Answer) → AmongAnswers (record { session = k; call = call; answer = answer }) answers → Deliver small_mail ≡ call
-only_delivery k call answer (inl is) = ap (λ (one : Answered). one.call) is
-only_delivery k call answer (inr none) = absurd none
-
-owes : Owes three_nodes true (posted_lines ++ []) (IsLostIn BehindLine (posted_lines ++ []) (posted_entries ++ [])) (map (λ node. Some (node_store node)) (1 ∷ 2 ∷ 3 ∷ [])) three_disks
-    (λ (id : Id). octets_in id node_records) posted_asked answers posted_book
+owes : Owes three_nodes true (posted_lines ++ []) (map (λ node. Some (node_store node)) (1 ∷ 2 ∷ 3 ∷ [])) three_disks (λ (id : Id). octets_in id node_records) posted_asked small_answered posted_book
 owes = record {
   holds = (grammar, holds 1, (grammar, holds 2, (grammar, holds 3, tt)));
+  one_content = one_content;
+  confirmers = (1 ∷ 2 ∷ 3 ∷ []) ∷ [];
   stored = record {
     stand = (
-      refl,
-      refl,
-      ((1 ∷ 2 ∷ 3 ∷ [], record { rising = (omega arith, omega arith, (omega arith, omega arith, (omega arith, omega arith, tt))); enough = omega arith; each = on_each (IsLostIn BehindLine (posted_lines ++ []) (posted_entries ++ [])) }), tt),
+      record {
+        at_node = refl;
+        at_clock = refl;
+        copies = All-cons (λ (user : List ℕ). OnEnough three_nodes three_disks (KeepsCopy posted_ack user) (1 ∷ 2 ∷ 3 ∷ [])) (codes "alice") []
+            (on_all (KeepsCopy posted_ack (codes "alice")) (inl (says_here, (small_octets, stored, has_octets)))) (All-nil _);
+      },
       tt,
     );
     other_ids = (tt, tt);
@@ -256,25 +256,14 @@ owes = record {
         copies_acked (nth_id 1) 0 small_octets 7 (codes "alice" ∷ []),
         [],
         refl,
-        record { octets = small_octets; confirmers = 7; at_clock = refl; stored = stored; each_once = λ i j d before within. absurd (omega (arith, before, within)); are = refl },
-        refl,
+        record { octets = small_octets; at_clock = refl; stored = stored; each_once = λ i j d before within. absurd (omega (arith, before, within)); are = refl },
+        (refl, refl),
       );
     };
-    confirmed = (
-      record { nodes = 1 ∷ 2 ∷ 3 ∷ []; mask = refl; rising = (omega arith, omega arith, (omega arith, omega arith, (omega arith, omega arith, tt))); enough = omega arith },
-      tt,
-    );
     stand = (
-      (
-        1 ∷ 2 ∷ 3 ∷ [],
-        refl,
-        record {
-          rising = (omega arith, omega arith, (omega arith, omega arith, (omega arith, omega arith, tt)));
-          enough = omega arith;
-          each = booked_on_each (IsLostIn BehindLine (posted_lines ++ []) (posted_entries ++ []));
-        },
-      ),
-      tt,
+      All-cons (λ (user : List ℕ). OnEnough three_nodes three_disks (IsAsBooked posted_book posted_ack user) (1 ∷ 2 ∷ 3 ∷ [])) (codes "alice") []
+          (on_all (IsAsBooked posted_book posted_ack (codes "alice")) (inl (says_here, (small_octets, stored, has_octets)))) (All-nil _),
+      refl,
     );
     dropped = tt;
   };

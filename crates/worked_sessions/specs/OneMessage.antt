@@ -32,7 +32,7 @@ use Rattle.session_model.specs.Acts.Deed.{IsFed, Hears, IsAnswered}
 use Rattle.session_model.specs.Run.{Made, IsDriven}
 use Rattle.session_model.specs.Run.Made.{Begins, Asks}
 use Rattle.session_model.specs.Run.Stop.{BehindLine}
-use Rattle.session_model.specs.OneNode.{Served, asked_of}
+use Rattle.session_model.specs.Logs.{Asked, Answered}
 use Rattle.session_model.specs.Kept.{KeepsPromises}
 
 -- so many nodes, each of which has a copy and confirms it, and one user
@@ -161,9 +161,12 @@ text_entries = Said 1 (greeting_text 1) ∷ Said 1 (helo_text 1) ∷ Said 1 (cod
 abbrev pub small_entries : List Entry
 small_entries = text_entries ++ Said 1 stored_text ∷ Said 1 (closing_text 1) ∷ closed_event 1 ∷ []
 
--- the node's one call
-abbrev pub small_served : List Served
-small_served = record { session = 1; call = Deliver small_mail; answer = Some (Stored (nth_id 1)) } ∷ []
+-- the one call, and its answer
+abbrev pub small_asked : List Asked
+small_asked = record { session = 1; call = Deliver small_mail } ∷ []
+
+abbrev pub small_answered : List Answered
+small_answered = record { session = 1; call = Deliver small_mail; answer = Stored (nth_id 1) } ∷ []
 
 -- what its disk then holds, and its book
 abbrev pub small_records : List Record
@@ -179,7 +182,7 @@ small_book = nth_entries 1 small_octets (codes "alice" ∷ [])
 pub record OneMessageKept : Type 0 where
   pub driven : IsDriven small_plan BehindLine small_lines [] small_acts [] small_made small_entries (at_quit ∷ [])
   pub kept : KeepsPromises small_plan true BehindLine (small_lines ++ []) (small_entries ++ []) (Some small_store ∷ []) (small_records ∷ []) (λ id. octets_in id small_records) small_book
-      (flat_map (λ a. a) (small_acts ++ [])) (asked_of small_served)
+      (flat_map (λ a. a) (small_acts ++ [])) small_asked
   pub told : told_from small_plan silent (pairs at_quit.whole) ≡ small_mail ∷ []
   pub size : length small_octets ≡ 151
   pub stands : SaysHere (Message (codes "alice") (nth_id 1)) small_records

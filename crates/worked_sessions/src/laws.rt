@@ -3,6 +3,9 @@ ghost use Rattle.worked_sessions.specs.OneMessage.{OneMessageKept};
 ghost use Rattle.worked_sessions.specs.OneDeletion.{OneDeletionAsked};
 ghost use Rattle.worked_sessions.specs.ThreeNodes.{ThreeNodesKept};
 ghost use Rattle.worked_sessions.specs.CrashedNode.{CrashedNodeDriven};
+ghost use Rattle.worked_sessions.specs.WrongStores.{WrongStores};
+ghost use Rattle.worked_sessions.specs.WrongReaders.{WrongReaders};
+ghost use Rattle.worked_sessions.specs.WrongBooks.{WrongBooks};
 
 /// All premises of the promises can be met: the tape of one message meets them.
 pub fn one_message_kept()
@@ -23,4 +26,22 @@ pub fn three_nodes_kept()
 /// A node can stop while a session of it waits, start again, and be lost as the sink fails.
 pub fn crashed_node_driven()
     ensures { CrashedNodeDriven }
+{}
+
+/// A store that lacks a message, has another text, has one id for two messages, or lacks it on a node
+/// that was lost before, does not keep the promise on stored messages.
+pub fn wrong_stores()
+    ensures { WrongStores }
+{}
+
+/// A copy that is gone without a QUIT, a text that is not the one that is filed, and one message listed
+/// twice do not keep the promises to readers.
+pub fn wrong_readers()
+    ensures { WrongReaders }
+{}
+
+/// A book that lacks an entry, has one too many, or tells of a deletion that was not, does not keep the
+/// promises on books; nor do two texts under one id.
+pub fn wrong_books()
+    ensures { WrongBooks }
 {}

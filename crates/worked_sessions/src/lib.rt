@@ -1,4 +1,4 @@
-//! worked_sessions: runs that were worked by hand, and meet every premise of the promises.
+//! worked_sessions: runs that were worked by hand, which keep the promises, and runs that do not.
 //!
 //! SUMMARY
 //!
@@ -6,6 +6,10 @@
 //! all, and so does a tape of three nodes, whose letters are heard twice and out of their order. One
 //! session meets the premises of a deletion. On one more tape a node stops while a session of it waits,
 //! starts again, and is lost as the sink fails.
+//!
+//! A promise that nothing breaks promises nothing either. For each promise there is a wrong run here of
+//! which it is false, whoever chooses the sessions, the messages, their ids and the nodes that the
+//! promise speaks of: `wrong_stores`, `wrong_readers`, `wrong_books`.
 //!
 //! STANDS ON
 //!

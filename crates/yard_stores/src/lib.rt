@@ -30,7 +30,5 @@
 #![tactic(auto)]
 
 mod stores;
-#[cfg(test)]
-mod tests;
 
 pub use stores::{TakeFault, give_back_all, take_stores};

@@ -1,5 +1,5 @@
 //! A call is asked for.
-ghost use Rattle.std.specs.Prelude.{◌≡◌, ◌+◌, ◌≤◌, ◌++◌, ℕ, [], length, None, IfOk, if◌then◌else◌};
+ghost use Rattle.std.specs.Prelude.{◌≡◌, ◌+◌, ◌≤◌, ◌<◌, ◌^◌, ◌++◌, ℕ, [], length, None, IfOk, OnOk, OnErr, if◌then◌else◌};
 ghost use Rattle.node_store.specs.Disks.{view_of};
 ghost use Rattle.node_tickets.specs.Seen.{ask_seen};
 ghost use Rattle.world_book.specs.Books.{entries_of as all_of, spare_of};
@@ -7,8 +7,9 @@ ghost use Rattle.cluster_world.specs.Flights.{InFlight};
 ghost use Rattle.cluster_world.specs.Lives.{all_falls_left, CanWorkOn};
 ghost use Rattle.cluster_world.specs.Worlds.{state_with, life_among};
 ghost use Rattle.cluster_world.specs.Turns.{node_refusal};
-ghost use Rattle.cluster_world.specs.Asking.{IsUpWhole, AreForTicket, confirms, AsksNode};
+ghost use Rattle.cluster_world.specs.Asking.{IsUpWhole, IsDoneAt, AreForTicket, confirms, AsksNode};
 ghost use Rattle.cluster_world.specs.Steps.{StepDid, AreSettled};
+ghost use Rattle.cluster_world.specs.Sure.{IsSurelyDone};
 ghost use Rattle.cluster_world.specs.declared.step.Step.TheVariants as step;
 
 use crate::entries::entries_of;
@@ -39,7 +40,8 @@ pub(crate) fn node_of(ticket: &Ticket) -> NodeNo
 // What the book is to say, should the ticket be done.
 fn entries_at(alloc: Global, life: &Life, ticket: &Ticket) -> Result<Vec<Entry>, AllocError>
     requires up { IsUpWhole life.now }
-    ensures { IfOk result (λ entries. AreForTicket ticket.now life.now entries.items) }
+    ensures fit { IfOk result (λ entries. AreForTicket ticket.now life.now entries.items) }
+    ensures done { OnErr result (IsDoneAt ticket.now life.now) }
 {
     match life {
         Life::Up(node) => {
@@ -49,7 +51,7 @@ fn entries_at(alloc: Global, life: &Life, ticket: &Ticket) -> Result<Vec<Entry>,
                 Ok(Vec::new(alloc))
             }
         }
-        Life::Down | Life::Lost => Ok(Vec::new(alloc)),
+        Life::Down | Life::Lost => unreachable!(),
     }
 }
 
@@ -60,7 +62,7 @@ pub(crate) fn ask_at(life: &mut Life, ticket: &Ticket) -> Option<Ask>
 {
     match life {
         Life::Up(node) => node.ask(ticket_of(ticket)),
-        Life::Down | Life::Lost => None,
+        Life::Down | Life::Lost => unreachable!(),
     }
 }
 
@@ -81,6 +83,21 @@ fn confirms(ask: &Ask) -> bool
     }
 }
 
+// Room for so many entries, and for the falls of all nodes. Where there are no entries it takes no memory.
+fn make_room(book: &mut Book, count: usize, falls: usize) -> Result<(), AllocError>
+    requires fits { count + falls < 2 ^ 64 }
+    ensures entries { all_of book.new ≡ all_of book.old }
+    ensures spare { (need : ℕ) → need ≤ falls → need ≤ spare_of book.old → OnOk result (need + count ≤ spare_of book.new) }
+    ensures some { OnErr result (1 ≤ count) }
+    ensures same { OnErr result (spare_of book.new ≡ spare_of book.old) }
+{
+    if count == 0 {
+        return Ok(());
+    }
+    book.reserve(count + falls)?;
+    Ok(())
+}
+
 // The book has these entries, where the answer confirms them.
 fn enter(book: &mut Book, ask: &Ask, entries: Vec<Entry>)
     requires room { length entries.items ≤ spare_of book.old }
@@ -92,7 +109,8 @@ fn enter(book: &mut Book, ask: &Ask, entries: Vec<Entry>)
     }
 }
 
-/// Asks what became of a call. One that is done ends, and the book has what was confirmed.
+/// Asks what became of a call. One that is done ends, and the book has what was confirmed. Where it is not done this takes no
+/// memory.
 pub(crate) fn ask_for<D: Disk>(
     alloc: Global,
     nodes: &mut Nodes<D>,
@@ -103,12 +121,13 @@ pub(crate) fn ask_for<D: Disk>(
     requires ready { CanWorkOn D.seen nodes.old.plan nodes.old.lives.items nodes.old.disks.items }
     requires room { all_falls_left nodes.old.lives.items ≤ spare_of book.old }
     ensures did { (flying : InFlight) (seconds : ℕ) → StepDid (view_of D.seen D.faults D.clock) result (step.Ask ticket.now) (state_with nodes.old flying seconds book.old) (state_with nodes.new flying seconds book.new) }
+    ensures sure { (flying : InFlight) (seconds : ℕ) → IsSurelyDone (state_with nodes.old flying seconds book.old) (step.Ask ticket.now) result }
     ensures ready { CanWorkOn D.seen nodes.new.plan nodes.new.lives.items nodes.new.disks.items }
     ensures settled { (flying : InFlight) (seconds : ℕ) → AreSettled D.settled (state_with nodes.old flying seconds book.old) → AreSettled D.settled (state_with nodes.new flying seconds book.new) }
     ensures room { all_falls_left nodes.new.lives.items ≤ spare_of book.new }
 {
     let entries = entries_at(alloc, nodes.at(node_of(ticket)), ticket)?;
-    book.reserve(entries.len() + nodes.most_falls())?;
+    make_room(book, entries.len(), nodes.most_falls())?;
     let Some(ask) = nodes.ask(ticket) else {
         return Err(StepFault::NoSuchTicket);
     };

@@ -24,6 +24,7 @@ use crate::life::Life;
 use crate::nodes::{Nodes, place_of};
 use crate::sending::send;
 use crate::step::Said;
+use crate::steps::fault::{enter_fall, said_of, takes_down};
 use crate::working::begin_at;
 use call_tickets::Call;
 use io_edge::Disk;
@@ -160,13 +161,24 @@ fn begun(ticket: Option<Ticket>) -> Said
 }
 
 // The book has what was to be deleted, and that the node went down.
-fn enter_fall(book: &mut Book, node: NodeNo, entries: Vec<Entry>)
+fn enter_failure(book: &mut Book, node: NodeNo, entries: Vec<Entry>)
     requires room { length entries.items < spare_of book.old }
     ensures entries { all_of book.new ≡ all_of book.old ++ (entries.items ++ written.Down node ∷ []) }
     ensures spare { spare_of book.new + length entries.items + 1 ≡ spare_of book.old }
 {
     book.add_all(entries);
-    book.add(Entry::Down { node });
+    enter_fall(book, node);
+}
+
+// The book has it, where the node went down.
+fn note_failure(book: &mut Book, node: NodeNo, entries: Vec<Entry>, why: NodeFault)
+    requires room { length entries.items < spare_of book.old }
+    ensures entries { all_of book.new ≡ all_of book.old ++ entries_of_failure node entries.items why }
+    ensures spare { spare_of book.old ≤ spare_of book.new + length entries.items + 1 }
+{
+    if takes_down(why) {
+        enter_failure(book, node, entries);
+    }
 }
 
 // What is said of a call that the node did not begin, or did not end beginning, and what the book has of it.
@@ -181,18 +193,8 @@ fn tell_failure(
     ensures entries { all_of book.new ≡ all_of book.old ++ entries_of_failure node entries.items why }
     ensures spare { spare_of book.old ≤ spare_of book.new + length entries.items + 1 }
 {
-    match why {
-        NodeFault::Disk => {
-            enter_fall(book, node, entries);
-            Ok(Said::Faulted(node))
-        }
-        NodeFault::Worn => Err(StepFault::Worn),
-        NodeFault::NoMemory { down: true } => {
-            enter_fall(book, node, entries);
-            Err(StepFault::NoMemory { down: Some(node) })
-        }
-        NodeFault::NoMemory { down: false } => Err(StepFault::NoMemory { down: None }),
-    }
+    note_failure(book, node, entries, why);
+    said_of(node, why)
 }
 
 // A call has begun: its letters are put in flight. Where there is no memory for them the node goes down.
@@ -215,7 +217,7 @@ fn go_on<D: Disk>(
 {
     if send_some(alloc, nodes, flying, letters).is_err() {
         nodes.turn(node, Life::Down);
-        enter_fall(book, node, entries);
+        enter_failure(book, node, entries);
         return Err(StepFault::NoMemory { down: Some(node) });
     }
     book.add_all(entries);

@@ -6,6 +6,7 @@ ghost use Rattle.world_book.specs.declared.book.Book.{Book as ABook};
 ghost use Rattle.cluster_world.specs.Lives.{all_falls_left, CanWorkOn};
 ghost use Rattle.cluster_world.specs.Worlds.{state_with};
 ghost use Rattle.cluster_world.specs.Steps.{StepDid, AreSettled};
+ghost use Rattle.cluster_world.specs.Sure.{IsSurelyDone};
 ghost use Rattle.cluster_world.specs.declared.step.Step.TheVariants as step;
 
 use crate::fault::StepFault;
@@ -32,6 +33,7 @@ pub(crate) fn drop_letter<D: Disk>(
 ) -> Result<Said, StepFault>
     requires ready { CanWorkOn D.seen nodes.old.plan nodes.old.lives.items nodes.old.disks.items }
     ensures did { (seconds : ℕ) (book : ABook) → StepDid (view_of D.seen D.faults D.clock) result (step.Drop number) (state_with nodes.old flying.old seconds book) (state_with nodes.new flying.new seconds book) }
+    ensures sure { (seconds : ℕ) (book : ABook) → IsSurelyDone (state_with nodes.old flying.old seconds book) (step.Drop number) result }
     ensures ready { CanWorkOn D.seen nodes.new.plan nodes.new.lives.items nodes.new.disks.items }
     ensures settled { (seconds : ℕ) (book : ABook) → AreSettled D.settled (state_with nodes.old flying.old seconds book) → AreSettled D.settled (state_with nodes.new flying.new seconds book) }
     ensures room { all_falls_left nodes.new.lives.items ≡ all_falls_left nodes.old.lives.items }

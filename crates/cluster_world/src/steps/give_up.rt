@@ -7,6 +7,7 @@ ghost use Rattle.cluster_world.specs.Worlds.{state_with, life_among};
 ghost use Rattle.cluster_world.specs.Turns.{node_refusal};
 ghost use Rattle.cluster_world.specs.Asking.{IsUpWhole, IsRetold, TicketStands, tickets_without};
 ghost use Rattle.cluster_world.specs.Steps.{StepDid, AreSettled};
+ghost use Rattle.cluster_world.specs.Sure.{IsSurelyDone};
 ghost use Rattle.cluster_world.specs.declared.step.Step.TheVariants as step;
 
 use crate::fault::StepFault;
@@ -25,7 +26,7 @@ fn stands_at(life: &Life, ticket: &Ticket) -> bool
 {
     match life {
         Life::Up(node) => node.kind(ticket_of(ticket)).is_some(),
-        Life::Down | Life::Lost => false,
+        Life::Down | Life::Lost => unreachable!(),
     }
 }
 
@@ -38,7 +39,7 @@ pub(crate) fn give_up_at(life: &mut Life, ticket: &Ticket)
         Life::Up(node) => {
             node.give_up(ticket_of(ticket));
         }
-        Life::Down | Life::Lost => {}
+        Life::Down | Life::Lost => unreachable!(),
     }
 }
 
@@ -51,6 +52,7 @@ pub(crate) fn give_up_call<D: Disk>(
     requires fit { node_refusal nodes.old.plan (life_among nodes.old) (step.GiveUp ticket.now) ≡ None }
     requires ready { CanWorkOn D.seen nodes.old.plan nodes.old.lives.items nodes.old.disks.items }
     ensures did { (seconds : ℕ) (book : ABook) → StepDid (view_of D.seen D.faults D.clock) result (step.GiveUp ticket.now) (state_with nodes.old flying.now seconds book) (state_with nodes.new flying.now seconds book) }
+    ensures sure { (seconds : ℕ) (book : ABook) → IsSurelyDone (state_with nodes.old flying.now seconds book) (step.GiveUp ticket.now) result }
     ensures ready { CanWorkOn D.seen nodes.new.plan nodes.new.lives.items nodes.new.disks.items }
     ensures settled { (seconds : ℕ) (book : ABook) → AreSettled D.settled (state_with nodes.old flying.now seconds book) → AreSettled D.settled (state_with nodes.new flying.now seconds book) }
     ensures falls { all_falls_left nodes.new.lives.items ≡ all_falls_left nodes.old.lives.items }

@@ -8,7 +8,7 @@ ghost use Rattle.cluster_world.specs.Flights.{taken_out};
 ghost use Rattle.cluster_world.specs.Lives.{is_up_life, all_falls_left, CanWorkOn};
 ghost use Rattle.cluster_world.specs.Worlds.{life_among, state_with};
 ghost use Rattle.cluster_world.specs.Changes.{ChangesNode, IsTurnedTo};
-ghost use Rattle.cluster_world.specs.Posts.{out_of, HearsAtNode, mishap_of_thrown, mishap_of, IsEntered, IsNotedIf, AnswersSent, EndsHeard, EndsStopped, EndsPost};
+ghost use Rattle.cluster_world.specs.Posts.{out_of, HearsAtNode, mishap_of_thrown, mishap_of, IsEntered, IsNotedIf, AnswersSent, EndsHeard, LeavesIfFailed, EndsStopped, EndsPost};
 ghost use Rattle.cluster_world.specs.Steps.{StepDid, AreSettled};
 ghost use Rattle.cluster_world.specs.declared.life.Life.TheVariants as lives;
 ghost use Rattle.cluster_world.specs.declared.step.Step.TheVariants as step;
@@ -21,13 +21,14 @@ use crate::mishaps::note_in;
 use crate::nodes::{Nodes, place_of};
 use crate::sending::send;
 use crate::step::Said;
+use crate::steps::fault::{enter_fall, note_fall, said_of};
 use crate::working::hear_at;
 use io_edge::Disk;
 use mail_base::{Letter, NodeNo};
 use node_core::{NodeFault, Outbox, Why};
 use node_tickets::MishapKind;
 use std::alloc::{AllocError, Global};
-use world_book::{Book, Entry};
+use world_book::Book;
 
 /// To whom a letter goes.
 fn receiver_of(letter: &Letter) -> NodeNo
@@ -60,14 +61,6 @@ fn leave(flying: &mut Flying, posted: Option<u64>)
     if let Some(number) = posted {
         flying.take(number);
     }
-}
-
-/// The book has that the node went down. It takes no memory.
-fn enter_fall(book: &mut Book, node: NodeNo)
-    requires room { 0 < spare_of book.old }
-    ensures { IsEntered node book.old book.new }
-{
-    book.add(Entry::Down { node });
 }
 
 /// The receiver, which is up, hears the letter.
@@ -178,6 +171,16 @@ fn end_heard<D: Disk>(
     }
 }
 
+/// The letter leaves with a disk fault, if one is named. It takes no memory.
+fn leave_if_failed(flying: &mut Flying, posted: Option<u64>, fault: NodeFault)
+    ensures { LeavesIfFailed posted fault flying.old flying.new }
+{
+    match fault {
+        NodeFault::Disk => leave(flying, posted),
+        NodeFault::Worn | NodeFault::NoMemory { .. } => {}
+    }
+}
+
 /// A letter in whose hearing the receiver's work stopped: it leaves with a disk fault alone.
 fn end_stopped(
     flying: &mut Flying,
@@ -189,19 +192,9 @@ fn end_stopped(
     requires room { 0 < spare_of book.old }
     ensures { EndsStopped node posted fault result flying.old book.old flying.new book.new }
 {
-    match fault {
-        NodeFault::Disk => {
-            enter_fall(book, node);
-            leave(flying, posted);
-            Ok(Said::Faulted(node))
-        }
-        NodeFault::Worn => Err(StepFault::Worn),
-        NodeFault::NoMemory { down: true } => {
-            enter_fall(book, node);
-            Err(StepFault::NoMemory { down: Some(node) })
-        }
-        NodeFault::NoMemory { down: false } => Err(StepFault::NoMemory { down: None }),
-    }
+    note_fall(book, node, fault);
+    leave_if_failed(flying, posted, fault);
+    said_of(node, fault)
 }
 
 /// What is made of a letter that was handed to its receiver.

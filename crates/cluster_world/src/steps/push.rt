@@ -60,7 +60,7 @@ fn is_crowded_at(
 {
     match life {
         Life::Up(node) => node.is_crowded(alloc, to, most, room),
-        Life::Down | Life::Lost => Ok(false),
+        Life::Down | Life::Lost => unreachable!(),
     }
 }
 

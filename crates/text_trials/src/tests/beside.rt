@@ -1,8 +1,8 @@
 // Rows that were worked by hand, against the plain functions.
 use mail_model::plain::{Fate, Id, Stamp, id_text};
 use mail_plain::{
-    Entry, Item, PopCommand, PopFault, Record, SmtpCommand, SmtpFault, answers_to, lines_to,
-    marked_ids, messages, pop_command, sent, slots, slots_after, smtp_command, unmarked,
+    Entry, Item, Record, answers_to, lines_to, marked_ids, messages, sent, slots, slots_after,
+    unmarked,
 };
 use std::alloc::{AllocError, Global};
 use std::test::Fail;
@@ -52,106 +52,33 @@ fn shown(alloc: Global, items: &[Item]) -> Result<Vec<u8>, AllocError> {
     Ok(text)
 }
 
-#[test]
-fn reads_smtp(rt: HostRuntime) -> Result<(), Fail> {
-    let bad = Err(SmtpFault::BadArgument);
-    let lines: [(&[u8], Result<SmtpCommand, SmtpFault>); 16] = [
-        (
-            b"HELO c.example",
-            Ok(SmtpCommand::Helo { name: b"c.example" }),
-        ),
-        (
-            b"helo  c.example \t",
-            Ok(SmtpCommand::Helo { name: b"c.example" }),
-        ),
-        (
-            b"MAIL FROM:<bob@b.example>",
-            Ok(SmtpCommand::Mail {
-                sender: b"bob@b.example",
-            }),
-        ),
-        (
-            b"mail  from: <@a,@b:bob>",
-            Ok(SmtpCommand::Mail { sender: b"bob" }),
-        ),
-        (b"MAIL FROM:<>", Ok(SmtpCommand::Mail { sender: b"" })),
-        (b"MAIL FROM:<@a:>", bad),
-        (b"MAIL FROM:<a>b>", bad),
-        (b"MAIL FROM:<a> x", bad),
-        (b"RCPT TO:<u101>", Ok(SmtpCommand::Rcpt { path: b"u101" })),
-        (b"RCPT TO:<>", bad),
-        (b"DATA", Ok(SmtpCommand::Data)),
-        (b"DATA x", bad),
-        (b"quit ", Ok(SmtpCommand::Quit)),
-        (b"HELO a b", bad),
-        (b" QUIT", Err(SmtpFault::UnknownVerb)),
-        (b"Subject: hi", Err(SmtpFault::UnknownVerb)),
-    ];
-    for (at, (line, wanted)) in lines.iter().enumerate() {
-        assert_eq!(rt; smtp_command(rt.alloc(), line)?, *wanted, "at {at}");
-    }
-    Ok(())
+// What the lines of a tape send to the session.
+fn sends(alloc: Global, session: u64, tape: &[u8]) -> Result<Vec<u8>, AllocError> {
+    sent(alloc, session, &cut(alloc, tape)?)
 }
 
-#[test]
-fn reads_pop(rt: HostRuntime) -> Result<(), Fail> {
-    let bad = Err(PopFault::BadArgument);
-    let lines: [(&[u8], Result<PopCommand, PopFault>); 16] = [
-        (b"USER alice", Ok(PopCommand::User { name: b"alice" })),
-        (b"USER @lice", bad),
-        (
-            b"PASS tanstaaf",
-            Ok(PopCommand::Pass {
-                secret: b"tanstaaf",
-            }),
-        ),
-        (
-            b"pass open  sesame ",
-            Ok(PopCommand::Pass {
-                secret: b"open  sesame ",
-            }),
-        ),
-        (b"PASS ", bad),
-        (b"STAT", Ok(PopCommand::Stat)),
-        (b"STAT 1", bad),
-        (b"LIST", Ok(PopCommand::List { number: None })),
-        (b"uidl 2", Ok(PopCommand::Uidl { number: Some(2) })),
-        (b"RETR  1 ", Ok(PopCommand::Retr { number: 1 })),
-        (b"RETR 1 2", bad),
-        (b"RETR", bad),
-        (
-            b"DELE 4294967295",
-            Ok(PopCommand::Dele { number: u32::MAX }),
-        ),
-        (b"DELE 4294967296", Err(PopFault::BadNumber)),
-        (b"QUIT", Ok(PopCommand::Quit)),
-        (b"CAPA", Err(PopFault::UnknownVerb)),
-    ];
-    for (at, (line, wanted)) in lines.iter().enumerate() {
-        assert_eq!(rt; pop_command(rt.alloc(), line)?, *wanted, "at {at}");
-    }
-    Ok(())
-}
+const TAPE: &[u8] =
+    b"open smtp 1\nsay 1 HELO c.example\nsay 1 MAIL FROM:<bob@b.example>\nsay 1 RCPT TO:<alice>\nsay 1 DATA\nsay 1 Subject: hi\nsay 1\nsay 1 hello\nsay 1 .\nsay 1 QUIT\nend";
+
+const FED: &[u8] =
+    b"open smtp 1\nsay 1 DATA\r\nfeed 1 2e2e0d0a2e610d0a780a2e0a790d0a2e0d0a\nfeed 1 2\nfeed 2 41\ngiveup 2\nwiden 1 alice 1.1.1 2\nsay 2  b\ncrash 1\nstart 1\nlose 2\npost 2\nagain 2\ndrop 2\nflow\npush 1\nclose 2\nsay x";
 
 #[test]
 fn sends_what_a_tape_says(rt: HostRuntime) -> Result<(), Fail> {
-    let tape = cut(
-        rt.alloc(),
-        b"open smtp 1\nsay 1 HELO c.example\nsay 1 MAIL FROM:<bob@b.example>\nsay 1 RCPT TO:<alice>\nsay 1 DATA\nsay 1 Subject: hi\nsay 1\nsay 1 hello\nsay 1 .\nsay 1 QUIT\nend",
-    )?;
-    assert!(rt;
-        sent(rt.alloc(), 1, &tape)?.as_slice()
-            == b"HELO c.example\r\nMAIL FROM:<bob@b.example>\r\nRCPT TO:<alice>\r\nDATA\r\nSubject: hi\r\n\r\nhello\r\n.\r\nQUIT\r\n".as_slice()
-    );
-    assert!(rt; sent(rt.alloc(), 2, &tape)?.is_empty());
-    let fed = cut(
-        rt.alloc(),
-        b"open smtp 1\nsay 1 DATA\r\nfeed 1 2e2e0d0a2e610d0a780a2e0a790d0a2e0d0a\nfeed 1 2\nfeed 2 41\ngiveup 2\nwiden 1 alice 1.1.1 2\nsay 2  b\ncrash 1\nstart 1\nlose 2\npost 2\nagain 2\ndrop 2\nflow\npush 1\nclose 2\nsay x",
-    )?;
-    assert!(rt;
-        sent(rt.alloc(), 1, &fed)?.as_slice() == b"DATA\r\n..\r\n.a\r\nx\n.\ny\r\n.\r\n".as_slice()
-    );
-    assert!(rt; sent(rt.alloc(), 2, &fed)?.as_slice() == b"A b\r\n".as_slice());
+    let cases: [(u64, &[u8], &[u8]); 4] = [
+        (
+            1,
+            TAPE,
+            b"HELO c.example\r\nMAIL FROM:<bob@b.example>\r\nRCPT TO:<alice>\r\nDATA\r\nSubject: hi\r\n\r\nhello\r\n.\r\nQUIT\r\n",
+        ),
+        (2, TAPE, b""),
+        (1, FED, b"DATA\r\n..\r\n.a\r\nx\n.\ny\r\n.\r\n"),
+        (2, FED, b"A b\r\n"),
+    ];
+    for (at, (session, tape, wanted)) in cases.iter().enumerate() {
+        let octets = sends(rt.alloc(), *session, tape)?;
+        assert!(rt; octets.as_slice() == *wanted, "at {at}");
+    }
     Ok(())
 }
 
@@ -169,13 +96,8 @@ fn copy(user: &[u8], id: Id, fate: Fate) -> Record<'_> {
     }
 }
 
-// What the records list of the user.
-fn listed(alloc: Global, user: &[u8], records: &[Record<'_>]) -> Result<Vec<u8>, AllocError> {
-    shown(alloc, &messages(alloc, user, records)?)
-}
-
-#[test]
-fn lists_messages(rt: HostRuntime) -> Result<(), Fail> {
+// What the first records list of the user.
+fn listed(alloc: Global, user: &[u8], count: usize) -> Result<Vec<u8>, AllocError> {
     let records = [
         Record::Boot { boot: 1 },
         octets(FIRST, STORED),
@@ -186,18 +108,26 @@ fn lists_messages(rt: HostRuntime) -> Result<(), Fail> {
         copy(b"alice", FIRST, Fate::Gone),
         copy(b"alice", FIRST, Fate::Here),
     ];
-    let before = &records[..6];
-    assert!(rt;
-        listed(rt.alloc(), b"alice", before)?.as_slice() == b"1.1.1 151|1.1.2 2|".as_slice()
-    );
-    assert!(rt; listed(rt.alloc(), b"alice", &records)?.as_slice() == b"1.1.2 2|".as_slice());
-    assert!(rt; listed(rt.alloc(), b"bob", &records)?.as_slice() == b"1.1.2 2|".as_slice());
-    assert!(rt; listed(rt.alloc(), b"carol", &records)?.is_empty());
-    Ok(())
+    shown(alloc, &messages(alloc, user, &records[..count.min(8)])?)
 }
 
 #[test]
-fn marks_messages(rt: HostRuntime) -> Result<(), Fail> {
+fn lists_messages(rt: HostRuntime) -> Result<(), Fail> {
+    let cases: [(&[u8], usize, &[u8]); 4] = [
+        (b"alice", 6, b"1.1.1 151|1.1.2 2|"),
+        (b"alice", 8, b"1.1.2 2|"),
+        (b"bob", 8, b"1.1.2 2|"),
+        (b"carol", 8, b""),
+    ];
+    for (at, (user, count, wanted)) in cases.iter().enumerate() {
+        let text = listed(rt.alloc(), user, *count)?;
+        assert!(rt; text.as_slice() == *wanted, "at {at}");
+    }
+    Ok(())
+}
+
+// The messages that are not marked once these lines were heard, which `|` parts, and how many are marked.
+fn left(alloc: Global, lines: &[u8]) -> Result<(Vec<u8>, usize), AllocError> {
     let items = [
         Item {
             id: FIRST,
@@ -208,27 +138,32 @@ fn marks_messages(rt: HostRuntime) -> Result<(), Fail> {
             size: 2,
         },
     ];
-    let fresh = slots(rt.alloc(), &items)?;
-    assert!(rt; marked_ids(rt.alloc(), &fresh)?.is_empty());
-    let none = slots_after(rt.alloc(), &fresh, b"DELE 3")?;
-    assert!(rt;
-        shown(rt.alloc(), &unmarked(rt.alloc(), &none)?)?.as_slice()
-            == b"1.1.1 151|1.1.2 2|".as_slice()
-    );
-    let first = slots_after(rt.alloc(), &none, b"dele 1 ")?;
-    assert!(rt;
-        shown(rt.alloc(), &unmarked(rt.alloc(), &first)?)?.as_slice() == b"1.1.2 2|".as_slice()
-    );
-    let same = slots_after(rt.alloc(), &first, b"RETR 2")?;
-    assert!(rt; marked_ids(rt.alloc(), &same)?.len() == 1);
-    let both = slots_after(rt.alloc(), &same, b"DELE 2")?;
-    assert!(rt; unmarked(rt.alloc(), &both)?.is_empty());
-    assert!(rt; marked_ids(rt.alloc(), &both)?.len() == 2);
-    Ok(())
+    let mut places = slots(alloc, &items)?;
+    for line in lines.split(|x| *x == b'|') {
+        places = slots_after(alloc, &places, line)?;
+    }
+    let marked = marked_ids(alloc, &places)?.len();
+    Ok((shown(alloc, &unmarked(alloc, &places)?)?, marked))
 }
 
 #[test]
-fn shows_what_sessions_got(rt: HostRuntime) -> Result<(), Fail> {
+fn marks_messages(rt: HostRuntime) -> Result<(), Fail> {
+    let cases: [(&[u8], &[u8], usize); 5] = [
+        (b"", b"1.1.1 151|1.1.2 2|", 0),
+        (b"DELE 3", b"1.1.1 151|1.1.2 2|", 0),
+        (b"DELE 3|dele 1 ", b"1.1.2 2|", 1),
+        (b"DELE 3|dele 1 |RETR 2", b"1.1.2 2|", 1),
+        (b"DELE 3|dele 1 |RETR 2|DELE 2", b"", 2),
+    ];
+    for (at, (lines, wanted, count)) in cases.iter().enumerate() {
+        let (text, marked) = left(rt.alloc(), lines)?;
+        assert!(rt; text.as_slice() == *wanted && marked == *count, "at {at}");
+    }
+    Ok(())
+}
+
+// The lines that the session got, and after `/` the last ones of its replies.
+fn shows(alloc: Global, session: u64) -> Result<Vec<u8>, AllocError> {
     let entries = [
         Entry::Said {
             session: 1,
@@ -256,20 +191,25 @@ fn shows_what_sessions_got(rt: HostRuntime) -> Result<(), Fail> {
             text: b"line 7 BadLine",
         },
     ];
-    let lines = lines_to(rt.alloc(), 1, &entries)?;
-    assert!(rt;
-        joined(rt.alloc(), &lines)?.as_slice()
-            == b"220 node1 Porcupine ready|250-node1|250 HELP|421 node1 down|".as_slice()
-    );
-    let answers = answers_to(rt.alloc(), 1, &entries)?;
-    assert!(rt;
-        joined(rt.alloc(), &answers)?.as_slice()
-            == b"220 node1 Porcupine ready|250 HELP|".as_slice()
-    );
-    assert!(rt;
-        joined(rt.alloc(), &lines_to(rt.alloc(), 2, &entries)?)?.as_slice()
-            == b"+OK 1 151|".as_slice()
-    );
-    assert!(rt; lines_to(rt.alloc(), 3, &entries)?.is_empty());
+    let mut text = joined(alloc, &lines_to(alloc, session, &entries)?)?;
+    text.push(b'/')?;
+    text.extend_from_slice(&joined(alloc, &answers_to(alloc, session, &entries)?)?)?;
+    Ok(text)
+}
+
+#[test]
+fn shows_what_sessions_got(rt: HostRuntime) -> Result<(), Fail> {
+    let cases: [(u64, &[u8]); 3] = [
+        (
+            1,
+            b"220 node1 Porcupine ready|250-node1|250 HELP|421 node1 down|/220 node1 Porcupine ready|250 HELP|",
+        ),
+        (2, b"+OK 1 151|/+OK 1 151|"),
+        (3, b"/"),
+    ];
+    for (at, (session, wanted)) in cases.iter().enumerate() {
+        let text = shows(rt.alloc(), *session)?;
+        assert!(rt; text.as_slice() == *wanted, "at {at}");
+    }
     Ok(())
 }

@@ -1,4 +1,4 @@
-use Rattle.std.proofs.Common.{refl, sym, ◌∙◌, ⊎_elim}
+use Rattle.std.proofs.Common.{refl}
 use Rattle.cluster_world.proofs.working.begin_at.Goals as goal
 
 pub returns-clause-turns : goal.returns-clause-turns
@@ -9,6 +9,3 @@ returns-clause-turns g c = record {
   did = c.begin-done.ensures.begins;
   is = c.settle.ensures _ refl;
 }
-
-pub returns-in-Down-clause-turns : goal.returns-in-Down-clause-turns
-returns-in-Down-clause-turns g c = absurd (⊎_elim (λ down. let never = sym down ∙ c.requires.up.1 in cc) (λ lost. let never = sym lost ∙ c.requires.up.1 in cc) c.in-Down.is)

@@ -3,8 +3,7 @@ use Rattle.mail_model.specs.Tape.{ClusterOrder as order}
 use Rattle.node_store.specs.Disks.{view_of}
 use Rattle.cluster_world.specs.Steps.{IsStep}
 use Rattle.cluster_world.specs.Sure.{IsSurelyDone}
-use Rattle.cluster_world.specs.Turns.{node_refusal}
-use Rattle.cluster_world.specs.Worlds.{plan_of, life_of}
+use Rattle.cluster_world.specs.Worlds.{state_of, plan_of}
 use Rattle.cluster_world.specs.declared.step.Step.TheVariants.{Lose}
 use Rattle.cluster_world.specs.declared.step.Said.TheVariants.{Done}
 use Rattle.drive_tape.specs.declared.event.ClusterEvent.TheVariants.{WasLost}
@@ -22,5 +21,5 @@ returns-in-Ok-Done-clause-moved g c start outcomes awaited been fit =
 pub returns-clause-moved : goal.returns-clause-moved
 returns-clause-moved g c start outcomes awaited been fit =
     let w = c.args.world.now in
-    let sure = subst (λ r. IsSurelyDone (Lose c.args.node) r (node_refusal (plan_of w) (life_of w) (Lose c.args.node))) c.in-Err.is c.step.ensures.sure in
+    let sure = subst (λ r. IsSurelyDone (state_of w) (Lose c.args.node) r) c.in-Err.is c.step.ensures.sure in
     absurd (never_both _ c.in-Err.fault (loss_fits (plan_of w) been w c.args.node fit.lives fit.accepted) sure)

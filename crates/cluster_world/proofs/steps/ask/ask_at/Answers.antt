@@ -4,8 +4,8 @@ use Rattle.node_core.specs.Nodes.{node_seen, ChangesTickets}
 use Rattle.node_core.specs.Standing.{ticket_standing}
 use Rattle.cluster_world.proofs.steps.ask.ask_at.Goals as goal
 
-pub returns-in-Up : goal.returns-in-Up
-returns-in-Up c =
+pub returns : goal.returns
+returns c =
     let node = c.in-Up.node in
     record {
       old = node;

@@ -1,15 +1,17 @@
-use Rattle.std.proofs.Common.{◌≡◌, ◌∙◌, [], ◌++◌, ap, subst, sym, arith, if◌then◌else◌}
+use Rattle.std.proofs.Common.{◌≡◌, ◌≤◌, ◌∙◌, [], ◌++◌, length, None, Err, refl, ap, subst, sym, arith, if◌then◌else◌}
 use Rattle.std.proofs.lemmas.Result.{err_from_is_err_and}
 use Rattle.node_store.specs.Disks.{view_of}
 use Rattle.node_tickets.specs.Seen.{ask_seen}
 use Rattle.cluster_world.specs.Asking.{AreForTicket, confirms}
 use Rattle.cluster_world.specs.Books.{entries_seen}
-use Rattle.cluster_world.specs.Lives.{of_node}
+use Rattle.cluster_world.specs.Lives.{of_node, all_falls_left}
 use Rattle.cluster_world.proofs.Still.{some_same}
 use Rattle.cluster_world.specs.Worlds.{state_with}
+use Rattle.cluster_world.specs.Sure.{IsSurelyDone}
 use Rattle.cluster_world.specs.declared.step.Step.TheVariants as step
+use Rattle.cluster_world.specs.declared.fault.StepFault.TheVariants as fault
 use Rattle.cluster_world.proofs.Same.{none_done}
-use Rattle.cluster_world.proofs.Asked.{asked_did, none_stood, asked_room, asked_ready, asked_settled, up_whole, if_there, same_book}
+use Rattle.cluster_world.proofs.Asked.{asked_did, none_stood, asked_room, asked_ready, asked_settled, up_whole, if_there, same_book, done_in_world, entries_done}
 use Rattle.cluster_world.proofs.steps.ask.ask_for.Goals as goal
 
 pub entries_at-requires : goal.entries_at-requires
@@ -23,12 +25,12 @@ returns-in_err-entries-clause-did g c = λ flying seconds.
     let p = err_from_is_err_and c.from_residual.result c.from_residual.ensures.1 in
     rw (p.1, p.2) (none_done on s (step.Ask c.args.ticket.now))
 
-pub returns-in_err-reserve-clause-did : goal.returns-in_err-reserve-clause-did
-returns-in_err-reserve-clause-did g c = λ flying seconds.
+pub returns-in_err-make_room-clause-did : goal.returns-in_err-make_room-clause-did
+returns-in_err-make_room-clause-did g c = λ flying seconds.
     let on = view_of g.D.Disk.seen g.D.Disk.faults g.D.Disk.clock in
     let s = state_with c.args.nodes.now flying seconds c.args.book.now in
-    let p = err_from_is_err_and c.from_residual-in_err-reserve.result c.from_residual-in_err-reserve.ensures.1 in
-    rw (p.1, p.2) (same_book on _ (step.Ask c.args.ticket.now) c.args.nodes.now c.args.nodes.now flying seconds c.args.book.now c.reserve.new.self c.reserve.ensures.entries (none_done on s (step.Ask c.args.ticket.now)))
+    let p = err_from_is_err_and c.from_residual-in_err-make_room.result c.from_residual-in_err-make_room.ensures.1 in
+    rw (p.1, p.2) (same_book on _ (step.Ask c.args.ticket.now) c.args.nodes.now c.args.nodes.now flying seconds c.args.book.now c.make_room.new.book c.make_room.ensures.entries (none_done on s (step.Ask c.args.ticket.now)))
 
 pub ask-requires-clause-up : goal.ask-requires-clause-up
 ask-requires-clause-up g c =
@@ -38,7 +40,7 @@ ask-requires-clause-up g c =
 pub returns-in_default-clause-did : goal.returns-in_default-clause-did
 returns-in_default-clause-did g c = λ flying seconds.
     none_stood (view_of g.D.Disk.seen g.D.Disk.faults g.D.Disk.clock) c.args.ticket.now c.ask.result c.args.nodes.now c.ask.new.self c.requires.fit c.requires.ready c.ask.ensures
-    flying seconds c.args.book.now c.reserve.new.self c.in_default.is (ap entries_seen c.reserve.ensures.entries)
+    flying seconds c.args.book.now c.make_room.new.book c.in_default.is (ap entries_seen c.make_room.ensures.entries)
 
 pub returns-in_default-clause-ready : goal.returns-in_default-clause-ready
 returns-in_default-clause-ready g c =
@@ -47,12 +49,12 @@ returns-in_default-clause-ready g c =
 pub returns-in_default-clause-settled : goal.returns-in_default-clause-settled
 returns-in_default-clause-settled g c = λ flying seconds.
     asked_settled (view_of g.D.Disk.seen g.D.Disk.faults g.D.Disk.clock) c.args.ticket.now c.ask.result c.args.nodes.now c.ask.new.self c.requires.fit c.requires.ready c.ask.ensures
-    flying seconds c.args.book.now c.reserve.new.self g.D.Disk.settled
+    flying seconds c.args.book.now c.make_room.new.book g.D.Disk.settled
 
 pub returns-in_default-clause-room : goal.returns-in_default-clause-room
 returns-in_default-clause-room g c =
     asked_room (view_of g.D.Disk.seen g.D.Disk.faults g.D.Disk.clock) c.args.ticket.now c.ask.result c.args.nodes.now c.ask.new.self c.requires.fit c.requires.ready c.ask.ensures
-    c.args.book.now c.reserve.new.self (omega (arith, c.in_ok-reserve.ensures.spare, c.most_falls.ensures.most))
+    c.args.book.now c.make_room.new.book (omega (arith, c.in_ok-make_room.ensures.spare (all_falls_left c.args.nodes.now.lives.items) c.most_falls.ensures.most c.requires.room))
 
 pub returns-clause-did : goal.returns-clause-did
 returns-clause-did g c = λ flying seconds.
@@ -60,8 +62,8 @@ returns-clause-did g c = λ flying seconds.
     let up : c.at.result.now ≡ _ = some_same c.at.result.now ch.life (sym c.at.ensures ∙ ap (of_node c.args.nodes.now.lives.items) c.node_of.ensures ∙ ch.was) ∙ ch.does.0.was in
     asked_did (view_of g.D.Disk.seen g.D.Disk.faults g.D.Disk.clock) c.args.ticket.now c.ask.result c.args.nodes.now c.ask.new.self c.requires.fit c.requires.ready ch
     flying seconds c.args.book.now c.enter.new.book c.in-Some.ask c.in-Some.is c.in_ok-entries.entries.items
-    (subst (λ l. AreForTicket c.args.ticket.now l c.in_ok-entries.entries.items) up c.in_ok-entries.ensures)
-    (c.enter.ensures.entries ∙ ap (λ b. b ++ (if confirms (ask_seen c.in-Some.ask) then c.in_ok-entries.entries.items else [])) c.reserve.ensures.entries)
+    (subst (λ l. AreForTicket c.args.ticket.now l c.in_ok-entries.entries.items) up c.in_ok-entries.ensures.fit)
+    (c.enter.ensures.entries ∙ ap (λ b. b ++ (if confirms (ask_seen c.in-Some.ask) then c.in_ok-entries.entries.items else [])) c.make_room.ensures.entries)
 
 pub returns-clause-ready : goal.returns-clause-ready
 returns-clause-ready g c =
@@ -76,4 +78,27 @@ pub returns-clause-room : goal.returns-clause-room
 returns-clause-room g c =
     let lives = c.in_ok-entries.entries in
     asked_room (view_of g.D.Disk.seen g.D.Disk.faults g.D.Disk.clock) c.args.ticket.now c.ask.result c.args.nodes.now c.ask.new.self c.requires.fit c.requires.ready c.ask.ensures
-    c.args.book.now c.enter.new.book (omega (arith, c.in_ok-reserve.ensures.spare, c.most_falls.ensures.most, c.enter.ensures.spare, c.len.ensures, lives.ok.0))
+    c.args.book.now c.enter.new.book (omega (arith, c.in_ok-make_room.ensures.spare (all_falls_left c.args.nodes.now.lives.items) c.most_falls.ensures.most c.requires.room, c.enter.ensures.spare, c.len.ensures, lives.ok.0))
+
+pub returns-in_err-entries-clause-sure : goal.returns-in_err-entries-clause-sure
+returns-in_err-entries-clause-sure g c = λ flying seconds.
+    let here : of_node c.args.nodes.now.lives.items c.args.ticket.now.node ≡ _ = ap (of_node c.args.nodes.now.lives.items) (sym c.node_of.ensures) ∙ c.at.ensures in
+    let sure : IsSurelyDone (state_with c.args.nodes.now flying seconds c.args.book.now) (step.Ask c.args.ticket.now) (Err (fault.NoMemory None)) =
+    (refl, done_in_world g.D.Disk.seen c.args.ticket.now c.args.nodes.now flying seconds c.args.book.now c.requires.ready c.at.result.now here c.in_err-entries.ensures.done) in
+    let p = err_from_is_err_and c.from_residual.result c.from_residual.ensures.1 in
+    rw (p.1, p.2) sure
+
+pub returns-in_err-make_room-clause-sure : goal.returns-in_err-make_room-clause-sure
+returns-in_err-make_room-clause-sure g c = λ flying seconds.
+    let here : of_node c.args.nodes.now.lives.items c.args.ticket.now.node ≡ _ = ap (of_node c.args.nodes.now.lives.items) (sym c.node_of.ensures) ∙ c.at.ensures in
+    let some : 1 ≤ length c.in_ok-entries.entries.items = omega (arith, c.in_err-make_room.ensures.some, c.len.ensures) in
+    let sure : IsSurelyDone (state_with c.args.nodes.now flying seconds c.args.book.now) (step.Ask c.args.ticket.now) (Err (fault.NoMemory None)) = (
+      refl,
+      done_in_world g.D.Disk.seen c.args.ticket.now c.args.nodes.now flying seconds c.args.book.now c.requires.ready c.at.result.now here
+          (entries_done c.args.ticket.now c.at.result.now c.in_ok-entries.entries.items c.in_ok-entries.ensures.fit some),
+    ) in
+    let p = err_from_is_err_and c.from_residual-in_err-make_room.result c.from_residual-in_err-make_room.ensures.1 in
+    rw (p.1, p.2) sure
+
+pub returns-in_err-make_room-clause-room : goal.returns-in_err-make_room-clause-room
+returns-in_err-make_room-clause-room g c = omega (arith, c.requires.room, c.in_err-make_room.ensures.same)

@@ -3,8 +3,8 @@ use Rattle.node_core.specs.Nodes.{ChangesTickets}
 use Rattle.cluster_world.specs.Asking.{tickets_without}
 use Rattle.cluster_world.proofs.steps.give_up.give_up_at.Goals as goal
 
-pub returns-in-Up : goal.returns-in-Up
-returns-in-Up c =
+pub returns : goal.returns
+returns c =
     let node = c.in-Up.node in
     record {
       old = node;

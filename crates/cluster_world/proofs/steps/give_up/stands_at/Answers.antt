@@ -3,8 +3,8 @@ use Rattle.node_core.specs.Standing.{ticket_standing}
 use Rattle.cluster_world.proofs.Given.{kind_tells}
 use Rattle.cluster_world.proofs.steps.give_up.stands_at.Goals as goal
 
-pub returns-in-Up : goal.returns-in-Up
-returns-in-Up c =
+pub returns : goal.returns
+returns c =
     let node = c.in-Up.node in
     record {
       node = node;

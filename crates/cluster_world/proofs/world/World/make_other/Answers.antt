@@ -2,8 +2,8 @@ use Rattle.std.proofs.Common.{Ok, sym, subst}
 use Rattle.node_store.specs.Disks.{view_of}
 use Rattle.cluster_world.specs.Worlds.{state_of, state_with}
 use Rattle.cluster_world.specs.Steps.{StepDid}
+use Rattle.cluster_world.specs.Sure.{IsSurelyDone}
 use Rattle.cluster_world.specs.declared.step.Said.TheVariants.{Done}
-use Rattle.cluster_world.proofs.Same.{none_done}
 use Rattle.cluster_world.proofs.world.World.make_other.Goals as goal
 
 pub returns-in-Ask-clause-did : goal.returns-in-Ask-clause-did
@@ -36,9 +36,6 @@ returns-in-Lose-clause-did g c =
     subst (λ s. StepDid (view_of g.D.Disk.seen g.D.Disk.faults g.D.Disk.clock) (Ok Done) s (state_of c.args.self.now) (state_with c.lose_node.new.nodes c.args.self.now.flying c.args.self.now.seconds c.lose_node.new.book))
     (sym c.in-Lose.is) (c.lose_node.ensures.did c.args.self.now.flying c.args.self.now.seconds)
 
-pub returns-in-Begin-clause-did : goal.returns-in-Begin-clause-did
-returns-in-Begin-clause-did g c = none_done _ _ c.args.step.now
-
 pub returns-in-Post-clause-did : goal.returns-in-Post-clause-did
 returns-in-Post-clause-did g c =
     subst (λ s. StepDid (view_of g.D.Disk.seen g.D.Disk.faults g.D.Disk.clock) c.post_letter.result s (state_of c.args.self.now) (state_with c.post_letter.new.nodes c.post_letter.new.flying c.args.self.now.seconds c.post_letter.new.book))
@@ -53,3 +50,15 @@ pub returns-in-Widen-clause-did : goal.returns-in-Widen-clause-did
 returns-in-Widen-clause-did g c =
     subst (λ s. StepDid (view_of g.D.Disk.seen g.D.Disk.faults g.D.Disk.clock) c.widen_copy.result s (state_of c.args.self.now) (state_with c.widen_copy.new.nodes c.args.self.now.flying c.args.self.now.seconds c.widen_copy.new.book))
     (sym c.in-Widen.is) (c.widen_copy.ensures.did c.args.self.now.seconds)
+
+pub returns-in-Ask-clause-sure : goal.returns-in-Ask-clause-sure
+returns-in-Ask-clause-sure g c =
+    subst (λ s. IsSurelyDone (state_of c.args.self.now) s c.ask_for.result) (sym c.in-Ask.is) (c.ask_for.ensures.sure c.args.self.now.flying c.args.self.now.seconds)
+
+pub returns-in-GiveUp-clause-sure : goal.returns-in-GiveUp-clause-sure
+returns-in-GiveUp-clause-sure g c =
+    subst (λ s. IsSurelyDone (state_of c.args.self.now) s c.give_up_call.result) (sym c.in-GiveUp.is) (c.give_up_call.ensures.sure c.args.self.now.seconds c.args.self.now.book)
+
+pub returns-in-Drop-clause-sure : goal.returns-in-Drop-clause-sure
+returns-in-Drop-clause-sure g c =
+    subst (λ s. IsSurelyDone (state_of c.args.self.now) s c.drop_letter.result) (sym c.in-Drop.is) (c.drop_letter.ensures.sure c.args.self.now.seconds c.args.self.now.book)

@@ -1,0 +1,7 @@
+pub mod Answers
+pub mod Faults
+pub mod Keys
+pub mod Owners
+pub mod People
+pub mod Rules
+pub mod Values

@@ -1,0 +1,25 @@
+//! config_trials: tables of plan files, and storms.
+//!
+//! SUMMARY
+//!
+//! Tests of `cluster_config` and `storm_maker` by their public calls: plan files that break each rule, and each pair of
+//! neighbouring rules together; plan files of the greatest size; and the SHA-256 of whole tapes of storms.
+//!
+//! DESCRIPTION
+//!
+//! | File | What it holds against tables |
+//! |---|---|
+//! | `tests/plan_files.rt` | the rule that a plan file breaks first, and the plan of one that keeps all |
+//! | `tests/storms.rt` | tapes of storms, against digests of a program that shares no code with this one |
+//!
+//! STANDS ON
+//!
+//! These crates, by their public calls alone.
+//!
+//! WHAT IT DOES NOT DO
+//!
+//! It is a crate of its own since a crate is proved once more with its tests. Nothing stands on it.
+#![tactic(auto)]
+
+#[cfg(test)]
+mod tests;

@@ -1,0 +1,4 @@
+// Plan files and storms.
+
+mod plan_files;
+mod storms;

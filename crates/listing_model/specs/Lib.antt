@@ -1,4 +1,0 @@
-pub mod Listed
-pub mod Stamps
-pub mod Laws
-pub mod Worked

@@ -1,0 +1,251 @@
+-- The promises to readers are false of what they must not meet.
+use Rattle.std.proofs.Common.{◌≡◌, ◌⊎◌, inl, inr, ℕ, zero, suc, Bool, true, false, List, [], ◌∷◌, ◌++◌, length, flat_map, Option, Some, None, Ok, refl, sym, ap, ◌∙◌, subst, arith, codes, if◌then◌else◌, append-nil}
+use Rattle.std.proofs.lemmas.Option.{none-some}
+use Rattle.std.proofs.lemmas.List.Elements.{All-nil, All-cons}
+use Rattle.mail_model.specs.Identity.{Id, id_text}
+use Rattle.mail_model.specs.Lines.{HasNoCrlf, sent_line}
+use Rattle.mail_model.specs.Listing.{is_same_id}
+use Rattle.mail_model.specs.Maildrop.{wrong_text, entered_text}
+use Rattle.mail_model.specs.Maildrop.LineOutcome.{Answered, AsksLogin}
+use Rattle.mail_model.specs.Pop.{pop_command_of}
+use Rattle.mail_model.specs.Pop.Command.{Quit}
+use Rattle.mail_model.specs.PopReplies.{Item, id_line, one_line, octets_text}
+use Rattle.mail_model.specs.Shown.{HasLine}
+use Rattle.mail_model.specs.Session.{Unit}
+use Rattle.mail_model.specs.Session.Unit.{Line}
+use Rattle.mail_model.specs.Site.{nth_id, nth_stamp}
+use Rattle.mail_model.specs.Stored.{opened, kind_at}
+use Rattle.mail_model.specs.Tape.{Protocol}
+use Rattle.mail_model.specs.Tape.Protocol.{Smtp, Pop}
+use Rattle.mail_model.specs.Told.{sent}
+use Rattle.mail_model.specs.Transcript.{Entry}
+use Rattle.mail_model.proofs.Sessions.{by_number}
+use Rattle.session_model.specs.Calls.Call.{Login, Fetch}
+use Rattle.session_model.specs.Calls.Answer.{Listed, Part}
+use Rattle.session_model.specs.Talk.{TalkState, Lead, Exchange, IsLed, TalkGoes, opening_state, lead_of, line_lead, stands}
+use Rattle.session_model.specs.Talk.TalkState.{Entering, Reading}
+use Rattle.session_model.specs.Talk.Lead.{Asks}
+use Rattle.session_model.specs.Talk.Standing.{Hearing}
+use Rattle.session_model.specs.Reading.{line_of}
+use Rattle.session_model.specs.Readings.{view, views, AreLines}
+use Rattle.session_model.specs.Sessions.{Session, IsSession, AreSessions, session_at}
+use Rattle.session_model.specs.Promises.{ShownAsFiled, ShownOnce}
+use Rattle.session_model.proofs.InOrder.{kind_there}
+use Rattle.session_model.proofs.Readings.{one_reading}
+use Rattle.session_model.proofs.Telling.{quit_was_sent}
+use Rattle.worked_sessions.specs.OneMessage.{small_plan, small_octets, at_once}
+use Rattle.worked_sessions.specs.WrongReaders.{WrongReaders, DeletedNot, reader_lines, reader_entries, gone_records, other_text, small_item, other_reply, filed_small, twice_reply}
+use Rattle.worked_sessions.proofs.Lines.{whole_line, has_alice, idle_line}
+use Rattle.worked_sessions.proofs.OneMessage.{size}
+use Rattle.worked_sessions.proofs.Alike.{shown_at}
+
+-- nobody deleted it
+
+-- the lines that the reader sent
+abbrev fed : List (List ℕ)
+fed = codes "USER alice" ∷ codes "PASS tanstaaf" ∷ codes "DELE 1" ∷ []
+
+fed_lines : AreLines fed
+fed_lines = (whole_line (codes "USER alice") refl, (whole_line (codes "PASS tanstaaf") refl, (whole_line (codes "DELE 1") refl, tt)))
+
+module _ (more : List (List ℕ)) (kinds : opened (reader_lines more) ≡ (Smtp, 1) ∷ (Pop, 1) ∷ []) (sends : sent 2 (reader_lines more) ≡ flat_map sent_line fed ++ []) where
+  second : (k : ℕ) (node : ℕ) → kind_at ((Smtp, 1) ∷ (Pop, 1) ∷ []) k ≡ Some (Pop, node) → k ≡ 2
+  second zero node is = absurd (none-some (Pop, node) is)
+  second (suc zero) node is = absurd (let never : Smtp ≡ Pop = ap (λ (o : Option (Protocol × ℕ)). protocol_of o) is in cc)
+    where
+      protocol_of : Option (Protocol × ℕ) → Protocol
+      protocol_of None = Smtp
+      protocol_of (Some kind) = kind.0
+  second (suc (suc zero)) node is = refl
+  second (suc (suc (suc n))) node is =
+      let never : ◌≡◌ {A = Option (Protocol × ℕ)} None (Some (Pop, node)) = sym (by_number ((Smtp, 1) ∷ (Pop, 1) ∷ []) (suc (suc n))) ∙ is in
+      absurd (none-some (Pop, node) never)
+
+  deleted_not : DeletedNot more
+  deleted_not entries sessions are deleted =
+      let (k, session, ids, quit, at, pop, deletes, within) = deleted.only 0 (codes "alice") (nth_id 1) (gone_records, refl, record { stamp = nth_stamp 2; targets = 1; gone = inr (inr (inr (inl refl))) }) in
+      let kind : kind_at (opened (reader_lines more)) k ≡ Some (session.protocol, session.node) = kind_there (opened (reader_lines more)) [] sessions k session (are.kinds ∙ sym (append-nil _)) at in
+      let is_second : k ≡ 2 = second k session.node (ap (λ (l : List (Protocol × ℕ)). kind_at l k) (sym kinds) ∙ kind ∙ ap (λ (p : Protocol). Some (p, session.node)) pop) in
+      let is : IsSession small_plan (reader_lines more) entries 2 session = are.each 2 session (subst (λ (j : ℕ). session_at sessions j ≡ Some session) is_second at) in
+      no_quit (quit_was_sent small_plan (reader_lines more) entries 2 session deletes.before [] quit fed [] pop is deletes.are deletes.marked.quit sends fed_lines idle_line)
+    where
+      no_quit : (pop_command_of (codes "USER alice") ≡ Ok Quit) ⊎ ((pop_command_of (codes "PASS tanstaaf") ≡ Ok Quit) ⊎ ((pop_command_of (codes "DELE 1") ≡ Ok Quit) ⊎ ⊥)) → ⊥
+      no_quit (inl is) = cc
+      no_quit (inr (inl is)) = cc
+      no_quit (inr (inr (inl is))) = cc
+      no_quit (inr (inr (inr is))) = is
+
+-- what a session was shown, whoever chooses it
+
+-- an exchange of this unit with this reply
+record Found (unit : Unit) (reply : List (List ℕ)) (xs : List Exchange) : Type 0 where
+  pub before : List Exchange
+  pub behind : List Exchange
+  pub one : Exchange
+  pub are : xs ≡ before ++ one ∷ behind
+  pub same_unit : one.unit ≡ unit
+  pub same_reply : one.reply ≡ reply
+
+found_behind : (unit : Unit) (reply : List (List ℕ)) (first : Exchange) (xs : List Exchange) → Found unit reply xs → Found unit reply (first ∷ xs)
+found_behind unit reply first xs f = record { before = first ∷ f.before; behind = f.behind; one = f.one; are = ap (λ (l : List Exchange). first ∷ l) f.are; same_unit = f.same_unit; same_reply = f.same_reply }
+
+found_view : (xs : List Exchange) (front back : List (Unit × List (List ℕ))) (unit : Unit) (line : List ℕ) (lines : List (List ℕ)) → views xs ≡ front ++ (unit, line ∷ lines) ∷ back
+    → Found unit (line ∷ lines) xs
+found_view [] [] back unit line lines e = absurd (omega (arith, ap length e))
+found_view [] (x ∷ front) back unit line lines e = absurd (omega (arith, ap length e))
+found_view (one ∷ xs) front back unit line lines e = by (λ front' e'. found_view xs front' back unit line lines e') one.reply refl front e
+  where
+    by : ((front' : List (Unit × List (List ℕ))) → views xs ≡ front' ++ (unit, line ∷ lines) ∷ back → Found unit (line ∷ lines) xs)
+        → (reply : List (List ℕ)) → one.reply ≡ reply → (front' : List (Unit × List (List ℕ))) → views (one ∷ xs) ≡ front' ++ (unit, line ∷ lines) ∷ back → Found unit (line ∷ lines) (one ∷ xs)
+    by later [] is front' e' = found_behind unit (line ∷ lines) one xs (later front' (sym (ap (λ (r : List (List ℕ)). view one.unit r ++ views xs) is) ∙ e'))
+    by later (first ∷ rest) is [] e' =
+        let whole : (one.unit, first ∷ rest) ∷ views xs ≡ (unit, line ∷ lines) ∷ back = sym (ap (λ (r : List (List ℕ)). view one.unit r ++ views xs) is) ∙ e' in
+        let pair : (one.unit, first ∷ rest) ≡ (unit, line ∷ lines) = cc whole in
+        record {
+          before = [];
+          behind = xs;
+          one = one;
+          are = refl;
+          same_unit = ap (λ (p : Unit × List (List ℕ)). p.0) pair;
+          same_reply = is ∙ ap (λ (p : Unit × List (List ℕ)). p.1) pair;
+        }
+    by later (first ∷ rest) is (x ∷ front') e' =
+        let whole : (one.unit, first ∷ rest) ∷ views xs ≡ x ∷ (front' ++ (unit, line ∷ lines) ∷ back) = sym (ap (λ (r : List (List ℕ)). view one.unit r ++ views xs) is) ∙ e' in
+        found_behind unit (line ∷ lines) one xs (later front' (cc whole))
+
+-- PASS, answered with this listing
+module _ (items : List Item) where
+  abbrev pass : Exchange
+  pass = record { unit = Line (codes "PASS tanstaaf"); call = Some (Login (codes "alice") (codes "tanstaaf")); answer = Some (Listed items); reply = one_line entered_text }
+
+  abbrev named : TalkState
+  named = Entering (Some (codes "alice"))
+
+  pass_leads : lead_of small_plan 1 named (Line (codes "PASS tanstaaf")) ≡ Asks (Login (codes "alice") (codes "tanstaaf"))
+  pass_leads = ap (λ (b : Bool). line_lead [] (if b then AsksLogin (codes "alice") (codes "tanstaaf") else Answered (one_line wrong_text))) has_alice
+
+-- the worked reader that is shown another text
+abbrev uidl : Exchange
+uidl = at_once (codes "UIDL 1") (codes "+OK " ++ id_line 1 small_item)
+
+abbrev retr : Exchange
+retr = record { unit = Line (codes "RETR 1"); call = Some (Fetch (codes "alice") (nth_id 1)); answer = Some (Part (flat_map sent_line other_text)); reply = other_reply }
+
+abbrev misled : Session
+misled = record {
+  protocol = Pop;
+  node = 1;
+  octets = flat_map sent_line (codes "USER alice" ∷ codes "PASS tanstaaf" ∷ codes "UIDL 1" ∷ codes "RETR 1" ∷ []);
+  whole = at_once (codes "USER alice") (codes "+OK send PASS") ∷ pass (small_item ∷ []) ∷ uidl ∷ retr ∷ [];
+  others = [];
+  standing = Hearing (Reading (codes "alice") (record { item = small_item; marked = false } ∷ []));
+  rest = [];
+}
+
+shows_part : IsLed (Asks (Fetch (codes "alice") (nth_id 1))) retr
+shows_part = (refl, record { lines = other_text; are = All-cons HasNoCrlf (codes "jello") [] (whole_line (codes "jello") refl) (All-nil HasNoCrlf); whole = refl; says = refl })
+
+misled_goes : TalkGoes small_plan 1 (Hearing (opening_state Pop)) misled.octets (misled.whole ++ []) misled.standing []
+misled_goes = (
+  flat_map sent_line (codes "PASS tanstaaf" ∷ codes "UIDL 1" ∷ codes "RETR 1" ∷ []),
+  record { is_unit = whole_line (codes "USER alice") refl; whole = refl; led = (refl, refl, refl) },
+  (
+    flat_map sent_line (codes "UIDL 1" ∷ codes "RETR 1" ∷ []),
+    record { is_unit = whole_line (codes "PASS tanstaaf") refl; whole = refl; led = subst (λ (lead : Lead). IsLed lead (pass (small_item ∷ []))) (sym (pass_leads (small_item ∷ []))) (refl, refl) },
+    subst (λ (lead : Lead). TalkGoes small_plan 1 (stands small_plan (named (small_item ∷ [])) (pass (small_item ∷ [])) lead) (flat_map sent_line (codes "UIDL 1" ∷ codes "RETR 1" ∷ [])) (uidl ∷ retr ∷ []) misled.standing []) (sym (pass_leads (small_item ∷ []))) (
+      sent_line (codes "RETR 1"),
+      record { is_unit = whole_line (codes "UIDL 1") refl; whole = refl; led = (refl, refl, refl) },
+      ([], record { is_unit = whole_line (codes "RETR 1") refl; whole = refl; led = shows_part }, (refl, refl)),
+    ),
+  ),
+)
+
+abbrev misled_lines : List (List ℕ)
+misled_lines = reader_lines (codes "say 2 UIDL 1" ∷ codes "say 2 RETR 1" ∷ [])
+
+abbrev misled_entries : List Entry
+misled_entries = reader_entries ((codes "+OK " ++ id_line 1 small_item) ∷ other_reply)
+
+misled_is : IsSession small_plan misled_lines misled_entries 2 misled
+misled_is = record { talk = record { before = misled.standing; goes = misled_goes; ends = refl }; fed = refl; gets = record { part = []; missing = []; are = refl; cut = refl } }
+
+-- nothing but the message is filed
+filed_is : (id : Id) (octets : List ℕ) → filed_small id ≡ Some octets → small_octets ≡ octets
+filed_is id octets = by (is_same_id (nth_id 1) id)
+  where
+    by : (b : Bool) → (if b then Some small_octets else None) ≡ Some octets → small_octets ≡ octets
+    by true is = cc
+    by false is = absurd (none-some octets is)
+
+shows_another : (sessions : List Session) → AreSessions small_plan misled_lines misled_entries sessions → ShownAsFiled filed_small sessions → ⊥
+shows_another sessions are filed =
+    let s = shown_at small_plan misled_lines misled_entries sessions are 1 Pop 1 refl in
+    let same = one_reading small_plan misled_lines misled_entries 2 s.session misled s.speaks s.there s.is misled_is in
+    let a = found_view s.session.whole (views (at_once (codes "USER alice") (codes "+OK send PASS") ∷ pass (small_item ∷ []) ∷ [])) (views (retr ∷ [])) uidl.unit (codes "+OK " ++ id_line 1 small_item) [] same in
+    let b = found_view s.session.whole (views (at_once (codes "USER alice") (codes "+OK send PASS") ∷ pass (small_item ∷ []) ∷ uidl ∷ [])) [] retr.unit _ _ same in
+    let shows = filed 2 s.session s.at s.speaks 1 (id_text (nth_id 1)) a.before a.behind a.one (omega arith) a.are
+    (inr (ap (λ (u : Unit). pop_command_of (line_of u)) a.same_unit, a.same_reply)) b.before b.behind b.one b.are in
+    let (id, named_so, is) = shows.1 (flat_map sent_line other_text) (record {
+      asked = ap (λ (u : Unit). pop_command_of (line_of u)) b.same_unit;
+      first = octets_text (length (flat_map sent_line other_text));
+      lines = other_text;
+      good = refl;
+      reply = b.same_reply;
+      undots = refl;
+    }) in
+    absurd (omega (arith, size, ap length (filed_is id (flat_map sent_line other_text) is)))
+
+-- the worked reader that is shown one message twice
+abbrev uidls : Exchange
+uidls = record { unit = Line (codes "UIDL"); call = None; answer = None; reply = twice_reply }
+
+abbrev doubled : Session
+doubled = record {
+  protocol = Pop;
+  node = 1;
+  octets = flat_map sent_line (codes "USER alice" ∷ codes "PASS tanstaaf" ∷ codes "UIDL" ∷ []);
+  whole = at_once (codes "USER alice") (codes "+OK send PASS") ∷ pass (small_item ∷ small_item ∷ []) ∷ uidls ∷ [];
+  others = [];
+  standing = Hearing (Reading (codes "alice") (record { item = small_item; marked = false } ∷ record { item = small_item; marked = false } ∷ []));
+  rest = [];
+}
+
+doubled_goes : TalkGoes small_plan 1 (Hearing (opening_state Pop)) doubled.octets (doubled.whole ++ []) doubled.standing []
+doubled_goes = (
+  flat_map sent_line (codes "PASS tanstaaf" ∷ codes "UIDL" ∷ []),
+  record { is_unit = whole_line (codes "USER alice") refl; whole = refl; led = (refl, refl, refl) },
+  (
+    sent_line (codes "UIDL"),
+    record { is_unit = whole_line (codes "PASS tanstaaf") refl; whole = refl; led = subst (λ (lead : Lead). IsLed lead (pass (small_item ∷ small_item ∷ []))) (sym (pass_leads (small_item ∷ small_item ∷ []))) (refl, refl) },
+    subst (λ (lead : Lead). TalkGoes small_plan 1 (stands small_plan (named (small_item ∷ small_item ∷ [])) (pass (small_item ∷ small_item ∷ [])) lead) (sent_line (codes "UIDL")) (uidls ∷ []) doubled.standing []) (sym (pass_leads (small_item ∷ small_item ∷ []))) (
+      [],
+      record { is_unit = whole_line (codes "UIDL") refl; whole = refl; led = (refl, refl, refl) },
+      (refl, refl),
+    ),
+  ),
+)
+
+abbrev doubled_lines : List (List ℕ)
+doubled_lines = reader_lines (codes "say 2 UIDL" ∷ [])
+
+doubled_is : IsSession small_plan doubled_lines (reader_entries twice_reply) 2 doubled
+doubled_is = record { talk = record { before = doubled.standing; goes = doubled_goes; ends = refl }; fed = refl; gets = record { part = []; missing = []; are = refl; cut = refl } }
+
+lists_two : (sessions : List Session) → AreSessions small_plan doubled_lines (reader_entries twice_reply) sessions → ShownOnce sessions → ⊥
+lists_two sessions are once =
+    let s = shown_at small_plan doubled_lines (reader_entries twice_reply) sessions are 1 Pop 1 refl in
+    let same = one_reading small_plan doubled_lines (reader_entries twice_reply) 2 s.session doubled s.speaks s.there s.is doubled_is in
+    let a = found_view s.session.whole (views (at_once (codes "USER alice") (codes "+OK send PASS") ∷ pass (small_item ∷ small_item ∷ []) ∷ [])) [] uidls.unit _ _ same in
+    let asked = ap (λ (u : Unit). pop_command_of (line_of u)) a.same_unit in
+    let one_is_two = once 2 s.session s.at s.speaks 1 2 (id_text (nth_id 1)) a.before a.behind a.before a.behind a.one a.one (omega arith) (omega arith) a.are
+    (inl (asked, subst (HasLine _) (sym a.same_reply) (inr (inl refl)))) a.are (inl (asked, subst (HasLine _) (sym a.same_reply) (inr (inr (inl refl))))) in
+    absurd (omega (arith, one_is_two))
+
+pub wrong_readers : WrongReaders
+wrong_readers = record {
+  gone_by_close = deleted_not (codes "say 2 DELE 1" ∷ codes "close 2" ∷ []) refl refl;
+  gone_by_crash = deleted_not (codes "say 2 DELE 1" ∷ codes "crash 1" ∷ []) refl refl;
+  gone_behind_end = deleted_not (codes "say 2 DELE 1" ∷ []) refl refl;
+  shows_another_text = shows_another;
+  lists_twice = lists_two;
+}

@@ -1,0 +1,63 @@
+-- What readers must not meet: a copy that is gone without a QUIT, a text that is not the one that is filed, and one message listed twice. The promises are false of
+-- each, whoever chooses the sessions.
+use Rattle.std.specs.Prelude.{ℕ, List, [], ◌∷◌, ◌++◌, flat_map, length, Option, codes}
+use Rattle.mail_model.specs.Identity.{Id}
+use Rattle.mail_model.specs.Identity.Key.{Message}
+use Rattle.mail_model.specs.Identity.Value.{Gone}
+use Rattle.mail_model.specs.Lines.{sent_line}
+use Rattle.mail_model.specs.Listing.{octets_in}
+use Rattle.mail_model.specs.Maildrop.{entered_text}
+use Rattle.mail_model.specs.PopReplies.{Item, id_line, octets_text, last_line, ready_text}
+use Rattle.mail_model.specs.Record.{Record}
+use Rattle.mail_model.specs.Record.Record.{Stated}
+use Rattle.mail_model.specs.Site.{nth_id, nth_stamp}
+use Rattle.mail_model.specs.Transcript.{Entry, said_lines}
+use Rattle.session_model.specs.Sessions.{Session, AreSessions}
+use Rattle.session_model.specs.Promises.{DeletedByQuit, ShownAsFiled, ShownOnce}
+use Rattle.worked_sessions.specs.OneMessage.{small_plan, small_lines, small_entries, small_records}
+
+-- the message is told, and its reader enters; then come these lines
+abbrev pub reader_lines : List (List ℕ) → List (List ℕ)
+reader_lines more = small_lines ++ codes "open pop 1" ∷ codes "say 2 USER alice" ∷ codes "say 2 PASS tanstaaf" ∷ more
+
+-- with these replies to them
+abbrev pub reader_entries : List (List ℕ) → List Entry
+reader_entries more = small_entries ++ said_lines 2 (ready_text 1 1 2 0 ∷ codes "+OK send PASS" ∷ entered_text ∷ more)
+
+-- the copy is gone
+abbrev pub gone_records : List Record
+gone_records = small_records ++ Stated (Message (codes "alice") (nth_id 1)) (record { value = Gone; stamp = nth_stamp 2; targets = 1 }) ∷ []
+
+-- whatever was written, nobody deleted it
+abbrev pub DeletedNot : List (List ℕ) → Type 0
+DeletedNot more = (entries : List Entry) (sessions : List Session) → AreSessions small_plan (reader_lines more) entries sessions
+    → DeletedByQuit small_plan entries (gone_records ∷ []) sessions → ⊥
+
+-- UIDL shows the id of the message, and RETR another text
+abbrev pub other_text : List (List ℕ)
+other_text = codes "jello" ∷ []
+
+abbrev pub small_item : Item
+small_item = record { id = nth_id 1; size = 151 }
+
+abbrev pub other_reply : List (List ℕ)
+other_reply = octets_text (length (flat_map sent_line other_text)) ∷ other_text ++ last_line
+
+abbrev pub filed_small : Id → Option (List ℕ)
+filed_small id = octets_in id small_records
+
+-- UIDL shows it twice
+abbrev pub twice_reply : List (List ℕ)
+twice_reply = codes "+OK unique ids" ∷ id_line 1 small_item ∷ id_line 2 small_item ∷ last_line
+
+-- The reader marked the message, and then: its client closed; the node crashed; nothing of the tape was left, so that a QUIT behind its line `end` was not handled.
+pub record WrongReaders : Type 0 where
+  pub gone_by_close : DeletedNot (codes "say 2 DELE 1" ∷ codes "close 2" ∷ [])
+  pub gone_by_crash : DeletedNot (codes "say 2 DELE 1" ∷ codes "crash 1" ∷ [])
+  pub gone_behind_end : DeletedNot (codes "say 2 DELE 1" ∷ [])
+  -- RETR shows another text
+  pub shows_another_text : (sessions : List Session)
+      → AreSessions small_plan (reader_lines (codes "say 2 UIDL 1" ∷ codes "say 2 RETR 1" ∷ [])) (reader_entries ((codes "+OK " ++ id_line 1 small_item) ∷ other_reply)) sessions
+      → ShownAsFiled filed_small sessions → ⊥
+  -- one message has two numbers
+  pub lists_twice : (sessions : List Session) → AreSessions small_plan (reader_lines (codes "say 2 UIDL" ∷ [])) (reader_entries twice_reply) sessions → ShownOnce sessions → ⊥
