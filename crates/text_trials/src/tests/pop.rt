@@ -166,7 +166,11 @@ fn refuses_numbers_and_verbs(rt: HostRuntime) {
 #[test]
 fn no_octet_is_a_verb(rt: HostRuntime) {
     for octet in 0..=255u8 {
-        assert_eq!(rt; read_command(&[octet]), Err(PopFault::UnknownVerb), "at {octet}");
+        assert_eq!(rt;
+            read_command(&[octet]),
+            Err(PopFault::UnknownVerb),
+            "at {octet}"
+        );
     }
 }
 

@@ -126,11 +126,20 @@ fn reads_parameters(rt: HostRuntime) {
         (b"EHLO c.example", client),
         (b"eHlO   c.example\t", client),
         (b"MAIL FROM:<bob> SIZE=0", bob(Some(0))),
-        (b"MAIL FROM:<bob>  size=99999999999999999999", bob(Some(most))),
+        (
+            b"MAIL FROM:<bob>  size=99999999999999999999",
+            bob(Some(most)),
+        ),
         (b"MAIL FROM:<bob> BODY=7BIT", bob(None)),
-        (b"MAIL FROM:<bob> SIZE=00000000000000000007 body=8bitmime ", bob(Some(7))),
+        (
+            b"MAIL FROM:<bob> SIZE=00000000000000000007 body=8bitmime ",
+            bob(Some(7)),
+        ),
         (b"MAIL FROM:<bob> BODY=8BITMIME   Size=1", bob(Some(1))),
-        (b"MAIL FROM:<@a,@b:bob> SIZE=18446744073709551616", bob(Some(18_446_744_073_709_551_616))),
+        (
+            b"MAIL FROM:<@a,@b:bob> SIZE=18446744073709551616",
+            bob(Some(18_446_744_073_709_551_616)),
+        ),
         (b"RSET", Ok(Command::Rset)),
         (b"rset \t", Ok(Command::Rset)),
         (b"NOOP", Ok(Command::Noop)),
@@ -155,11 +164,17 @@ fn faults_come_from_the_left(rt: HostRuntime) {
         (SmtpFault::BadArgument, b"MAIL FROM:<bob> SIZE"),
         (SmtpFault::BadArgument, b"MAIL FROM:<bob> SIZE="),
         (SmtpFault::BadArgument, b"MAIL FROM:<bob> SIZE=1x"),
-        (SmtpFault::BadArgument, b"MAIL FROM:<bob> SIZE=100000000000000000000"),
+        (
+            SmtpFault::BadArgument,
+            b"MAIL FROM:<bob> SIZE=100000000000000000000",
+        ),
         (SmtpFault::BadArgument, b"MAIL FROM:<bob> SIZE=1 SIZE=1"),
         (SmtpFault::BadArgument, b"MAIL FROM:<bob> BODY"),
         (SmtpFault::BadArgument, b"MAIL FROM:<bob> BODY=8BIT"),
-        (SmtpFault::BadArgument, b"MAIL FROM:<bob> BODY=7BIT SIZE=1 BODY=7BIT"),
+        (
+            SmtpFault::BadArgument,
+            b"MAIL FROM:<bob> BODY=7BIT SIZE=1 BODY=7BIT",
+        ),
         (SmtpFault::BadArgument, b"MAIL FROM:<bob> SIZE= X=1"),
         (SmtpFault::BadArgument, b"MAIL FROM:<bob> X\x01=1"),
         (SmtpFault::BadArgument, b"MAIL FROM:<bob>\tSIZE=1"),
@@ -184,7 +199,11 @@ fn faults_come_from_the_left(rt: HostRuntime) {
 #[test]
 fn no_octet_is_a_verb(rt: HostRuntime) {
     for octet in 0..=255u8 {
-        assert_eq!(rt; read_command(&[octet]), Err(SmtpFault::UnknownVerb), "at {octet}");
+        assert_eq!(rt;
+            read_command(&[octet]),
+            Err(SmtpFault::UnknownVerb),
+            "at {octet}"
+        );
     }
 }
 
