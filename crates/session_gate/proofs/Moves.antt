@@ -1,6 +1,6 @@
 -- What one move of a session comes to.
-use Rattle.std.proofs.Common.{inl, inr, ◌≡◌, ◌≢◌, ◌≤◌, ◌<◌, ◌++◌, ◌∷◌, ℕ, List, [], Bool, true, false, Option, Some, None, Result, Ok, Err, refl, sym, ap, ap₂, ◌∙◌, subst, arith, append_assoc, length}
-use Rattle.std.specs.Prelude.{⊤, ◌⊎◌, flat_map}
+use Rattle.std.proofs.Common.{◌≡◌, ◌≢◌, ◌<◌, ◌++◌, ◌∷◌, ℕ, List, [], Option, Some, None, refl, sym, ap, ap₂, ◌∙◌, subst, append_assoc, length}
+use Rattle.std.specs.Prelude.{◌⊎◌, flat_map}
 use Rattle.std.proofs.lemmas.List.{append-nil}
 use Rattle.std.proofs.lemmas.List.Concat.{flat_map-append}
 use Rattle.std.specs.Io.KnownBytes.{Appends}
@@ -11,24 +11,23 @@ use Rattle.mail_model.specs.Plan.{Plan}
 use Rattle.session_model.specs.Calls as model
 use Rattle.session_model.specs.Calls.{IsReply, IsAnswerTo, EachAnswerHasReply}
 use Rattle.session_model.specs.Calls.Answer.{Failed}
-use Rattle.session_model.specs.Talk.{TalkState, Exchange, Standing, Lead, IsLed, Awaits, IsOn, lead_of, standing_asked, heard, stands, answered, down_line, farewell}
+use Rattle.session_model.specs.Talk.{TalkState, Exchange, Standing, Lead, IsLed, lead_of, standing_asked, heard, stands, answered, down_line, farewell}
 use Rattle.session_model.specs.Talk.Lead.{Says, Ends, Asks}
 use Rattle.session_model.specs.Talk.Standing.{Hearing, Waiting, EndedByQuit, EndedDown, EndedClosed}
 use Rattle.session_model.specs.Moves.{with_answer}
 use Rattle.session_model.specs.Sessions.{Session}
 use Rattle.session_model.specs.Acts.{Deed, Did}
-use Rattle.session_model.specs.Acts.Deed.{IsFed, Hears, IsAnswered, Falls}
+use Rattle.session_model.specs.Acts.Deed.{Hears, IsAnswered, Falls}
 use Rattle.session_model.proofs.Did.{Speaks, did_speaks}
-use Rattle.call_tickets.specs.Seen.{call_seen, given_answer, answer_seen}
 use Rattle.call_tickets.specs.Moves.{Due, HeardUnit, Replied, Fell, HasEnded, HearsNothing, IsWaiting}
 use Rattle.call_tickets.specs.Moves.Due.{Nothing}
-use Rattle.call_tickets.specs.Passes.{PassKnows, IsQuiet, NoneFell}
+use Rattle.call_tickets.specs.Passes.{PassKnows}
 use Rattle.session_gate.specs.Deals.{Deals, Dealt}
 use Rattle.session_gate.specs.InTime.{WritesInTime}
 use Rattle.session_gate.specs.Connections.{Connection, HasSaid, HasCome, Anyhow, GoesOn, BreaksOff, Rests, Talks, IsSettled, IsUp, HasFallen, LeftWith}
 use Rattle.session_gate.specs.declared.stop.Stop.{Stop}
 use Rattle.session_gate.specs.declared.stop.Stop.TheVariants as stops
-use Rattle.session_gate.proofs.Knows.{dealt_none, dealt_asked, deals_one, deals_later, deals_fell, quiet_none, rose_before, rose_later}
+use Rattle.session_gate.proofs.Knows.{dealt_none, dealt_asked, deals_one, deals_fell, rose_before}
 use Rattle.session_gate.proofs.InTime.{heard_in_time, more_in_time, next_in_time}
 
 some_same : {X : Type 0} (x y : X) → Some x ≡ Some y → x ≡ y

@@ -1,9 +1,7 @@
-use Rattle.std.proofs.Common.{◌≡◌, ℕ, List, Option, Some, None, Err, sym, ap, ◌∙◌, subst, inl, inr, ◌++◌}
+use Rattle.std.proofs.Common.{Some, None, Err, sym, ap, ◌∙◌, subst, inl, inr}
 use Rattle.std.proofs.lemmas.Result.{err_from_is_err_and}
 use Rattle.mail_model.specs.Plan.{Plan}
-use Rattle.session_model.specs.Calls as model
 use Rattle.session_model.specs.Calls.Answer.{Failed}
-use Rattle.session_model.specs.Calls.{IsReply}
 use Rattle.session_model.proofs.Replies.{each_answer_has_reply}
 use Rattle.call_tickets.specs.Seen.{answer_seen}
 use Rattle.call_tickets.specs.Moves.{HeardUnit, Replied}
