@@ -15,8 +15,14 @@ import re
 import sys
 
 CALLS = [('porcupine_server', 'porcupine'), ('drive_tape', 'drive')]
-# The record that has each promise to clients as a field.
-PROMISES = ('Rattle.session_model.specs.Kept', 'KeepsPromises')
+# The records that have each promise as a field, and the fields that give its sessions and its records their meaning: a promise is
+# counted together with these.
+KEPT = 'Rattle.session_model.specs.Kept'
+PROMISES = [
+    ('Promises to clients, the fields of `KeepsToClients`', 'KeepsToClients', [('KeepsPromises', 'holds'), ('KeepsToClients', 'are')], {'are'}),
+    ('Promises on the book, fields of `KeepsPromises`', 'KeepsPromises', [('KeepsPromises', 'holds'), ('KeepsToClients', 'are'), ('KeepsPromises', 'logged')],
+     {'holds', 'sessions', 'acks', 'unwritten', 'confirmers', 'clients', 'answered', 'logged'}),
+]
 BEGIN, END = '<!-- made by docs/trust.py -->', '<!-- end -->'
 WORD = re.compile(r"[A-Za-z_][A-Za-z0-9_\-']*(?:\.[A-Za-z_][A-Za-z0-9_\-']*)*")
 USE = re.compile(r'(?:ghost |pub )*use (Rattle\.[A-Za-z0-9_.]+?)(?:\.\{([^}]*)\})?(?: as (\w+))?;?\s*$')
@@ -152,10 +158,14 @@ def tables(definitions, listed):
         clauses, (names, modules) = contract_of(crate, call)
         out.append(f'Clauses of `{call}`, in crate `{crate}`:\n')
         out.extend(rows(definitions, clauses, names, modules, None, listed))
-    if PROMISES in definitions.found:
-        out.append(f'Promises to clients, the fields of `{PROMISES[1]}`, each by itself:\n')
-        names, modules = definitions.imports[PROMISES[0]]
-        out.extend(rows(definitions, fields_of(definitions, PROMISES), names, modules, PROMISES[0], listed))
+    names, modules = definitions.imports[KEPT]
+    for title, record, meaning, others in PROMISES:
+        if (KEPT, record) not in definitions.found:
+            continue
+        shared = '\n'.join(dict(fields_of(definitions, (KEPT, kept)))[field] for kept, field in meaning)
+        parts = [(name, text + '\n' + shared) for name, text in fields_of(definitions, (KEPT, record)) if name not in others]
+        out.append(f'{title}, each together with what gives its sessions and records their meaning ({", ".join(f"`{field}`" for _, field in meaning)}):\n')
+        out.extend(rows(definitions, parts, names, modules, KEPT, listed))
     return '\n'.join(out)
 
 

@@ -8,6 +8,7 @@ use Rattle.object_model.specs.Lists.{Among}
 use Rattle.mail_model.specs.Plan.{Plan}
 use Rattle.mail_model.specs.Transcript.{Entry, said_lines}
 use Rattle.mail_model.specs.Site.{closed_event}
+use Rattle.mail_model.specs.Session as mail
 use Rattle.session_model.specs.Calls as calls
 use Rattle.session_model.specs.Calls.{IsReply}
 use Rattle.session_model.specs.Talk.{TalkState, Standing, IsOn, answered}
@@ -322,7 +323,7 @@ waiter on start plan p place cluster open_call shows within is =
 
 -- an answer of the call's kind has a reply
 pub own_reply : (kind : _) (call : calls.Call) (answer : Answer) → IsKindOf kind call → fits_kind kind answer ≡ true → (reply : List (List ℕ)) × IsReply call (answer_seen answer) reply
-own_reply kind call answer own fits = each_answer_has_reply call (answer_seen answer) (own.fits answer fits)
+own_reply kind call answer own fits = (each_answer_has_reply (mail.Unit.Text []) call (answer_seen answer) (own.fits answer fits)).0
 
 -- what comes of asking for it
 module _ {D : Type 0} (on : View D) (start : World D) (plan : Plan) (p : Point) (place : ℕ) (old : Cluster D) (open_call : OpenCall) (held : Option (List ℕ)) (shows : IsAtPoint on start plan old p) (asks : AsksFrom place p)

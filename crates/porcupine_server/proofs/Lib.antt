@@ -13,3 +13,4 @@ pub mod OwnStores
 mod AcceptedLines
 mod OneSession
 mod SmallTape
+mod WrongRuns

@@ -35,21 +35,21 @@ use Rattle.porcupine_server.proofs.OneSession.{Rests, nothing_more, only_fed, he
 
 -- lines without an LF
 
-abbrev has_no_lf : List ℕ → Bool
+abbrev pub has_no_lf : List ℕ → Bool
 has_no_lf [] = true
 has_no_lf (x ∷ xs) = not (nat_eq x 10) && has_no_lf xs
 
-abbrev have_no_lf : List (List ℕ) → Bool
+abbrev pub have_no_lf : List (List ℕ) → Bool
 have_no_lf [] = true
 have_no_lf (line ∷ lines) = has_no_lf line && have_no_lf lines
 
-one_line : (line : List ℕ) → has_no_lf line ≡ true → HasNoLf line
+pub one_line : (line : List ℕ) → has_no_lf line ≡ true → HasNoLf line
 one_line [] is = All-nil (λ x. x ≢ 10)
 one_line (x ∷ xs) is = All-cons (λ y. y ≢ 10) x xs
     (λ lf. let clash : false ≡ true = ap (λ (y : ℕ). not (nat_eq y 10) && has_no_lf xs) (sym lf) ∙ is in cc)
     (one_line xs (and_parts (not (nat_eq x 10)) (has_no_lf xs) is).1)
 
-one_each : (lines : List (List ℕ)) → have_no_lf lines ≡ true → All HasNoLf lines
+pub one_each : (lines : List (List ℕ)) → have_no_lf lines ≡ true → All HasNoLf lines
 one_each [] is = All-nil HasNoLf
 one_each (line ∷ lines) is =
     let both = and_parts (has_no_lf line) (have_no_lf lines) is in
@@ -69,14 +69,14 @@ with_buckets = record with_copies { buckets = Some 1 }
 abbrev with_user : Draft
 with_user = record with_buckets { users = small_plan.users }
 
-abbrev whole_draft : Draft
+abbrev pub whole_draft : Draft
 whole_draft = record with_user { postmaster = Some (codes "alice") }
 
 -- what a user's line makes of a draft, by whether the name is there and how many are
 abbrev user_where : Option (List ℕ) → ℕ → Option Draft
 user_where there many = if is_some there || nat_le 4096 many then None else Some with_user
 
-drafts : DraftsTo empty_draft small_head whole_draft
+pub drafts : DraftsTo empty_draft small_head whole_draft
 drafts = (
   with_nodes,
   refl,
@@ -96,7 +96,7 @@ drafts = (
   ),
 )
 
-plan_is : planned whole_draft ≡ Some small_plan
+pub plan_is : planned whole_draft ≡ Some small_plan
 plan_is = ap (λ (b : Bool). if b then Some small_plan else None) has_alice
 
 -- the run lines

@@ -6,3 +6,4 @@ pub mod Promises
 pub mod Complete
 pub mod Fresh
 pub mod SmallTape
+pub mod WrongRuns
