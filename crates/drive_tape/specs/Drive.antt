@@ -9,13 +9,13 @@ use Rattle.mail_model.specs.Transcript.{Entry, entry_line, written_of}
 use Rattle.session_model.specs.Sessions.{Session}
 use Rattle.session_model.specs.Acts.{Act}
 use Rattle.session_model.specs.Acts.Act.{StillWaits}
-use Rattle.session_model.specs.Logs.{Asked, asked_by, answered_by}
+use Rattle.session_model.specs.Logs.{Asked}
 use Rattle.session_model.specs.Lives.{failed_in}
-use Rattle.session_model.specs.Run.{Made, Stop, IsDriven, IsCutShort, refusal}
+use Rattle.session_model.specs.Run.{Stop, IsDriven, IsCutShort, refusal}
 use Rattle.session_model.specs.Kept.{IsEnding}
 use Rattle.session_model.specs.Run.Stop.{BehindLine, Denied, SinkFailed, OutOfMemory}
 use Rattle.node_store.specs.Disks.{View}
-use Rattle.cluster_world.specs.Outcomes.{Outcome, Awaited, StepMade, Makes, made_of, asked_by_outcome, answered_by_outcome}
+use Rattle.cluster_world.specs.Outcomes.{Outcome, Awaited, StepMade, Makes, made_of, asked_by_outcome}
 use Rattle.cluster_world.specs.Outcomes.Outcome.{Moved, KeptUp}
 use Rattle.session_model.specs.Events.NodeLife.{Up}
 use Rattle.mail_model.specs.Tape.{ClusterOrder as order}
@@ -32,7 +32,8 @@ use Rattle.drive_tape.specs.declared.drove.Stop.TheVariants as why
 use Rattle.drive_tape.specs.Denials.{stop_by}
 use Rattle.drive_tape.specs.Faults.{tape_fault_seen}
 use Rattle.drive_tape.specs.Kept.{AreToldOrBlind, KeptIn}
-use Rattle.drive_tape.specs.Points.{AreAtOwnNodes, waits_by, waits_by_outcome}
+use Rattle.drive_tape.specs.Led.{AreLedTo}
+use Rattle.drive_tape.specs.Points.{AreAtOwnNodes}
 use Rattle.drive_tape.specs.Worlds.{HasFailed}
 
 -- the octets are a line that is this order
@@ -96,11 +97,6 @@ Stops (why.Bad fault) stop plan been sessions midst left octets room outcomes =
     ((stop ≡ BehindLine) × (midst ≡ []) × StopsAt fault plan been sessions left octets room) ⊎ ((stop ≡ Denied) × (octets ≡ []) × EndsDenied fault outcomes)
 Stops why.NoMemory stop plan been sessions midst left octets room outcomes = (stop ≡ OutOfMemory) × IsLineAtMost octets
 
--- What the clients asked is what the cluster began; where memory ran out, one call may have come to nothing.
-abbrev pub MayLackOne : Stop → List Asked → Type 0
-MayLackOne OutOfMemory lacking = (lacking ≡ []) ⊎ ((one : Asked) × (lacking ≡ one ∷ []))
-MayLackOne stop lacking = lacking ≡ []
-
 -- a run line started the node
 abbrev pub StartsAgain : ℕ → Outcome → Type 0
 StartsAgain n (Moved (order.Start node) steps) = node ≡ n
@@ -127,26 +123,21 @@ pub record Drives {D : Type 0} (on : View D) (start : World D) (left0 left1 held
   pub stop : Stop
   pub acts : List (List Act)
   pub behind : List (List Act)
-  pub made : List Made
   pub entries : List Entry
   pub sessions : List Session
-  pub driven : IsDriven (plan_of start) stop handled midst acts behind made entries sessions
+  pub outcomes : List Outcome
+  pub driven : IsDriven (plan_of start) stop handled midst acts behind (map made_of outcomes) entries sessions
   pub cut : List ℕ
   pub gave : Appends held0 held1 (written_of entries ++ cut)
   pub lines : All HasNoLf (map entry_line entries)
   pub rest : HasNoLf cut
-  pub outcomes : List Outcome
   pub awaited : List Awaited
   pub lacking : List Asked
   pub steps : Makes on outcomes [] start awaited last
-  pub made_are : map made_of outcomes ≡ made
-  pub asked_are : flat_map asked_by (flat_map (λ a. a) (acts ++ behind)) ≡ flat_map asked_by_outcome outcomes ++ lacking
-  pub lack : MayLackOne stop lacking
-  -- each call began at the node of its session
+  -- act by act, the steps are those that the act tells of
+  pub led : AreLedTo stop [] (flat_map (λ a. a) (acts ++ behind)) outcomes lacking driven.extra
+  -- each call began at the node of its session, and each user left there
   pub at_nodes : AreAtOwnNodes sessions outcomes
-  pub answered_are : flat_map answered_by (flat_map (λ a. a) (acts ++ behind)) ≡ flat_map answered_by_outcome outcomes
-  -- where a session still waits, its ticket was asked for and is pending
-  pub waits_are : flat_map waits_by (flat_map (λ a. a) (acts ++ behind)) ≡ flat_map waits_by_outcome outcomes
   -- where one node is all there is, none waits
   pub none_waits : AreToldOrBlind on start (handled ++ midst) → (plan_of start).nodes ≡ 1 → (plan_of start).confirm ≡ 1 → 1 ≤ (plan_of start).copies → (k : ℕ) → Among (StillWaits k) (flat_map (λ a. a) (acts ++ behind)) → ⊥
   pub why : Stops (stop_of answer) stop (plan_of start) (flat_map (λ a. a) acts) sessions midst left1 others room outcomes

@@ -11,7 +11,7 @@ ghost use Rattle.drive_tape.specs.Kinds.{IsKindOf};
 ghost use Rattle.drive_tape.specs.Worlds.{IsWholeCall, HandsOn, WorldIsAt, WorldIsReady, BeganSo, AskedSo, GaveUpSo, LeftSo};
 
 use crate::Stop;
-use crate::denial::stop_by;
+use crate::denial::done;
 use crate::open_call::{OpenCall, fits, kind_of};
 use call_tickets::{Answer, Ask, Call};
 use cluster_world::{Said, Step, StepFault, World};
@@ -116,17 +116,14 @@ pub(crate) fn give_up<D: Disk>(
         → GaveUpSo (view_of D.seen D.faults D.clock) start outcomes awaited k asked open_call.now.ticket result world.old world.new }
     ensures why { IsErrOf result Stop.WriteFault → ⊥ }
 {
-    match world.step(
+    let said = world.step(
         alloc,
         Step::GiveUp {
             ticket: open_call.ticket,
         },
-    ) {
-        Ok(Said::Done) => Ok(()),
-        // Nothing else is said of it.
-        Ok(_) => Err(Stop::NoMemory),
-        Err(fault) => Err(stop_by(fault)),
-    }
+    );
+    // Nothing else is said of it but that it is done.
+    done(&said)
 }
 
 /// Tells this node that a session leaves.

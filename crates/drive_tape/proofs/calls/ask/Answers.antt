@@ -28,7 +28,7 @@ returns-in-Ok-Asked-Pending-clause-asked g c start outcomes awaited k asked amon
     let on = view_of g.D.Disk.seen g.D.Disk.faults g.D.Disk.clock in
     let result : c.step.result ≡ Ok (Asked (Pending c.in-Ok-Asked-Pending.field-0-0-0 c.in-Ok-Asked-Pending.field-0-0-1)) = (let a = c.in-Ok-Asked-Pending.is in let b = c.in-Ok-Asked-Pending.field-0-is in let d = c.in-Ok-Asked-Pending.field-0-0-is in cc) in
     let is = subst (λ r. IsStep on r (Ask c.args.open_call.now.ticket) c.args.world.now c.step.new.self) result c.step.ensures.is in
-    call_waits on start c.args.world.now c.step.new.self outcomes awaited k at StepFault asked c.args.open_call.now c.in-Ok-Asked-Pending.field-0-0-0 c.in-Ok-Asked-Pending.field-0-0-1 is
+    call_waits on start c.args.world.now c.step.new.self outcomes awaited k at StepFault asked c.args.open_call.now c.in-Ok-Asked-Pending.field-0-0-0 c.in-Ok-Asked-Pending.field-0-0-1 among is
 
 pub returns-in-Err-clause-asked : goal.returns-in-Err-clause-asked
 returns-in-Err-clause-asked g c start outcomes awaited k asked among kind at =
