@@ -8,8 +8,9 @@ use Rattle.io_edge.specs.Causes.{Rose}
 use Rattle.io_edge.proofs.Known.{appends_none, appends_more}
 use Rattle.mail_model.specs.Lines.{sent_line}
 use Rattle.mail_model.specs.Plan.{Plan}
+use Rattle.mail_model.specs.Session.{Unit}
 use Rattle.session_model.specs.Calls as model
-use Rattle.session_model.specs.Calls.{IsReply, IsAnswerTo, EachAnswerHasReply}
+use Rattle.session_model.specs.Calls.{IsReply, IsAnswerTo, RepliesTo, EachAnswerHasReply}
 use Rattle.session_model.specs.Calls.Answer.{Failed}
 use Rattle.session_model.specs.Talk.{TalkState, Exchange, Standing, Lead, IsLed, lead_of, standing_asked, heard, stands, answered, down_line, farewell}
 use Rattle.session_model.specs.Talk.Lead.{Says, Ends, Asks}
@@ -266,6 +267,9 @@ pub left_any : (why : Stop) (line : Connection) (follows : Session → Due → T
 left_any stops.WriteFault line follows fed wrote held0 held1 now never cut = absurd (never refl)
 left_any stops.NoMemory line follows fed wrote held0 held1 now never cut = cut
 
+reply_told : EachAnswerHasReply → (unit : Unit) (call : model.Call) (answer : model.Answer) → IsAnswerTo call answer → (reply : List (List ℕ)) × RepliesTo unit call answer reply
+reply_told each unit call answer to = (each unit call answer to).1
+
 module _ (follows0 follows1 : Session → Due → Type 0) (line : Connection) (fed wrote out0 octets out1 : List ℕ) (now : PassKnows) (held : Option (List ℕ))
     (come : HasCome line (Talks follows0) fed wrote out0 now) (outs : out1 ≡ out0 ++ octets) where
   abbrev here : HasSaid line (Talks follows0) fed (wrote ++ out0) now
@@ -347,7 +351,7 @@ module _ (follows0 follows1 : Session → Due → Type 0) (line : Connection) (f
     pub answered_cut : EachAnswerHasReply → (new : PassKnows) (answer : model.Answer) → Appends held held1 out1 → Dealt now (Some asked) (Some answer) new → IsAnswerTo asked answer
         → BreaksOff line Anyhow fed wrote held held1 new
     answered_cut each new answer w dealt to =
-        let reply = each asked answer to in
+        let reply = reply_told each u.one.unit asked answer to in
         let is : u.after ≡ _ = u.did.5 in
         let last : Exchange = with_answer u.one answer reply.0 in
         record {
