@@ -18,7 +18,7 @@ use Rattle.session_model.specs.Calls.Call.{Deliver, Login, Fetch, Strike}
 use Rattle.session_model.specs.Calls.Answer.{Stored as StoredAnswer, Dropped as DroppedAnswer, Failed as FailedAnswer}
 use Rattle.session_model.specs.Logs.{Asked, Answered}
 use Rattle.session_model.specs.Books.{acks_by, dropped_by}
-use Rattle.session_model.specs.OneNode.{IsSoundMail}
+use Rattle.session_model.specs.SoundMails.{IsSoundMail}
 use Rattle.cluster_model.specs.Reads.{Found}
 use Rattle.cluster_model.specs.Reads.Found.{Listed, WrongSecret, PartOf, NotThere}
 use Rattle.cluster_model.specs.Cluster.{Want, Ticket, Node, with_slot}

@@ -10,7 +10,7 @@ use Rattle.object_model.specs.Letters.{Number}
 use Rattle.object_model.specs.Sets.{has, one_node}
 use Rattle.session_model.specs.Calls.{Call}
 use Rattle.session_model.specs.Logs.{Asked, Answered}
-use Rattle.session_model.specs.OneNode.{IsSoundMail}
+use Rattle.session_model.specs.SoundMails.{IsSoundMail}
 use Rattle.cluster_model.specs.Cluster.{Ticket, Node, slot_at}
 use Rattle.cluster_model.specs.Cluster.AskedOfNodes.{Deletion}
 use Rattle.cluster_model.specs.Claims.{IsIdDrawn}

@@ -15,7 +15,7 @@ use Rattle.object_model.proofs.Lists.{among_behind}
 use Rattle.session_model.specs.Calls.{Call}
 use Rattle.session_model.specs.Calls.Call.{Deliver, Login, Fetch, Strike}
 use Rattle.session_model.specs.Logs.{Asked, Answered}
-use Rattle.session_model.specs.OneNode.{IsSoundMail}
+use Rattle.session_model.specs.SoundMails.{IsSoundMail}
 use Rattle.cluster_model.specs.Reads.{Found}
 use Rattle.cluster_model.specs.Cluster.{NodeFiling, Ticket, Node, Slot, members_of}
 use Rattle.cluster_model.specs.Cluster.AskedOfNodes.{Copies, Deletion}

@@ -11,6 +11,7 @@ use Rattle.cluster_world.specs.Steps.{IsStep}
 use Rattle.cluster_world.specs.Outcomes.{Outcome, Awaited, StepMade, MakesSteps, Came, Makes}
 use Rattle.cluster_world.specs.Chains.{MakesMore, StepsAreCounted, PlanStays, LaterAfter, steps_in, all_steps_in}
 use Rattle.cluster_world.specs.Outcomes.Outcome.{Began, Refused, Fell, Broke, Answers, StillPending, Unanswered, GaveUp, Abandoned, KeptUp, Left, Moved}
+use Rattle.cluster_world.proofs.Ordered.{order_makes}
 use Rattle.cluster_world.specs.declared.world.World.{World}
 use Rattle.cluster_world.specs.declared.step.Step.{Step}
 use Rattle.cluster_world.specs.declared.step.Said.{Said}
@@ -122,13 +123,13 @@ module _ {D : Type 0} (on : View D) where
   counts_came (Fell k node asked) awaited left old new within came = came.2.count
   counts_came (Broke k node asked) awaited left old new within came = came.3.count
   counts_came (Answers k asked ticket given) awaited left old new within came = came.3.count
-  counts_came (StillPending k ticket) awaited left old new within came = came.2.count
+  counts_came (StillPending k ticket) awaited left old new within came = came.4.count
   counts_came (Unanswered k asked ticket) awaited left old new within came = came.3.count
   counts_came (GaveUp k asked ticket) awaited left old new within came = came.1.count
   counts_came (Abandoned k asked ticket) awaited left old new within came = came.1.count
-  counts_came (KeptUp k ticket why) awaited left old new within came = came.0.count
+  counts_came (KeptUp k ticket why) awaited left old new within came = came.2.count
   counts_came (Left k node user) awaited left old new within came = came.3.count
-  counts_came (Moved order steps) awaited left old new within came = counts_steps steps old new within came.1
+  counts_came (Moved order steps) awaited left old new within came = counts_steps steps old new within (order_makes on order steps old new came.0)
 
   counts : (outcomes : List Outcome) (awaited left : List Awaited) (old new : World D) → steps_of old ≤ 18446744073709551615 → Makes on outcomes awaited old left new → Counts (all_steps_in outcomes) old new
   counts [] awaited left old new within makes = counts_none old new within makes.1

@@ -5,7 +5,7 @@ use Rattle.mail_model.specs.Session.{undotted, undotted_line}
 use Rattle.mail_model.specs.Told.{Mail}
 use Rattle.mail_base.specs.Delivers.{mail_in}
 use Rattle.session_model.specs.Calls as model
-use Rattle.session_model.specs.OneNode.{IsSoundMail}
+use Rattle.session_model.specs.SoundMails.{IsSoundMail}
 use Rattle.call_tickets.specs.Seen.{call_seen}
 use Rattle.call_tickets.specs.declared.call.Call.{Call}
 use Rattle.call_tickets.specs.declared.call.Call.TheVariants.{Deliver, Login, Fetch, Strike, Leave}

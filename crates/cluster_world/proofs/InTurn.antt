@@ -10,7 +10,7 @@ use Rattle.cluster_world.specs.declared.step.Step.{Step}
 use Rattle.cluster_world.specs.declared.step.Said.{Said}
 use Rattle.cluster_world.specs.declared.fault.StepFault.{StepFault}
 use Rattle.cluster_world.specs.declared.fault.StepFault.TheVariants.{NoMemory}
-use Rattle.cluster_world.proofs.Flowing.{steps_more}
+use Rattle.cluster_world.proofs.Ordered.{steps_more}
 
 -- what a step answered
 abbrev answered : Said → Result Said StepFault

@@ -27,6 +27,7 @@ pub mod Lasting
 pub mod Losing
 pub mod Mirroring
 pub mod Mirrors
+pub mod Ordered
 pub mod Noted
 pub mod Owed
 pub mod PostEnds

@@ -6,7 +6,7 @@ use Rattle.object_model.specs.Letters.{Number}
 use Rattle.object_model.specs.Lists.{Among}
 use Rattle.object_model.proofs.Lists.{among_front, among_behind, among_either}
 use Rattle.session_model.specs.Calls.{Call, Answer, IsAnswerTo}
-use Rattle.session_model.specs.OneNode.{IsSoundMail}
+use Rattle.session_model.specs.SoundMails.{IsSoundMail}
 use Rattle.call_tickets.specs.declared.call.Call.{Call as WorldCall}
 use Rattle.call_tickets.specs.declared.call.Call.TheVariants as calls
 use Rattle.call_tickets.specs.declared.answer.Ask.TheVariants as ask
@@ -34,6 +34,7 @@ use Rattle.cluster_world.specs.declared.step.Said.{Said}
 use Rattle.cluster_world.specs.declared.step.Said.TheVariants as said
 use Rattle.cluster_world.specs.declared.fault.StepFault.{StepFault}
 use Rattle.cluster_world.specs.declared.fault.StepFault.TheVariants as fault
+use Rattle.cluster_world.proofs.Ordered.{order_makes, order_are}
 use Rattle.cluster_world.proofs.SeenAlike.{made_alike, told_alike}
 use Rattle.cluster_world.proofs.Ended.{sound_ended}
 use Rattle.cluster_world.proofs.Quietly.{AreQuiet, AnswersAmiss, refusal_quiet, untold_quiet, moves_quiet}
@@ -227,21 +228,21 @@ module _ {D : Type 0} (on : View D) (plan : Plan) (told : Bool) where
     mirror (Fell k node asked) known of_it came = fell awaited left begun w old new of stands within k node asked of_it.0 came
     mirror (Broke k node asked) known of_it came = broke awaited left begun w old new of stands within k node asked of_it.0 came
     mirror (Answers k asked ticket given) known of_it came = answers awaited left begun w old new of stands within k asked ticket given came
-    mirror (StillPending k ticket) known of_it (got, wanted, is, left_is) =
+    mirror (StillPending k ticket) known of_it (asked, got, wanted, among, is, left_is) =
         silent (StillPending k ticket ∷ []) (Ok (said.Asked (ask.Pending got wanted))) (step.Ask ticket) (inr tt) tt is tt refl refl (λ one m. subst (Among one) left_is m)
     mirror (Unanswered k asked ticket) known of_it came = unanswered awaited left begun w old new of stands within k asked ticket fit came
     mirror (GaveUp k asked ticket) known of_it came = gave_up awaited left begun w old new of stands within k asked ticket came
     mirror (Abandoned k asked ticket) known of_it (waits, is, left_is) =
         silent (Abandoned k asked ticket ∷ []) (Ok said.Done) (step.GiveUp ticket) (inr tt) tt is tt refl refl
         (λ one m. kept_among (λ one. not (nat_eq one.session k)) awaited one (subst (Among one) left_is m))
-    mirror (KeptUp k ticket why) known of_it (is, left_is) =
+    mirror (KeptUp k ticket why) known of_it (asked, among, is, left_is) =
         silent (KeptUp k ticket why ∷ []) (Err why) (step.GiveUp ticket) (inr tt) tt is tt refl refl
         (λ one m. fewer_after (fallen_in (step.GiveUp ticket) (Err why)) awaited one (subst (Among one) left_is m))
     mirror (Left k node user) known of_it (call, result, leaves, is, left_is) =
         silent (Left k node user ∷ []) result (step.Begin node call) (inr tt) (leave_ended user call leaves) is (leave_quiet user node call (outcome_seen result) leaves) refl refl
         (λ one m. fewer_after (fallen_in (step.Begin node call) result) awaited one (subst (Among one) left_is m))
-    mirror (Moved order made) known of_it (are, makes, left_is) =
-        let m = moved made awaited begun w old new of stands within (moves_quiet order made are) known makes in record {
+    mirror (Moved order made) known of_it (makes, left_is) =
+        let m = moved made awaited begun w old new of stands within (moves_quiet order made (order_are on order made old new makes)) known (order_makes on order made old new makes) in record {
           outs = m.outs;
           next = m.next;
           makes = m.makes;

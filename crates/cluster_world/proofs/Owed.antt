@@ -104,7 +104,7 @@ module _ {D : Type 0} (on : View D) where
       (record { outs = []; next = opening_world plan.nodes; makes = refl; stands = begins.stands; asked = refl; answered = refl; within = λ one k. absurd k; sessions = λ lines of. tt })
       (⊎_elim (λ t. inl t) (λ b. inr (blind_front plan.nodes p.0 (StillPending k ticket ∷ p.1) (subst (AllBlind plan.nodes) p.2 (subst (λ (q : Plan). AllBlind q.nodes outcomes) begins.plan_is b)))) known)
       (λ outcome at. sessions outcome (subst (Among outcome) (sym p.2) (among_front outcome p.0 (StillPending k ticket ∷ p.1) at))) apart.makes in
-      let (got, wanted, is, left_is) = apart.came in
+      let (asked, got, wanted, waits, is, left_is) = apart.came in
       let other : owes.Outcome = owes.Outcome.Other (step_seen (step.Ask ticket)) (outcome_seen (Ok (said.Asked (ask.Pending got wanted)))) in
       let l = led on plan told (Ok (said.Asked (ask.Pending got wanted))) (step.Ask ticket) apart.mid apart.next (record { plan_is = s.plan ∙ begins.plan_is; told_is = s.told }) (inr tt) tt is m.next m.stands in
       none_waits plan told (m.outs ++ other ∷ []) l.next one sure some

@@ -14,7 +14,8 @@ use Rattle.cluster_model.specs.Steps as machine
 use Rattle.cluster_owes.specs.Outcomes.{IsIdleStep}
 use Rattle.cluster_world.specs.Seen.{step_seen, outcome_seen}
 use Rattle.cluster_world.specs.Ended.{IsEnded}
-use Rattle.cluster_world.specs.Outcomes.{StepMade, IsPost, IsPushOf, AreOne, AreStepsOf, IsRefusal, LeavesUnanswered}
+use Rattle.cluster_world.specs.Outcomes.{StepMade, IsPost, IsRefusal, LeavesUnanswered}
+use Rattle.cluster_world.proofs.Ordered.{IsPushOf, AreOne, AreStepsOf}
 use Rattle.cluster_world.specs.declared.step.Step.{Step}
 use Rattle.cluster_world.specs.declared.step.Step.TheVariants as step
 use Rattle.cluster_world.specs.declared.step.Said.{Said}

@@ -1,8 +1,7 @@
 -- What posting all letters does.
 use Rattle.std.specs.Prelude.{◌≡◌, ℕ, List, [], ◌∷◌, ◌++◌, Option, Some, None, ⊤, Result, Ok, Err}
 use Rattle.node_store.specs.Disks.{View}
-use Rattle.cluster_world.specs.Worlds.{state_of}
-use Rattle.cluster_world.specs.Outcomes.{StepMade, MakesSteps, IsPost}
+use Rattle.cluster_world.specs.Outcomes.{StepMade, IsPost, PostsAll}
 use Rattle.cluster_world.specs.declared.world.World.{World}
 use Rattle.cluster_world.specs.declared.step.Said.{Said}
 use Rattle.cluster_world.specs.declared.step.Said.TheVariants.{Heard, Thrown, Faulted}
@@ -25,9 +24,8 @@ FlowsSo (Ok None) steps = AllDelivered steps
 FlowsSo (Ok (Some node)) steps = (front : List StepMade) × (one : StepMade) × (steps ≡ front ++ one ∷ []) × AllDelivered front × IsPost one × (one.result ≡ Ok (Faulted node))
 FlowsSo (Err why) steps = (front : List StepMade) × (one : StepMade) × (steps ≡ front ++ one ∷ []) × AllDelivered front × IsPost one × (one.result ≡ Err why)
 
--- the letters were posted, one after another
+-- the letters were posted, the lowest number first
 pub record HasFlowed {D : Type 0} (on : View D) (result : Result (Option ℕ) StepFault) (old new : World D) : Type 0 where
   pub steps : List StepMade
-  pub made : MakesSteps on steps old new
+  pub made : PostsAll on steps old new
   pub flows : FlowsSo result steps
-  pub quiet : result ≡ Ok None → (state_of new).flying.flights ≡ []

@@ -1,6 +1,6 @@
 -- The steps that the lines of a tape lead to in a world, one after another, and what came of each. Of them what a cluster owes is read off: what it was asked, and
 -- what it answered.
-use Rattle.std.specs.Prelude.{◌≡◌, ℕ, true, false, not, nat_eq, List, [], ◌∷◌, ◌++◌, filter, All, ⊤, Option, Some, None, Result, Ok, Err}
+use Rattle.std.specs.Prelude.{◌≡◌, ℕ, zero, suc, ◌+◌, Bool, true, false, not, nat_eq, List, [], ◌∷◌, ◌++◌, filter, ⊤, MatchBool, Option, Some, None, Result, Ok, Err, if◌then◌else◌}
 use Rattle.mail_model.specs.Tape.{ClusterOrder}
 use Rattle.mail_model.specs.Tape.{ClusterOrder as order}
 use Rattle.object_model.specs.Letters.{Number}
@@ -8,6 +8,7 @@ use Rattle.session_model.specs.Calls.{Call, Answer, IsAnswerTo}
 use Rattle.session_model.specs.Calls.Answer.{Failed}
 use Rattle.session_model.specs.Logs.{Asked, Answered}
 use Rattle.session_model.specs.Run.{Made}
+use Rattle.session_model.specs.Events.{NodeLife, IsUp}
 use Rattle.object_model.specs.Lists.{Among}
 use Rattle.call_tickets.specs.Seen.{call_seen, answer_seen}
 use Rattle.call_tickets.specs.declared.call.Call.{Call as WorldCall}
@@ -15,7 +16,9 @@ use Rattle.call_tickets.specs.declared.call.Call.TheVariants.{Leave}
 use Rattle.call_tickets.specs.declared.answer.Answer.{Answer as WorldAnswer}
 use Rattle.call_tickets.specs.declared.answer.Ask.TheVariants as ask
 use Rattle.node_store.specs.Disks.{View}
+use Rattle.cluster_world.specs.Flights.{first_number}
 use Rattle.cluster_world.specs.Steps.{IsStep}
+use Rattle.cluster_world.specs.Worlds.{state_of, plan_of, life_of}
 use Rattle.cluster_world.specs.declared.world.World.{World}
 use Rattle.cluster_world.specs.declared.step.Step.{Step}
 use Rattle.cluster_world.specs.declared.step.Step.TheVariants as step
@@ -129,25 +132,50 @@ left_after_all (one ∷ more) awaited = left_after_all more (left_after (fallen_
 abbrev pub IsPost : StepMade → Type 0
 IsPost one = (letter : ℕ) × (one.step ≡ step.Post letter false)
 
--- the step pushes from this node
-abbrev pub IsPushOf : ℕ → StepMade → Type 0
-IsPushOf node one = (to : ℕ) × (one.step ≡ step.Push node to)
+-- the step failed: the disk of its node did, or it was refused
+abbrev pub has_failed : Result Said StepFault → Bool
+has_failed (Ok (said.Faulted node)) = true
+has_failed (Ok said) = false
+has_failed (Err why) = true
 
--- the steps are this one
-abbrev pub AreOne : Step → List StepMade → Type 0
-AreOne step steps = (result : Result Said StepFault) × (steps ≡ record { step = step; result = result } ∷ [])
+-- The letters in flight were posted, the lowest number first, until none was left or a step failed. They stand in order of number.
+abbrev pub PostsAll : {D : Type 0} → View D → List StepMade → World D → World D → Type 0
+PostsAll on [] old new = ((state_of old).flying.flights ≡ []) × (new ≡ old)
+PostsAll {D} on (one ∷ more) old new =
+    (letter : ℕ) × (mid : World D) × (first_number (state_of old).flying.flights ≡ Some letter) × (one.step ≡ step.Post letter false) × IsStep on one.result one.step old mid
+    × MatchBool (has_failed one.result) ((more ≡ []) × (new ≡ mid)) (PostsAll on more mid new)
 
--- the steps that a run line asks for
-abbrev pub AreStepsOf : ClusterOrder → List StepMade → Type 0
-AreStepsOf (order.Crash node) steps = AreOne (step.Crash node) steps
-AreStepsOf (order.Start node) steps = AreOne (step.Start node) steps
-AreStepsOf (order.Lose node) steps = AreOne (step.Lose node) steps
-AreStepsOf (order.Post letter) steps = AreOne (step.Post letter false) steps
-AreStepsOf (order.Again letter) steps = AreOne (step.Post letter true) steps
-AreStepsOf (order.Drop letter) steps = AreOne (step.Drop letter) steps
-AreStepsOf order.Flow steps = All IsPost steps
-AreStepsOf (order.Push node) steps = All (IsPushOf node) steps
-AreStepsOf (order.Widen at user id to) steps = AreOne (step.Widen at user id to) steps
+-- so many nodes from this number on, but for one
+abbrev pub nodes_but : ℕ → ℕ → ℕ → List ℕ
+nodes_but node zero from = []
+nodes_but node (suc left) from = if nat_eq from node then nodes_but node left (from + 1) else from ∷ nodes_but node left (from + 1)
+
+-- a node pushed to these, one after another, until a step failed
+abbrev pub PushesTo : ℕ → List ℕ → List StepMade → Type 0
+PushesTo node [] steps = steps ≡ []
+PushesTo node (to ∷ others) [] = ⊥
+PushesTo node (to ∷ others) (one ∷ more) = (one.step ≡ step.Push node to) × MatchBool (has_failed one.result) (more ≡ []) (PushesTo node others more)
+
+-- A node that is up pushed to each other, in rising order, until a step failed; one that is not did nothing.
+pub record PushesAll (nodes : ℕ) (life : NodeLife) (node : ℕ) (steps : List StepMade) : Type 0 where
+  pub up : IsUp life → PushesTo node (nodes_but node nodes 1) steps
+  pub else_none : (IsUp life → ⊥) → steps ≡ []
+
+-- this one step was made
+abbrev pub MakesOne : {D : Type 0} → View D → Step → List StepMade → World D → World D → Type 0
+MakesOne on step steps old new = (result : Result Said StepFault) × (steps ≡ record { step = step; result = result } ∷ []) × IsStep on result step old new
+
+-- the steps that a run line asks for were made
+abbrev pub MakesOrder : {D : Type 0} → View D → ClusterOrder → List StepMade → World D → World D → Type 0
+MakesOrder on (order.Crash node) steps old new = MakesOne on (step.Crash node) steps old new
+MakesOrder on (order.Start node) steps old new = MakesOne on (step.Start node) steps old new
+MakesOrder on (order.Lose node) steps old new = MakesOne on (step.Lose node) steps old new
+MakesOrder on (order.Post letter) steps old new = MakesOne on (step.Post letter false) steps old new
+MakesOrder on (order.Again letter) steps old new = MakesOne on (step.Post letter true) steps old new
+MakesOrder on (order.Drop letter) steps old new = MakesOne on (step.Drop letter) steps old new
+MakesOrder on order.Flow steps old new = PostsAll on steps old new
+MakesOrder on (order.Push node) steps old new = PushesAll (plan_of old).nodes (life_of old node) node steps × MakesSteps on steps old new
+MakesOrder on (order.Widen at user id to) steps old new = MakesOne on (step.Widen at user id to) steps old new
 
 -- a refusal after which the world is as it was
 abbrev pub IsRefusal : StepFault → Type 0
@@ -176,7 +204,8 @@ Came on (Answers k asked ticket given) awaited old left new =
     (own : WorldAnswer) × (given ≡ answer_seen own) × Among (record { ticket = ticket; session = k; call = asked }) awaited
     × IsStep on (Ok (said.Asked (ask.Done own))) (step.Ask ticket) old new × (left ≡ without_session k awaited)
 Came on (StillPending k ticket) awaited old left new =
-    (got : ℕ) × (wanted : ℕ) × IsStep on (Ok (said.Asked (ask.Pending got wanted))) (step.Ask ticket) old new × (left ≡ awaited)
+    (asked : Call) × (got : ℕ) × (wanted : ℕ) × Among (record { ticket = ticket; session = k; call = asked }) awaited
+    × IsStep on (Ok (said.Asked (ask.Pending got wanted))) (step.Ask ticket) old new × (left ≡ awaited)
 Came on (Unanswered k asked ticket) awaited old left new =
     (result : Result Said StepFault) × Among (record { ticket = ticket; session = k; call = asked }) awaited × LeavesUnanswered asked result
     × IsStep on result (step.Ask ticket) old new × (left ≡ left_after (fallen_in (step.Ask ticket) result) awaited)
@@ -185,11 +214,12 @@ Came on (GaveUp k asked ticket) awaited old left new =
 Came on (Abandoned k asked ticket) awaited old left new =
     Among (record { ticket = ticket; session = k; call = asked }) awaited × IsStep on (Ok said.Done) (step.GiveUp ticket) old new × (left ≡ without_session k awaited)
 Came on (KeptUp k ticket why) awaited old left new =
-    IsStep on (Err why) (step.GiveUp ticket) old new × (left ≡ left_after (fallen_in (step.GiveUp ticket) (Err why)) awaited)
+    (asked : Call) × Among (record { ticket = ticket; session = k; call = asked }) awaited × IsStep on (Err why) (step.GiveUp ticket) old new
+    × (left ≡ left_after (fallen_in (step.GiveUp ticket) (Err why)) awaited)
 Came on (Left k node user) awaited old left new =
     (begun : WorldCall) × (result : Result Said StepFault) × IsLeave user begun × IsStep on result (step.Begin node begun) old new
     × (left ≡ left_after (fallen_in (step.Begin node begun) result) awaited)
-Came on (Moved order steps) awaited old left new = AreStepsOf order steps × MakesSteps on steps old new × (left ≡ left_after_all steps awaited)
+Came on (Moved order steps) awaited old left new = MakesOrder on order steps old new × (left ≡ left_after_all steps awaited)
 
 -- the world made these steps, one after another, and no others
 abbrev pub Makes : {D : Type 0} → View D → List Outcome → List Awaited → World D → List Awaited → World D → Type 0

@@ -4,7 +4,7 @@ use Rattle.mail_model.specs.Plan.{Plan}
 use Rattle.mail_model.specs.Record.{Record}
 use Rattle.object_model.specs.Letters.{Number}
 use Rattle.object_model.specs.Lists.{Among}
-use Rattle.session_model.specs.OneNode.{IsSoundMail}
+use Rattle.session_model.specs.SoundMails.{IsSoundMail}
 use Rattle.session_model.specs.Owes.{Owes}
 use Rattle.cluster_owes.specs.Held.{filed_on}
 use Rattle.cluster_owes.specs.Outcomes.{IsTakenAt}

@@ -45,6 +45,7 @@ use Rattle.drive_tape.specs.Talks.{HasOwnTicket, HasTicket, TicketFits, StandsOn
 use Rattle.drive_tape.specs.Clusters.{RestsAt, IsAfter, IsSaying, AsksFrom, CallHasAnswer}
 use Rattle.drive_tape.specs.Lines.{NothingIsUnderWay}
 use Rattle.drive_tape.proofs.Talks.{at_place, count_same, count_less, converse_length, found_at, set_here, within_get, some_same, did_node, replies_on, replies_ended}
+use Rattle.drive_tape.proofs.Led.{to_untold}
 use Rattle.drive_tape.proofs.Works.{work_act, cut_act}
 use Rattle.drive_tape.proofs.Clusters.{since_gone}
 use Rattle.drive_tape.proofs.Acting.{acted_does}
@@ -141,7 +142,7 @@ module _ (p : Point) (place : ℕ) (asks : AsksFrom place p) (plain : Session) (
       by_turn (Asking k) ready = (asks.from, ready, first_waits, refl)
 
   waits_one : (plan : Plan) (ticket : _) → OneAct plan p (StillWaits (place + 1)) [] (StillPending (place + 1) ticket ∷ []) (Asking (place + 1 + 1)) p.sessions
-  waits_one plan ticket = record { next = next_waits; acted = (refl, refl); linked = record { made = refl; asked = refl; answered = refl; waits = refl }; at_nodes = (tt, tt) }
+  waits_one plan ticket = record { next = next_waits; acted = (refl, refl); linked = (ticket, refl); at_nodes = (tt, tt) }
 
   -- it still waits
   pub still_waits : {D : Type 0} (on : View D) (start : World D) (plan : Plan) (old new : Cluster D) (ticket : _) (held : Option (List ℕ)) → p.held ≡ held → IsAtPoint on start plan old p → new.sessions ≡ old.sessions
@@ -182,7 +183,7 @@ module _ (p : Point) (place : ℕ) (asks : AsksFrom place p) (plain : Session) (
       new = Unanswered (place + 1) call ticket ∷ [];
       lacking = [];
       extra = Made.Asks (place + 1) ∷ [];
-      linked = record { made = refl; asked = refl; answered = refl; waits = refl };
+      linked = to_untold OutOfMemory p.outcomes (Unanswered (place + 1) call ticket) tt;
       at_nodes = (tt, tt);
       came = refl;
       asked = inr (asks.from, place + 1, asks.ready, first_waits, refl);
@@ -211,7 +212,7 @@ module _ {D : Type 0} (on : View D) (start : World D) (plan : Plan) (p : Point) 
     replies_one = record {
       next = next_answered p place a.asks a.plain a.here a.state a.call a.waits call answer reply;
       acted = acted_does plan p.sessions place a.plain after (IsAnswered call answer reply) reply a.here did;
-      linked = rw same (record { made = refl; asked = refl; answered = refl; waits = refl });
+      linked = (a.has.open_call.ticket, ap (λ (c : calls.Call). Answers (place + 1) c a.has.open_call.ticket answer ∷ []) (sym same));
       at_nodes = (tt, tt);
     }
 

@@ -20,7 +20,8 @@ use Rattle.cluster_world.specs.Worlds.{plan_of, life_of, disks_of, lives_of, see
 use Rattle.cluster_world.specs.Opens.{IsAtBeginning}
 use Rattle.cluster_world.specs.Steps.{IsStep}
 use Rattle.cluster_world.specs.Turns.{life_after_step}
-use Rattle.cluster_world.specs.Outcomes.{Outcome, Awaited, StepMade, Came, Makes, MakesSteps, AreStepsOf, AreOne, IsPost, IsPushOf}
+use Rattle.cluster_world.specs.Outcomes.{Outcome, Awaited, StepMade, Came, Makes, MakesSteps, IsPost}
+use Rattle.cluster_world.proofs.Ordered.{AreStepsOf, AreOne, IsPushOf, order_makes, order_are}
 use Rattle.cluster_world.specs.Outcomes.Outcome.{Began, Refused, Fell, Broke, Answers, StillPending, Unanswered, GaveUp, Abandoned, KeptUp, Left, Moved}
 use Rattle.cluster_world.specs.declared.life.Life.{Life}
 use Rattle.cluster_world.specs.declared.life.Life.TheVariants as life
@@ -199,16 +200,16 @@ module _ {D : Type 0} (on : View D) (n : ℕ) where
   came_lost (Fell k node asked) awaited left old new came lost = inl (made_lost _ _ old new came.2 (λ e. cc) lost)
   came_lost (Broke k node asked) awaited left old new came lost = inl (made_lost _ _ old new came.3 (λ e. cc) lost)
   came_lost (Answers k asked ticket given) awaited left old new came lost = inl (made_lost _ _ old new came.3 (λ e. cc) lost)
-  came_lost (StillPending k ticket) awaited left old new came lost = inl (made_lost _ _ old new came.2 (λ e. cc) lost)
+  came_lost (StillPending k ticket) awaited left old new came lost = inl (made_lost _ _ old new came.4 (λ e. cc) lost)
   came_lost (Unanswered k asked ticket) awaited left old new came lost = inl (made_lost _ _ old new came.3 (λ e. cc) lost)
   came_lost (GaveUp k asked ticket) awaited left old new came lost = inl (made_lost _ _ old new came.1 (λ e. cc) lost)
   came_lost (Abandoned k asked ticket) awaited left old new came lost = inl (made_lost _ _ old new came.1 (λ e. cc) lost)
-  came_lost (KeptUp k ticket why) awaited left old new came lost = inl (made_lost _ _ old new came.0 (λ e. cc) lost)
+  came_lost (KeptUp k ticket why) awaited left old new came lost = inl (made_lost _ _ old new came.2 (λ e. cc) lost)
   came_lost (Left k node user) awaited left old new came lost = inl (made_lost _ _ old new came.3 (λ e. cc) lost)
   came_lost (Moved asked steps) awaited left old new came lost = ⊎_elim
       (λ was. inl was)
-      (λ (some : (one : StepMade) × Among one steps × (one.step ≡ step.Lose n)). inr (steps, ap (λ (o : ClusterOrder). Moved o steps) (order_lost asked steps some.0 n came.0 some.1 some.2)))
-      (steps_lost steps old new came.1 lost)
+      (λ (some : (one : StepMade) × Among one steps × (one.step ≡ step.Lose n)). inr (steps, ap (λ (o : ClusterOrder). Moved o steps) (order_lost asked steps some.0 n (order_are on asked steps old new came.0) some.1 some.2)))
+      (steps_lost steps old new (order_makes on asked steps old new came.0) lost)
 
   -- a node that is lost was so, or a run line lost it
   pub makes_lost : (outcomes : List Outcome) (awaited left : List Awaited) (old new : World D) → Makes on outcomes awaited old left new → life_of new n ≡ Lost

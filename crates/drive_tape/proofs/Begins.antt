@@ -18,11 +18,10 @@ use Rattle.session_model.specs.Lives.{failed_by, failed_in}
 use Rattle.session_model.specs.Logs.{Asked}
 use Rattle.session_model.specs.Turns.{IsAtNode}
 use Rattle.session_model.specs.Turns.Turn.{Beginning}
-use Rattle.session_model.specs.Run.{Made}
 use Rattle.session_model.specs.Run.Stop.{OutOfMemory}
 use Rattle.call_tickets.specs.declared.call.Call.{Call}
 use Rattle.node_store.specs.Disks.{View}
-use Rattle.cluster_world.specs.Outcomes.{Outcome, Awaited, made_of, asked_by_outcome, answered_by_outcome, awaited_elsewhere}
+use Rattle.cluster_world.specs.Outcomes.{Outcome, Awaited, awaited_elsewhere}
 use Rattle.cluster_world.specs.Outcomes.Outcome.{Began, Refused, Fell, Broke}
 use Rattle.cluster_world.specs.declared.world.World.{World}
 use Rattle.drive_tape.specs.declared.cluster.Cluster.{Cluster}
@@ -31,6 +30,7 @@ use Rattle.drive_tape.specs.declared.drove.Stop.TheVariants as why
 use Rattle.drive_tape.specs.Kinds.{IsKindOf}
 use Rattle.drive_tape.specs.Talks.{HasOwnTicket, TicketFits, StandsOnNode, IsUpAt}
 use Rattle.drive_tape.specs.Worlds.{WentTo, HasGone, AreSameLives, IsDownNow, HasFailed, IsWholeCall}
+use Rattle.drive_tape.specs.Led.{Begins as BeginsSo, CameToNothing}
 use Rattle.drive_tape.specs.Points.{Point, Work, IsAtOwnNode, Stopped, WentOn}
 use Rattle.drive_tape.specs.Clusters.{RestsAt, IsBeginning, FaultsAt}
 use Rattle.drive_tape.proofs.Talks.{asks_waits, count_same, set_here, within_get, did_node}
@@ -40,7 +40,8 @@ use Rattle.drive_tape.proofs.OwnNodes.{own_node}
 use Rattle.drive_tape.proofs.Clusters.{since_gone}
 use Rattle.drive_tape.proofs.Stepping.{life_more}
 use Rattle.drive_tape.proofs.Places.{same_or_not, get_apart, set_at, each_set, nodes_set, does_plain, up_on, lives_on, causes_on}
-use Rattle.drive_tape.proofs.Moves.{hears_call, asks_acted, asks_next, asks_one}
+use Rattle.drive_tape.proofs.Led.{to_nothing}
+use Rattle.drive_tape.proofs.Moves.{asks_acted, asks_next, asks_one}
 
 pub among_more : {X : Type 0} (x : X) (xs ys : List X) → Among x xs → Among x (xs ++ ys)
 among_more x [] ys among = absurd among
@@ -105,11 +106,11 @@ module _ {D : Type 0} (on : View D) (start : World D) (plan : Plan) (p : Point) 
   begun_point outcome awaited =
       record p { turn = Beginning (place + 1) onward; sessions = slice_set p.sessions place b.after; been = p.been ++ Does (place + 1) (Hears b.one) ∷ []; outcomes = p.outcomes ++ outcome ∷ []; awaited = awaited }
 
-  pub begun_work : (outcome : Outcome) (awaited : List Awaited) → made_of outcome ≡ Made.Begins (place + 1) b.asked → asked_by_outcome outcome ≡ record { session = place + 1; call = b.asked } ∷ [] → answered_by_outcome outcome ≡ [] → IsAtOwnNode (slice_set p.sessions place b.after) outcome
+  pub begun_work : (outcome : Outcome) (awaited : List Awaited) → BeginsSo (place + 1) (Some b.asked) (outcome ∷ []) → IsAtOwnNode (slice_set p.sessions place b.after) outcome
       → Work plan p (begun_point outcome awaited)
-  begun_work outcome awaited made asks answers own =
+  begun_work outcome awaited so own =
       work_act plan p (begun_point outcome awaited) (Does (place + 1) (Hears b.one)) [] (outcome ∷ [])
-      (asks_one plan p place onward b.plain b.after b.one b.turn b.here b.did b.asked outcome b.asks made asks answers own) refl refl (appends_none p.held)
+      (asks_one plan p place onward b.plain b.after b.one b.turn b.here b.did b.asked outcome b.asks so own) refl refl (appends_none p.held)
 
   -- the text of a message that it asks to be stored is whole
   pub asks_whole : IsWholeCall b.asked
@@ -138,7 +139,7 @@ module _ {D : Type 0} (on : View D) (start : World D) (plan : Plan) (p : Point) 
       let one = does_plain (place + 1) (Hears b.one) in
       record {
         q = begun_point (Began (place + 1) b.plain.node b.asked given.ticket) more;
-        work = begun_work (Began (place + 1) b.plain.node b.asked given.ticket) more refl refl refl at_own;
+        work = begun_work (Began (place + 1) b.plain.node b.asked given.ticket) more (b.plain.node, inl (given.ticket, refl)) at_own;
         held_is = same_held;
         shows = record {
           at = went.at;
@@ -179,6 +180,7 @@ module _ {D : Type 0} (on : View D) (start : World D) (plan : Plan) (p : Point) 
         plain = b.after;
         here = set_here p.sessions place b.after (within_get p.sessions place b.plain b.here);
         own = same_node;
+        fell = (p.outcomes, place + 1, b.asked, refl);
         fallen = record {
           at = went.at;
           talks = rw same b.talks;
@@ -214,9 +216,9 @@ module _ {D : Type 0} (on : View D) (start : World D) (plan : Plan) (p : Point) 
           record { there = up.there; boot = up.boot; up = life_more (p.been ++ act ∷ []) (Faults b.plain.node) s.node (Up 1) ∙ other_life s.node _ other ∙ up.up }
 
   -- memory ran out
-  stops_with : (outcome : Outcome) (lacking : List Asked) (last : World D) → made_of outcome ≡ Made.Begins (place + 1) b.asked → asked_by_outcome outcome ++ lacking ≡ record { session = place + 1; call = b.asked } ∷ [] → answered_by_outcome outcome ≡ [] → IsAtOwnNode (slice_set p.sessions place b.after) outcome
+  stops_with : (outcome : Outcome) (lacking : List Asked) (last : World D) → CameToNothing (place + 1) b.asked outcome lacking → IsAtOwnNode (slice_set p.sessions place b.after) outcome
       → (lacking ≡ []) ⊎ ((one : Asked) × (lacking ≡ one ∷ [])) → HasGone on start old.world (p.outcomes ++ outcome ∷ []) last → Stopped on start plan p why.NoMemory p.held last
-  stops_with outcome lacking last made asks answers own few gone = record {
+  stops_with outcome lacking last nothing own few gone = record {
     stop = OutOfMemory;
     is = refl;
     outcomes = p.outcomes ++ outcome ∷ [];
@@ -235,7 +237,7 @@ module _ {D : Type 0} (on : View D) (start : World D) (plan : Plan) (p : Point) 
       new = outcome ∷ [];
       lacking = lacking;
       extra = [];
-      linked = hears_call (place + 1) b.one b.asked outcome lacking b.asks made asks answers;
+      linked = to_nothing p.outcomes (place + 1) b.one b.asked outcome lacking b.asks nothing;
       at_nodes = (own, tt);
       came = refl;
       asked = inl refl;
@@ -255,5 +257,5 @@ module _ {D : Type 0} (on : View D) (start : World D) (plan : Plan) (p : Point) 
   pub stops_beginning : (last : World D) → HasGone on start old.world (p.outcomes ++ Refused (place + 1) b.plain.node b.asked ∷ []) last ⊎ HasGone on start old.world (p.outcomes ++ Broke (place + 1) b.plain.node b.asked ∷ []) last
       → Stopped on start plan p why.NoMemory p.held last
   stops_beginning last (inl gone) =
-      stops_with (Refused (place + 1) b.plain.node b.asked) (record { session = place + 1; call = b.asked } ∷ []) last refl refl refl tt (inr (record { session = place + 1; call = b.asked }, refl)) gone
-  stops_beginning last (inr gone) = stops_with (Broke (place + 1) b.plain.node b.asked) [] last refl refl refl at_own (inl refl) gone
+      stops_with (Refused (place + 1) b.plain.node b.asked) (record { session = place + 1; call = b.asked } ∷ []) last (refl, refl, refl) at_own (inr (record { session = place + 1; call = b.asked }, refl)) gone
+  stops_beginning last (inr gone) = stops_with (Broke (place + 1) b.plain.node b.asked) [] last (refl, refl, refl) at_own (inl refl) gone

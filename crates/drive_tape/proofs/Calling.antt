@@ -22,10 +22,11 @@ use Rattle.cluster_world.specs.declared.fault.StepFault.{StepFault}
 use Rattle.cluster_world.specs.declared.fault.StepFault.TheVariants as fault
 use Rattle.drive_tape.specs.declared.drove.Stop.{Stop}
 use Rattle.drive_tape.specs.declared.open_call.OpenCall.{OpenCall}
-use Rattle.drive_tape.specs.Denials.{stop_by}
+use Rattle.drive_tape.specs.Denials.{stop_by, IsDoneOr}
 use Rattle.drive_tape.specs.Kinds.{fits_kind, IsKindOf}
 use Rattle.drive_tape.specs.Worlds.{IsWholeCall, HandsOn, HasFailed, WorldIsAt, HasGone, BeganSo, AskedSo, GaveUpSo, LeftSo}
 use Rattle.drive_tape.proofs.Beginnings.{begins_so}
+use Rattle.drive_tape.proofs.Done.{given_up}
 use Rattle.drive_tape.proofs.Chains.{carried, stands_at, went_more, has_failed}
 
 module _ {D : Type 0} (on : View D) (start old new : World D) (outcomes : List Outcome) (awaited : List Awaited) (k : ℕ) (at : WorldIsAt on start outcomes awaited old) where
@@ -96,9 +97,9 @@ module _ {D : Type 0} (on : View D) (start old new : World D) (outcomes : List O
       (fits, λ n. is.did.lives n, went_more on start outcomes awaited old at (Answers k asked open_call.ticket (answer_seen given)) (without_session k awaited) new (given, refl, among, is, refl) tt)
 
   -- it still waits
-  pub call_waits : (E : Type 0) (asked : calls.Call) (open_call : OpenCall) (got wanted : ℕ) → IsStep on (Ok (said.Asked (ask.Pending got wanted))) (step.Ask open_call.ticket) old new
+  pub call_waits : (E : Type 0) (asked : calls.Call) (open_call : OpenCall) (got wanted : ℕ) → Among (record { ticket = open_call.ticket; session = k; call = asked }) awaited → IsStep on (Ok (said.Asked (ask.Pending got wanted))) (step.Ask open_call.ticket) old new
       → AskedSo {E = E} on start outcomes awaited k asked open_call (Ok None) old new
-  call_waits E asked open_call got wanted is = (λ n. is.did.lives n, went_more on start outcomes awaited old at (StillPending k open_call.ticket) awaited new (got, wanted, is, refl) tt)
+  call_waits E asked open_call got wanted among is = (λ n. is.did.lives n, went_more on start outcomes awaited old at (StillPending k open_call.ticket) awaited new (asked, got, wanted, among, is, refl) tt)
 
   -- it was asked for in vain
   pub call_untold : (asked : calls.Call) (open_call : OpenCall) (result : Result Said StepFault) → LeavesUnanswered asked result → Among (record { ticket = open_call.ticket; session = k; call = asked }) awaited
@@ -120,11 +121,20 @@ module _ {D : Type 0} (on : View D) (start old new : World D) (outcomes : List O
     went_more on start outcomes awaited old at (Abandoned k asked ticket) (without_session k awaited) new (among, is, refl) tt,
   )
 
-  pub call_kept_up : (T : Type 0) (asked : calls.Call) (ticket : Number) (why : StepFault) (stop : Stop) → stop ≡ stop_by why → IsStep on (Err why) (step.GiveUp ticket) old new
+  pub call_kept_up : (T : Type 0) (asked : calls.Call) (ticket : Number) (why : StepFault) (stop : Stop) → stop ≡ stop_by why → Among (record { ticket = ticket; session = k; call = asked }) awaited → IsStep on (Err why) (step.GiveUp ticket) old new
       → GaveUpSo {T = T} on start outcomes awaited k asked ticket (Err stop) old new
-  call_kept_up T asked ticket why stop same is =
+  call_kept_up T asked ticket why stop same among is =
       let left = left_after (fallen_in (step.GiveUp ticket) (Err why)) awaited in
-      (why, same, (left, went_more on start outcomes awaited old at (KeptUp k ticket why) left new (is, refl) tt))
+      (why, same, (left, went_more on start outcomes awaited old at (KeptUp k ticket why) left new (asked, among, is, refl) tt))
+
+  -- whichever of both
+  pub gave_up_so : {T : Type 0} (asked : calls.Call) (ticket : Number) (result : Result Said StepFault) (handed : Result T Stop) → IsDoneOr result handed → Among (record { ticket = ticket; session = k; call = asked }) awaited
+      → IsStep on result (step.GiveUp ticket) old new → GaveUpSo on start outcomes awaited k asked ticket handed old new
+  gave_up_so asked ticket (Ok what) (Ok t) done among is =
+      call_given_up asked ticket t among (subst (λ (w : Said). IsStep on (Ok w) (step.GiveUp ticket) old new) (given_up ticket what is.did.kind) is)
+  gave_up_so asked ticket (Ok what) (Err stop) done among is = absurd done
+  gave_up_so asked ticket (Err why) (Ok t) done among is = absurd done
+  gave_up_so {T} asked ticket (Err why) (Err stop) done among is = call_kept_up T asked ticket why stop done among is
 
   -- a leave
   pub user_left : (T E : Type 0) (node : ℕ) (call : Call) (user : List ℕ) (t : T) → IsLeave user call → IsStep on (Ok said.Noted) (step.Begin node call) old new

@@ -18,6 +18,7 @@ use Rattle.cluster_world.specs.declared.step.Said.TheVariants as said
 use Rattle.cluster_world.specs.declared.fault.StepFault.{StepFault}
 use Rattle.drive_tape.proofs.WholeTexts.{AreEnded, are_ended, whole_ended, leave_ended, whole_more}
 use Rattle.cluster_world.specs.Ended.{IsEnded}
+use Rattle.cluster_world.proofs.Ordered.{order_makes, order_are}
 use Rattle.drive_tape.specs.Worlds.{IsWholeOutcome, AreWhole, WorldIsAt, WentTo, HasFailed, HasCauses}
 
 -- as many disks, told alike, whose counts have not fallen
@@ -77,13 +78,13 @@ module _ {D : Type 0} (on : View D) where
   carries_came (Fell k node asked) awaited left old new came = carries_step _ _ _ _ came.2.did
   carries_came (Broke k node asked) awaited left old new came = carries_step _ _ _ _ came.3.did
   carries_came (Answers k asked ticket given) awaited left old new came = carries_step _ _ _ _ came.3.did
-  carries_came (StillPending k ticket) awaited left old new came = carries_step _ _ _ _ came.2.did
+  carries_came (StillPending k ticket) awaited left old new came = carries_step _ _ _ _ came.4.did
   carries_came (Unanswered k asked ticket) awaited left old new came = carries_step _ _ _ _ came.3.did
   carries_came (GaveUp k asked ticket) awaited left old new came = carries_step _ _ _ _ came.1.did
   carries_came (Abandoned k asked ticket) awaited left old new came = carries_step _ _ _ _ came.1.did
-  carries_came (KeptUp k ticket why) awaited left old new came = carries_step _ _ _ _ came.0.did
+  carries_came (KeptUp k ticket why) awaited left old new came = carries_step _ _ _ _ came.2.did
   carries_came (Left k node user) awaited left old new came = carries_step _ _ _ _ came.3.did
-  carries_came (Moved order steps) awaited left old new came = carries_steps steps old new came.1
+  carries_came (Moved order steps) awaited left old new came = carries_steps steps old new (order_makes on order steps old new came.0)
 
   pub carries_makes : (outcomes : List Outcome) (awaited left : List Awaited) (old new : World D) → Makes on outcomes awaited old left new → Carries on (state_of old) (state_of new)
   carries_makes [] awaited left old new made = subst (λ (w : World D). Carries on (state_of old) (state_of w)) (sym made.1) (carries_none (state_of old))
@@ -125,13 +126,13 @@ module _ {D : Type 0} (on : View D) where
   stands_came (Fell k node asked) awaited left old new came whole = stands_step _ _ _ _ came.2.did (whole_ended came.0 asked came.1 whole)
   stands_came (Broke k node asked) awaited left old new came whole = stands_step _ _ _ _ came.3.did (whole_ended came.0 asked came.2 whole)
   stands_came (Answers k asked ticket given) awaited left old new came whole = stands_step _ _ _ _ came.3.did tt
-  stands_came (StillPending k ticket) awaited left old new came whole = stands_step _ _ _ _ came.2.did tt
+  stands_came (StillPending k ticket) awaited left old new came whole = stands_step _ _ _ _ came.4.did tt
   stands_came (Unanswered k asked ticket) awaited left old new came whole = stands_step _ _ _ _ came.3.did tt
   stands_came (GaveUp k asked ticket) awaited left old new came whole = stands_step _ _ _ _ came.1.did tt
   stands_came (Abandoned k asked ticket) awaited left old new came whole = stands_step _ _ _ _ came.1.did tt
-  stands_came (KeptUp k ticket why) awaited left old new came whole = stands_step _ _ _ _ came.0.did tt
+  stands_came (KeptUp k ticket why) awaited left old new came whole = stands_step _ _ _ _ came.2.did tt
   stands_came (Left k node user) awaited left old new came whole = stands_step _ _ _ _ came.3.did (leave_ended user came.0 came.2)
-  stands_came (Moved order steps) awaited left old new came whole = stands_steps steps old new came.1 (are_ended order steps came.0)
+  stands_came (Moved order steps) awaited left old new came whole = stands_steps steps old new (order_makes on order steps old new came.0) (are_ended order steps (order_are on order steps old new came.0))
 
   stands_makes : (outcomes : List Outcome) (awaited left : List Awaited) (old new : World D) → Makes on outcomes awaited old left new → AreWhole outcomes → disks_tell on.seen old ≡ true → ((w : machine.World) × StandsFor on old w)
       → ((w : machine.World) × StandsFor on new w)

@@ -12,7 +12,7 @@ use Rattle.session_model.specs.Sessions.{Session, session_at, exchanges_of}
 use Rattle.session_model.specs.Acts.{Act}
 use Rattle.session_model.specs.Acts.Act.{Leaves}
 use Rattle.session_model.specs.Lives.{failed_in}
-use Rattle.session_model.specs.Turns.{Turn, IsReadyToAsk, IsAtRest, Next, to_leave}
+use Rattle.session_model.specs.Turns.{Turn, IsReadyToAsk, IsAtRest, IsAtNode, Next, to_leave}
 use Rattle.session_model.specs.Turns.Turn.{Hearing, Asking}
 use Rattle.session_model.specs.Run.{Stop}
 use Rattle.session_model.specs.Run.Stop.{SinkFailed, OutOfMemory}
@@ -65,9 +65,9 @@ module _ (p : Point) (place onward : ℕ) (plain : Session) (turn : p.turn ≡ H
   pub next_leaves : (user : List ℕ) → entered_as (exchanges_of plain) ≡ Some user → Next p.turn p.sessions (Leaves (place + 1) user) (Asking onward)
   next_leaves user is = subst (λ (t : Turn). Next t p.sessions (Leaves (place + 1) user) (Asking onward)) (sym turn) (refl, leaves ∙ is, refl)
 
-  pub leaves_one : (plan : Plan) (node : ℕ) (user : List ℕ) → entered_as (exchanges_of plain) ≡ Some user
+  pub leaves_one : (plan : Plan) (node : ℕ) (user : List ℕ) → plain.node ≡ node → entered_as (exchanges_of plain) ≡ Some user
       → OneAct plan p (Leaves (place + 1) user) [] (Left (place + 1) node user ∷ []) (Asking onward) p.sessions
-  leaves_one plan node user is = record { next = next_leaves user is; acted = (refl, refl); linked = record { made = refl; asked = refl; answered = refl; waits = refl }; at_nodes = (tt, tt) }
+  leaves_one plan node user own is = record { next = next_leaves user is; acted = (refl, refl); linked = (node, refl); at_nodes = (subst (IsAtNode node) (sym at_k) own, tt) }
 
 -- the point after the leave
 abbrev pub left_point : Point → ℕ → ℕ → ℕ → List ℕ → Point
@@ -83,16 +83,16 @@ module _ {D : Type 0} (on : View D) (start : World D) (plan : Plan) (p : Point) 
     so_is = ready_ended p place onward ends.plain ends.turn ends.here ends.idle ends.leaves_as (no_leave _ ends.leaves);
   }
 
-  pub has_left : (call : Call) → (shows : IsAtPoint on start plan cluster p) → (ends : SessionEndsAt place onward (Some call) p) → new.sessions ≡ cluster.sessions
+  pub has_left : (call : Call) → (shows : IsAtPoint on start plan cluster p) → (ends : SessionEndsAt place onward (Some call) p) → ends.plain.node ≡ node → new.sessions ≡ cluster.sessions
       → ((user : List ℕ) → IsLeave user call → AreSameLives cluster.world new.world × WentTo on start cluster.world (p.outcomes ++ Left (place + 1) node user ∷ []) p.awaited new.world)
       → WentOn on start plan p (RestsAt onward) p.held new
-  has_left call shows ends same left =
+  has_left call shows ends own same left =
       let l = a_leave call _ ends.leaves in
       let q = left_point p place node onward l.0 in
       let went = left l.0 l.2 in
       record {
         q = q;
-        work = work_act plan p q (Leaves (place + 1) l.0) [] (Left (place + 1) node l.0 ∷ []) (leaves_one p place onward ends.plain ends.turn ends.here ends.idle ends.leaves_as plan node l.0 l.1) refl refl (appends_none p.held);
+        work = work_act plan p q (Leaves (place + 1) l.0) [] (Left (place + 1) node l.0 ∷ []) (leaves_one p place onward ends.plain ends.turn ends.here ends.idle ends.leaves_as plan node l.0 own l.1) refl refl (appends_none p.held);
         held_is = refl;
         shows = record {
           at = went.1.at;
@@ -112,18 +112,18 @@ pub since_gone : {D : Type 0} (on : View D) (start old : World D) (outcomes : Li
 since_gone on start old outcomes world gone = (gone.0, gone.1.at)
 
 module _ {D : Type 0} (on : View D) (start : World D) (plan : Plan) (p : Point) (place onward node : ℕ) (cluster : Cluster D) (last : World D) where
-  pub stops_leaving : (call : Call) → (shows : IsAtPoint on start plan cluster p) → (ends : SessionEndsAt place onward (Some call) p)
+  pub stops_leaving : (call : Call) → (shows : IsAtPoint on start plan cluster p) → (ends : SessionEndsAt place onward (Some call) p) → ends.plain.node ≡ node
       → ((user : List ℕ) → IsLeave user call → HasGone on start cluster.world (p.outcomes ++ Left (place + 1) node user ∷ []) last)
       → Stopped on start plan p why.NoMemory p.held last
   unfolding cut_act
-  stops_leaving call shows ends left =
+  stops_leaving call shows ends own left =
       let l = a_leave call _ ends.leaves in
       record {
         stop = OutOfMemory;
         is = refl;
         outcomes = p.outcomes ++ Left (place + 1) node l.0 ∷ [];
         cut = cut_act plan p (Leaves (place + 1) l.0) [] (Left (place + 1) node l.0 ∷ []) (Asking onward) p.sessions OutOfMemory p.held [] [] []
-            (leaves_one p place onward ends.plain ends.turn ends.here ends.idle ends.leaves_as plan node l.0 l.1) refl (inl refl) (inl refl) (appends_none p.held);
+            (leaves_one p place onward ends.plain ends.turn ends.here ends.idle ends.leaves_as plan node l.0 own l.1) refl (inl refl) (inl refl) (appends_none p.held);
         causes = causes_on on start last p.been (Leaves (place + 1) l.0) (leaves_plain (place + 1) l.0) ((left l.0 l.2).1.causes (failed_in p.been) shows.causes);
         since = since_gone on start cluster.world _ last (left l.0 l.2);
       }

@@ -21,7 +21,7 @@ use Rattle.session_model.specs.Run.Stop.{BehindLine, Denied, SinkFailed, OutOfMe
 use Rattle.session_model.proofs.Driven.{begun_made}
 use Rattle.session_model.proofs.Written.{driven_writes_lines}
 use Rattle.node_store.specs.Disks.{View}
-use Rattle.cluster_world.specs.Outcomes.{Outcome}
+use Rattle.cluster_world.specs.Outcomes.{Outcome, made_of}
 use Rattle.cluster_world.specs.Worlds.{plan_of, life_of}
 use Rattle.cluster_world.specs.Opens.{IsAtBeginning}
 use Rattle.cluster_world.specs.Owing.{WorldOwes}
@@ -35,21 +35,22 @@ use Rattle.drive_tape.specs.declared.drove.Stop.{Stop as Why}
 use Rattle.drive_tape.specs.declared.drove.Stop.TheVariants as why
 use Rattle.drive_tape.specs.declared.reader.LineStop.{LineStop}
 use Rattle.drive_tape.specs.declared.reader.LineStop.TheVariants as line
-use Rattle.drive_tape.specs.Drive.{Stops, NamesLine, MayLackOne, Drives, EndsDenied, stop_of}
+use Rattle.drive_tape.specs.Drive.{Stops, NamesLine, IsLineAtMost, Drives, EndsDenied, stop_of}
 use Rattle.drive_tape.specs.Faults.{tape_fault_seen}
 use Rattle.drive_tape.specs.Lines.{IsWhy, LineStopped}
 use Rattle.drive_tape.specs.Parts.{IsCutEntry, IsPartOfLine}
-use Rattle.drive_tape.specs.Points.{Point, AreLinked, AreAtOwnNodes, IsAtPoint}
+use Rattle.drive_tape.specs.Led.{AreLed, AreLedTo}
+use Rattle.drive_tape.specs.Points.{Point, AreAtOwnNodes, IsAtPoint}
 use Rattle.drive_tape.specs.Reads.{ReadsLine}
 use Rattle.drive_tape.specs.Runs.{Progress, Turned}
 use Rattle.drive_tape.specs.Stops.{of_line}
 use Rattle.drive_tape.specs.Talks.{Converse}
 use Rattle.drive_tape.specs.Worlds.{WorldIsAt, IsSince, HasCauses}
 use Rattle.drive_tape.proofs.AtFirst.{first_lives, node_within}
-use Rattle.drive_tape.proofs.Kept.{kept_in, none_waits}
+use Rattle.drive_tape.proofs.Kept.{kept_in, none_waits, letters_in}
 use Rattle.drive_tape.proofs.OwnNodes.{NodesStay, all_stay, at_nodes_more}
 use Rattle.drive_tape.proofs.Wholes.{stays_whole}
-use Rattle.drive_tape.proofs.Works.{linked_more}
+use Rattle.drive_tape.proofs.Led.{AreLinked, MayLackOne, led_more, to_none, to_more, to_linked, to_waits}
 
 abbrev IsNoLf : ℕ → Type 0
 IsNoLf x = x ≢ 10
@@ -78,7 +79,7 @@ progress_start {D} on world left held cluster begins is talkers nodes standing =
   outputs = [];
   point = record { turn = Asking 1; sessions = []; been = []; outcomes = []; awaited = []; held = held };
   are = refl;
-  linked = record { made = refl; asked = refl; answered = refl; waits = refl };
+  linked = refl;
   at_nodes = tt;
   been = refl;
   gave = appends_none held;
@@ -153,9 +154,9 @@ goes_on on start left0 left1 left2 held0 held1 held2 old new count room1 room2 r
       point = went.q;
       are = handled_more (plan_of start) [] [] p.handled p.acts p.outputs p.point.sessions step.0 went.acts went.outputs went.q.sessions p.are
           (subst (λ (d : List Act). IsHandled (plan_of start) d p.point.sessions step.0 went.acts went.outputs went.q.sessions) p.been went.handled);
-      linked = subst (λ (by : List Act). AreLinked by went.q.outcomes [] []) (sym (flat_last (λ a. a) p.acts went.acts))
-          (subst (λ (os : List Outcome). AreLinked (joined p.acts ++ went.acts) os [] []) (sym went.came)
-          (linked_more (joined p.acts) went.acts p.point.outcomes went.outcomes [] [] p.linked went.linked));
+      linked = subst (λ (by : List Act). AreLed [] by went.q.outcomes) (sym (flat_last (λ a. a) p.acts went.acts))
+          (subst (λ (os : List Outcome). AreLed [] (joined p.acts ++ went.acts) os) (sym went.came)
+          (led_more [] (joined p.acts) p.point.outcomes went.acts went.outcomes p.linked went.linked));
       at_nodes = subst (AreAtOwnNodes went.q.sessions) (sym went.came)
           (at_nodes_more p.point.sessions went.q.sessions (line_stays (plan_of start) p.point.been p.point.sessions went.q.sessions step.0 went.acts went.outputs went.handled) p.point.outcomes went.outcomes p.at_nodes went.at_nodes);
       been = went.been ∙ ap (λ (l : List Act). l ++ went.acts) p.been ∙ sym (flat_last (λ a. a) p.acts went.acts);
@@ -175,9 +176,8 @@ pub record Halt {D : Type 0} (on : View D) (start : World D) (plan : Plan) (p : 
   pub extra : List Made
   pub off : IsLeftOff plan p.been stop p.sessions midst behind tail extra sessions
   pub lacking : List Asked
-  pub linked : AreLinked (joined behind) new lacking extra
+  pub linked : AreLedTo stop p.outcomes (joined behind) new lacking extra
   pub at_nodes : AreAtOwnNodes sessions new
-  pub lack : MayLackOne stop lacking
   pub since : IsSince on start (p.outcomes ++ new) world
   pub causes : HasCauses on start (failed_in (p.been ++ joined behind)) world
   pub missing : List Entry
@@ -186,12 +186,6 @@ pub record Halt {D : Type 0} (on : View D) (start : World D) (plan : Plan) (p : 
   pub is_cut : IsCutEntry missing cut
   pub whole : stop ≡ BehindLine → cut ≡ []
   pub gave : Appends p.held held (written_of tail ++ cut)
-
-may_lack_none : (stop : Stop) → MayLackOne stop []
-may_lack_none BehindLine = refl
-may_lack_none Denied = refl
-may_lack_none SinkFailed = refl
-may_lack_none OutOfMemory = inl refl
 
 -- nothing was done
 pub halt_none : {D : Type 0} (on : View D) (start : World D) (plan : Plan) (p : Point) (held : Option (List ℕ)) (cluster : Cluster D) (stop : Stop)
@@ -202,9 +196,8 @@ halt_none on start plan p held cluster stop shows same other undenied = record {
   extra = [];
   off = (refl, refl, refl, other, undenied);
   lacking = [];
-  linked = record { made = refl; asked = refl; answered = refl; waits = refl };
+  linked = to_none stop p.outcomes;
   at_nodes = tt;
-  lack = may_lack_none stop;
   since = (p.awaited, subst (λ (os : List Outcome). WorldIsAt on start os p.awaited cluster.world) (sym (append-nil p.outcomes)) shows.at);
   causes = subst (λ (d : List Act). HasCauses on start (failed_in d) cluster.world) (sym (append-nil p.been)) shows.causes;
   missing = [];
@@ -225,7 +218,6 @@ halt_line on start plan p line reason held world s = record {
   lacking = s.lacking;
   linked = s.linked;
   at_nodes = s.at_nodes;
-  lack = s.lack;
   since = s.since;
   causes = s.causes;
   missing = s.missing;
@@ -290,9 +282,9 @@ module _ {D : Type 0} (on : View D) (start : World D) (left0 left1 left2 held0 h
     abbrev entries : List Entry
     entries = flat_map all_of p.outputs ++ h.tail
 
-    driven : (s : Stop) (tail : List Entry) (extra : List Made) → IsLeftOff (plan_of start) p.point.been s p.point.sessions midst h.behind tail extra sessions
-        → IsDriven (plan_of start) s p.handled midst p.acts h.behind (flat_map made_by (joined (p.acts ++ h.behind)) ++ extra) (flat_map all_of p.outputs ++ tail) sessions
-    driven s tail extra off = record {
+    driven : (s : Stop) (tail : List Entry) (extra made : List Made) → made ≡ flat_map made_by (joined (p.acts ++ h.behind)) ++ extra → IsLeftOff (plan_of start) p.point.been s p.point.sessions midst h.behind tail extra sessions
+        → IsDriven (plan_of start) s p.handled midst p.acts h.behind made (flat_map all_of p.outputs ++ tail) sessions
+    driven s tail extra made are off = record {
       outputs = p.outputs;
       mid = p.point.sessions;
       are = p.are;
@@ -300,11 +292,18 @@ module _ {D : Type 0} (on : View D) (start : World D) (left0 left1 left2 held0 h
       extra = extra;
       off = subst (λ (d : List Act). IsLeftOff (plan_of start) d s p.point.sessions midst h.behind tail extra sessions) p.been off;
       written = refl;
-      steps = refl;
+      steps = are;
     }
 
-    is_driven : IsDriven (plan_of start) stop p.handled midst p.acts h.behind (flat_map made_by (joined (p.acts ++ h.behind)) ++ h.extra) entries sessions
-    is_driven = driven stop h.tail h.extra h.off
+    led : AreLedTo stop [] (joined (p.acts ++ h.behind)) (p.point.outcomes ++ new) h.lacking h.extra
+    led = subst (λ (by : List Act). AreLedTo stop [] by (p.point.outcomes ++ new) h.lacking h.extra) (sym (flat_map-append (λ a. a) p.acts h.behind))
+        (to_more stop [] (joined p.acts) p.point.outcomes (joined h.behind) new h.lacking h.extra p.linked h.linked)
+
+    linked : AreLinked (joined (p.acts ++ h.behind)) (p.point.outcomes ++ new) h.lacking h.extra × MayLackOne stop h.lacking
+    linked = to_linked stop [] (joined (p.acts ++ h.behind)) (p.point.outcomes ++ new) h.lacking h.extra led
+
+    is_driven : IsDriven (plan_of start) stop p.handled midst p.acts h.behind (map made_of (p.point.outcomes ++ new)) entries sessions
+    is_driven = driven stop h.tail h.extra (map made_of (p.point.outcomes ++ new)) linked.0.made h.off
 
     rest : HasNoLf h.cut
     rest = ⊎_elim
@@ -312,17 +311,14 @@ module _ {D : Type 0} (on : View D) (start : World D) (left0 left1 left2 held0 h
         (λ (some : (more : List Made) × IsLeftOff (plan_of start) p.point.been OutOfMemory p.point.sessions midst h.behind (h.tail ++ h.missing) more sessions).
         cut_line h.missing h.cut h.is_cut (missing_lines entries h.missing
         (subst (λ (es : List Entry). All HasNoLf (map entry_line es)) (sym (append_assoc (flat_map all_of p.outputs) h.tail h.missing))
-        (driven_writes_lines (plan_of start) OutOfMemory p.handled midst p.acts h.behind _ _ sessions (driven OutOfMemory (h.tail ++ h.missing) some.0 some.1)))))
+        (driven_writes_lines (plan_of start) OutOfMemory p.handled midst p.acts h.behind _ _ sessions (driven OutOfMemory (h.tail ++ h.missing) some.0 _ refl some.1)))))
         h.all
-
-    linked : AreLinked (joined (p.acts ++ h.behind)) (p.point.outcomes ++ new) h.lacking h.extra
-    linked = subst (λ (by : List Act). AreLinked by (p.point.outcomes ++ new) h.lacking h.extra) (sym (flat_map-append (λ a. a) p.acts h.behind))
-        (linked_more (joined p.acts) (joined h.behind) p.point.outcomes new h.lacking h.extra p.linked h.linked)
 
     nodes_are : AreAtOwnNodes sessions (p.point.outcomes ++ new)
     nodes_are = at_nodes_more p.point.sessions sessions (left_stays (plan_of start) p.point.been stop p.point.sessions sessions midst h.behind h.tail h.extra h.off) p.point.outcomes new p.at_nodes h.at_nodes
 
     pub drives_of : Drives on start left0 left2 held0 held2 answer from world
+    unfolding is_driven driven
     drives_of = record {
       read = flat_map ended p.handled ++ taken;
       handled = p.handled;
@@ -337,7 +333,6 @@ module _ {D : Type 0} (on : View D) (start : World D) (left0 left1 left2 held0 h
       stop = stop;
       acts = p.acts;
       behind = h.behind;
-      made = flat_map made_by (joined (p.acts ++ h.behind)) ++ h.extra;
       entries = entries;
       sessions = sessions;
       driven = is_driven;
@@ -350,21 +345,20 @@ module _ {D : Type 0} (on : View D) (start : World D) (left0 left1 left2 held0 h
       awaited = h.since.0;
       lacking = h.lacking;
       steps = h.since.1.made;
-      made_are = linked.made;
-      asked_are = linked.asked;
-      lack = h.lack;
+      led = led;
       at_nodes = nodes_are;
-      answered_are = linked.answered;
-      waits_are = linked.waits;
-      none_waits = none_waits on start world begins stop p.handled midst p.acts h.behind _ entries sessions is_driven (p.point.outcomes ++ new) h.since.0 h.since.1.made linked.made nodes_are linked.waits;
+      none_waits = none_waits on start world begins stop p.handled midst p.acts h.behind _ entries sessions is_driven (p.point.outcomes ++ new) h.since.0 h.since.1.made refl nodes_are
+          (λ k among. to_waits k stop [] (joined (p.acts ++ h.behind)) (p.point.outcomes ++ new) h.lacking h.extra led among);
       why = subst (λ (d : List Act). Stops (stop_of answer) stop (plan_of start) d sessions midst left2 others room2 (p.point.outcomes ++ new)) p.been stops;
       number = subst (λ (n : ℕ). NamesLine answer (from + n + 1)) (sym p.counted) names;
       whole = uncut on start (plan_of start) p.point held2 world stop midst sessions new h;
       later = λ n disk disk' there at. later_after on (p.point.outcomes ++ new) [] h.since.0 start world n disk disk' h.since.1.made there at;
       fallen = λ n among. h.causes n (subst (λ (d : List Act). Among n (failed_in d)) (flat_map-append (λ a. a) p.acts h.behind ∙ ap (λ (l : List Act). l ++ joined h.behind) (sym p.been)) among);
-      quiet = stays_whole on (p.point.outcomes ++ new) h.since.0 start world h.since.1.made;
-      kept = kept_in on start world begins stop p.handled midst p.acts h.behind _ entries sessions is_driven (p.point.outcomes ++ new) h.since.0 h.since.1.made linked.made nodes_are
-          owing h.lacking linked.asked h.lack linked.answered (plan_stays on (p.point.outcomes ++ new) [] h.since.0 start world h.since.1.made).0;
+      letters = letters_in on start world begins stop p.handled midst p.acts h.behind _ entries sessions is_driven (p.point.outcomes ++ new) h.since.0 h.since.1.made refl nodes_are
+          (plan_stays on (p.point.outcomes ++ new) [] h.since.0 start world h.since.1.made).0;
+      quiet = stays_whole on (p.point.outcomes ++ new) h.since.0 start world;
+      kept = kept_in on start world begins stop p.handled midst p.acts h.behind _ entries sessions is_driven (p.point.outcomes ++ new) h.since.0 h.since.1.made refl nodes_are
+          owing h.lacking linked.0.asked linked.1 linked.0.answered (plan_stays on (p.point.outcomes ++ new) [] h.since.0 start world h.since.1.made).0;
     }
 
 -- a line that is not handled: `end`, one that is no order, or one for whose order memory ran out
@@ -386,7 +380,6 @@ not_handled on start plan p line reason held cluster stop shows same other unden
       lacking = h.lacking;
       linked = h.linked;
       at_nodes = h.at_nodes;
-      lack = h.lack;
       since = h.since;
       causes = h.causes;
       missing = h.missing;

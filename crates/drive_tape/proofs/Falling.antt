@@ -92,7 +92,7 @@ module _ {D : Type 0} (on : View D) (start : World D) (plan : Plan) (p : Point) 
       acted = subst (λ (es : List Entry). Acted plan p.sessions (Does (place + 1) Falls) es (slice_set p.sessions place fell.after))
           (ap (λ (es : List Entry). said_lines (place + 1) (down_line t.plain.protocol t.plain.node ∷ []) ++ es) (ap (closing (place + 1) Falls) down))
           (acted_does plan p.sessions place t.plain fell.after Falls (down_line t.plain.protocol t.plain.node ∷ []) t.here (fell.did plan));
-      linked = record { made = refl; asked = refl; answered = refl; waits = refl };
+      linked = refl;
       at_nodes = tt;
     }
 
@@ -204,7 +204,7 @@ module _ {D : Type 0} (on : View D) (start : World D) (plan : Plan) (p : Point) 
     next = subst (λ (t : Turn). Next t p.sessions (Faults node) (Falling 1 node onward)) (sym f.turn)
         (subst (IsAtNode node) (sym (at_place p.sessions (place + 1) place refl ∙ f.here)) f.own, refl);
     acted = (refl, refl);
-    linked = record { made = refl; asked = refl; answered = refl; waits = refl };
+    linked = (refl, f.fell);
     at_nodes = tt;
   }
 

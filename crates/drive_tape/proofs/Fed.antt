@@ -15,13 +15,12 @@ use Rattle.session_model.specs.Acts.{Act, Acted, closing}
 use Rattle.session_model.specs.Acts.Act.{Does}
 use Rattle.session_model.specs.Acts.Deed.{IsFed}
 use Rattle.session_model.specs.Lives.{failed_in}
-use Rattle.session_model.specs.Logs.{Asked, Answered}
 use Rattle.session_model.specs.Turns.{Starts}
 use Rattle.session_model.specs.Turns.Turn.{Hearing}
 use Rattle.session_model.specs.Run.{Stop, FirstStep, IsInVain, refusal, session_fault, giving_fault, waiting_fault, is_on}
 use Rattle.session_model.specs.Run.Stop.{BehindLine, Denied, SinkFailed, OutOfMemory}
 use Rattle.node_store.specs.Disks.{View}
-use Rattle.cluster_world.specs.Outcomes.{Outcome, Awaited, made_of, asked_by_outcome, answered_by_outcome}
+use Rattle.cluster_world.specs.Outcomes.{Outcome, Awaited, made_of}
 use Rattle.cluster_world.specs.declared.fault.StepFault.{StepFault}
 use Rattle.cluster_world.specs.declared.fault.StepFault.TheVariants as fault
 use Rattle.cluster_world.specs.declared.world.World.{World}
@@ -32,24 +31,26 @@ use Rattle.drive_tape.specs.declared.drove.Stop.TheVariants as why
 use Rattle.drive_tape.specs.declared.drove.TapeFault.{TapeFault}
 use Rattle.drive_tape.specs.declared.drove.TapeFault.TheVariants as tape
 use Rattle.drive_tape.specs.Denials.{stop_by}
-use Rattle.drive_tape.specs.Drive.{MayLackOne, IsDenied}
+use Rattle.drive_tape.specs.Drive.{IsDenied}
 use Rattle.drive_tape.specs.Faults.{tape_fault_seen}
 use Rattle.drive_tape.specs.Fed.{IsFeeding, IsFeedingAt}
 use Rattle.drive_tape.specs.Talks.{Converse, HasOwnTicket, TicketFits, StandsOnNode, SessionIsFound}
 use Rattle.drive_tape.specs.Worlds.{IsSince, HasCauses}
-use Rattle.drive_tape.specs.Points.{Point, Work, waits_by_outcome, IsAtOwnNode, IsAtPoint, WorkGoes}
+use Rattle.drive_tape.specs.Led.{IsUntold}
+use Rattle.drive_tape.specs.Points.{Point, Work, IsAtOwnNode, IsAtPoint, WorkGoes}
 use Rattle.drive_tape.specs.Clusters.{SessionHears, RestsAt, AsksFrom}
 use Rattle.drive_tape.specs.Lines.{IsStarted, LineStopped, IsWhy}
 use Rattle.drive_tape.proofs.Talks.{is_spoken_to, at_place, count_same, set_here, within_get}
 use Rattle.drive_tape.proofs.Acting.{acted_does}
+use Rattle.drive_tape.proofs.Led.{to_none, to_untold}
 use Rattle.drive_tape.proofs.Clusters.{goes_more, goes_plan}
 use Rattle.drive_tape.proofs.Places.{each_set, nodes_set, does_plain, up_on, lives_on, same_lives, causes_on}
 
 -- nothing was done
 module _ {D : Type 0} (on : View D) (start : World D) (plan : Plan) (p : Point) (line : List ℕ) (held : Option (List ℕ)) (world : World D) (same : p.held ≡ held)
     (since : IsSince on start p.outcomes world) (causes : HasCauses on start (failed_in p.been) world) where
-  stopped : (stop : Stop) (reason : Why) → stop ≢ SinkFailed → stop ≢ Denied → IsWhy reason plan p line stop [] [] → MayLackOne stop [] → LineStopped on start plan p line reason held world
-  stopped stop reason not_sink not_denied is lacks = record {
+  stopped : (stop : Stop) (reason : Why) → stop ≢ SinkFailed → stop ≢ Denied → IsWhy reason plan p line stop [] [] → LineStopped on start plan p line reason held world
+  stopped stop reason not_sink not_denied is = record {
     stop = stop;
     midst = [];
     behind = [];
@@ -61,9 +62,8 @@ module _ {D : Type 0} (on : View D) (start : World D) (plan : Plan) (p : Point) 
     new = [];
     why = is;
     lacking = [];
-    linked = record { made = refl; asked = refl; answered = refl; waits = refl };
+    linked = to_none stop p.outcomes;
     at_nodes = tt;
-    lack = lacks;
     since = subst (λ (os : List Outcome). IsSince on start os world) (sym (append-nil p.outcomes)) since;
     causes = subst (λ (been : List Act). HasCauses on start (failed_in been) world) (sym (append-nil p.been)) causes;
     missing = [];
@@ -75,19 +75,19 @@ module _ {D : Type 0} (on : View D) (start : World D) (plan : Plan) (p : Point) 
   }
 
   pub not_begun : LineStopped on start plan p line why.NoMemory held world
-  not_begun = stopped OutOfMemory why.NoMemory (λ is. absurd (let never : OutOfMemory ≡ SinkFailed = is in cc)) (λ is. absurd (let never : OutOfMemory ≡ Denied = is in cc)) refl (inl refl)
+  not_begun = stopped OutOfMemory why.NoMemory (λ is. absurd (let never : OutOfMemory ≡ SinkFailed = is in cc)) (λ is. absurd (let never : OutOfMemory ≡ Denied = is in cc)) refl
 
   pub refused : (order : Order) (one : TapeFault) → tape_order line ≡ Some order → refusal plan p.been p.sessions order ≡ Some (tape_fault_seen one) → LineStopped on start plan p line (why.Bad one) held world
   refused order one spelled is =
       stopped BehindLine (why.Bad one) (λ so. absurd (let never : BehindLine ≡ SinkFailed = so in cc)) (λ so. absurd (let never : BehindLine ≡ Denied = so in cc))
-      (inl (refl, refl, inr (order, spelled, is))) refl
+      (inl (refl, refl, inr (order, spelled, is)))
 
 -- The first step of a line was made, and nothing came of it.
 module _ {D : Type 0} (on : View D) (start : World D) (plan : Plan) (p : Point) (line : List ℕ) (held : Option (List ℕ)) (world : World D) (same : p.held ≡ held)
     (order : Order) (spelled : tape_order line ≡ Some order) (accepted : refusal plan p.been p.sessions order ≡ None) (outcome : Outcome) (first : FirstStep order p.sessions (made_of outcome))
-    (asks : asked_by_outcome outcome ≡ []) (answers : answered_by_outcome outcome ≡ []) (waits : waits_by_outcome outcome ≡ []) (own : IsAtOwnNode p.sessions outcome) (since : IsSince on start (p.outcomes ++ outcome ∷ []) world) (causes : HasCauses on start (failed_in p.been) world) where
-  tried : (stop : Stop) (reason : Why) → IsInVain stop → IsWhy reason plan p line stop (line ∷ []) (outcome ∷ []) → MayLackOne stop [] → LineStopped on start plan p line reason held world
-  tried stop reason vain is lacks = record {
+    (untold : IsUntold outcome) (own : IsAtOwnNode p.sessions outcome) (since : IsSince on start (p.outcomes ++ outcome ∷ []) world) (causes : HasCauses on start (failed_in p.been) world) where
+  tried : (stop : Stop) (reason : Why) → IsInVain stop → IsWhy reason plan p line stop (line ∷ []) (outcome ∷ []) → LineStopped on start plan p line reason held world
+  tried stop reason vain is = record {
     stop = stop;
     midst = line ∷ [];
     behind = [] ∷ [];
@@ -99,9 +99,8 @@ module _ {D : Type 0} (on : View D) (start : World D) (plan : Plan) (p : Point) 
     new = outcome ∷ [];
     why = is;
     lacking = [];
-    linked = record { made = refl; asked = sym (ap (λ (l : List Asked). (l ++ []) ++ []) asks); answered = sym (ap (λ (l : List Answered). l ++ []) answers); waits = sym (ap (λ (l : List ℕ). l ++ []) waits) };
+    linked = to_untold stop p.outcomes outcome untold;
     at_nodes = (own, tt);
-    lack = lacks;
     since = since;
     causes = subst (λ (been : List Act). HasCauses on start (failed_in been) world) (sym (append-nil p.been)) causes;
     missing = [];
@@ -113,7 +112,7 @@ module _ {D : Type 0} (on : View D) (start : World D) (plan : Plan) (p : Point) 
   }
 
   bad : (one : TapeFault) → IsDenied one outcome → LineStopped on start plan p line (why.Bad one) held world
-  bad one denied = tried Denied (why.Bad one) tt (inr (refl, refl, ([], outcome, refl, denied))) refl
+  bad one denied = tried Denied (why.Bad one) tt (inr (refl, refl, ([], outcome, refl, denied)))
 
   by_fault : (one : StepFault) → ((f : TapeFault) → stop_by one ≡ why.Bad f → IsDenied f outcome) → LineStopped on start plan p line (stop_by one) held world
   by_fault fault.NoSuchNode denied = bad tape.NoSuchNode (denied tape.NoSuchNode refl)
@@ -124,7 +123,7 @@ module _ {D : Type 0} (on : View D) (start : World D) (plan : Plan) (p : Point) 
   by_fault fault.NoSuchTicket denied = bad tape.NoSuchTicket (denied tape.NoSuchTicket refl)
   by_fault fault.Worn denied = bad tape.Worn (denied tape.Worn refl)
   by_fault fault.NoRoom denied = bad tape.NoRoom (denied tape.NoRoom refl)
-  by_fault (fault.NoMemory down) denied = tried OutOfMemory why.NoMemory tt refl (inl refl)
+  by_fault (fault.NoMemory down) denied = tried OutOfMemory why.NoMemory tt refl
 
   -- the cluster denied it, or memory ran out
   pub in_vain : (one : StepFault) (reason : Why) → reason ≡ stop_by one → ((f : TapeFault) → stop_by one ≡ why.Bad f → IsDenied f outcome) → LineStopped on start plan p line reason held world
@@ -212,7 +211,7 @@ module _ {D : Type 0} (on : View D) (start : World D) (plan : Plan) (p : Point) 
     acted = subst (λ (es : List Entry). Acted plan p.sessions (Does (place + 1) (IsFed octets)) es (slice_set p.sessions place fed)) (on_closing (place + 1) octets f.plain.standing f.on)
         (acted_does plan p.sessions place f.plain fed (IsFed octets) [] f.here (f.on, refl, refl));
     outcomes = [];
-    linked = record { made = refl; asked = refl; answered = refl; waits = refl };
+    linked = refl;
     at_nodes = tt;
     came = sym (append-nil p.outcomes);
     been = refl;

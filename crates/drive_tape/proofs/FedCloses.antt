@@ -32,7 +32,7 @@ use Rattle.drive_tape.specs.declared.drove.Stop.{Stop as Why}
 use Rattle.drive_tape.specs.Fed.{IsFreed, IsGivenUpFirst, IsClosingAt, IsGivingUpAt, IsLetGo, HadNone, IsKeptUp, GaveUpCall}
 use Rattle.drive_tape.specs.Leaving.{IsLeaveOf}
 use Rattle.drive_tape.specs.Lines.{IsStarted, LineStopped}
-use Rattle.drive_tape.specs.Points.{Point, Work, AreLinked, AreAtOwnNodes, IsAtPoint}
+use Rattle.drive_tape.specs.Points.{Point, Work, AreAtOwnNodes, IsAtPoint}
 use Rattle.drive_tape.specs.Clusters.{SessionEndsAt}
 use Rattle.drive_tape.specs.Talks.{Converse, HasOwnTicket, HasTicket, TicketFits, StandsOnNode, EachSession}
 use Rattle.drive_tape.specs.Worlds.{WorldIsAt, IsSince, WentTo, AreLives, HasCauses, GaveUpSo}
@@ -196,12 +196,12 @@ module _ {D : Type 0} (on : View D) (start : World D) (plan : Plan) (p : Point) 
   pub close_in_vain : tape_order line ≡ Some (Close (place + 1)) → LineStopped on start plan p line stop held world
   close_in_vain spelled =
       in_vain on start plan p line held world same (Close (place + 1)) spelled (is_spoken_to p.sessions (place + 1) k.plain at_k stands_on) (KeptUp (place + 1) k.ticket k.why)
-      (subst Waits (sym at_k) k.waits, refl) refl refl refl tt k.since k.causes k.why stop k.stops (λ f is. is)
+      (subst Waits (sym at_k) k.waits, refl) tt tt k.since k.causes k.why stop k.stops (λ f is. is)
 
   pub giving_in_vain : tape_order line ≡ Some (GiveUp (place + 1)) → LineStopped on start plan p line stop held world
   giving_in_vain spelled =
       in_vain on start plan p line held world same (GiveUp (place + 1)) spelled (ap giving_fault at_k ∙ ap waiting_fault k.waits.2) (KeptUp (place + 1) k.ticket k.why)
-      refl refl refl refl tt k.since k.causes k.why stop k.stops (λ f is. is)
+      refl tt tt k.since k.causes k.why stop k.stops (λ f is. is)
 
 -- a session that does not wait has no call to give up
 not_giving : (standing : Standing) → IsOn standing → ((state : TalkState) (call : calls.Call) → standing ≢ Waiting state call) → waiting_fault standing ≡ Some site.BadLine
@@ -276,7 +276,7 @@ module _ {D : Type 0} (on : View D) (start : World D) (plan : Plan) (p : Point) 
       starts = inl (refl, (λ waits. quiet (subst Waits at_it waits)), refl);
       acted = acted_so;
       outcomes = [];
-      linked = record { made = refl; asked = refl; answered = refl; waits = refl };
+      linked = refl;
       at_nodes = tt;
       came = ap (λ (l : List Outcome). p.outcomes ++ l) outcomes;
       been = ap (λ (l : List Act). (p.been ++ l) ++ Does (place + 1) Closes ∷ []) been ∙ ap (λ (l : List Act). l ++ Does (place + 1) Closes ∷ []) (append-nil p.been);
@@ -298,14 +298,14 @@ module _ {D : Type 0} (on : View D) (start : World D) (plan : Plan) (p : Point) 
       starts = inr (refl, subst Waits (sym at_it) waits, refl);
       acted = (refl, refl);
       outcomes = c.outcomes;
-      linked = subst (λ (os : List Outcome). AreLinked (Abandons (place + 1) ∷ []) os [] []) (sym outcomes) (record { made = refl; asked = refl; answered = refl; waits = refl });
+      linked = (asked, ticket, outcomes);
       at_nodes = subst (AreAtOwnNodes p.sessions) (sym outcomes) (tt, tt);
       came = refl;
       been = refl;
       gave = appends_none p.held;
     };
     work = work_act plan abandoned_point closed_point (Does (place + 1) Closes) [] []
-        (record { next = (refl, refl); acted = acted_so; linked = record { made = refl; asked = refl; answered = refl; waits = refl }; at_nodes = tt })
+        (record { next = (refl, refl); acted = acted_so; linked = refl; at_nodes = tt })
         (sym (append-nil (p.outcomes ++ c.outcomes))) (ap (λ (l : List Act). (p.been ++ l) ++ Does (place + 1) Closes ∷ []) been) (appends_none p.held);
   }
 

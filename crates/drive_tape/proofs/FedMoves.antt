@@ -39,7 +39,8 @@ use Rattle.drive_tape.specs.Happenings.{event_seen, fallen_by, WritesOrStops}
 use Rattle.drive_tape.specs.Lines.{IsStarted, LineDid, LineStopped}
 use Rattle.drive_tape.specs.Moved.{OrderIsFit, MovedSo}
 use Rattle.drive_tape.specs.Orders.{admitted_seen}
-use Rattle.drive_tape.specs.Points.{Point, AreLinked, IsAtPoint}
+use Rattle.drive_tape.specs.Led.{Led}
+use Rattle.drive_tape.specs.Points.{Point, IsAtPoint}
 use Rattle.drive_tape.specs.Stops.{of_write}
 use Rattle.drive_tape.specs.Talks.{HasOwnTicket, IsUpAt}
 use Rattle.drive_tape.specs.Worlds.{AreLives, HasCauses}
@@ -175,8 +176,8 @@ module _ {D : Type 0} (on : View D) (start : World D) (plan : Plan) (p : Point) 
       (λ (now : Among n (failed_by_event (event_seen event) ++ [])). h.happened.cause n (subst (Among n) (append-nil (failed_by_event (event_seen event))) now))
       (among_split n (failed_in p.been) (failed_by_event (event_seen event) ++ []) (subst (Among n) (flat_map-append failed_by p.been (Makes h.order (event_seen event) ∷ [])) among))
 
-  linked_so : AreLinked (Makes h.order (event_seen event) ∷ []) (Moved h.order h.happened.steps ∷ []) [] []
-  linked_so = record { made = refl; asked = refl; answered = refl; waits = refl }
+  linked_so : Led p.outcomes (Makes h.order (event_seen event)) (Moved h.order h.happened.steps ∷ [])
+  linked_so = (h.happened.steps, refl, h.happened.tells)
 
   pub moved_started : (held : Option (List ℕ)) → Appends p.held held (written_of (event_entries (event_seen event))) → IsStarted plan p (moved_point held) (Moves h.order)
   moved_started held gave = record {
@@ -235,5 +236,5 @@ pub moved_in_vain : {D : Type 0} (on : View D) (start : World D) (plan : Plan) (
 moved_in_vain on start plan p line one stop held old world same spelled accepted causes so =
     let denied = so.2 in
     let gone = so.3 in
-    in_vain on start plan p line held world same (Moves one) spelled accepted (Moved one so.1) (so.0, refl) refl refl refl tt (gone.0, gone.1.at) (gone.1.causes (failed_in p.been) causes) denied.why stop denied.stops
+    in_vain on start plan p line held world same (Moves one) spelled accepted (Moved one so.1) (so.0, refl) (denied.why, (denied.before, denied.one, denied.last, denied.refused)) tt (gone.0, gone.1.at) (gone.1.causes (failed_in p.been) causes) denied.why stop denied.stops
     (λ f is. (denied.before, denied.one, denied.why, denied.last, denied.refused, is))

@@ -110,7 +110,7 @@ module _ {D : Type 0} (on : View D) (start : World D) (plan : Plan) (p : Point) 
     starts = opens_so;
     acted = opens_acted;
     outcomes = [];
-    linked = record { made = refl; asked = refl; answered = refl; waits = refl };
+    linked = refl;
     at_nodes = tt;
     came = sym (append-nil p.outcomes);
     been = refl;
@@ -121,7 +121,7 @@ module _ {D : Type 0} (on : View D) (start : World D) (plan : Plan) (p : Point) 
   pub opened_stopped : (line : List ℕ) (held : Option (List ℕ)) (reason : WriteStop) (world : World D) → world ≡ old.world → tape.tape_order line ≡ Some (Open protocol node)
       → WritesEntries {E = WriteStop} p.held held (Err reason) (said_lines (length p.sessions + 1) (greeting_of protocol node boot (length p.sessions + 1) 0 ∷ []) ++ []) → LineStopped on start plan p line (of_write reason) held world
   opened_stopped line held reason world same spelled wrote =
-      stops_first on start plan p (Open protocol node) line spelled accepted (Opens protocol node greeting) _ (Asking 1) (p.sessions ++ opened_session protocol node ∷ []) opens_so opens_acted [] (record { made = refl; asked = refl; answered = refl; waits = refl }) tt
+      stops_first on start plan p (Open protocol node) line spelled accepted (Opens protocol node greeting) _ (Asking 1) (p.sessions ++ opened_session protocol node ∷ []) opens_so opens_acted [] refl tt
       reason held world wrote (p.awaited, rw (same, append-nil p.outcomes) shows.at)
       (causes_on on start world p.been (Opens protocol node greeting) (opens_plain protocol node greeting) (rw same shows.causes))
 

@@ -40,7 +40,8 @@ use Rattle.drive_tape.specs.Entries.{WritesEntries}
 use Rattle.drive_tape.specs.Fed.{IsTelling, WasFed, IsGivingUpAt}
 use Rattle.drive_tape.specs.Lines.{IsStarted, LineStopped}
 use Rattle.drive_tape.specs.Moving.{has_ended, RepliesTo, GoesOn}
-use Rattle.drive_tape.specs.Points.{Point, AreLinked, IsAtPoint, WentOn, Stopped}
+use Rattle.drive_tape.specs.Led.{Led}
+use Rattle.drive_tape.specs.Points.{Point, IsAtPoint, WentOn, Stopped}
 use Rattle.drive_tape.specs.Clusters.{RestsAt, IsAfter, SessionEndsAt}
 use Rattle.drive_tape.specs.Stops.{of_write}
 use Rattle.drive_tape.specs.Talks.{HasOwnTicket, StandsOnNode, IsUpAt, EachSession}
@@ -173,8 +174,8 @@ module _ {D : Type 0} (on : View D) (start : World D) (plan : Plan) (p : Point) 
   causes_now : HasCauses on start (failed_in p.been) old.world
   causes_now = subst (λ (been : List Act). HasCauses on start (failed_in been) old.world) (append-nil p.been) g.freed.causes
 
-  linked_so : (asked : calls.Call) (reply : List (List ℕ)) → g.call ≡ asked → AreLinked (Does (place + 1) (IsGivenUp asked reply) ∷ []) (GaveUp (place + 1) g.call g.ticket ∷ []) [] []
-  linked_so asked reply same = subst (λ (c : calls.Call). AreLinked (Does (place + 1) (IsGivenUp c reply) ∷ []) (GaveUp (place + 1) g.call g.ticket ∷ []) [] []) same (record { made = refl; asked = refl; answered = refl; waits = refl })
+  linked_so : (asked : calls.Call) (reply : List (List ℕ)) → g.call ≡ asked → Led p.outcomes (Does (place + 1) (IsGivenUp asked reply)) (GaveUp (place + 1) g.call g.ticket ∷ [])
+  linked_so asked reply same = (g.ticket, ap (λ (c : calls.Call). GaveUp (place + 1) c g.ticket ∷ []) same)
 
   -- memory ran out before it was told so
   pub untold : (held : Option (List ℕ)) → p.held ≡ held → LineStopped on start plan p line why.NoMemory held old.world

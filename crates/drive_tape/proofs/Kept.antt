@@ -25,7 +25,7 @@ use Rattle.session_model.specs.Run.Stop.{BehindLine, Denied, SinkFailed, OutOfMe
 use Rattle.session_model.specs.Runs.{Shows}
 use Rattle.session_model.specs.Books.{AreBegun}
 use Rattle.session_model.specs.Owes.{Owes}
-use Rattle.session_model.specs.OneNode.{IsSoundMail}
+use Rattle.session_model.specs.SoundMails.{IsSoundMail}
 use Rattle.session_model.specs.Kept.{IsEnding}
 use Rattle.session_model.proofs.InOrder.{kind_there}
 use Rattle.session_model.proofs.Books.{IsCallIn, among_in, call_at}
@@ -39,14 +39,19 @@ use Rattle.node_store.specs.Disks.{View}
 use Rattle.cluster_world.specs.Worlds.{plan_of, disks_of, book_of, disks_tell}
 use Rattle.cluster_world.specs.Opens.{IsAtBeginning}
 use Rattle.cluster_world.specs.Owing.{AreBlind, IsOfBlind, AllBlind, AreKnown, AreOfSessions, WorldOwes}
-use Rattle.cluster_world.specs.Outcomes.{Outcome, Awaited, StepMade, Came, Makes, AreStepsOf, IsPost, IsPushOf, made_of, asked_by_outcome, answered_by_outcome}
+use Rattle.cluster_world.specs.Outcomes.{Outcome, Awaited, StepMade, Came, Makes, IsPost, made_of, asked_by_outcome, answered_by_outcome}
+use Rattle.cluster_world.proofs.Ordered.{AreStepsOf, IsPushOf, order_are}
 use Rattle.cluster_world.specs.Outcomes.Outcome.{Began, Refused, Fell, Broke, Answers, StillPending, Unanswered, GaveUp, Abandoned, KeptUp, Left, Moved}
 use Rattle.cluster_world.specs.declared.world.World.{World}
 use Rattle.cluster_world.specs.Steps.{IsBlind}
+use Rattle.cluster_model.specs.Progress.{ask_of}
+use Rattle.cluster_model.specs.Progress.Ask.{Pending}
+use Rattle.cluster_world.proofs.Lasting.{pending_has_letter}
 use Rattle.cluster_world.proofs.Owed.{none_pending}
-use Rattle.drive_tape.specs.Drive.{MayLackOne}
+use Rattle.drive_tape.specs.Drive.{HasLetters}
 use Rattle.drive_tape.specs.Kept.{IsBlindOrder, AreBlindLines, AreToldOrBlind, KeptIn}
-use Rattle.drive_tape.specs.Points.{IsAtOwnNode, AreAtOwnNodes, waits_by, waits_by_outcome}
+use Rattle.drive_tape.specs.Points.{IsAtOwnNode, AreAtOwnNodes}
+use Rattle.drive_tape.proofs.Led.{MayLackOne}
 use Rattle.drive_tape.proofs.LineActs.{begun_is_asked, moved_by_line}
 use Rattle.drive_tape.proofs.OpenedKinds.{driven_kinds}
 
@@ -95,7 +100,7 @@ all_blind on nodes [] awaited left old new makes blind = tt
 all_blind {D} on nodes (outcome ∷ more) awaited left old new (between, mid, came, makes) blind = (one outcome came (λ asked is. blind asked (inl is)), all_blind on nodes more between left mid new makes (λ asked among. blind asked (inr among)))
   where
     one : (outcome : Outcome) → Came on outcome awaited old between mid → ((asked : ClusterOrder) → made_of outcome ≡ Made.Moves asked → IsBlindOrder nodes (Some (tape.Order.Moves asked))) → IsOfBlind nodes outcome
-    one (Moved asked steps) (are, made, waits) may = order_blind nodes asked steps are (may asked refl)
+    one (Moved asked steps) (made, waits) may = order_blind nodes asked steps (order_are on asked steps old mid made) (may asked refl)
     one (Began k node asked ticket) came may = tt
     one (Refused k node asked) came may = tt
     one (Fell k node asked) came may = tt
@@ -115,34 +120,6 @@ made_among (first ∷ outcomes) outcome among = ⊎_elim (λ (same : first ≡ o
 own_among : (sessions : List Session) (outcomes : List Outcome) (outcome : Outcome) → AreAtOwnNodes sessions outcomes → Among outcome outcomes → IsAtOwnNode sessions outcome
 own_among sessions [] outcome all among = absurd among
 own_among sessions (first ∷ outcomes) outcome all among = ⊎_elim (λ (same : first ≡ outcome). subst (IsAtOwnNode sessions) same all.0) (λ (rest : Among outcome outcomes). own_among sessions outcomes outcome all.1 rest) among
-
--- a session that waits has a ticket that is pending
-
-waits_among : (k : ℕ) (acts : List Act) → Among (StillWaits k) acts → Among k (flat_map waits_by acts)
-waits_among k [] among = absurd among
-waits_among k (act ∷ acts) among = ⊎_elim
-    (λ (same : act ≡ StillWaits k). among_front k (waits_by act) (flat_map waits_by acts) (subst (λ (a : Act). Among k (waits_by a)) (sym same) (inl refl)))
-    (λ (rest : Among (StillWaits k) acts). among_behind k (waits_by act) (flat_map waits_by acts) (waits_among k acts rest)) among
-
-behind : (k : ℕ) (outcome : Outcome) (more : List Outcome) → (ticket : Number) × Among (StillPending k ticket) more → (ticket : Number) × Among (StillPending k ticket) (outcome ∷ more)
-behind k outcome more found = (found.0, inr found.1)
-
-pending_among : (k : ℕ) (outcomes : List Outcome) → Among k (flat_map waits_by_outcome outcomes) → (ticket : Number) × Among (StillPending k ticket) outcomes
-pending_among k [] among = absurd among
-pending_among k (StillPending j ticket ∷ more) among = ⊎_elim
-    (λ (same : j ≡ k). (ticket, inl (ap (λ (n : ℕ). StillPending n ticket) same)))
-    (λ (rest : Among k (flat_map waits_by_outcome more)). behind k (StillPending j ticket) more (pending_among k more rest)) among
-pending_among k (Began j node asked ticket ∷ more) among = behind k (Began j node asked ticket) more (pending_among k more among)
-pending_among k (Refused j node asked ∷ more) among = behind k (Refused j node asked) more (pending_among k more among)
-pending_among k (Fell j node asked ∷ more) among = behind k (Fell j node asked) more (pending_among k more among)
-pending_among k (Broke j node asked ∷ more) among = behind k (Broke j node asked) more (pending_among k more among)
-pending_among k (Answers j asked ticket given ∷ more) among = behind k (Answers j asked ticket given) more (pending_among k more among)
-pending_among k (Unanswered j asked ticket ∷ more) among = behind k (Unanswered j asked ticket) more (pending_among k more among)
-pending_among k (GaveUp j asked ticket ∷ more) among = behind k (GaveUp j asked ticket) more (pending_among k more among)
-pending_among k (Abandoned j asked ticket ∷ more) among = behind k (Abandoned j asked ticket) more (pending_among k more among)
-pending_among k (KeptUp j ticket why ∷ more) among = behind k (KeptUp j ticket why) more (pending_among k more among)
-pending_among k (Left j node user ∷ more) among = behind k (Left j node user) more (pending_among k more among)
-pending_among k (Moved asked steps ∷ more) among = behind k (Moved asked steps) more (pending_among k more among)
 
 module _ {D : Type 0} (on : View D) (start last : World D) (begins : IsAtBeginning on (plan_of start) start)
     (stop : Stop) (handled midst : List (List ℕ)) (acts behind : List (List Act)) (made : List Made) (entries : List Entry) (sessions : List Session)
@@ -245,7 +222,13 @@ module _ {D : Type 0} (on : View D) (start last : World D) (begins : IsAtBeginni
       }
 
   -- where one node is all there is, no session waits
-  pub none_waits : flat_map waits_by done ≡ flat_map waits_by_outcome outcomes → AreToldOrBlind on start lines → plan.nodes ≡ 1 → plan.confirm ≡ 1 → 1 ≤ plan.copies → (k : ℕ) → Among (StillWaits k) done → ⊥
-  none_waits waits_are told alone sure some k among =
-      let found = pending_among k outcomes (subst (Among k) waits_are (waits_among k done among)) in
+  pub none_waits : ((k : ℕ) → Among (StillWaits k) done → (ticket : Number) × Among (StillPending k ticket) outcomes) → AreToldOrBlind on start lines → plan.nodes ≡ 1 → plan.confirm ≡ 1 → 1 ≤ plan.copies → (k : ℕ) → Among (StillWaits k) done → ⊥
+  none_waits waits told alone sure some k among =
+      let found = waits k among in
       none_pending on plan lines outcomes awaited start last alone sure some begins (known told) steps of_sessions k found.0 found.1
+
+  -- a ticket that is pending has a letter in flight
+  pub letters_in : (plan_of last ≡ plan_of start) → AreToldOrBlind on start lines → HasLetters last
+  letters_in same told number ticket got wanted stands pending =
+      pending_has_letter on plan lines outcomes awaited start last (record { begins = begins; known = known told; makes = steps; sessions = of_sessions }) number ticket stands got wanted
+      (subst (λ (p : Plan). ask_of p.confirm ticket ≡ Pending got wanted) same pending)

@@ -7,6 +7,7 @@ pub mod Heads
 pub mod Talkers
 pub mod PlanFits
 pub mod Happenings
+pub mod Led
 pub mod Chains
 pub mod Beginnings
 pub mod Calling
@@ -17,6 +18,7 @@ pub mod OwnNodes
 pub mod Clusters
 pub mod Acting
 pub mod Falling
+pub mod Done
 pub mod Hearing
 pub mod Moves
 pub mod Begins

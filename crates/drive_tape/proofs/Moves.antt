@@ -1,5 +1,5 @@
 -- The next move of a session, and the beginning of its call.
-use Rattle.std.proofs.Common.{◌≡◌, ◌+◌, ◌-◌, ◌++◌, ◌∷◌, ℕ, List, [], Some, None, refl, sym, ap, ◌∙◌, subst}
+use Rattle.std.proofs.Common.{◌≡◌, ◌+◌, ◌-◌, ◌++◌, ◌∷◌, ℕ, List, [], Option, Some, None, refl, sym, ap, ◌∙◌, subst}
 use Rattle.std.specs.Prelude.{slice_get, slice_set, if◌then◌else◌}
 use Rattle.std.proofs.lemmas.List.{append-nil}
 use Rattle.mail_model.specs.Plan.{Plan}
@@ -11,15 +11,14 @@ use Rattle.session_model.specs.Sessions.{Session, session_at, exchanges_of}
 use Rattle.session_model.specs.Acts.{Acted, Did, closing}
 use Rattle.session_model.specs.Acts.Act.{Does}
 use Rattle.session_model.specs.Acts.Deed.{Hears}
-use Rattle.session_model.specs.Logs.{Asked}
 use Rattle.session_model.specs.Turns.{Turn, IsReadyToAsk, IsAtRest, Next, to_leave, turn_after_unit}
 use Rattle.session_model.specs.Turns.Turn.{Hearing, Beginning}
-use Rattle.session_model.specs.Run.{Made, count_on}
+use Rattle.session_model.specs.Run.{count_on}
 use Rattle.call_tickets.specs.declared.call.Call.{Call}
 use Rattle.call_tickets.specs.Seen.{call_seen}
 use Rattle.call_tickets.specs.Moves.{IsWaiting, HearsNothing}
 use Rattle.node_store.specs.Disks.{View}
-use Rattle.cluster_world.specs.Outcomes.{Outcome, made_of, asked_by_outcome, answered_by_outcome}
+use Rattle.cluster_world.specs.Outcomes.{Outcome}
 use Rattle.cluster_world.specs.declared.world.World.{World}
 use Rattle.drive_tape.specs.declared.cluster.Cluster.{Cluster}
 use Rattle.drive_tape.specs.declared.sessions.After.{After}
@@ -27,42 +26,14 @@ use Rattle.drive_tape.specs.declared.sessions.After.TheVariants.{Stays, Ends}
 use Rattle.drive_tape.specs.declared.drove.Stop.TheVariants as why
 use Rattle.drive_tape.specs.Moving.{has_ended, HeardAt, StaysAt, GoesOn}
 use Rattle.drive_tape.specs.Talks.{HasOwnTicket, StandsOnNode, IsUpAt}
-use Rattle.drive_tape.specs.Points.{Point, OneAct, AreLinked, IsAtOwnNode, waits_by_outcome, IsAtPoint, WentOn}
+use Rattle.drive_tape.specs.Led.{Begins}
+use Rattle.drive_tape.specs.Points.{Point, OneAct, IsAtOwnNode, IsAtPoint, WentOn}
 use Rattle.drive_tape.specs.Clusters.{SessionHears, RestsAt, IsAfter, IsSaying, IsBeginning}
 use Rattle.drive_tape.proofs.Talks.{at_place, asks_waits, asks_silent, says_on, says_ended, count_same, count_less, set_here, within_get, did_node}
 use Rattle.drive_tape.proofs.Works.{work_none}
 use Rattle.drive_tape.proofs.Acting.{acted_does}
 use Rattle.drive_tape.proofs.Places.{NotWaiting, each_set, nodes_set, ticket_none, does_plain, up_on, lives_on, same_lives, causes_on}
 use Rattle.drive_tape.proofs.Falling.{own_none}
-
--- where no call is asked, a unit leads to no step
-hears_none : (k : ℕ) (one : Exchange) → one.call ≡ None → AreLinked (Does k (Hears one) ∷ []) [] [] []
-hears_none k one none = record { made = rw none refl; asked = rw none refl; answered = refl; waits = refl }
-
--- what began does not wait yet
-begins_waits : (k : ℕ) (asked : calls.Call) (outcome : Outcome) → made_of outcome ≡ Made.Begins k asked → waits_by_outcome outcome ≡ []
-begins_waits k asked (Outcome.Began j node call ticket) is = refl
-begins_waits k asked (Outcome.Refused j node call) is = refl
-begins_waits k asked (Outcome.Fell j node call) is = refl
-begins_waits k asked (Outcome.Broke j node call) is = refl
-begins_waits k asked (Outcome.Answers j call ticket given) is = refl
-begins_waits k asked (Outcome.StillPending j ticket) is = absurd (let never : Made.Asks j ≡ Made.Begins k asked = is in cc)
-begins_waits k asked (Outcome.Unanswered j call ticket) is = refl
-begins_waits k asked (Outcome.GaveUp j call ticket) is = refl
-begins_waits k asked (Outcome.Abandoned j call ticket) is = refl
-begins_waits k asked (Outcome.KeptUp j ticket why) is = refl
-begins_waits k asked (Outcome.Left j node user) is = refl
-begins_waits k asked (Outcome.Moved order steps) is = refl
-
--- and else to the beginning of the call
-pub hears_call : (k : ℕ) (one : Exchange) (asked : calls.Call) (outcome : Outcome) (lacking : List Asked) → one.call ≡ Some asked → made_of outcome ≡ Made.Begins k asked
-    → asked_by_outcome outcome ++ lacking ≡ record { session = k; call = asked } ∷ [] → answered_by_outcome outcome ≡ [] → AreLinked (Does k (Hears one) ∷ []) (outcome ∷ []) lacking []
-hears_call k one asked outcome lacking is made asks answers = record {
-  made = rw is (ap (λ (m : Made). m ∷ []) made);
-  asked = rw is (sym asks ∙ ap (λ (l : List Asked). l ++ lacking) (sym (append-nil (asked_by_outcome outcome))));
-  answered = sym (append-nil (answered_by_outcome outcome) ∙ answers);
-  waits = sym (append-nil (waits_by_outcome outcome) ∙ begins_waits k asked outcome made);
-}
 
 -- one that hears does not wait
 pub hears_quiet : (plan : Plan) (plain : Session) (one : Exchange) (said : List (List ℕ)) (after : Session) → Did plan plain (Hears one) said after → NotWaiting plain.standing
@@ -79,7 +50,7 @@ module _ (plan : Plan) (p : Point) (place onward : ℕ) (plain after : Session) 
   hears_one none = record {
     next = hears_next (Hearing (place + 1) onward) (ap (turn_after_unit (place + 1) onward) (sym none));
     acted = acted_does plan p.sessions place plain after (Hears one) one.reply here did;
-    linked = hears_none (place + 1) one none;
+    linked = subst (λ (c : Option calls.Call). Begins (place + 1) c []) (sym none) refl;
     at_nodes = tt;
   }
 
@@ -96,13 +67,12 @@ module _ (plan : Plan) (p : Point) (place onward : ℕ) (plain after : Session) 
   pub asks_next : (asked : calls.Call) → one.call ≡ Some asked → Next p.turn p.sessions (Does (place + 1) (Hears one)) (Beginning (place + 1) onward)
   asks_next asked is = hears_next (Beginning (place + 1) onward) (ap (turn_after_unit (place + 1) onward) (sym is))
 
-  pub asks_one : (asked : calls.Call) (outcome : Outcome) → one.call ≡ Some asked → made_of outcome ≡ Made.Begins (place + 1) asked
-      → asked_by_outcome outcome ≡ record { session = place + 1; call = asked } ∷ [] → answered_by_outcome outcome ≡ [] → IsAtOwnNode (slice_set p.sessions place after) outcome
+  pub asks_one : (asked : calls.Call) (outcome : Outcome) → one.call ≡ Some asked → Begins (place + 1) (Some asked) (outcome ∷ []) → IsAtOwnNode (slice_set p.sessions place after) outcome
       → OneAct plan p (Does (place + 1) (Hears one)) [] (outcome ∷ []) (Beginning (place + 1) onward) (slice_set p.sessions place after)
-  asks_one asked outcome is made asks answers own = record {
+  asks_one asked outcome is begins own = record {
     next = asks_next asked is;
     acted = asks_acted asked is;
-    linked = hears_call (place + 1) one asked outcome [] is made (append-nil (asked_by_outcome outcome) ∙ asks) answers;
+    linked = subst (λ (c : Option calls.Call). Begins (place + 1) c (outcome ∷ [])) (sym is) begins;
     at_nodes = (own, tt);
   }
 

@@ -78,14 +78,14 @@ own_stays : (old new : List Session) → NodesStay old new → (outcome : Outcom
 own_stays old new stay (Began k node asked ticket) own = stay k node own
 own_stays old new stay (Fell k node asked) own = stay k node own
 own_stays old new stay (Broke k node asked) own = stay k node own
-own_stays old new stay (Refused k node asked) own = tt
+own_stays old new stay (Refused k node asked) own = stay k node own
 own_stays old new stay (Answers k asked ticket given) own = tt
 own_stays old new stay (StillPending k ticket) own = tt
 own_stays old new stay (Unanswered k asked ticket) own = tt
 own_stays old new stay (GaveUp k asked ticket) own = tt
 own_stays old new stay (Abandoned k asked ticket) own = tt
 own_stays old new stay (KeptUp k ticket why) own = tt
-own_stays old new stay (Left k node user) own = tt
+own_stays old new stay (Left k node user) own = stay k node own
 own_stays old new stay (Moved order steps) own = tt
 
 -- and of more of them

@@ -15,7 +15,8 @@ use Rattle.node_store.specs.Disks.{View}
 use Rattle.cluster_world.specs.Worlds.{state_of, plan_of, life_of}
 use Rattle.cluster_world.specs.Steps.{StepDid, IsStep, WasToWork}
 use Rattle.cluster_world.specs.Turns.{life_after_step}
-use Rattle.cluster_world.specs.Outcomes.{Outcome, Awaited, StepMade, MakesSteps, AreStepsOf, fallen_in, left_after, left_after_all}
+use Rattle.cluster_world.specs.Outcomes.{Outcome, Awaited, StepMade, MakesSteps, MakesOrder, fallen_in, left_after, left_after_all}
+use Rattle.cluster_world.proofs.Ordered.{order_makes, order_are}
 use Rattle.cluster_world.specs.Outcomes.Outcome.{Moved}
 use Rattle.cluster_world.specs.declared.world.World.{World}
 use Rattle.cluster_world.specs.declared.step.Step.{Step}
@@ -27,6 +28,7 @@ use Rattle.drive_tape.specs.declared.drove.Stop.{Stop}
 use Rattle.drive_tape.specs.declared.event.ClusterEvent.{ClusterEvent}
 use Rattle.drive_tape.specs.Denials.{stop_by}
 use Rattle.drive_tape.specs.Happenings.{event_seen, fallen_by}
+use Rattle.drive_tape.specs.Led.{Tells}
 use Rattle.drive_tape.specs.Moved.{OrderIsFit, Happened, MovedSo}
 use Rattle.drive_tape.specs.Worlds.{WentTo}
 use Rattle.drive_tape.proofs.WholeTexts.{are_ended, front_ended}
@@ -103,15 +105,16 @@ module _ {D : Type 0} (on : View D) where
         }
 
     -- steps in which no node changed, and nothing else was to come of them
-    pub happens_calm : (new : World D) (steps : List StepMade) (event : ClusterEvent) → MakesSteps on steps old new → AreCalm steps → AreStepsOf order steps → fallen_by (event_seen event) ≡ None
+    pub happens_calm : (new : World D) (steps : List StepMade) (event : ClusterEvent) → MakesOrder on order steps old new → AreCalm steps → Tells order steps (event_seen event) → fallen_by (event_seen event) ≡ None
         → IsEventOf (plan_of old) (life_after been) order (event_seen event) → ((n : ℕ) (was : NodeLife) → life_by_event (event_seen event) n was ≡ was) → ((n : ℕ) → Among n (failed_by_event (event_seen event)) → ⊥)
         → Happened on start outcomes awaited been old order event new
-    happens_calm new steps event made calm are falls is lives none = record {
+    happens_calm new steps event makes calm tells falls is lives none = record {
       steps = steps;
       at = subst (λ (a : List Awaited). WentTo on start old (outcomes ++ Moved order steps ∷ []) a new) left
-          (went_more on start outcomes awaited old fit.at (Moved order steps) (left_after_all steps awaited) new (are, made, refl) tt);
+          (went_more on start outcomes awaited old fit.at (Moved order steps) (left_after_all steps awaited) new (makes, refl) tt);
       is = is;
-      lives = λ n there. calm_lives steps old new made calm n ∙ fit.lives n there ∙ sym (life_more been (MakesAct order (event_seen event)) n (Up 1) ∙ lives n (life_after been n));
+      tells = tells;
+      lives = λ n there. calm_lives steps old new (order_makes on order steps old new makes) calm n ∙ fit.lives n there ∙ sym (life_more been (MakesAct order (event_seen event)) n (Up 1) ∙ lives n (life_after been n));
       cause = λ n among. absurd (none n among);
     }
       where
@@ -124,43 +127,44 @@ module _ {D : Type 0} (on : View D) where
 
     -- such steps, and one more of which something came
     pub happens_after : (new mid : World D) (front : List StepMade) (one : StepMade) (event : ClusterEvent) → MakesSteps on front old mid → AreCalm front → IsStep on one.result one.step mid new
-        → AreStepsOf order (front ++ one ∷ []) → fallen_in one.step one.result ≡ fallen_by (event_seen event) → IsEventOf (plan_of old) (life_after been) order (event_seen event)
+        → MakesOrder on order (front ++ one ∷ []) old new → Tells order (front ++ one ∷ []) (event_seen event) → fallen_in one.step one.result ≡ fallen_by (event_seen event) → IsEventOf (plan_of old) (life_after been) order (event_seen event)
         → ((n : ℕ) (was : NodeLife) → life_after_step one.result one.step n was ≡ life_by_event (event_seen event) n was)
         → ((n : ℕ) → Among n (failed_by_event (event_seen event)) → one.result ≡ Ok (said.Faulted n)) → Happened on start outcomes awaited been old order event new
-    happens_after new mid front one event before calm last are falls is lives failed = record {
+    happens_after new mid front one event before calm last makes tells falls is lives failed = record {
       steps = front ++ one ∷ [];
       at = subst (λ (a : List Awaited). WentTo on start old (outcomes ++ Moved order (front ++ one ∷ []) ∷ []) a new)
           (calm_left front (one ∷ []) awaited calm ∙ ap (λ (f : Option ℕ). left_after f awaited) falls)
-          (went_more on start outcomes awaited old fit.at (Moved order (front ++ one ∷ [])) (left_after_all (front ++ one ∷ []) awaited) new (are, steps_more front one old mid new before last, refl) tt);
+          (went_more on start outcomes awaited old fit.at (Moved order (front ++ one ∷ [])) (left_after_all (front ++ one ∷ []) awaited) new (makes, refl) tt);
       is = is;
+      tells = tells;
       lives = λ n there.
           last.did.lives n ∙ lives n (life_of mid n) ∙ ap (λ (life : NodeLife). life_by_event (event_seen event) n life) (calm_lives front old mid before calm n ∙ fit.lives n there)
           ∙ sym (life_more been (MakesAct order (event_seen event)) n (Up 1));
       cause = λ n among.
           has_failed on start outcomes awaited old fit.at one.step n (state_of new) (state_of mid) (carries_more on (state_of start) (state_of old) (state_of mid) (carried on start outcomes awaited old fit.at) (carries_steps on front old mid before))
-          (λ told. let was = stands_at on start outcomes awaited old fit.at told in stands_steps on front old mid before (front_ended front (one ∷ []) (are_ended order (front ++ one ∷ []) are)) was.0 was.1)
+          (λ told. let was = stands_at on start outcomes awaited old fit.at told in stands_steps on front old mid before (front_ended front (one ∷ []) (are_ended order (front ++ one ∷ []) (order_are on order (front ++ one ∷ []) old new makes))) was.0 was.1)
           (subst (λ (r : Result Said StepFault). StepDid on r one.step (state_of mid) (state_of new)) (failed n among) last.did);
     }
 
     -- and one that was refused
     pub denied_after : (new mid : World D) (front : List StepMade) (one : StepMade) (why : StepFault) (stop : Stop) → MakesSteps on front old mid → IsStep on one.result one.step mid new
-        → AreStepsOf order (front ++ one ∷ []) → one.result ≡ Err why → stop ≡ stop_by why → (IsAlwaysDone order → ⊥) → MovedSo on start outcomes awaited been old order (Err stop) new
-    denied_after new mid front one why stop before last are refused stops never = (
+        → MakesOrder on order (front ++ one ∷ []) old new → one.result ≡ Err why → stop ≡ stop_by why → (IsAlwaysDone order → ⊥) → MovedSo on start outcomes awaited been old order (Err stop) new
+    denied_after new mid front one why stop before last makes refused stops never = (
       never,
       front ++ one ∷ [],
       record { before = front; one = one; last = refl; why = why; refused = refused; stops = stops },
       (
         left_after_all (front ++ one ∷ []) awaited,
-        went_more on start outcomes awaited old fit.at (Moved order (front ++ one ∷ [])) (left_after_all (front ++ one ∷ []) awaited) new (are, steps_more front one old mid new before last, refl) tt,
+        went_more on start outcomes awaited old fit.at (Moved order (front ++ one ∷ [])) (left_after_all (front ++ one ∷ []) awaited) new (makes, refl) tt,
       ),
     )
 
     -- a line of one step
-    pub happens : (new : World D) (s : Step) (r : Result Said StepFault) (event : ClusterEvent) → IsStep on r s old new → AreStepsOf order (record { step = s; result = r } ∷ []) → fallen_in s r ≡ fallen_by (event_seen event)
+    pub happens : (new : World D) (s : Step) (r : Result Said StepFault) (event : ClusterEvent) → IsStep on r s old new → MakesOrder on order (record { step = s; result = r } ∷ []) old new → Tells order (record { step = s; result = r } ∷ []) (event_seen event) → fallen_in s r ≡ fallen_by (event_seen event)
         → IsEventOf (plan_of old) (life_after been) order (event_seen event) → ((n : ℕ) (was : NodeLife) → life_after_step r s n was ≡ life_by_event (event_seen event) n was)
         → ((n : ℕ) → Among n (failed_by_event (event_seen event)) → r ≡ Ok (said.Faulted n)) → Happened on start outcomes awaited been old order event new
-    happens new s r event last are falls is lives failed = happens_after new old [] (record { step = s; result = r }) event refl tt last are falls is lives failed
+    happens new s r event last makes tells falls is lives failed = happens_after new old [] (record { step = s; result = r }) event refl tt last makes tells falls is lives failed
 
-    pub denied : (new : World D) (s : Step) (why : StepFault) (stop : Stop) → IsStep on (Err why) s old new → AreStepsOf order (record { step = s; result = Err why } ∷ []) → stop ≡ stop_by why
+    pub denied : (new : World D) (s : Step) (why : StepFault) (stop : Stop) → IsStep on (Err why) s old new → MakesOrder on order (record { step = s; result = Err why } ∷ []) old new → stop ≡ stop_by why
         → (IsAlwaysDone order → ⊥) → MovedSo on start outcomes awaited been old order (Err stop) new
-    denied new s why stop last are stops never = denied_after new old [] (record { step = s; result = Err why }) why stop refl last are refl stops never
+    denied new s why stop last makes stops never = denied_after new old [] (record { step = s; result = Err why }) why stop refl last makes refl stops never

@@ -12,7 +12,8 @@ use Rattle.node_store.specs.Disks.{View}
 use Rattle.cluster_world.specs.Worlds.{life_of, disk_of_node, disks_of}
 use Rattle.cluster_world.specs.Steps.{IsStep}
 use Rattle.cluster_world.specs.Turns.{life_after_step}
-use Rattle.cluster_world.specs.Outcomes.{Outcome, Awaited, StepMade, Came, Makes, MakesSteps, AreStepsOf, AreOne, IsPost, IsPushOf}
+use Rattle.cluster_world.specs.Outcomes.{Outcome, Awaited, StepMade, Came, Makes, MakesSteps, IsPost}
+use Rattle.cluster_world.proofs.Ordered.{AreStepsOf, AreOne, IsPushOf, order_makes, order_are}
 use Rattle.cluster_world.specs.Outcomes.Outcome.{Began, Refused, Fell, Broke, Answers, StillPending, Unanswered, GaveUp, Abandoned, KeptUp, Left, Moved}
 use Rattle.cluster_world.specs.declared.world.World.{World}
 use Rattle.cluster_world.specs.declared.step.Step.{Step}
@@ -156,13 +157,13 @@ module _ {D : Type 0} (on : View D) (n now : ℕ) where
   whole_came (Fell k node asked) awaited left old mid new came other later = whole_step _ _ old mid new came.2 (λ e. cc) later
   whole_came (Broke k node asked) awaited left old mid new came other later = whole_step _ _ old mid new came.3 (λ e. cc) later
   whole_came (Answers k asked ticket given) awaited left old mid new came other later = whole_step _ _ old mid new came.3 (λ e. cc) later
-  whole_came (StillPending k ticket) awaited left old mid new came other later = whole_step _ _ old mid new came.2 (λ e. cc) later
+  whole_came (StillPending k ticket) awaited left old mid new came other later = whole_step _ _ old mid new came.4 (λ e. cc) later
   whole_came (Unanswered k asked ticket) awaited left old mid new came other later = whole_step _ _ old mid new came.3 (λ e. cc) later
   whole_came (GaveUp k asked ticket) awaited left old mid new came other later = whole_step _ _ old mid new came.1 (λ e. cc) later
   whole_came (Abandoned k asked ticket) awaited left old mid new came other later = whole_step _ _ old mid new came.1 (λ e. cc) later
-  whole_came (KeptUp k ticket why) awaited left old mid new came other later = whole_step _ _ old mid new came.0 (λ e. cc) later
+  whole_came (KeptUp k ticket why) awaited left old mid new came other later = whole_step _ _ old mid new came.2 (λ e. cc) later
   whole_came (Left k node user) awaited left old mid new came other later = whole_step _ _ old mid new came.3 (λ e. cc) later
-  whole_came (Moved asked steps) awaited left old mid new came other later = whole_steps steps old mid new came.1 (λ one among starts. other (order_starts asked steps one n came.0 among starts)) later
+  whole_came (Moved asked steps) awaited left old mid new came other later = whole_steps steps old mid new (order_makes on asked steps old mid came.0) (λ one among starts. other (order_starts asked steps one n (order_are on asked steps old mid came.0) among starts)) later
 
   whole_makes : (outcomes : List Outcome) (awaited left : List Awaited) (old new : World D) → Makes on outcomes awaited old left new → ((outcome : Outcome) → Among outcome outcomes → StartsAgain n outcome → ⊥)
       → life_of new n ≡ Up now → IsWhole on n now old new
@@ -170,5 +171,5 @@ module _ {D : Type 0} (on : View D) (n now : ℕ) where
   whole_makes (outcome ∷ more) awaited left old new (between, mid, came, makes) other up =
       whole_came outcome awaited between old mid new came (λ starts. other outcome (inl refl) starts) (whole_makes more between left mid new makes (λ one among. other one (inr among)) up)
 
-pub stays_whole : {D : Type 0} (on : View D) (outcomes : List Outcome) (left : List Awaited) (start last : World D) → Makes on outcomes [] start left last → StaysWhole on start outcomes last
-stays_whole on outcomes left start last makes n first now disk disk' was up none there at = (whole_makes on n now outcomes [] left start last makes none up).same disk disk' there at
+pub stays_whole : {D : Type 0} (on : View D) (outcomes : List Outcome) (left : List Awaited) (start last : World D) → StaysWhole on start outcomes left last
+stays_whole on outcomes left start last front back between mid are first then_more n now disk disk' up none there at = (whole_makes on n now back between left mid last then_more none up).same disk disk' there at

@@ -1,22 +1,23 @@
 -- Work that goes on, and work that stops.
-use Rattle.std.proofs.Common.{◌≡◌, ◌⊎◌, ◌++◌, ◌∷◌, ℕ, List, [], map, flat_map, Option, refl, sym, ap, ◌∙◌, subst, inl, inr, ⊎_elim, append_assoc}
+use Rattle.std.proofs.Common.{◌≡◌, ◌⊎◌, ◌++◌, ◌∷◌, ℕ, List, [], Option, refl, sym, ap, ◌∙◌, subst, inl, inr, ⊎_elim, append_assoc}
 use Rattle.std.specs.Io.KnownBytes.{Appends}
-use Rattle.std.proofs.lemmas.List.{append-nil, map-append}
+use Rattle.std.proofs.lemmas.List.{append-nil}
 use Rattle.std.proofs.lemmas.Grind.{flat_map-append}
 use Rattle.io_edge.proofs.Known.{appends_more, appends_none}
 use Rattle.mail_model.specs.Plan.{Plan}
 use Rattle.mail_model.specs.Transcript.{Entry, written_of, all_of}
 use Rattle.session_model.specs.Sessions.{Session}
 use Rattle.session_model.specs.Acts.{Act}
-use Rattle.session_model.specs.Logs.{Asked, asked_by, answered_by}
 use Rattle.session_model.specs.Turns as turns
 use Rattle.session_model.specs.Turns.{Turn}
-use Rattle.session_model.specs.Run.{Made, Stop, made_by, MayHaveAsked}
+use Rattle.session_model.specs.Run.{Stop, MayHaveAsked}
 use Rattle.session_model.specs.Run.Stop.{SinkFailed, OutOfMemory, BehindLine, Denied}
-use Rattle.cluster_world.specs.Outcomes.{Outcome, made_of, asked_by_outcome, answered_by_outcome}
+use Rattle.cluster_world.specs.Outcomes.{Outcome}
 use Rattle.drive_tape.specs.Parts.{IsCutEntry}
-use Rattle.drive_tape.specs.Points.{Point, Work, Cut, OneAct, AreLinked, IsMissingTail, MayLack, waits_by, waits_by_outcome}
+use Rattle.drive_tape.specs.Led.{AreLed, AreLedTo}
+use Rattle.drive_tape.specs.Points.{Point, Work, Cut, OneAct, IsMissingTail, MayLack}
 use Rattle.drive_tape.proofs.Replies.{written_more}
+use Rattle.drive_tape.proofs.Led.{led_one, led_more, to_whole, to_none, to_more}
 use Rattle.drive_tape.proofs.OwnNodes.{goes_stay, at_nodes_more}
 
 pub all_more : (xs ys : List (List Entry)) → all_of (xs ++ ys) ≡ all_of xs ++ all_of ys
@@ -31,19 +32,6 @@ goes_more plan t1 s1 [] (o ∷ os) t2 s2 others more t3 s3 one two = absurd one
 goes_more plan t1 s1 (a ∷ rest) [] t2 s2 others more t3 s3 one two = absurd one
 goes_more plan t1 s1 (a ∷ rest) (o ∷ os) t2 s2 others more t3 s3 one two = (one.0, one.1, one.2, one.3, goes_more plan one.0 one.1 rest os t2 s2 others more t3 s3 one.4 two)
 
-pub linked_more : (acts others : List Act) (outcomes news : List Outcome) (lacking : List Asked) (extra : List Made) → AreLinked acts outcomes [] [] → AreLinked others news lacking extra
-    → AreLinked (acts ++ others) (outcomes ++ news) lacking extra
-linked_more acts others outcomes news lacking extra one two = record {
-  made = map-append made_of outcomes news ∙ ap (λ l. l ++ map made_of news) (one.made ∙ append-nil _) ∙ ap (λ l. flat_map made_by acts ++ l) two.made
-      ∙ sym (append_assoc (flat_map made_by acts) (flat_map made_by others) extra) ∙ ap (λ l. l ++ extra) (sym (flat_map-append made_by acts others));
-  asked = flat_map-append asked_by acts others ∙ ap (λ l. l ++ flat_map asked_by others) (one.asked ∙ append-nil _) ∙ ap (λ l. flat_map asked_by_outcome outcomes ++ l) two.asked
-      ∙ sym (append_assoc (flat_map asked_by_outcome outcomes) (flat_map asked_by_outcome news) lacking) ∙ ap (λ l. l ++ lacking) (sym (flat_map-append asked_by_outcome outcomes news));
-  answered = flat_map-append answered_by acts others ∙ ap (λ l. l ++ flat_map answered_by others) one.answered ∙ ap (λ l. flat_map answered_by_outcome outcomes ++ l) two.answered
-      ∙ sym (flat_map-append answered_by_outcome outcomes news);
-  waits = flat_map-append waits_by acts others ∙ ap (λ l. l ++ flat_map waits_by others) one.waits ∙ ap (λ l. flat_map waits_by_outcome outcomes ++ l) two.waits
-      ∙ sym (flat_map-append waits_by_outcome outcomes news);
-}
-
 -- nothing was done
 pub work_none : (plan : Plan) (p : Point) → Work plan p p
 work_none plan p = record {
@@ -51,7 +39,7 @@ work_none plan p = record {
   outputs = [];
   outcomes = [];
   goes = (refl, refl);
-  linked = record { made = refl; asked = refl; answered = refl; waits = refl };
+  linked = refl;
   at_nodes = tt;
   came = sym (append-nil p.outcomes);
   been = sym (append-nil p.been);
@@ -65,7 +53,7 @@ work_more plan p q r one two = record {
   outputs = one.outputs ++ two.outputs;
   outcomes = one.outcomes ++ two.outcomes;
   goes = goes_more plan _ _ one.acts one.outputs _ _ two.acts two.outputs _ _ one.goes two.goes;
-  linked = linked_more one.acts two.acts one.outcomes two.outcomes [] [] one.linked two.linked;
+  linked = led_more p.outcomes one.acts one.outcomes two.acts two.outcomes one.linked (subst (λ (os : List Outcome). AreLed os two.acts two.outcomes) one.came two.linked);
   at_nodes = at_nodes_more q.sessions r.sessions (goes_stay plan _ _ q.sessions r.sessions two.acts two.outputs two.goes) one.outcomes two.outcomes one.at_nodes two.at_nodes;
   came = two.came ∙ ap (λ l. l ++ two.outcomes) one.came ∙ append_assoc p.outcomes one.outcomes two.outcomes;
   been = two.been ∙ ap (λ l. l ++ two.acts) one.been ∙ append_assoc p.been one.acts two.acts;
@@ -89,7 +77,7 @@ work_cut plan stop p q held outcomes one two = record {
   new = one.outcomes ++ two.new;
   lacking = two.lacking;
   extra = two.extra;
-  linked = linked_more one.acts two.acts one.outcomes two.new two.lacking two.extra one.linked two.linked;
+  linked = to_more stop p.outcomes one.acts one.outcomes two.acts two.new two.lacking two.extra one.linked (subst (λ (os : List Outcome). AreLedTo stop os two.acts two.new two.lacking two.extra) one.came two.linked);
   at_nodes = at_nodes_more q.sessions two.sessions (goes_stay plan _ _ q.sessions two.sessions two.acts two.outputs two.goes) one.outcomes two.new one.at_nodes two.at_nodes;
   came = two.came ∙ ap (λ l. l ++ two.new) one.came ∙ append_assoc p.outcomes one.outcomes two.new;
   asked = two.asked;
@@ -115,7 +103,7 @@ cut_none plan p = record {
   new = [];
   lacking = [];
   extra = [];
-  linked = record { made = refl; asked = refl; answered = refl; waits = refl };
+  linked = to_none OutOfMemory p.outcomes;
   at_nodes = tt;
   came = sym (append-nil p.outcomes);
   asked = inl refl;
@@ -137,7 +125,7 @@ work_act plan p q act entries outcomes one came been gave = record {
   outputs = entries ∷ [];
   outcomes = outcomes;
   goes = (q.turn, q.sessions, one.next, one.acted, (refl, refl));
-  linked = one.linked;
+  linked = led_one p.outcomes act outcomes one.linked;
   at_nodes = one.at_nodes;
   came = came;
   been = been;
@@ -157,7 +145,7 @@ cut_act plan p act entries outcomes turn sessions stop held front missing cut on
   new = outcomes;
   lacking = [];
   extra = [];
-  linked = one.linked;
+  linked = to_whole stop p.outcomes (act ∷ []) outcomes (led_one p.outcomes act outcomes one.linked);
   at_nodes = one.at_nodes;
   came = refl;
   asked = nothing_more stop turn sessions;

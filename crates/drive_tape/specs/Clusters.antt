@@ -27,6 +27,7 @@ use Rattle.drive_tape.specs.declared.sessions.After.TheVariants.{Stays, Ends}
 use Rattle.drive_tape.specs.declared.cluster.Heard.{Heard}
 use Rattle.drive_tape.specs.declared.cluster.Heard.TheVariants as heard
 use Rattle.drive_tape.specs.Leaving.{IsLeaveOf}
+use Rattle.drive_tape.specs.Led.{EndsFell}
 use Rattle.drive_tape.specs.Moving.{has_ended}
 use Rattle.drive_tape.specs.Points.{Point, OneAct, Work, Stopped, IsAtPoint}
 use Rattle.drive_tape.specs.Talks.{Converse, HasOwnTicket, HasTicket, StandsOnNode, EachSession, EachBut, nodes_of}
@@ -119,6 +120,7 @@ pub record FaultsAt {D : Type 0} (on : View D) (start : World D) (plan : Plan) (
   pub plain : Session
   pub here : slice_get p.sessions place ≡ Some plain
   pub own : plain.node ≡ node
+  pub fell : EndsFell node p.outcomes
   pub fallen : HasFallen on start plan p (p.been ++ Act.Faults node ∷ []) node cluster
   pub causes : HasCauses on start (failed_in p.been) cluster.world
 

@@ -1,4 +1,6 @@
 -- What a step that was refused makes of the work on a tape.
+use Rattle.std.specs.Prelude.{◌≡◌, ⊤, Result, Ok, Err}
+use Rattle.cluster_world.specs.declared.step.Said.{Said}
 use Rattle.cluster_world.specs.declared.fault.StepFault.{StepFault}
 use Rattle.cluster_world.specs.declared.fault.StepFault.TheVariants as step
 use Rattle.drive_tape.specs.declared.drove.TapeFault.TheVariants as tape
@@ -16,3 +18,10 @@ stop_by step.NoSuchTicket = Bad tape.NoSuchTicket
 stop_by step.Worn = Bad tape.Worn
 stop_by step.NoRoom = Bad tape.NoRoom
 stop_by (step.NoMemory down) = NoMemory
+
+-- a step was done, or refused so
+abbrev pub IsDoneOr : {T : Type 0} → Result Said StepFault → Result T Stop → Type 0
+IsDoneOr (Ok what) (Ok _) = ⊤
+IsDoneOr (Ok what) (Err stop) = ⊥
+IsDoneOr (Err why) (Ok _) = ⊥
+IsDoneOr (Err why) (Err stop) = stop ≡ stop_by why

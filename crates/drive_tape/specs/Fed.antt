@@ -36,7 +36,8 @@ use Rattle.drive_tape.specs.Denials.{stop_by}
 use Rattle.drive_tape.specs.Lines.{IsStarted, LineStopped}
 use Rattle.drive_tape.specs.Moved.{Happened}
 use Rattle.drive_tape.specs.Moving.{has_ended}
-use Rattle.drive_tape.specs.Points.{Point, AreLinked, AreAtOwnNodes, IsAtPoint, WentOn}
+use Rattle.drive_tape.specs.Led.{Led}
+use Rattle.drive_tape.specs.Points.{Point, AreAtOwnNodes, IsAtPoint, WentOn}
 use Rattle.drive_tape.specs.Talks.{Converse, HasOwnTicket, StandsOnNode, EachSession, nodes_of}
 use Rattle.drive_tape.specs.Worlds.{WorldIsAt, IsSince, AreLives, HasCauses}
 use Rattle.drive_tape.specs.declared.drove.TapeFault.{TapeFault}
@@ -156,7 +157,7 @@ pub record IsTelling {D : Type 0} (on : View D) (start : World D) (plan : Plan) 
   pub outcomes : List Outcome
   pub starts : Starts plan p.been order p.sessions act q.turn
   pub acted : Acted plan p.sessions act (said_lines (place + 1) said ++ (if has_ended after then closed_event (place + 1) ∷ [] else [])) q.sessions
-  pub linked : AreLinked (act ∷ []) outcomes [] []
+  pub linked : Led p.outcomes act outcomes
   pub at_nodes : AreAtOwnNodes q.sessions outcomes
   pub came : q.outcomes ≡ p.outcomes ++ outcomes
   pub been : q.been ≡ p.been ++ act ∷ []

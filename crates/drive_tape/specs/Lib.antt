@@ -5,6 +5,7 @@ pub mod Denials
 pub mod Kinds
 pub mod Entries
 pub mod Happenings
+pub mod Led
 pub mod Replies
 pub mod Leaving
 pub mod Speakers

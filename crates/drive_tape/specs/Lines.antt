@@ -20,10 +20,11 @@ use Rattle.drive_tape.specs.declared.cluster.Cluster.{Cluster}
 use Rattle.drive_tape.specs.declared.drove.TapeFault.TheVariants.{BadLine}
 use Rattle.drive_tape.specs.declared.drove.Stop.{Stop as Why}
 use Rattle.drive_tape.specs.declared.drove.Stop.TheVariants as why
-use Rattle.drive_tape.specs.Drive.{MayLackOne, EndsDenied}
+use Rattle.drive_tape.specs.Drive.{EndsDenied}
 use Rattle.drive_tape.specs.Faults.{tape_fault_seen}
 use Rattle.drive_tape.specs.Parts.{IsCutEntry}
-use Rattle.drive_tape.specs.Points.{Point, AreLinked, AreAtOwnNodes, IsAtPoint}
+use Rattle.drive_tape.specs.Led.{Led, AreLed, AreLedTo}
+use Rattle.drive_tape.specs.Points.{Point, AreAtOwnNodes, IsAtPoint}
 use Rattle.drive_tape.specs.Worlds.{IsSince, HasCauses}
 
 -- nothing is under way, and nobody is left to be asked
@@ -38,7 +39,7 @@ pub record IsStarted (plan : Plan) (p q : Point) (order : Order) : Type 0 where
   pub starts : Starts plan p.been order p.sessions first q.turn
   pub acted : Acted plan p.sessions first said q.sessions
   pub outcomes : List Outcome
-  pub linked : AreLinked (first ∷ []) outcomes [] []
+  pub linked : Led p.outcomes first outcomes
   pub at_nodes : AreAtOwnNodes q.sessions outcomes
   pub came : q.outcomes ≡ p.outcomes ++ outcomes
   pub been : q.been ≡ p.been ++ first ∷ []
@@ -51,7 +52,7 @@ pub record LineWent {D : Type 0} (on : View D) (start : World D) (plan : Plan) (
   pub outputs : List (List Entry)
   pub outcomes : List Outcome
   pub handled : IsHandled plan p.been p.sessions line acts outputs q.sessions
-  pub linked : AreLinked acts outcomes [] []
+  pub linked : AreLed p.outcomes acts outcomes
   pub at_nodes : AreAtOwnNodes q.sessions outcomes
   pub came : q.outcomes ≡ p.outcomes ++ outcomes
   pub been : q.been ≡ p.been ++ acts
@@ -83,9 +84,8 @@ pub record LineStopped {D : Type 0} (on : View D) (start : World D) (plan : Plan
   pub new : List Outcome
   pub why : IsWhy reason plan p line stop midst new
   pub lacking : List Asked
-  pub linked : AreLinked (flat_map (λ a. a) behind) new lacking extra
+  pub linked : AreLedTo stop p.outcomes (flat_map (λ a. a) behind) new lacking extra
   pub at_nodes : AreAtOwnNodes sessions new
-  pub lack : MayLackOne stop lacking
   pub since : IsSince on start (p.outcomes ++ new) world
   pub causes : HasCauses on start (failed_in (p.been ++ flat_map (λ a. a) behind)) world
   pub missing : List Entry

@@ -22,6 +22,7 @@ use Rattle.drive_tape.specs.declared.event.ClusterEvent.{ClusterEvent}
 use Rattle.drive_tape.specs.declared.event.ClusterEvent.TheVariants as event
 use Rattle.drive_tape.specs.Denials.{stop_by}
 use Rattle.drive_tape.specs.Happenings.{event_seen, fallen_by}
+use Rattle.drive_tape.specs.Led.{Tells}
 use Rattle.drive_tape.specs.Worlds.{WorldIsAt, WentTo, HasGone, AreLives, HasFailed}
 
 -- The order is not refused to a world that the acts so far left.
@@ -35,6 +36,7 @@ pub record Happened {D : Type 0} (on : View D) (start : World D) (outcomes : Lis
   pub steps : List StepMade
   pub at : WentTo on start old (outcomes ++ Moved order steps ∷ []) (left_after (fallen_by (event_seen event)) awaited) world
   pub is : IsEventOf (plan_of old) (life_after been) order (event_seen event)
+  pub tells : Tells order steps (event_seen event)
   pub lives : AreLives (plan_of old) (been ++ Makes order (event_seen event) ∷ []) world
   pub cause : (n : ℕ) → Among n (failed_by_event (event_seen event)) → HasFailed on start world n
 
@@ -53,15 +55,18 @@ MovedSo on start outcomes awaited been old order (Err stop) world =
     (IsAlwaysDone order → ⊥) × (steps : List StepMade) × IsDeniedBy steps stop × HasGone on start old (outcomes ++ Moved order steps ∷ []) world
 
 -- one node pushed to another
-abbrev pub PushedSo : {D : Type 0} → View D → ℕ → Result (Option ℕ) Stop → World D → World D → Type 0
-PushedSo on from (Ok (Some letters)) old new = (to : ℕ) × IsStep on (Ok (said.Sent letters)) (step.Push from to) old new
-PushedSo on from (Ok None) old new = (to : ℕ) × IsStep on (Ok (said.Faulted from)) (step.Push from to) old new
-PushedSo on from (Err stop) old new = (to : ℕ) × (why : StepFault) × (stop ≡ stop_by why) × IsStep on (Err why) (step.Push from to) old new
+abbrev pub PushedSo : {D : Type 0} → View D → ℕ → ℕ → Result (Option ℕ) Stop → World D → World D → Type 0
+PushedSo on from to (Ok (Some letters)) old new = IsStep on (Ok (said.Sent letters)) (step.Push from to) old new
+PushedSo on from to (Ok None) old new = IsStep on (Ok (said.Faulted from)) (step.Push from to) old new
+PushedSo on from to (Err stop) old new = (why : StepFault) × (stop ≡ stop_by why) × IsStep on (Err why) (step.Push from to) old new
 
--- the same, where it may be that node itself, which sends nothing
-abbrev pub PushesSo : {D : Type 0} → View D → ℕ → Result (Option ℕ) Stop → World D → World D → Type 0
-PushesSo on from (Ok (Some letters)) old new = (new ≡ old) ⊎ PushedSo on from (Ok (Some letters)) old new
-PushesSo on from result old new = PushedSo on from result old new
+-- a letter that was posted was heard or thrown, or took its receiver down, or the step was refused
+abbrev pub IsSaidOfPost : Result Said StepFault → Type 0
+IsSaidOfPost (Ok said.Heard) = ⊤
+IsSaidOfPost (Ok (said.Thrown why)) = ⊤
+IsSaidOfPost (Ok (said.Faulted node)) = ⊤
+IsSaidOfPost (Ok what) = ⊥
+IsSaidOfPost (Err why) = ⊤
 
 -- what is said of a letter that was posted
 abbrev pub PostsTo : ℕ → Result Said StepFault → Result ClusterEvent Stop → Type 0

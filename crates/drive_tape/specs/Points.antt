@@ -1,22 +1,22 @@
 -- Where the work on a tape is, and how it goes from there: acts, the steps that they led to, and what they wrote.
-use Rattle.std.specs.Prelude.{◌≡◌, ◌≢◌, ◌⊎◌, ℕ, Result, Ok, Err, List, [], ◌∷◌, ◌++◌, map, flat_map, ⊤, Option}
+use Rattle.std.specs.Prelude.{◌≡◌, ◌≢◌, ◌⊎◌, ℕ, Result, Ok, Err, List, [], ◌∷◌, ◌++◌, ⊤, Option}
 use Rattle.std.specs.Io.KnownBytes.{Appends}
 use Rattle.mail_model.specs.Plan.{Plan}
 use Rattle.mail_model.specs.Transcript.{Entry, written_of, all_of}
 use Rattle.session_model.specs.Sessions.{Session, session_at}
 use Rattle.session_model.specs.Acts.{Act, Acted}
-use Rattle.session_model.specs.Acts.Act.{StillWaits}
 use Rattle.session_model.specs.Lives.{failed_in}
-use Rattle.session_model.specs.Logs.{Asked, asked_by, answered_by}
+use Rattle.session_model.specs.Logs.{Asked}
 use Rattle.session_model.specs.Turns as turns
 use Rattle.session_model.specs.Turns.{Turn, Next, IsAtNode}
-use Rattle.session_model.specs.Run.{Made, Stop, made_by, MayHaveAsked, count_on}
+use Rattle.session_model.specs.Run.{Made, Stop, MayHaveAsked, count_on}
 use Rattle.session_model.specs.Run.Stop.{SinkFailed, OutOfMemory, BehindLine, Denied}
 use Rattle.node_store.specs.Disks.{View}
-use Rattle.cluster_world.specs.Outcomes.{Outcome, Awaited, made_of, asked_by_outcome, answered_by_outcome}
-use Rattle.cluster_world.specs.Outcomes.Outcome.{Began, Fell, Broke, StillPending}
+use Rattle.cluster_world.specs.Outcomes.{Outcome, Awaited}
+use Rattle.cluster_world.specs.Outcomes.Outcome.{Began, Refused, Fell, Broke, Left}
 use Rattle.cluster_world.specs.declared.world.World.{World}
 use Rattle.drive_tape.specs.declared.cluster.Cluster.{Cluster}
+use Rattle.drive_tape.specs.Led.{Led, AreLed, AreLedTo}
 use Rattle.drive_tape.specs.Parts.{IsCutEntry}
 use Rattle.drive_tape.specs.Talks.{Converse, EachSession, HasOwnTicket, StandsOnNode, nodes_of}
 use Rattle.drive_tape.specs.Worlds.{WorldIsAt, IsSince, AreLives, HasCauses}
@@ -32,27 +32,13 @@ pub record Point : Type 0 where
   pub awaited : List Awaited
   pub held : Option (List ℕ)
 
--- the session that was asked and still waits
-abbrev pub waits_by : Act → List ℕ
-waits_by (StillWaits k) = k ∷ []
-waits_by act = []
-
-abbrev pub waits_by_outcome : Outcome → List ℕ
-waits_by_outcome (StillPending k ticket) = k ∷ []
-waits_by_outcome outcome = []
-
--- What came of the steps of these acts. A call that came to nothing is asked, and none of the cluster: it is lacking.
-pub record AreLinked (acts : List Act) (outcomes : List Outcome) (lacking : List Asked) (extra : List Made) : Type 0 where
-  pub made : map made_of outcomes ≡ flat_map made_by acts ++ extra
-  pub asked : flat_map asked_by acts ≡ flat_map asked_by_outcome outcomes ++ lacking
-  pub answered : flat_map answered_by acts ≡ flat_map answered_by_outcome outcomes
-  pub waits : flat_map waits_by acts ≡ flat_map waits_by_outcome outcomes
-
--- a call begins at the node of its session
+-- a call begins at the node of its session, and its user leaves there
 abbrev pub IsAtOwnNode : List Session → Outcome → Type 0
 IsAtOwnNode sessions (Began k node asked ticket) = IsAtNode node (session_at sessions k)
+IsAtOwnNode sessions (Refused k node asked) = IsAtNode node (session_at sessions k)
 IsAtOwnNode sessions (Fell k node asked) = IsAtNode node (session_at sessions k)
 IsAtOwnNode sessions (Broke k node asked) = IsAtNode node (session_at sessions k)
+IsAtOwnNode sessions (Left k node user) = IsAtNode node (session_at sessions k)
 IsAtOwnNode sessions outcome = ⊤
 
 -- so it is of each
@@ -66,7 +52,7 @@ pub record Work (plan : Plan) (p q : Point) : Type 0 where
   pub outputs : List (List Entry)
   pub outcomes : List Outcome
   pub goes : turns.ActsGo plan p.turn p.sessions acts outputs q.turn q.sessions
-  pub linked : AreLinked acts outcomes [] []
+  pub linked : AreLed p.outcomes acts outcomes
   pub at_nodes : AreAtOwnNodes q.sessions outcomes
   pub came : q.outcomes ≡ p.outcomes ++ outcomes
   pub been : q.been ≡ p.been ++ acts
@@ -76,7 +62,7 @@ pub record Work (plan : Plan) (p q : Point) : Type 0 where
 pub record OneAct (plan : Plan) (p : Point) (act : Act) (entries : List Entry) (outcomes : List Outcome) (turn : Turn) (sessions : List Session) : Type 0 where
   pub next : Next p.turn p.sessions act turn
   pub acted : Acted plan p.sessions act entries sessions
-  pub linked : AreLinked (act ∷ []) outcomes [] []
+  pub linked : Led p.outcomes act outcomes
   pub at_nodes : AreAtOwnNodes sessions outcomes
 
 -- nothing of it is missing, or lines of the last act
@@ -100,7 +86,7 @@ pub record Cut (plan : Plan) (stop : Stop) (p : Point) (held : Option (List ℕ)
   pub new : List Outcome
   pub lacking : List Asked
   pub extra : List Made
-  pub linked : AreLinked acts new lacking extra
+  pub linked : AreLedTo stop p.outcomes acts new lacking extra
   pub at_nodes : AreAtOwnNodes sessions new
   pub came : outcomes ≡ p.outcomes ++ new
   pub asked : MayHaveAsked stop turn sessions extra

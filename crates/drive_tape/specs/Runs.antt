@@ -13,7 +13,8 @@ use Rattle.drive_tape.specs.declared.cluster.Cluster.{Cluster}
 use Rattle.drive_tape.specs.declared.reader.LineStop.{LineStop}
 use Rattle.drive_tape.specs.declared.drove.Stop.{Stop as Why}
 use Rattle.drive_tape.specs.Lines.{LineWent, LineStopped}
-use Rattle.drive_tape.specs.Points.{Point, AreLinked, AreAtOwnNodes, IsAtPoint}
+use Rattle.drive_tape.specs.Led.{AreLed}
+use Rattle.drive_tape.specs.Points.{Point, AreAtOwnNodes, IsAtPoint}
 use Rattle.drive_tape.specs.Reads.{ReadsLine}
 use Rattle.drive_tape.specs.Stops.{of_line}
 
@@ -28,7 +29,7 @@ pub record Progress {D : Type 0} (on : View D) (start : World D) (left0 left1 he
   pub outputs : List (List (List Entry))
   pub point : Point
   pub are : AreHandled (plan_of start) [] [] handled acts outputs point.sessions
-  pub linked : AreLinked (flat_map (λ a. a) acts) point.outcomes [] []
+  pub linked : AreLed [] (flat_map (λ a. a) acts) point.outcomes
   pub at_nodes : AreAtOwnNodes point.sessions point.outcomes
   pub been : point.been ≡ flat_map (λ a. a) acts
   pub gave : Appends held0 held1 (written_of (flat_map all_of outputs))

@@ -1,5 +1,5 @@
 // What a run line makes of the cluster: its steps, and what came of them.
-ghost use Rattle.std.specs.Prelude.{◌≡◌, ◌<◌, List, None, IsErrOf, if◌then◌else◌};
+ghost use Rattle.std.specs.Prelude.{◌≡◌, ◌≤◌, ◌<◌, List, None, Some, Ok, IsErrOf, if◌then◌else◌};
 ghost use Rattle.mail_model.specs.Tape.{ClusterOrder as order};
 ghost use Rattle.session_model.specs.Acts.{Act as AnAct};
 ghost use Rattle.node_store.specs.Disks.{view_of};
@@ -8,10 +8,10 @@ ghost use Rattle.cluster_world.specs.Outcomes.{Outcome, Awaited};
 ghost use Rattle.cluster_world.specs.declared.world.World.{World as AWorld};
 ghost use Rattle.drive_tape.specs.Orders.{admitted_seen};
 ghost use Rattle.drive_tape.specs.Worlds.{WorldIsReady};
-ghost use Rattle.drive_tape.specs.Moved.{MovedSo, OrderIsFit, PushedSo, PushesSo, PostsTo};
+ghost use Rattle.drive_tape.specs.Moved.{MovedSo, OrderIsFit, PushedSo, PostsTo, IsSaidOfPost};
 
 use crate::Stop;
-use crate::denial::stop_by;
+use crate::denial::{done, stop_by};
 use crate::event::ClusterEvent;
 use crate::orders::Admitted;
 use cluster_world::{Said, Step, StepFault, World};
@@ -28,12 +28,9 @@ fn crash<D: Disk>(world: &mut World<D>, alloc: Global, node: NodeNo) -> Result<C
         → OrderIsFit (view_of D.seen D.faults D.clock) start outcomes awaited been (order.Crash node) world.old → MovedSo (view_of D.seen D.faults D.clock) start outcomes awaited been world.old (order.Crash node) result world.new }
     ensures why { IsErrOf result Stop.WriteFault → ⊥ }
 {
-    match world.step(alloc, Step::Crash { node }) {
-        Ok(Said::Done) => Ok(ClusterEvent::WentDown(node)),
-        // Nothing else is said of it.
-        Ok(_) => Err(Stop::NoMemory),
-        Err(fault) => Err(stop_by(fault)),
-    }
+    let said = world.step(alloc, Step::Crash { node });
+    done(&said)?;
+    Ok(ClusterEvent::WentDown(node))
 }
 
 // A node starts.
@@ -49,7 +46,7 @@ fn start<D: Disk>(world: &mut World<D>, alloc: Global, node: NodeNo) -> Result<C
         Ok(Said::NodeUp { boot }) => Ok(ClusterEvent::CameUp { node, boot }),
         Ok(Said::Faulted(_)) => Ok(ClusterEvent::HasFaulted(node)),
         // Nothing else is said of it.
-        Ok(_) => Err(Stop::NoMemory),
+        Ok(_) => unreachable!(),
         Err(fault) => Err(stop_by(fault)),
     }
 }
@@ -63,16 +60,14 @@ fn lose<D: Disk>(world: &mut World<D>, alloc: Global, node: NodeNo) -> Result<Cl
         → OrderIsFit (view_of D.seen D.faults D.clock) start outcomes awaited been (order.Lose node) world.old → MovedSo (view_of D.seen D.faults D.clock) start outcomes awaited been world.old (order.Lose node) result world.new }
     ensures why { IsErrOf result Stop.WriteFault → ⊥ }
 {
-    match world.step(alloc, Step::Lose { node }) {
-        Ok(Said::Done) => Ok(ClusterEvent::WasLost(node)),
-        // Nothing else is said of it.
-        Ok(_) => Err(Stop::NoMemory),
-        Err(fault) => Err(stop_by(fault)),
-    }
+    let said = world.step(alloc, Step::Lose { node });
+    done(&said)?;
+    Ok(ClusterEvent::WasLost(node))
 }
 
 // What came of posting the letter.
 fn posted(said: &Result<Said, StepFault>, letter: u64) -> Result<ClusterEvent, Stop>
+    requires fits { IsSaidOfPost said.now }
     ensures posts { PostsTo letter said.now result }
     ensures why { IsErrOf result Stop.WriteFault → ⊥ }
 {
@@ -81,7 +76,7 @@ fn posted(said: &Result<Said, StepFault>, letter: u64) -> Result<ClusterEvent, S
         Ok(Said::Thrown(why)) => Ok(ClusterEvent::WasThrown { letter, why: *why }),
         Ok(Said::Faulted(node)) => Ok(ClusterEvent::HasFaulted(*node)),
         // Nothing else is said of it.
-        Ok(_) => Err(Stop::NoMemory),
+        Ok(_) => unreachable!(),
         Err(fault) => Err(stop_by(*fault)),
     }
 }
@@ -117,12 +112,9 @@ fn drop_letter<D: Disk>(
         → OrderIsFit (view_of D.seen D.faults D.clock) start outcomes awaited been (order.Drop letter) world.old → MovedSo (view_of D.seen D.faults D.clock) start outcomes awaited been world.old (order.Drop letter) result world.new }
     ensures why { IsErrOf result Stop.WriteFault → ⊥ }
 {
-    match world.step(alloc, Step::Drop { letter }) {
-        Ok(Said::Done) => Ok(ClusterEvent::WasDropped(letter)),
-        // Nothing else is said of it.
-        Ok(_) => Err(Stop::NoMemory),
-        Err(fault) => Err(stop_by(fault)),
-    }
+    let said = world.step(alloc, Step::Drop { letter });
+    done(&said)?;
+    Ok(ClusterEvent::WasDropped(letter))
 }
 
 // A copy gets a target more.
@@ -145,7 +137,7 @@ fn widen<D: Disk>(
         Ok(Said::Widened(did)) => Ok(ClusterEvent::HasWidened(did)),
         Ok(Said::Faulted(_)) => Ok(ClusterEvent::HasFaulted(at)),
         // Nothing else is said of it.
-        Ok(_) => Err(Stop::NoMemory),
+        Ok(_) => unreachable!(),
         Err(fault) => Err(stop_by(fault)),
     }
 }
@@ -176,14 +168,14 @@ fn push_to<D: Disk>(
     requires ready { WorldIsReady D.seen D.settled world.old }
     ensures ready { WorldIsReady D.seen D.settled world.new }
     ensures plan { plan_of world.new ≡ plan_of world.old }
-    ensures pushed { PushedSo (view_of D.seen D.faults D.clock) from result world.old world.new }
+    ensures pushed { PushedSo (view_of D.seen D.faults D.clock) from to result world.old world.new }
     ensures why { IsErrOf result Stop.WriteFault → ⊥ }
 {
     match world.step(alloc, Step::Push { from, to }) {
         Ok(Said::Sent { letters }) => Ok(Some(letters)),
         Ok(Said::Faulted(_)) => Ok(None),
         // Nothing else is said of it.
-        Ok(_) => Err(Stop::NoMemory),
+        Ok(_) => unreachable!(),
         Err(fault) => Err(stop_by(fault)),
     }
 }
@@ -196,13 +188,16 @@ fn push_on<D: Disk>(
     number: u8,
 ) -> Result<Option<u64>, Stop>
     requires ready { WorldIsReady D.seen D.settled world.old }
+    requires above { 1 ≤ number }
+    requires within { number ≤ 16 }
     ensures ready { WorldIsReady D.seen D.settled world.new }
     ensures plan { plan_of world.new ≡ plan_of world.old }
-    ensures pushed { PushesSo (view_of D.seen D.faults D.clock) from result world.old world.new }
+    ensures own { number ≡ from → (world.new ≡ world.old) × (result ≡ Ok (Some 0)) }
+    ensures pushed { (number ≡ from → ⊥) → PushedSo (view_of D.seen D.faults D.clock) from number result world.old world.new }
     ensures why { IsErrOf result Stop.WriteFault → ⊥ }
 {
     let Some(to) = NodeNo::new(number) else {
-        return Ok(Some(0));
+        unreachable!()
     };
     if to.number() == from.number() {
         return Ok(Some(0));
@@ -223,8 +218,8 @@ fn push<D: Disk>(world: &mut World<D>, alloc: Global, from: NodeNo) -> Result<Cl
     if !world.is_up(from) {
         return Ok(ClusterEvent::HasSent(sent));
     }
-    for number in 1..=world.plan().nodes {
-        match push_on(world, alloc, from, number)? {
+    for done in 0..world.plan().nodes {
+        match push_on(world, alloc, from, done + 1)? {
             Some(letters) => sent = sent.saturating_add(letters),
             None => return Ok(ClusterEvent::HasFaulted(from)),
         }

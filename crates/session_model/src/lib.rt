@@ -20,7 +20,7 @@
 //!   (what was asked and answered), `Runs` and `Losses` (what tape and transcript tell of a run).
 //! - What is promised: `Sessions` (the sessions as tape and transcript show them), `Copies`,
 //!   `Facts`, `Promises`, `Books` and `Kept`.
-//! - What a cluster owes for that: `Owes`. `OneNode` has what one node does, call by call.
+//! - What a cluster owes for that: `Owes`; `SoundMails` has what it may take for granted of a message.
 //!
 //! A cluster has 1 to 16 nodes. They go down, come up in another boot, and are lost for good; as a
 //! node goes down all its sessions end, those that wait too (`standing_are_up`). Tape and transcript

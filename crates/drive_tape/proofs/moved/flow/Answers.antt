@@ -1,16 +1,17 @@
 use Rattle.node_store.specs.Disks.{view_of}
+use Rattle.cluster_world.proofs.Ordered.{posts_make}
 use Rattle.drive_tape.proofs.Stepping.{plan_kept}
 use Rattle.drive_tape.proofs.Posting.{flowed, flow_faulted, flow_denied}
 use Rattle.drive_tape.proofs.moved.flow.Goals as goal
 
 pub returns-in-Ok-None-clause-plan : goal.returns-in-Ok-None-clause-plan
-returns-in-Ok-None-clause-plan g c = plan_kept (view_of g.D.Disk.seen g.D.Disk.faults g.D.Disk.clock) c.flow.ensures.flowed.steps c.args.world.now c.flow.new.self c.flow.ensures.flowed.made
+returns-in-Ok-None-clause-plan g c = plan_kept (view_of g.D.Disk.seen g.D.Disk.faults g.D.Disk.clock) c.flow.ensures.flowed.steps c.args.world.now c.flow.new.self (posts_make (view_of g.D.Disk.seen g.D.Disk.faults g.D.Disk.clock) c.flow.ensures.flowed.steps c.args.world.now c.flow.new.self c.flow.ensures.flowed.made)
 
 pub returns-in-Ok-Some-clause-plan : goal.returns-in-Ok-Some-clause-plan
-returns-in-Ok-Some-clause-plan g c = plan_kept (view_of g.D.Disk.seen g.D.Disk.faults g.D.Disk.clock) c.flow.ensures.flowed.steps c.args.world.now c.flow.new.self c.flow.ensures.flowed.made
+returns-in-Ok-Some-clause-plan g c = plan_kept (view_of g.D.Disk.seen g.D.Disk.faults g.D.Disk.clock) c.flow.ensures.flowed.steps c.args.world.now c.flow.new.self (posts_make (view_of g.D.Disk.seen g.D.Disk.faults g.D.Disk.clock) c.flow.ensures.flowed.steps c.args.world.now c.flow.new.self c.flow.ensures.flowed.made)
 
 pub returns-in-Err-clause-plan : goal.returns-in-Err-clause-plan
-returns-in-Err-clause-plan g c = plan_kept (view_of g.D.Disk.seen g.D.Disk.faults g.D.Disk.clock) c.flow.ensures.flowed.steps c.args.world.now c.flow.new.self c.flow.ensures.flowed.made
+returns-in-Err-clause-plan g c = plan_kept (view_of g.D.Disk.seen g.D.Disk.faults g.D.Disk.clock) c.flow.ensures.flowed.steps c.args.world.now c.flow.new.self (posts_make (view_of g.D.Disk.seen g.D.Disk.faults g.D.Disk.clock) c.flow.ensures.flowed.steps c.args.world.now c.flow.new.self c.flow.ensures.flowed.made)
 
 pub returns-in-Ok-None-clause-moved : goal.returns-in-Ok-None-clause-moved
 returns-in-Ok-None-clause-moved g c start outcomes awaited been fit =

@@ -1,4 +1,4 @@
-use Rattle.std.proofs.Common.{◌≡◌, ℕ, Ok, Err, refl, ap, subst}
+use Rattle.std.proofs.Common.{◌≡◌, ℕ, [], Ok, Err, refl, ap, subst}
 use Rattle.mail_model.specs.Tape.{ClusterOrder as order}
 use Rattle.node_store.specs.Disks.{view_of}
 use Rattle.cluster_world.specs.Steps.{IsStep}
@@ -13,7 +13,7 @@ returns-in-Ok-NodeUp-clause-moved g c start outcomes awaited been fit =
     let on = view_of g.D.Disk.seen g.D.Disk.faults g.D.Disk.clock in
     let result : c.step.result ≡ Ok (NodeUp c.in-Ok-NodeUp.boot) = (let a = c.in-Ok-NodeUp.is in let b = c.in-Ok-NodeUp.field-0-is in cc) in
     let is = subst (λ r. IsStep on r (Start c.args.node) c.args.world.now c.step.new.self) result c.step.ensures.is in
-    happens on start c.args.world.now outcomes awaited been (order.Start c.args.node) fit c.step.new.self (Start c.args.node) (Ok (NodeUp c.in-Ok-NodeUp.boot)) (CameUp c.args.node c.in-Ok-NodeUp.boot) is (Ok (NodeUp c.in-Ok-NodeUp.boot), refl) refl refl (λ n was. refl) (λ n among. absurd among)
+    happens on start c.args.world.now outcomes awaited been (order.Start c.args.node) fit c.step.new.self (Start c.args.node) (Ok (NodeUp c.in-Ok-NodeUp.boot)) (CameUp c.args.node c.in-Ok-NodeUp.boot) is (Ok (NodeUp c.in-Ok-NodeUp.boot), refl, is) (_, refl, refl) refl refl (λ n was. refl) (λ n among. absurd among)
 
 pub returns-in-Ok-Faulted-clause-moved : goal.returns-in-Ok-Faulted-clause-moved
 returns-in-Ok-Faulted-clause-moved g c start outcomes awaited been fit =
@@ -22,10 +22,10 @@ returns-in-Ok-Faulted-clause-moved g c start outcomes awaited been fit =
     let first = subst (λ r. IsStep on r (Start c.args.node) c.args.world.now c.step.new.self) result c.step.ensures.is in
     let own : c.in-Ok-Faulted.field-0-0 ≡ c.args.node = first.did.kind in
     let is = subst (λ (n : ℕ). IsStep on (Ok (Faulted n)) (Start c.args.node) c.args.world.now c.step.new.self) own first in
-    happens on start c.args.world.now outcomes awaited been (order.Start c.args.node) fit c.step.new.self (Start c.args.node) (Ok (Faulted c.args.node)) (HasFaulted c.args.node) is (Ok (Faulted c.args.node), refl) refl refl (λ n was. refl) (λ n among. ap (λ (m : ℕ). Ok (Faulted m)) (one_among n c.args.node among))
+    happens on start c.args.world.now outcomes awaited been (order.Start c.args.node) fit c.step.new.self (Start c.args.node) (Ok (Faulted c.args.node)) (HasFaulted c.args.node) is (Ok (Faulted c.args.node), refl, is) ([], _, refl, refl) refl refl (λ n was. refl) (λ n among. ap (λ (m : ℕ). Ok (Faulted m)) (one_among n c.args.node among))
 
 pub returns-clause-moved : goal.returns-clause-moved
 returns-clause-moved g c start outcomes awaited been fit =
     let on = view_of g.D.Disk.seen g.D.Disk.faults g.D.Disk.clock in
     let is = subst (λ r. IsStep on r (Start c.args.node) c.args.world.now c.step.new.self) c.in-Err.is c.step.ensures.is in
-    denied on start c.args.world.now outcomes awaited been (order.Start c.args.node) fit c.step.new.self (Start c.args.node) c.in-Err.fault c.stop_by.result is (Err c.in-Err.fault, refl) c.stop_by.ensures.is (λ always. always)
+    denied on start c.args.world.now outcomes awaited been (order.Start c.args.node) fit c.step.new.self (Start c.args.node) c.in-Err.fault c.stop_by.result is (Err c.in-Err.fault, refl, is) c.stop_by.ensures.is (λ always. always)

@@ -1,19 +1,23 @@
+use Rattle.std.proofs.Common.{sym, ◌∙◌}
 use Rattle.std.proofs.lemmas.Result.{err_from_is_err_and}
-use Rattle.cluster_world.proofs.Flowing.{one_more_posted, posted_until, posted_then, delivered}
+use Rattle.cluster_world.proofs.Flowing.{one_more_posted, all_posted, posted_until, posted_then, delivered, none_first}
 use Rattle.cluster_world.proofs.world.World.flow.Goals as goal
 
 pub returns-in_err-node-clause-flowed : goal.returns-in_err-node-clause-flowed
 returns-in_err-node-clause-flowed g c =
     let p = err_from_is_err_and c.from_residual.result c.from_residual.ensures.1 in
-    rw (p.1, p.2) (posted_then _ _ _ _ _ _ c.loop-letter.invariant.posted c.in_err-node.ensures.is)
+    rw (p.1, p.2) (posted_then _ _ _ _ _ _ c.loop-letter.invariant.posted (sym c.first.ensures ∙ c.in-Some.is, c.in_err-node.ensures.is))
 
 pub returns-in-Faulted-clause-flowed : goal.returns-in-Faulted-clause-flowed
 returns-in-Faulted-clause-flowed g c =
-    posted_until _ _ _ _ _ _ c.loop-letter.invariant.posted (rw c.in-Faulted.is at c.in_ok-node.ensures.is)
+    posted_until _ _ _ _ _ _ c.loop-letter.invariant.posted (sym c.first.ensures ∙ c.in-Some.is, rw c.in-Faulted.is at c.in_ok-node.ensures.is)
 
 pub loop-letter-preserved : goal.loop-letter-preserved
 loop-letter-preserved g c = record {
   ready = c.step.ensures.ready;
-  posted = one_more_posted _ _ _ _ _ _ c.loop-letter.invariant.posted c.in_ok-node.ensures.is (delivered c.in-Some.letter _ c.in_ok-node.ensures.is.did.kind c.in_default-2.not-Faulted);
+  posted = one_more_posted _ _ _ _ _ _ c.loop-letter.invariant.posted (sym c.first.ensures ∙ c.in-Some.is, c.in_ok-node.ensures.is) (delivered c.in-Some.letter _ c.in_ok-node.ensures.is.did.kind c.in_default-2.not-Faulted);
   settled = λ s. c.step.ensures.settled (c.loop-letter.invariant.settled s);
 }
+
+pub returns-clause-flowed : goal.returns-clause-flowed
+returns-clause-flowed g c = all_posted _ _ _ c.loop-letter.invariant.posted (none_first _ (sym c.first.ensures ∙ c.in_default.is))

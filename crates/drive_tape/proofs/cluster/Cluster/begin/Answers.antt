@@ -1,4 +1,4 @@
-use Rattle.std.proofs.Common.{◌+◌, ◌<◌, ℕ, length, List, Option, refl, sym, subst}
+use Rattle.std.proofs.Common.{◌+◌, ◌<◌, ℕ, length, List, Option, refl, sym, subst, inr}
 use Rattle.std.proofs.lemmas.Result.{err_from_is_err_and}
 use Rattle.std.proofs.lemmas.Option.{slice_get_read}
 use Rattle.node_store.specs.Disks.{view_of}
@@ -36,7 +36,7 @@ returns-in_err-fault-in-None-clause-began g c start p onward b held =
     let so = rw (sym own) at (rw c.in-None.is at c.in_ok-open_call.ensures.began start p.outcomes p.awaited (c.args.place + 1) b.asked b.call_is (asks_whole _ start (plan_of c.args.self.now.world) p c.args.place onward c.args.call c.args.self.now b) b.at) in
     let more = c.in_err-fault-in-None.ensures.faulted start (plan_of c.args.self.now.world) _ onward b.plain.node
     (falls _ start (plan_of c.args.self.now.world) p c.args.place onward c.args.call c.args.self.now b (record { world = c.begin.new.world; sessions = c.args.self.now.sessions }) so.0 so.1 so.2 refl) held in
-    rw (e.1, e.2) (stopped_on _ start _ p _ _ _ _ (begun_work _ start _ p c.args.place onward c.args.call c.args.self.now b (Fell (c.args.place + 1) b.plain.node b.asked) (awaited_elsewhere b.plain.node p.awaited) refl refl refl (at_own _ start (plan_of c.args.self.now.world) p c.args.place onward c.args.call c.args.self.now b)) more)
+    rw (e.1, e.2) (stopped_on _ start _ p _ _ _ _ (begun_work _ start _ p c.args.place onward c.args.call c.args.self.now b (Fell (c.args.place + 1) b.plain.node b.asked) (awaited_elsewhere b.plain.node p.awaited) (b.plain.node, inr refl) (at_own _ start (plan_of c.args.self.now.world) p c.args.place onward c.args.call c.args.self.now b)) more)
 
 pub returns-in_ok-fault-in-None-clause-began : goal.returns-in_ok-fault-in-None-clause-began
 returns-in_ok-fault-in-None-clause-began g c start p onward b held =
@@ -45,4 +45,4 @@ returns-in_ok-fault-in-None-clause-began g c start p onward b held =
     let so = rw (sym own) at (rw c.in-None.is at c.in_ok-open_call.ensures.began start p.outcomes p.awaited (c.args.place + 1) b.asked b.call_is (asks_whole _ start (plan_of c.args.self.now.world) p c.args.place onward c.args.call c.args.self.now b) b.at) in
     let more = c.in_ok-fault-in-None.ensures.faulted start (plan_of c.args.self.now.world) _ onward b.plain.node
     (falls _ start (plan_of c.args.self.now.world) p c.args.place onward c.args.call c.args.self.now b (record { world = c.begin.new.world; sessions = c.args.self.now.sessions }) so.0 so.1 so.2 refl) held in
-    went_on _ start _ p _ _ _ _ (begun_work _ start _ p c.args.place onward c.args.call c.args.self.now b (Fell (c.args.place + 1) b.plain.node b.asked) (awaited_elsewhere b.plain.node p.awaited) refl refl refl (at_own _ start (plan_of c.args.self.now.world) p c.args.place onward c.args.call c.args.self.now b)) more
+    went_on _ start _ p _ _ _ _ (begun_work _ start _ p c.args.place onward c.args.call c.args.self.now b (Fell (c.args.place + 1) b.plain.node b.asked) (awaited_elsewhere b.plain.node p.awaited) (b.plain.node, inr refl) (at_own _ start (plan_of c.args.self.now.world) p c.args.place onward c.args.call c.args.self.now b)) more

@@ -1,0 +1,122 @@
+-- What the cluster made of each act of a run, and what each run line tells of the steps that were made for it.
+use Rattle.std.specs.Prelude.{◌≡◌, ◌⊎◌, ℕ, ◌+◌, ◌-◌, ◌^◌, min, false, List, [], ◌∷◌, ◌++◌, ⊤, Option, Some, None, Result, Ok, Err}
+use Rattle.object_model.specs.Letters.{Number}
+use Rattle.mail_model.specs.Tape.{ClusterOrder}
+use Rattle.mail_model.specs.Tape.{ClusterOrder as order}
+use Rattle.session_model.specs.Calls.{Call}
+use Rattle.session_model.specs.Events.{ClusterEvent}
+use Rattle.session_model.specs.Events.ClusterEvent.{WentDown, CameUp, WasLost, WasHeard, WasThrown, WasDropped, HasFlowed, HasSent, HasWidened, HasFaulted}
+use Rattle.session_model.specs.Acts.{Act}
+use Rattle.session_model.specs.Acts.Act.{Opens, Does, Faults, StillWaits, Leaves, Makes, Abandons}
+use Rattle.session_model.specs.Acts.Deed.{IsFed, Hears, IsAnswered, IsGivenUp, Falls, Closes}
+use Rattle.session_model.specs.Logs.{Asked}
+use Rattle.session_model.specs.Run.{Made, Stop}
+use Rattle.session_model.specs.Run.Stop.{OutOfMemory}
+use Rattle.cluster_world.specs.Outcomes.{Outcome, StepMade, made_of, has_failed}
+use Rattle.cluster_world.specs.Outcomes.Outcome.{Began, Refused, Fell, Broke, Answers, StillPending, Unanswered, GaveUp, Abandoned, KeptUp, Left, Moved}
+use Rattle.cluster_world.specs.declared.step.Step.{Step}
+use Rattle.cluster_world.specs.declared.step.Step.TheVariants as step
+use Rattle.cluster_world.specs.declared.step.Said.{Said}
+use Rattle.cluster_world.specs.declared.step.Said.TheVariants as said
+use Rattle.cluster_world.specs.declared.fault.StepFault.{StepFault}
+use Rattle.drive_tape.specs.Happenings.{why_seen}
+
+-- what the transcript tells of a step that a run line asked for
+abbrev pub told_of : Step → Result Said StepFault → Option ClusterEvent
+told_of (step.Crash node) (Ok said.Done) = Some (WentDown node)
+told_of (step.Start node) (Ok (said.NodeUp boot)) = Some (CameUp node boot)
+told_of (step.Lose node) (Ok said.Done) = Some (WasLost node)
+told_of (step.Post letter keep) (Ok said.Heard) = Some (WasHeard letter)
+told_of (step.Post letter keep) (Ok (said.Thrown why)) = Some (WasThrown letter (why_seen why))
+told_of (step.Drop letter) (Ok said.Done) = Some (WasDropped letter)
+told_of (step.Widen at user id to) (Ok (said.Widened did)) = Some (HasWidened did)
+told_of step result = None
+
+-- none of the steps failed
+abbrev pub WentWell : List StepMade → Type 0
+WentWell [] = ⊤
+WentWell (one ∷ more) = (has_failed one.result ≡ false) × WentWell more
+
+-- how many letters they sent
+abbrev pub sent_of : Result Said StepFault → ℕ
+sent_of (Ok (said.Sent letters)) = letters
+sent_of result = 0
+
+abbrev pub sent_in : List StepMade → ℕ
+sent_in [] = 0
+sent_in (one ∷ more) = sent_of one.result + sent_in more
+
+-- this is what came of the last of them
+abbrev pub EndsIn : Result Said StepFault → List StepMade → Type 0
+EndsIn result steps = (before : List StepMade) × (one : StepMade) × (steps ≡ before ++ one ∷ []) × (one.result ≡ result)
+
+-- What a run line tells of its steps. That the disk of a node failed is told of the last of them; else what came of the one that there is, or of all. A count of letters
+-- stays at its type's end.
+abbrev pub Tells : ClusterOrder → List StepMade → ClusterEvent → Type 0
+Tells asked steps (HasFaulted node) = EndsIn (Ok (said.Faulted node)) steps
+Tells order.Flow steps HasFlowed = WentWell steps
+Tells (order.Push node) steps (HasSent count) = WentWell steps × (count ≡ min (sent_in steps) (2 ^ 64 - 1))
+Tells asked steps event = (one : StepMade) × (steps ≡ one ∷ []) × (told_of one.step one.result ≡ Some event)
+
+-- the call that a session asks, if any, began; or its node went down in it, since its disk failed
+abbrev pub Begins : ℕ → Option Call → List Outcome → Type 0
+Begins k None outcomes = outcomes ≡ []
+Begins k (Some asked) outcomes =
+    (node : ℕ) × (((ticket : Number) × (outcomes ≡ Began k node asked ticket ∷ [])) ⊎ (outcomes ≡ Fell k node asked ∷ []))
+
+-- the last was a call in which this node fell
+abbrev pub EndsFell : ℕ → List Outcome → Type 0
+EndsFell node outcomes = (before : List Outcome) × (k : ℕ) × (asked : Call) × (outcomes ≡ before ++ Fell k node asked ∷ [])
+
+-- What the cluster made of an act, behind what it had made before. That a disk failed is noted behind the call that its node fell in.
+abbrev pub Led : List Outcome → Act → List Outcome → Type 0
+Led before (Opens protocol node greeting) outcomes = outcomes ≡ []
+Led before (Does k (Hears one)) outcomes = Begins k one.call outcomes
+Led before (Does k (IsAnswered call answer reply)) outcomes = (ticket : Number) × (outcomes ≡ Answers k call ticket answer ∷ [])
+Led before (Does k (IsGivenUp call reply)) outcomes = (ticket : Number) × (outcomes ≡ GaveUp k call ticket ∷ [])
+Led before (Does k (IsFed octets)) outcomes = outcomes ≡ []
+Led before (Does k Falls) outcomes = outcomes ≡ []
+Led before (Does k Closes) outcomes = outcomes ≡ []
+Led before (Faults node) outcomes = (outcomes ≡ []) × EndsFell node before
+Led before (StillWaits k) outcomes = (ticket : Number) × (outcomes ≡ StillPending k ticket ∷ [])
+Led before (Leaves k user) outcomes = (node : ℕ) × (outcomes ≡ Left k node user ∷ [])
+Led before (Makes asked event) outcomes = (steps : List StepMade) × (outcomes ≡ Moved asked steps ∷ []) × Tells asked steps event
+Led before (Abandons k) outcomes = (asked : Call) × (ticket : Number) × (outcomes ≡ Abandoned k asked ticket ∷ [])
+
+-- so it is of acts, one after another
+abbrev pub AreLed : List Outcome → List Act → List Outcome → Type 0
+AreLed before [] outcomes = outcomes ≡ []
+AreLed before (act ∷ acts) outcomes =
+    (own : List Outcome) × (others : List Outcome) × (outcomes ≡ own ++ others) × Led before act own × AreLed (before ++ own) acts others
+
+-- A step of which no act tells: a ticket was asked for in vain, a call could not be given up, or the last step of a run line was refused.
+abbrev pub IsUntold : Outcome → Type 0
+IsUntold (Unanswered k asked ticket) = ⊤
+IsUntold (KeptUp k ticket why) = ⊤
+IsUntold (Moved asked steps) = (why : StepFault) × EndsIn (Err why) steps
+IsUntold outcome = ⊥
+
+-- nothing came of the call but this: it was refused, and is lacking among those that have begun; or its node went down in it as memory ran out
+abbrev pub CameToNothing : ℕ → Call → Outcome → List Asked → Type 0
+CameToNothing k asked (Refused j node call) lacking = (j ≡ k) × (call ≡ asked) × (lacking ≡ record { session = k; call = asked } ∷ [])
+CameToNothing k asked (Broke j node call) lacking = (j ≡ k) × (call ≡ asked) × (lacking ≡ [])
+CameToNothing k asked outcome lacking = ⊥
+
+-- How the work ends: with the last act; with a step more, of which no act tells; or, as memory ran out, with a call of which nothing came.
+abbrev pub EndsWith : List Act → List Outcome → Stop → List Asked → List Made → Type 0
+EndsWith [] [] stop lacking extra = (lacking ≡ []) × (extra ≡ [])
+EndsWith [] (outcome ∷ []) stop lacking extra = IsUntold outcome × (lacking ≡ []) × (extra ≡ made_of outcome ∷ [])
+EndsWith (Does k (Hears one) ∷ []) (outcome ∷ []) stop lacking extra =
+    (asked : Call) × (one.call ≡ Some asked) × CameToNothing k asked outcome lacking × (stop ≡ OutOfMemory) × (extra ≡ [])
+EndsWith acts outcomes stop lacking extra = ⊥
+
+-- What the cluster made of acts, up to where the work stopped.
+pub record AreLedTo (stop : Stop) (before : List Outcome) (acts : List Act) (outcomes : List Outcome) (lacking : List Asked) (extra : List Made) : Type 0 where
+  pub done : List Act
+  pub last : List Act
+  pub acts_are : acts ≡ done ++ last
+  pub own : List Outcome
+  pub rest : List Outcome
+  pub outcomes_are : outcomes ≡ own ++ rest
+  pub led : AreLed before done own
+  pub ends : EndsWith last rest stop lacking extra
