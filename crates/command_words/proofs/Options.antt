@@ -1,8 +1,8 @@
 -- Words one after another.
-use Rattle.std.proofs.Common.{◌≡◌, ◌≤◌, ◌<◌, ◌+◌, ℕ, ◌||◌, List, [], ◌∷◌, length, map, drop, get_or, String, Global, string_bytes, None, refl, arith}
+use Rattle.std.proofs.Common.{false, ◌≡◌, ◌≤◌, ◌<◌, ◌+◌, ℕ, ◌||◌, List, [], ◌∷◌, length, map, drop, get_or, String, Global, string_bytes, None, refl, arith}
 use Rattle.std.proofs.lemmas.List.{drop_more}
 use Rattle.std.specs.Prelude.{slice_get}
-use Rattle.command_words.specs.Forms.{begins_with_dash, has_option, form_of, form_at}
+use Rattle.command_words.specs.Forms.{begins_with_dash, has_option, form_of, form_at, task_of}
 
 pub option_next : (ws : List (String Global)) (i : ℕ) (d : String Global) → i < length ws
     → has_option (map string_bytes (drop i ws)) ≡ begins_with_dash (string_bytes (get_or ws i d)) || has_option (map string_bytes (drop (i + 1) ws))
@@ -21,3 +21,6 @@ form_of_many (a ∷ []) many = absurd (omega arith)
 form_of_many (a ∷ b ∷ []) many = absurd (omega arith)
 form_of_many (a ∷ b ∷ c ∷ []) many = absurd (omega arith)
 form_of_many (a ∷ b ∷ c ∷ d ∷ ws) many = refl
+
+pub task_of_few : (ws : List (List ℕ)) → length ws ≤ 3 → has_option ws ≡ false → form_at (slice_get ws 0) (slice_get ws 1) (slice_get ws 2) ≡ task_of ws
+task_of_few ws few plain = rw plain (form_of_few ws few)

@@ -1,5 +1,5 @@
 // What the words ask for.
-ghost use Rattle.std.specs.Prelude.{◌≡◌, [], ◌∷◌, map, IfOk, option_map, string_bytes};
+ghost use Rattle.std.specs.Prelude.{◌≡◌, ◌≤◌, false, None, [], ◌∷◌, length, map, slice_get, IfOk, OnErr, option_map, string_bytes};
 ghost use Rattle.std.specs.Option.{option_copied};
 ghost use Rattle.command_words.specs.Forms.{task_of, form_of, form_at, has_option, begins_with_dash, size_of};
 ghost use Rattle.command_words.specs.Seen.{task_seen};
@@ -95,18 +95,44 @@ fn form<'a>(
     }
 }
 
+// The word at this place.
+fn word_at(words: &[String], place: usize) -> Option<&str>
+    ensures { option_copied result ≡ slice_get (map string_bytes words.now) place }
+{
+    match words.get(place) {
+        Some(word) => Some(word.as_str()),
+        None => None,
+    }
+}
+
+// Words of no form are refused also where no memory is left to read them.
+fn without_memory<'a>(words: &'a [String]) -> Result<Option<Task<'a>>, AllocError>
+    requires few { length words.now ≤ 3 }
+    requires plain { has_option (map string_bytes words.now) ≡ false }
+    ensures none { IfOk result (λ task. (task ≡ None) × (task_of (map string_bytes words.now) ≡ None)) }
+    ensures of_a_form { OnErr result (task_of (map string_bytes words.now) ≡ None → ⊥) }
+{
+    match form(word_at(words, 0), word_at(words, 1), word_at(words, 2)) {
+        None => Ok(None),
+        Some(_) => Err(AllocError),
+    }
+}
+
 /// What the words after the program's name ask for; nothing exactly where they are of no form.
 ///
 /// # Errors
 ///
-/// Out of memory alone.
+/// Out of memory alone, and never where the words are of no form.
 pub fn read_words<'a>(alloc: Global, words: &'a [String]) -> Result<Option<Task<'a>>, AllocError>
-    ensures { IfOk result (λ task. option_map task_seen task ≡ task_of (map string_bytes words.now)) }
+    ensures task { IfOk result (λ task. option_map task_seen task ≡ task_of (map string_bytes words.now)) }
+    ensures of_a_form { OnErr result (task_of (map string_bytes words.now) ≡ None → ⊥) }
 {
     if 3 < words.len() || has_option(words) {
         return Ok(None);
     }
-    let placed = placed(alloc, words)?;
+    let Ok(placed) = placed(alloc, words) else {
+        return without_memory(words);
+    };
     let (first, second, third) = (
         placed.get_str("first"),
         placed.get_str("second"),

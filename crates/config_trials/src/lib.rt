@@ -1,15 +1,17 @@
-//! config_trials: tables of plan files, and storms.
+//! config_trials: tables of plan files, storms, and the words of a command line.
 //!
 //! SUMMARY
 //!
-//! Tests of `cluster_config` and `storm_maker` by their public calls: plan files that break each rule, and each pair of
-//! neighbouring rules together; plan files of the greatest size; and the SHA-256 of whole tapes of storms.
+//! Tests of `cluster_config`, `storm_maker` and `command_words` by their public calls: plan files that break each rule, and each pair of
+//! neighbouring rules together; plan files of the greatest size; the SHA-256 of whole tapes of storms; and words that are nearly
+//! of a form.
 //!
 //! DESCRIPTION
 //!
 //! | File | What it holds against tables |
 //! |---|---|
 //! | `tests/plan_files.rt` | the rule that a plan file breaks first, and the plan of one that keeps all |
+//! | `tests/words.rt` | words of each form, and words that are nearly of one |
 //! | `tests/storms.rt` | tapes of storms, against digests of a program that shares no code with this one |
 //!
 //! STANDS ON

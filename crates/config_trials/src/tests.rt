@@ -2,3 +2,4 @@
 
 mod plan_files;
 mod storms;
+mod words;

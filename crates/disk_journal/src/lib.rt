@@ -30,4 +30,3 @@ mod writing;
 pub use fault::JournalFault;
 pub use journal::Journal;
 pub use place::Place;
-

@@ -8,6 +8,7 @@ use Rattle.object_model.specs.Lists.{Among}
 use Rattle.mail_model.specs.Plan.{Plan}
 use Rattle.mail_model.specs.Transcript.{Entry, said_lines}
 use Rattle.mail_model.specs.Site.{closed_event}
+use Rattle.mail_model.specs.Session as mail
 use Rattle.session_model.specs.Calls as calls
 use Rattle.session_model.specs.Calls.{IsReply}
 use Rattle.session_model.specs.Talk.{TalkState, Standing, IsOn, answered}
@@ -224,21 +225,21 @@ module _ {D : Type 0} (on : View D) (start : World D) (plan : Plan) (p : Point) 
     outcomes = p.outcomes ++ came;
     cut = cut_act plan p act says came (Hearing (place + 1) (place + 1)) (slice_set p.sessions place after) OutOfMemory held [] says [] one refl (inl refl) (inl refl)
         (subst (λ (h : Option (List ℕ)). Appends p.held h []) is (appends_none p.held));
-    causes = causes_on on start old.world p.been act (does_plain (place + 1) (IsAnswered a.call answer a.reply)) (a.went.causes (failed_in p.been) a.shows.causes);
+    causes = causes_on on start old.world p.been act (does_plain (place + 1) (IsAnswered a.call answer a.whole.0)) (a.went.causes (failed_in p.been) a.shows.causes);
     since = (without_session (place + 1) p.awaited, a.went.at);
   })
     where
       act : Act
-      act = Does (place + 1) (IsAnswered a.call answer a.reply)
+      act = Does (place + 1) (IsAnswered a.call answer a.whole.0)
 
       after : Session
-      after = record a.plain { whole = a.has.before ++ with_answer a.has.last answer a.reply ∷ []; standing = answered a.state a.call answer }
+      after = record a.plain { whole = a.has.before ++ with_answer a.has.last answer a.whole.0 ∷ []; standing = answered a.state a.call answer }
 
       says : List Entry
-      says = said_lines (place + 1) a.reply ++ closing (place + 1) (IsAnswered a.call answer a.reply) after.standing
+      says = said_lines (place + 1) a.whole.0 ++ closing (place + 1) (IsAnswered a.call answer a.whole.0) after.standing
 
       one : OneAct plan p act says came (Hearing (place + 1) (place + 1)) (slice_set p.sessions place after)
-      one = replies_one a.call a.reply after (a.has.before, a.has.last, a.state, a.has.heard, a.waits, a.replies, refl, refl) refl
+      one = replies_one a.call a.whole.0 after (a.has.before, a.has.last, a.state, a.has.heard, a.waits, a.whole.1, refl, refl) refl
 
   -- it replied
   abbrev pub replied_point : (call : calls.Call) (reply : List (List ℕ)) → Session → Point
@@ -321,9 +322,10 @@ waiter on start plan p place cluster open_call shows within is =
     let w = ticket_waits (slice_get cluster.sessions.calls.items place) found.0 (place + 1) p.awaited found.0.standing open_call (shows.tickets place found.0 found.1) is in
     record { plain = found.0; here = found.1; state = w.0; call = w.1; waits = w.2; has = w.3; is = some_same w.3.open_call open_call (some_same (Some w.3.open_call) (Some open_call) (sym w.3.has ∙ is)) }
 
--- an answer of the call's kind has a reply
-pub own_reply : (kind : _) (call : calls.Call) (answer : Answer) → IsKindOf kind call → fits_kind kind answer ≡ true → (reply : List (List ℕ)) × IsReply call (answer_seen answer) reply
-own_reply kind call answer own fits = each_answer_has_reply call (answer_seen answer) (own.fits answer fits)
+-- an answer of the call's kind has a reply, and one to the unit that asked
+pub own_reply : (unit : mail.Unit) (kind : _) (call : calls.Call) (answer : Answer) → IsKindOf kind call → fits_kind kind answer ≡ true
+    → ((reply : List (List ℕ)) × IsReply call (answer_seen answer) reply) × ((reply : List (List ℕ)) × calls.RepliesTo unit call (answer_seen answer) reply)
+own_reply unit kind call answer own fits = each_answer_has_reply unit call (answer_seen answer) (own.fits answer fits)
 
 -- what comes of asking for it
 module _ {D : Type 0} (on : View D) (start : World D) (plan : Plan) (p : Point) (place : ℕ) (old : Cluster D) (open_call : OpenCall) (held : Option (List ℕ)) (shows : IsAtPoint on start plan old p) (asks : AsksFrom place p)
@@ -340,7 +342,7 @@ module _ {D : Type 0} (on : View D) (start : World D) (plan : Plan) (p : Point) 
   pub told : (E : Type 0) (answer : Answer) (new : Cluster D) → new.sessions ≡ old.sessions → AskedSo {E = E} on start p.outcomes p.awaited (place + 1) w.call open_call (Ok (Some answer)) old.world new.world
       → CallHasAnswer on start plan p place (answer_seen answer) new
   told E answer new same so =
-      let reply = own_reply open_call.kind w.call answer kind so.0 in
+      let replies = own_reply w.has.last.unit open_call.kind w.call answer kind so.0 in
       record {
         old = old;
         shows = shows;
@@ -351,8 +353,9 @@ module _ {D : Type 0} (on : View D) (start : World D) (plan : Plan) (p : Point) 
         call = w.call;
         waits = w.waits;
         has = w.has;
-        reply = reply.0;
-        replies = reply.1;
+        reply = replies.0.0;
+        replies = replies.0.1;
+        whole = replies.1;
         lives = so.1;
         went = subst (λ (o : OpenCall). WentTo on start old.world (p.outcomes ++ Answers (place + 1) w.call o.ticket (answer_seen answer) ∷ []) (without_session (place + 1) p.awaited) new.world) (sym w.is) so.2;
         same = same;

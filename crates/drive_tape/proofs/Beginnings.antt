@@ -1,5 +1,6 @@
 -- What a beginning may say of a call that is no leave.
-use Rattle.std.proofs.Common.{◌≡◌, ℕ, Option, Some, None}
+use Rattle.std.proofs.Common.{◌≡◌, ℕ, Option, Some, None, Result, Ok, Err}
+use Rattle.std.specs.Prelude.{IfOk}
 use Rattle.session_model.specs.Calls as calls
 use Rattle.call_tickets.specs.Seen.{call_seen}
 use Rattle.call_tickets.specs.declared.call.Call.{Call}
@@ -7,6 +8,9 @@ use Rattle.call_tickets.specs.declared.call.Call.TheVariants.{Deliver, Login, Fe
 use Rattle.cluster_world.specs.Steps.{BeginsSo}
 use Rattle.cluster_world.specs.declared.step.Said.{Said}
 use Rattle.cluster_world.specs.declared.step.Said.TheVariants.{Begun, Noted, Asked, Heard, Thrown, Sent, Widened, NodeUp, Done, Faulted}
+use Rattle.cluster_world.specs.declared.fault.StepFault.{StepFault}
+use Rattle.drive_tape.specs.Kinds.{IsNoLeave}
+use Rattle.drive_tape.specs.Worlds.{IsSaidOfBeginning}
 
 -- a ticket of the node, or that the node failed
 abbrev pub HasTicketSo : ℕ → Said → Type 0
@@ -56,3 +60,23 @@ begins_so (Strike user items) asked e node (NodeUp boot) b = absurd b
 begins_so (Strike user items) asked e node Done b = absurd b
 begins_so (Strike user items) asked e node (Faulted failed) b = b
 begins_so (Leave user login manager) asked e node said b = absurd (let no : ◌≡◌ {A = Option calls.Call} None (Some asked) = e in cc)
+
+-- so it may say no more
+said_so : (call : Call) (node : ℕ) (what : Said) → IsNoLeave call → BeginsSo call node what → IsSaidOfBeginning (Ok what)
+said_so (Deliver deliver) node (Begun ticket stirs) asks says = tt
+said_so (Deliver deliver) node (Faulted failed) asks says = tt
+said_so (Deliver deliver) node what asks says = absurd says
+said_so (Login user proof) node (Begun ticket stirs) asks says = tt
+said_so (Login user proof) node (Faulted failed) asks says = tt
+said_so (Login user proof) node what asks says = absurd says
+said_so (Fetch user id holders from most) node (Begun ticket stirs) asks says = tt
+said_so (Fetch user id holders from most) node (Faulted failed) asks says = tt
+said_so (Fetch user id holders from most) node what asks says = absurd says
+said_so (Strike user items) node (Begun ticket stirs) asks says = tt
+said_so (Strike user items) node (Faulted failed) asks says = tt
+said_so (Strike user items) node what asks says = absurd says
+said_so (Leave user login manager) node what asks says = absurd asks
+
+pub said_of_beginning : (call : Call) (node : ℕ) (result : Result Said StepFault) → IsNoLeave call → IfOk result (BeginsSo call node) → IsSaidOfBeginning result
+said_of_beginning call node (Err why) asks says = tt
+said_of_beginning call node (Ok what) asks says = said_so call node what asks says

@@ -10,6 +10,7 @@ use Rattle.mail_model.specs.PopReplies.{one_line}
 use Rattle.mail_model.specs.Site.{closed_event}
 use Rattle.mail_model.specs.Tape.Order.{GiveUp}
 use Rattle.mail_model.specs.Transcript.{Entry, written_of, said_lines}
+use Rattle.mail_model.specs.Session.{Unit}
 use Rattle.session_model.specs.Calls as calls
 use Rattle.session_model.specs.Calls.{IsReply, unstored_text}
 use Rattle.session_model.specs.Calls.{Call as call}
@@ -135,12 +136,12 @@ pub telling_out : {D : Type 0} (on : View D) (start : World D) (plan : Plan) (p 
     → IsTelling on start plan p q line place after out cluster → IsTelling on start plan p q line place after other cluster
 telling_out on start plan p q line place after out other cluster same t = subst (λ (o : List ℕ). IsTelling on start plan p q line place after o cluster) (sym same) t
 
--- the reply to a call that failed
-pub failed_reply : (asked : calls.Call) → (reply : List (List ℕ)) × IsReply asked Failed reply
-failed_reply (call.Deliver mail) = (one_line unstored_text, refl)
-failed_reply (call.Login user secret) = (one_line later_text, refl)
-failed_reply (call.Fetch user id) = (one_line later_text, refl)
-failed_reply (call.Strike user ids) = (one_line remaining_text, refl)
+-- the reply to a call that failed: to each unit that asked it is the same
+pub failed_reply : (asked : calls.Call) → (reply : List (List ℕ)) × IsReply asked Failed reply × ((unit : Unit) → calls.RepliesTo unit asked Failed reply)
+failed_reply (call.Deliver mail) = (one_line unstored_text, refl, λ unit. refl)
+failed_reply (call.Login user secret) = (one_line later_text, refl, λ unit. refl)
+failed_reply (call.Fetch user id) = (one_line later_text, refl, λ unit. refl)
+failed_reply (call.Strike user ids) = (one_line remaining_text, refl, λ unit. refl)
 
 -- the entries of such a reply
 given_or_not : (after : After) (k : ℕ) (asked : calls.Call) (reply : List (List ℕ)) (plain : Session) → IsAfter after plain → closing k (IsGivenUp asked reply) plain.standing ≡ (if has_ended after then closed_event k ∷ [] else [])
@@ -185,7 +186,7 @@ module _ {D : Type 0} (on : View D) (start : World D) (plan : Plan) (p : Point) 
       let entries = said_lines (place + 1) failed.0 ++ closing (place + 1) (IsGivenUp g.call failed.0) (answered g.state g.call Failed) in
       stops_own on start plan p (GiveUp (place + 1)) line g.spelled accepted (Does (place + 1) (IsGivenUp g.call failed.0)) entries (Hearing (place + 1) 1) (slice_set p.sessions place told)
       (g.call, failed.0, refl, refl)
-      (acted_does plan p.sessions place g.freed.plain told (IsGivenUp g.call failed.0) failed.0 g.freed.here (g.before, g.last, g.state, g.heard, g.waits, failed.1, refl, refl))
+      (acted_does plan p.sessions place g.freed.plain told (IsGivenUp g.call failed.0) failed.0 g.freed.here (g.before, g.last, g.state, g.heard, g.waits, failed.2 g.last.unit, refl, refl))
       (GaveUp (place + 1) g.call g.ticket ∷ []) (linked_so g.call failed.0 refl) (tt, tt) why.NoMemory held old.world OutOfMemory refl [] entries refl (inl refl) [] (inl refl)
       (subst (λ (h : Option (List ℕ)). Appends p.held h []) same (appends_none p.held))
       (without_session (place + 1) p.awaited, g.freed.at)

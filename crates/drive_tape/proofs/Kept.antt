@@ -44,7 +44,11 @@ use Rattle.cluster_world.proofs.Ordered.{AreStepsOf, IsPushOf, order_are}
 use Rattle.cluster_world.specs.Outcomes.Outcome.{Began, Refused, Fell, Broke, Answers, StillPending, Unanswered, GaveUp, Abandoned, KeptUp, Left, Moved}
 use Rattle.cluster_world.specs.declared.world.World.{World}
 use Rattle.cluster_world.specs.Steps.{IsBlind}
+use Rattle.cluster_model.specs.Progress.{ask_of}
+use Rattle.cluster_model.specs.Progress.Ask.{Pending}
+use Rattle.cluster_world.proofs.Lasting.{pending_has_letter}
 use Rattle.cluster_world.proofs.Owed.{none_pending}
+use Rattle.drive_tape.specs.Drive.{HasLetters}
 use Rattle.drive_tape.specs.Kept.{IsBlindOrder, AreBlindLines, AreToldOrBlind, KeptIn}
 use Rattle.drive_tape.specs.Points.{IsAtOwnNode, AreAtOwnNodes}
 use Rattle.drive_tape.proofs.Led.{MayLackOne}
@@ -222,3 +226,9 @@ module _ {D : Type 0} (on : View D) (start last : World D) (begins : IsAtBeginni
   none_waits waits told alone sure some k among =
       let found = waits k among in
       none_pending on plan lines outcomes awaited start last alone sure some begins (known told) steps of_sessions k found.0 found.1
+
+  -- a ticket that is pending has a letter in flight
+  pub letters_in : (plan_of last ≡ plan_of start) → AreToldOrBlind on start lines → HasLetters last
+  letters_in same told number ticket got wanted stands pending =
+      pending_has_letter on plan lines outcomes awaited start last (record { begins = begins; known = known told; makes = steps; sessions = of_sessions }) number ticket stands got wanted
+      (subst (λ (p : Plan). ask_of p.confirm ticket ≡ Pending got wanted) same pending)

@@ -225,7 +225,7 @@ asks_silent plan old one said new call did is = by_lead (lead_of plan old.node d
     by_lead (Ends reply) led = let no : None ≡ Some call = sym led.0 ∙ is in absurd cc
     by_lead (Asks asks) led = silent one.answer did.6 led.1
       where
-        silent : (answer : Option Answer) → answer ≡ None → Awaits asks answer one.reply → one.reply ≡ []
+        silent : (answer : Option Answer) → answer ≡ None → Awaits one.unit asks answer one.reply → one.reply ≡ []
         silent None none awaits = awaits
         silent (Some answer) none awaits = absurd cc
 

@@ -171,5 +171,5 @@ module _ {D : Type 0} (on : View D) (n now : ℕ) where
   whole_makes (outcome ∷ more) awaited left old new (between, mid, came, makes) other up =
       whole_came outcome awaited between old mid new came (λ starts. other outcome (inl refl) starts) (whole_makes more between left mid new makes (λ one among. other one (inr among)) up)
 
-pub stays_whole : {D : Type 0} (on : View D) (outcomes : List Outcome) (left : List Awaited) (start last : World D) → Makes on outcomes [] start left last → StaysWhole on start outcomes last
-stays_whole on outcomes left start last makes n first now disk disk' was up none there at = (whole_makes on n now outcomes [] left start last makes none up).same disk disk' there at
+pub stays_whole : {D : Type 0} (on : View D) (outcomes : List Outcome) (left : List Awaited) (start last : World D) → StaysWhole on start outcomes left last
+stays_whole on outcomes left start last front back between mid are first then_more n now disk disk' up none there at = (whole_makes on n now back between left mid last then_more none up).same disk disk' there at

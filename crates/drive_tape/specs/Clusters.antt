@@ -5,7 +5,7 @@ use Rattle.mail_model.specs.Plan.{Plan}
 use Rattle.mail_model.specs.Site.{closed_event}
 use Rattle.mail_model.specs.Transcript.{said_lines}
 use Rattle.session_model.specs.Calls as calls
-use Rattle.session_model.specs.Calls.{IsReply}
+use Rattle.session_model.specs.Calls.{IsReply, RepliesTo}
 use Rattle.session_model.specs.Talk.{Exchange, TalkState, IsOn, IsIdle, entered_as, leave_of}
 use Rattle.session_model.specs.Talk.Standing.{Waiting, EndedByQuit}
 use Rattle.session_model.specs.Sessions.{Session, session_at, exchanges_of}
@@ -171,6 +171,7 @@ pub record CallHasAnswer {D : Type 0} (on : View D) (start : World D) (plan : Pl
   pub has : HasTicket (slice_get old.sessions.calls.items place) plain (place + 1) call p.awaited
   pub reply : List (List ℕ)
   pub replies : IsReply call answer reply
+  pub whole : (all : List (List ℕ)) × RepliesTo has.last.unit call answer all
   pub lives : AreSameLives old.world cluster.world
   pub went : WentTo on start old.world (p.outcomes ++ Answers (place + 1) call has.open_call.ticket answer ∷ []) (without_session (place + 1) p.awaited) cluster.world
   pub same : cluster.sessions ≡ old.sessions

@@ -19,7 +19,13 @@ use Rattle.cluster_world.specs.Outcomes.{Outcome, Awaited, StepMade, Makes, made
 use Rattle.cluster_world.specs.Outcomes.Outcome.{Moved, KeptUp}
 use Rattle.session_model.specs.Events.NodeLife.{Up}
 use Rattle.mail_model.specs.Tape.{ClusterOrder as order}
-use Rattle.cluster_world.specs.Worlds.{plan_of, disk_of_node, life_of}
+use Rattle.cluster_model.specs.Cluster.{Ticket}
+use Rattle.cluster_model.specs.Room.{Flight}
+use Rattle.cluster_model.specs.Progress.{ask_of}
+use Rattle.cluster_model.specs.Progress.Ask.{Pending}
+use Rattle.object_model.specs.Letters.{Number}
+use Rattle.cluster_world.specs.Worlds.{state_of, plan_of, disk_of_node, life_of}
+use Rattle.cluster_world.specs.Telling.{standing_in}
 use Rattle.cluster_world.specs.declared.fault.StepFault.{StepFault}
 use Rattle.object_model.specs.Lists.{Among}
 use Rattle.cluster_world.specs.declared.world.World.{World}
@@ -102,10 +108,16 @@ abbrev pub StartsAgain : ℕ → Outcome → Type 0
 StartsAgain n (Moved (order.Start node) steps) = node ≡ n
 StartsAgain n outcome = ⊥
 
--- A node that was up at first, is up at last and was not started again has a disk that has not failed.
-abbrev pub StaysWhole : {D : Type 0} → View D → World D → List Outcome → World D → Type 0
-StaysWhole {D} on start outcomes last = (n first now : ℕ) (disk disk' : D) → life_of start n ≡ Up first → life_of last n ≡ Up now → ((outcome : Outcome) → Among outcome outcomes → StartsAgain n outcome → ⊥)
-    → disk_of_node start n ≡ Some disk → disk_of_node last n ≡ Some disk' → on.faults disk' ≡ on.faults disk
+-- Whatever world the run came by, a node that is up at last and was not started again behind it has a disk that has not failed since.
+abbrev pub StaysWhole : {D : Type 0} → View D → World D → List Outcome → List Awaited → World D → Type 0
+StaysWhole {D} on start outcomes left last = (front back : List Outcome) (between : List Awaited) (mid : World D) → outcomes ≡ front ++ back → Makes on front [] start between mid → Makes on back between mid left last
+    → (n now : ℕ) (disk disk' : D) → life_of last n ≡ Up now → ((outcome : Outcome) → Among outcome back → StartsAgain n outcome → ⊥) → disk_of_node mid n ≡ Some disk → disk_of_node last n ≡ Some disk'
+    → on.faults disk' ≡ on.faults disk
+
+-- A ticket that the world would answer as pending has a letter of its own in flight.
+abbrev pub HasLetters : {D : Type 0} → World D → Type 0
+HasLetters world = (number : Number) (ticket : Ticket) (got wanted : ℕ) → standing_in world number ≡ Some ticket → ask_of (plan_of world).confirm ticket ≡ Pending got wanted
+    → (flight : Flight) × Among flight (state_of world).flying.flights × (flight.letter.ticket ≡ Some number)
 
 -- The whole: the octets that were read begin with the lines that were handled, and the one in whose midst the work stopped, if there is one; the run of these
 -- lines is this; what was written is its entries, the last line of them perhaps in part; the world made its steps and no others; the answer says why it
@@ -140,13 +152,15 @@ pub record Drives {D : Type 0} (on : View D) (start : World D) (left0 left1 held
   pub at_nodes : AreAtOwnNodes sessions outcomes
   -- where one node is all there is, none waits
   pub none_waits : AreToldOrBlind on start (handled ++ midst) → (plan_of start).nodes ≡ 1 → (plan_of start).confirm ≡ 1 → 1 ≤ (plan_of start).copies → (k : ℕ) → Among (StillWaits k) (flat_map (λ a. a) (acts ++ behind)) → ⊥
+  -- whoever waits, waits for letters
+  pub letters : AreToldOrBlind on start (handled ++ midst) → HasLetters last
   pub why : Stops (stop_of answer) stop (plan_of start) (flat_map (λ a. a) acts) sessions midst left1 others room outcomes
   pub number : NamesLine answer (from + length handled + 1)
   pub whole : (IsCutShort stop → ⊥) → cut ≡ []
   -- a count of faults never falls; a node that failed has its cause, and one that was never turned has the count that it had
   pub later : (n : ℕ) (disk disk' : D) → disk_of_node start n ≡ Some disk → disk_of_node last n ≡ Some disk' → on.faults disk ≤ on.faults disk'
   pub fallen : (n : ℕ) → Among n (failed_in (flat_map (λ a. a) (acts ++ behind))) → HasFailed on start last n
-  pub quiet : StaysWhole on start outcomes last
+  pub quiet : StaysWhole on start outcomes awaited last
   -- all promises are kept by the disks and the book of the world that came back, whatever line then says why the program ended
   pub kept : AreToldOrBlind on start (handled ++ midst) → (ending : List Entry) → IsEnding ending
       → KeptIn on last (plan_of start) stop (handled ++ midst) (entries ++ ending) (flat_map (λ a. a) (acts ++ behind)) (flat_map asked_by_outcome outcomes)

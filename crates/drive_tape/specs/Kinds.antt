@@ -1,10 +1,12 @@
 -- Which answers are those of a call, by its kind.
-use Rattle.std.specs.Prelude.{◌≡◌, Bool, true, false}
+use Rattle.std.specs.Prelude.{◌≡◌, Bool, true, false, ⊤}
 use Rattle.session_model.specs.Calls as calls
 use Rattle.session_model.specs.Calls.{IsAnswerTo}
 use Rattle.mail_base.specs.declared.filing.CallKind.{CallKind}
 use Rattle.mail_base.specs.declared.filing.CallKind.TheVariants.{Deliver, Login, Fetch, Strike}
 use Rattle.call_tickets.specs.Seen.{answer_seen}
+use Rattle.call_tickets.specs.declared.call.Call.{Call}
+use Rattle.call_tickets.specs.declared.call.Call.TheVariants.{Leave}
 use Rattle.call_tickets.specs.declared.answer.Answer.{Answer}
 use Rattle.call_tickets.specs.declared.answer.Answer.TheVariants as answer
 
@@ -30,3 +32,8 @@ fits_kind kind (answer.Dropped confirmers) = same_kind kind Strike
 pub record IsKindOf (kind : CallKind) (asked : calls.Call) : Type 0 where
   pub fits : (answer : Answer) → fits_kind kind answer ≡ true → IsAnswerTo asked (answer_seen answer)
   pub only : (answer : Answer) → IsAnswerTo asked (answer_seen answer) → fits_kind kind answer ≡ true
+
+-- the call has an answer
+abbrev pub IsNoLeave : Call → Type 0
+IsNoLeave (Leave user login manager) = ⊥
+IsNoLeave call = ⊤

@@ -94,6 +94,13 @@ pub record WorldIsReady {D : Type 0} (seen : D → Option (List ℕ)) (is_settle
   pub ready : CanMakeSteps seen world
   pub settled : AreSettled is_settled (state_of world)
 
+-- what a step may say that begins a call: a ticket, or that the disk failed; or it was refused
+abbrev pub IsSaidOfBeginning : Result Said StepFault → Type 0
+IsSaidOfBeginning (Ok (said.Begun ticket stirs)) = ⊤
+IsSaidOfBeginning (Ok (said.Faulted node)) = ⊤
+IsSaidOfBeginning (Ok what) = ⊥
+IsSaidOfBeginning (Err why) = ⊤
+
 -- what is handed on of what a step said that began a call of this kind
 abbrev pub HandsOn : {E : Type 0} → CallKind → Result Said StepFault → Result (Option OpenCall) E → Type 0
 HandsOn kind (Ok (said.Begun ticket stirs)) (Ok (Some given)) = (given.ticket ≡ ticket) × (given.kind ≡ kind)

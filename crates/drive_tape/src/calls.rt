@@ -8,7 +8,7 @@ ghost use Rattle.cluster_world.specs.Worlds.{plan_of};
 ghost use Rattle.cluster_world.specs.declared.world.World.{World as AWorld};
 ghost use Rattle.object_model.specs.Lists.{Among};
 ghost use Rattle.drive_tape.specs.Kinds.{IsKindOf};
-ghost use Rattle.drive_tape.specs.Worlds.{IsWholeCall, HandsOn, WorldIsAt, WorldIsReady, BeganSo, AskedSo, GaveUpSo, LeftSo};
+ghost use Rattle.drive_tape.specs.Worlds.{IsWholeCall, IsSaidOfBeginning, HandsOn, WorldIsAt, WorldIsReady, BeganSo, AskedSo, GaveUpSo, LeftSo};
 
 use crate::Stop;
 use crate::denial::done;
@@ -21,6 +21,7 @@ use std::alloc::{AllocError, Global};
 
 // The call that has begun; none where the disk failed.
 fn hand_on(said: &Result<Said, StepFault>, kind: CallKind) -> Result<Option<OpenCall>, AllocError>
+    requires fits { IsSaidOfBeginning said.now }
     ensures { HandsOn kind said.now result }
 {
     match said {
@@ -30,7 +31,7 @@ fn hand_on(said: &Result<Said, StepFault>, kind: CallKind) -> Result<Option<Open
         })),
         Ok(Said::Faulted(_)) => Ok(None),
         // Nothing else is said of a beginning.
-        Ok(_) => Err(AllocError),
+        Ok(_) => unreachable!(),
         Err(_) => Err(AllocError),
     }
 }
@@ -92,7 +93,8 @@ pub(crate) fn ask<D: Disk>(
             }
         }
         Ok(Said::Asked(Ask::Pending { .. })) => Ok(None),
-        Ok(_) => Err(AllocError),
+        // Nothing else is said of it.
+        Ok(_) => unreachable!(),
         Err(_) => Err(AllocError),
     }
 }

@@ -2,7 +2,7 @@
 ghost use Rattle.std.specs.Prelude.{◌≡◌, IfSome, None, Some};
 ghost use Rattle.session_model.specs.Calls as calls;
 ghost use Rattle.call_tickets.specs.Seen.{call_seen};
-ghost use Rattle.drive_tape.specs.Kinds.{fits_kind, IsKindOf};
+ghost use Rattle.drive_tape.specs.Kinds.{fits_kind, IsKindOf, IsNoLeave};
 
 use call_tickets::{Answer, Call};
 use mail_base::{CallKind, Ticket};
@@ -20,6 +20,7 @@ pub(crate) struct OpenCall {
 pub(crate) fn kind_of(call: &Call) -> Option<CallKind>
     ensures some { IfSome result (λ kind. (asked : calls.Call) → call_seen call.now ≡ Some asked → IsKindOf kind asked) }
     ensures none { result ≡ None → call_seen call.now ≡ None }
+    ensures asks { IfSome result (λ _. IsNoLeave call.now) }
 {
     match call {
         Call::Deliver(_) => Some(CallKind::Deliver),

@@ -16,7 +16,7 @@
 //!   side. Where there is none, all octets are the first word, and nothing stands after it.
 //! - `len_before(stop, octets)` counts the octets before the first of a kind.
 //! - `number(word)` is the number of 1 to 20 decimal digits, leading zeros among them, below 2^64;
-//!   `None` where the word is none.
+//!   `None` where the word is none. `long_number(word)` is the same without the bound on its value.
 //!
 //! STANDS ON
 //!
@@ -31,6 +31,6 @@ mod digits;
 mod octets;
 mod words;
 
-pub use digits::number;
+pub use digits::{long_number, number};
 pub use octets::{is_word, len_before, split_verb, trimmed, unspaced};
 pub use words::{behind_word, first_word, has_space};

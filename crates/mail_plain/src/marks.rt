@@ -1,6 +1,6 @@
 // The messages of a POP3 session, and which of them it marked to be deleted (RFC 1939, section 5).
 ghost use Rattle.std.specs.Prelude.{◌≡◌, IfOk};
-ghost use Rattle.mail_model.specs.PopReplies.{listed_slots, marked_ids, unmarked};
+ghost use Rattle.mail_model.specs.PopReplies.{listed_slots, marked_ids, unmarked, without_marks};
 ghost use Rattle.mail_model.specs.Maildrop.{deleted_in, with_mark};
 
 use crate::item::Item;
@@ -96,7 +96,22 @@ fn with_mark(alloc: Global, slots: &[Slot], number: u32) -> Result<Vec<Slot>, Al
     Ok(all)
 }
 
-/// The places once the line was heard: a DELE that names one marks it, where the line has at most 1,024 octets with its CRLF.
+// The places with no mark.
+fn without_marks(alloc: Global, slots: &[Slot]) -> Result<Vec<Slot>, AllocError>
+    ensures { IfOk result (λ clear. clear.items ≡ without_marks slots.now) }
+{
+    let mut clear = Vec::new(alloc);
+    for slot in slots {
+        clear.push(Slot {
+            item: slot.item,
+            marked: false,
+        })?;
+    }
+    Ok(clear)
+}
+
+/// The places once the line was heard: a DELE that names one marks it, and RSET takes all marks away, where the line has at most 1,024 octets with
+/// its CRLF.
 ///
 /// # Errors
 ///
@@ -109,6 +124,7 @@ pub fn slots_after(alloc: Global, slots: &[Slot], line: &[u8]) -> Result<Vec<Slo
     }
     match read_command(line) {
         Ok(PopCommand::Dele { number }) => with_mark(alloc, slots, number),
+        Ok(PopCommand::Rset) => without_marks(alloc, slots),
         Ok(
             PopCommand::User { .. }
             | PopCommand::Pass { .. }
@@ -116,7 +132,10 @@ pub fn slots_after(alloc: Global, slots: &[Slot], line: &[u8]) -> Result<Vec<Slo
             | PopCommand::List { .. }
             | PopCommand::Uidl { .. }
             | PopCommand::Retr { .. }
-            | PopCommand::Quit,
+            | PopCommand::Top { .. }
+            | PopCommand::Noop
+            | PopCommand::Quit
+            | PopCommand::Capa,
         )
         | Err(_) => with_mark(alloc, slots, 0),
     }

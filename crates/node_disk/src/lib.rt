@@ -15,4 +15,3 @@ pub use file::FileDisk;
 pub use held::Range;
 pub use image::Image;
 pub use memory::{Asked, Call, MemoryDisk};
-

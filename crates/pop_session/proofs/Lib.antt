@@ -6,3 +6,4 @@ mod Tables
 mod Units
 mod Replying
 mod Moving
+pub mod Tops

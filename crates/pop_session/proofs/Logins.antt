@@ -3,7 +3,7 @@ use Rattle.std.proofs.Common.{◌≡◌, ℕ, Bool, true, false, cond, List, [],
 use Rattle.mail_model.specs.Plan.{Plan, is_user}
 use Rattle.mail_model.specs.Session.{is_long_line}
 use Rattle.mail_model.specs.Pop.{Command, Fault, pop_command_of}
-use Rattle.mail_model.specs.Pop.Command.{User, Pass, Stat, Listing, Uidl, Retr, Dele, Quit}
+use Rattle.mail_model.specs.Pop.Command.{User, Pass, Stat, Listing, Uidl, Retr, Dele, Top, Noop, Rset, Quit, Capa}
 use Rattle.mail_model.specs.Pop.Fault.{UnknownVerb, BadArgument, BadNumber}
 use Rattle.mail_model.specs.PopReplies.{Item, ListingSlot, marked_ids}
 use Rattle.mail_model.specs.Identity.{Id}
@@ -55,6 +55,10 @@ no_login_behind slots (Uidl None) = refl
 no_login_behind slots (Uidl (Some n)) = message_is_no_login _ (message_at slots n) (λ item. refl)
 no_login_behind slots (Retr n) = message_is_no_login _ (message_at slots n) (λ item. refl)
 no_login_behind slots (Dele n) = message_is_no_login _ (message_at slots n) (λ item. refl)
+no_login_behind slots (Top n lines) = message_is_no_login _ (message_at slots n) (λ item. refl)
+no_login_behind slots Noop = refl
+no_login_behind slots Rset = refl
+no_login_behind slots Capa = refl
 no_login_behind slots Quit = deletion_is_no_login (marked_ids slots)
 
 passes : (is : Bool) (name given user secret : List ℕ) (other : List (List ℕ)) → cond is (AsksLogin name given) (Answered other) ≡ AsksLogin user secret →
@@ -85,7 +89,11 @@ asks_before plan named (Listing number) user secret h = absurd (cc)
 asks_before plan named (Uidl number) user secret h = absurd (cc)
 asks_before plan named (Retr number) user secret h = absurd (cc)
 asks_before plan named (Dele number) user secret h = absurd (cc)
+asks_before plan named (Top number lines) user secret h = absurd (cc)
+asks_before plan named Noop user secret h = absurd (cc)
+asks_before plan named Rset user secret h = absurd (cc)
 asks_before plan named Quit user secret h = absurd (cc)
+asks_before plan named Capa user secret h = absurd (cc)
 
 asks_by : (plan : Plan) (stage : Stage) (result : Result Command Fault) (user secret : List ℕ) → command_outcome plan stage result ≡ AsksLogin user secret →
     Asks plan stage result user secret
@@ -117,7 +125,11 @@ names_by line user false (Ok (Listing number)) short is h = absurd (cc)
 names_by line user false (Ok (Uidl number)) short is h = absurd (cc)
 names_by line user false (Ok (Retr number)) short is h = absurd (cc)
 names_by line user false (Ok (Dele number)) short is h = absurd (cc)
+names_by line user false (Ok (Top number lines)) short is h = absurd (cc)
+names_by line user false (Ok Noop) short is h = absurd (cc)
+names_by line user false (Ok Rset) short is h = absurd (cc)
 names_by line user false (Ok Quit) short is h = absurd (cc)
+names_by line user false (Ok Capa) short is h = absurd (cc)
 names_by line user false (Err fault) short is h = absurd (cc)
 
 user_of : Stage → Option (List ℕ)

@@ -11,12 +11,12 @@ use Rattle.mail_base.specs.declared.item.Item.{Item}
 use Rattle.mail_base.specs.Items.{item_seen}
 use Rattle.mail_model.specs.Identity.{Id}
 use Rattle.mail_model.specs.PopReplies as model
-use Rattle.mail_model.specs.PopReplies.{unmarked, marked_ids, listed_slots}
+use Rattle.mail_model.specs.PopReplies.{unmarked, marked_ids, listed_slots, without_marks}
 use Rattle.mail_model.specs.Maildrop as drop
 use Rattle.mail_model.specs.Maildrop.{unmarked_in}
 use Rattle.call_tickets.specs.Seen.{ids_in}
 use Rattle.pop_session.specs.declared.listing.Slot.{Slot}
-use Rattle.pop_session.specs.Slots.{slot_seen, slots_seen, items_of_slots, marked_items, marked_at, listed_slot, unmarked_item, message_in}
+use Rattle.pop_session.specs.Slots.{slot_seen, slots_seen, items_of_slots, marked_items, marked_at, unmarked_at, unmarked_to, listed_slot, unmarked_item, message_in}
 
 -- the slot with its mark
 abbrev pub with_its_mark : Slot → Slot
@@ -34,6 +34,41 @@ pub none_is_marked : (slots : List Slot) (at : ℕ) → length slots ≤ at → 
 none_is_marked [] at past = refl
 none_is_marked (slot ∷ slots) zero past = absurd (omega (arith, past))
 none_is_marked (slot ∷ slots) (suc at) past = ap (λ (behind : List Slot). slot ∷ behind) (none_is_marked slots at (omega (arith, past)))
+
+-- the same where a mark is taken away
+abbrev pub with_no_mark : Slot → Slot
+with_no_mark slot = record slot { marked = false }
+
+pub unmarked_is_set : (slots : List Slot) (at : ℕ) (other : Slot) → at < length slots →
+    slice_set slots at (with_no_mark (slice_index_or slots at other)) ≡ unmarked_at slots at
+unmarked_is_set [] at other within = absurd (omega (arith, within))
+unmarked_is_set (slot ∷ slots) zero other within = refl
+unmarked_is_set (slot ∷ slots) (suc at) other within = ap (λ (behind : List Slot). slot ∷ behind) (unmarked_is_set slots at other (omega (arith, within)))
+
+pub none_is_unmarked : (slots : List Slot) (at : ℕ) → length slots ≤ at → slots ≡ unmarked_at slots at
+none_is_unmarked [] at past = refl
+none_is_unmarked (slot ∷ slots) zero past = absurd (omega (arith, past))
+none_is_unmarked (slot ∷ slots) (suc at) past = ap (λ (behind : List Slot). slot ∷ behind) (none_is_unmarked slots at (omega (arith, past)))
+
+-- one more place
+pub unmarked_more : (at : ℕ) (slots : List Slot) → unmarked_at (unmarked_to at slots) at ≡ unmarked_to (at + 1) slots
+unmarked_more zero [] = let e : 0 + 1 ≡ suc 0 = omega arith in ap (λ n. unmarked_to n []) (sym e)
+unmarked_more zero (slot ∷ slots) = let e : 0 + 1 ≡ suc 0 = omega arith in ap (λ n. unmarked_to n (slot ∷ slots)) (sym e)
+unmarked_more (suc at) [] = let e : suc at + 1 ≡ suc (at + 1) = omega arith in ap (λ n. unmarked_to n []) (sym e)
+unmarked_more (suc at) (slot ∷ slots) =
+    let e : suc at + 1 ≡ suc (at + 1) = omega arith in
+    ap (λ (behind : List Slot). with_no_mark slot ∷ behind) (unmarked_more at slots) ∙ ap (λ n. unmarked_to n (slot ∷ slots)) (sym e)
+
+-- all of them, as the definition sees it
+pub unmarked_alike : (slots : List Slot) → slots_seen (unmarked_to (length slots) slots) ≡ without_marks (slots_seen slots)
+unmarked_alike [] = refl
+unmarked_alike (slot ∷ slots) = ap (λ (behind : List model.ListingSlot). record { item = item_seen slot.item; marked = false } ∷ behind) (unmarked_alike slots)
+
+-- and the messages stay
+pub unmarked_stay : (n : ℕ) (slots : List Slot) → items_of_slots (unmarked_to n slots) ≡ items_of_slots slots
+unmarked_stay zero slots = refl
+unmarked_stay (suc n) [] = refl
+unmarked_stay (suc n) (slot ∷ slots) = ap (λ (behind : List Item). slot.item ∷ behind) (unmarked_stay n slots)
 
 -- the definition marks the same slot
 pub marked_alike : (slots : List Slot) (at : ℕ) → slots_seen (marked_at slots at) ≡ drop.marked_at (slots_seen slots) at

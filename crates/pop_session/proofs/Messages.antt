@@ -1,11 +1,11 @@
 -- The lines of a message as they are sent, and that no line of a reply has a CRLF in it.
 use Rattle.std.proofs.Common.{◌≡◌, ◌+◌, ◌<◌, ℕ, Bool, true, false, not, nat_eq, zero, suc, List, [], ◌∷◌, ◌++◌, length, map, flat_map, refl, sym, ◌∙◌, ap, arith, append_assoc, if◌then◌else◌}
-use Rattle.std.specs.Prelude.{slice_index, All, codes, Result, Ok, Err, OnOk}
+use Rattle.std.specs.Prelude.{slice_index, All, codes, Option, Some, None, Result, Ok, Err, OnOk}
 use Rattle.std.specs.List.{list_all}
 use Rattle.std.specs.Fmt.{decimal}
 use Rattle.std.proofs.lemmas.List.Elements.{All-cons, All-nil, All-append, All-get_or}
-use Rattle.mail_model.specs.Lines.{HasNoLf, HasNoCrlf, sent_line}
-use Rattle.mail_model.specs.PopReplies.{octets_text, dotted_line, last_line}
+use Rattle.mail_model.specs.Lines.{HasNoLf, HasNoCrlf, sent_line, closed}
+use Rattle.mail_model.specs.PopReplies.{octets_text, shown_part, shown_text, dotted_line, last_line}
 use Rattle.mail_model.proofs.OneLine.{IsNoLf, by_test, decimal_no_lf}
 use Rattle.dot_text.specs.Dots.{Dots, AreLines, dotted}
 use Rattle.pop_session.specs.Messages.{ShowsPartIn}
@@ -51,23 +51,28 @@ dotted_octets [] = refl
 dotted_octets (line ∷ lines) =
     append_assoc (sent_line (dotted_line line)) (dotted lines) (sent_line (46 ∷ [])) ∙ ap (λ (l : List ℕ). sent_line (dotted_line line) ++ l) (dotted_octets lines)
 
-octets_line : (size : ℕ) → HasNoCrlf (octets_text size)
-octets_line size =
+octets_none : (size : ℕ) → HasNoCrlf (octets_text size)
+octets_none size =
     none_of (octets_text size) (All-append IsNoLf (codes "+OK " ++ decimal size) (codes " octets")
     (All-append IsNoLf (codes "+OK ") (decimal size) (by_test (codes "+OK ") refl) (decimal_no_lf size)) (by_test (codes " octets") refl))
 
+shown_none : (asked : Option ℕ) (size : ℕ) → HasNoCrlf (shown_text asked size)
+shown_none None size = octets_none size
+shown_none (Some lines) size = text (codes "+OK top") refl
+
 -- the first line, and then the message as it is sent
-pub shows_part : (octets old first sent new : List ℕ) → first ≡ old ++ sent_line (octets_text (length octets)) → new ≡ first ++ sent → Dots octets sent → ShowsPartIn octets old new
-shows_part octets old first sent new starts is dots = record {
-  reply = octets_text (length octets) ∷ map dotted_line dots.lines ++ last_line;
-  shows = record { lines = dots.lines; are = all_lines dots.lines dots.are; whole = sym dots.whole; says = refl };
+pub shows_part : (asked : Option ℕ) (octets part old first sent new : List ℕ) → part ≡ shown_part asked octets → first ≡ old ++ sent_line (shown_text asked (length octets)) → new ≡ first ++ sent → Dots part sent
+    → ShowsPartIn asked octets old new
+shows_part asked octets part old first sent new shown starts is dots = record {
+  reply = shown_text asked (length octets) ∷ map dotted_line dots.lines ++ last_line;
+  shows = record { lines = dots.lines; are = all_lines dots.lines dots.are; whole = sym dots.whole ∙ ap closed shown; says = refl };
   says =
-      is ∙ ap (λ (l : List ℕ). l ++ sent) starts ∙ append_assoc old (sent_line (octets_text (length octets))) sent
-      ∙ ap (λ (l : List ℕ). old ++ (sent_line (octets_text (length octets)) ++ l)) (dots.sends ∙ dotted_octets dots.lines);
-  lines = All-cons HasNoCrlf (octets_text (length octets)) (map dotted_line dots.lines ++ last_line) (octets_line (length octets)) (all_dotted dots.lines dots.are);
+      is ∙ ap (λ (l : List ℕ). l ++ sent) starts ∙ append_assoc old (sent_line (shown_text asked (length octets))) sent
+      ∙ ap (λ (l : List ℕ). old ++ (sent_line (shown_text asked (length octets)) ++ l)) (dots.sends ∙ dotted_octets dots.lines);
+  lines = All-cons HasNoCrlf (shown_text asked (length octets)) (map dotted_line dots.lines ++ last_line) (shown_none asked (length octets)) (all_dotted dots.lines dots.are);
 }
 
-pub part_done : (octets old first new : List ℕ) (E : Type 0) (done : Result (Unit {0}) E) → first ≡ old ++ sent_line (octets_text (length octets))
-    → OnOk done ((sent : List ℕ) × (new ≡ first ++ sent) × Dots octets sent) → OnOk done (ShowsPartIn octets old new)
-part_done octets old first new E (Ok x) starts did = shows_part octets old first did.0 new starts did.1 did.2
-part_done octets old first new E (Err error) starts did = tt
+pub part_done : (asked : Option ℕ) (octets part old first new : List ℕ) (E : Type 0) (done : Result (Unit {0}) E) → part ≡ shown_part asked octets
+    → first ≡ old ++ sent_line (shown_text asked (length octets)) → OnOk done ((sent : List ℕ) × (new ≡ first ++ sent) × Dots part sent) → OnOk done (ShowsPartIn asked octets old new)
+part_done asked octets part old first new E (Ok x) shown starts did = shows_part asked octets part old first did.0 new shown starts did.1 did.2
+part_done asked octets part old first new E (Err error) shown starts did = tt

@@ -1,9 +1,10 @@
 -- What a move does, in all that is said of it.
-use Rattle.std.proofs.Common.{◌≡◌, ◌<◌, ◌≤◌, ◌+◌, ℕ, List, [], ◌++◌, length, flat_map, map, refl, sym, ap, subst, ◌∙◌, arith}
+use Rattle.std.proofs.Common.{◌≡◌, ◌<◌, ◌≤◌, ◌+◌, ℕ, Option, List, [], ◌++◌, length, flat_map, map, refl, sym, ap, subst, ◌∙◌, arith}
 use Rattle.std.specs.Prelude.{All, Option, Some, None, Result, Ok, Err, IfOk, MatchOption, slice_get}
 use Rattle.std.proofs.lemmas.List.{length-drop}
 use Rattle.mail_model.specs.Lines.{HasNoCrlf, sent_line}
 use Rattle.mail_model.specs.Plan.{Plan}
+use Rattle.mail_model.specs.Session.{Unit}
 use Rattle.mail_model.specs.PopReplies.{one_line, ready_text}
 use Rattle.mail_model.specs.Maildrop.{entered_text}
 use Rattle.session_model.specs.Calls as calls
@@ -68,11 +69,11 @@ module _ (plan : Plan) (node boot number seconds : ℕ) (now : Turn) (stage : St
       let At : Turn → Type 0 = λ t. Moved plan (next_at t) Said (flat_map sent_line (one_line (text_of line))) (next_at turn.Ended) in
       subst At (sym is) (said plan _ _ _ (says_last plan node boot number seconds stage cutter line) (omega arith) (omega arith) refl refl)
 
-  pub moved_shows : (message : List ℕ) (reply : List (List ℕ)) → now ≡ turn.Replies (dues.Shown message) → ShowsPart message reply → All HasNoCrlf reply
+  pub moved_shows : (message : List ℕ) (asked : Option ℕ) (reply : List (List ℕ)) → now ≡ turn.Replies (dues.Shown message asked) → ShowsPart asked message reply → All HasNoCrlf reply
       → Moved plan old Said (flat_map sent_line reply) (next_at turn.Hears)
-  moved_shows message reply is part lines =
+  moved_shows message asked reply is part lines =
       let At : Turn → Type 0 = λ t. Moved plan (next_at t) Said (flat_map sent_line reply) (next_at turn.Hears) in
-      subst At (sym is) (said plan _ _ _ (shows plan node boot number seconds stage cutter message reply part lines) (omega arith) (omega arith) refl refl)
+      subst At (sym is) (said plan _ _ _ (shows plan node boot number seconds stage cutter message asked reply part lines) (omega arith) (omega arith) refl refl)
 
   pub moved_enters : (login : Login) (listed : Answer) → now ≡ turn.Replies (dues.Entered login listed)
       → Moved plan old Said (flat_map sent_line (one_line entered_text)) (session node boot number seconds turn.Hears (Transaction login (map listed_slot (items_told listed))) cutter)
@@ -104,7 +105,7 @@ module _ (plan : Plan) (node boot number seconds : ℕ) (now : Turn) (stage late
   own_move (hears.Said reply) next did begins own = let At : Move → Type 0 = IsOwnMove (session node boot number seconds turn.Hears stage cutter) in subst At (sym begins.1) tt
   own_move (hears.Ended reply) next did begins own = let At : Move → Type 0 = IsOwnMove (session node boot number seconds turn.Hears stage cutter) in subst At (sym begins.1) tt
   own_move (hears.LogsIn user kept secret) next did begins own = let At : Move → Type 0 = IsOwnMove (session node boot number seconds turn.Hears stage cutter) in subst At (sym begins.1) tt
-  own_move (hears.Fetches user number_of item) next did begins own =
+  own_move (hears.Fetches user number_of lines item) next did begins own =
       let At : Move → Type 0 = IsOwnMove (session node boot number seconds turn.Hears stage cutter) in
       subst At (sym begins.1) (own.1.0, item, ap (λ (l : List Item). slice_get l own.1.0) (listed_is stage) ∙ own.1.1, refl, refl)
   own_move (hears.Deletes user items) next did begins own = let At : Move → Type 0 = IsOwnMove (session node boot number seconds turn.Hears stage cutter) in subst At (sym begins.1) own.1
@@ -114,7 +115,7 @@ module _ (plan : Plan) (node boot number seconds : ℕ) (now : Turn) (stage late
   quiet (hears.Said reply) next did begins = (ap due_count begins.0, λ idle. let both = sym begins.1 ∙ idle in cc (both), λ s. ap (λ t. told_login t s) begins.0, λ s. ap (λ t. told_items t s) begins.0)
   quiet (hears.Ended reply) next did begins = (ap due_count begins.0, λ idle. let both = sym begins.1 ∙ idle in cc (both), λ s. ap (λ t. told_login t s) begins.0, λ s. ap (λ t. told_items t s) begins.0)
   quiet (hears.LogsIn user kept secret) next did begins = (ap due_count begins.0, λ idle. let both = sym begins.1 ∙ idle in cc (both), λ s. ap (λ t. told_login t s) begins.0, λ s. ap (λ t. told_items t s) begins.0)
-  quiet (hears.Fetches user number_of item) next did begins = (ap due_count begins.0, λ idle. let both = sym begins.1 ∙ idle in cc (both), λ s. ap (λ t. told_login t s) begins.0, λ s. ap (λ t. told_items t s) begins.0)
+  quiet (hears.Fetches user number_of lines item) next did begins = (ap due_count begins.0, λ idle. let both = sym begins.1 ∙ idle in cc (both), λ s. ap (λ t. told_login t s) begins.0, λ s. ap (λ t. told_items t s) begins.0)
   quiet (hears.Deletes user items) next did begins = (ap due_count begins.0, λ idle. let both = sym begins.1 ∙ idle in cc (both), λ s. ap (λ t. told_login t s) begins.0, λ s. ap (λ t. told_items t s) begins.0)
 
   pub moved_line : (found : Found) → Finds cutter found cutter → new ≡ behind_line cutter found → (heard : Heard) (next : Turn) (did : Move) (octets : List ℕ) → LeadsTurn heard (next, did)
@@ -163,7 +164,7 @@ call_in EndedClosed = calls.Call.Strike [] []
 
 -- the answer came
 pub takes_answer : (node boot number seconds : ℕ) (now : Turn) (stage : Stage) (cutter : Shown) (asked : Asked) (due_it : Due) (answer : calls.Answer) (plain : Session) (state : TalkState) (call : calls.Call)
-    (reply : List (List ℕ)) → now ≡ turn.Waits asked → ((state : TalkState) (call : calls.Call) (reply : List (List ℕ)) → IsAsked asked state call → IsReply call answer reply → Says due_it state call answer)
+    (reply : List (List ℕ)) → now ≡ turn.Waits asked → ((unit : Unit) (state : TalkState) (call : calls.Call) (reply : List (List ℕ)) → IsAsked asked unit state call → IsReply call answer reply → Says due_it unit state call answer)
     → Follows (session node boot number seconds now stage cutter) plain Nothing → plain.standing ≡ Waiting state call → IsReply call answer reply
     → Follows (session node boot number seconds (turn.Replies due_it) stage cutter) plain (Reply answer)
 unfolding call_in
@@ -180,7 +181,7 @@ takes_answer node boot number seconds now stage cutter asked due_it answer plain
       pends = follows.pends;
       others = follows.others;
       entered = follows.entered;
-      stands = (answer, waits, refl, says (talk_state_of stage) waits.call reply follows.stands.2 (subst Of same replied));
+      stands = (answer, waits, refl, says waits.one.unit (talk_state_of stage) waits.call reply follows.stands.2 (subst Of same replied));
     }
 
 -- what holds by any plan holds by this one

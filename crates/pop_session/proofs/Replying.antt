@@ -5,12 +5,13 @@ use Rattle.std.proofs.lemmas.List.{append-nil}
 use Rattle.std.proofs.lemmas.List.Elements.{All-cons, All-nil}
 use Rattle.mail_model.specs.Lines.{HasNoCrlf, sent_line}
 use Rattle.mail_model.specs.Plan.{Plan}
+use Rattle.mail_model.specs.Session.{Unit}
 use Rattle.mail_model.specs.Tape.{Protocol, or_else}
 use Rattle.mail_model.specs.PopReplies.{one_line, ready_text, down_text, listed_slots}
 use Rattle.mail_model.specs.Identity.{Id}
 use Rattle.mail_model.specs.Maildrop.{entered_text}
 use Rattle.session_model.specs.Calls as calls
-use Rattle.session_model.specs.Calls.{IsReply, ShowsPart}
+use Rattle.session_model.specs.Calls.{RepliesTo, ShowsPart, asked_lines}
 use Rattle.session_model.specs.Talk.{TalkState, Exchange, Standing, IsOn, answered, let_in, entered_as, down_line}
 use Rattle.session_model.specs.Talk.TalkState.{Entering, Reading}
 use Rattle.session_model.specs.Talk.Standing.{Hearing, EndedByQuit, EndedDown}
@@ -51,8 +52,8 @@ text_none Bye = text (codes "+OK bye") refl
 text_none Remaining = text (codes "-ERR [SYS/TEMP] some messages may remain") refl
 
 -- a reply to an answer, which lets nobody in, and leaves the session so
-pub record SaysSo (reply : List (List ℕ)) (call : calls.Call) (answer : calls.Answer) (standing : TalkState → Standing) : Type 0 where
-  pub reply_is : IsReply call answer reply
+pub record SaysSo (reply : List (List ℕ)) (unit : Unit) (call : calls.Call) (answer : calls.Answer) (standing : TalkState → Standing) : Type 0 where
+  pub reply_is : RepliesTo unit call answer reply
   pub nobody : let_in (Some call) (Some answer) ≡ None
   pub leaves : (state : TalkState) → answered state call answer ≡ standing state
 
@@ -89,13 +90,13 @@ module _ (plan : Plan) (node boot number seconds : ℕ) (stage : Stage) (cutter 
 
   -- a reply after which the session stands so
   pub says_reply : (reply : List (List ℕ)) (due_it : Due) (now : Turn) (standing : TalkState → Standing) → All HasNoCrlf reply
-      → ((call : calls.Call) (answer : calls.Answer) → Says due_it (talk_state_of stage) call answer → SaysSo reply call answer standing)
+      → ((unit : Unit) (call : calls.Call) (answer : calls.Answer) → Says due_it unit (talk_state_of stage) call answer → SaysSo reply unit call answer standing)
       → ((plain : Session) → Stands now (talk_state_of stage) (record plain { standing = standing (talk_state_of stage) }) Nothing)
       → Goes plan (now_at (turn.Replies due_it)) Said (flat_map sent_line reply) (now_at now)
   says_reply reply due_it now standing lines is stands plain due follows =
       let answer = follows.stands.0 in
       let waits = follows.stands.1 in
-      let says = is waits.call answer follows.stands.3 in
+      let says = is waits.one.unit waits.call answer follows.stands.3 in
       let At : moves.Due → Type 0 = λ d. Moves (Follows (now_at now)) (ready_text node boot number seconds) plan plain d Said (flat_map sent_line reply) in
       let whole : List Exchange = waits.before ++ with_answer waits.one answer reply ∷ [] in
       let Of : Standing → Type 0 = λ s. Stands now (talk_state_of stage) (record plain { whole = whole; standing = s }) Nothing in
@@ -121,24 +122,26 @@ module _ (plan : Plan) (node boot number seconds : ℕ) (stage : Stage) (cutter 
   pub says_on : (line : Text) → Goes plan (now_at (turn.Replies (dues.Said line))) Said (flat_map sent_line (one_line (text_of line))) (now_at turn.Hears)
   says_on line =
       says_reply (one_line (text_of line)) (dues.Said line) turn.Hears Hearing (All-cons HasNoCrlf (text_of line) [] (text_none line) (All-nil HasNoCrlf))
-      (λ call answer says. record { reply_is = says.reply; nobody = says.nobody; leaves = says.leaves }) (λ plain. (refl, refl))
+      (λ unit call answer says. record { reply_is = says.reply; nobody = says.nobody; leaves = says.leaves }) (λ plain. (refl, refl))
 
   pub says_last : (line : Text) → Goes plan (now_at (turn.Replies (dues.Last line))) Said (flat_map sent_line (one_line (text_of line))) (now_at turn.Ended)
   says_last line =
       says_reply (one_line (text_of line)) (dues.Last line) turn.Ended (λ state. EndedByQuit) (All-cons HasNoCrlf (text_of line) [] (text_none line) (All-nil HasNoCrlf))
-      (λ call answer says. record { reply_is = says.reply; nobody = says.nobody; leaves = says.leaves }) (λ plain. (refl, tt))
+      (λ unit call answer says. record { reply_is = says.reply; nobody = says.nobody; leaves = says.leaves }) (λ plain. (refl, tt))
 
   -- a message
-  pub shows : (message : List ℕ) (reply : List (List ℕ)) → ShowsPart message reply → All HasNoCrlf reply
-      → Goes plan (now_at (turn.Replies (dues.Shown message))) Said (flat_map sent_line reply) (now_at turn.Hears)
-  shows message reply part lines =
-      says_reply reply (dues.Shown message) turn.Hears Hearing lines (λ call answer says. of_fetch call answer says.0.0 says.0.1 says.0.2 says.1) (λ plain. (refl, refl))
+  pub shows : (message : List ℕ) (asked : Option ℕ) (reply : List (List ℕ)) → ShowsPart asked message reply → All HasNoCrlf reply
+      → Goes plan (now_at (turn.Replies (dues.Shown message asked))) Said (flat_map sent_line reply) (now_at turn.Hears)
+  shows message asked reply part lines =
+      says_reply reply (dues.Shown message asked) turn.Hears Hearing lines (λ unit call answer says. of_fetch unit call answer says.0.0 says.0.1 says.0.2 says.1 says.2) (λ plain. (refl, refl))
     where
-      of_fetch : (call : calls.Call) (answer : calls.Answer) (user : List ℕ) (id : Id) → call ≡ calls.Call.Fetch user id → answer ≡ calls.Answer.Part message → SaysSo reply call answer Hearing
-      of_fetch call answer user id is of_part =
-          let Of : calls.Call → Type 0 = λ c. SaysSo reply c answer Hearing in
-          let With : calls.Answer → Type 0 = λ a. SaysSo reply (calls.Call.Fetch user id) a Hearing in
-          subst Of (sym is) (subst With (sym of_part) (record { reply_is = part; nobody = refl; leaves = λ state. refl }))
+      of_fetch : (unit : Unit) (call : calls.Call) (answer : calls.Answer) (user : List ℕ) (id : Id) → call ≡ calls.Call.Fetch user id → answer ≡ calls.Answer.Part message → asked_lines unit ≡ asked
+          → SaysSo reply unit call answer Hearing
+      of_fetch unit call answer user id is of_part so =
+          let Of : calls.Call → Type 0 = λ c. SaysSo reply unit c answer Hearing in
+          let With : calls.Answer → Type 0 = λ a. SaysSo reply unit (calls.Call.Fetch user id) a Hearing in
+          let Asks : Option ℕ → Type 0 = λ a. ShowsPart a message reply in
+          subst Of (sym is) (subst With (sym of_part) (record { reply_is = subst Asks (sym so) part; nobody = refl; leaves = λ state. refl }))
 
 -- nobody was let in before
 no_login : (stage : Stage) (named : Option (List ℕ)) → talk_state_of stage ≡ Entering named → user_of_login (login_in stage) ≡ None
@@ -157,7 +160,7 @@ enters plan node boot number seconds stage cutter login listed plain due follows
     let After : PopSession = session node boot number seconds turn.Hears (Transaction login (map listed_slot (items_told listed))) cutter in
     let At : moves.Due → Type 0 = λ d. Moves (Follows (session node boot number seconds turn.Hears (Transaction login (map listed_slot (items_told listed))) cutter)) (ready_text node boot number seconds) plan plain d Said
     (flat_map sent_line (one_line entered_text)) in
-    let IsTold : calls.Call → calls.Answer → Type 0 = λ c a. IsReply c a (one_line entered_text) × (answered (talk_state_of stage) c a ≡ Hearing (Reading login.user (listed_slots (map item_seen (items_told listed)))))
+    let IsTold : calls.Call → calls.Answer → Type 0 = λ c a. RepliesTo waits.one.unit c a (one_line entered_text) × (answered (talk_state_of stage) c a ≡ Hearing (Reading login.user (listed_slots (map item_seen (items_told listed)))))
     × (let_in (Some c) (Some a) ≡ Some login.user) in
     let told : IsTold waits.call answer =
     subst (λ c. IsTold c answer) (sym says.1.1) (subst (λ a. IsTold (calls.Call.Login login.user secret) a) (sym says.2) (refl, refl, refl)) in

@@ -9,9 +9,9 @@ use Rattle.mail_model.specs.Plan.{Plan, is_user}
 use Rattle.mail_model.specs.Identity.{Id, id_text}
 use Rattle.mail_model.specs.Session.{is_long_line}
 use Rattle.mail_model.specs.Pop.{Command, Fault, pop_command_of}
-use Rattle.mail_model.specs.Pop.Command.{User, Pass, Stat, Listing, Uidl, Retr, Dele, Quit}
+use Rattle.mail_model.specs.Pop.Command.{User, Pass, Stat, Listing, Uidl, Retr, Dele, Top, Noop, Rset, Quit, Capa}
 use Rattle.mail_model.specs.Pop.Fault.{UnknownVerb, BadArgument, BadNumber}
-use Rattle.mail_model.specs.PopReplies.{Item, ListingSlot, unmarked, marked_ids, size_line, id_line, stat_text, deleted_text, lines_from, last_line, ready_text, down_text}
+use Rattle.mail_model.specs.PopReplies.{Item, ListingSlot, unmarked, marked_ids, size_line, id_line, stat_text, deleted_text, lines_from, last_line, capability_lines, capability_reply, ready_text, down_text}
 use Rattle.mail_model.specs.Maildrop.{Stage, LineOutcome, line_outcome, command_outcome, pass_outcome, before_login, behind_login, of_message, message_at, deletion_of}
 use Rattle.mail_model.specs.Maildrop as drop
 use Rattle.mail_model.specs.Maildrop.Stage.{Authorization, Transaction}
@@ -107,6 +107,18 @@ passes plan (Some user) secret = by_user (is_user plan user)
     by_user true = tt
     by_user false = one (codes "-ERR name or secret is wrong") refl
 
+one_more : (line : List ℕ) (lines : List (List ℕ)) → list_all (λ x. not (nat_eq x 10)) line ≡ true → All HasNoCrlf lines → All HasNoCrlf (line ∷ lines)
+one_more line lines h behind = All-cons HasNoCrlf line lines (text line h) behind
+
+capabilities : All HasNoCrlf capability_reply
+capabilities =
+    one_more (codes "+OK capabilities") (capability_lines ++ last_line) refl
+    (one_more (codes "TOP") (codes "USER" ∷ codes "UIDL" ∷ codes "PIPELINING" ∷ codes "RESP-CODES" ∷ last_line) refl
+    (one_more (codes "USER") (codes "UIDL" ∷ codes "PIPELINING" ∷ codes "RESP-CODES" ∷ last_line) refl
+    (one_more (codes "UIDL") (codes "PIPELINING" ∷ codes "RESP-CODES" ∷ last_line) refl
+    (one_more (codes "PIPELINING") (codes "RESP-CODES" ∷ last_line) refl
+    (one_more (codes "RESP-CODES") last_line refl (one (codes ".") refl))))))
+
 before : (plan : Plan) (user : Option (List ℕ)) (command : Command) → AreLines (before_login plan user command)
 before plan user (User name) = one (codes "+OK send PASS") refl
 before plan user (Pass secret) = passes plan user secret
@@ -115,7 +127,11 @@ before plan user (Listing number) = one (codes "-ERR bad order") refl
 before plan user (Uidl number) = one (codes "-ERR bad order") refl
 before plan user (Retr number) = one (codes "-ERR bad order") refl
 before plan user (Dele number) = one (codes "-ERR bad order") refl
+before plan user (Top number lines) = one (codes "-ERR bad order") refl
+before plan user Noop = one (codes "-ERR bad order") refl
+before plan user Rset = one (codes "-ERR bad order") refl
 before plan user Quit = one (codes "+OK bye") refl
+before plan user Capa = capabilities
 
 after : (slots : List ListingSlot) (command : Command) → AreLines (behind_login slots command)
 after slots (User name) = one (codes "-ERR bad order") refl
@@ -127,7 +143,11 @@ after slots (Uidl None) = All-cons HasNoCrlf (codes "+OK unique ids") (lines_fro
 after slots (Uidl (Some n)) = of_one _ (λ item. single (codes "+OK " ++ id_line n item) (joined (codes "+OK ") (id_line n item) (by_test (codes "+OK ") refl) (uid_none n item))) (message_at slots n)
 after slots (Retr n) = of_one _ (λ item. tt) (message_at slots n)
 after slots (Dele n) = of_one _ (λ item. single (deleted_text n) (deleted_none n)) (message_at slots n)
+after slots (Top n lines) = of_one _ (λ item. tt) (message_at slots n)
+after slots Noop = one (codes "+OK") refl
+after slots Rset = one (codes "+OK unmarked") refl
 after slots Quit = deletion (marked_ids slots)
+after slots Capa = capabilities
 
 command_lines : (plan : Plan) (stage : Stage) (command : Result Command Fault) → AreLines (command_outcome plan stage command)
 command_lines plan stage (Err UnknownVerb) = one (codes "-ERR unknown command") refl

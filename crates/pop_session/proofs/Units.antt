@@ -15,6 +15,7 @@ use Rattle.mail_model.specs.Maildrop as drops
 use Rattle.mail_model.specs.Maildrop.{line_outcome, after_line}
 use Rattle.mail_model.specs.Pop.{pop_command_of}
 use Rattle.session_model.specs.Calls as calls
+use Rattle.session_model.specs.Calls.{asked_lines}
 use Rattle.session_model.specs.Talk as talks
 use Rattle.session_model.specs.Talk.{TalkState, Lead, Exchange, Standing, IsNext, IsLed, in_text, lead_of, line_lead, heard, stands, stands_by, let_in, entered_as}
 use Rattle.session_model.specs.Talk.TalkState.{Entering, Reading}
@@ -118,7 +119,7 @@ pub hears_long : (plan : Plan) (old new : Stage) (line : List ℕ) (limit : ℕ)
     → login_in new ≡ login_in old → listed_in new ≡ listed_in old → HearsLine plan old line (hears.Said (codes "-ERR line too long" ∷ [])) new
 hears_long plan old new line limit is over told login items =
     let long : is_long_line line ≡ true = is_long line limit is over in
-    record { outcome = rw long refl; told = told ∙ sym (after_long (stage_of old)); own = tt; login = login; items = items }
+    record { outcome = rw long refl; told = told ∙ sym (after_long (stage_of old)); asks = tt; own = tt; login = login; items = items }
   where
     after_long : (stage : drops.Stage) → after_line stage line ≡ told_long stage
     after_long (drops.Stage.Authorization user) = let long : is_long_line line ≡ true = is_long line limit is over in rw long refl
@@ -166,7 +167,7 @@ module _ (plan : Plan) (plain : Session) (state : TalkState) (line more octets :
       }
 
   pub heard_asks : (call : calls.Call) → lead_of plan plain.node state (Line line) ≡ talks.Lead.Asks call → octets ≡ []
-      → ((one : Exchange) → one.answer ≡ None → one.call ≡ Some call
+      → ((one : Exchange) → one.answer ≡ None → one.call ≡ Some call → one.unit ≡ Line line
       → follows (record plain { whole = plain.whole ++ one ∷ []; standing = Waiting (heard plan state (Line line) []) call; rest = more }) Nothing)
       → moves.HeardUnit follows plan plain (Some call) octets
   heard_asks call leads says goes_on =
@@ -182,7 +183,7 @@ module _ (plan : Plan) (plain : Session) (state : TalkState) (line more octets :
         asks = refl;
         says = says;
         lines = All-nil HasNoCrlf;
-        goes_on = subst At (sym now) (goes_on one refl refl);
+        goes_on = subst At (sym now) (goes_on one refl refl refl);
       }
 
 -- a session that has nothing to say, and hears
@@ -296,7 +297,7 @@ module _ (plan : Plan) (node boot number seconds : ℕ) (stage later : Stage) (o
           calls.Call.Login user secret,
           refl,
           heard_asks plan plain (talk_state_of stage) gives.line rest octets (Follows (session node boot number seconds now later new)) follows.stands.1 (is_line gives.line gives.first) gives.octets
-              (calls.Call.Login user secret) leads says (λ one none asks.
+              (calls.Call.Login user secret) leads says (λ one none asks heard_is_line.
               let after : Session = record plain { whole = plain.whole ++ one ∷ []; standing = Waiting (heard plan (talk_state_of stage) (Line gives.line) []) (calls.Call.Login user secret); rest = rest } in
               let Now : Turn → Type 0 = λ t. Stands t (talk_state_of later) after Nothing in
               behind now plain after due one follows refl none meaning.login (subst Now (sym begins.0) (
@@ -313,7 +314,7 @@ module _ (plan : Plan) (node boot number seconds : ℕ) (stage later : Stage) (o
                 (entering plan stage later gives.line user secret (sym meaning.outcome) meaning.told, (secret, ap (λ n. calls.Call.Login n secret) (sym meaning.own))),
               ))),
         ))
-    hears_line (hears.Fetches user number_of item) now did octets begins says means plain due follows =
+    hears_line (hears.Fetches user number_of lines item) now did octets begins says means plain due follows =
         let gives = finds.gives plain.rest follows.pends in
         let meaning = means gives.line gives.first gives.is follows.limit in
         let call : calls.Call = calls.Call.Fetch (name_in stage) item.id in
@@ -324,7 +325,7 @@ module _ (plan : Plan) (node boot number seconds : ℕ) (stage later : Stage) (o
           call,
           ap (λ n. Some (calls.Call.Fetch n item.id)) meaning.own.0,
           heard_asks plan plain (talk_state_of stage) gives.line rest octets (Follows (session node boot number seconds now later new)) follows.stands.1 (is_line gives.line gives.first) gives.octets
-              call leads says (λ one none asks.
+              call leads says (λ one none asks heard_is_line.
               let after : Session = record plain { whole = plain.whole ++ one ∷ []; standing = Waiting (heard plan (talk_state_of stage) (Line gives.line) []) (calls.Call.Fetch (name_in stage) item.id); rest = rest } in
               let Now : Turn → Type 0 = λ t. Stands t (talk_state_of later) after Nothing in
               behind now plain after due one follows refl none meaning.login (subst Now (sym begins.0) (
@@ -338,7 +339,7 @@ module _ (plan : Plan) (node boot number seconds : ℕ) (stage later : Stage) (o
                   unanswered = none;
                 },
                 refl,
-                (name_in stage, item.id, refl),
+                ((name_in stage, item.id, refl), ap asked_lines heard_is_line ∙ meaning.asks),
               ))),
         ))
     hears_line (hears.Deletes user items) now did octets begins says means plain due follows =
@@ -352,7 +353,7 @@ module _ (plan : Plan) (node boot number seconds : ℕ) (stage later : Stage) (o
           call,
           ap (λ n. Some (calls.Call.Strike n (ids_in items))) meaning.own.0,
           heard_asks plan plain (talk_state_of stage) gives.line rest octets (Follows (session node boot number seconds now later new)) follows.stands.1 (is_line gives.line gives.first) gives.octets
-              call leads says (λ one none asks.
+              call leads says (λ one none asks heard_is_line.
               let after : Session = record plain { whole = plain.whole ++ one ∷ []; standing = Waiting (heard plan (talk_state_of stage) (Line gives.line) []) (calls.Call.Strike (name_in stage) (ids_in items)); rest = rest } in
               let Now : Turn → Type 0 = λ t. Stands t (talk_state_of later) after Nothing in
               behind now plain after due one follows refl none meaning.login (subst Now (sym begins.0) (

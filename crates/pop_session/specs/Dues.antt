@@ -1,11 +1,12 @@
 -- What a session waits for, and what it has to say to the answer.
 use Rattle.std.specs.Prelude.{◌≡◌, ℕ, List, [], map, Option, Some, None}
 use Rattle.mail_model.specs.Identity.{Id}
+use Rattle.mail_model.specs.Session.{Unit}
 use Rattle.mail_model.specs.PopReplies.{one_line}
 use Rattle.mail_model.specs.Maildrop.{wrong_text, later_text, gone_text, bye_text, remaining_text}
 use Rattle.mail_base.specs.Items.{item_seen}
 use Rattle.session_model.specs.Calls as calls
-use Rattle.session_model.specs.Calls.{IsReply}
+use Rattle.session_model.specs.Calls.{RepliesTo, asked_lines}
 use Rattle.session_model.specs.Talk.{TalkState, Standing, answered, let_in}
 use Rattle.session_model.specs.Talk.TalkState.{Entering}
 use Rattle.session_model.specs.Talk.Standing.{Hearing, EndedByQuit}
@@ -28,15 +29,15 @@ text_of Gone = gone_text
 text_of Bye = bye_text
 text_of Remaining = remaining_text
 
--- the session asked this call in this state
-abbrev pub IsAsked : Asked → TalkState → calls.Call → Type 0
-IsAsked (Login user) state call = ((named : Option (List ℕ)) × (state ≡ Entering named)) × ((secret : List ℕ) × (call ≡ calls.Call.Login user secret))
-IsAsked Message state call = (user : List ℕ) × (id : Id) × (call ≡ calls.Call.Fetch user id)
-IsAsked Deletion state call = (user : List ℕ) × (ids : List Id) × (call ≡ calls.Call.Strike user ids)
+-- the session asked this call in this state, as it heard this unit
+abbrev pub IsAsked : Asked → Unit → TalkState → calls.Call → Type 0
+IsAsked (Login user) unit state call = ((named : Option (List ℕ)) × (state ≡ Entering named)) × ((secret : List ℕ) × (call ≡ calls.Call.Login user secret))
+IsAsked (Message lines) unit state call = ((user : List ℕ) × (id : Id) × (call ≡ calls.Call.Fetch user id)) × (asked_lines unit ≡ lines)
+IsAsked Deletion unit state call = (user : List ℕ) × (ids : List Id) × (call ≡ calls.Call.Strike user ids)
 
 -- A line is the reply, lets nobody in, and leaves the session so.
-pub record SaysLine (text : Text) (call : calls.Call) (answer : calls.Answer) (standing : TalkState → Standing) : Type 0 where
-  pub reply : IsReply call answer (one_line (text_of text))
+pub record SaysLine (text : Text) (unit : Unit) (call : calls.Call) (answer : calls.Answer) (standing : TalkState → Standing) : Type 0 where
+  pub reply : RepliesTo unit call answer (one_line (text_of text))
   pub nobody : let_in (Some call) (Some answer) ≡ None
   pub leaves : (state : TalkState) → answered state call answer ≡ standing state
 
@@ -46,23 +47,23 @@ items_told (answers.Listed ticket manager nodes items) = items
 items_told answer = []
 
 -- this is to be said to the answer
-abbrev pub Says : Due → TalkState → calls.Call → calls.Answer → Type 0
-Says (Entered login listed) state call answer =
+abbrev pub Says : Due → Unit → TalkState → calls.Call → calls.Answer → Type 0
+Says (Entered login listed) unit state call answer =
     ((named : Option (List ℕ)) × (state ≡ Entering named)) × ((secret : List ℕ) × (call ≡ calls.Call.Login login.user secret)) × (answer ≡ calls.Answer.Listed (map item_seen (items_told listed)))
-Says (Shown octets) state call answer = ((user : List ℕ) × (id : Id) × (call ≡ calls.Call.Fetch user id)) × (answer ≡ calls.Answer.Part octets)
-Says (Said text) state call answer = SaysLine text call answer Hearing
-Says (Last text) state call answer = SaysLine text call answer (λ state. EndedByQuit)
+Says (Shown octets lines) unit state call answer = ((user : List ℕ) × (id : Id) × (call ≡ calls.Call.Fetch user id)) × (answer ≡ calls.Answer.Part octets) × (asked_lines unit ≡ lines)
+Says (Said text) unit state call answer = SaysLine text unit call answer Hearing
+Says (Last text) unit state call answer = SaysLine text unit call answer (λ state. EndedByQuit)
 
 -- the login that a reply tells of, where it does, and the messages
 abbrev pub due_login : Due → Option tickets.Login → Option tickets.Login
 due_login (Entered login listed) other = Some login
-due_login (Shown octets) other = other
+due_login (Shown octets lines) other = other
 due_login (Said text) other = other
 due_login (Last text) other = other
 
 abbrev pub due_items : Due → List Item → List Item
 due_items (Entered login listed) other = items_told listed
-due_items (Shown octets) other = other
+due_items (Shown octets lines) other = other
 due_items (Said text) other = other
 due_items (Last text) other = other
 

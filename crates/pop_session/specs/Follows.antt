@@ -48,8 +48,8 @@ pub record WaitsFor (state : TalkState) (plain : Session) : Type 0 where
 abbrev pub Stands : Turn → TalkState → Session → moves.Due → Type 0
 Stands Greets state plain due = (due ≡ moves.Due.Greeting) × (plain.standing ≡ Hearing state)
 Stands Hears state plain due = (due ≡ moves.Due.Nothing) × (plain.standing ≡ Hearing state)
-Stands (Waits asked) state plain due = (waits : WaitsFor state plain) × (due ≡ moves.Due.Nothing) × IsAsked asked state waits.call
-Stands (Replies says) state plain due = (answer : calls.Answer) × (waits : WaitsFor state plain) × (due ≡ moves.Due.Reply answer) × Says says state waits.call answer
+Stands (Waits asked) state plain due = (waits : WaitsFor state plain) × (due ≡ moves.Due.Nothing) × IsAsked asked waits.one.unit state waits.call
+Stands (Replies says) state plain due = (answer : calls.Answer) × (waits : WaitsFor state plain) × (due ≡ moves.Due.Reply answer) × Says says waits.one.unit state waits.call answer
 Stands Ended state plain due = (due ≡ moves.Due.Nothing) × HasEnded plain.standing
 
 -- the user of a login
@@ -150,7 +150,7 @@ abbrev pub LeadsTurn : Heard → Turn × Move → Type 0
 LeadsTurn (heard.Said reply) next = (next.0 ≡ Hears) × (next.1 ≡ move.Said)
 LeadsTurn (heard.Ended reply) next = (next.0 ≡ Ended) × (next.1 ≡ move.Said)
 LeadsTurn (heard.LogsIn user kept secret) next = (next.0 ≡ Waits (asked.Login kept)) × (next.1 ≡ Begin (tickets.Login user (Pass secret)))
-LeadsTurn (heard.Fetches user number item) next = (next.0 ≡ Waits asked.Message) × (next.1 ≡ Begin (fetch_of user item))
+LeadsTurn (heard.Fetches user number lines item) next = (next.0 ≡ Waits (asked.Message lines)) × (next.1 ≡ Begin (fetch_of user item))
 LeadsTurn (heard.Deletes user items) next = (next.0 ≡ Waits asked.Deletion) × (next.1 ≡ Begin (tickets.Strike user items))
 
 -- it has something to say to the answer of its call
@@ -164,7 +164,7 @@ HasReply Ended = ⊥
 -- the stage of a session whose user was let in, with this listing
 abbrev pub stage_behind : Turn → Stage → List Slot → Stage
 stage_behind (Replies (Entered login listed)) stage listing = stages.Transaction login listing
-stage_behind (Replies (Shown octets)) stage listing = stage
+stage_behind (Replies (Shown octets lines)) stage listing = stage
 stage_behind (Replies (Said text)) stage listing = stage
 stage_behind (Replies (Last text)) stage listing = stage
 stage_behind Greets stage listing = stage

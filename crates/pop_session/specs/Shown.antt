@@ -1,7 +1,7 @@
 -- What a session has been told, and what a line led to, as the definition of a session sees them.
 use Rattle.std.specs.Prelude.{◌≡◌, ℕ, List, [], Option, Some, None, Result, ⊤, slice_get}
 use Rattle.mail_model.specs.Plan.{Plan}
-use Rattle.mail_model.specs.Pop.{Command, Fault}
+use Rattle.mail_model.specs.Pop.{Command, Fault, pop_command_of, lines_asked}
 use Rattle.mail_model.specs.Maildrop as model
 use Rattle.mail_model.specs.Maildrop.{LineOutcome, line_outcome, after_line, marked_by}
 use Rattle.mail_model.specs.Maildrop.LineOutcome.{Answered, Closed, AsksLogin, AsksMessage, AsksDeletion}
@@ -42,7 +42,7 @@ abbrev pub outcome_of_heard : Heard → LineOutcome
 outcome_of_heard (Said reply) = Answered reply
 outcome_of_heard (Ended reply) = Closed reply
 outcome_of_heard (LogsIn user kept secret) = AsksLogin user secret
-outcome_of_heard (Fetches user number item) = AsksMessage number item.id
+outcome_of_heard (Fetches user number lines item) = AsksMessage number item.id
 outcome_of_heard (Deletes user items) = AsksDeletion (ids_in items)
 
 -- the lines that are said at once
@@ -50,7 +50,7 @@ abbrev pub reply_in : Heard → List (List ℕ)
 reply_in (Said reply) = reply
 reply_in (Ended reply) = reply
 reply_in (LogsIn user kept secret) = []
-reply_in (Fetches user number item) = []
+reply_in (Fetches user number lines item) = []
 reply_in (Deletes user items) = []
 
 -- What is asked is of this user, and of messages as they were listed: the one that is fetched is one of them, and those that are deleted are all that are marked.
@@ -58,7 +58,7 @@ abbrev pub IsOwn : List ℕ → List Slot → Heard → Type 0
 IsOwn name listing (Said reply) = ⊤
 IsOwn name listing (Ended reply) = ⊤
 IsOwn name listing (LogsIn user kept secret) = kept ≡ user
-IsOwn name listing (Fetches user number item) = (user ≡ name) × ((at : ℕ) × (slice_get (items_of_slots listing) at ≡ Some item))
+IsOwn name listing (Fetches user number lines item) = (user ≡ name) × ((at : ℕ) × (slice_get (items_of_slots listing) at ≡ Some item))
 IsOwn name listing (Deletes user items) = (user ≡ name) × (items ≡ marked_items listing)
 
 -- the user whom it was let in as, and its listing
@@ -80,10 +80,19 @@ abbrev pub told_long : model.Stage → model.Stage
 told_long (model.Stage.Authorization old) = model.Stage.Authorization None
 told_long (model.Stage.Transaction slots) = model.Stage.Transaction slots
 
+-- a message is asked for as the command does: all of it, or so many lines behind its header
+abbrev pub AsksSo : Heard → Option ℕ → Type 0
+AsksSo (Said reply) asked = ⊤
+AsksSo (Ended reply) asked = ⊤
+AsksSo (LogsIn user kept secret) asked = ⊤
+AsksSo (Fetches user number lines item) asked = asked ≡ lines
+AsksSo (Deletes user items) asked = ⊤
+
 -- the line leads to what it should, and the session has then been told what it should
 pub record HearsLine (plan : Plan) (old : Stage) (line : List ℕ) (heard : Heard) (new : Stage) : Type 0 where
   pub outcome : outcome_of_heard heard ≡ line_outcome plan (stage_of old) line
   pub told : stage_of new ≡ after_line (stage_of old) line
+  pub asks : AsksSo heard (lines_asked (pop_command_of line))
   pub own : IsOwn (name_in old) (slots_in old) heard
   pub login : login_in new ≡ login_in old
   pub items : listed_in new ≡ listed_in old

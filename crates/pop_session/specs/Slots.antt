@@ -30,6 +30,17 @@ marked_at [] n = []
 marked_at (slot ∷ slots) zero = record slot { marked = true } ∷ slots
 marked_at (slot ∷ slots) (suc n) = slot ∷ marked_at slots n
 
+-- the slots with this one unmarked, and with all before a place
+abbrev pub unmarked_at : List Slot → ℕ → List Slot
+unmarked_at [] n = []
+unmarked_at (slot ∷ slots) zero = record slot { marked = false } ∷ slots
+unmarked_at (slot ∷ slots) (suc n) = slot ∷ unmarked_at slots n
+
+abbrev pub unmarked_to : ℕ → List Slot → List Slot
+unmarked_to zero slots = slots
+unmarked_to (suc n) [] = []
+unmarked_to (suc n) (slot ∷ slots) = record slot { marked = false } ∷ unmarked_to n slots
+
 -- the message of a slot that is not marked
 abbrev pub unmarked_item : Slot → Option Item
 unmarked_item slot = if slot.marked then None else Some slot.item

@@ -2,7 +2,8 @@
 ghost use Rattle.std.specs.Prelude.{◌≡◌, ◌++◌, ℕ, List, Option, OnOk, OnErr};
 ghost use Rattle.mail_model.specs.Lines.{sent_line};
 ghost use Rattle.session_model.specs.Calls as calls;
-ghost use Rattle.session_model.specs.Calls.{IsReply};
+ghost use Rattle.mail_model.specs.Session.{Unit};
+ghost use Rattle.session_model.specs.Calls.{IsReply, asked_lines};
 ghost use Rattle.mail_model.specs.Identity.{Id};
 ghost use Rattle.call_tickets.specs.Seen.{given_answer};
 ghost use Rattle.session_model.specs.Talk.{TalkState};
@@ -23,8 +24,8 @@ use std::alloc::AllocError;
 pub(crate) enum Asked {
     /// That this user is let in.
     Login(Name),
-    /// A message.
-    Message,
+    /// A message, or so many lines behind its header.
+    Message(Option<u32>),
     /// That messages are deleted.
     Deletion,
 }
@@ -34,9 +35,9 @@ pub(crate) enum Asked {
 pub(crate) enum Text {
     /// To a login whose secret is wrong (RFC 1939, section 7).
     Wrong,
-    /// To a login, or to RETR, that the node can't answer now (RFC 3206).
+    /// To a login, or to RETR or TOP, that the node can't answer now (RFC 3206).
     Later,
-    /// To RETR of a message that was deleted since the login.
+    /// To RETR or TOP of a message that was deleted since the login.
     Gone,
     /// To QUIT whose deletions are done (RFC 1939, section 6).
     Bye,
@@ -54,8 +55,8 @@ pub(crate) enum Due {
         /// The answer that lists the messages of the maildrop.
         listed: Answer,
     },
-    /// The message has these octets.
-    Shown(Octets),
+    /// The message has these octets, all of which are shown, or so many lines behind the header.
+    Shown(Octets, Option<u32>),
     /// This line, after which the session goes on.
     Said(Text),
     /// This line, which ends the session.
@@ -84,7 +85,7 @@ impl Text {
 
 // To a login.
 fn login_due(user: Name, answer: Option<Answer>) -> Due
-    ensures says { (named : Option (List ℕ)) (secret : List ℕ) (reply : List (List ℕ)) → IsReply (calls.Call.Login user secret) (given_answer answer) reply → Says result (Entering named) (calls.Call.Login user secret) (given_answer answer) }
+    ensures says { (named : Option (List ℕ)) (secret : List ℕ) (reply : List (List ℕ)) (unit : Unit) → IsReply (calls.Call.Login user secret) (given_answer answer) reply → Says result unit (Entering named) (calls.Call.Login user secret) (given_answer answer) }
     ensures login { (other : Option Logins) → due_login result other ≡ taken_login (asks.Login user) answer other }
     ensures items { (other : List Listings) → due_items result other ≡ taken_items (asks.Login user) answer other }
 {
@@ -113,14 +114,14 @@ fn login_due(user: Name, answer: Option<Answer>) -> Due
     }
 }
 
-// To RETR.
-fn message_due(answer: Option<Answer>) -> Due
-    ensures says { (state : TalkState) (user : List ℕ) (id : Id) (reply : List (List ℕ)) → IsReply (calls.Call.Fetch user id) (given_answer answer) reply → Says result state (calls.Call.Fetch user id) (given_answer answer) }
-    ensures login { (other : Option Logins) → due_login result other ≡ taken_login asks.Message answer other }
-    ensures items { (other : List Listings) → due_items result other ≡ taken_items asks.Message answer other }
+// To RETR and TOP.
+fn message_due(lines: Option<u32>, answer: Option<Answer>) -> Due
+    ensures says { (state : TalkState) (user : List ℕ) (id : Id) (reply : List (List ℕ)) (unit : Unit) → asked_lines unit ≡ lines → IsReply (calls.Call.Fetch user id) (given_answer answer) reply → Says result unit state (calls.Call.Fetch user id) (given_answer answer) }
+    ensures login { (other : Option Logins) → due_login result other ≡ taken_login (asks.Message lines) answer other }
+    ensures items { (other : List Listings) → due_items result other ≡ taken_items (asks.Message lines) answer other }
 {
     match answer {
-        Some(Answer::Part { octets, .. }) => Due::Shown(octets),
+        Some(Answer::Part { octets, .. }) => Due::Shown(octets, lines),
         Some(Answer::GoneAlready) => Due::Said(Text::Gone),
         Some(Answer::Failed(_)) => Due::Said(Text::Later),
         None => Due::Said(Text::Later),
@@ -133,7 +134,7 @@ fn message_due(answer: Option<Answer>) -> Due
 
 // To a QUIT with marks.
 fn deletion_due(answer: &Option<Answer>) -> Due
-    ensures says { (state : TalkState) (user : List ℕ) (ids : List Id) (reply : List (List ℕ)) → IsReply (calls.Call.Strike user ids) (given_answer answer.now) reply → Says result state (calls.Call.Strike user ids) (given_answer answer.now) }
+    ensures says { (state : TalkState) (user : List ℕ) (ids : List Id) (reply : List (List ℕ)) (unit : Unit) → IsReply (calls.Call.Strike user ids) (given_answer answer.now) reply → Says result unit state (calls.Call.Strike user ids) (given_answer answer.now) }
     ensures login { (other : Option Logins) → due_login result other ≡ taken_login asks.Deletion answer.now other }
     ensures items { (other : List Listings) → due_items result other ≡ taken_items asks.Deletion answer.now other }
 {
@@ -152,13 +153,13 @@ fn deletion_due(answer: &Option<Answer>) -> Due
 impl Asked {
     /// What is to be said to this answer. It takes no memory.
     pub(crate) fn due(self, answer: Option<Answer>) -> Due
-        ensures says { (state : TalkState) (call : calls.Call) (reply : List (List ℕ)) → IsAsked self state call → IsReply call (given_answer answer) reply → Says result state call (given_answer answer) }
+        ensures says { (unit : Unit) (state : TalkState) (call : calls.Call) (reply : List (List ℕ)) → IsAsked self unit state call → IsReply call (given_answer answer) reply → Says result unit state call (given_answer answer) }
         ensures login { (other : Option Logins) → due_login result other ≡ taken_login self answer other }
         ensures items { (other : List Listings) → due_items result other ≡ taken_items self answer other }
     {
         match self {
             Asked::Login(user) => login_due(user, answer),
-            Asked::Message => message_due(answer),
+            Asked::Message(lines) => message_due(lines, answer),
             Asked::Deletion => deletion_due(&answer),
         }
     }

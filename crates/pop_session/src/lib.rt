@@ -27,10 +27,13 @@
 //! - Before the login, `USER` with any name, and `PASS` in the line directly after it. Any other line between
 //!   them, also one that is no command, makes `PASS` come out of its order. Names mean the same in either case.
 //!   `PASS` asks the call Login, if the name is a user's.
-//! - After it `STAT`, `LIST`, `UIDL`, `RETR` and `DELE`, over the listing that the node answered. The messages
-//!   keep their numbers, from 1 in the order of the listing, to the end of the session. `RETR` asks the call
-//!   Fetch of the nodes that hold the message. `DELE` marks a message, which from then on is passed over and
-//!   can't be named; nothing takes a mark away.
+//! - `CAPA` at any time (RFC 2449).
+//! - After the login `STAT`, `LIST`, `UIDL`, `RETR`, `TOP`, `DELE`, `RSET` and `NOOP`, over the listing that the
+//!   node answered. The messages
+//!   keep their numbers, from 1 in the order of the listing, to the end of the session. `RETR` and `TOP` ask the
+//!   call Fetch of the nodes that hold the message; `TOP` shows its header and so many lines more, and looks at
+//!   no more of it. `DELE` marks a message, which from then on is passed over and can't be named, until `RSET`
+//!   takes all marks away.
 //! - `QUIT` at any time. It ends the session, once the marked messages are deleted: it asks the call Strike for
 //!   exactly these, each as it was listed. A session that ends in another way deletes nothing (RFC 1939,
 //!   section 6).
@@ -71,8 +74,7 @@
 //! WHAT IT DOES NOT DO
 //!
 //! It compares no secrets, reads no messages and deletes none: its node does. It does not look whether a listing
-//! names a message twice. It does not bound what is fed while it waits. TOP, APOP, NOOP, RSET and CAPA are
-//! unknown commands.
+//! names a message twice. It does not bound what is fed while it waits. APOP is an unknown command.
 #![tactic(auto)]
 
 mod due;
@@ -82,6 +84,7 @@ mod reply;
 mod session;
 mod stage;
 mod text;
+mod top;
 
 pub use laws::{asks_behind_user, listed_once, marked_is_none, numbered_alike, numbers_stay};
 pub use session::PopSession;

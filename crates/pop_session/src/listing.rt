@@ -2,8 +2,9 @@
 ghost use Rattle.std.specs.Prelude.{◌≡◌, ◌<◌, [], ℕ, Some, IfSome, IfOk, slice_get, length, map, sum_by, filter, not};
 ghost use Rattle.std.specs.Option.{option_copied, option_map};
 ghost use Rattle.mail_model.specs.Maildrop.{message_at, with_mark};
+ghost use Rattle.mail_model.specs.PopReplies.{without_marks};
 ghost use Rattle.mail_base.specs.Items.{item_seen};
-ghost use Rattle.pop_session.specs.Slots.{slots_seen, items_of_slots, marked_items, listed_slot, marked_at, message_in};
+ghost use Rattle.pop_session.specs.Slots.{slots_seen, items_of_slots, marked_items, listed_slot, marked_at, unmarked_at, unmarked_to, message_in};
 
 use mail_base::{Item, Items};
 use std::alloc::{AllocError, Global};
@@ -41,6 +42,26 @@ fn mark_at(slots: &mut [Slot], at: usize)
     if at < slots.len() {
         let slot = &mut slots[at];
         slot.marked = true;
+    }
+}
+
+// Takes the mark of the slot of this index away, where there is one.
+fn unmark_at(slots: &mut [Slot], at: usize)
+    ensures { slots.new ≡ unmarked_at slots.old at }
+{
+    if at < slots.len() {
+        let slot = &mut slots[at];
+        slot.marked = false;
+    }
+}
+
+// Takes all marks away.
+fn unmark_all(slots: &mut [Slot])
+    ensures { slots.new ≡ unmarked_to (length slots.old) slots.old }
+{
+    let count = slots.len();
+    for at in 0..count {
+        unmark_at(slots, at);
     }
 }
 
@@ -104,6 +125,14 @@ impl Listing {
         if let Some(at) = (number as usize).checked_sub(1) {
             mark_at(&mut self.held, at);
         }
+    }
+
+    /// No message is marked any more (RFC 1939, section 5).
+    pub(crate) fn unmark(&mut self)
+        ensures marks { slots_seen self.new ≡ without_marks (slots_seen self.old) }
+        ensures items { items_of_slots self.new ≡ items_of_slots self.old }
+    {
+        unmark_all(&mut self.held);
     }
 
     /// How many messages are not marked.

@@ -1,13 +1,14 @@
 // The replies of a session.
 ghost use Rattle.std.specs.Prelude.{◌≡◌, ℕ, List, ◌++◌, ◌∷◌, [], flat_map, codes, IfOk, OnOk, OnErr};
 ghost use Rattle.mail_model.specs.Lines.{sent_line};
-ghost use Rattle.mail_model.specs.PopReplies.{one_line, ready_text, down_text, size_line, id_line, octets_text, stat_text, deleted_text, listing_reply};
+ghost use Rattle.mail_model.specs.PopReplies.{one_line, ready_text, down_text, size_line, id_line, octets_text, stat_text, deleted_text, listing_reply, capability_reply, shown_part, shown_text};
 ghost use Rattle.mail_base.specs.Items.{item_seen};
 ghost use Rattle.pop_session.specs.Slots.{slots_seen};
 ghost use Rattle.pop_session.specs.Messages.{ShowsPartIn};
 
 use crate::listing::Listing;
 use crate::text::{with_number, with_text};
+use crate::top::top;
 use dot_text::dot_into;
 use mail_base::{Item, NodeNo, Octets};
 use std::alloc::{AllocError, Global};
@@ -146,6 +147,20 @@ impl Reply {
         Reply::of_line(alloc, with_text(b"+OK ".to_vec(alloc)?, &line)?)
     }
 
+    /// To CAPA (RFC 2449, section 5).
+    pub(crate) fn capabilities(alloc: Global) -> Result<Reply, AllocError>
+        ensures { IfOk result (λ reply. reply ≡ capability_reply) }
+    {
+        let mut reply = Reply::said(alloc, b"+OK capabilities")?;
+        reply.push_copy(alloc, b"TOP")?;
+        reply.push_copy(alloc, b"USER")?;
+        reply.push_copy(alloc, b"UIDL")?;
+        reply.push_copy(alloc, b"PIPELINING")?;
+        reply.push_copy(alloc, b"RESP-CODES")?;
+        reply.push_copy(alloc, b".")?;
+        Ok(reply)
+    }
+
     /// To LIST of every message (RFC 1939, section 5).
     pub(crate) fn sizes(alloc: Global, listing: &Listing) -> Result<Reply, AllocError>
         ensures { IfOk result (λ reply. reply ≡ listing_reply (codes "+OK listing") size_line (slots_seen listing.now)) }
@@ -233,9 +248,30 @@ pub(crate) fn line_into(out: &mut Vec<u8>, line: &[u8]) -> Result<(), AllocError
     done
 }
 
-/// Appends the reply to RETR of a message of these octets (RFC 1939, sections 3 and 5): how many they are, its
-/// lines, a period that leads one doubled, and the line that is one period. A line is what stands before CRLF; a
-/// lone CR or LF is an octet of it. What follows the last CRLF is a line too, where it is not empty.
+// What is shown of a message: all of it, or its header and so many lines after it.
+fn shown(octets: &[u8], lines: Option<u32>) -> &[u8]
+    ensures { result.now ≡ shown_part lines octets.now }
+{
+    match lines {
+        None => octets,
+        Some(lines) => top(octets, lines),
+    }
+}
+
+// The first line of the reply to RETR or TOP, of a message of so many octets.
+fn shown_line(alloc: Global, lines: Option<u32>, octets: u128) -> Result<Vec<u8>, AllocError>
+    ensures { IfOk result (λ line. line.items ≡ shown_text lines octets) }
+{
+    match lines {
+        None => octets_line(alloc, octets),
+        Some(_) => b"+OK top".to_vec(alloc),
+    }
+}
+
+/// Appends the reply to RETR or TOP of a message of these octets (RFC 1939, sections 3, 5 and 7): for RETR how
+/// many they are; its lines, or those of its header and so many more, a period that leads one doubled; and the
+/// line that is one period. A line is what stands before CRLF; a lone CR or LF is an octet of it. What follows the
+/// last CRLF is a line too, where it is not empty. Of the message no more is read than is shown.
 ///
 /// # Errors
 ///
@@ -243,14 +279,15 @@ pub(crate) fn line_into(out: &mut Vec<u8>, line: &[u8]) -> Result<(), AllocError
 pub(crate) fn message_into(
     out: &mut Vec<u8>,
     alloc: Global,
+    lines: Option<u32>,
     octets: &[u8],
 ) -> Result<(), AllocError>
-    ensures ok { OnOk result (ShowsPartIn octets.now out.old.items out.new.items) }
+    ensures ok { OnOk result (ShowsPartIn lines octets.now out.old.items out.new.items) }
     ensures err { OnErr result (out.new.items ≡ out.old.items) }
 {
     let kept = out.len();
-    line_into(out, &octets_line(alloc, octets.len() as u128)?)?;
-    let done = dot_into(out, octets);
+    line_into(out, &shown_line(alloc, lines, octets.len() as u128)?)?;
+    let done = dot_into(out, shown(octets, lines));
     if done.is_err() {
         out.truncate(kept);
     }

@@ -177,8 +177,8 @@ impl PopSession {
     {
         match &self.turn {
             Turn::Replies(due) => match due {
-                Due::Shown(octets) => {
-                    message_into(out, alloc, octets.as_slice())?;
+                Due::Shown(octets, lines) => {
+                    message_into(out, alloc, *lines, octets.as_slice())?;
                     self.turn = Turn::Hears;
                     Ok(Move::Said)
                 }
@@ -311,8 +311,13 @@ fn begun(heard: Heard) -> (Turn, Move)
                 proof: Proof::Pass(secret),
             }),
         ),
-        Heard::Fetches { user, item, .. } => (
-            Turn::Waits(Asked::Message),
+        Heard::Fetches {
+            user,
+            lines,
+            item,
+            ..
+        } => (
+            Turn::Waits(Asked::Message(lines)),
             Move::Begin(fetch(user, item)),
         ),
         Heard::Deletes { user, items } => (

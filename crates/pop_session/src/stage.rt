@@ -1,12 +1,13 @@
 // What a line leads to, by what its session has been told.
-ghost use Rattle.std.specs.Prelude.{◌≡◌, ◌++◌, List, ℕ, flat_map, codes, false, IfOk, OnOk, OnErr};
+ghost use Rattle.std.specs.Prelude.{◌≡◌, ◌++◌, List, ℕ, Option, Ok, flat_map, codes, false, IfOk, OnOk, OnErr};
 ghost use Rattle.mail_model.specs.Lines.{sent_line};
 ghost use Rattle.mail_model.specs.Session.{is_long_line};
 ghost use Rattle.mail_model.specs.Maildrop.{says_line, bad_order, outcome_of_quit, no_such_message, retr_outcome, dele_outcome, quit_outcome, pass_outcome, before_login, behind_login, list_outcome, uidl_outcome, command_outcome, named_by, marked_by};
+ghost use Rattle.mail_model.specs.Pop.{lines_asked};
 ghost use Rattle.pop_wire.specs.Seen.{seen, command_seen, IsWithinLimits};
 ghost use Rattle.pop_session.specs.declared.listing.Slot.{Slot as Slots};
 ghost use Rattle.pop_session.specs.Slots.{slots_seen, items_of_slots};
-ghost use Rattle.pop_session.specs.Shown.{stage_of, outcome_of_heard, reply_in, told_by_line, told_long, login_in, listed_in, name_in, slots_in, IsOwn, HearsLine};
+ghost use Rattle.pop_session.specs.Shown.{stage_of, outcome_of_heard, reply_in, told_by_line, told_long, login_in, listed_in, name_in, slots_in, IsOwn, AsksSo, HearsLine};
 
 use crate::listing::Listing;
 use crate::reply::Reply;
@@ -52,10 +53,12 @@ pub(crate) enum Heard {
         /// The octets that were given as the secret.
         secret: Octets,
     },
-    /// The node is asked for this message of the user, of this number.
+    /// The node is asked for this message of the user, of this number; the reply shows all of it, or so many
+    /// lines behind its header.
     Fetches {
         user: Name,
         number: u32,
+        lines: Option<u32>,
         item: Item,
     },
     /// The node is asked to delete these messages of the user, of which there is one at least, in the order of
@@ -70,6 +73,7 @@ pub(crate) enum Heard {
 fn said(alloc: Global, text: &[u8]) -> Result<Heard, AllocError>
     ensures outcome { IfOk result (λ heard. outcome_of_heard heard ≡ says_line text.now) }
     ensures own { (name : List ℕ) (slots : List Slots) → IfOk result (λ heard. IsOwn name slots heard) }
+    ensures asks { (asked : Option ℕ) → IfOk result (λ heard. AsksSo heard asked) }
 {
     Ok(Heard::Said(Reply::said(alloc, text)?))
 }
@@ -78,6 +82,7 @@ fn said(alloc: Global, text: &[u8]) -> Result<Heard, AllocError>
 fn bad_order(alloc: Global) -> Result<Heard, AllocError>
     ensures outcome { IfOk result (λ heard. outcome_of_heard heard ≡ bad_order) }
     ensures own { (name : List ℕ) (slots : List Slots) → IfOk result (λ heard. IsOwn name slots heard) }
+    ensures asks { (asked : Option ℕ) → IfOk result (λ heard. AsksSo heard asked) }
 {
     said(alloc, b"-ERR bad order")
 }
@@ -86,6 +91,7 @@ fn bad_order(alloc: Global) -> Result<Heard, AllocError>
 fn farewell(alloc: Global) -> Result<Heard, AllocError>
     ensures outcome { IfOk result (λ heard. outcome_of_heard heard ≡ outcome_of_quit) }
     ensures own { (name : List ℕ) (slots : List Slots) → IfOk result (λ heard. IsOwn name slots heard) }
+    ensures asks { (asked : Option ℕ) → IfOk result (λ heard. AsksSo heard asked) }
 {
     Ok(Heard::Ended(Reply::said(alloc, b"+OK bye")?))
 }
@@ -99,6 +105,7 @@ fn log_in(
 ) -> Result<Heard, AllocError>
     ensures outcome { IfOk result (λ heard. outcome_of_heard heard ≡ pass_outcome plan.now user.now secret.now) }
     ensures own { (name : List ℕ) (slots : List Slots) → IfOk result (λ heard. IsOwn name slots heard) }
+    ensures asks { (asked : Option ℕ) → IfOk result (λ heard. AsksSo heard asked) }
 {
     let Some(user) = user else {
         return bad_order(alloc);
@@ -122,6 +129,7 @@ fn authorize(
 ) -> Result<Heard, AllocError>
     ensures outcome { IfOk result (λ heard. outcome_of_heard heard ≡ before_login plan.now user.now (command_seen command.now)) }
     ensures own { (name : List ℕ) (slots : List Slots) → IfOk result (λ heard. IsOwn name slots heard) }
+    ensures asks { IfOk result (λ heard. AsksSo heard (lines_asked (Ok (command_seen command.now)))) }
 {
     match command {
         PopCommand::User { .. } => said(alloc, b"+OK send PASS"),
@@ -131,7 +139,11 @@ fn authorize(
         PopCommand::Uidl { .. } => bad_order(alloc),
         PopCommand::Retr { .. } => bad_order(alloc),
         PopCommand::Dele { .. } => bad_order(alloc),
+        PopCommand::Top { .. } => bad_order(alloc),
+        PopCommand::Noop => bad_order(alloc),
+        PopCommand::Rset => bad_order(alloc),
         PopCommand::Quit => farewell(alloc),
+        PopCommand::Capa => Ok(Heard::Said(Reply::capabilities(alloc)?)),
     }
 }
 
@@ -139,6 +151,7 @@ fn authorize(
 fn no_such_message(alloc: Global) -> Result<Heard, AllocError>
     ensures outcome { IfOk result (λ heard. outcome_of_heard heard ≡ no_such_message) }
     ensures own { (name : List ℕ) (slots : List Slots) → IfOk result (λ heard. IsOwn name slots heard) }
+    ensures asks { (asked : Option ℕ) → IfOk result (λ heard. AsksSo heard asked) }
 {
     said(alloc, b"-ERR no such message")
 }
@@ -147,6 +160,7 @@ fn no_such_message(alloc: Global) -> Result<Heard, AllocError>
 fn list(listing: &Listing, alloc: Global, number: Option<u32>) -> Result<Heard, AllocError>
     ensures outcome { IfOk result (λ heard. outcome_of_heard heard ≡ list_outcome (slots_seen listing.now) number) }
     ensures own { (name : List ℕ) (slots : List Slots) → IfOk result (λ heard. IsOwn name slots heard) }
+    ensures asks { (asked : Option ℕ) → IfOk result (λ heard. AsksSo heard asked) }
 {
     let Some(number) = number else {
         return Ok(Heard::Said(Reply::sizes(alloc, listing)?));
@@ -161,6 +175,7 @@ fn list(listing: &Listing, alloc: Global, number: Option<u32>) -> Result<Heard, 
 fn uidl(listing: &Listing, alloc: Global, number: Option<u32>) -> Result<Heard, AllocError>
     ensures outcome { IfOk result (λ heard. outcome_of_heard heard ≡ uidl_outcome (slots_seen listing.now) number) }
     ensures own { (name : List ℕ) (slots : List Slots) → IfOk result (λ heard. IsOwn name slots heard) }
+    ensures asks { (asked : Option ℕ) → IfOk result (λ heard. AsksSo heard asked) }
 {
     let Some(number) = number else {
         return Ok(Heard::Said(Reply::ids(alloc, listing)?));
@@ -171,16 +186,24 @@ fn uidl(listing: &Listing, alloc: Global, number: Option<u32>) -> Result<Heard, 
     }
 }
 
-// RETR (RFC 1939, section 5).
-fn retr(user: &Name, listing: &Listing, alloc: Global, number: u32) -> Result<Heard, AllocError>
+// RETR (RFC 1939, section 5), and TOP with its number of lines (section 7).
+fn retr(
+    user: &Name,
+    listing: &Listing,
+    alloc: Global,
+    number: u32,
+    lines: Option<u32>,
+) -> Result<Heard, AllocError>
     ensures outcome { IfOk result (λ heard. outcome_of_heard heard ≡ retr_outcome (slots_seen listing.now) number) }
     ensures own { IfOk result (λ heard. IsOwn user.now listing.now heard) }
+    ensures asks { IfOk result (λ heard. AsksSo heard lines) }
 {
     match listing.message(number) {
         None => no_such_message(alloc),
         Some(item) => Ok(Heard::Fetches {
             user: user.copy()?,
             number,
+            lines,
             item: *item,
         }),
     }
@@ -190,6 +213,7 @@ fn retr(user: &Name, listing: &Listing, alloc: Global, number: u32) -> Result<He
 fn dele(listing: &Listing, alloc: Global, number: u32) -> Result<Heard, AllocError>
     ensures outcome { IfOk result (λ heard. outcome_of_heard heard ≡ dele_outcome (slots_seen listing.now) number) }
     ensures own { (name : List ℕ) (slots : List Slots) → IfOk result (λ heard. IsOwn name slots heard) }
+    ensures asks { (asked : Option ℕ) → IfOk result (λ heard. AsksSo heard asked) }
 {
     match listing.message(number) {
         None => no_such_message(alloc),
@@ -201,6 +225,7 @@ fn dele(listing: &Listing, alloc: Global, number: u32) -> Result<Heard, AllocErr
 fn quit(user: &Name, listing: &Listing, alloc: Global) -> Result<Heard, AllocError>
     ensures outcome { IfOk result (λ heard. outcome_of_heard heard ≡ quit_outcome (slots_seen listing.now)) }
     ensures own { IfOk result (λ heard. IsOwn user.now listing.now heard) }
+    ensures asks { (asked : Option ℕ) → IfOk result (λ heard. AsksSo heard asked) }
 {
     let items = listing.marked_items(alloc)?;
     if items.is_empty() {
@@ -221,6 +246,7 @@ fn transact(
 ) -> Result<Heard, AllocError>
     ensures outcome { IfOk result (λ heard. outcome_of_heard heard ≡ behind_login (slots_seen listing.now) (command_seen command.now)) }
     ensures own { IfOk result (λ heard. IsOwn user.now listing.now heard) }
+    ensures asks { IfOk result (λ heard. AsksSo heard (lines_asked (Ok (command_seen command.now)))) }
 {
     match command {
         PopCommand::User { .. } => bad_order(alloc),
@@ -228,9 +254,13 @@ fn transact(
         PopCommand::Stat => Ok(Heard::Said(Reply::count(alloc, listing)?)),
         PopCommand::List { number } => list(listing, alloc, *number),
         PopCommand::Uidl { number } => uidl(listing, alloc, *number),
-        PopCommand::Retr { number } => retr(user, listing, alloc, *number),
+        PopCommand::Retr { number } => retr(user, listing, alloc, *number, None),
         PopCommand::Dele { number } => dele(listing, alloc, *number),
+        PopCommand::Top { number, lines } => retr(user, listing, alloc, *number, Some(*lines)),
+        PopCommand::Noop => said(alloc, b"+OK"),
+        PopCommand::Rset => said(alloc, b"+OK unmarked"),
         PopCommand::Quit => quit(user, listing, alloc),
+        PopCommand::Capa => Ok(Heard::Said(Reply::capabilities(alloc)?)),
     }
 }
 
@@ -243,6 +273,7 @@ fn obey(
 ) -> Result<Heard, AllocError>
     ensures outcome { IfOk result (λ heard. outcome_of_heard heard ≡ command_outcome plan.now (stage_of stage.now) (seen command.now)) }
     ensures own { IfOk result (λ heard. IsOwn (name_in stage.now) (slots_in stage.now) heard) }
+    ensures asks { IfOk result (λ heard. AsksSo heard (lines_asked (seen command.now))) }
 {
     match command {
         Err(PopFault::UnknownVerb) => said(alloc, b"-ERR unknown command"),
@@ -269,19 +300,21 @@ fn named_by(
     }
 }
 
-// DELE marks its message.
+// DELE marks its message, and RSET takes all marks away.
 fn mark_by(listing: &mut Listing, command: &Result<PopCommand<'_>, PopFault>)
     ensures marks { slots_seen listing.new ≡ marked_by (slots_seen listing.old) (seen command.now) }
     ensures items { items_of_slots listing.new ≡ items_of_slots listing.old }
 {
-    if let Ok(PopCommand::Dele { number }) = command {
-        listing.mark(*number);
+    match command {
+        Ok(PopCommand::Dele { number }) => listing.mark(*number),
+        Ok(PopCommand::Rset) => listing.unmark(),
+        _ => {}
     }
 }
 
 impl Stage {
     // The command was obeyed: before the login this user comes in place of the one before, and after it
-    // DELE marks.
+    // DELE marks and RSET unmarks.
     fn tell(&mut self, named: Option<Name>, command: &Result<PopCommand<'_>, PopFault>)
         ensures told { stage_of self.new ≡ told_by_line (stage_of self.old) named (seen command.now) }
         ensures login { login_in self.new ≡ login_in self.old }

@@ -9,10 +9,10 @@ use Rattle.std.specs.Char.{to_ascii_uppercase}
 use Rattle.std.specs.Cmp.Lexicographic.{pointwise}
 use Rattle.mail_model.specs.Names.{begins_with, is_name, is_no_name_octet}
 use Rattle.mail_model.specs.Numbers.{is_digit, value_after}
-use Rattle.mail_model.specs.Tape.{behind_word, has_space}
+use Rattle.mail_model.specs.Tape.{first_word, behind_word, has_space}
 use Rattle.mail_model.specs.Smtp.{is_blank, is_word, trimmed, verb_of, rest_of, unspaced}
-use Rattle.mail_model.specs.Pop.{Command, Fault, mapped, short_number_of, user_command, alone, number_in, maybe_number_in, command_in, pop_command_of}
-use Rattle.mail_model.specs.Pop.Command.{User, Pass, Stat, Listing, Uidl, Retr, Dele, Quit}
+use Rattle.mail_model.specs.Pop.{Command, Fault, mapped, short_number_of, user_command, alone, number_in, maybe_number_in, numbers_in, second_in, both_of, command_in, pop_command_of}
+use Rattle.mail_model.specs.Pop.Command.{User, Pass, Stat, Listing, Uidl, Retr, Dele, Top, Noop, Rset, Quit, Capa}
 use Rattle.mail_model.specs.Pop.Fault.{UnknownVerb, BadArgument, BadNumber}
 use Rattle.pop_wire.specs.Laws.{is_pass, NamesAreRead, SecretsAreRead, NumbersAreRead, TwoArgumentsAreTooMany, BlanksAtEndMeanNothing, MoreSpacesMeanNothing, CaseOfVerbMeansNothing, LargerNumbersAreBad, OtherVerbsAreUnknown}
 use Rattle.line_words.specs.Words.{IsOneWord}
@@ -36,8 +36,12 @@ said secret verb rest =
     (cond (pointwise nat_eq verb (codes "UIDL")) (mapped Uidl (maybe_number_in rest))
     (cond (pointwise nat_eq verb (codes "RETR")) (mapped Retr (number_in rest))
     (cond (pointwise nat_eq verb (codes "DELE")) (mapped Dele (number_in rest))
+    (cond (pointwise nat_eq verb (codes "TOP")) (mapped (λ numbers. Top numbers.0 numbers.1) (numbers_in rest))
+    (cond (pointwise nat_eq verb (codes "NOOP")) (alone Noop rest)
+    (cond (pointwise nat_eq verb (codes "RSET")) (alone Rset rest)
     (cond (pointwise nat_eq verb (codes "QUIT")) (alone Quit rest)
-    (Err UnknownVerb))))))))
+    (cond (pointwise nat_eq verb (codes "CAPA")) (alone Capa rest)
+    (Err UnknownVerb))))))))))))
 
 drop_behind : (xs ys : List ℕ) → drop (length xs + 1) (xs ++ ys) ≡ drop 1 ys
 drop_behind [] ys = refl
@@ -268,6 +272,11 @@ unspaced_more rest = let e : 1 + prefix_len (λ x. nat_eq x 32) rest ≡ suc (pr
 number_spaces : (rest : List ℕ) → number_in (32 ∷ rest) ≡ number_in rest
 number_spaces rest = ap (λ (o : List ℕ). cond (nat_eq (length o) 0 || has_space o) (Err BadArgument) (ok_or (short_number_of o) BadNumber)) (unspaced_more rest)
 
+numbers_spaces : (rest : List ℕ) → numbers_in (32 ∷ rest) ≡ numbers_in rest
+numbers_spaces rest =
+    ap (λ (o : List ℕ). cond (nat_eq (length (unspaced (behind_word o))) 0 || has_space (unspaced (behind_word o))) (Err BadArgument)
+    (both_of (short_number_of (first_word o)) (short_number_of (unspaced (behind_word o))))) (unspaced_more rest)
+
 user_spaces : (rest : List ℕ) → user_command (32 ∷ rest) ≡ user_command rest
 user_spaces rest = ap (λ (n : List ℕ). cond (is_name n) (Ok (User n)) (Err BadArgument)) (unspaced_more rest)
 
@@ -279,7 +288,18 @@ alone_spaces command rest = rw (some_more (suc (length rest)), some_more (length
 
 said_spaces : (secret other verb rest : List ℕ) → pointwise nat_eq verb (codes "PASS") ≡ false → said secret verb (32 ∷ 32 ∷ rest) ≡ said other verb (32 ∷ rest)
 said_spaces secret other verb rest h =
-    rw (h, user_spaces (32 ∷ rest), maybe_spaces rest, number_spaces (32 ∷ rest), alone_spaces Stat rest, alone_spaces Quit rest)
+    rw (
+      h,
+      user_spaces (32 ∷ rest),
+      maybe_spaces rest,
+      number_spaces (32 ∷ rest),
+      numbers_spaces (32 ∷ rest),
+      alone_spaces Stat rest,
+      alone_spaces Noop rest,
+      alone_spaces Rset rest,
+      alone_spaces Quit rest,
+      alone_spaces Capa rest,
+    )
 
 said_trimmed : (secret other verb rest : List ℕ) → pointwise nat_eq verb (codes "PASS") ≡ false → said secret verb (trimmed (32 ∷ 32 ∷ rest)) ≡ said other verb (trimmed (32 ∷ rest))
 said_trimmed secret other verb rest h =
@@ -305,5 +325,9 @@ others_unknown verb rest w h r =
     let uidl = or_false (is_word verb (codes "UIDL")) _ list.1 in
     let retr = or_false (is_word verb (codes "RETR")) _ uidl.1 in
     let dele = or_false (is_word verb (codes "DELE")) _ retr.1 in
-    let quit = or_false (is_word verb (codes "QUIT")) _ dele.1 in
-    word_said verb rest w (begins_or_ends_from rest r) ∙ rw (user.0, pass.0, stat.0, list.0, uidl.0, retr.0, dele.0, quit.0)
+    let top = or_false (is_word verb (codes "TOP")) _ dele.1 in
+    let noop = or_false (is_word verb (codes "NOOP")) _ top.1 in
+    let rset = or_false (is_word verb (codes "RSET")) _ noop.1 in
+    let quit = or_false (is_word verb (codes "QUIT")) _ rset.1 in
+    let capa = or_false (is_word verb (codes "CAPA")) _ quit.1 in
+    word_said verb rest w (begins_or_ends_from rest r) ∙ rw (user.0, pass.0, stat.0, list.0, uidl.0, retr.0, dele.0, top.0, noop.0, rset.0, quit.0, capa.0)

@@ -3,7 +3,7 @@ use Rattle.std.specs.Prelude.{◌<◌, ⊤, length, IsTrue, Result, Ok, Err}
 use Rattle.mail_model.specs.Names.{is_name}
 use Rattle.mail_model.specs.Pop as pop
 use Rattle.pop_wire.specs.declared.command.PopCommand.{PopCommand}
-use Rattle.pop_wire.specs.declared.command.PopCommand.TheVariants.{User, Pass, Stat, List, Uidl, Retr, Dele, Quit}
+use Rattle.pop_wire.specs.declared.command.PopCommand.TheVariants.{User, Pass, Stat, List, Uidl, Retr, Dele, Top, Noop, Rset, Quit, Capa}
 use Rattle.pop_wire.specs.declared.command.PopFault.{PopFault}
 use Rattle.pop_wire.specs.declared.command.PopFault.TheVariants.{UnknownVerb, BadArgument, BadNumber}
 
@@ -16,7 +16,11 @@ command_seen (List number) = pop.Command.Listing number
 command_seen (Uidl number) = pop.Command.Uidl number
 command_seen (Retr number) = pop.Command.Retr number
 command_seen (Dele number) = pop.Command.Dele number
+command_seen (Top number lines) = pop.Command.Top number lines
+command_seen Noop = pop.Command.Noop
+command_seen Rset = pop.Command.Rset
 command_seen Quit = pop.Command.Quit
+command_seen Capa = pop.Command.Capa
 
 -- a name is one, and a secret is not empty
 abbrev pub IsWithinLimits : PopCommand → Type 0
@@ -27,7 +31,11 @@ IsWithinLimits (List number) = ⊤
 IsWithinLimits (Uidl number) = ⊤
 IsWithinLimits (Retr number) = ⊤
 IsWithinLimits (Dele number) = ⊤
+IsWithinLimits (Top number lines) = ⊤
+IsWithinLimits Noop = ⊤
+IsWithinLimits Rset = ⊤
 IsWithinLimits Quit = ⊤
+IsWithinLimits Capa = ⊤
 
 abbrev pub fault_seen : PopFault → pop.Fault
 fault_seen UnknownVerb = pop.Fault.UnknownVerb

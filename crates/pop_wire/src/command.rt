@@ -1,11 +1,11 @@
 // Commands and the lines that they are read from.
 ghost use Rattle.std.specs.Prelude.{◌≡◌, IfOk};
 ghost use Rattle.mail_model.specs.Pop as pop;
-ghost use Rattle.mail_model.specs.Pop.{alone, mapped, number_in, maybe_number_in, pass_of, pop_command_of, user_command};
+ghost use Rattle.mail_model.specs.Pop.{alone, mapped, number_in, maybe_number_in, numbers_in, pass_of, pop_command_of, user_command};
 ghost use Rattle.pop_wire.specs.Seen.{seen, IsWithinLimits, command_seen, faults_seen};
 
 use crate::number::short_number;
-use line_words::{behind_word, has_space, is_word, split_verb, trimmed, unspaced};
+use line_words::{behind_word, first_word, has_space, is_word, split_verb, trimmed, unspaced};
 use mail_base::spells_name;
 
 /// A command, whose words are parts of its line.
@@ -25,8 +25,16 @@ pub enum PopCommand<'a> {
     Retr { number: u32 },
     /// A message is marked to be deleted (section 5).
     Dele { number: u32 },
+    /// The header of a message, and so many lines after it (section 7).
+    Top { number: u32, lines: u32 },
+    /// Nothing is asked (section 5).
+    Noop,
+    /// No message is marked any more (section 5).
+    Rset,
     /// The client takes its leave (sections 4 and 6).
     Quit,
+    /// What may be done beyond the commands that every server has (RFC 2449, section 5).
+    Capa,
 }
 
 /// The first rule that a command line breaks.
@@ -36,7 +44,8 @@ pub enum PopFault {
     UnknownVerb,
     /// The verb is one of those, and what follows it is too much, too little or no name.
     BadArgument,
-    /// One word follows where a number should, and it is none of 1 to 10 digits below 2^32.
+    /// As many words follow as should, and one in the place of a number is none of 1 to 10 digits below
+    /// 2^32.
     BadNumber,
 }
 
@@ -119,6 +128,32 @@ fn read_dele(rest: &[u8]) -> Result<PopCommand<'_>, PopFault>
     })
 }
 
+// The two words after a verb, which are numbers.
+fn read_numbers(rest: &[u8]) -> Result<(u32, u32), PopFault>
+    ensures { faults_seen result ≡ numbers_in rest.now }
+{
+    let words = unspaced(rest);
+    let second = unspaced(behind_word(words));
+    if second.is_empty() || has_space(second) {
+        return Err(PopFault::BadArgument);
+    }
+    match short_number(first_word(words)) {
+        Some(number) => match short_number(second) {
+            Some(lines) => Ok((number, lines)),
+            None => Err(PopFault::BadNumber),
+        },
+        None => Err(PopFault::BadNumber),
+    }
+}
+
+fn read_top(rest: &[u8]) -> Result<PopCommand<'_>, PopFault>
+    ensures exact { seen result ≡ mapped (λ numbers. pop.Command.Top numbers.0 numbers.1) (numbers_in rest.now) }
+    ensures limits { IfOk result IsWithinLimits }
+{
+    let (number, lines) = read_numbers(rest)?;
+    Ok(PopCommand::Top { number, lines })
+}
+
 fn read_alone<'a>(command: PopCommand<'a>, rest: &[u8]) -> Result<PopCommand<'a>, PopFault>
     requires { IsWithinLimits command }
     ensures exact { seen result ≡ alone (command_seen command.entry) rest.now }
@@ -154,8 +189,16 @@ pub fn read_command(line: &[u8]) -> Result<PopCommand<'_>, PopFault>
         read_retr(rest)
     } else if is_word(verb, b"DELE") {
         read_dele(rest)
+    } else if is_word(verb, b"TOP") {
+        read_top(rest)
+    } else if is_word(verb, b"NOOP") {
+        read_alone(PopCommand::Noop, rest)
+    } else if is_word(verb, b"RSET") {
+        read_alone(PopCommand::Rset, rest)
     } else if is_word(verb, b"QUIT") {
         read_alone(PopCommand::Quit, rest)
+    } else if is_word(verb, b"CAPA") {
+        read_alone(PopCommand::Capa, rest)
     } else {
         Err(PopFault::UnknownVerb)
     }

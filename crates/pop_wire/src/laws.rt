@@ -42,7 +42,7 @@ pub fn case_of_verb_means_nothing()
     ensures { CaseOfVerbMeansNothing }
 {}
 
-/// A verb that is none of the eight, in any case, is unknown whatever follows it.
+/// A verb that is none of those that are read, in any case, is unknown whatever follows it.
 pub fn other_verbs_are_unknown()
     ensures { OtherVerbsAreUnknown }
 {}

@@ -17,15 +17,16 @@
 //!   and tab in it counts, at its beginning and its end too.
 //! - `LIST n` and `UIDL n`, or `LIST` and `UIDL` alone.
 //! - `RETR n` and `DELE n`.
-//! - `STAT` and `QUIT`, alone.
+//! - `TOP n m`: a number, and how many lines of the message come after its header.
+//! - `STAT`, `NOOP`, `RSET`, `QUIT` and `CAPA`, alone.
 //!
 //! A number `n` has 1 to 10 digits, leading zeros among them, and is below 2^32.
 //!
 //! DIAGNOSTICS
 //!
-//! `UnknownVerb` where the verb is none of the eight, and so for an empty line. `BadArgument` where
-//! there are too few or too many words, the name is none or the secret is empty. `BadNumber` where one
-//! word stands in the place of a number and is none.
+//! `UnknownVerb` where the verb is none of these, and so for an empty line. `BadArgument` where
+//! there are too few or too many words, the name is none or the secret is empty. `BadNumber` where as
+//! many words follow as should, and one in the place of a number is none.
 //!
 //! STANDS ON
 //!
@@ -35,7 +36,7 @@
 //!
 //! WHAT IT DOES NOT DO
 //!
-//! TOP, APOP, NOOP, RSET and CAPA are unknown verbs here. Whether a command comes in its place,
+//! APOP is an unknown verb here. Whether a command comes in its place,
 //! how long a line may be, whether the name is a mailbox and the secret is its own, and whether a
 //! message has that number, 0 among them, is for the session.
 #![tactic(auto)]

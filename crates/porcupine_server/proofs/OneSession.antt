@@ -133,8 +133,8 @@ only_fed plan been s line text acts outputs new spelled rests handled =
 same_parts : (x y : Exchange) → x.unit ≡ y.unit → x.call ≡ y.call → x.answer ≡ y.answer → x.reply ≡ y.reply → x ≡ y
 same_parts x y unit call answer reply = λ i. record { unit = unit i; call = call i; answer = answer i; reply = reply i }
 
-unanswered : (call : Call) (one : Exchange) → one.answer ≡ None → Awaits call one.answer one.reply → one.reply ≡ []
-unanswered call one none awaits = subst (λ (a : Option Answer). Awaits call a one.reply) none awaits
+unanswered : (call : Call) (one : Exchange) → one.answer ≡ None → Awaits one.unit call one.answer one.reply → one.reply ≡ []
+unanswered call one none awaits = subst (λ (a : Option Answer). Awaits one.unit call a one.reply) none awaits
 
 same_led : (lead : Lead) (x y : Exchange) → x.unit ≡ y.unit → IsLed lead x → IsLed lead y → x.answer ≡ None → y.answer ≡ None → x ≡ y
 same_led (Says reply) x y units is too none none_too = same_parts x y units (is.0 ∙ sym too.0) (is.1 ∙ sym too.1) (is.2 ∙ sym too.2)

@@ -1,6 +1,6 @@
 -- A call that is begun and answered.
-use Rattle.std.proofs.Common.{inl, inr, ◌≡◌, ◌≢◌, ℕ, List, [], ◌∷◌, ◌++◌, length, Option, Some, None, Result, Ok, Err, refl, sym, ap, ◌∙◌, subst}
-use Rattle.std.specs.Prelude.{⊤, ◌⊎◌, map}
+use Rattle.std.proofs.Common.{inl, inr, ◌≡◌, ◌≢◌, ℕ, List, [], length, Option, Some, None, Result, Ok, Err, refl, sym, ap, ◌∙◌, subst}
+use Rattle.std.specs.Prelude.{map}
 use Rattle.sha2.specs.Sha256.{sha256}
 use Rattle.io_edge.specs.Causes.{Rose}
 use Rattle.mail_model.specs.Identity.{Id}
@@ -15,12 +15,11 @@ use Rattle.session_model.specs.Calls.{IsAnswerTo}
 use Rattle.session_model.specs.Calls.Call.{Deliver, Login, Fetch, Strike}
 use Rattle.session_model.specs.Calls.Answer.{Stored, Listed, Wrong, Part, GoneAlready, Dropped, Failed}
 use Rattle.call_tickets.specs.Seen.{answer_seen}
-use Rattle.call_tickets.specs.declared.answer.Answer as an
 use Rattle.call_tickets.specs.Passes.{PassKnows, IsQuiet, with_more}
 use Rattle.call_tickets.specs.Begins.{HasBegun, IsBegunFor, IsFilingOf, FilingFits}
 use Rattle.session_model.specs.Books.{struck_by}
-use Rattle.call_tickets.specs.Asks.{HasAnswered, FitsKind, AcksFor, IsAckedAs, filed_copies}
-use Rattle.session_gate.specs.Deals.{Dealt, CallAcks, DeliverAcks, AreMessageCopies, ExchangeAcks, ComesOf}
+use Rattle.call_tickets.specs.Asks.{HasAnswered, FitsKind, AcksFor, filed_copies}
+use Rattle.session_gate.specs.Deals.{Dealt, CallAcks, AreMessageCopies, ComesOf}
 use Rattle.session_gate.specs.Deals.{Settles}
 use Rattle.call_tickets.specs.declared.desk.DeskTicket.{DeskTicket}
 use Rattle.session_gate.specs.declared.calls.Dealing.{Dealing}

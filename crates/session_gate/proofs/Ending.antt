@@ -1,9 +1,9 @@
 -- How a POP3 connection is over, with the Leave of its session.
-use Rattle.std.proofs.Common.{inl, inr, ◌≡◌, ◌++◌, ℕ, List, [], Option, refl, sym, ap, ◌∙◌, subst, ⊎_elim}
-use Rattle.std.specs.Prelude.{⊤, ◌⊎◌}
+use Rattle.std.proofs.Common.{inl, inr, ◌≡◌, ◌++◌, ℕ, List, Option, refl, sym, ap, ◌∙◌, subst}
+use Rattle.std.specs.Prelude.{◌⊎◌}
 use Rattle.std.proofs.lemmas.List.{append-nil}
 use Rattle.mail_model.specs.Plan.{Plan}
-use Rattle.session_model.specs.Talk.{Exchange, Standing}
+use Rattle.session_model.specs.Talk.{Exchange}
 use Rattle.session_model.specs.Talk.Standing.{EndedDown}
 use Rattle.session_model.specs.Sessions.{Session, exchanges_of}
 use Rattle.call_tickets.specs.Moves.{Due}

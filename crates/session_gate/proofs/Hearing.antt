@@ -1,9 +1,9 @@
 -- How a session is left off as it is heard.
-use Rattle.std.proofs.Common.{◌≡◌, ℕ, List, [], Option, refl, subst}
+use Rattle.std.proofs.Common.{ℕ, List, [], Option, refl, subst}
 use Rattle.session_model.specs.Sessions.{Session}
 use Rattle.call_tickets.specs.Moves.{Due}
 use Rattle.call_tickets.specs.Passes.{PassKnows}
-use Rattle.session_gate.specs.Connections.{Connection, BreaksOff, GoesOn, LeftWith, LeftOffAs, HeardTo, HasFallen, IsUp}
+use Rattle.session_gate.specs.Connections.{Connection, BreaksOff, GoesOn, LeftWith, LeftOffAs, HeardTo, HasFallen}
 use Rattle.session_gate.specs.Closes.{IsSourceFault}
 use Rattle.session_gate.specs.declared.stop.Stop.{Stop}
 use Rattle.session_gate.specs.declared.stop.Stop.TheVariants as stops

@@ -1,10 +1,10 @@
 -- What is written in time stays so.
-use Rattle.std.proofs.Common.{inl, inr, ◌≡◌, ◌++◌, ◌∷◌, ℕ, List, [], None, refl, sym, ap, ◌∙◌, append_assoc, ⊎_elim}
-use Rattle.std.specs.Prelude.{⊤, ◌⊎◌, flat_map}
+use Rattle.std.proofs.Common.{inl, inr, ◌≡◌, ◌++◌, ◌∷◌, ℕ, List, [], None, refl, sym, ap, ◌∙◌, append_assoc}
+use Rattle.std.specs.Prelude.{flat_map}
 use Rattle.std.proofs.lemmas.List.Concat.{flat_map-append}
 use Rattle.mail_model.specs.Lines.{sent_line}
 use Rattle.session_model.specs.Talk.{Exchange, replies}
-use Rattle.session_gate.specs.InTime.{NoneAnswered, FirstAnswered, IsWrittenTo, WritesInTime}
+use Rattle.session_gate.specs.InTime.{NoneAnswered, FirstAnswered, WritesInTime}
 
 none_snoc : (xs : List Exchange) (one : Exchange) → NoneAnswered xs → one.answer ≡ None → NoneAnswered (xs ++ one ∷ [])
 none_snoc [] one none is = (is, tt)

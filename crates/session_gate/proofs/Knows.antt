@@ -1,7 +1,6 @@
 -- What a pass knows, step by step.
-use Rattle.std.proofs.Common.{inl, inr, ◌≡◌, ◌≢◌, ◌≤◌, ℕ, List, [], ◌∷◌, ◌++◌, Option, Some, None, refl, sym, ap, ◌∙◌, arith, append_assoc}
+use Rattle.std.proofs.Common.{inl, inr, ◌≡◌, ◌≢◌, ◌≤◌, ℕ, List, [], ◌∷◌, ◌++◌, Option, Some, None, refl, sym, ap, ◌∙◌, arith}
 use Rattle.std.proofs.lemmas.List.{append-nil}
-use Rattle.std.specs.Prelude.{⊤, ◌⊎◌}
 use Rattle.io_edge.specs.Causes.{Rose}
 use Rattle.session_model.specs.Calls as model
 use Rattle.session_model.specs.Calls.Answer.{Stored, Listed, Wrong, Part, GoneAlready, Dropped, Failed}

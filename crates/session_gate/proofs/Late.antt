@@ -1,10 +1,10 @@
 -- A reply that is written after a later call was answered.
-use Rattle.std.proofs.Common.{inl, inr, ◌≡◌, ◌+◌, ◌++◌, ◌∷◌, ℕ, List, [], Option, Some, None, refl, sym, ap, ◌∙◌, length, length-append, get_or, arith}
-use Rattle.std.specs.Prelude.{⊤, ◌⊎◌, flat_map}
+use Rattle.std.proofs.Common.{inl, inr, ◌≡◌, ◌++◌, ◌∷◌, ℕ, List, [], Some, None, sym, ap, ◌∙◌, length, length-append, get_or, arith}
+use Rattle.std.specs.Prelude.{flat_map}
 use Rattle.mail_model.specs.Lines.{sent_line}
 use Rattle.session_model.specs.Calls.{Answer}
 use Rattle.session_model.specs.Talk.{Exchange, replies}
-use Rattle.session_gate.specs.InTime.{IsWrittenTo, FirstAnswered, NoneAnswered}
+use Rattle.session_gate.specs.InTime.{FirstAnswered}
 use Rattle.session_gate.specs.Late.{LateRepliesAreRefused}
 
 no_answer : (a : Answer) → None ≡ Some a → ⊥

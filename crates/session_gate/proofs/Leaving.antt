@@ -1,7 +1,6 @@
 -- The Leave of a session that was let in.
-use Rattle.std.proofs.Common.{inl, inr, ◌≡◌, ◌≢◌, ◌++◌, ℕ, List, [], Option, Some, None, refl, sym, ap, ◌∙◌}
-use Rattle.std.specs.Prelude.{⊤, ◌⊎◌}
-use Rattle.std.specs.Option.{option_map}
+use Rattle.std.proofs.Common.{inl, inr, ◌≡◌, ◌≢◌, List, Option, Some, None, refl, sym, ◌∙◌}
+use Rattle.std.specs.Prelude.{◌⊎◌}
 use Rattle.io_edge.specs.Causes.{Rose}
 use Rattle.session_model.specs.Talk.{Exchange, Standing, entered_as}
 use Rattle.session_model.specs.Talk.Standing.{EndedDown}

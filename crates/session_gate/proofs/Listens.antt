@@ -1,9 +1,9 @@
 -- A connection that is served on.
-use Rattle.std.proofs.Common.{inl, inr, ◌≡◌, ◌≢◌, ◌+◌, ◌++◌, ◌∷◌, ℕ, List, [], Option, Some, None, refl, sym, ap, ◌∙◌, subst, append_assoc, length, length-append, arith}
-use Rattle.std.specs.Prelude.{⊤, ◌⊎◌}
+use Rattle.std.proofs.Common.{inl, inr, ◌≡◌, ◌+◌, ◌++◌, ℕ, List, [], Option, refl, sym, ap, subst, length, length-append, arith}
+use Rattle.std.specs.Prelude.{◌⊎◌}
 use Rattle.std.proofs.lemmas.List.{append-nil}
 use Rattle.std.specs.Io.KnownBytes.{Appends, Consumes, IsAtEnd}
-use Rattle.io_edge.proofs.Known.{appends_none, appends_more, consumes_none, consumes_more}
+use Rattle.io_edge.proofs.Known.{appends_more, consumes_none, consumes_more}
 use Rattle.session_model.specs.Talk.{Standing, IsOn}
 use Rattle.session_model.specs.Talk.Standing.{Hearing, Waiting, EndedByQuit, EndedDown, EndedClosed}
 use Rattle.session_model.specs.Sessions.{Session}
@@ -12,7 +12,7 @@ use Rattle.session_model.proofs.Did.{Speaks, did_speaks}
 use Rattle.call_tickets.specs.Moves.{Due, Fed, HasEnded, HearsNothing}
 use Rattle.call_tickets.specs.Moves.Due.{Nothing}
 use Rattle.call_tickets.specs.Passes.{PassKnows}
-use Rattle.session_gate.specs.Connections.{Connection, HasSaid, HasCome, Anyhow, GoesOn, BreaksOff, Rests, Talks, IsUp, HasFallen, IsServed, ClosesSo, ClosedWith, EndsAs, HeardTo, most_octets}
+use Rattle.session_gate.specs.Connections.{Connection, HasCome, Anyhow, GoesOn, Rests, Talks, IsUp, IsServed, ClosesSo, EndsAs, HeardTo, most_octets}
 use Rattle.session_gate.specs.declared.stop.Close.{Close}
 use Rattle.session_gate.specs.declared.stop.Close.TheVariants as closes
 use Rattle.session_gate.specs.declared.stop.Served.{Served}

@@ -1,6 +1,6 @@
 -- What one move of a session comes to.
-use Rattle.std.proofs.Common.{inl, inr, ◌≡◌, ◌≢◌, ◌≤◌, ◌<◌, ◌++◌, ◌∷◌, ℕ, List, [], Bool, true, false, Option, Some, None, Result, Ok, Err, refl, sym, ap, ap₂, ◌∙◌, subst, arith, append_assoc, length}
-use Rattle.std.specs.Prelude.{⊤, ◌⊎◌, flat_map}
+use Rattle.std.proofs.Common.{◌≡◌, ◌≢◌, ◌<◌, ◌++◌, ◌∷◌, ℕ, List, [], Option, Some, None, refl, sym, ap, ap₂, ◌∙◌, subst, append_assoc, length}
+use Rattle.std.specs.Prelude.{◌⊎◌, flat_map}
 use Rattle.std.proofs.lemmas.List.{append-nil}
 use Rattle.std.proofs.lemmas.List.Concat.{flat_map-append}
 use Rattle.std.specs.Io.KnownBytes.{Appends}
@@ -8,27 +8,27 @@ use Rattle.io_edge.specs.Causes.{Rose}
 use Rattle.io_edge.proofs.Known.{appends_none, appends_more}
 use Rattle.mail_model.specs.Lines.{sent_line}
 use Rattle.mail_model.specs.Plan.{Plan}
+use Rattle.mail_model.specs.Session.{Unit}
 use Rattle.session_model.specs.Calls as model
-use Rattle.session_model.specs.Calls.{IsReply, IsAnswerTo, EachAnswerHasReply}
+use Rattle.session_model.specs.Calls.{IsReply, IsAnswerTo, RepliesTo, EachAnswerHasReply}
 use Rattle.session_model.specs.Calls.Answer.{Failed}
-use Rattle.session_model.specs.Talk.{TalkState, Exchange, Standing, Lead, IsLed, Awaits, IsOn, lead_of, standing_asked, heard, stands, answered, down_line, farewell}
+use Rattle.session_model.specs.Talk.{TalkState, Exchange, Standing, Lead, IsLed, lead_of, standing_asked, heard, stands, answered, down_line, farewell}
 use Rattle.session_model.specs.Talk.Lead.{Says, Ends, Asks}
 use Rattle.session_model.specs.Talk.Standing.{Hearing, Waiting, EndedByQuit, EndedDown, EndedClosed}
 use Rattle.session_model.specs.Moves.{with_answer}
 use Rattle.session_model.specs.Sessions.{Session}
 use Rattle.session_model.specs.Acts.{Deed, Did}
-use Rattle.session_model.specs.Acts.Deed.{IsFed, Hears, IsAnswered, Falls}
+use Rattle.session_model.specs.Acts.Deed.{Hears, IsAnswered, Falls}
 use Rattle.session_model.proofs.Did.{Speaks, did_speaks}
-use Rattle.call_tickets.specs.Seen.{call_seen, given_answer, answer_seen}
 use Rattle.call_tickets.specs.Moves.{Due, HeardUnit, Replied, Fell, HasEnded, HearsNothing, IsWaiting}
 use Rattle.call_tickets.specs.Moves.Due.{Nothing}
-use Rattle.call_tickets.specs.Passes.{PassKnows, IsQuiet, NoneFell}
+use Rattle.call_tickets.specs.Passes.{PassKnows}
 use Rattle.session_gate.specs.Deals.{Deals, Dealt}
 use Rattle.session_gate.specs.InTime.{WritesInTime}
 use Rattle.session_gate.specs.Connections.{Connection, HasSaid, HasCome, Anyhow, GoesOn, BreaksOff, Rests, Talks, IsSettled, IsUp, HasFallen, LeftWith}
 use Rattle.session_gate.specs.declared.stop.Stop.{Stop}
 use Rattle.session_gate.specs.declared.stop.Stop.TheVariants as stops
-use Rattle.session_gate.proofs.Knows.{dealt_none, dealt_asked, deals_one, deals_later, deals_fell, quiet_none, rose_before, rose_later}
+use Rattle.session_gate.proofs.Knows.{dealt_none, dealt_asked, deals_one, deals_fell, rose_before}
 use Rattle.session_gate.proofs.InTime.{heard_in_time, more_in_time, next_in_time}
 
 some_same : {X : Type 0} (x y : X) → Some x ≡ Some y → x ≡ y
@@ -267,6 +267,9 @@ pub left_any : (why : Stop) (line : Connection) (follows : Session → Due → T
 left_any stops.WriteFault line follows fed wrote held0 held1 now never cut = absurd (never refl)
 left_any stops.NoMemory line follows fed wrote held0 held1 now never cut = cut
 
+reply_told : EachAnswerHasReply → (unit : Unit) (call : model.Call) (answer : model.Answer) → IsAnswerTo call answer → (reply : List (List ℕ)) × RepliesTo unit call answer reply
+reply_told each unit call answer to = (each unit call answer to).1
+
 module _ (follows0 follows1 : Session → Due → Type 0) (line : Connection) (fed wrote out0 octets out1 : List ℕ) (now : PassKnows) (held : Option (List ℕ))
     (come : HasCome line (Talks follows0) fed wrote out0 now) (outs : out1 ≡ out0 ++ octets) where
   abbrev here : HasSaid line (Talks follows0) fed (wrote ++ out0) now
@@ -348,7 +351,7 @@ module _ (follows0 follows1 : Session → Due → Type 0) (line : Connection) (f
     pub answered_cut : EachAnswerHasReply → (new : PassKnows) (answer : model.Answer) → Appends held held1 out1 → Dealt now (Some asked) (Some answer) new → IsAnswerTo asked answer
         → BreaksOff line Anyhow fed wrote held held1 new
     answered_cut each new answer w dealt to =
-        let reply = each asked answer to in
+        let reply = reply_told each u.one.unit asked answer to in
         let is : u.after ≡ _ = u.did.5 in
         let last : Exchange = with_answer u.one answer reply.0 in
         record {

@@ -1,6 +1,5 @@
 -- A session that has said its greeting, and how its connection is over.
-use Rattle.std.proofs.Common.{inl, inr, ◌≡◌, ◌++◌, ℕ, List, [], Option, Some, None, refl, sym, ap, ◌∙◌, subst}
-use Rattle.std.specs.Prelude.{⊤, ◌⊎◌, flat_map}
+use Rattle.std.proofs.Common.{inl, ◌≡◌, ◌++◌, ℕ, List, [], Option, refl, sym, ◌∙◌, subst}
 use Rattle.std.proofs.lemmas.List.{append-nil}
 use Rattle.mail_model.specs.Lines.{sent_line}
 use Rattle.mail_model.specs.Plan.{Plan}
@@ -8,12 +7,12 @@ use Rattle.mail_model.specs.Smtp.{greeting_text}
 use Rattle.mail_model.specs.PopReplies.{ready_text}
 use Rattle.mail_model.specs.Tape.Protocol.{Smtp, Pop}
 use Rattle.session_model.specs.Talk.Standing.{Hearing, EndedDown}
-use Rattle.session_model.specs.Talk.{TalkState, Standing, opening_state}
+use Rattle.session_model.specs.Talk.{TalkState, opening_state}
 use Rattle.session_model.specs.Sessions.{Session}
 use Rattle.session_model.specs.Acts.{opened_session}
 use Rattle.session_model.proofs.Moves.{begins}
-use Rattle.call_tickets.specs.Moves.{Due, Moves, Greeted}
-use Rattle.call_tickets.specs.Moves.Due.{Nothing, Greeting}
+use Rattle.call_tickets.specs.Moves.{Due, Greeted}
+use Rattle.call_tickets.specs.Moves.Due.{Greeting}
 use Rattle.call_tickets.specs.Passes.{PassKnows}
 use Rattle.call_tickets.specs.declared.step.Move.{Move}
 use Rattle.smtp_session.specs.Follows as mail
@@ -25,7 +24,6 @@ use Rattle.session_gate.specs.Connections.{Connection, HasCome, Talks, Anyhow, I
 use Rattle.session_gate.specs.declared.stop.Close.{Close}
 use Rattle.session_gate.specs.declared.stop.Close.TheVariants as closes
 use Rattle.session_gate.specs.declared.stop.Served.{Served}
-use Rattle.session_gate.specs.declared.stop.Served.TheVariants as served
 use Rattle.session_gate.proofs.Knows.{quiet_none}
 use Rattle.session_gate.proofs.Moves.{at_same}
 

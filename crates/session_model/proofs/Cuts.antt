@@ -6,7 +6,7 @@ use Rattle.std.proofs.lemmas.Bool.{cond_both}
 use Rattle.mail_model.specs.Identity.{Id}
 use Rattle.mail_model.specs.Plan.{Plan}
 use Rattle.mail_model.specs.Tape.Protocol.{Smtp}
-use Rattle.mail_model.specs.Session.{Unit, Told, reply_text, after_unit, is_quit_line, is_large}
+use Rattle.mail_model.specs.Session.{Unit, Told, reply_text, reply_lines, lines_before, after_unit, is_quit_line, is_large}
 use Rattle.mail_model.specs.Session.Unit.{Line, Text}
 use Rattle.mail_model.specs.PopReplies.{one_line}
 use Rattle.mail_model.specs.Told.{Mail, mail_of}
@@ -14,10 +14,12 @@ use Rattle.mail_model.proofs.Mailboxes.{HasOnce, unit_once as mailboxes_once}
 use Rattle.session_model.specs.Calls.{Call, Answer}
 use Rattle.session_model.specs.Calls.Call.{Deliver, Strike}
 use Rattle.session_model.specs.Calls.Answer.{Stored, Failed}
-use Rattle.session_model.specs.Talk.{TalkState, Exchange, Standing, Lead, IsNext, IsLed, Awaits, TalkGoes, opening_state, lead_of, stands, stands_by, first_line}
+use Rattle.session_model.specs.Talk.{TalkState, Exchange, Standing, Lead, IsNext, IsLed, Awaits, TalkGoes, opening_state, lead_of, stands, stands_by, closing_line}
 use Rattle.session_model.specs.Talk.TalkState.{Mailing, Entering, Reading}
 use Rattle.session_model.specs.Talk.Lead.{Says, Ends, Asks}
 use Rattle.session_model.specs.Talk.Standing.{Hearing, Waiting, EndedByQuit, EndedDown, EndedClosed}
+use Rattle.session_model.specs.Mailing.{stored_lines}
+use Rattle.session_model.proofs.Mailing.{front_unstored}
 use Rattle.session_model.proofs.Chains.{goes_at, through}
 
 -- a prefix of a chain is one
@@ -43,9 +45,9 @@ one_end (a ∷ xs) (b ∷ ys) x y e =
     let rest = one_end xs ys x y later in
     (ap₂ ◌∷◌ first rest.0, rest.1)
 
--- one line at most
+-- no line, or some of which only the last may be `250 stored`
 abbrev pub IsShort : List (List ℕ) → Type 0
-IsShort reply = (reply ≡ []) ⊎ ((line : List ℕ) × (reply ≡ line ∷ []))
+IsShort reply = (reply ≡ []) ⊎ ((front : List (List ℕ)) × (line : List ℕ) × (reply ≡ front ++ line ∷ []) × (stored_lines front ≡ 0))
 
 -- the session takes mail
 abbrev pub TakesMail : Standing → Type 0
@@ -86,18 +88,18 @@ mail_step plan node talk one led = by_unit one.unit led
     Is : Lead → Type 0
     Is lead = IsLed lead one → IsOfMail plan talk one (stands plan (Mailing talk) one lead)
 
-    at_once : (reply : List ℕ) → one.call ≡ None → one.reply ≡ one_line reply → (standing : Standing) → TakesMail standing → (HasOnce talk.envelope → IsOnceAt standing)
+    at_once : (front : List (List ℕ)) (reply : List ℕ) → stored_lines front ≡ 0 → one.call ≡ None → one.reply ≡ front ++ reply ∷ [] → (standing : Standing) → TakesMail standing → (HasOnce talk.envelope → IsOnceAt standing)
         → IsOfMail plan talk one standing
-    at_once reply none says standing takes once = record {
-      short = inr (reply, says);
+    at_once front reply unstored none says standing takes once = record {
+      short = inr (front, reply, says, unstored);
       no_strike = λ user ids is. none-some (Strike user ids) (sym none ∙ is);
       still = takes;
       asks = λ mail is. absurd (none-some (Deliver mail) (sym none ∙ is));
       once = once;
     }
 
-    unit_once : HasOnce talk.envelope → HasOnce (after_unit plan talk one.unit (first_line one.reply)).envelope
-    unit_once once = mailboxes_once plan talk one.unit (first_line one.reply) once
+    unit_once : HasOnce talk.envelope → HasOnce (after_unit plan talk one.unit (closing_line one.reply)).envelope
+    unit_once once = mailboxes_once plan talk one.unit (closing_line one.reply) once
 
     still_once : (lines : List (List ℕ)) (answer : Option Answer) → one.answer ≡ answer → HasOnce talk.envelope → IsOnceAt (stands plan (Mailing talk) one (Asks (Deliver (mail_of talk lines))))
     still_once lines None there once = subst (λ (a : Option Answer). IsOnceAt (stands plan (Mailing talk) (record one { answer = a }) (Asks (Deliver (mail_of talk lines))))) (sym there) tt
@@ -106,10 +108,10 @@ mail_step plan node talk one led = by_unit one.unit led
         (mailboxes_once plan talk one.unit [] once)
 
     by_answer : (lines : List (List ℕ)) → one.call ≡ Some (Deliver (mail_of talk lines)) → (answer : Option Answer) → one.answer ≡ answer
-        → Awaits (Deliver (mail_of talk lines)) answer one.reply → IsShort one.reply
+        → Awaits one.unit (Deliver (mail_of talk lines)) answer one.reply → IsShort one.reply
     by_answer lines call None there says = inl says
-    by_answer lines call (Some (Stored id)) there says = inr (_, says)
-    by_answer lines call (Some Failed) there says = inr (_, says)
+    by_answer lines call (Some (Stored id)) there says = inr ([], _, says, refl)
+    by_answer lines call (Some Failed) there says = inr ([], _, says, refl)
     by_answer lines call (Some answer) there says = absurd says
 
     still_mail : (lines : List (List ℕ)) (answer : Option Answer) → one.answer ≡ answer → TakesMail (stands plan (Mailing talk) one (Asks (Deliver (mail_of talk lines))))
@@ -119,11 +121,12 @@ mail_step plan node talk one led = by_unit one.unit led
 
     by_unit : (unit : Unit) → IsLed (lead_of plan node (Mailing talk) unit) one → IsOfMail plan talk one (stands plan (Mailing talk) one (lead_of plan node (Mailing talk) unit))
     by_unit (Line line) l =
-        cond_both (is_quit_line line) (Ends (one_line (reply_text plan node talk (Line line)))) (Says (one_line (reply_text plan node talk (Line line)))) Is
-        (λ quits h. at_once _ h.0 h.2 EndedByQuit tt (λ once. tt)) (λ goes h. at_once _ h.0 h.2 _ tt unit_once) l
+        cond_both (is_quit_line line) (Ends (reply_lines plan node talk line)) (Says (reply_lines plan node talk line)) Is
+        (λ quits h. at_once (lines_before node line) _ (front_unstored node line) h.0 h.2 EndedByQuit tt (λ once. tt))
+        (λ goes h. at_once (lines_before node line) _ (front_unstored node line) h.0 h.2 _ tt unit_once) l
     by_unit (Text lines) l =
         cond_both (is_large lines) (Says (one_line (reply_text plan node talk (Text lines)))) (Asks (Deliver (mail_of talk lines))) Is
-        (λ large h. at_once _ h.0 h.2 _ tt unit_once)
+        (λ large h. at_once [] _ refl h.0 h.2 _ tt unit_once)
         (λ small h. record {
           short = by_answer lines h.0 one.answer refl h.1;
           no_strike = λ user ids is. let both : Some (Deliver (mail_of talk lines)) ≡ Some (Strike user ids) = sym h.0 ∙ is in cc;
@@ -152,10 +155,10 @@ of_mail plan node octets before behind one last rest g =
     by_state (Reading user slots) takes led = absurd takes
 
 -- the reply of an exchange that asked
-pub awaits : (lead : Lead) (one : Exchange) (call : Call) → IsLed lead one → one.call ≡ Some call → Awaits call one.answer one.reply
+pub awaits : (lead : Lead) (one : Exchange) (call : Call) → IsLed lead one → one.call ≡ Some call → Awaits one.unit call one.answer one.reply
 awaits (Says reply) one call led is = absurd (none-some call (sym led.0 ∙ is))
 awaits (Ends reply) one call led is = absurd (none-some call (sym led.0 ∙ is))
 awaits (Asks asks) one call led is =
     let both : Some asks ≡ Some call = sym led.0 ∙ is in
     let same : asks ≡ call = cc in
-    subst (λ (c : Call). Awaits c one.answer one.reply) same led.1
+    subst (λ (c : Call). Awaits one.unit c one.answer one.reply) same led.1

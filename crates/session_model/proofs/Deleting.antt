@@ -3,6 +3,7 @@ use Rattle.std.proofs.Common.{◌≡◌, ◌⊎◌, inl, inr, ⊎_elim, ℕ, Lis
 use Rattle.std.proofs.lemmas.List.Concat.{flat_map-append}
 use Rattle.mail_model.specs.Identity.{Id}
 use Rattle.mail_model.specs.Plan.{Plan}
+use Rattle.mail_model.specs.Session.{Unit}
 use Rattle.mail_model.specs.Tape.{Protocol}
 use Rattle.mail_model.specs.Tape.Protocol.{Smtp, Pop}
 use Rattle.mail_model.specs.Transcript.{Entry}
@@ -66,12 +67,12 @@ module _ (plan : Plan) (lines : List (List ℕ)) (entries : List Entry) (k : ℕ
       record { before = before; tail = got.0; are = last; got = got.1; asks = call; marked = law.1 }
 
   -- `+OK bye` to a deletion says that it is done
-  bye_is : (user : List ℕ) (ids : List Id) (answer : Option Answer) (reply : List (List ℕ)) → Awaits (Strike user ids) answer reply → reply ≡ one_line bye_text → answer ≡ Some Dropped
-  bye_is user ids None reply says bye = let e : [] ≡ one_line bye_text = sym says ∙ bye in cc
-  bye_is user ids (Some Dropped) reply says bye = refl
-  bye_is user ids (Some Failed) reply says bye =
+  bye_is : (unit : Unit) (user : List ℕ) (ids : List Id) (answer : Option Answer) (reply : List (List ℕ)) → Awaits unit (Strike user ids) answer reply → reply ≡ one_line bye_text → answer ≡ Some Dropped
+  bye_is unit user ids None reply says bye = let e : [] ≡ one_line bye_text = sym says ∙ bye in cc
+  bye_is unit user ids (Some Dropped) reply says bye = refl
+  bye_is unit user ids (Some Failed) reply says bye =
       let first : 45 ≡ 43 = ap (λ (l : List (List ℕ)). get_or (get_or l 0 []) 0 0) (sym says ∙ bye) in absurd (omega (arith, first))
-  bye_is user ids (Some answer) reply says bye = absurd says
+  bye_is unit user ids (Some answer) reply says bye = absurd says
 
   -- so does the exchange that asked for it
   pub dropped : (user : List ℕ) (ids : List Id) (before behind : List Exchange) (one : Exchange) → exchanges_of session ≡ before ++ one ∷ behind → one.call ≡ Some (Strike user ids)
@@ -79,7 +80,7 @@ module _ (plan : Plan) (lines : List (List ℕ)) (entries : List Entry) (k : ℕ
   dropped user ids before behind one are call bye =
       let at = goes_at plan session.node (Hearing (opening_state session.protocol)) session.octets before one behind is.talk.before session.rest
       (subst (λ (l : List Exchange). TalkGoes plan session.node (Hearing (opening_state session.protocol)) session.octets l is.talk.before session.rest) are is.talk.goes) in
-      bye_is user ids one.answer one.reply (awaits (lead_of plan session.node at.state one.unit) one (Strike user ids) at.next.led call) bye
+      bye_is one.unit user ids one.answer one.reply (awaits (lead_of plan session.node at.state one.unit) one (Strike user ids) at.next.led call) bye
 
 pub true_answers_delete : TrueAnswersDelete
 true_answers_delete plan lines entries disks sessions are facts = record {

@@ -63,7 +63,7 @@ waiting_silent plan state told call one (Says reply) led e = cc
 waiting_silent plan state told call one (Ends reply) led e = cc
 waiting_silent plan state told call one (Asks asks) led e = by_answer one.answer refl led.1
   where
-    by_answer : (answer : Option Answer) → one.answer ≡ answer → Awaits asks answer one.reply → one.reply ≡ []
+    by_answer : (answer : Option Answer) → one.answer ≡ answer → Awaits one.unit asks answer one.reply → one.reply ≡ []
     by_answer None there says = says
     by_answer (Some answer) there says = absurd (never_waits (heard plan state one.unit []) told asks call answer (e ∙ ap (standing_asked (heard plan state one.unit []) asks) there))
 

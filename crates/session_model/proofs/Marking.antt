@@ -1,25 +1,26 @@
 -- The slots of a session that reads mail are as its exchanges left them.
 use Rattle.std.proofs.Common.{◌≡◌, ⊎_elim, ℕ, false, List, [], ◌∷◌, ◌++◌, length, map, Option, Some, None, get_or, refl, sym, ap, ap₂, ◌∙◌, subst, arith}
-use Rattle.std.specs.Prelude.{Ok}
+use Rattle.std.specs.Prelude.{Ok, codes}
+use Rattle.std.specs.Fmt.{decimal}
 use Rattle.std.proofs.lemmas.List.{map-append}
 use Rattle.mail_model.specs.Identity.{Id}
 use Rattle.mail_model.specs.Plan.{Plan}
 use Rattle.mail_model.specs.Session.{Unit}
 use Rattle.mail_model.specs.Session.Unit.{Line, Text}
 use Rattle.mail_model.specs.Pop.{pop_command_of}
-use Rattle.mail_model.specs.Pop.Command.{Pass, Retr}
-use Rattle.mail_model.specs.PopReplies.{Item, ListingSlot, one_line, listed_slots, octets_text, dotted_line, last_line}
+use Rattle.mail_model.specs.Pop.Command.{Pass}
+use Rattle.mail_model.specs.PopReplies.{Item, ListingSlot, one_line, listed_slots, shown_text, dotted_line, last_line}
 use Rattle.mail_model.specs.Maildrop.{LineOutcome, line_outcome, named_in, deleted_in, wrong_text, entered_text, gone_text, later_text}
 use Rattle.mail_model.specs.Maildrop.Stage.{Authorization, Transaction}
 use Rattle.mail_model.specs.Maildrop.LineOutcome.{Answered, Closed, AsksLogin, AsksMessage, AsksDeletion}
 use Rattle.mail_model.specs.Told.{IsUnit}
 use Rattle.mail_model.proofs.ShownCuts.{bad_answers}
-use Rattle.mail_model.proofs.ShownReplies.{exchange}
+use Rattle.mail_model.proofs.ShownReplies.{exchange, fetched_number}
 use Rattle.mail_model.proofs.DeletedNumbers.{says_first}
-use Rattle.mail_model.proofs.DeletedReplies.{Quiet, Tells, dele_number}
-use Rattle.mail_model.proofs.DeletedOutcomes.{LeadsBefore, LeadsBehind, before, behind, bad, pass_quiet, unmarked_tells, retr_tells, gone_tells}
+use Rattle.mail_model.proofs.DeletedReplies.{Quiet, Tells}
+use Rattle.mail_model.proofs.DeletedOutcomes.{LeadsBefore, LeadsBehind, before, behind, bad, pass_quiet, unmarked_tells, fetch_keeps, fetch_tells, gone_tells}
 use Rattle.mail_model.proofs.DeletedSessions.{Unknown, Known, unknown_more, logs_in, known_more}
-use Rattle.session_model.specs.Calls.{Answer}
+use Rattle.session_model.specs.Calls.{Answer, asked_lines}
 use Rattle.session_model.specs.Calls.Call.{Login, Fetch, Strike}
 use Rattle.session_model.specs.Calls.Answer.{Listed, Wrong, Part, GoneAlready, Failed}
 use Rattle.session_model.specs.Talk.{TalkState, Exchange, IsNext, IsLed, Awaits, line_lead, lead_of, stands, stands_by, standing_asked}
@@ -73,7 +74,7 @@ module _ (plan : Plan) (node : ℕ) (named : Option (List ℕ)) (been : List Exc
 
   -- the answer to a login
   login_seen : (name secret : List ℕ) → named ≡ Some name → pop_command_of line ≡ Ok (Pass secret) → one.call ≡ Some (Login name secret) → (answer : Option Answer) → one.answer ≡ answer
-      → Awaits (Login name secret) answer one.reply → (state : TalkState) → standing_asked (Entering (named_in line)) (Login name secret) answer ≡ Hearing state
+      → Awaits one.unit (Login name secret) answer one.reply → (state : TalkState) → standing_asked (Entering (named_in line)) (Login name secret) answer ≡ Hearing state
       → IsAsSeen state (been ++ one ∷ [])
   login_seen name secret is_named pass call None there says state e = cc
   login_seen name secret is_named pass call (Some (Listed items)) there says state e =
@@ -108,21 +109,27 @@ module _ (plan : Plan) (node : ℕ) (user : List ℕ) (slots : List ListingSlot)
       (ap₂ (λ (l : List ℕ) (r : List (List ℕ)). all_seen been ++ exchange l r ∷ []) (ap line_of (sym is)) (sym says) ∙ sym (seen_more been one))
       (known_more slots user (all_seen been) line reply known tells)
 
-  -- the answer to RETR
-  fetch_seen : (number : ℕ) (id : Id) → pop_command_of line ≡ Ok (Retr number) → (answer : Option Answer) → Awaits (Fetch user id) answer one.reply → (state : TalkState)
+  -- a part of a message
+  part_seen : (number : ℕ) → fetched_number (pop_command_of line) ≡ Some number → (asked : Option ℕ) (size : ℕ) (lines : List (List ℕ))
+      → one.reply ≡ shown_text asked size ∷ map dotted_line lines ++ last_line → IsAsSeen (Reading user (deleted_in slots line)) (been ++ one ∷ [])
+  part_seen number is None size lines says = tells_reading _ says (fetch_tells slots line number (codes " " ++ decimal size ++ codes " octets") lines is)
+  part_seen number is (Some m) size lines says = tells_reading _ says (fetch_tells slots line number (codes " top") lines is)
+
+  -- the answer to RETR and TOP
+  fetch_seen : (number : ℕ) (id : Id) → fetched_number (pop_command_of line) ≡ Some number → (answer : Option Answer) → Awaits one.unit (Fetch user id) answer one.reply → (state : TalkState)
       → standing_asked (Reading user (deleted_in slots line)) (Fetch user id) answer ≡ Hearing state → IsAsSeen state (been ++ one ∷ [])
   fetch_seen number id retr None says state e = cc
   fetch_seen number id retr (Some (Part octets)) says state e =
       let same : Reading user (deleted_in slots line) ≡ state = cc in
       subst (λ (s : TalkState). IsAsSeen s (been ++ one ∷ [])) same
-      (tells_reading (octets_text (length octets) ∷ map dotted_line says.lines ++ last_line) says.says (retr_tells slots line number (length octets) says.lines retr))
+      (part_seen number retr (asked_lines one.unit) (length octets) says.lines says.says)
   fetch_seen number id retr (Some GoneAlready) says state e =
       let same : Reading user (deleted_in slots line) ≡ state = cc in
       subst (λ (s : TalkState). IsAsSeen s (been ++ one ∷ [])) same (tells_reading (one_line gone_text) says (gone_tells slots line number retr))
   fetch_seen number id retr (Some Failed) says state e =
       let same : Reading user (deleted_in slots line) ≡ state = cc in
       subst (λ (s : TalkState). IsAsSeen s (been ++ one ∷ [])) same
-      (tells_reading (one_line later_text) says (unmarked_tells slots line (one_line later_text) (ap dele_number retr) (later_quiet line)))
+      (tells_reading (one_line later_text) says (unmarked_tells slots line (one_line later_text) (fetch_keeps (pop_command_of line) number retr) (later_quiet line)))
   fetch_seen number id retr (Some answer) says state e = absurd says
 
   -- after a deletion it hears nothing

@@ -1,7 +1,7 @@
 -- Each move keeps a talk a talk.
 use Rattle.std.proofs.Common.{◌≡◌, ℕ, List, [], ◌∷◌, Option, Some, None, refl, sym, ap, ◌∙◌, subst}
 use Rattle.mail_model.specs.Plan.{Plan}
-use Rattle.session_model.specs.Calls.{Call, Answer, IsReply}
+use Rattle.session_model.specs.Calls.{Call, Answer, RepliesTo}
 use Rattle.session_model.specs.Calls.Call.{Deliver, Login, Fetch, Strike}
 use Rattle.session_model.specs.Calls.Answer.{Listed}
 use Rattle.session_model.specs.Talk.{TalkState, Exchange, Standing, Lead, IsLed, IsOn, Breaks, TalkGoes, opening_state, heard, lead_of, stands, stands_by, standing_asked, answered}
@@ -51,7 +51,7 @@ never_waits told state (Strike user ids) call answer e = cc
 
 -- the exchange that waits, once it is answered
 done_at : (plan : Plan) (state told : TalkState) (call : Call) (one : Exchange) (answer : Answer) (reply : List (List ℕ)) (lead : Lead) → IsLed lead one
-    → Waiting told call ≡ stands plan state one lead → IsReply call answer reply
+    → Waiting told call ≡ stands plan state one lead → RepliesTo one.unit call answer reply
     → IsLed lead (with_answer one answer reply) × (answered told call answer ≡ stands plan state (with_answer one answer reply) lead)
 done_at plan state told call one answer reply (Says lines) led e is = cc
 done_at plan state told call one answer reply (Ends lines) led e is = cc
@@ -63,7 +63,7 @@ done_at plan state told call one answer reply (Asks asks) led e is = by_answer o
         let waits : Waiting told call ≡ Waiting (heard plan state one.unit []) asks = e ∙ ap (standing_asked (heard plan state one.unit []) asks) none in
         let calls : call ≡ asks = cc in
         let states : told ≡ heard plan state one.unit [] = cc in (
-          (led.0, subst (λ (c : Call). IsReply c answer reply) calls is),
+          (led.0, subst (λ (c : Call). RepliesTo one.unit c answer reply) calls is),
           ap (λ (s : TalkState). answered s call answer) states ∙ ap (λ (c : Call). answered (heard plan state one.unit []) c answer) calls,
         )
     by_answer (Some given) there = absurd (never_waits (heard plan state one.unit []) told asks call given (e ∙ ap (standing_asked (heard plan state one.unit []) asks) there))

@@ -1,12 +1,12 @@
 -- What a session was fed and was answered fixes its exchanges.
-use Rattle.std.proofs.Common.{◌≡◌, ℕ, List, [], ◌∷◌, ◌++◌, flat_map, map, Option, Some, None, refl, sym, ap, ap₂, ◌∙◌, subst, All}
+use Rattle.std.proofs.Common.{◌≡◌, ℕ, List, [], ◌∷◌, ◌++◌, flat_map, length, map, Option, Some, None, refl, sym, ap, ap₂, ◌∙◌, subst, All}
 use Rattle.std.proofs.lemmas.List.Elements.{All-head, All-tail}
 use Rattle.mail_model.specs.Plan.{Plan}
 use Rattle.mail_model.specs.Lines.{HasNoCrlf, sent_line}
 use Rattle.mail_model.specs.Session.{Unit}
-use Rattle.mail_model.specs.PopReplies.{octets_text, dotted_line, last_line}
+use Rattle.mail_model.specs.PopReplies.{shown_text, dotted_line, last_line}
 use Rattle.mail_model.proofs.Units.{one_sent_line, one_unit}
-use Rattle.session_model.specs.Calls.{Call, Answer, IsReply, ShowsPart}
+use Rattle.session_model.specs.Calls.{Call, Answer, RepliesTo, ShowsPart, asked_lines}
 use Rattle.session_model.specs.Calls.Call.{Deliver, Login, Fetch, Strike}
 use Rattle.session_model.specs.Calls.Answer.{Stored, Listed, Wrong, Part, GoneAlready, Dropped, Failed}
 use Rattle.session_model.specs.Talk.{Exchange, Standing, Lead, IsLed, Awaits, IsIdle, TalkGoes, in_text, lead_of, stands_by}
@@ -32,29 +32,29 @@ one_lines (line ∷ a) (other ∷ b) is_a is_b e =
     ap₂ ◌∷◌ first.0 (one_lines a b (All-tail HasNoCrlf line a is_a) (All-tail HasNoCrlf other b is_b) first.1)
 
 -- a message is shown in one way
-one_part : (octets : List ℕ) (a b : List (List ℕ)) → ShowsPart octets a → ShowsPart octets b → a ≡ b
-one_part octets a b shows shows_too =
+one_part : (asked : Option ℕ) (octets : List ℕ) (a b : List (List ℕ)) → ShowsPart asked octets a → ShowsPart asked octets b → a ≡ b
+one_part asked octets a b shows shows_too =
     shows.says
-    ∙ ap (λ (l : List (List ℕ)). octets_text _ ∷ map dotted_line l ++ last_line) (one_lines shows.lines shows_too.lines shows.are shows_too.are (shows.whole ∙ sym shows_too.whole))
+    ∙ ap (λ (l : List (List ℕ)). shown_text asked (length octets) ∷ map dotted_line l ++ last_line) (one_lines shows.lines shows_too.lines shows.are shows_too.are (shows.whole ∙ sym shows_too.whole))
     ∙ sym shows_too.says
 
 -- an answer is replied to in one way
-pub one_reply_to : (call : Call) (answer : Answer) (a b : List (List ℕ)) → IsReply call answer a → IsReply call answer b → a ≡ b
-one_reply_to (Deliver mail) (Stored id) a b is is_too = is ∙ sym is_too
-one_reply_to (Deliver mail) Failed a b is is_too = is ∙ sym is_too
-one_reply_to (Login user secret) (Listed items) a b is is_too = is ∙ sym is_too
-one_reply_to (Login user secret) Wrong a b is is_too = is ∙ sym is_too
-one_reply_to (Login user secret) Failed a b is is_too = is ∙ sym is_too
-one_reply_to (Fetch user id) (Part octets) a b is is_too = one_part octets a b is is_too
-one_reply_to (Fetch user id) GoneAlready a b is is_too = is ∙ sym is_too
-one_reply_to (Fetch user id) Failed a b is is_too = is ∙ sym is_too
-one_reply_to (Strike user ids) Dropped a b is is_too = is ∙ sym is_too
-one_reply_to (Strike user ids) Failed a b is is_too = is ∙ sym is_too
-one_reply_to call answer a b is is_too = absurd is
+pub one_reply_to : (unit : Unit) (call : Call) (answer : Answer) (a b : List (List ℕ)) → RepliesTo unit call answer a → RepliesTo unit call answer b → a ≡ b
+one_reply_to unit (Deliver mail) (Stored id) a b is is_too = is ∙ sym is_too
+one_reply_to unit (Deliver mail) Failed a b is is_too = is ∙ sym is_too
+one_reply_to unit (Login user secret) (Listed items) a b is is_too = is ∙ sym is_too
+one_reply_to unit (Login user secret) Wrong a b is is_too = is ∙ sym is_too
+one_reply_to unit (Login user secret) Failed a b is is_too = is ∙ sym is_too
+one_reply_to unit (Fetch user id) (Part octets) a b is is_too = one_part (asked_lines unit) octets a b is is_too
+one_reply_to unit (Fetch user id) GoneAlready a b is is_too = is ∙ sym is_too
+one_reply_to unit (Fetch user id) Failed a b is is_too = is ∙ sym is_too
+one_reply_to unit (Strike user ids) Dropped a b is is_too = is ∙ sym is_too
+one_reply_to unit (Strike user ids) Failed a b is is_too = is ∙ sym is_too
+one_reply_to unit call answer a b is is_too = absurd is
 
-one_awaited : (call : Call) (answer : Option Answer) (a b : List (List ℕ)) → Awaits call answer a → Awaits call answer b → a ≡ b
-one_awaited call None a b is is_too = is ∙ sym is_too
-one_awaited call (Some answer) a b is is_too = one_reply_to call answer a b is is_too
+one_awaited : (unit : Unit) (call : Call) (answer : Option Answer) (a b : List (List ℕ)) → Awaits unit call answer a → Awaits unit call answer b → a ≡ b
+one_awaited unit call None a b is is_too = is ∙ sym is_too
+one_awaited unit call (Some answer) a b is is_too = one_reply_to unit call answer a b is is_too
 
 -- exchanges of the same parts
 same_parts : (x y : Exchange) → x.unit ≡ y.unit → x.call ≡ y.call → x.answer ≡ y.answer → x.reply ≡ y.reply → x ≡ y
@@ -77,7 +77,7 @@ one_led (Asks call) x y xs ys units is is_too e =
     let given : x.answer ≡ y.answer = cc in
     let later : xs ≡ ys = cc in (
       same_parts x y units (is.0 ∙ sym is_too.0) given
-          (one_awaited call y.answer x.reply y.reply (subst (λ (a : Option Answer). Awaits call a x.reply) given is.1) is_too.1),
+          (one_awaited y.unit call y.answer x.reply y.reply (subst (λ (u : Unit). Awaits u call y.answer x.reply) units (subst (λ (a : Option Answer). Awaits x.unit call a x.reply) given is.1)) is_too.1),
       later,
     )
 

@@ -6,7 +6,7 @@ use Rattle.std.proofs.lemmas.Bool.{cond_both}
 use Rattle.mail_model.specs.Plan.{Plan}
 use Rattle.mail_model.specs.Tape.{Protocol}
 use Rattle.mail_model.specs.Tape.Protocol.{Smtp, Pop}
-use Rattle.mail_model.specs.Session.{Unit, Told, reply_text, after_unit, is_quit_line, is_large}
+use Rattle.mail_model.specs.Session.{Unit, Told, reply_text, reply_lines, lines_before, after_unit, is_quit_line, is_large}
 use Rattle.mail_model.specs.Session.Unit.{Line, Text}
 use Rattle.mail_model.specs.PopReplies.{one_line}
 use Rattle.mail_model.specs.Maildrop.{LineOutcome, line_outcome}
@@ -18,12 +18,13 @@ use Rattle.mail_model.proofs.Units.{one_unit}
 use Rattle.session_model.specs.Calls.{Call, Answer}
 use Rattle.session_model.specs.Calls.Call.{Deliver, Login, Fetch, Strike}
 use Rattle.session_model.specs.Calls.Answer.{Stored, Listed, Failed}
-use Rattle.session_model.specs.Talk.{TalkState, Exchange, Standing, Lead, IsNext, IsLed, Awaits, TalkGoes, opening_state, in_text, line_lead, lead_of, heard, standing_asked, answered, stands, stands_by, first_line, farewell, down_line, replies}
+use Rattle.session_model.specs.Talk.{TalkState, Exchange, Standing, Lead, IsNext, IsLed, Awaits, TalkGoes, opening_state, in_text, line_lead, lead_of, heard, standing_asked, answered, stands, stands_by, closing_line, farewell, down_line, replies}
 use Rattle.session_model.specs.Talk.TalkState.{Mailing, Entering, Reading}
 use Rattle.session_model.specs.Talk.Lead.{Says, Ends, Asks}
 use Rattle.session_model.specs.Talk.Standing.{Hearing, Waiting, EndedByQuit, EndedDown, EndedClosed}
 use Rattle.session_model.specs.Sessions.{IsCut}
 use Rattle.session_model.specs.Readings.{OneReadingOfSession, view, views}
+use Rattle.session_model.proofs.Mailing.{closes_with}
 use Rattle.session_model.proofs.Replying.{IsWhole, IsReplied, Speaks, some_reply, one_whole, next_replied}
 
 -- how a session of a protocol stands, and whether a text comes next
@@ -43,7 +44,7 @@ ModeIs mode EndedClosed = ⊤
 
 -- the reply tells it
 abbrev pub mode_by : Protocol → List (List ℕ) → Bool
-mode_by Smtp reply = asks_text (first_line reply)
+mode_by Smtp reply = asks_text (closing_line reply)
 mode_by Pop reply = false
 
 -- after an exchange
@@ -63,16 +64,16 @@ mailing_behind plan node talk one is_unit led = by_unit one.unit refl
     Is : Lead → Type 0
     Is lead = IsLed lead one → IsBehind Smtp one (stands plan (Mailing talk) one lead)
 
-    by_answer : (lines : List (List ℕ)) → one.unit ≡ Text lines → (answer : Option Answer) → one.answer ≡ answer → Awaits (Deliver (mail_of talk lines)) answer one.reply
+    by_answer : (lines : List (List ℕ)) → one.unit ≡ Text lines → (answer : Option Answer) → one.answer ≡ answer → Awaits one.unit (Deliver (mail_of talk lines)) answer one.reply
         → IsBehind Smtp one (standing_asked (heard plan (Mailing talk) one.unit []) (Deliver (mail_of talk lines)) answer)
     by_answer lines is None there says = record { speaks = tt; mode = tt }
     by_answer lines is (Some (Stored id)) there says = record {
       speaks = tt;
-      mode = ap (λ (u : Unit). (after_unit plan talk u []).in_text) is ∙ sym (ap (λ (r : List (List ℕ)). asks_text (first_line r)) says);
+      mode = ap (λ (u : Unit). (after_unit plan talk u []).in_text) is ∙ sym (ap (λ (r : List (List ℕ)). asks_text (closing_line r)) says);
     }
     by_answer lines is (Some Failed) there says = record {
       speaks = tt;
-      mode = ap (λ (u : Unit). (after_unit plan talk u []).in_text) is ∙ sym (ap (λ (r : List (List ℕ)). asks_text (first_line r)) says);
+      mode = ap (λ (u : Unit). (after_unit plan talk u []).in_text) is ∙ sym (ap (λ (r : List (List ℕ)). asks_text (closing_line r)) says);
     }
     by_answer lines is (Some answer) there says = absurd says
 
@@ -80,13 +81,14 @@ mailing_behind plan node talk one is_unit led = by_unit one.unit refl
     by_unit (Line line) is =
         let off : talk.in_text ≡ false = not_text line talk.in_text (subst (IsUnit talk.in_text) is is_unit) in
         let fits = line_fits plan talk off node line in
+        let closes : one.reply ≡ reply_lines plan node talk line → closing_line one.reply ≡ reply_text plan node talk (Line line) =
+        λ says. ap closing_line says ∙ closes_with (lines_before node line) (reply_text plan node talk (Line line)) in
         subst (λ (u : Unit). IsBehind Smtp one (stands plan (Mailing talk) one (lead_of plan node (Mailing talk) u))) (sym is)
-        (cond_both (is_quit_line line) (Ends (one_line (reply_text plan node talk (Line line)))) (Says (one_line (reply_text plan node talk (Line line)))) Is
+        (cond_both (is_quit_line line) (Ends (reply_lines plan node talk line)) (Says (reply_lines plan node talk line)) Is
         (λ quits h. record { speaks = tt; mode = tt })
         (λ goes h. record {
           speaks = tt;
-          mode = ap₂ (λ (u : Unit) (r : List (List ℕ)). (after_unit plan talk u (first_line r)).in_text) is h.2 ∙ sym fits.mode
-              ∙ sym (ap (λ (r : List (List ℕ)). asks_text (first_line r)) h.2);
+          mode = ap₂ (λ (u : Unit) (r : List ℕ). (after_unit plan talk u r).in_text) is (closes h.2) ∙ sym fits.mode ∙ sym (ap asks_text (closes h.2));
         })
         (subst (λ (u : Unit). IsLed (lead_of plan node (Mailing talk) u) one) is led))
     by_unit (Text lines) is =
@@ -94,7 +96,7 @@ mailing_behind plan node talk one is_unit led = by_unit one.unit refl
         (cond_both (is_large lines) (Says (one_line (reply_text plan node talk (Text lines)))) (Asks (Deliver (mail_of talk lines))) Is
         (λ large h. record {
           speaks = tt;
-          mode = ap (λ (u : Unit). (after_unit plan talk u (first_line one.reply)).in_text) is ∙ text_off lines ∙ sym (ap (λ (r : List (List ℕ)). asks_text (first_line r)) h.2);
+          mode = ap (λ (u : Unit). (after_unit plan talk u (closing_line one.reply)).in_text) is ∙ text_off lines ∙ sym (ap (λ (r : List (List ℕ)). asks_text (closing_line r)) h.2);
         })
         (λ small h. by_answer lines is one.answer refl h.1)
         (subst (λ (u : Unit). IsLed (lead_of plan node (Mailing talk) u) one) is led))

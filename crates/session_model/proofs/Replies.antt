@@ -1,14 +1,14 @@
 -- Each answer of a call's kind has a reply.
-use Rattle.std.proofs.Common.{◌≡◌, ◌≢◌, ⊎_elim, ◌+◌, ℕ, zero, suc, Bool, true, false, ◌||◌, nat_eq, List, [], ◌∷◌, ◌++◌, length, map, flat_map, All, refl, sym, ap, ◌∙◌, subst, arith, if◌then◌else◌}
+use Rattle.std.proofs.Common.{◌≡◌, ◌≢◌, ⊎_elim, ◌+◌, ℕ, zero, suc, Bool, true, false, ◌||◌, nat_eq, List, [], ◌∷◌, ◌++◌, length, map, flat_map, All, Option, None, refl, sym, ap, ◌∙◌, subst, arith, if◌then◌else◌}
 use Rattle.std.specs.List.{slice_index}
 use Rattle.std.proofs.lemmas.Bool.{and_parts, cases_eq, eqb-true, ne_eqb, false≢true}
 use Rattle.std.proofs.lemmas.List.Elements.{All-nil, All-cons, All-head, All-tail}
 use Rattle.mail_model.specs.Lines.{HasNoCrlf, sent_line, ends_in_crlf, closed}
 use Rattle.mail_model.specs.Smtp.{stored_text}
-use Rattle.mail_model.specs.PopReplies.{one_line, octets_text, dotted_line, last_line}
+use Rattle.mail_model.specs.PopReplies.{one_line, shown_part, shown_text, dotted_line, last_line}
 use Rattle.mail_model.specs.Maildrop.{wrong_text, entered_text, gone_text, later_text, bye_text, remaining_text}
 use Rattle.mail_model.proofs.ShownFiled.{sent_ends}
-use Rattle.session_model.specs.Calls.{EachAnswerHasReply, ShowsPart, unstored_text}
+use Rattle.session_model.specs.Calls.{EachAnswerHasReply, ShowsPart, asked_lines, unstored_text}
 use Rattle.session_model.specs.Calls.Call.{Deliver, Login, Fetch, Strike}
 use Rattle.session_model.specs.Calls.Answer.{Stored, Listed, Wrong, Part, GoneAlready, Dropped, Failed}
 
@@ -90,20 +90,20 @@ closed_lines octets = by_test octets (nat_eq (length octets) 0 || ends_in_crlf o
     by_test text true is = either text is
     by_test text false is = ended_lines (sent_line text) (sent_ends text)
 
-part_reply : (octets : List ℕ) → (reply : List (List ℕ)) × ShowsPart octets reply
-part_reply octets =
-    let cut = closed_lines octets in
-    (octets_text (length octets) ∷ map dotted_line cut.lines ++ last_line, record { lines = cut.lines; are = cut.whole; whole = cut.are; says = refl })
+part_reply : (asked : Option ℕ) (octets : List ℕ) → (reply : List (List ℕ)) × ShowsPart asked octets reply
+part_reply asked octets =
+    let cut = closed_lines (shown_part asked octets) in
+    (shown_text asked (length octets) ∷ map dotted_line cut.lines ++ last_line, record { lines = cut.lines; are = cut.whole; whole = cut.are; says = refl })
 
 pub each_answer_has_reply : EachAnswerHasReply
-each_answer_has_reply (Deliver mail) (Stored id) is = (one_line stored_text, refl)
-each_answer_has_reply (Deliver mail) Failed is = (one_line unstored_text, refl)
-each_answer_has_reply (Login user secret) (Listed items) is = (one_line entered_text, refl)
-each_answer_has_reply (Login user secret) Wrong is = (one_line wrong_text, refl)
-each_answer_has_reply (Login user secret) Failed is = (one_line later_text, refl)
-each_answer_has_reply (Fetch user id) (Part octets) is = part_reply octets
-each_answer_has_reply (Fetch user id) GoneAlready is = (one_line gone_text, refl)
-each_answer_has_reply (Fetch user id) Failed is = (one_line later_text, refl)
-each_answer_has_reply (Strike user ids) Dropped is = (one_line bye_text, refl)
-each_answer_has_reply (Strike user ids) Failed is = (one_line remaining_text, refl)
-each_answer_has_reply call answer is = absurd is
+each_answer_has_reply unit (Deliver mail) (Stored id) is = ((one_line stored_text, refl), (one_line stored_text, refl))
+each_answer_has_reply unit (Deliver mail) Failed is = ((one_line unstored_text, refl), (one_line unstored_text, refl))
+each_answer_has_reply unit (Login user secret) (Listed items) is = ((one_line entered_text, refl), (one_line entered_text, refl))
+each_answer_has_reply unit (Login user secret) Wrong is = ((one_line wrong_text, refl), (one_line wrong_text, refl))
+each_answer_has_reply unit (Login user secret) Failed is = ((one_line later_text, refl), (one_line later_text, refl))
+each_answer_has_reply unit (Fetch user id) GoneAlready is = ((one_line gone_text, refl), (one_line gone_text, refl))
+each_answer_has_reply unit (Fetch user id) Failed is = ((one_line later_text, refl), (one_line later_text, refl))
+each_answer_has_reply unit (Strike user ids) Dropped is = ((one_line bye_text, refl), (one_line bye_text, refl))
+each_answer_has_reply unit (Strike user ids) Failed is = ((one_line remaining_text, refl), (one_line remaining_text, refl))
+each_answer_has_reply unit (Fetch user id) (Part octets) is = (part_reply None octets, part_reply (asked_lines unit) octets)
+each_answer_has_reply unit call answer is = absurd is

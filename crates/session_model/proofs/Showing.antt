@@ -10,20 +10,20 @@ use Rattle.mail_model.specs.Plan.{Plan}
 use Rattle.mail_model.specs.Lines.{closed, sent_line}
 use Rattle.mail_model.specs.Session.{Unit, undotted, is_long_line}
 use Rattle.mail_model.specs.Session.Unit.{Line, Text}
-use Rattle.mail_model.specs.Pop.{Command, Fault, pop_command_of}
+use Rattle.mail_model.specs.Pop.{Command, Fault, pop_command_of, lines_asked}
 use Rattle.mail_model.specs.Pop.Command.{Uidl, Listing, Retr}
-use Rattle.mail_model.specs.PopReplies.{Item, ListingSlot, one_line, octets_text, dotted_line, last_line}
+use Rattle.mail_model.specs.PopReplies.{Item, ListingSlot, one_line, shown_part, shown_text, dotted_line, last_line}
 use Rattle.mail_model.specs.Maildrop.{Stage, LineOutcome, line_outcome, command_outcome, message_at, of_message, named_in, deleted_in, wrong_text, entered_text, later_text, bye_text, remaining_text}
 use Rattle.mail_model.specs.Maildrop.Stage.{Authorization, Transaction}
 use Rattle.mail_model.specs.Maildrop.LineOutcome.{Answered, Closed, AsksLogin, AsksMessage, AsksDeletion}
 use Rattle.mail_model.specs.Shown.{ShowsId, ShowsSize, ShowsOctets, is_good}
 use Rattle.mail_model.specs.Told.{IsUnit}
 use Rattle.mail_model.proofs.ShownSlots.{all_items, listed_all, deleted_all}
-use Rattle.mail_model.proofs.ShownReplies.{Message, Fits, AsksNothing, items_for, exchange, bad_fits, quiet}
+use Rattle.mail_model.proofs.ShownReplies.{Message, Fits, AsksNothing, fetched_number, items_for, exchange, bad_fits, quiet}
 use Rattle.mail_model.proofs.ShownReplies as shown
 use Rattle.mail_model.proofs.ShownOutcomes.{LeadsBefore, LeadsBehind, before, behind, undotted_all}
 use Rattle.mail_model.specs.Tape.Protocol.{Pop}
-use Rattle.session_model.specs.Calls.{Answer}
+use Rattle.session_model.specs.Calls.{Answer, asked_lines}
 use Rattle.session_model.specs.Calls.Call.{Login, Fetch, Strike}
 use Rattle.session_model.specs.Calls.Answer.{Listed, Wrong, Part, GoneAlready, Dropped, Failed}
 use Rattle.session_model.specs.Talk.{TalkState, Exchange, Standing, IsNext, IsLed, Awaits, opening_state, line_lead, lead_of, stands, stands_by, standing_asked}
@@ -155,17 +155,26 @@ waits_shown items line one unit_is none unanswered =
     no_text : (n : ℕ) (octets : List ℕ) → ShowsOctets n octets (exchange line []) → ⊥
     no_text n octets shows = let e = shows.reply in cc
 
--- RETR that was answered with a part
+-- a command that fetches a message asks for no ids and no sizes
+fetch_no_uidl : (r : Result Command Fault) (n : ℕ) (number : Option ℕ) → fetched_number r ≡ Some n → r ≡ Ok (Uidl number) → ⊥
+fetch_no_uidl r n number is e = none-some n (ap fetched_number (sym e) ∙ is)
+
+fetch_no_listing : (r : Result Command Fault) (n : ℕ) (number : Option ℕ) → fetched_number r ≡ Some n → r ≡ Ok (Listing number) → ⊥
+fetch_no_listing r n number is e = none-some n (ap fetched_number (sym e) ∙ is)
+
+-- RETR or TOP that was answered with a part
 part_shown : (items : List Item) (line : List ℕ) (number : ℕ) (item : Item) (user octets : List ℕ) (lines : List (List ℕ)) (one : Exchange) → one.unit ≡ Line line
-    → pop_command_of line ≡ Ok (Retr number) → numbered items number ≡ Some item → one.call ≡ Some (Fetch user item.id) → one.answer ≡ Some (Part octets)
-    → flat_map sent_line lines ≡ closed octets → one.reply ≡ octets_text (length octets) ∷ map dotted_line lines ++ last_line → ShowsListed items one
-part_shown items line number item user octets lines one unit_is retr at call told whole says = record {
+    → fetched_number (pop_command_of line) ≡ Some number → numbered items number ≡ Some item → one.call ≡ Some (Fetch user item.id) → one.answer ≡ Some (Part octets)
+    → flat_map sent_line lines ≡ closed (shown_part (asked_lines one.unit) octets)
+    → one.reply ≡ shown_text (asked_lines one.unit) (length octets) ∷ map dotted_line lines ++ last_line → ShowsListed items one
+part_shown items line number item user octets lines one unit_is fetches at call told whole says = record {
   listed = λ others is. let clash : Some (Listed others) ≡ Some (Part octets) = sym is ∙ told in cc;
-  ids = λ n text small shows. absurd (⊎_elim (λ all. other_ids None (sym retr_seen ∙ all.0)) (λ one. other_ids (Some n) (sym retr_seen ∙ one.0)) shows);
-  sizes = λ n text small shows. absurd (⊎_elim (λ all. other_sizes None (sym retr_seen ∙ all.0)) (λ one. other_sizes (Some n) (sym retr_seen ∙ one.0)) shows);
+  ids = λ n text small shows. absurd (⊎_elim (fetch_no_uidl _ number None seen) (fetch_no_uidl _ number (Some n) seen) (⊎_firsts shows));
+  sizes = λ n text small shows. absurd (⊎_elim (fetch_no_listing _ number None seen) (fetch_no_listing _ number (Some n) seen) (⊎_firsts shows));
   texts = λ n shown_octets shows.
-      let both : Ok (Retr number) ≡ Ok (Retr n) = sym retr_seen ∙ shows.asked in
+      let both : Some number ≡ Some n = sym seen ∙ ap fetched_number shows.asked in
       let numbers : number ≡ n = cc in
+      let asked : asked_lines one.unit ≡ None = asked_is one.unit shows.asked in
       let body : map dotted_line lines ++ last_line ≡ shows.lines ++ last_line = ap (drop 1) (sym says ∙ shows.reply) in
       let are : map dotted_line lines ≡ shows.lines = append_cancel_right _ _ last_line body in
       record {
@@ -175,18 +184,20 @@ part_shown items line number item user octets lines one unit_is retr at call tol
         part = octets;
         asked = call;
         told = told;
-        same = shows.undots ∙ ap undotted (sym are) ∙ undotted_all lines ∙ whole;
+        same = shows.undots ∙ ap undotted (sym are) ∙ undotted_all lines ∙ whole ∙ ap (λ (a : Option ℕ). closed (shown_part a octets)) asked;
       };
 }
   where
-    retr_seen : pop_command_of (line_of one.unit) ≡ Ok (Retr number)
-    retr_seen = ap (λ (u : Unit). pop_command_of (line_of u)) unit_is ∙ retr
+    seen : fetched_number (pop_command_of (line_of one.unit)) ≡ Some number
+    seen = ap (λ (u : Unit). fetched_number (pop_command_of (line_of u))) unit_is ∙ fetches
 
-    other_ids : (number_too : Option ℕ) → ◌≡◌ {A = Result Command Fault} (Ok (Retr number)) (Ok (Uidl number_too)) → ⊥
-    other_ids number_too e = cc
+    asked_is : (unit : Unit) {n : ℕ} → pop_command_of (line_of unit) ≡ Ok (Retr n) → asked_lines unit ≡ None
+    asked_is (Line line) retr = ap lines_asked retr
+    asked_is (Text lines) retr = refl
 
-    other_sizes : (number_too : Option ℕ) → ◌≡◌ {A = Result Command Fault} (Ok (Retr number)) (Ok (Listing number_too)) → ⊥
-    other_sizes number_too e = cc
+    ⊎_firsts : {A B C D : Type 0} → (A × B) ⊎ (C × D) → A ⊎ C
+    ⊎_firsts (inl both) = inl both.0
+    ⊎_firsts (inr both) = inr both.0
 
 -- a line that asks for nothing
 quiet_shown : (items : List Item) (line text : List ℕ) (one : Exchange) → one.unit ≡ Line line → AsksNothing (pop_command_of line) → one.reply ≡ one_line text
@@ -233,7 +244,7 @@ module _ (plan : Plan) (named : Option (List ℕ)) (been : List Exchange) (so_fa
   not_listed none items others listed = absurd (none-some (Listed others) (sym none ∙ listed))
 
   -- a login
-  login_shown : (name secret : List ℕ) → AsksNothing (pop_command_of line) → one.call ≡ Some (Login name secret) → (answer : Option Answer) → one.answer ≡ answer → Awaits (Login name secret) answer one.reply
+  login_shown : (name secret : List ℕ) → AsksNothing (pop_command_of line) → one.call ≡ Some (Login name secret) → (answer : Option Answer) → one.answer ≡ answer → Awaits one.unit (Login name secret) answer one.reply
       → ShowsSoFar (standing_asked (Entering (named_in line)) (Login name secret) answer) (been ++ one ∷ [])
   login_shown name secret nothing call None there says =
       ([], inl refl, each_more (ShowsListed []) been one (so_far []) (waits_shown [] line one is says there))
@@ -290,8 +301,8 @@ module _ (plan : Plan) (user : List ℕ) (slots : List ListingSlot) (been : List
   never_listed answer there never others listed = absurd (never others (sym there ∙ listed))
 
   -- RETR
-  fetch_shown : (number : ℕ) (id : Id) → pop_command_of line ≡ Ok (Retr number) → (message : Message) → shown.numbered (map sized (all_items slots)) number ≡ Some message
-      → message.id ≡ id → one.call ≡ Some (Fetch user id) → (answer : Option Answer) → one.answer ≡ answer → Awaits (Fetch user id) answer one.reply
+  fetch_shown : (number : ℕ) (id : Id) → fetched_number (pop_command_of line) ≡ Some number → (message : Message) → shown.numbered (map sized (all_items slots)) number ≡ Some message
+      → message.id ≡ id → one.call ≡ Some (Fetch user id) → (answer : Option Answer) → one.answer ≡ answer → Awaits one.unit (Fetch user id) answer one.reply
       → ShowsSoFar (standing_asked (Reading user (deleted_in slots line)) (Fetch user id) answer) (been ++ one ∷ [])
   fetch_shown number id retr message at same call None there says = ends_with (waits_shown (all_items slots) line one is says there)
   fetch_shown number id retr message at same call (Some (Part octets)) there says =
@@ -305,7 +316,7 @@ module _ (plan : Plan) (user : List ℕ) (slots : List ListingSlot) (been : List
   fetch_shown number id retr message at same call (Some answer) there says = absurd says
 
   -- QUIT
-  strike_shown : (ids : List Id) → AsksNothing (pop_command_of line) → (answer : Option Answer) → one.answer ≡ answer → Awaits (Strike user ids) answer one.reply
+  strike_shown : (ids : List Id) → AsksNothing (pop_command_of line) → (answer : Option Answer) → one.answer ≡ answer → Awaits one.unit (Strike user ids) answer one.reply
       → ShowsSoFar (standing_asked (Reading user (deleted_in slots line)) (Strike user ids) answer) (been ++ one ∷ [])
   strike_shown ids nothing None there says = ends_with (waits_shown (all_items slots) line one is says there)
   strike_shown ids nothing (Some Dropped) there says =

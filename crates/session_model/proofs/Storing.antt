@@ -1,5 +1,5 @@
 -- What sessions that take mail show their clients.
-use Rattle.std.proofs.Common.{◌≡◌, ⊎_elim, ℕ, Bool, false, List, [], ◌∷◌, ◌++◌, drop, length, map, refl, sym, ap, ◌∙◌, subst, arith}
+use Rattle.std.proofs.Common.{◌≡◌, ⊎_elim, ℕ, Bool, false, List, [], ◌∷◌, ◌++◌, drop, length, map, refl, sym, ap, ap₂, ◌∙◌, subst, arith}
 use Rattle.std.proofs.lemmas.List.Concat.{flat_map-append}
 use Rattle.mail_model.specs.Plan.{Plan}
 use Rattle.mail_model.specs.Tape.{Protocol}
@@ -27,24 +27,34 @@ last_lines node EndedByQuit = refl
 last_lines node EndedDown = refl
 last_lines node EndedClosed = refl
 
--- a part of a short reply that is not all of it is nothing
-no_part : (reply part missing : List (List ℕ)) → IsShort reply → reply ≡ part ++ missing → (missing ≡ [] → ⊥) → part ≡ []
-no_part reply [] missing short cut some = refl
-no_part reply (line ∷ part) missing short cut some = absurd (⊎_elim
-    (λ none. let e : [] ≡ line ∷ (part ++ missing) = sym none ∙ cut in cc)
-    (λ one. let e : one.0 ∷ [] ≡ line ∷ (part ++ missing) = sym one.1 ∙ cut in
-    let later : [] ≡ part ++ missing = cc in some (behind part missing later)) short)
+-- a part of a short reply that is not all of it has no such line
+front_of : (front part missing : List (List ℕ)) (line : List ℕ) → front ++ line ∷ [] ≡ part ++ missing → (missing ≡ [] → ⊥) → (more : List (List ℕ)) × (front ≡ part ++ more)
+front_of front [] missing line cut some = (front, refl)
+front_of [] (x ∷ part) missing line cut some = let later : [] ≡ part ++ missing = cc in absurd (some (behind part missing later))
   where
     behind : (a b : List (List ℕ)) → [] ≡ a ++ b → b ≡ []
     behind [] b e = sym e
     behind (x ∷ a) b e = cc
+front_of (y ∷ front) (x ∷ part) missing line cut some =
+    let first : y ≡ x = cc in
+    let later : front ++ line ∷ [] ≡ part ++ missing = cc in
+    let rest = front_of front part missing line later some in
+    (rest.0, ap₂ ◌∷◌ first rest.1)
+
+no_part : (reply part missing : List (List ℕ)) → IsShort reply → reply ≡ part ++ missing → (missing ≡ [] → ⊥) → stored_lines part ≡ 0
+no_part reply part missing short cut some = ⊎_elim
+    (λ none. let both = lines_both part missing in omega (arith, both, ap stored_lines (sym none ∙ cut)))
+    (λ one.
+    let front = front_of one.0 part missing one.1 (sym one.2 ∙ cut) some in
+    let both = lines_both part front.0 in
+    omega (arith, both, one.3, ap stored_lines front.1)) short
 
 -- so what a client got in part is none
 part_lines : (plan : Plan) (node : ℕ) (octets : List ℕ) (whole others : List Exchange) (before : Standing) (rest : List ℕ) (standing : Standing) (part missing : List (List ℕ))
     → TalkGoes plan node (Hearing (opening_state Smtp)) octets (whole ++ others) before rest → IsCut others (farewell Smtp node standing) part missing → stored_lines part ≡ 0
 part_lines plan node octets whole [] before rest standing part missing g cut = front_lines part missing (farewell Smtp node standing) cut (last_lines node standing)
 part_lines plan node octets whole (one ∷ []) before rest standing part missing g cut =
-    ap stored_lines (no_part one.reply part missing (of_mail plan node octets whole [] one before rest g).0 cut.0 cut.1)
+    no_part one.reply part missing (of_mail plan node octets whole [] one before rest g).0 cut.0 cut.1
 part_lines plan node octets whole (one ∷ other ∷ more) before rest standing part missing g cut = absurd cut
 
 -- the messages of two lists of exchanges

@@ -9,7 +9,7 @@ use Rattle.mail_model.specs.Tape.{Protocol}
 use Rattle.mail_model.specs.Tape.Protocol.{Smtp, Pop}
 use Rattle.mail_model.specs.Told.{Mail, IsUnit, HasNoUnit, told_in, told_from}
 use Rattle.mail_model.proofs.Units.{one_unit}
-use Rattle.session_model.specs.Talk.{TalkState, Exchange, Standing, TalkGoes, in_text, opening_state, first_line, lead_of, stands_by}
+use Rattle.session_model.specs.Talk.{TalkState, Exchange, Standing, TalkGoes, in_text, opening_state, closing_line, lead_of, stands_by}
 use Rattle.session_model.specs.Talk.Standing.{Hearing, Waiting, EndedByQuit, EndedDown, EndedClosed}
 use Rattle.session_model.specs.Talk.TalkState.{Mailing, Entering, Reading}
 use Rattle.session_model.specs.Mailing.{pairs}
@@ -20,9 +20,9 @@ use Rattle.session_model.proofs.Cuts.{goes_front}
 use Rattle.session_model.proofs.Replying.{Speaks, IsWhole, some_reply, next_replied}
 use Rattle.session_model.proofs.Readings.{SpeaksAt, next_behind, waits_last, one_reading}
 
--- a unit with the first line of its reply
+-- a unit with the last line of its reply
 abbrev told_pair : Unit × List (List ℕ) → Unit × List ℕ
-told_pair seen = (seen.0, first_line seen.1)
+told_pair seen = (seen.0, closing_line seen.1)
 
 -- nothing was told by a unit that has no reply
 told_none : (plan : Plan) (talk : Told) (unit : Unit) → told_from plan talk ((unit, []) ∷ []) ≡ []
@@ -34,25 +34,25 @@ told_views : (plan : Plan) (node : ℕ) (talk : Told) (first : Standing) → Spe
     → TalkGoes plan node first octets xs last rest → told_from plan talk (pairs xs) ≡ told_from plan talk (map told_pair (views xs))
 told_views plan node talk first speaks octets [] last rest goes = refl
 told_views plan node talk (Hearing state) speaks octets (one ∷ xs) last rest (left, next, goes) =
-    by_reply (told_views plan node (after_unit plan talk one.unit (first_line one.reply)) (stands_by plan node state one) (next_behind plan node Smtp state octets left one speaks next).speaks
+    by_reply (told_views plan node (after_unit plan talk one.unit (closing_line one.reply)) (stands_by plan node state one) (next_behind plan node Smtp state octets left one speaks next).speaks
     left xs last rest goes) one.reply refl
   where
     alone : (reply : List (List ℕ)) → one.reply ≡ reply → xs ≡ [] → reply ≡ [] → told_from plan talk (pairs (one ∷ xs)) ≡ told_from plan talk (map told_pair (views (one ∷ xs)))
     alone reply is none empty =
         ap (λ (l : List Exchange). told_from plan talk (pairs (one ∷ l))) none
-        ∙ ap (λ (r : List (List ℕ)). told_from plan talk ((one.unit, first_line r) ∷ [])) (is ∙ empty) ∙ told_none plan talk one.unit
+        ∙ ap (λ (r : List (List ℕ)). told_from plan talk ((one.unit, closing_line r) ∷ [])) (is ∙ empty) ∙ told_none plan talk one.unit
         ∙ sym (ap (λ (l : List Exchange). told_from plan talk (map told_pair (views (one ∷ l)))) none
         ∙ ap (λ (r : List (List ℕ)). told_from plan talk (map told_pair (view one.unit r ++ []))) (is ∙ empty))
 
-    by_reply : told_from plan (after_unit plan talk one.unit (first_line one.reply)) (pairs xs) ≡ told_from plan (after_unit plan talk one.unit (first_line one.reply)) (map told_pair (views xs))
+    by_reply : told_from plan (after_unit plan talk one.unit (closing_line one.reply)) (pairs xs) ≡ told_from plan (after_unit plan talk one.unit (closing_line one.reply)) (map told_pair (views xs))
         → (reply : List (List ℕ)) → one.reply ≡ reply → told_from plan talk (pairs (one ∷ xs)) ≡ told_from plan talk (map told_pair (views (one ∷ xs)))
     by_reply later [] is = ⊎_elim
         (λ waits. alone [] is (waits_last plan node state one waits.2.0 (lead_of plan node state one.unit) next.led waits.2.1 waits.1 left xs last rest goes) refl)
         (λ whole. absurd (some_reply Smtp node one.unit (subst (IsWhole Smtp node one.unit) is whole)))
         (next_replied plan node Smtp state octets left one speaks next)
     by_reply later (line ∷ lines) is =
-        ap (λ (l : List Mail). told_in talk one.unit (first_line one.reply) ++ l) later
-        ∙ ap (λ (r : List (List ℕ)). told_in talk one.unit (first_line r) ++ told_from plan (after_unit plan talk one.unit (first_line r)) (map told_pair (views xs))) is
+        ap (λ (l : List Mail). told_in talk one.unit (closing_line one.reply) ++ l) later
+        ∙ ap (λ (r : List (List ℕ)). told_in talk one.unit (closing_line r) ++ told_from plan (after_unit plan talk one.unit (closing_line r)) (map told_pair (views xs))) is
         ∙ sym (ap (λ (r : List (List ℕ)). told_from plan talk (map told_pair (view one.unit r ++ views xs))) is)
 told_views plan node talk (Waiting state call) speaks octets (one ∷ xs) last rest goes = absurd goes
 told_views plan node talk EndedByQuit speaks octets (one ∷ xs) last rest goes = absurd goes

@@ -11,7 +11,7 @@ use Rattle.mail_model.specs.Transcript.{closed_event}
 use Rattle.mail_model.specs.Transcript.{said_lines}
 use Rattle.mail_model.specs.Told.{sent, fed_to}
 use Rattle.mail_model.specs.Stored.{opened}
-use Rattle.session_model.specs.Calls.{Call, Answer, IsReply}
+use Rattle.session_model.specs.Calls.{Call, Answer, RepliesTo}
 use Rattle.session_model.specs.Calls.Answer.{Failed}
 use Rattle.session_model.specs.Events.{ClusterEvent, event_entries, fault_event}
 use Rattle.session_model.specs.Talk.{TalkState, Exchange, Standing, IsNext, IsOn, opening_state, stands_by, answered, down_line}
@@ -32,7 +32,7 @@ pub data Deed : Type 0 where
 abbrev pub WasAnswered : Session → Call → Answer → List (List ℕ) → List (List ℕ) → Session → Type 0
 WasAnswered old call answer reply said new =
     (before : List Exchange) × (one : Exchange) × (state : TalkState) × (old.whole ≡ before ++ one ∷ []) × (old.standing ≡ Waiting state call)
-    × IsReply call answer reply × (said ≡ reply)
+    × RepliesTo one.unit call answer reply × (said ≡ reply)
     × (new ≡ record old { whole = before ++ with_answer one answer reply ∷ []; standing = answered state call answer })
 
 -- How it then is, and the lines that it says. A call that is given up is answered as one that failed.

@@ -11,7 +11,7 @@ use Rattle.mail_model.specs.Told.{Mail, Answers, told_from, mail_of}
 use Rattle.session_model.specs.Calls.{Call, Answer}
 use Rattle.session_model.specs.Calls.Call.{Deliver}
 use Rattle.session_model.specs.Calls.Answer.{Stored}
-use Rattle.session_model.specs.Talk.{Exchange, Standing, TalkGoes, opening_state, first_line, replies}
+use Rattle.session_model.specs.Talk.{Exchange, Standing, TalkGoes, opening_state, closing_line, replies}
 use Rattle.session_model.specs.Talk.Standing.{Hearing}
 
 -- a message that a node says is stored, under this id
@@ -28,9 +28,9 @@ filing_of call answer = []
 abbrev pub filings : List Exchange → List StoredMail
 filings exchanges = flat_map (λ one. filing_of one.call one.answer) exchanges
 
--- each unit with its reply
+-- each unit with the last line of its reply
 abbrev pub pairs : List Exchange → List (Unit × List ℕ)
-pairs exchanges = map (λ one. (one.unit, first_line one.reply)) exchanges
+pairs exchanges = map (λ one. (one.unit, closing_line one.reply)) exchanges
 
 -- how many of these lines are `250 stored`
 abbrev pub stored_lines : List (List ℕ) → ℕ

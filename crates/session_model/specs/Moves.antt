@@ -2,7 +2,7 @@
 use Rattle.std.specs.Prelude.{◌≡◌, ℕ, List, [], ◌∷◌, ◌++◌, flat_map, Option, Some, None}
 use Rattle.mail_model.specs.Plan.{Plan}
 use Rattle.mail_model.specs.Tape.{Protocol}
-use Rattle.session_model.specs.Calls.{Call, Answer, IsReply}
+use Rattle.session_model.specs.Calls.{Call, Answer, RepliesTo}
 use Rattle.session_model.specs.Talk.{TalkState, Exchange, Standing, IsNext, IsTalk, IsOn, IsIdle, TalkGoes, opening_state, stands_by, answered}
 use Rattle.session_model.specs.Talk.Standing.{Hearing, Waiting, EndedDown, EndedClosed}
 
@@ -29,7 +29,7 @@ with_answer one answer reply = record one { answer = Some answer; reply = reply 
 abbrev pub IsAnswered : Type 0
 IsAnswered = (plan : Plan) (node : ℕ) (protocol : Protocol) (octets rest : List ℕ) (exchanges : List Exchange) (state : TalkState) (call : Call) (one : Exchange)
     (answer : Answer) (reply : List (List ℕ))
-    → IsTalk plan node protocol octets (exchanges ++ one ∷ []) (Waiting state call) rest → IsReply call answer reply
+    → IsTalk plan node protocol octets (exchanges ++ one ∷ []) (Waiting state call) rest → RepliesTo one.unit call answer reply
     → IsTalk plan node protocol octets (exchanges ++ with_answer one answer reply ∷ []) (answered state call answer) rest
 
 -- its node goes down

@@ -6,13 +6,13 @@ use Rattle.mail_model.specs.Tape.Protocol.{Smtp, Pop}
 use Rattle.mail_model.specs.Smtp as smtp
 use Rattle.mail_model.specs.PopReplies as pop
 use Rattle.mail_model.specs.PopReplies.{ListingSlot, one_line, listed_slots}
-use Rattle.mail_model.specs.Session.{Unit, Told, silent, reply_text, after_unit, is_quit_line, is_large}
+use Rattle.mail_model.specs.Session.{Unit, Told, silent, reply_text, reply_lines, after_unit, is_quit_line, is_large}
 use Rattle.mail_model.specs.Session.Unit.{Line, Text}
 use Rattle.mail_model.specs.Maildrop.{LineOutcome, line_outcome, named_in, deleted_in}
 use Rattle.mail_model.specs.Maildrop.Stage.{Authorization, Transaction}
 use Rattle.mail_model.specs.Maildrop.LineOutcome.{Answered, Closed, AsksLogin, AsksMessage, AsksDeletion}
 use Rattle.mail_model.specs.Told.{IsUnit, HasNoUnit, unit_octets, mail_of}
-use Rattle.session_model.specs.Calls.{Call, Answer, IsReply}
+use Rattle.session_model.specs.Calls.{Call, Answer, RepliesTo}
 use Rattle.session_model.specs.Calls.Call.{Deliver, Login, Fetch, Strike}
 use Rattle.session_model.specs.Calls.Answer.{Listed}
 
@@ -42,7 +42,7 @@ pub data Lead : Type 0 where
 -- in a session that takes mail
 abbrev pub mail_lead : Plan → ℕ → Told → Unit → Lead
 mail_lead plan node talk (Line line) =
-    if is_quit_line line then Ends (one_line (reply_text plan node talk (Line line))) else Says (one_line (reply_text plan node talk (Line line)))
+    if is_quit_line line then Ends (reply_lines plan node talk line) else Says (reply_lines plan node talk line)
 mail_lead plan node talk (Text lines) = if is_large lines then Says (one_line (reply_text plan node talk (Text lines))) else Asks (Deliver (mail_of talk lines))
 
 -- in one that reads mail as this user
@@ -69,15 +69,15 @@ pub record Exchange : Type 0 where
   pub reply : List (List ℕ)
 
 -- the reply comes with the answer
-abbrev pub Awaits : Call → Option Answer → List (List ℕ) → Type 0
-Awaits call None reply = reply ≡ []
-Awaits call (Some answer) reply = IsReply call answer reply
+abbrev pub Awaits : Unit → Call → Option Answer → List (List ℕ) → Type 0
+Awaits unit call None reply = reply ≡ []
+Awaits unit call (Some answer) reply = RepliesTo unit call answer reply
 
 -- the exchange is as its unit leads to
 abbrev pub IsLed : Lead → Exchange → Type 0
 IsLed (Says reply) one = (one.call ≡ None) × (one.answer ≡ None) × (one.reply ≡ reply)
 IsLed (Ends reply) one = (one.call ≡ None) × (one.answer ≡ None) × (one.reply ≡ reply)
-IsLed (Asks call) one = (one.call ≡ Some call) × Awaits call one.answer one.reply
+IsLed (Asks call) one = (one.call ≡ Some call) × Awaits one.unit call one.answer one.reply
 
 -- How a session stands: it hears its next unit; it waits for the answer to a call, with what it was told before; or it has ended, by QUIT, as its node went
 -- down, or since its client closed it.
@@ -88,14 +88,15 @@ pub data Standing : Type 0 where
   EndedDown : Standing
   EndedClosed : Standing
 
--- the first line of a reply
-abbrev pub first_line : List (List ℕ) → List ℕ
-first_line [] = []
-first_line (line ∷ lines) = line
+-- the last line of a reply
+abbrev pub closing_line : List (List ℕ) → List ℕ
+closing_line [] = []
+closing_line (line ∷ []) = line
+closing_line (line ∷ other ∷ lines) = closing_line (other ∷ lines)
 
 -- what a session was told once the unit was heard
 abbrev pub heard : Plan → TalkState → Unit → List (List ℕ) → TalkState
-heard plan (Mailing talk) unit reply = Mailing (after_unit plan talk unit (first_line reply))
+heard plan (Mailing talk) unit reply = Mailing (after_unit plan talk unit (closing_line reply))
 heard plan (Entering named) (Line line) reply = Entering (named_in line)
 heard plan (Reading user slots) (Line line) reply = Reading user (deleted_in slots line)
 heard plan (Entering named) (Text lines) reply = Entering named

@@ -10,5 +10,5 @@ use Rattle.smtp_session.specs.Hears.{HearsLine}
 
 pub closes : (plan : Plan) (talk new : Told) (line : List ℕ) (reply : Reply) (quits : Bool) → is_quit (command_of line) ≡ quits → is_long_line line ≡ false
     → DoesCommand plan talk (command_of line) reply new → HearsLine plan talk line (cond quits (Ends reply) (GoesOn reply)) new
-closes plan talk new line reply true is short did = (rw (short, is) refl, λ n. rw short (did n))
-closes plan talk new line reply false is short did = (rw (short, is) refl, λ n. rw short (did n))
+closes plan talk new line reply true is short did = (rw (short, is) refl, λ n. let at = did n in (rw short at.0, rw short at.1, rw short at.2))
+closes plan talk new line reply false is short did = (rw (short, is) refl, λ n. let at = did n in (rw short at.0, rw short at.1, rw short at.2))

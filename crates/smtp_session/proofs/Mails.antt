@@ -21,18 +21,15 @@ pub small_text : (text : List ℕ × Bool) (lines : List (List ℕ)) → (text.1
 small_text (octets, true) lines small is = cc
 small_text (octets, false) lines small is = (is, ap (λ (l : List ℕ). nat_lt 16777216 (length l)) (sym is) ∙ small)
 
--- no session was greeted by EHLO
-not_extended : (greeting : Option Greeting) → (unwrap_or (option_map greeting_seen greeting) unnamed).extended ≡ false
-not_extended None = refl
-not_extended (Some greeting) = refl
-
+-- a message
 abbrev mail : model.Envelope → List ℕ → Bool → List ℕ → Mail
 mail envelope helo extended text = record { sender = envelope.sender; helo = helo; extended = extended; mailboxes = envelope.mailboxes; text = text }
 
-pub mail_is : (told : Told) (lines : List (List ℕ)) (envelope : model.Envelope) (helo text : List ℕ) → envelope ≡ unwrap_or (talk_of told).envelope unaddressed
-    → helo ≡ (unwrap_or (talk_of told).greeting unnamed).name → text ≡ undotted lines → mail envelope helo false text ≡ mail_of (talk_of told) lines
-mail_is told lines envelope helo text of_envelope of_helo of_text =
-    ap (λ (e : model.Envelope). mail e helo false text) of_envelope
-    ∙ ap (λ (h : List ℕ). mail (unwrap_or (talk_of told).envelope unaddressed) h false text) of_helo
-    ∙ ap (λ (b : Bool). mail (unwrap_or (talk_of told).envelope unaddressed) (unwrap_or (talk_of told).greeting unnamed).name b text) (sym (not_extended told.greeting))
+pub mail_is : (told : Told) (lines : List (List ℕ)) (envelope : model.Envelope) (helo text : List ℕ) (extended : Bool) → envelope ≡ unwrap_or (talk_of told).envelope unaddressed
+    → helo ≡ (unwrap_or (talk_of told).greeting unnamed).name → extended ≡ (unwrap_or (talk_of told).greeting unnamed).extended → text ≡ undotted lines
+    → mail envelope helo extended text ≡ mail_of (talk_of told) lines
+mail_is told lines envelope helo text extended of_envelope of_helo of_extended of_text =
+    ap (λ (e : model.Envelope). mail e helo extended text) of_envelope
+    ∙ ap (λ (h : List ℕ). mail (unwrap_or (talk_of told).envelope unaddressed) h extended text) of_helo
+    ∙ ap (λ (b : Bool). mail (unwrap_or (talk_of told).envelope unaddressed) (unwrap_or (talk_of told).greeting unnamed).name b text) of_extended
     ∙ ap (λ (t : List ℕ). mail (unwrap_or (talk_of told).envelope unaddressed) (unwrap_or (talk_of told).greeting unnamed).name (unwrap_or (talk_of told).greeting unnamed).extended t) of_text

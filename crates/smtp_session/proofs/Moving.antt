@@ -26,7 +26,7 @@ use Rattle.smtp_session.specs.declared.told.Heard.{Heard}
 use Rattle.smtp_session.specs.declared.told.Heard.TheVariants.{GoesOn, Ends}
 use Rattle.smtp_session.specs.declared.reply.Reply.{Reply}
 use Rattle.smtp_session.specs.declared.reply.Reply.TheVariants.{LineTooLong, Down}
-use Rattle.smtp_session.specs.Replies.{text_of}
+use Rattle.smtp_session.specs.Replies.{text_of, octets_of}
 use Rattle.smtp_session.specs.Texts.{IsGivenText}
 use Rattle.smtp_session.specs.Talks.{talk_of}
 use Rattle.smtp_session.specs.Hears.{HearsLine, reply_in}
@@ -96,7 +96,7 @@ module _ (plan : Plan) (node : ℕ) (told : Told) (undotter : Undotter) (text : 
 
   pub moved_short : (count : ℕ) → Finds old (Whole count) old → new ≡ behind_line old (Whole count) → (heard : Heard) (later : Told) (now : Turn)
       → (old.limit ≡ 1024 → is_long_line (take count old.rest) ≡ false → HearsLine plan (talk_of told) (take count old.rest) heard (talk_of later)) → Turns heard now
-      → Moved plan (session node turn.Hears told old undotter text) Said (sent_line (text_of (reply_in heard) node)) (session node now later new undotter text)
+      → Moved plan (session node turn.Hears told old undotter text) Said (octets_of (reply_in heard) node) (session node now later new undotter text)
   moved_short count finds is heard later now hears turns =
       said plan node told later old new undotter text turn.Hears now _ (hears_short plan node told undotter text outside old new count finds is heard later now hears turns)
       (omega (arith, less_behind (Whole count) finds is, none_due heard now turns)) (omega (arith, less_behind (Whole count) finds is, none_due heard now turns))

@@ -1,5 +1,5 @@
 -- What a session follows after a line, after octets of a text, and after what it had to say.
-use Rattle.std.proofs.Common.{◌≡◌, ◌<◌, ◌≤◌, ◌+◌, ℕ, Bool, true, false, cond, List, [], ◌∷◌, ◌++◌, length, take, Some, None, refl, sym, ap, ap₂, subst, ◌∙◌, arith}
+use Rattle.std.proofs.Common.{◌≡◌, ◌<◌, ◌≤◌, ◌+◌, ℕ, Bool, true, false, cond, List, [], ◌∷◌, ◌++◌, length, take, flat_map, append_assoc, Some, None, refl, sym, ap, ap₂, subst, ◌∙◌, arith}
 use Rattle.std.proofs.lemmas.List.{append-nil, length-append}
 use Rattle.std.proofs.lemmas.Bool.{lt-ltb, le-ltb}
 use Rattle.mail_model.specs.Lines.{HasNoCrlf, sent_line}
@@ -15,6 +15,7 @@ use Rattle.session_model.specs.Talk.{Exchange, Standing, Lead, IsNext, stands, s
 use Rattle.session_model.specs.Moves.{with_answer}
 use Rattle.session_model.specs.Talk as talks
 use Rattle.std.proofs.lemmas.List.Elements.{All-cons, All-nil}
+use Rattle.std.specs.Prelude.{All}
 use Rattle.session_model.specs.Talk.TalkState.{Mailing}
 use Rattle.session_model.specs.Talk.Standing.{Hearing, Waiting, EndedByQuit}
 use Rattle.session_model.specs.Sessions.{Session}
@@ -36,12 +37,12 @@ use Rattle.smtp_session.specs.declared.told.Heard.{Heard}
 use Rattle.smtp_session.specs.declared.told.Heard.TheVariants.{GoesOn, Ends}
 use Rattle.smtp_session.specs.declared.reply.Reply.{Reply}
 use Rattle.smtp_session.specs.declared.reply.Reply.TheVariants.{Ready, LineTooLong}
-use Rattle.smtp_session.specs.Replies.{text_of}
+use Rattle.smtp_session.specs.Replies.{text_of, front_of, octets_of}
 use Rattle.smtp_session.specs.Texts.{IsGivenText}
 use Rattle.smtp_session.specs.Talks.{talk_of}
-use Rattle.smtp_session.specs.Hears.{HearsLine, reply_in}
+use Rattle.smtp_session.specs.Hears.{HearsLine, RepliedToLine, reply_in}
 use Rattle.smtp_session.specs.Follows.{Follows, ReadsFed, Stands, Goes, IsDue, Turns}
-use Rattle.smtp_session.proofs.Lines.{all_one, one_line_of}
+use Rattle.smtp_session.proofs.Lines.{all_one, all_lines, one_line_of}
 use Rattle.smtp_session.proofs.Entered.{still_nobody, answered_nobody}
 
 abbrev pub session : ℕ → Turn → Told → Shown → Undotter → List ℕ × Bool → SmtpSession
@@ -93,40 +94,58 @@ module _ (cutter : Shown) (undotter : Undotter) (text : List ℕ × Bool) (rest 
   pub reads_behind : (line : Found) (later : Bool) → ReadsFed later (behind_line cutter line) undotter text (behind_line cutter line).rest
   reads_behind line later = begins later cutter.limit (behind_line cutter line).rest undotter text reads.limit undots_outside text_outside reads.short
 
+-- the last line of a reply
+closing : (front : List (List ℕ)) (line : List ℕ) → talks.closing_line (front ++ line ∷ []) ≡ line
+closing [] line = refl
+closing (x ∷ []) line = refl
+closing (x ∷ y ∷ front) line = closing (y ∷ front) line
+
+-- the octets of its lines
+sent_both : (front : List (List ℕ)) (line : List ℕ) → flat_map sent_line (front ++ line ∷ []) ≡ flat_map sent_line front ++ sent_line line
+sent_both [] line = append-nil (sent_line line)
+sent_both (x ∷ front) line = ap (λ (l : List ℕ). sent_line x ++ l) (sent_both front line) ∙ sym (append_assoc (sent_line x) (flat_map sent_line front) (sent_line line))
+
 -- A unit that asks nothing was heard, in a session that takes mail.
 module _ (plan : Plan) (plain : Session) (talk : model.Told) (unit : model.Unit) (more text octets : List ℕ) (follows : Session → Due → Type 0)
     (hearing : plain.standing ≡ Hearing (Mailing talk)) (is : IsUnit talk.in_text unit) (whole : plain.rest ≡ unit_octets unit ++ more) where
   abbrev pub standing_behind : Bool → Standing
   standing_behind quits = cond quits EndedByQuit (Hearing (Mailing (after_unit plan talk unit text)))
 
-  led : (quits : Bool) → IsLed (cond quits (talks.Lead.Ends (one_line text)) (talks.Lead.Says (one_line text))) (record { unit = unit; call = None; answer = None; reply = one_line text })
-  led true = (refl, refl, refl)
-  led false = (refl, refl, refl)
+  led : (front : List (List ℕ)) (quits : Bool) → IsLed (cond quits (talks.Lead.Ends (front ++ text ∷ [])) (talks.Lead.Says (front ++ text ∷ [])))
+      (record { unit = unit; call = None; answer = None; reply = front ++ text ∷ [] })
+  led front true = (refl, refl, refl)
+  led front false = (refl, refl, refl)
 
-  stood : (quits : Bool) → stands plan (Mailing talk) (record { unit = unit; call = None; answer = None; reply = one_line text }) (cond quits (talks.Lead.Ends (one_line text)) (talks.Lead.Says (one_line text)))
-      ≡ standing_behind quits
-  stood true = refl
-  stood false = refl
+  stood : (front : List (List ℕ)) (quits : Bool) → stands plan (Mailing talk) (record { unit = unit; call = None; answer = None; reply = front ++ text ∷ [] })
+      (cond quits (talks.Lead.Ends (front ++ text ∷ [])) (talks.Lead.Says (front ++ text ∷ []))) ≡ standing_behind quits
+  stood front true = refl
+  stood front false = ap (λ (t : List ℕ). Hearing (Mailing (after_unit plan talk unit t))) (closing front text)
 
-  pub heard_says : (quits : Bool) → lead_of plan plain.node (Mailing talk) unit ≡ cond quits (talks.Lead.Ends (one_line text)) (talks.Lead.Says (one_line text))
-      → HasNoCrlf text → octets ≡ sent_line text
+  pub heard_lines : (front : List (List ℕ)) (quits : Bool) → lead_of plan plain.node (Mailing talk) unit ≡ cond quits (talks.Lead.Ends (front ++ text ∷ [])) (talks.Lead.Says (front ++ text ∷ []))
+      → All HasNoCrlf (front ++ text ∷ []) → octets ≡ flat_map sent_line front ++ sent_line text
       → ((one : Exchange) → let_in one.call one.answer ≡ None → follows (record plain { whole = plain.whole ++ one ∷ []; standing = standing_behind quits; rest = more }) Nothing)
       → moves.HeardUnit follows plan plain None octets
-  heard_says quits leads line says goes_on =
-      let one : Exchange = record { unit = unit; call = None; answer = None; reply = one_line text } in
+  heard_lines front quits leads lines says goes_on =
+      let one : Exchange = record { unit = unit; call = None; answer = None; reply = front ++ text ∷ [] } in
       let Led : Lead → Type 0 = λ l. IsLed l one in
-      let next : IsNext plan plain.node (Mailing talk) plain.rest one more = record { is_unit = is; whole = whole; led = subst Led (sym leads) (led quits) } in
-      let now : stands_by plan plain.node (Mailing talk) one ≡ standing_behind quits = ap (stands plan (Mailing talk) one) leads ∙ stood quits in
+      let next : IsNext plan plain.node (Mailing talk) plain.rest one more = record { is_unit = is; whole = whole; led = subst Led (sym leads) (led front quits) } in
+      let now : stands_by plan plain.node (Mailing talk) one ≡ standing_behind quits = ap (stands plan (Mailing talk) one) leads ∙ stood front quits in
       let At : Standing → Type 0 = λ s. follows (record plain { whole = plain.whole ++ one ∷ []; standing = s; rest = more }) Nothing in
       record {
         one = one;
         after = record plain { whole = plain.whole ++ one ∷ []; standing = stands_by plan plain.node (Mailing talk) one; rest = more };
         did = (Mailing talk, more, hearing, next, refl, refl, refl);
         asks = refl;
-        says = says ∙ sym (append-nil (sent_line text));
-        lines = All-cons HasNoCrlf text [] line (All-nil HasNoCrlf);
+        says = says ∙ sym (sent_both front text);
+        lines = lines;
         goes_on = subst At (sym now) (goes_on one refl);
       }
+
+  pub heard_says : (quits : Bool) → lead_of plan plain.node (Mailing talk) unit ≡ cond quits (talks.Lead.Ends (one_line text)) (talks.Lead.Says (one_line text))
+      → HasNoCrlf text → octets ≡ sent_line text
+      → ((one : Exchange) → let_in one.call one.answer ≡ None → follows (record plain { whole = plain.whole ++ one ∷ []; standing = standing_behind quits; rest = more }) Nothing)
+      → moves.HeardUnit follows plan plain None octets
+  heard_says quits leads line says goes_on = heard_lines [] quits leads (All-cons HasNoCrlf text [] line (All-nil HasNoCrlf)) says goes_on
 
   -- a unit that asks was heard
   pub heard_asks : (asked : calls.Call) → lead_of plan plain.node (Mailing talk) unit ≡ talks.Lead.Asks asked → octets ≡ []
@@ -213,8 +232,8 @@ module _ (plan : Plan) (node : ℕ) (told : Told) (undotter : Undotter) (text : 
   -- a line was heard: this is its reply
   module _ (found : Found) (finds : Finds old found old) (is : new ≡ behind_line old found) (reply : Reply) (quits : Bool) (later : Told) (now : Turn) where
     pub hears_reply : ((line : List ℕ) → HasNoCrlf line → IsLine old found line → old.limit ≡ 1024 →
-        (is_quit_line line ≡ quits) × ((n : ℕ) → (text_of reply n ≡ reply_text plan n (talk_of told) (Line line)) × (talk_of later ≡ after_unit plan (talk_of told) (Line line) (reply_text plan n (talk_of told) (Line line)))))
-        → now ≡ cond quits turn.Ended turn.Hears → Goes plan before Said (sent_line (text_of reply node)) (session node now later new undotter text)
+        (is_quit_line line ≡ quits) × RepliedToLine plan (talk_of told) line reply (talk_of later))
+        → now ≡ cond quits turn.Ended turn.Hears → Goes plan before Said (octets_of reply node) (session node now later new undotter text)
     hears_reply means turns plain due follows =
         let reads = follows.reads in
         let gives = finds.gives reads.pending reads.pends in
@@ -222,13 +241,15 @@ module _ (plan : Plan) (node : ℕ) (told : Told) (undotter : Undotter) (text : 
         let rest_is = whole_outside old undotter text plain.rest told.in_text reads outside ∙ gives.octets in
         let says = (meaning.1 plain.node).0 in
         let told_is = (meaning.1 plain.node).1 in
-        let text_is : text_of reply plain.node ≡ text_of reply node = ap (text_of reply) follows.node in
+        let front = (meaning.1 plain.node).2 in
+        let octets_are : octets_of reply plain.node ≡ octets_of reply node = ap (octets_of reply) follows.node in
         let more : List ℕ = (behind_line old found).rest in
-        let leads : lead_of plan plain.node (Mailing (talk_of told)) (Line gives.line) ≡ cond quits (talks.Lead.Ends (one_line (text_of reply plain.node))) (talks.Lead.Says (one_line (text_of reply plain.node))) =
-        ap₂ (λ (b : Bool) (t : List ℕ). cond b (talks.Lead.Ends (one_line t)) (talks.Lead.Says (one_line t))) meaning.0 (sym says) in
+        let leads : lead_of plan plain.node (Mailing (talk_of told)) (Line gives.line) ≡ cond quits (talks.Lead.Ends (front_of reply plain.node ++ text_of reply plain.node ∷ [])) (talks.Lead.Says (front_of reply plain.node ++ text_of reply plain.node ∷ [])) =
+        ap₂ (λ (b : Bool) (l : List (List ℕ)). cond b (talks.Lead.Ends l) (talks.Lead.Says l)) meaning.0
+        (ap₂ (λ (f : List (List ℕ)) (t : List ℕ). f ++ t ∷ []) (sym front) (sym says)) in
         at_nothing _ _ plan plain due Said _ follows.stands.0
-        (heard_says plan plain (talk_of told) (Line gives.line) more (text_of reply plain.node) _ (Follows (session node now later new undotter text)) follows.stands.1 (is_line gives.line gives.first) rest_is
-        quits leads (one_line_of reply plain.node) (ap sent_line (sym text_is)) (λ one none. record {
+        (heard_lines plan plain (talk_of told) (Line gives.line) more (text_of reply plain.node) _ (Follows (session node now later new undotter text)) follows.stands.1 (is_line gives.line gives.first) rest_is
+        (front_of reply plain.node) quits leads (all_lines reply plain.node) (sym octets_are) (λ one none. record {
           speaks = follows.speaks;
           node = follows.node;
           others = follows.others;
@@ -247,12 +268,12 @@ module _ (plan : Plan) (node : ℕ) (told : Told) (undotter : Undotter) (text : 
   hears_long length finds is =
       hears_reply (Long length) finds is LineTooLong false told turn.Hears (λ line none kind limit.
       let long : is_long_line line ≡ true = is_long line old.limit limit kind in
-      (rw long refl, λ n. rw long (refl, refl))) refl
+      (rw long refl, λ n. rw long (refl, refl, refl))) refl
 
   -- and one that keeps the limit
   pub hears_short : (length : ℕ) → Finds old (Whole length) old → new ≡ behind_line old (Whole length) → (heard : Heard) (later : Told) (now : Turn)
       → (old.limit ≡ 1024 → is_long_line (take length old.rest) ≡ false → HearsLine plan (talk_of told) (take length old.rest) heard (talk_of later)) → Turns heard now
-      → Goes plan before Said (sent_line (text_of (reply_in heard) node)) (session node now later new undotter text)
+      → Goes plan before Said (octets_of (reply_in heard) node) (session node now later new undotter text)
   hears_short length finds is (GoesOn reply) later now hears turns =
       hears_reply (Whole length) finds is reply false later now (λ line none kind limit.
       let At : List ℕ → Type 0 = λ l. HearsLine plan (talk_of told) l (GoesOn reply) (talk_of later) in

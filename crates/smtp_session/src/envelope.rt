@@ -5,11 +5,13 @@ use crate::Reply;
 use mail_base::{Name, Names, NodeNo, Octets};
 use std::alloc::{AllocError, Global};
 
-/// What HELO said (RFC 5321, section 4.1.1.1).
+/// What HELO or EHLO said (RFC 5321, section 4.1.1.1).
 #[derive(Debug, Drop)]
 pub struct Greeting {
     /// The client's name for itself, 1 to 255 visible octets.
     pub name: Octets,
+    /// Whether the client said EHLO.
+    pub extended: bool,
     ghost short: { length name ≤ 255 },
 }
 
@@ -25,11 +27,10 @@ pub struct Envelope {
 }
 
 impl Envelope {
-    ghost use Rattle.std.specs.Prelude.{◌≡◌, ◌++◌, ℕ, Some, IfOk, OnErr, if◌then◌else◌};
-    ghost use Rattle.mail_model.specs.Lines.{sent_line};
+    ghost use Rattle.std.specs.Prelude.{◌≡◌, ◌++◌, [], ℕ, Some, IfOk, OnErr, if◌then◌else◌};
     ghost use Rattle.mail_model.specs.Session.{recipient_text, is_accepted, with_mailbox};
     ghost use Rattle.mail_model.specs.Told.{unaddressed};
-    ghost use Rattle.smtp_session.specs.Replies.{text_of};
+    ghost use Rattle.smtp_session.specs.Replies.{text_of, front_of, octets_of};
     ghost use Rattle.smtp_session.specs.Talks.{envelope_of};
 
     /// An envelope with no sender and no mailbox. It takes no memory.
@@ -57,7 +58,8 @@ impl Envelope {
     ) -> Result<Reply, AllocError>
         ensures ok { IfOk result (λ reply. (n : ℕ) → (text_of reply n ≡ recipient_text (Some mailbox) self.old.mailboxes)
             × (envelope_of self.new ≡ (if is_accepted (recipient_text (Some mailbox) self.old.mailboxes) then with_mailbox (envelope_of self.old) mailbox else envelope_of self.old))) }
-        ensures said { IfOk result (λ reply. out.new.items ≡ out.old.items ++ sent_line (text_of reply node)) }
+        ensures said { IfOk result (λ reply. out.new.items ≡ out.old.items ++ octets_of reply node) }
+        ensures alone { IfOk result (λ reply. (n : ℕ) → front_of reply n ≡ []) }
         ensures sender { self.new.sender ≡ self.old.sender }
         ensures err { OnErr result ((self.new ≡ self.old) × (out.new.items ≡ out.old.items)) }
     {

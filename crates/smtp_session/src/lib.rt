@@ -14,12 +14,14 @@
 //! A line is what stands before CRLF; a lone CR or LF is an octet of it (RFC 5321, section 2.3.8). The commands
 //! are those of `smtp_wire`, and come in this order (RFC 5321, section 4.1.4):
 //!
-//! - `HELO` at any time. It ends the transaction, where there is one, and its name stays in force until the next
-//!   `HELO`.
-//! - `MAIL` once there was a `HELO`, and outside a transaction. It begins one.
+//! - `HELO` and `EHLO` at any time. They end the transaction, where there is one, and the name stays in force
+//!   until the next. After `EHLO` the trace lines of a message say ESMTP.
+//! - `MAIL` once there was one of them, and outside a transaction. It begins one.
 //! - `RCPT` in a transaction. Its path means the mailbox that the plan says. A mailbox that was accepted already
 //!   is accepted again and stands in the envelope once; 100 different ones are accepted.
 //! - `DATA` in a transaction with a recipient. The lines of the text follow.
+//! - `RSET` at any time. It ends the transaction, where there is one.
+//! - `NOOP` and `VRFY` at any time. They change nothing.
 //! - `QUIT` at any time. It ends the session.
 //!
 //! In a text the period that leads a line is left out (RFC 5321, section 4.5.2), each line is kept with its CRLF,
@@ -44,9 +46,9 @@
 //! DIAGNOSTICS
 //!
 //! `BadOrder` where a command comes out of its order, `NoSuchMailbox` and `TooManyRecipients` at `RCPT`,
-//! `UnknownCommand` and `BadArgument` where a line is no command, `LineTooLong` for a command line of more than
-//! 1,024 octets with its CRLF, once it is whole, and `TooLarge` at the end of a text of more than 16,777,216
-//! octets. A command that is refused changes nothing. The lines of a text have no limit of their own.
+//! `UnknownCommand`, `BadArgument`, `NotDone` and `BadParameter` where a line is no command, `LineTooLong` for a
+//! command line of more than 1,024 octets with its CRLF, once it is whole, and `TooLarge` at the end of a text of
+//! more than 16,777,216 octets, and at a `MAIL` that names such a size. A command that is refused changes nothing. The lines of a text have no limit of their own.
 //!
 //! Out of memory is an `AllocError`. Nothing is then changed, and the call may be made again.
 //!
@@ -65,8 +67,7 @@
 //!
 //! WHAT IT DOES NOT DO
 //!
-//! It stores nothing and sends nothing. It does not bound what is fed while it waits. No time limit, no `EHLO`
-//! and none of its extensions.
+//! It stores nothing and sends nothing. It does not bound what is fed while it waits. It has no time limit.
 #![tactic(auto)]
 
 mod envelope;

@@ -230,6 +230,7 @@ impl SmtpSession {
             return Ok(Move::Said);
         }
         let helo = self.told.name(alloc)?;
+        let extended = self.told.is_extended();
         let envelope = self.told.end_text(alloc);
         let text = std::mem::replace(&mut self.text, Text::new(alloc));
         self.turn = Turn::Waits;
@@ -237,7 +238,7 @@ impl SmtpSession {
             users: envelope.mailboxes,
             sender: envelope.sender,
             helo,
-            extended: false,
+            extended,
             text: text.into_octets(),
         })))
     }

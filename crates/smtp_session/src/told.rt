@@ -1,14 +1,14 @@
 // What a session has been told, and what a command makes of it.
-ghost use Rattle.std.specs.Prelude.{◌≡◌, ◌≤◌, ◌++◌, List, ℕ, true, false, length, unwrap_or, Ok, OnErr, IfOk, if◌then◌else◌};
+ghost use Rattle.std.specs.Prelude.{◌≡◌, ◌≤◌, ◌++◌, [], List, ℕ, true, false, length, unwrap_or, Ok, OnErr, IfOk, if◌then◌else◌};
 ghost use Rattle.std.specs.Option.{option_map};
-ghost use Rattle.mail_model.specs.Lines.{sent_line};
 ghost use Rattle.mail_model.specs.Smtp as smtp;
-ghost use Rattle.mail_model.specs.Session.{silent, is_long_line, is_quit, after_unit};
+ghost use Rattle.mail_model.specs.Smtp.{extension_lines};
+ghost use Rattle.mail_model.specs.Session.{silent, greeted_text, is_too_large, is_long_line, is_quit, after_unit};
 ghost use Rattle.mail_model.specs.Session.Unit.{Text as OfText};
 ghost use Rattle.mail_model.specs.Plan.{Plan as Plans};
 ghost use Rattle.mail_model.specs.Told.{unnamed, unaddressed};
 ghost use Rattle.smtp_wire.specs.Seen.{seen, IsWithinLimits};
-ghost use Rattle.smtp_session.specs.Replies.{text_of};
+ghost use Rattle.smtp_session.specs.Replies.{text_of, front_of, octets_of};
 ghost use Rattle.smtp_session.specs.Talks.{talk_of, envelope_of, DoesCommand};
 ghost use Rattle.smtp_session.specs.Hears.{HearsLine, Addresses, reply_in};
 
@@ -29,7 +29,7 @@ pub enum Heard {
 /// What a session has been told (RFC 5321, section 3.3).
 #[derive(Debug, Drop)]
 pub struct Told {
-    /// The HELO in force; none before the first.
+    /// The HELO or EHLO in force; none before the first.
     pub greeting: Option<Greeting>,
     /// The transaction; none outside one.
     pub envelope: Option<Envelope>,
@@ -49,22 +49,23 @@ impl Told {
         }
     }
 
-    // HELO begins anew (RFC 5321, section 4.1.1.1). Unchanged on refusal.
+    // HELO and EHLO begin anew (RFC 5321, section 4.1.1.1). Unchanged on refusal.
     fn greet(
         &mut self,
         alloc: Global,
         node: NodeNo,
         name: &[u8],
+        extended: bool,
         out: &mut Vec<u8>,
     ) -> Result<Reply, AllocError>
         requires { length name.now ≤ 255 }
-        ensures ok { IfOk result (λ reply. (plan : Plans) → DoesCommand plan (talk_of self.old) (Ok (smtp.Command.Helo name.now)) reply (talk_of self.new)) }
-        ensures said { IfOk result (λ reply. out.new.items ≡ out.old.items ++ sent_line (text_of reply node)) }
+        ensures ok { IfOk result (λ reply. (plan : Plans) → DoesCommand plan (talk_of self.old) (Ok (smtp.Command.Helo name.now extended)) reply (talk_of self.new)) }
+        ensures said { IfOk result (λ reply. out.new.items ≡ out.old.items ++ octets_of reply node) }
         ensures err { OnErr result ((self.new ≡ self.old) × (out.new.items ≡ out.old.items)) }
     {
         let name = Octets::from_vec(name.to_vec(alloc)?);
-        let reply = Reply::Hello.said(alloc, node, out)?;
-        self.greeting = Some(Greeting { name });
+        let reply = hello(alloc, node, extended, out)?;
+        self.greeting = Some(Greeting { name, extended });
         self.envelope = None;
         Ok(reply)
     }
@@ -75,15 +76,19 @@ impl Told {
         alloc: Global,
         node: NodeNo,
         sender: &[u8],
+        size: Option<u128>,
         out: &mut Vec<u8>,
     ) -> Result<Reply, AllocError>
         requires { length sender.now ≤ 512 }
-        ensures ok { IfOk result (λ reply. (plan : Plans) → DoesCommand plan (talk_of self.old) (Ok (smtp.Command.Mail sender.now)) reply (talk_of self.new)) }
-        ensures said { IfOk result (λ reply. out.new.items ≡ out.old.items ++ sent_line (text_of reply node)) }
+        ensures ok { IfOk result (λ reply. (plan : Plans) → DoesCommand plan (talk_of self.old) (Ok (smtp.Command.Mail sender.now size)) reply (talk_of self.new)) }
+        ensures said { IfOk result (λ reply. out.new.items ≡ out.old.items ++ octets_of reply node) }
         ensures err { OnErr result ((self.new ≡ self.old) × (out.new.items ≡ out.old.items)) }
     {
         if self.greeting.is_none() || self.envelope.is_some() {
             return Reply::BadOrder.said(alloc, node, out);
+        }
+        if is_too_large(size) {
+            return Reply::TooLarge.said(alloc, node, out);
         }
         let sender = Octets::from_vec(sender.to_vec(alloc)?);
         let reply = Reply::SenderOk.said(alloc, node, out)?;
@@ -102,7 +107,7 @@ impl Told {
         out: &mut Vec<u8>,
     ) -> Result<Reply, AllocError>
         ensures ok { IfOk result (λ reply. (plan : Plans) → DoesCommand plan (talk_of self.old) (Ok smtp.Command.Data) reply (talk_of self.new)) }
-        ensures said { IfOk result (λ reply. out.new.items ≡ out.old.items ++ sent_line (text_of reply node)) }
+        ensures said { IfOk result (λ reply. out.new.items ≡ out.old.items ++ octets_of reply node) }
         ensures err { OnErr result ((self.new ≡ self.old) × (out.new.items ≡ out.old.items)) }
     {
         match &self.envelope {
@@ -113,6 +118,17 @@ impl Told {
             }
             _ => Reply::BadOrder.said(alloc, node, out),
         }
+    }
+
+    // RSET ends the transaction (RFC 5321, section 4.1.1.5). Unchanged on refusal.
+    fn reset(&mut self, alloc: Global, node: NodeNo, out: &mut Vec<u8>) -> Result<Reply, AllocError>
+        ensures ok { IfOk result (λ reply. (plan : Plans) → DoesCommand plan (talk_of self.old) (Ok smtp.Command.Rset) reply (talk_of self.new)) }
+        ensures said { IfOk result (λ reply. out.new.items ≡ out.old.items ++ octets_of reply node) }
+        ensures err { OnErr result ((self.new ≡ self.old) × (out.new.items ≡ out.old.items)) }
+    {
+        let reply = Reply::Reset.said(alloc, node, out)?;
+        self.envelope.take();
+        Ok(reply)
     }
 
     // Does what the command says, and appends its reply. Unchanged on refusal.
@@ -126,14 +142,18 @@ impl Told {
     ) -> Result<Reply, AllocError>
         requires { IfOk command.now IsWithinLimits }
         ensures ok { IfOk result (λ reply. DoesCommand plan.now (talk_of self.old) (seen command.now) reply (talk_of self.new)) }
-        ensures said { IfOk result (λ reply. out.new.items ≡ out.old.items ++ sent_line (text_of reply node)) }
+        ensures said { IfOk result (λ reply. out.new.items ≡ out.old.items ++ octets_of reply node) }
         ensures err { OnErr result ((self.new ≡ self.old) × (out.new.items ≡ out.old.items)) }
     {
         match command {
             Err(SmtpFault::UnknownVerb) => Reply::UnknownCommand.said(alloc, node, out),
             Err(SmtpFault::BadArgument) => Reply::BadArgument.said(alloc, node, out),
-            Ok(Command::Helo { name }) => Ok(self.greet(alloc, node, name, out)?),
-            Ok(Command::Mail { sender }) => Ok(self.begin(alloc, node, sender, out)?),
+            Err(SmtpFault::NotDone) => Reply::NotDone.said(alloc, node, out),
+            Err(SmtpFault::BadParameter) => Reply::BadParameter.said(alloc, node, out),
+            Ok(Command::Helo { name, extended }) => Ok(self.greet(
+                alloc, node, name, *extended, out,
+            )?),
+            Ok(Command::Mail { sender, size }) => Ok(self.begin(alloc, node, sender, *size, out)?),
             Ok(Command::Rcpt { path }) => Ok(address(
                 &mut self.envelope,
                 alloc,
@@ -143,7 +163,10 @@ impl Told {
                 out,
             )?),
             Ok(Command::Data) => Ok(self.ask_text(alloc, node, out)?),
+            Ok(Command::Rset) => Ok(self.reset(alloc, node, out)?),
+            Ok(Command::Noop) => Reply::Fine.said(alloc, node, out),
             Ok(Command::Quit) => Reply::Closing.said(alloc, node, out),
+            Ok(Command::Vrfy) => Reply::NotVerified.said(alloc, node, out),
         }
     }
 
@@ -162,7 +185,7 @@ impl Told {
         out: &mut Vec<u8>,
     ) -> Result<Heard, AllocError>
         ensures ok { is_long_line line.now ≡ false → IfOk result (λ heard. HearsLine plan.now (talk_of self.old) line.now heard (talk_of self.new)) }
-        ensures said { IfOk result (λ heard. out.new.items ≡ out.old.items ++ sent_line (text_of (reply_in heard) node)) }
+        ensures said { IfOk result (λ heard. out.new.items ≡ out.old.items ++ octets_of (reply_in heard) node) }
         ensures err { OnErr result ((self.new ≡ self.old) × (out.new.items ≡ out.old.items)) }
     {
         let command = read_command(line);
@@ -182,6 +205,16 @@ impl Told {
         match &self.greeting {
             None => Ok(Octets::new(alloc)),
             Some(greeting) => Ok(greeting.name.copy()?),
+        }
+    }
+
+    /// Whether the one in force was an EHLO.
+    pub fn is_extended(&self) -> bool
+        ensures { result ≡ (unwrap_or (talk_of self.now).greeting unnamed).extended }
+    {
+        match &self.greeting {
+            None => false,
+            Some(greeting) => greeting.extended,
         }
     }
 
@@ -207,6 +240,35 @@ fn heard_of(command: &Result<Command<'_>, SmtpFault>, reply: Reply) -> Heard
     }
 }
 
+// The reply to HELO or EHLO. Unchanged on refusal.
+fn hello(
+    alloc: Global,
+    node: NodeNo,
+    extended: bool,
+    out: &mut Vec<u8>,
+) -> Result<Reply, AllocError>
+    ensures text { IfOk result (λ reply. (n : ℕ) → text_of reply n ≡ greeted_text n extended) }
+    ensures front { IfOk result (λ reply. (n : ℕ) → front_of reply n ≡ (if extended then extension_lines n else [])) }
+    ensures said { IfOk result (λ reply. out.new.items ≡ out.old.items ++ octets_of reply node) }
+    ensures err { OnErr result (out.new.items ≡ out.old.items) }
+{
+    if extended {
+        Reply::extended(alloc, node, out)
+    } else {
+        Reply::Hello.said(alloc, node, out)
+    }
+}
+
+// The client says that the text will pass the limit.
+fn is_too_large(size: Option<u128>) -> bool
+    ensures { result ≡ is_too_large size }
+{
+    match size {
+        Some(size) => size > 16_777_216,
+        None => false,
+    }
+}
+
 // RCPT: a mailbox of the plan goes into the envelope of the transaction. Unchanged on refusal.
 fn address(
     envelope: &mut Option<Envelope>,
@@ -217,7 +279,8 @@ fn address(
     out: &mut Vec<u8>,
 ) -> Result<Reply, AllocError>
     ensures ok { IfOk result (λ reply. (n : ℕ) → Addresses plan.now (option_map envelope_of envelope.old) path.now (text_of reply n) (option_map envelope_of envelope.new)) }
-    ensures said { IfOk result (λ reply. out.new.items ≡ out.old.items ++ sent_line (text_of reply node)) }
+    ensures said { IfOk result (λ reply. out.new.items ≡ out.old.items ++ octets_of reply node) }
+    ensures alone { IfOk result (λ reply. (n : ℕ) → front_of reply n ≡ []) }
     ensures err { OnErr result ((envelope.new ≡ envelope.old) × (out.new.items ≡ out.old.items)) }
 {
     match envelope {

@@ -5,9 +5,9 @@ use Rattle.std.proofs.lemmas.Bool.Decides.{nat_tests}
 use Rattle.std.specs.List.{list_all, list_any, prefix_len, position_or_len}
 use Rattle.std.specs.Char.{to_ascii_uppercase}
 use Rattle.std.specs.Cmp.Lexicographic.{pointwise}
-use Rattle.mail_model.specs.Smtp.{Command, Fault, is_blank, is_visible, is_path_octet, trimmed, trimmed_command, command_of, verb_of, rest_of, unspaced, is_helo_name, routed, path_content, path_behind, sender_in, recipient_in, or_bad, alone}
-use Rattle.mail_model.specs.Smtp.Command.{Helo, Mail, Rcpt, Data, Quit}
-use Rattle.mail_model.specs.Smtp.Fault.{UnknownVerb, BadArgument}
+use Rattle.mail_model.specs.Smtp.{Command, Fault, is_blank, is_visible, is_path_octet, trimmed, trimmed_command, command_of, verb_of, rest_of, unspaced, is_helo_name, routed, path_content, behind_path, behind_keyword, sender_in, recipient_in, helo_command, vrfy_command, mail_parameters, mail_of_sender, mail_of_argument, rcpt_of_path, rcpt_of_argument, alone}
+use Rattle.mail_model.specs.Smtp.Command.{Helo, Mail, Rcpt, Data, Rset, Noop, Quit, Vrfy}
+use Rattle.mail_model.specs.Smtp.Fault.{UnknownVerb, BadArgument, NotDone}
 use Rattle.smtp_wire.specs.Laws.{IsPlainPath, IsRoute, NamesAreRead, SendersAreRead, RecipientsAreRead, RoutesAreLeftOut, BlanksAtEndMeanNothing, CaseOfVerbMeansNothing}
 use Rattle.line_words.specs.Words.{IsOneWord}
 use Rattle.line_words.proofs.Fronts.{trimmed_more, trimmed_done}
@@ -16,12 +16,17 @@ use Rattle.line_words.proofs.Verbs.{and_true, or_false, begins_or_ends, begins_o
 -- the command of a verb in upper case and what follows it
 abbrev said : List ℕ → List ℕ → Result Command Fault
 said verb rest =
-    cond (pointwise nat_eq verb (codes "HELO")) (cond (is_helo_name (unspaced rest)) (Ok (Helo (unspaced rest))) (Err BadArgument))
-    (cond (pointwise nat_eq verb (codes "MAIL")) (or_bad Mail (option_and_then sender_in (path_behind (codes "FROM:") rest)))
-    (cond (pointwise nat_eq verb (codes "RCPT")) (or_bad Rcpt (option_and_then recipient_in (path_behind (codes "TO:") rest)))
+    cond (pointwise nat_eq verb (codes "HELO")) (helo_command false rest)
+    (cond (pointwise nat_eq verb (codes "EHLO")) (helo_command true rest)
+    (cond (pointwise nat_eq verb (codes "MAIL")) (mail_of_argument (behind_keyword (codes "FROM:") rest))
+    (cond (pointwise nat_eq verb (codes "RCPT")) (rcpt_of_argument (behind_keyword (codes "TO:") rest))
     (cond (pointwise nat_eq verb (codes "DATA")) (alone Data rest)
+    (cond (pointwise nat_eq verb (codes "RSET")) (alone Rset rest)
+    (cond (pointwise nat_eq verb (codes "NOOP")) (Ok Noop)
     (cond (pointwise nat_eq verb (codes "QUIT")) (alone Quit rest)
-    (Err UnknownVerb)))))
+    (cond (pointwise nat_eq verb (codes "VRFY")) (vrfy_command rest)
+    (cond (pointwise nat_eq verb (codes "EXPN") || pointwise nat_eq verb (codes "HELP")) (Err NotDone)
+    (Err UnknownVerb))))))))))
 
 said_parts : (line : List ℕ) → trimmed_command line ≡ said (map to_ascii_uppercase (verb_of line)) (rest_of line)
 said_parts line = refl
@@ -42,6 +47,23 @@ path_len (x ∷ path) h = let p = and_true (is_path_octet x) _ h in rw (p.0, pat
 path_whole : (path : List ℕ) → list_all is_path_octet path ≡ true → path_content (60 ∷ (path ++ 62 ∷ [])) ≡ Some path
 path_whole path h = rw (path_len path h, drop_at path (62 ∷ []) (length path) refl, take_at path (62 ∷ []) (length path) refl)
 
+-- and nothing follows it
+path_ends : (path : List ℕ) → list_all is_path_octet path ≡ true → behind_path (60 ∷ (path ++ 62 ∷ [])) ≡ []
+path_ends path h = rw (path_len path h, drop_at path (62 ∷ []) (length path) refl)
+
+-- so the commands of it
+mail_whole : (content value : List ℕ) → list_all is_path_octet content ≡ true → sender_in content ≡ Some value → mail_of_argument (Some (60 ∷ (content ++ 62 ∷ []))) ≡ Ok (Mail value None)
+mail_whole content value h sender =
+    ap (λ (behind : List ℕ). mail_of_sender (option_and_then sender_in (path_content (60 ∷ (content ++ 62 ∷ [])))) behind) (path_ends content h)
+    ∙ ap (λ (found : Option (List ℕ)). mail_of_sender (option_and_then sender_in found) []) (path_whole content h)
+    ∙ ap (λ (found : Option (List ℕ)). mail_of_sender found []) sender
+
+rcpt_whole : (content value : List ℕ) → list_all is_path_octet content ≡ true → recipient_in content ≡ Some value → rcpt_of_argument (Some (60 ∷ (content ++ 62 ∷ []))) ≡ Ok (Rcpt value)
+rcpt_whole content value h path =
+    ap (λ (behind : List ℕ). rcpt_of_path (option_and_then recipient_in (path_content (60 ∷ (content ++ 62 ∷ [])))) behind) (path_ends content h)
+    ∙ ap (λ (found : Option (List ℕ)). rcpt_of_path (option_and_then recipient_in found) []) (path_whole content h)
+    ∙ ap (λ (found : Option (List ℕ)). rcpt_of_path found []) path
+
 none_or_some : (n : ℕ) → (not (nat_eq n 0) || nat_eq n 0) ≡ true
 none_or_some n = grind (arith, nat_tests)
 
@@ -60,15 +82,13 @@ pub senders_read : SendersAreRead
 senders_read path h =
     word_said (codes "MAIL") (codes " FROM:<" ++ path ++ codes ">") refl refl
     ∙ ap (said (codes "MAIL")) (trimmed_done (codes " FROM:<" ++ path) 62 refl)
-    ∙ ap (λ (content : Option (List ℕ)). or_bad Mail (option_and_then sender_in content)) (path_whole path h.octets)
-    ∙ ap (or_bad Mail) (sender_whole path h)
+    ∙ mail_whole path path h.octets (sender_whole path h)
 
 pub recipients_read : RecipientsAreRead
 recipients_read path h some =
     word_said (codes "RCPT") (codes " TO:<" ++ path ++ codes ">") refl refl
     ∙ ap (said (codes "RCPT")) (trimmed_done (codes " TO:<" ++ path) 62 refl)
-    ∙ ap (λ (content : Option (List ℕ)). or_bad Rcpt (option_and_then recipient_in content)) (path_whole path h.octets)
-    ∙ ap (or_bad Rcpt) (recipient_whole path h some)
+    ∙ rcpt_whole path path h.octets (recipient_whole path h some)
 
 or_true : (a : Bool) → (a || true) ≡ true
 or_true true = refl
@@ -105,8 +125,7 @@ routes_left_out route path h p some =
     let octets = all_both is_path_octet (route ++ 58 ∷ []) path (all_both is_path_octet route (58 ∷ []) h.octets refl) p.octets in
     word_said (codes "MAIL") (codes " FROM:<" ++ content ++ codes ">") refl refl
     ∙ ap (said (codes "MAIL")) (trimmed_done (codes " FROM:<" ++ content) 62 refl)
-    ∙ ap (λ (content : Option (List ℕ)). or_bad Mail (option_and_then sender_in content)) (path_whole content octets)
-    ∙ ap (or_bad Mail) (routed_sender route path h p some)
+    ∙ mail_whole content path octets (routed_sender route path h p some)
 
 -- a client's name
 not_blank : (x : ℕ) → is_visible x ≡ true → is_blank x ≡ false
@@ -134,14 +153,22 @@ name_whole x name h short =
     let within : nat_le (suc (length name)) 255 ≡ true = grind (arith, nat_tests) in
     rw (some_more (length name), within) h
 
-name_read : (name : List ℕ) → list_all is_visible name ≡ true → 0 < length name → length name ≤ 255 → command_of (codes "HELO " ++ name) ≡ Ok (Helo name)
-name_read [] h some short = absurd (omega arith)
-name_read (x ∷ name) h some short =
+-- after either verb
+greeting_read : (extended : Bool) (x : ℕ) (name : List ℕ) → list_all is_visible (x ∷ name) ≡ true → length (x ∷ name) ≤ 255
+    → helo_command extended (trimmed (32 ∷ x ∷ name)) ≡ Ok (Helo (x ∷ name) extended)
+greeting_read extended x name h short =
     let shown = (and_true (is_visible x) _ h).0 in
-    word_said (codes "HELO") (32 ∷ x ∷ name) refl refl
-    ∙ ap (said (codes "HELO")) (name_trimmed x name h)
-    ∙ ap (λ (word : List ℕ). cond (is_helo_name word) (Ok (Helo word)) (Err BadArgument)) (name_unspaced x name shown)
-    ∙ ap (λ (b : Bool). cond b (Ok (Helo (x ∷ name))) (Err BadArgument)) (name_whole x name h short)
+    ap (helo_command extended) (name_trimmed x name h)
+    ∙ ap (λ (word : List ℕ). cond (is_helo_name word) (Ok (Helo word extended)) (Err BadArgument)) (name_unspaced x name shown)
+    ∙ ap (λ (b : Bool). cond b (Ok (Helo (x ∷ name) extended)) (Err BadArgument)) (name_whole x name h short)
+
+name_read : (name : List ℕ) → list_all is_visible name ≡ true → 0 < length name → length name ≤ 255
+    → (command_of (codes "HELO " ++ name) ≡ Ok (Helo name false)) × (command_of (codes "EHLO " ++ name) ≡ Ok (Helo name true))
+name_read [] h some short = absurd (omega arith)
+name_read (x ∷ name) h some short = (
+  word_said (codes "HELO") (32 ∷ x ∷ name) refl refl ∙ greeting_read false x name h short,
+  word_said (codes "EHLO") (32 ∷ x ∷ name) refl refl ∙ greeting_read true x name h short,
+)
 
 pub names_read : NamesAreRead
 names_read name h = name_read name h.octets h.some h.short

@@ -1,5 +1,5 @@
 -- What command lines mean, said without how they are read.
-use Rattle.std.specs.Prelude.{◌≡◌, ◌≤◌, ◌<◌, ◌⊎◌, ℕ, true, false, nat_eq, List, [], ◌++◌, length, map, Ok, codes}
+use Rattle.std.specs.Prelude.{◌≡◌, ◌≤◌, ◌<◌, ◌⊎◌, ℕ, true, false, nat_eq, List, [], ◌++◌, length, map, None, Ok, codes}
 use Rattle.std.specs.Char.{to_ascii_uppercase}
 use Rattle.std.specs.List.{list_all, list_any}
 use Rattle.mail_model.specs.Names.{begins_with}
@@ -25,17 +25,18 @@ pub record IsRoute (route : List ℕ) : Type 0 where
   pub no_colon : list_any (λ x. nat_eq x 58) route ≡ false
 
 abbrev pub NamesAreRead : Type 0
-NamesAreRead = (name : List ℕ) → IsClientName name → command_of (codes "HELO " ++ name) ≡ Ok (Helo name)
+NamesAreRead = (name : List ℕ) → IsClientName name →
+    (command_of (codes "HELO " ++ name) ≡ Ok (Helo name false)) × (command_of (codes "EHLO " ++ name) ≡ Ok (Helo name true))
 
 abbrev pub SendersAreRead : Type 0
-SendersAreRead = (path : List ℕ) → IsPlainPath path → command_of (codes "MAIL FROM:<" ++ path ++ codes ">") ≡ Ok (Mail path)
+SendersAreRead = (path : List ℕ) → IsPlainPath path → command_of (codes "MAIL FROM:<" ++ path ++ codes ">") ≡ Ok (Mail path None)
 
 abbrev pub RecipientsAreRead : Type 0
 RecipientsAreRead = (path : List ℕ) → IsPlainPath path → 0 < length path → command_of (codes "RCPT TO:<" ++ path ++ codes ">") ≡ Ok (Rcpt path)
 
 abbrev pub RoutesAreLeftOut : Type 0
 RoutesAreLeftOut = (route path : List ℕ) → IsRoute route → IsPlainPath path → 0 < length path →
-    command_of (codes "MAIL FROM:<@" ++ route ++ codes ":" ++ path ++ codes ">") ≡ Ok (Mail path)
+    command_of (codes "MAIL FROM:<@" ++ route ++ codes ":" ++ path ++ codes ">") ≡ Ok (Mail path None)
 
 abbrev pub BlanksAtEndMeanNothing : Type 0
 BlanksAtEndMeanNothing = (line blanks : List ℕ) → list_all is_blank blanks ≡ true → command_of (line ++ blanks) ≡ command_of line

@@ -1,7 +1,7 @@
 // Laws over the definition of a command line, each a function that does nothing.
 ghost use Rattle.smtp_wire.specs.Laws.{NamesAreRead, SendersAreRead, RecipientsAreRead, RoutesAreLeftOut, BlanksAtEndMeanNothing, CaseOfVerbMeansNothing};
 
-/// `HELO` and a name is that command, for every name of 1 to 255 visible octets.
+/// `HELO` and a name is that command, for every name of 1 to 255 visible octets, and so is `EHLO`.
 pub fn names_are_read()
     ensures { NamesAreRead }
 {}

@@ -11,18 +11,21 @@
 //! end of the line mean nothing. The verbs and the words `FROM:` and `TO:` mean the same in any
 //! case (RFC 5321, sections 2.4 and 4.1.1):
 //!
-//! - `HELO name`: one word of 1 to 255 visible ASCII octets.
-//! - `MAIL FROM:<path>`: spaces may stand before the path. It may be empty.
-//! - `RCPT TO:<path>`: the same, but the path is not empty.
-//! - `DATA` and `QUIT`, alone.
+//! - `HELO name` and `EHLO name`: one word of 1 to 255 visible ASCII octets.
+//! - `MAIL FROM:<path>`: spaces may stand before the path. It may be empty. After it `SIZE=` with 1 to
+//!   20 digits (RFC 1870) and `BODY=7BIT` or `BODY=8BITMIME` (RFC 6152) may stand, once each.
+//! - `RCPT TO:<path>`: the same, but the path is not empty, and no parameter is known.
+//! - `DATA`, `RSET` and `QUIT`, alone; `NOOP` with anything after it; `VRFY` with something.
 //!
 //! A path is printable ASCII without `<` and `>`. A source route before it (`@a,@b:`, RFC 5321,
 //! section 4.1.2 and appendix C) is left out, and what is left has at most 512 octets.
 //!
 //! DIAGNOSTICS
 //!
-//! `UnknownVerb` where the verb is none of the five, and `BadArgument` where what follows it is not
-//! as above.
+//! `UnknownVerb` where the verb is none of these, EXPN or HELP. `NotDone` for EXPN and HELP.
+//! `BadArgument` where what follows the verb is not as above, a parameter that is known among it.
+//! `BadParameter` where a parameter is none that is known. Of several parameters with faults the first
+//! decides.
 //!
 //! STANDS ON
 //!
@@ -31,15 +34,15 @@
 //!
 //! WHAT IT DOES NOT DO
 //!
-//! EHLO, RSET, NOOP, VRFY, EXPN and HELP are unknown verbs here, MAIL and RCPT take no parameters,
-//! and no path is read further than above: no quoted local part, no domain, no address literal.
-//! Whether a command comes in its place, how long a line may be, and whose mailbox a path is, is
-//! for the session.
+//! No path is read further than above: no quoted local part, no domain, no address literal. Whether a
+//! command comes in its place, how long a line may be, whose mailbox a path is, and whether a size is
+//! too large, is for the session.
 #![tactic(auto)]
 
 mod command;
 mod laws;
 mod octets;
+mod parameter;
 mod path;
 
 pub use command::{Command, SmtpFault, read_command};

@@ -2,7 +2,7 @@
 ghost use Rattle.std.specs.Prelude.{◌≡◌, ◌<◌, ◌≤◌, length, IfSome};
 ghost use Rattle.std.specs.List.{prefix_len};
 ghost use Rattle.std.specs.Option.{option_copied};
-ghost use Rattle.mail_model.specs.Smtp.{is_path_octet, routed, path_content, path_behind, sender_in, recipient_in};
+ghost use Rattle.mail_model.specs.Smtp.{is_path_octet, routed, path_content, behind_path, behind_keyword, sender_in, recipient_in};
 
 use crate::octets::{begins_with, split_front};
 use line_words::{is_word, len_before, unspaced};
@@ -39,27 +39,41 @@ fn routed(content: &[u8]) -> Option<&[u8]>
     }
 }
 
-/// What stands between the brackets, where the octets are a path and nothing more.
+/// What stands between the brackets of the path that the octets begin with.
 #[tactic(auto, using(line_words::proofs::Fronts::octet_counts))]
-fn path_content(octets: &[u8]) -> Option<&[u8]>
+pub fn path_content(octets: &[u8]) -> Option<&[u8]>
     ensures { option_copied result ≡ path_content octets.now }
 {
     let (first, behind) = octets.split_first()?;
     let (content, closing) = behind.split_at(path_octet_count(behind));
-    if *first == b'<' && closing == b">".as_slice() {
+    if *first == b'<' && begins_with(b'>', closing) {
         Some(content)
     } else {
         None
     }
 }
 
-/// What stands between the brackets of the path after the keyword, which is in upper case.
-pub fn path_behind<'a>(keyword: &[u8], rest: &'a [u8]) -> Option<&'a [u8]>
-    ensures { option_copied result ≡ path_behind keyword.now rest.now }
+/// What follows that path.
+#[tactic(auto, using(line_words::proofs::Fronts::octet_counts))]
+pub fn behind_path(octets: &[u8]) -> &[u8]
+    ensures { result.now ≡ behind_path octets.now }
+{
+    match octets.split_first() {
+        Some((_, behind)) => {
+            let (_content, closing) = behind.split_at(path_octet_count(behind));
+            split_front(closing, 1).1
+        }
+        None => octets,
+    }
+}
+
+/// What follows the keyword, which is in upper case, and the spaces after it.
+pub fn behind_keyword<'a>(keyword: &[u8], rest: &'a [u8]) -> Option<&'a [u8]>
+    ensures { option_copied result ≡ behind_keyword keyword.now rest.now }
 {
     let (word, behind) = split_front(unspaced(rest), keyword.len());
     if begins_with(b' ', rest) && is_word(word, keyword) {
-        path_content(unspaced(behind))
+        Some(unspaced(behind))
     } else {
         None
     }

@@ -119,6 +119,73 @@ close 3
 end
 ";
 
+const EXTENDED: &[u8] = b"\
+nodes 1
+copies 1 1
+buckets 1
+user alice tanstaaf
+postmaster alice
+go
+open smtp 1
+  1 220 node1 Porcupine ready
+say 1 EHLO c.example
+  1 250-node1
+  1 250-SIZE 16777216
+  1 250-8BITMIME
+  1 250 PIPELINING
+say 1 MAIL FROM:<bob@b.example> SIZE=33 BODY=8BITMIME
+  1 250 sender ok
+say 1 RCPT TO:<alice>
+  1 250 recipient ok
+say 1 DATA
+  1 354 end with a line that is a single period
+say 1 Subject: notes
+say 1
+say 1 first
+say 1 second
+say 1 .
+  1 250 stored
+say 1 NOOP
+  1 250 ok
+say 1 QUIT
+  1 221 node1 closing
+  * 1 closed
+open pop 1
+  2 +OK node1 ready <1.2.0@node1>
+say 2 CAPA
+  2 +OK capabilities
+  2 TOP
+  2 USER
+  2 UIDL
+  2 PIPELINING
+  2 RESP-CODES
+  2 .
+say 2 USER alice
+  2 +OK send PASS
+say 2 PASS tanstaaf
+  2 +OK maildrop open
+say 2 TOP 1 1
+  2 +OK top
+  2 Return-Path: <bob@b.example>
+  2 Received: from c.example
+  2  by node1 with ESMTP id <1.1.1@node1>;
+  2  Thu, 01 Jan 1970 00:00:00 +0000
+  2 Subject: notes
+  2 
+  2 first
+  2 .
+say 2 DELE 1
+  2 +OK message 1 deleted
+say 2 RSET
+  2 +OK unmarked
+say 2 STAT
+  2 +OK 1 163
+say 2 QUIT
+  2 +OK bye
+  * 2 closed
+end
+";
+
 const DAY: &[u8] = b"\
 nodes 1
 copies 1 1
@@ -452,7 +519,7 @@ end
 
 #[test]
 fn each_example_is_answered_as_its_file_says(rt: HostRuntime) -> Result<(), Fail> {
-    for lines in [FIRST, READING, DAY, RESTART, LOST_NODE] {
+    for lines in [FIRST, READING, EXTENDED, DAY, RESTART, LOST_NODE] {
         each_case(&rt, rt.alloc(), b"", lines)?;
     }
     Ok(())

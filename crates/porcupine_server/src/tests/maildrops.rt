@@ -95,7 +95,9 @@ say 2 RETR 0
   2 -ERR no such message
 say 2 RETR 3
   2 -ERR no such message
-say 2 TOP 1 0
+say 2 TOP 3 0
+  2 -ERR no such message
+say 2 APOP alice 0
   2 -ERR unknown command
 say 2 USER bob
   2 -ERR bad order

@@ -15,6 +15,8 @@ pub(super) enum Step<'a> {
     Says(&'a [u8]),
     // Says all of them in pieces of so many octets.
     Pieces(&'a [u8], usize),
+    // Says all of them in two pieces, the first of so many octets.
+    Cut(&'a [u8], usize),
     // Says octets in pieces of so many.
     Feeds(&'a [u8], usize),
     // Says a text of 16,384 lines of 1,024 octets with their CRLF, the first of which has this octet more, and the period.
@@ -251,6 +253,16 @@ impl Client {
         Ok(())
     }
 
+    // Says all lines of a table in two pieces; they lead to the same.
+    fn says_cut(&mut self, rt: &impl Abort, table: &[u8], at: usize) -> Result<(), Fail> {
+        let (says, wanted) = parted(self.alloc, table)?;
+        let (first, second) = says.split_at(at.min(says.len()));
+        self.feed(first)?;
+        self.feed(second)?;
+        self.has_said(rt, &wanted);
+        Ok(())
+    }
+
     // Says a line of so many octets with its CRLF that begins so, which leads to this and no more. No more of it is held than the
     // limit, however it comes.
     fn says_line_of(
@@ -332,6 +344,7 @@ impl Client {
         match step {
             Step::Says(table) => self.says(rt, table),
             Step::Pieces(table, size) => self.says_in_pieces(rt, table, size),
+            Step::Cut(table, at) => self.says_cut(rt, table, at),
             Step::Feeds(octets, size) => self.feed_all(octets, size),
             Step::Large(first) => self.says_large(first),
             Step::Long(size) => self.says_long(size),

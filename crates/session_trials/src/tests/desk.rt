@@ -141,10 +141,16 @@ impl Desk {
         })
     }
 
-    // Notes a message that was sent: its sender, its HELO argument, its mailboxes, and each line of a short text.
+    // Notes a message that was sent: its sender, the argument of its HELO or EHLO, its mailboxes, and each line of a short
+    // text.
     fn note_message(&self, deliver: &Deliver, said: &mut Vec<u8>) -> Result<(), AllocError> {
         note(said, b"  from ", deliver.sender.as_slice())?;
-        note(said, b"  helo ", deliver.helo.as_slice())?;
+        let greeting = if deliver.extended {
+            b"  ehlo "
+        } else {
+            b"  helo "
+        };
+        note(said, greeting, deliver.helo.as_slice())?;
         for name in deliver.users.as_slice() {
             note(said, b"  to ", name.octets())?;
         }

@@ -6,7 +6,7 @@ use super::client::pop;
 use super::desk::Message;
 use std::test::Fail;
 use tables::{
-    FAILED_LOGIN, LET_IN, LOGIN_GIVEN_UP, LOGINS, MARKS, NO_MESSAGE, NOT_LET_IN, ONE_MESSAGE,
+    FAILED_LOGIN, LET_IN, LOGIN_GIVEN_UP, LOGINS, MARKS, NO_MESSAGE, NOT_LET_IN, ONE_MESSAGE, ROWS,
     THREE_MESSAGES,
 };
 
@@ -36,7 +36,7 @@ const LOGIN: &[u8] = b"USER alice\r\nPASS sesame\r\n";
 
 #[test]
 fn clients_hear_what_the_tables_say(rt: HostRuntime) -> Result<(), Fail> {
-    let cases: [(&[Message], &[u8]); 8] = [
+    let cases: [(&[Message], &[u8]); 9] = [
         (&TWO, LOGINS),
         (&TWO, NOT_LET_IN),
         (&TWO, FAILED_LOGIN),
@@ -45,6 +45,7 @@ fn clients_hear_what_the_tables_say(rt: HostRuntime) -> Result<(), Fail> {
         (&[], NO_MESSAGE),
         (&THREE, THREE_MESSAGES),
         (&FOUR, MARKS),
+        (&FOUR, ROWS),
     ];
     for (messages, table) in cases {
         pop(&rt, rt.alloc(), messages, &[Says(table)])?;
@@ -61,6 +62,7 @@ fn octets_come_in_any_pieces(rt: HostRuntime) -> Result<(), Fail> {
         pop(&rt, rt.alloc(), &ONE, &[Pieces(ONE_MESSAGE, size)])?;
         pop(&rt, rt.alloc(), &[], &[Pieces(LOGINS, size)])?;
         pop(&rt, rt.alloc(), &FOUR, &[Pieces(MARKS, size)])?;
+        pop(&rt, rt.alloc(), &FOUR, &[Pieces(ROWS, size)])?;
     }
     Ok(())
 }

@@ -2,17 +2,17 @@
 mod tables;
 
 use super::client::Step::{
-    Ended, Endless, Feeds, Heard, Hundred, Large, Line, Long, Pieces, Says, Sent, Text,
+    Cut, Ended, Endless, Feeds, Heard, Hundred, Large, Line, Long, Pieces, Says, Sent, Text,
 };
 use super::client::smtp;
 use mail_base::NodeNo;
 use smtp_session::Reply;
 use std::test::Fail;
-use tables::{BEGIN, COMMANDS, IN_TEXT, PIECES, REFUSED, TEXTS, UNASKED};
+use tables::{BEGIN, COMMANDS, IN_TEXT, PIECES, PIPELINED, REFUSED, ROWS, TEXTS, UNASKED};
 
 #[test]
 fn clients_hear_what_the_tables_say(rt: HostRuntime) -> Result<(), Fail> {
-    for table in [COMMANDS, REFUSED, PIECES, UNASKED] {
+    for table in [ROWS, COMMANDS, REFUSED, PIECES, UNASKED] {
         smtp(&rt, rt.alloc(), &[Says(table)])?;
     }
     for table in IN_TEXT {
@@ -31,6 +31,14 @@ fn octets_come_in_any_pieces(rt: HostRuntime) -> Result<(), Fail> {
             let steps = [Says(BEGIN), Feeds(octets, size), sent, Text(text)];
             smtp(&rt, rt.alloc(), &steps)?;
         }
+    }
+    Ok(())
+}
+
+#[test]
+fn commands_come_in_two_pieces_cut_anywhere(rt: HostRuntime) -> Result<(), Fail> {
+    for at in 0..PIPELINED.len() {
+        smtp(&rt, rt.alloc(), &[Cut(PIPELINED, at)])?;
     }
     Ok(())
 }

@@ -15,7 +15,7 @@ fn reads_commands(rt: HostRuntime) {
     let last = Ok(PopCommand::Uidl {
         number: Some(u32::MAX),
     });
-    let lines: [(&[u8], Result<PopCommand, PopFault>); 24] = [
+    let lines: [(&[u8], Result<PopCommand, PopFault>); 31] = [
         (b"USER Bob", bob),
         (b"user Bob \t", bob),
         (b"uSeR   Bob", bob),
@@ -50,6 +50,25 @@ fn reads_commands(rt: HostRuntime) {
         (b"DELE 1", Ok(PopCommand::Dele { number: 1 })),
         (b"dele  0 ", Ok(PopCommand::Dele { number: 0 })),
         (b"Quit ", Ok(PopCommand::Quit)),
+        (
+            b"TOP 1 0",
+            Ok(PopCommand::Top {
+                number: 1,
+                lines: 0,
+            }),
+        ),
+        (
+            b"top  0007   4294967295 \t",
+            Ok(PopCommand::Top {
+                number: 7,
+                lines: u32::MAX,
+            }),
+        ),
+        (b"NOOP", Ok(PopCommand::Noop)),
+        (b"noop \t", Ok(PopCommand::Noop)),
+        (b"RSET", Ok(PopCommand::Rset)),
+        (b"CAPA", Ok(PopCommand::Capa)),
+        (b"cApA  ", Ok(PopCommand::Capa)),
     ];
     for (at, (line, wanted)) in lines.iter().enumerate() {
         assert_eq!(rt; read_command(line), *wanted, "at {at}");
@@ -58,7 +77,7 @@ fn reads_commands(rt: HostRuntime) {
 
 #[test]
 fn refuses_arguments(rt: HostRuntime) {
-    let arguments: [&[u8]; 25] = [
+    let arguments: [&[u8]; 33] = [
         b"USER",
         b"USER \t",
         b"USER a b",
@@ -84,6 +103,14 @@ fn refuses_arguments(rt: HostRuntime) {
         b"DELE",
         b"DELE 1 2",
         b"QUIT now",
+        b"TOP",
+        b"TOP 1",
+        b"TOP x",
+        b"TOP 1 2 3",
+        b"TOP 1 2  x",
+        b"NOOP x",
+        b"RSET 1",
+        b"CAPA all",
     ];
     for (at, line) in arguments.iter().enumerate() {
         assert_eq!(rt; read_command(line), Err(PopFault::BadArgument), "at {at}");
@@ -92,7 +119,7 @@ fn refuses_arguments(rt: HostRuntime) {
 
 #[test]
 fn refuses_numbers_and_verbs(rt: HostRuntime) {
-    let numbers: [&[u8]; 12] = [
+    let numbers: [&[u8]; 16] = [
         b"LIST x",
         b"LIST -1",
         b"LIST +1",
@@ -105,11 +132,15 @@ fn refuses_numbers_and_verbs(rt: HostRuntime) {
         b"RETR \t1",
         b"retr :",
         b"DELE 4294967296",
+        b"TOP x 1",
+        b"TOP 1 x",
+        b"TOP 1 4294967296",
+        b"TOP 1 \t2",
     ];
     for (at, line) in numbers.iter().enumerate() {
         assert_eq!(rt; read_command(line), Err(PopFault::BadNumber), "at {at}");
     }
-    let verbs: [&[u8]; 17] = [
+    let verbs: [&[u8]; 16] = [
         b"",
         b" ",
         b"\t",
@@ -122,14 +153,24 @@ fn refuses_numbers_and_verbs(rt: HostRuntime) {
         b"RETR1",
         b"QUIT\tnow",
         b"DELE\t1",
-        b"TOP 1 0",
+        b"TOP\t1 0",
         b"APOP bob 0",
-        b"NOOP",
-        b"RSET",
-        b"CAPA",
+        b"NOO",
+        b"RSETS",
     ];
     for (at, line) in verbs.iter().enumerate() {
         assert_eq!(rt; read_command(line), Err(PopFault::UnknownVerb), "at {at}");
+    }
+}
+
+#[test]
+fn no_octet_is_a_verb(rt: HostRuntime) {
+    for octet in 0..=255u8 {
+        assert_eq!(rt;
+            read_command(&[octet]),
+            Err(PopFault::UnknownVerb),
+            "at {octet}"
+        );
     }
 }
 

@@ -1,4 +1,3 @@
-use Rattle.std.proofs.Common.{◌≡◌}
 use Rattle.call_tickets.specs.Passes.{known_to, IsQuiet}
 use Rattle.session_gate.proofs.calls.await_answer.Given as goal
 

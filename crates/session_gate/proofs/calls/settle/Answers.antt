@@ -1,4 +1,3 @@
-use Rattle.std.proofs.Common.{◌≡◌}
 use Rattle.call_tickets.specs.Passes.{known_to}
 use Rattle.session_gate.proofs.Deals.{awaited_settled, refused_dealt}
 use Rattle.session_gate.proofs.calls.settle.Goals as goal

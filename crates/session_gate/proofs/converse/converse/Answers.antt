@@ -1,6 +1,6 @@
-use Rattle.std.proofs.Common.{◌≡◌, ◌++◌, ℕ, List, [], refl, arith, ◌<◌, ◌≤◌, ◌+◌, ◌-◌, take, length, length-take-le, subst, sym}
+use Rattle.std.proofs.Common.{◌≡◌, [], refl, arith, ◌<◌, ◌≤◌, ◌+◌, ◌-◌, take, length, length-take-le}
 use Rattle.io_edge.proofs.Known.{consumes_kept, consumes_none, appends_none}
-use Rattle.session_gate.specs.Connections.{Talks, Rests}
+use Rattle.session_gate.specs.Connections.{Rests}
 use Rattle.session_gate.proofs.Listens.{listens_first, closes_heard, ended_serves, read_serves, fault_serves, long_serves, unfed_serves, listens_more, cut_more, feeds}
 use Rattle.session_gate.proofs.converse.converse.Goals as goal
 

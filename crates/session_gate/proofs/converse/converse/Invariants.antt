@@ -1,4 +1,4 @@
-use Rattle.std.proofs.Common.{◌≡◌, ◌≤◌, ℕ, List, [], length}
+use Rattle.std.proofs.Common.{◌≡◌, ◌≤◌, [], length}
 use Rattle.call_tickets.specs.Passes.{known_to}
 use Rattle.session_gate.specs.Connections.{Connection, HasCome, Talks, Rests}
 use Rattle.session_gate.proofs.Listens.{Listens}

@@ -1,4 +1,4 @@
-use Rattle.std.proofs.Common.{inl, inr, ◌≡◌, refl}
+use Rattle.std.proofs.Common.{inr, refl}
 use Rattle.call_tickets.specs.Passes.{known_to}
 use Rattle.pop_session.specs.Follows as reader
 use Rattle.session_gate.specs.Connections.{pop_connection}

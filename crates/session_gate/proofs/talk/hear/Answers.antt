@@ -1,5 +1,4 @@
-use Rattle.std.proofs.Common.{◌≡◌, ◌++◌, ℕ, List, refl, arith}
-use Rattle.session_model.specs.Sessions.{Session}
+use Rattle.std.proofs.Common.{◌++◌, arith}
 use Rattle.session_gate.specs.Connections.{Talks, Rests, HasFallen, IsUp, LeftWith}
 use Rattle.session_gate.proofs.Moves.{went_none, went_on, cut_on, flush_all, flush_part, talks_up, rests_up}
 use Rattle.session_gate.proofs.Hearing.{left_heard, fallen_heard}

@@ -1,4 +1,4 @@
-use Rattle.std.proofs.Common.{◌≡◌, ◌≤◌, ◌++◌, ℕ, List}
+use Rattle.std.proofs.Common.{◌≡◌, ◌≤◌, ℕ, List}
 use Rattle.call_tickets.specs.Passes.{known_to}
 use Rattle.session_gate.specs.Connections.{Connection, HasCome, GoesOn, Talks}
 use Rattle.session_gate.proofs.talk.hear.Given as goal

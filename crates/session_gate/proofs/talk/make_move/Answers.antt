@@ -1,9 +1,7 @@
-use Rattle.std.proofs.Common.{◌≡◌, ℕ, List, Option, Some, None, Err, sym, ap, ◌∙◌, subst, inl, inr, ◌++◌}
+use Rattle.std.proofs.Common.{Some, None, Err, sym, ap, ◌∙◌, subst, inl, inr}
 use Rattle.std.proofs.lemmas.Result.{err_from_is_err_and}
 use Rattle.mail_model.specs.Plan.{Plan}
-use Rattle.session_model.specs.Calls as model
 use Rattle.session_model.specs.Calls.Answer.{Failed}
-use Rattle.session_model.specs.Calls.{IsReply}
 use Rattle.session_model.proofs.Replies.{each_answer_has_reply}
 use Rattle.call_tickets.specs.Seen.{answer_seen}
 use Rattle.call_tickets.specs.Moves.{HeardUnit, Replied}
@@ -88,7 +86,7 @@ returns-in_ok-reply-in-Answered-clause-moved g c line fed wrote is come =
     let u = subst (λ (p : Plan). HeardUnit (g.T.Speaker.follows c.next.new.self) p come.at.plain (Some so.0) m.0) (sym is) so.2 in
     let d = rw c.in-Answered.is at c.in_ok-answer.ensures.settled so.0 so.1 in
     let waits = asks_waits line.plan come.at.plain u.one u.one.reply u.after so.0 u.did u.asks in
-    let reply = each_answer_has_reply so.0 (answer_seen c.in-Answered.answer) d.1 in
+    let reply = (each_answer_has_reply u.one.unit so.0 (answer_seen c.in-Answered.answer) d.1).0 in
     let r = c.in_ok-reply-in-Answered.ensures.replied in
     let replied = subst (λ (p : Plan). Replied (g.T.Speaker.follows c.reply.new.self) p u.after (answer_seen c.in-Answered.answer) r.0) (sym is)
     (r.2 u.after waits.0 so.0 reply.0 u.goes_on waits.1 reply.1) in
@@ -101,7 +99,7 @@ returns-in_ok-reply-in-GivenUp-clause-moved g c line fed wrote is come =
     let u = subst (λ (p : Plan). HeardUnit (g.T.Speaker.follows c.next.new.self) p come.at.plain (Some so.0) m.0) (sym is) so.2 in
     let d = rw c.in-GivenUp.is at c.in_ok-answer.ensures.settled so.0 so.1 in
     let waits = asks_waits line.plan come.at.plain u.one u.one.reply u.after so.0 u.did u.asks in
-    let reply = each_answer_has_reply so.0 Failed (failed_answers so.0) in
+    let reply = (each_answer_has_reply u.one.unit so.0 Failed (failed_answers so.0)).0 in
     let r = c.in_ok-reply-in-GivenUp.ensures.replied in
     let replied = subst (λ (p : Plan). Replied (g.T.Speaker.follows c.reply-in-GivenUp.new.self) p u.after Failed r.0) (sym is)
     (r.2 u.after waits.0 so.0 reply.0 u.goes_on waits.1 reply.1) in

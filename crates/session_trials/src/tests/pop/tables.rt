@@ -30,7 +30,7 @@ PASS sesame
   -ERR bad order
 USER alice
   +OK send PASS
-NOOP
+XYZZY
   -ERR unknown command
 PASS sesame
   -ERR bad order
@@ -114,9 +114,7 @@ USER bob
   -ERR bad order
 PASS sesame
   -ERR bad order
-NOOP
-  -ERR unknown command
-RSET
+XYZZY
   -ERR unknown command
 DELE 0
   -ERR no such message
@@ -127,6 +125,134 @@ DELE
 STAT
   +OK 1 151
 QUIT
+  +OK bye
+  closed
+";
+
+// Each row of the table of replies that no other table has: CAPA, NOOP, RSET and TOP.
+pub(super) const ROWS: &[u8] = b"\
+CAPA
+  +OK capabilities
+  TOP
+  USER
+  UIDL
+  PIPELINING
+  RESP-CODES
+  .
+CAPA all
+  -ERR bad argument
+TOP 1 0
+  -ERR bad order
+NOOP
+  -ERR bad order
+RSET
+  -ERR bad order
+USER alice
+  +OK send PASS
+CAPA
+  +OK capabilities
+  TOP
+  USER
+  UIDL
+  PIPELINING
+  RESP-CODES
+  .
+PASS sesame
+  -ERR bad order
+USER alice
+  +OK send PASS
+PASS sesame
+  asks for alice
+  +OK maildrop open
+CAPA
+  +OK capabilities
+  TOP
+  USER
+  UIDL
+  PIPELINING
+  RESP-CODES
+  .
+NOOP
+  +OK
+NOOP now
+  -ERR bad argument
+TOP 1 0
+  asks for 1.1.1
+  +OK top
+  Subject: x
+  
+  .
+top 1 1
+  asks for 1.1.1
+  +OK top
+  Subject: x
+  
+  ..
+  .
+TOP 1 3
+  asks for 1.1.1
+  +OK top
+  Subject: x
+  
+  ..
+  ...
+  x.\ry
+  .
+TOP 1 4
+  asks for 1.1.1
+  +OK top
+  Subject: x
+  
+  ..
+  ...
+  x.\ry
+  z
+  .
+TOP 1 4294967295
+  asks for 1.1.1
+  +OK top
+  Subject: x
+  
+  ..
+  ...
+  x.\ry
+  z
+  .
+TOP 2 9
+  asks for 1.1.2
+  -ERR message was deleted
+TOP 0 0
+  -ERR no such message
+TOP 5 0
+  -ERR no such message
+TOP 1
+  -ERR bad argument
+TOP 1 2 3
+  -ERR bad argument
+TOP 1 4294967296
+  -ERR bad argument
+DELE 1
+  +OK message 1 deleted
+DELE 3
+  +OK message 3 deleted
+TOP 1 0
+  -ERR no such message
+STAT
+  +OK 2 452
+RSET now
+  -ERR bad argument
+STAT
+  +OK 2 452
+RSET
+  +OK unmarked
+STAT
+  +OK 4 754
+UIDL 3
+  +OK 3 1.1.3
+DELE 4
+  +OK message 4 deleted
+QUIT
+  deletes 1.1.4
   +OK bye
   closed
 ";

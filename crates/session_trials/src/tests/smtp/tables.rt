@@ -87,11 +87,7 @@ HELO d.example
   250 node1
 RCPT TO:<alice>
   503 bad order
-EHLO c.example
-  500 unknown command
-NOOP
-  500 unknown command
-RSET
+XYZZY
   500 unknown command
 
   500 unknown command
@@ -131,7 +127,7 @@ QUIT
   250 stored
 HELO\rd
   500 unknown command
-NOOP\r
+RSET\r
   500 unknown command
 MAIL FROM:<>
   250 sender ok
@@ -148,6 +144,144 @@ QUIT
   221 node1 closing
   closed
 NO
+";
+
+// Each row of the table of replies, and that what is refused, RSET and a second MAIL tell nothing.
+pub(super) const ROWS: &[u8] = b"\
+XYZZY
+  500 unknown command
+DATA now
+  501 bad argument
+VRFY
+  501 bad argument
+EXPN
+  502 not done here
+HELP MAIL
+  502 not done here
+NOOP
+  250 ok
+RSET
+  250 reset
+VRFY alice
+  252 not verified
+MAIL FROM:<bob>
+  503 bad order
+HELO c
+  250 node1
+MAIL FROM:<other>
+  250 sender ok
+RCPT TO:<bob>
+  250 recipient ok
+EHLO c.example
+  250-node1
+  250-SIZE 16777216
+  250-8BITMIME
+  250 PIPELINING
+RCPT TO:<alice>
+  503 bad order
+MAIL FROM:<bob> SIZE=16777217
+  552 message too large
+MAIL FROM:<bob> SIZE=18446744073709551617
+  552 message too large
+MAIL FROM:<bob> SIZE=1 SIZE=1
+  501 bad argument
+MAIL FROM:<bob> AUTH=<>
+  555 parameter not known
+RCPT TO:<alice>
+  503 bad order
+MAIL FROM:<@x.example:bob@b.example> SIZE=16777216 BODY=8bitmime
+  250 sender ok
+MAIL FROM:<other> SIZE=1
+  503 bad order
+MAIL FROM:<other> SIZE=16777217
+  503 bad order
+RCPT TO:<nobody>
+  550 no such mailbox
+RCPT TO:<bob> NOTIFY=NEVER
+  555 parameter not known
+DATA
+  503 bad order
+RCPT TO:<POSTMASTER>
+  250 recipient ok
+NOOP any thing
+  250 ok
+EXPN list
+  502 not done here
+VRFY nobody
+  252 not verified
+DATA
+  354 end with a line that is a single period
+RSET
+.
+  from bob@b.example
+  ehlo c.example
+  to alice
+  | RSET
+  250 stored
+MAIL FROM:<one>
+  250 sender ok
+RCPT TO:<alice>
+  250 recipient ok
+RSET
+  250 reset
+RCPT TO:<bob>
+  503 bad order
+DATA
+  503 bad order
+MAIL FROM:<two>
+  250 sender ok
+RCPT TO:<bob>
+  250 recipient ok
+DATA
+  354 end with a line that is a single period
+.
+  from two
+  ehlo c.example
+  to bob
+  250 stored
+HELO d
+  250 node1
+MAIL FROM:<>
+  250 sender ok
+RCPT TO:<bob>
+  250 recipient ok
+DATA
+  354 end with a line that is a single period
+.
+  from 
+  helo d
+  to bob
+  250 stored
+QUIT
+  221 node1 closing
+  closed
+";
+
+// What a client may send at once.
+pub(super) const PIPELINED: &[u8] = b"\
+EHLO c
+  250-node1
+  250-SIZE 16777216
+  250-8BITMIME
+  250 PIPELINING
+MAIL FROM:<a> SIZE=3
+  250 sender ok
+RCPT TO:<bob>
+  250 recipient ok
+DATA
+  354 end with a line that is a single period
+.a
+.
+  from a
+  ehlo c
+  to bob
+  | a
+  250 stored
+NOOP
+  250 ok
+QUIT
+  221 node1 closing
+  closed
 ";
 
 // An answer that nobody waits for is not replied to.

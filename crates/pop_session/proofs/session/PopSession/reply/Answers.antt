@@ -19,10 +19,10 @@ pub returns-in_ok-message_into-in-Shown-clause-ok : goal.returns-in_ok-message_i
 returns-in_ok-message_into-in-Shown-clause-ok c =
     let old = c.args.self.now in
     let shows = c.in_ok-message_into-in-Shown.ensures.ok in
-    let Of : List ℕ → Type 0 = λ l. ShowsPart l shows.reply in (
+    let Of : List ℕ → Type 0 = λ l. ShowsPart c.in-Shown.lines l shows.reply in (
       flat_map sent_line shows.reply,
       shows.says,
-      λ plan. moved_shows plan old.node old.boot old.number old.seconds old.turn old.stage old.cutter c.in-Shown.octets shows.reply
+      λ plan. moved_shows plan old.node old.boot old.number old.seconds old.turn old.stage old.cutter c.in-Shown.octets c.in-Shown.lines shows.reply
           (c.in-Replies.is ∙ ap Replies c.in-Shown.is) (subst Of c.as_slice.ensures shows.shows) shows.lines,
     )
 

@@ -28,7 +28,7 @@ returns-clause-ok c =
           let octets = c.into_octets.ensures ∙ ap (λ t. t.0) c.replace-text.ensures.value ∙ small.0 in (
             small.1,
             refl,
-            mail_is old.told lines (envelope_of c.end_text-envelope.result) c.in_ok-helo.helo c.into_octets.result c.end_text-envelope.ensures.envelope c.in_ok-helo.ensures.name octets,
+            mail_is old.told lines (envelope_of c.end_text-envelope.result) c.in_ok-helo.helo c.into_octets.result c.is_extended-extended.result c.end_text-envelope.ensures.envelope c.in_ok-helo.ensures.name c.is_extended-extended.ensures octets,
             c.end_text-envelope.result.few,
             c.end_text-envelope.ensures.told plan lines [],
             refl,

@@ -8,7 +8,7 @@ use Rattle.smtp_session.specs.declared.session.Turn.{Turn}
 use Rattle.smtp_session.specs.Follows.{Moved}
 use Rattle.smtp_session.specs.Hears.{HearsLine, reply_in}
 use Rattle.smtp_session.specs.Talks.{talk_of}
-use Rattle.smtp_session.specs.Replies.{text_of}
+use Rattle.smtp_session.specs.Replies.{text_of, octets_of}
 use Rattle.smtp_session.specs.declared.reply.Reply.TheVariants.{LineTooLong}
 use Rattle.mail_model.specs.Lines.{sent_line}
 use Rattle.smtp_session.proofs.Units.{session}
@@ -47,7 +47,7 @@ returns-in_ok-heard-in-Some-Whole-clause-ok c =
     let line : take count c.rest.result.now ≡ take count old.cutter.rest = ap (λ (l : List ℕ). take count l) (c.rest.ensures ∙ ap (λ (s : Shown). s.rest) finds.same) in
     let Means : List ℕ → Type 0 = λ l. is_long_line l ≡ false → HearsLine c.args.plan.now (talk_of old.told) l heard (talk_of later) in
     let hears : Means (take count old.cutter.rest) = subst Means line c.in_ok-heard-in-Some-Whole.ensures.ok in
-    let octets : List ℕ = sent_line (text_of (reply_in heard) old.node) in
+    let octets : List ℕ = octets_of (reply_in heard) old.node in
     let At : Turn → Type 0 = λ t. Moved c.args.plan.now (session old.node t old.told old.cutter old.undotter old.text) Said octets
     (session old.node c.turn_behind-self.result later now old.undotter old.text) in (
       octets,
