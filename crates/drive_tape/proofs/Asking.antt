@@ -32,7 +32,6 @@ use Rattle.cluster_world.specs.Outcomes.Outcome.{Answers, StillPending, Unanswer
 use Rattle.cluster_world.specs.declared.world.World.{World}
 use Rattle.drive_tape.specs.declared.open_call.OpenCall.{OpenCall}
 use Rattle.drive_tape.specs.declared.cluster.Cluster.{Cluster}
-use Rattle.drive_tape.specs.declared.cluster.Heard.TheVariants as heard
 use Rattle.drive_tape.specs.declared.sessions.Sessions.{Sessions}
 use Rattle.drive_tape.specs.declared.sessions.After.{After}
 use Rattle.drive_tape.specs.declared.sessions.After.TheVariants.{Stays, Ends}
@@ -196,6 +195,7 @@ module _ (p : Point) (place : ℕ) (asks : AsksFrom place p) (plain : Session) (
       is_cut = inl refl;
       gave = subst (λ (h : Option (List ℕ)). Appends p.held h []) is (appends_none p.held);
     };
+    lives = λ not. absurd (not refl);
     causes = subst (λ (d : List Act). HasCauses on start (failed_in d) last) (sym (append-nil p.been)) (gone.1.causes (failed_in p.been) causes);
     since = since_gone on start old _ last gone;
   }
@@ -225,6 +225,7 @@ module _ {D : Type 0} (on : View D) (start : World D) (plan : Plan) (p : Point) 
     outcomes = p.outcomes ++ came;
     cut = cut_act plan p act says came (Hearing (place + 1) (place + 1)) (slice_set p.sessions place after) OutOfMemory held [] says [] one refl (inl refl) (inl refl)
         (subst (λ (h : Option (List ℕ)). Appends p.held h []) is (appends_none p.held));
+    lives = λ not. absurd (not refl);
     causes = causes_on on start old.world p.been act (does_plain (place + 1) (IsAnswered a.call answer a.whole.0)) (a.went.causes (failed_in p.been) a.shows.causes);
     since = (without_session (place + 1) p.awaited, a.went.at);
   })

@@ -6,7 +6,6 @@ use Rattle.std.proofs.lemmas.Grind.{flat_map-append}
 use Rattle.io_edge.proofs.Known.{appends_none}
 use Rattle.object_model.specs.Lists.{Among}
 use Rattle.mail_model.specs.Plan.{Plan}
-use Rattle.session_model.specs.Calls as calls
 use Rattle.session_model.specs.Talk.{Standing, IsOn}
 use Rattle.session_model.specs.Sessions.{Session, session_at}
 use Rattle.session_model.specs.Acts.{Act}
@@ -250,6 +249,7 @@ module _ {D : Type 0} (on : View D) (start : World D) (plan : Plan) (p : Point) 
       is_cut = inl refl;
       gave = appends_none p.held;
     };
+    lives = λ not. absurd (not refl);
     causes = causes_on on start last p.been act (does_plain (place + 1) (Hears b.one)) (gone.1.causes (failed_in p.been) b.causes);
     since = since_gone on start old.world _ last gone;
   }

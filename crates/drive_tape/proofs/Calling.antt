@@ -9,7 +9,7 @@ use Rattle.call_tickets.specs.declared.answer.Answer.{Answer}
 use Rattle.call_tickets.specs.declared.answer.Ask.TheVariants as ask
 use Rattle.mail_base.specs.declared.filing.CallKind.{CallKind}
 use Rattle.node_store.specs.Disks.{View}
-use Rattle.cluster_world.specs.Worlds.{state_of}
+use Rattle.cluster_world.specs.Worlds.{state_of, life_of}
 use Rattle.cluster_world.specs.Steps.{IsStep}
 use Rattle.cluster_world.specs.Outcomes.{Outcome, Awaited, IsLeave, LeavesUnanswered, fallen_in, left_after, awaited_elsewhere, without_session}
 use Rattle.cluster_world.specs.Outcomes.Outcome.{Began, Refused, Fell, Broke, Answers, StillPending, Unanswered, GaveUp, Abandoned, KeptUp, Left}
@@ -26,7 +26,7 @@ use Rattle.drive_tape.specs.Denials.{stop_by, IsDoneOr}
 use Rattle.drive_tape.specs.Kinds.{fits_kind, IsKindOf}
 use Rattle.drive_tape.specs.Worlds.{IsWholeCall, HandsOn, HasFailed, WorldIsAt, HasGone, BeganSo, AskedSo, GaveUpSo, LeftSo}
 use Rattle.drive_tape.proofs.Beginnings.{begins_so}
-use Rattle.drive_tape.proofs.Done.{given_up}
+use Rattle.drive_tape.proofs.Done.{given_up, refused_life}
 use Rattle.drive_tape.proofs.Chains.{carried, stands_at, went_more, has_failed}
 
 module _ {D : Type 0} (on : View D) (start old new : World D) (outcomes : List Outcome) (awaited : List Awaited) (k : ℕ) (at : WorldIsAt on start outcomes awaited old) where
@@ -125,7 +125,7 @@ module _ {D : Type 0} (on : View D) (start old new : World D) (outcomes : List O
       → GaveUpSo {T = T} on start outcomes awaited k asked ticket (Err stop) old new
   call_kept_up T asked ticket why stop same among is =
       let left = left_after (fallen_in (step.GiveUp ticket) (Err why)) awaited in
-      (why, same, (left, went_more on start outcomes awaited old at (KeptUp k ticket why) left new (asked, among, is, refl) tt))
+      (why, same, (left, went_more on start outcomes awaited old at (KeptUp k ticket why) left new (asked, among, is, refl) tt), λ f bad n. is.did.lives n ∙ refused_life why (step.GiveUp ticket) n (life_of old n) f (sym same ∙ bad))
 
   -- whichever of both
   pub gave_up_so : {T : Type 0} (asked : calls.Call) (ticket : Number) (result : Result Said StepFault) (handed : Result T Stop) → IsDoneOr result handed → Among (record { ticket = ticket; session = k; call = asked }) awaited

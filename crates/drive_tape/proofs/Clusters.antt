@@ -32,7 +32,7 @@ use Rattle.drive_tape.specs.Entries.{WritesEntries}
 use Rattle.drive_tape.specs.Stops.{of_write}
 use Rattle.drive_tape.specs.Leaving.{IsLeaveOf}
 use Rattle.drive_tape.specs.Moving.{has_ended}
-use Rattle.drive_tape.specs.Worlds.{WorldIsAt, IsSince, AreSameLives, HasCauses, WentTo, HasGone}
+use Rattle.drive_tape.specs.Worlds.{WorldIsAt, IsSince, AreLives, AreSameLives, HasCauses, WentTo, HasGone}
 use Rattle.drive_tape.specs.Points.{Point, Work, Cut, OneAct, IsAtPoint, Stopped, WentOn, WorkGoes, MayLack}
 use Rattle.drive_tape.specs.Clusters.{SessionHears, RestsAt, IsSaying, SessionEndsAt}
 use Rattle.drive_tape.proofs.Talks.{at_place}
@@ -124,6 +124,7 @@ module _ {D : Type 0} (on : View D) (start : World D) (plan : Plan) (p : Point) 
         outcomes = p.outcomes ++ Left (place + 1) node l.0 ∷ [];
         cut = cut_act plan p (Leaves (place + 1) l.0) [] (Left (place + 1) node l.0 ∷ []) (Asking onward) p.sessions OutOfMemory p.held [] [] []
             (leaves_one p place onward ends.plain ends.turn ends.here ends.idle ends.leaves_as plan node l.0 own l.1) refl (inl refl) (inl refl) (appends_none p.held);
+        lives = λ not. absurd (not refl);
         causes = causes_on on start last p.been (Leaves (place + 1) l.0) (leaves_plain (place + 1) l.0) ((left l.0 l.2).1.causes (failed_in p.been) shows.causes);
         since = since_gone on start cluster.world _ last (left l.0 l.2);
       }
@@ -132,9 +133,9 @@ module _ {D : Type 0} (on : View D) (start : World D) (plan : Plan) (p : Point) 
 pub stopped_writing : {D : Type 0} (on : View D) (start : World D) (plan : Plan) (p : Point) (act : Act) (entries : List Entry) (outcomes : List Outcome)
     (turn : Turn) (sessions : List Session) (held : Option (List ℕ)) (reason : WriteStop) (world : World D)
     → OneAct plan p act entries outcomes turn sessions → WritesEntries {E = WriteStop} p.held held (Err reason) entries → IsSince on start (p.outcomes ++ outcomes) world
-    → HasCauses on start (failed_in (p.been ++ act ∷ [])) world → Stopped on start plan p (of_write reason) held world
+    → AreLives plan (p.been ++ act ∷ []) world → HasCauses on start (failed_in (p.been ++ act ∷ [])) world → Stopped on start plan p (of_write reason) held world
 unfolding cut_act
-stopped_writing on start plan p act entries outcomes turn sessions held reason world one wrote since causes = by_reason reason
+stopped_writing on start plan p act entries outcomes turn sessions held reason world one wrote since lives causes = by_reason reason
   where
     some : wrote.1 ≢ []
     some none = let both : wrote.4.entry ∷ wrote.4.more ≡ [] = sym wrote.4.are ∙ none in cc
@@ -143,8 +144,8 @@ stopped_writing on start plan p act entries outcomes turn sessions held reason w
     with_stop stop may = cut_act plan p act entries outcomes turn sessions stop held wrote.0 wrote.1 wrote.2 one wrote.3 may (inr wrote.4) wrote.5
 
     by_reason : (r : WriteStop) → Stopped on start plan p (of_write r) held world
-    by_reason write.WriteFault = record { stop = SinkFailed; is = refl; outcomes = p.outcomes ++ outcomes; cut = with_stop SinkFailed (some, refl); causes = causes; since = since }
-    by_reason write.NoMemory = record { stop = OutOfMemory; is = refl; outcomes = p.outcomes ++ outcomes; cut = with_stop OutOfMemory (inl refl); causes = causes; since = since }
+    by_reason write.WriteFault = record { stop = SinkFailed; is = refl; outcomes = p.outcomes ++ outcomes; cut = with_stop SinkFailed (some, refl); lives = λ not. lives; causes = causes; since = since }
+    by_reason write.NoMemory = record { stop = OutOfMemory; is = refl; outcomes = p.outcomes ++ outcomes; cut = with_stop OutOfMemory (inl refl); lives = λ not. absurd (not refl); causes = causes; since = since }
 
 -- the point once all is written
 abbrev pub held_point : Point → Option (List ℕ) → Point
@@ -175,6 +176,7 @@ module _ {D : Type 0} (on : View D) (start : World D) (plan : Plan) (p q : Point
   stops_saying reason wrote =
       stopped_writing on start plan p saying.act _ saying.outcomes q.turn q.sessions held reason cluster.world saying.one wrote
       (q.awaited, subst (λ (o : List Outcome). WorldIsAt on start o q.awaited cluster.world) saying.came saying.shows.at)
+      (subst (λ (d : List Act). AreLives plan d cluster.world) saying.been saying.shows.lives)
       (subst (λ (d : List Act). HasCauses on start (failed_in d) cluster.world) saying.been saying.shows.causes)
 
 module _ {D : Type 0} (on : View D) (start : World D) (plan : Plan) (p q : Point) (place onward : ℕ) (out : List ℕ) (cluster : Cluster D) (held : Option (List ℕ)) where
@@ -209,6 +211,7 @@ stopped_on on start plan p q reason held world work more =
       is = more.is;
       outcomes = more.outcomes;
       cut = work_cut plan more.stop p q held more.outcomes work more.cut;
+      lives = λ not. subst (λ (d : List Act). AreLives plan d world) (ap (λ (d : List Act). d ++ more.cut.acts) work.been ∙ append_assoc p.been work.acts more.cut.acts) (more.lives not);
       causes = subst (λ (d : List Act). HasCauses on start (failed_in d) world) (ap (λ (d : List Act). d ++ more.cut.acts) work.been ∙ append_assoc p.been work.acts more.cut.acts) more.causes;
       since = more.since;
     }
@@ -222,6 +225,7 @@ stops_here on start plan p last since causes = record {
   is = refl;
   outcomes = p.outcomes;
   cut = cut_none plan p;
+  lives = λ not. absurd (not refl);
   causes = subst (λ (d : List Act). HasCauses on start (failed_in d) last) (sym (append-nil p.been)) causes;
   since = since;
 }

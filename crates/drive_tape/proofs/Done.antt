@@ -8,7 +8,12 @@ use Rattle.cluster_world.specs.declared.step.Step.TheVariants as step
 use Rattle.cluster_world.specs.declared.step.Said.{Said}
 use Rattle.cluster_world.specs.declared.step.Said.TheVariants as said
 use Rattle.cluster_world.specs.declared.fault.StepFault.{StepFault}
+use Rattle.cluster_world.specs.declared.fault.StepFault.TheVariants as step_fault
+use Rattle.cluster_world.specs.Turns.{life_after_step}
+use Rattle.session_model.specs.Events.{NodeLife}
 use Rattle.drive_tape.specs.declared.drove.Stop.{Stop}
+use Rattle.drive_tape.specs.declared.drove.Stop.TheVariants.{Bad, NoMemory}
+use Rattle.drive_tape.specs.declared.drove.TapeFault.{TapeFault}
 use Rattle.drive_tape.specs.Denials.{stop_by, IsDoneOr}
 
 pub crash_done : (node : ℕ) (what : Said) → SaysSo (step.Crash node) what → what ≡ said.Done
@@ -36,3 +41,15 @@ was_done one (Err why) t done says only = absurd done
 pub was_refused : (T : Type 0) (result : Result Said StepFault) (stop : Stop) → IsDoneOr {T = T} result (Err stop) → (why : StepFault) × (result ≡ Err why) × (stop ≡ stop_by why)
 was_refused T (Ok what) stop done = absurd done
 was_refused T (Err why) stop done = (why, refl, done)
+
+-- a step that was refused for a fault of the tape leaves each node as it was
+pub refused_life : (why : StepFault) (one : Step) (n : ℕ) (was : NodeLife) (fault : TapeFault) → stop_by why ≡ Bad fault → life_after_step (Err why) one n was ≡ was
+refused_life step_fault.NoSuchNode one n was fault is = refl
+refused_life step_fault.NodeLost one n was fault is = refl
+refused_life step_fault.NodeDown one n was fault is = refl
+refused_life step_fault.NodeUp one n was fault is = refl
+refused_life step_fault.NoSuchLetter one n was fault is = refl
+refused_life step_fault.NoSuchTicket one n was fault is = refl
+refused_life step_fault.Worn one n was fault is = refl
+refused_life step_fault.NoRoom one n was fault is = refl
+refused_life (step_fault.NoMemory down) one n was fault is = absurd (let never : NoMemory ≡ Bad fault = is in cc)

@@ -35,7 +35,7 @@ use Rattle.drive_tape.specs.declared.drove.Stop.{Stop as Why}
 use Rattle.drive_tape.specs.declared.drove.Stop.TheVariants as why
 use Rattle.drive_tape.specs.declared.reader.LineStop.{LineStop}
 use Rattle.drive_tape.specs.declared.reader.LineStop.TheVariants as line
-use Rattle.drive_tape.specs.Drive.{Stops, NamesLine, IsLineAtMost, Drives, EndsDenied, stop_of}
+use Rattle.drive_tape.specs.Drive.{Stops, NamesLine, Drives, EndsDenied, stop_of}
 use Rattle.drive_tape.specs.Faults.{tape_fault_seen}
 use Rattle.drive_tape.specs.Lines.{IsWhy, LineStopped}
 use Rattle.drive_tape.specs.Parts.{IsCutEntry, IsPartOfLine}
@@ -45,7 +45,7 @@ use Rattle.drive_tape.specs.Reads.{ReadsLine}
 use Rattle.drive_tape.specs.Runs.{Progress, Turned}
 use Rattle.drive_tape.specs.Stops.{of_line}
 use Rattle.drive_tape.specs.Talks.{Converse}
-use Rattle.drive_tape.specs.Worlds.{WorldIsAt, IsSince, HasCauses}
+use Rattle.drive_tape.specs.Worlds.{WorldIsAt, IsSince, AreLives, HasCauses}
 use Rattle.drive_tape.proofs.AtFirst.{first_lives, node_within}
 use Rattle.drive_tape.proofs.Kept.{kept_in, none_waits, letters_in}
 use Rattle.drive_tape.proofs.OwnNodes.{NodesStay, all_stay, at_nodes_more}
@@ -179,6 +179,7 @@ pub record Halt {D : Type 0} (on : View D) (start : World D) (plan : Plan) (p : 
   pub linked : AreLedTo stop p.outcomes (joined behind) new lacking extra
   pub at_nodes : AreAtOwnNodes sessions new
   pub since : IsSince on start (p.outcomes ++ new) world
+  pub lives : (stop ≡ OutOfMemory → ⊥) → AreLives plan (p.been ++ joined behind) world
   pub causes : HasCauses on start (failed_in (p.been ++ joined behind)) world
   pub missing : List Entry
   pub all : (missing ≡ []) ⊎ ((more : List Made) × IsLeftOff plan p.been OutOfMemory p.sessions midst behind (tail ++ missing) more sessions)
@@ -199,6 +200,7 @@ halt_none on start plan p held cluster stop shows same other undenied = record {
   linked = to_none stop p.outcomes;
   at_nodes = tt;
   since = (p.awaited, subst (λ (os : List Outcome). WorldIsAt on start os p.awaited cluster.world) (sym (append-nil p.outcomes)) shows.at);
+  lives = λ not. subst (λ (d : List Act). AreLives plan d cluster.world) (sym (append-nil p.been)) shows.lives;
   causes = subst (λ (d : List Act). HasCauses on start (failed_in d) cluster.world) (sym (append-nil p.been)) shows.causes;
   missing = [];
   all = inl refl;
@@ -219,6 +221,7 @@ halt_line on start plan p line reason held world s = record {
   linked = s.linked;
   at_nodes = s.at_nodes;
   since = s.since;
+  lives = s.lives;
   causes = s.causes;
   missing = s.missing;
   all = s.all;
@@ -347,6 +350,7 @@ module _ {D : Type 0} (on : View D) (start : World D) (left0 left1 left2 held0 h
       steps = h.since.1.made;
       led = led;
       at_nodes = nodes_are;
+      lives = λ not. subst (λ (d : List Act). AreLives (plan_of start) d world) (ap (λ (l : List Act). l ++ joined h.behind) p.been ∙ sym (flat_map-append (λ a. a) p.acts h.behind)) (h.lives not);
       none_waits = none_waits on start world begins stop p.handled midst p.acts h.behind _ entries sessions is_driven (p.point.outcomes ++ new) h.since.0 h.since.1.made refl nodes_are
           (λ k among. to_waits k stop [] (joined (p.acts ++ h.behind)) (p.point.outcomes ++ new) h.lacking h.extra led among);
       why = subst (λ (d : List Act). Stops (stop_of answer) stop (plan_of start) d sessions midst left2 others room2 (p.point.outcomes ++ new)) p.been stops;
@@ -381,6 +385,7 @@ not_handled on start plan p line reason held cluster stop shows same other unden
       linked = h.linked;
       at_nodes = h.at_nodes;
       since = h.since;
+      lives = h.lives;
       causes = h.causes;
       missing = h.missing;
       all = h.all;

@@ -1,12 +1,11 @@
 -- All sessions of a node that went down fall, one after another.
-use Rattle.std.proofs.Common.{◌≡◌, ◌≢◌, ◌⊎◌, ◌+◌, ◌-◌, ◌++◌, ◌∷◌, ◌<◌, ◌≤◌, ℕ, zero, suc, List, [], length, Option, Some, None, Err, refl, sym, ap, ◌∙◌, subst, ⊎_elim, arith}
+use Rattle.std.proofs.Common.{◌≡◌, ◌≢◌, ◌+◌, ◌-◌, ◌++◌, ◌∷◌, ◌<◌, ◌≤◌, ℕ, zero, suc, List, [], length, Option, Some, None, Err, refl, sym, ap, ◌∙◌, subst, ⊎_elim, arith}
 use Rattle.std.specs.Prelude.{slice_get, slice_set}
 use Rattle.std.specs.Io.KnownBytes.{Appends}
 use Rattle.std.proofs.lemmas.List.{append-nil}
 use Rattle.mail_model.specs.Plan.{Plan}
 use Rattle.mail_model.specs.Transcript.{Entry, written_of, said_lines}
 use Rattle.mail_model.specs.Site.{closed_event}
-use Rattle.session_model.specs.Calls as calls
 use Rattle.session_model.specs.Talk.{Standing, down_line}
 use Rattle.session_model.specs.Talk.Standing.{EndedDown}
 use Rattle.session_model.specs.Sessions.{Session, session_at}
@@ -133,6 +132,7 @@ module _ {D : Type 0} (on : View D) (start : World D) (plan : Plan) (p : Point) 
     stops_falling reason wrote =
         stopped_writing on start plan p (Does (place + 1) Falls) _ [] (Falling (place + 1 + 1) node onward) (slice_set p.sessions place fell.after) held reason new.world falls_one wrote
         (p.awaited, rw (world, append-nil p.outcomes) t.falling.at)
+        (lives_on plan p.been (Does (place + 1) Falls) new.world new.world (does_plain (place + 1) Falls) (same_lives new.world) (rw world t.falling.lives))
         (causes_on on start new.world p.been (Does (place + 1) Falls) (does_plain (place + 1) Falls) (rw world t.falling.causes))
 
   -- it had ended
@@ -228,7 +228,7 @@ module _ {D : Type 0} (on : View D) (start : World D) (plan : Plan) (p : Point) 
 
   pub stops_faulting : (held : Option (List ℕ)) (reason : WriteStop) → WritesEntries {E = WriteStop} p.held held (Err reason) (fault_event node ∷ []) → Stopped on start plan p (of_write reason) held old.world
   stops_faulting held reason wrote =
-      stopped_writing on start plan p (Faults node) _ [] (Falling 1 node onward) p.sessions held reason old.world faults_one wrote (p.awaited, rw (append-nil p.outcomes) f.fallen.at) f.fallen.causes
+      stopped_writing on start plan p (Faults node) _ [] (Falling 1 node onward) p.sessions held reason old.world faults_one wrote (p.awaited, rw (append-nil p.outcomes) f.fallen.at) f.fallen.lives f.fallen.causes
 
 -- all have fallen
 pub fallen_all : {D : Type 0} (on : View D) (start : World D) (plan : Plan) (p q : Point) (at node onward : ℕ) (new : Cluster D) (held : Option (List ℕ)) → Work plan p q → q.held ≡ held

@@ -8,7 +8,6 @@ use Rattle.mail_model.specs.Plan.{Plan}
 use Rattle.mail_model.specs.Site.{TapeFault as site}
 use Rattle.mail_model.specs.Tape.{Order, tape_order}
 use Rattle.mail_model.specs.Transcript.{Entry, said_lines}
-use Rattle.session_model.specs.Calls as calls
 use Rattle.session_model.specs.Talk.{Standing, IsOn}
 use Rattle.session_model.specs.Sessions.{Session, session_at}
 use Rattle.session_model.specs.Acts.{Act, Acted, closing}
@@ -35,7 +34,7 @@ use Rattle.drive_tape.specs.Drive.{IsDenied}
 use Rattle.drive_tape.specs.Faults.{tape_fault_seen}
 use Rattle.drive_tape.specs.Fed.{IsFeeding, IsFeedingAt}
 use Rattle.drive_tape.specs.Talks.{Converse, HasOwnTicket, TicketFits, StandsOnNode, SessionIsFound}
-use Rattle.drive_tape.specs.Worlds.{IsSince, HasCauses}
+use Rattle.drive_tape.specs.Worlds.{IsSince, AreLives, HasCauses}
 use Rattle.drive_tape.specs.Led.{IsUntold}
 use Rattle.drive_tape.specs.Points.{Point, Work, IsAtOwnNode, IsAtPoint, WorkGoes}
 use Rattle.drive_tape.specs.Clusters.{SessionHears, RestsAt, AsksFrom}
@@ -48,7 +47,7 @@ use Rattle.drive_tape.proofs.Places.{each_set, nodes_set, does_plain, up_on, liv
 
 -- nothing was done
 module _ {D : Type 0} (on : View D) (start : World D) (plan : Plan) (p : Point) (line : List ℕ) (held : Option (List ℕ)) (world : World D) (same : p.held ≡ held)
-    (since : IsSince on start p.outcomes world) (causes : HasCauses on start (failed_in p.been) world) where
+    (since : IsSince on start p.outcomes world) (causes : HasCauses on start (failed_in p.been) world) (lives : AreLives plan p.been world) where
   stopped : (stop : Stop) (reason : Why) → stop ≢ SinkFailed → stop ≢ Denied → IsWhy reason plan p line stop [] [] → LineStopped on start plan p line reason held world
   stopped stop reason not_sink not_denied is = record {
     stop = stop;
@@ -65,6 +64,7 @@ module _ {D : Type 0} (on : View D) (start : World D) (plan : Plan) (p : Point) 
     linked = to_none stop p.outcomes;
     at_nodes = tt;
     since = subst (λ (os : List Outcome). IsSince on start os world) (sym (append-nil p.outcomes)) since;
+    lives = λ not. subst (λ (been : List Act). AreLives plan been world) (sym (append-nil p.been)) lives;
     causes = subst (λ (been : List Act). HasCauses on start (failed_in been) world) (sym (append-nil p.been)) causes;
     missing = [];
     all = inl refl;
@@ -86,8 +86,8 @@ module _ {D : Type 0} (on : View D) (start : World D) (plan : Plan) (p : Point) 
 module _ {D : Type 0} (on : View D) (start : World D) (plan : Plan) (p : Point) (line : List ℕ) (held : Option (List ℕ)) (world : World D) (same : p.held ≡ held)
     (order : Order) (spelled : tape_order line ≡ Some order) (accepted : refusal plan p.been p.sessions order ≡ None) (outcome : Outcome) (first : FirstStep order p.sessions (made_of outcome))
     (untold : IsUntold outcome) (own : IsAtOwnNode p.sessions outcome) (since : IsSince on start (p.outcomes ++ outcome ∷ []) world) (causes : HasCauses on start (failed_in p.been) world) where
-  tried : (stop : Stop) (reason : Why) → IsInVain stop → IsWhy reason plan p line stop (line ∷ []) (outcome ∷ []) → LineStopped on start plan p line reason held world
-  tried stop reason vain is = record {
+  tried : (stop : Stop) (reason : Why) → IsInVain stop → IsWhy reason plan p line stop (line ∷ []) (outcome ∷ []) → ((stop ≡ OutOfMemory → ⊥) → AreLives plan p.been world) → LineStopped on start plan p line reason held world
+  tried stop reason vain is lives = record {
     stop = stop;
     midst = line ∷ [];
     behind = [] ∷ [];
@@ -102,6 +102,7 @@ module _ {D : Type 0} (on : View D) (start : World D) (plan : Plan) (p : Point) 
     linked = to_untold stop p.outcomes outcome untold;
     at_nodes = (own, tt);
     since = since;
+    lives = λ not. subst (λ (been : List Act). AreLives plan been world) (sym (append-nil p.been)) (lives not);
     causes = subst (λ (been : List Act). HasCauses on start (failed_in been) world) (sym (append-nil p.been)) causes;
     missing = [];
     all = inl refl;
@@ -111,23 +112,23 @@ module _ {D : Type 0} (on : View D) (start : World D) (plan : Plan) (p : Point) 
     gave = subst (λ (h : Option (List ℕ)). Appends p.held h []) same (appends_none p.held);
   }
 
-  bad : (one : TapeFault) → IsDenied one outcome → LineStopped on start plan p line (why.Bad one) held world
-  bad one denied = tried Denied (why.Bad one) tt (inr (refl, refl, ([], outcome, refl, denied)))
+  bad : (one : TapeFault) → IsDenied one outcome → AreLives plan p.been world → LineStopped on start plan p line (why.Bad one) held world
+  bad one denied lives = tried Denied (why.Bad one) tt (inr (refl, refl, ([], outcome, refl, denied))) (λ not. lives)
 
-  by_fault : (one : StepFault) → ((f : TapeFault) → stop_by one ≡ why.Bad f → IsDenied f outcome) → LineStopped on start plan p line (stop_by one) held world
-  by_fault fault.NoSuchNode denied = bad tape.NoSuchNode (denied tape.NoSuchNode refl)
-  by_fault fault.NodeLost denied = bad tape.NodeLost (denied tape.NodeLost refl)
-  by_fault fault.NodeDown denied = bad tape.NodeDown (denied tape.NodeDown refl)
-  by_fault fault.NodeUp denied = bad tape.NodeUp (denied tape.NodeUp refl)
-  by_fault fault.NoSuchLetter denied = bad tape.NoSuchLetter (denied tape.NoSuchLetter refl)
-  by_fault fault.NoSuchTicket denied = bad tape.NoSuchTicket (denied tape.NoSuchTicket refl)
-  by_fault fault.Worn denied = bad tape.Worn (denied tape.Worn refl)
-  by_fault fault.NoRoom denied = bad tape.NoRoom (denied tape.NoRoom refl)
-  by_fault (fault.NoMemory down) denied = tried OutOfMemory why.NoMemory tt refl
+  by_fault : (one : StepFault) → ((f : TapeFault) → stop_by one ≡ why.Bad f → IsDenied f outcome) → ((f : TapeFault) → stop_by one ≡ why.Bad f → AreLives plan p.been world) → LineStopped on start plan p line (stop_by one) held world
+  by_fault fault.NoSuchNode denied lives = bad tape.NoSuchNode (denied tape.NoSuchNode refl) (lives tape.NoSuchNode refl)
+  by_fault fault.NodeLost denied lives = bad tape.NodeLost (denied tape.NodeLost refl) (lives tape.NodeLost refl)
+  by_fault fault.NodeDown denied lives = bad tape.NodeDown (denied tape.NodeDown refl) (lives tape.NodeDown refl)
+  by_fault fault.NodeUp denied lives = bad tape.NodeUp (denied tape.NodeUp refl) (lives tape.NodeUp refl)
+  by_fault fault.NoSuchLetter denied lives = bad tape.NoSuchLetter (denied tape.NoSuchLetter refl) (lives tape.NoSuchLetter refl)
+  by_fault fault.NoSuchTicket denied lives = bad tape.NoSuchTicket (denied tape.NoSuchTicket refl) (lives tape.NoSuchTicket refl)
+  by_fault fault.Worn denied lives = bad tape.Worn (denied tape.Worn refl) (lives tape.Worn refl)
+  by_fault fault.NoRoom denied lives = bad tape.NoRoom (denied tape.NoRoom refl) (lives tape.NoRoom refl)
+  by_fault (fault.NoMemory down) denied lives = tried OutOfMemory why.NoMemory tt refl (λ not. absurd (not refl))
 
   -- the cluster denied it, or memory ran out
-  pub in_vain : (one : StepFault) (reason : Why) → reason ≡ stop_by one → ((f : TapeFault) → stop_by one ≡ why.Bad f → IsDenied f outcome) → LineStopped on start plan p line reason held world
-  in_vain one reason is denied = subst (λ (r : Why). LineStopped on start plan p line r held world) (sym is) (by_fault one denied)
+  pub in_vain : (one : StepFault) (reason : Why) → reason ≡ stop_by one → ((f : TapeFault) → stop_by one ≡ why.Bad f → IsDenied f outcome) → ((f : TapeFault) → stop_by one ≡ why.Bad f → AreLives plan p.been world) → LineStopped on start plan p line reason held world
+  in_vain one reason is denied lives = subst (λ (r : Why). LineStopped on start plan p line r held world) (sym is) (by_fault one denied lives)
 
 -- the world as it was
 pub since_shows : {D : Type 0} (on : View D) (start : World D) (plan : Plan) (cluster : Cluster D) (p : Point) → IsAtPoint on start plan cluster p → IsSince on start p.outcomes cluster.world

@@ -173,7 +173,7 @@ module _ {D : Type 0} (on : View D) (start : World D) (plan : Plan) (p : Point) 
           heard = w.ticket.heard;
         }
 
-    pub kept_up : (stop : Why) → GaveUpSo {T = Bool} on start p.outcomes p.awaited (place + 1) waits_so.call open_call.ticket (Err stop) old.world new.world → IsKeptUp on start p place stop new.world
+    pub kept_up : (stop : Why) → GaveUpSo {T = Bool} on start p.outcomes p.awaited (place + 1) waits_so.call open_call.ticket (Err stop) old.world new.world → IsKeptUp on start plan p place stop new.world
     kept_up stop so = record {
       ticket = open_call.ticket;
       why = so.0;
@@ -182,11 +182,12 @@ module _ {D : Type 0} (on : View D) (start : World D) (plan : Plan) (p : Point) 
       here = here;
       waits = (waits_so.state, waits_so.call, waits_so.waits);
       since = (so.2.0, so.2.1.at);
+      lives = λ f bad n there. so.3 f bad n ∙ shows.lives n there;
       causes = so.2.1.causes (failed_in p.been) shows.causes;
     }
 
 -- a step that was refused, as a line closes or gives up
-module _ {D : Type 0} (on : View D) (start : World D) (plan : Plan) (p : Point) (line : List ℕ) (place : ℕ) (stop : Why) (held : Option (List ℕ)) (world : World D) (same : p.held ≡ held) (k : IsKeptUp on start p place stop world) where
+module _ {D : Type 0} (on : View D) (start : World D) (plan : Plan) (p : Point) (line : List ℕ) (place : ℕ) (stop : Why) (held : Option (List ℕ)) (world : World D) (same : p.held ≡ held) (k : IsKeptUp on start plan p place stop world) where
   at_k : session_at p.sessions (place + 1) ≡ Some k.plain
   at_k = at_place p.sessions (place + 1) place refl ∙ k.here
 
@@ -196,12 +197,12 @@ module _ {D : Type 0} (on : View D) (start : World D) (plan : Plan) (p : Point) 
   pub close_in_vain : tape_order line ≡ Some (Close (place + 1)) → LineStopped on start plan p line stop held world
   close_in_vain spelled =
       in_vain on start plan p line held world same (Close (place + 1)) spelled (is_spoken_to p.sessions (place + 1) k.plain at_k stands_on) (KeptUp (place + 1) k.ticket k.why)
-      (subst Waits (sym at_k) k.waits, refl) tt tt k.since k.causes k.why stop k.stops (λ f is. is)
+      (subst Waits (sym at_k) k.waits, refl) tt tt k.since k.causes k.why stop k.stops (λ f is. is) (λ f is. k.lives f (k.stops ∙ is))
 
   pub giving_in_vain : tape_order line ≡ Some (GiveUp (place + 1)) → LineStopped on start plan p line stop held world
   giving_in_vain spelled =
       in_vain on start plan p line held world same (GiveUp (place + 1)) spelled (ap giving_fault at_k ∙ ap waiting_fault k.waits.2) (KeptUp (place + 1) k.ticket k.why)
-      refl tt tt k.since k.causes k.why stop k.stops (λ f is. is)
+      refl tt tt k.since k.causes k.why stop k.stops (λ f is. is) (λ f is. k.lives f (k.stops ∙ is))
 
 -- a session that does not wait has no call to give up
 not_giving : (standing : Standing) → IsOn standing → ((state : TalkState) (call : calls.Call) → standing ≢ Waiting state call) → waiting_fault standing ≡ Some site.BadLine
@@ -221,6 +222,9 @@ module _ {D : Type 0} (on : View D) (start : World D) (plan : Plan) (p : Point) 
 
   pub none_causes : HadNone on start plan p place cluster → HasCauses on start (failed_in p.been) cluster.world
   none_causes h = subst (λ (been : List Act). HasCauses on start (failed_in been) cluster.world) (append-nil p.been) h.freed.causes
+
+  pub none_lives : HadNone on start plan p place cluster → AreLives plan p.been cluster.world
+  none_lives h = subst (λ (been : List Act). AreLives plan been cluster.world) (append-nil p.been) h.freed.lives
 
   pub giving : tape_order line ≡ Some (GiveUp (place + 1)) → IsLetGo on start plan p place cluster → IsGivingUpAt on start plan p line place cluster
   giving spelled g = record { spelled = spelled; call = g.call; ticket = g.ticket; freed = g.told; state = g.state; waits = g.waits; before = g.before; last = g.last; heard = g.heard }

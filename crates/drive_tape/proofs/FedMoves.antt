@@ -1,5 +1,5 @@
 -- A run line that moves the cluster itself.
-use Rattle.std.proofs.Common.{◌≡◌, ◌≢◌, ◌⊎◌, ◌+◌, ◌++◌, ◌∷◌, ◌<◌, ℕ, nat_eq, Bool, true, false, List, [], Option, Some, None, Result, Err, refl, sym, ap, ◌∙◌, subst, ⊎_elim, arith}
+use Rattle.std.proofs.Common.{◌≡◌, ◌≢◌, ◌+◌, ◌++◌, ◌∷◌, ◌<◌, ℕ, nat_eq, Bool, true, false, List, [], Option, Some, None, Result, Err, refl, sym, ap, ◌∙◌, subst, ⊎_elim, arith}
 use Rattle.std.proofs.lemmas.Bool.Decides.{nat_tests}
 use Rattle.std.specs.Prelude.{◌||◌, not, if◌then◌else◌}
 use Rattle.std.specs.Io.KnownBytes.{Appends}
@@ -198,7 +198,7 @@ module _ {D : Type 0} (on : View D) (start : World D) (plan : Plan) (p : Point) 
   stops_moved reason held wrote =
       stops_event on start plan p (Moves h.order) line h.spelled h.accepted (Makes h.order (event_seen event)) (event_entries (event_seen event)) (turn_after_event (event_seen event)) p.sessions
       (event_seen event, is_event, refl, refl) (refl, refl) (Moved h.order h.happened.steps ∷ []) linked_so (tt, tt) reason held cluster.world wrote
-      (left_after (fallen_by (event_seen event)) p.awaited, h.happened.at.at) causes_now
+      (left_after (fallen_by (event_seen event)) p.awaited, h.happened.at.at) lives_now causes_now
 
   pub may_fall : (held : Option (List ℕ)) (fallen : Option ℕ) → fallen_by (event_seen event) ≡ fallen → MayFallBy on start plan (moved_point held) fallen cluster
   may_fall held None is = (
@@ -231,10 +231,10 @@ module _ {D : Type 0} (on : View D) (start : World D) (plan : Plan) (p : Point) 
 
 -- nothing came of the steps
 pub moved_in_vain : {D : Type 0} (on : View D) (start : World D) (plan : Plan) (p : Point) (line : List ℕ) (one : tape.ClusterOrder) (stop : Why) (held : Option (List ℕ)) (old world : World D) → p.held ≡ held
-    → tape_order line ≡ Some (Moves one) → refusal plan p.been p.sessions (Moves one) ≡ None → HasCauses on start (failed_in p.been) old
+    → tape_order line ≡ Some (Moves one) → refusal plan p.been p.sessions (Moves one) ≡ None → AreLives plan p.been old → HasCauses on start (failed_in p.been) old
     → MovedSo on start p.outcomes p.awaited p.been old one (Err stop) world → LineStopped on start plan p line stop held world
-moved_in_vain on start plan p line one stop held old world same spelled accepted causes so =
+moved_in_vain on start plan p line one stop held old world same spelled accepted lives causes so =
     let denied = so.2 in
     let gone = so.3 in
     in_vain on start plan p line held world same (Moves one) spelled accepted (Moved one so.1) (so.0, refl) (denied.why, (denied.before, denied.one, denied.last, denied.refused)) tt (gone.0, gone.1.at) (gone.1.causes (failed_in p.been) causes) denied.why stop denied.stops
-    (λ f is. (denied.before, denied.one, denied.why, denied.last, denied.refused, is))
+    (λ f is. (denied.before, denied.one, denied.why, denied.last, denied.refused, is)) (λ f is n there. so.4 f (denied.stops ∙ is) n ∙ lives n there)

@@ -123,6 +123,7 @@ module _ {D : Type 0} (on : View D) (start : World D) (plan : Plan) (p : Point) 
   opened_stopped line held reason world same spelled wrote =
       stops_first on start plan p (Open protocol node) line spelled accepted (Opens protocol node greeting) _ (Asking 1) (p.sessions ++ opened_session protocol node ∷ []) opens_so opens_acted [] refl tt
       reason held world wrote (p.awaited, rw (same, append-nil p.outcomes) shows.at)
+      (lives_on plan p.been (Opens protocol node greeting) world world (opens_plain protocol node greeting) (same_lives world) (rw same shows.lives))
       (causes_on on start world p.been (Opens protocol node greeting) (opens_plain protocol node greeting) (rw same shows.causes))
 
   pub opened_shows : (held : Option (List ℕ)) (new : Cluster D) → new.world ≡ old.world → AreEven old.sessions → Converse new.sessions.talkers.items (p.sessions ++ opened_session protocol node ∷ [])

@@ -64,6 +64,7 @@ module _ {D : Type 0} (on : View D) (start : World D) (plan : Plan) (p q : Point
   stops_telling reason wrote =
       stops_first on start plan p t.order line t.spelled t.accepted t.act _ q.turn q.sessions t.starts t.acted t.outcomes t.linked t.at_nodes reason held cluster.world wrote
       (q.awaited, subst (λ (o : List Outcome). WorldIsAt on start o q.awaited cluster.world) t.came t.shows.at)
+      (subst (λ (d : List Act). AreLives plan d cluster.world) t.been t.shows.lives)
       (subst (λ (d : List Act). HasCauses on start (failed_in d) cluster.world) t.been t.shows.causes)
 
   -- or all of it
@@ -190,6 +191,7 @@ module _ {D : Type 0} (on : View D) (start : World D) (plan : Plan) (p : Point) 
       (GaveUp (place + 1) g.call g.ticket ∷ []) (linked_so g.call failed.0 refl) (tt, tt) why.NoMemory held old.world OutOfMemory refl [] entries refl (inl refl) [] (inl refl)
       (subst (λ (h : Option (List ℕ)). Appends p.held h []) same (appends_none p.held))
       (without_session (place + 1) p.awaited, g.freed.at)
+      (λ not. absurd (not refl))
       (causes_on on start old.world p.been (Does (place + 1) (IsGivenUp g.call failed.0)) (does_plain (place + 1) (IsGivenUp g.call failed.0)) causes_now)
 
   module _ (new : Cluster D) (after : After) (out : List ℕ) (world : new.world ≡ old.world) (nodes : new.sessions.nodes ≡ old.sessions.nodes) (kept : new.sessions.calls ≡ old.sessions.calls)

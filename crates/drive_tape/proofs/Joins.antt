@@ -1,5 +1,5 @@
 -- A line's own act, and what follows it.
-use Rattle.std.proofs.Common.{◌≡◌, ◌≢◌, ◌⊎◌, inl, inr, ⊎_elim, ℕ, List, [], ◌∷◌, ◌++◌, Option, Some, None, Result, Ok, Err, refl, sym, ap, ◌∙◌, subst, append_assoc}
+use Rattle.std.proofs.Common.{◌≡◌, ◌≢◌, inl, inr, ⊎_elim, ℕ, List, [], ◌∷◌, ◌++◌, Option, Some, None, Result, Ok, Err, refl, sym, ap, ◌∙◌, subst, append_assoc}
 use Rattle.std.specs.Io.KnownBytes.{Appends}
 use Rattle.std.proofs.lemmas.List.{append-nil, append_cancel_right}
 use Rattle.io_edge.proofs.Known.{appends_more}
@@ -29,7 +29,7 @@ use Rattle.drive_tape.specs.Parts.{IsCutEntry, IsPartOfLine}
 use Rattle.drive_tape.specs.Led.{Led, AreLed, AreLedTo}
 use Rattle.drive_tape.specs.Points.{Point, AreAtOwnNodes, IsMissingTail, MayLack, IsStop, Stopped, WentOn, WorkGoes}
 use Rattle.drive_tape.specs.Stops.{of_write}
-use Rattle.drive_tape.specs.Worlds.{IsSince, HasCauses}
+use Rattle.drive_tape.specs.Worlds.{IsSince, AreLives, HasCauses}
 use Rattle.drive_tape.proofs.OwnNodes.{at_nodes_more, goes_stay}
 use Rattle.drive_tape.proofs.Replies.{written_more}
 use Rattle.drive_tape.proofs.Led.{led_one, led_more, to_none, to_more}
@@ -142,8 +142,8 @@ module _ {D : Type 0} (on : View D) (start : World D) (plan : Plan) (p : Point) 
       → turns.ActsGo plan turn sessions acts outputs next new → (came : List Outcome) (lacking : List Asked) (extra : List Made) → AreLedTo stop (p.outcomes ++ firsts) acts came lacking extra → AreAtOwnNodes new came → MayHaveAsked stop next new extra
       → (front missing : List Entry) → LastCut (said ∷ outputs) front missing → MayLack stop missing lacking
       → (cut : List ℕ) → IsCutEntry missing cut → Appends p.held held (written_of front ++ cut) → IsSince on start (p.outcomes ++ (firsts ++ came)) world
-      → HasCauses on start (failed_in (p.been ++ first ∷ acts)) world → LineStopped on start plan p line reason held world
-  stops_in reason held world stop is acts outputs next new goes came lacking extra linked at_nodes asked front missing last may cut is_cut gave since causes = record {
+      → ((stop ≡ OutOfMemory → ⊥) → AreLives plan (p.been ++ first ∷ acts) world) → HasCauses on start (failed_in (p.been ++ first ∷ acts)) world → LineStopped on start plan p line reason held world
+  stops_in reason held world stop is acts outputs next new goes came lacking extra linked at_nodes asked front missing last may cut is_cut gave since lives causes = record {
     stop = stop;
     midst = line ∷ [];
     behind = (first ∷ acts) ∷ [];
@@ -172,6 +172,7 @@ module _ {D : Type 0} (on : View D) (start : World D) (plan : Plan) (p : Point) 
         (to_more stop p.outcomes (first ∷ []) firsts acts came lacking extra (led_one p.outcomes first firsts own) linked);
     at_nodes = at_nodes_more sessions new (goes_stay plan turn next sessions new acts outputs goes) firsts came at_own at_nodes;
     since = since;
+    lives = λ not. subst (λ (by : List Act). AreLives plan (p.been ++ by) world) (sym (append-nil (first ∷ acts))) (lives not);
     causes = subst (λ (by : List Act). HasCauses on start (failed_in (p.been ++ by)) world) (sym (append-nil (first ∷ acts))) causes;
     missing = missing;
     all = inr (
@@ -202,33 +203,33 @@ module _ {D : Type 0} (on : View D) (start : World D) (plan : Plan) (p : Point) 
 
   -- a front of the first act's own lines was written, and nothing was done after it
   pub stops_own : (reason : Why) (held : Option (List ℕ)) (world : World D) (stop : Stop) → IsStop reason stop → (front missing : List Entry) → said ≡ front ++ missing → MayLack stop missing []
-      → (cut : List ℕ) → IsCutEntry missing cut → Appends p.held held (written_of front ++ cut) → IsSince on start (p.outcomes ++ firsts) world → HasCauses on start (failed_in (p.been ++ first ∷ [])) world
-      → LineStopped on start plan p line reason held world
-  stops_own reason held world stop is front missing parts may cut is_cut gave since causes =
+      → (cut : List ℕ) → IsCutEntry missing cut → Appends p.held held (written_of front ++ cut) → IsSince on start (p.outcomes ++ firsts) world
+      → ((stop ≡ OutOfMemory → ⊥) → AreLives plan (p.been ++ first ∷ []) world) → HasCauses on start (failed_in (p.been ++ first ∷ [])) world → LineStopped on start plan p line reason held world
+  stops_own reason held world stop is front missing parts may cut is_cut gave since lives causes =
       stops_in reason held world stop is [] [] turn sessions (refl, refl) [] [] [] (to_none stop (p.outcomes ++ firsts)) tt (nothing_asked stop turn sessions) front missing
       (record { before = []; says = said; are = refl; kept = front; cut = parts; written = refl }) may cut is_cut gave
-      (subst (λ (os : List Outcome). IsSince on start (p.outcomes ++ os) world) (sym (append-nil firsts)) since) causes
+      (subst (λ (os : List Outcome). IsSince on start (p.outcomes ++ os) world) (sym (append-nil firsts)) since) lives causes
 
   -- they were written in part
   pub stops_first : (reason : WriteStop) (held : Option (List ℕ)) (world : World D) → WritesEntries {E = WriteStop} p.held held (Err reason) said → IsSince on start (p.outcomes ++ firsts) world
-      → HasCauses on start (failed_in (p.been ++ first ∷ [])) world → LineStopped on start plan p line (of_write reason) held world
-  stops_first write.WriteFault held world wrote since causes =
-      stops_own why.WriteFault held world SinkFailed refl wrote.0 wrote.1 wrote.3 (part_some wrote.1 wrote.2 wrote.4, refl) wrote.2 (inr wrote.4) wrote.5 since causes
-  stops_first write.NoMemory held world wrote since causes =
-      stops_own why.NoMemory held world OutOfMemory refl wrote.0 wrote.1 wrote.3 (inl refl) wrote.2 (inr wrote.4) wrote.5 since causes
+      → AreLives plan (p.been ++ first ∷ []) world → HasCauses on start (failed_in (p.been ++ first ∷ [])) world → LineStopped on start plan p line (of_write reason) held world
+  stops_first write.WriteFault held world wrote since lives causes =
+      stops_own why.WriteFault held world SinkFailed refl wrote.0 wrote.1 wrote.3 (part_some wrote.1 wrote.2 wrote.4, refl) wrote.2 (inr wrote.4) wrote.5 since (λ not. lives) causes
+  stops_first write.NoMemory held world wrote since lives causes =
+      stops_own why.NoMemory held world OutOfMemory refl wrote.0 wrote.1 wrote.3 (inl refl) wrote.2 (inr wrote.4) wrote.5 since (λ not. lives) causes
 
   -- or where there may be none
   pub stops_event : (reason : WriteStop) (held : Option (List ℕ)) (world : World D) → WritesOrStops p.held held (Err reason) said → IsSince on start (p.outcomes ++ firsts) world
-      → HasCauses on start (failed_in (p.been ++ first ∷ [])) world → LineStopped on start plan p line (of_write reason) held world
-  stops_event reason held world wrote since causes = by_entries said refl reason wrote
+      → AreLives plan (p.been ++ first ∷ []) world → HasCauses on start (failed_in (p.been ++ first ∷ [])) world → LineStopped on start plan p line (of_write reason) held world
+  stops_event reason held world wrote since lives causes = by_entries said refl reason wrote
     where
       by_entries : (es : List Entry) → said ≡ es → (r : WriteStop) → WritesOrStops p.held held (Err r) es → LineStopped on start plan p line (of_write r) held world
-      by_entries [] none write.NoMemory none_wrote = stops_own why.NoMemory held world OutOfMemory refl [] [] none (inl refl) [] (inl refl) none_wrote since causes
+      by_entries [] none write.NoMemory none_wrote = stops_own why.NoMemory held world OutOfMemory refl [] [] none (inl refl) [] (inl refl) none_wrote since (λ not. lives) causes
       by_entries [] none write.WriteFault none_wrote = absurd none_wrote
       by_entries (entry ∷ es) some write.NoMemory some_wrote =
-          stops_first write.NoMemory held world (subst (λ (l : List Entry). WritesEntries {E = WriteStop} p.held held (Err write.NoMemory) l) (sym some) some_wrote) since causes
+          stops_first write.NoMemory held world (subst (λ (l : List Entry). WritesEntries {E = WriteStop} p.held held (Err write.NoMemory) l) (sym some) some_wrote) since lives causes
       by_entries (entry ∷ es) some write.WriteFault some_wrote =
-          stops_first write.WriteFault held world (subst (λ (l : List Entry). WritesEntries {E = WriteStop} p.held held (Err write.WriteFault) l) (sym some) some_wrote) since causes
+          stops_first write.WriteFault held world (subst (λ (l : List Entry). WritesEntries {E = WriteStop} p.held held (Err write.WriteFault) l) (sym some) some_wrote) since lives causes
 
 -- what is written of an event, where all of it is
 pub wrote_all : (old new : Option (List ℕ)) (done : Unit {0}) (entries : List Entry) → WritesOrStops old new (Ok done) entries → Appends old new (written_of entries)
@@ -266,6 +267,7 @@ module _ {D : Type 0} (on : View D) (start : World D) (plan : Plan) (p q : Point
       c.acts c.outputs c.turn c.sessions c.goes c.new c.lacking c.extra (subst (λ (os : List Outcome). AreLedTo stopped.stop os c.acts c.new c.lacking c.extra) s.came c.linked) c.at_nodes c.asked (s.said ++ c.front) c.missing (last_cut s.said c.outputs c.front c.missing c.parts c.tail) c.may c.cut c.is_cut
       (subst (Appends p.held held) (sym (append_assoc (written_of s.said) (written_of c.front) c.cut) ∙ ap (λ (l : List ℕ). l ++ c.cut) (sym (written_more s.said c.front))) (appends_more _ _ _ _ _ s.gave c.gave))
       (subst (λ (os : List Outcome). IsSince on start os world) (c.came ∙ ap (λ (l : List Outcome). l ++ c.new) s.came ∙ append_assoc p.outcomes s.outcomes c.new) stopped.since)
+      (λ not. subst (λ (been : List Act). AreLives plan been world) (ap (λ (l : List Act). l ++ c.acts) s.been ∙ append_assoc p.been (s.first ∷ []) c.acts) (stopped.lives not))
       (subst (λ (been : List Act). HasCauses on start (failed_in been) world) (ap (λ (l : List Act). l ++ c.acts) s.been ∙ append_assoc p.been (s.first ∷ []) c.acts) stopped.causes)
 
 -- the line's own act, and then what it leads to

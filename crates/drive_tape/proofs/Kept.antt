@@ -1,5 +1,5 @@
 -- A world that was driven keeps what was promised to clients, by its own disks and its own book.
-use Rattle.std.proofs.Common.{◌≡◌, ◌⊎◌, ⊎_elim, inl, inr, ◌≤◌, ℕ, List, [], ◌∷◌, ◌++◌, map, flat_map, All, Option, Some, None, refl, sym, ap, ap₂, ◌∙◌, subst}
+use Rattle.std.proofs.Common.{◌≡◌, ⊎_elim, inl, inr, ◌≤◌, ℕ, List, [], ◌∷◌, ◌++◌, map, flat_map, All, Option, Some, None, refl, sym, ap, ap₂, ◌∙◌, subst}
 use Rattle.std.proofs.lemmas.List.{append-nil}
 use Rattle.std.proofs.lemmas.List.Elements.{All-head, All-tail}
 use Rattle.mail_model.specs.Plan.{Plan}
@@ -12,7 +12,6 @@ use Rattle.mail_model.specs.Transcript.{Entry}
 use Rattle.mail_model.specs.Stored.{opened, kind_at}
 use Rattle.object_model.specs.Letters.{Number}
 use Rattle.object_model.specs.Lists.{Among}
-use Rattle.object_model.proofs.Lists.{among_front, among_behind}
 use Rattle.session_model.specs.Calls.{Call}
 use Rattle.session_model.specs.Calls.Call.{Deliver, Login, Fetch, Strike}
 use Rattle.session_model.specs.Sessions.{Session, session_at, exchanges_of}

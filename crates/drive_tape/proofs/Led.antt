@@ -14,7 +14,7 @@ use Rattle.session_model.specs.Logs.{Asked, asked_by, answered_by}
 use Rattle.session_model.specs.Run.{Made, Stop, made_by}
 use Rattle.session_model.specs.Run.Stop.{BehindLine, Denied, SinkFailed, OutOfMemory}
 use Rattle.cluster_world.specs.Outcomes.{Outcome, made_of, asked_by_outcome, answered_by_outcome}
-use Rattle.cluster_world.specs.Outcomes.Outcome.{Began, Refused, Fell, Broke, Answers, StillPending, Unanswered, GaveUp, Abandoned, KeptUp, Left, Moved}
+use Rattle.cluster_world.specs.Outcomes.Outcome.{Began, Refused, Fell, Broke, StillPending, Unanswered, KeptUp, Moved}
 use Rattle.drive_tape.specs.Led.{Led, AreLed, AreLedTo, Begins, EndsWith, IsUntold, CameToNothing}
 
 -- one act

@@ -1,20 +1,16 @@
 -- What was made of the cluster for the lines of a tape, by their acts.
-use Rattle.std.proofs.Common.{◌≡◌, ◌⊎◌, inl, inr, ⊎_elim, ◌+◌, ℕ, List, [], ◌∷◌, ◌++◌, map, flat_map, Option, Some, None, refl, sym, ap, ap₂, ◌∙◌, subst}
+use Rattle.std.proofs.Common.{◌≡◌, ◌⊎◌, inl, inr, ⊎_elim, ℕ, List, [], ◌∷◌, ◌++◌, map, flat_map, Option, Some, None, refl, sym, ap, ap₂, ◌∙◌, subst}
 use Rattle.std.proofs.lemmas.List.{append-nil}
 use Rattle.std.proofs.lemmas.Grind.{flat_map-append}
 use Rattle.mail_model.specs.Plan.{Plan}
 use Rattle.mail_model.specs.Tape.{Order, ClusterOrder, tape_order}
 use Rattle.mail_model.specs.Tape.Order.{Open, Say, Feed, Close, GiveUp, End}
-use Rattle.mail_model.specs.Tape.{ClusterOrder as order}
-use Rattle.mail_model.specs.Transcript.{Entry, all_of}
-use Rattle.mail_model.specs.Stored.{IsLost}
-use Rattle.mail_model.proofs.ShownCuts.{front_of_one}
+use Rattle.mail_model.specs.Transcript.{Entry}
 use Rattle.object_model.specs.Lists.{Among}
 use Rattle.session_model.specs.Calls.{Call}
-use Rattle.session_model.specs.Events.{ClusterEvent, NodeLife, IsEventOf, lost_event}
-use Rattle.session_model.specs.Events.ClusterEvent.{WentDown, CameUp, WasLost, WasHeard, WasThrown, WasDropped, HasFlowed, HasSent, HasWidened, HasFaulted}
+use Rattle.session_model.specs.Events.{ClusterEvent, IsEventOf}
 use Rattle.session_model.specs.Sessions.{Session}
-use Rattle.session_model.specs.Acts.{Act, Acted}
+use Rattle.session_model.specs.Acts.{Act}
 use Rattle.session_model.specs.Acts.Act.{Opens, Does, Faults, StillWaits, Leaves, Makes, Abandons}
 use Rattle.session_model.specs.Acts.Deed.{IsFed, Hears, IsAnswered, IsGivenUp, Falls, Closes}
 use Rattle.session_model.specs.Lives.{life_after}
@@ -22,9 +18,8 @@ use Rattle.session_model.specs.Logs.{Asked, asked_by, call_in}
 use Rattle.session_model.specs.Books.{Among as AmongAsked}
 use Rattle.session_model.specs.Turns.{Turn, Next, ActsGo, Starts}
 use Rattle.session_model.specs.Turns.Turn.{Hearing, Beginning, Closing, Falling, Asking}
-use Rattle.session_model.specs.Run.{Made, Stop, MayMiss, MayHaveAsked, FirstStep, IsAlwaysDone, IsBegun, AreHandled, IsCutOff, IsLeftOff, IsDriven, IsCutShort, made_by}
+use Rattle.session_model.specs.Run.{Made, Stop, MayHaveAsked, FirstStep, IsAlwaysDone, IsBegun, AreHandled, IsLeftOff, IsDriven, made_by}
 use Rattle.session_model.specs.Run.Stop.{BehindLine, Denied, SinkFailed, OutOfMemory}
-use Rattle.session_model.specs.Losses.{IsLostIn}
 use Rattle.drive_tape.proofs.Begins.{among_more, among_split}
 
 among_behind : {X : Type 0} (x : X) (xs ys : List X) → Among x ys → Among x (xs ++ ys)
@@ -253,111 +248,3 @@ module _ (plan : Plan) (stop : Stop) (handled left : List (List ℕ)) (acts othe
       (acts_split (Made.Moves asked) own))
       (λ beside. order_behind handled left asked ((left_extra plan (flat_map (λ a. a) acts) stop driven.mid last left others driven.tail driven.extra (Made.Moves asked) driven.off beside).moves asked refl).1)
       (made_split (Made.Moves asked) among)
-
--- losses
-
-lost_front : (entries more : List Entry) (node : ℕ) → IsLost entries node → IsLost (entries ++ more) node
-lost_front [] more node lost = absurd lost
-lost_front (entry ∷ entries) more node lost = ⊎_elim (λ here. inl here) (λ later. inr (lost_front entries more node later)) lost
-
-lost_behind : (entries more : List Entry) (node : ℕ) → IsLost more node → IsLost (entries ++ more) node
-lost_behind [] more node lost = lost
-lost_behind (entry ∷ entries) more node lost = inr (lost_behind entries more node lost)
-
--- whatever comes of a loss is that the node is lost
-event_of_loss : (plan : Plan) (lives : ℕ → NodeLife) (node : ℕ) (event : ClusterEvent) → IsEventOf plan lives (order.Lose node) event → event ≡ WasLost node
-event_of_loss plan lives node (WasLost n) is = ap WasLost is
-event_of_loss plan lives node (WentDown n) is = absurd is
-event_of_loss plan lives node (CameUp n boot) is = absurd is
-event_of_loss plan lives node (WasHeard letter) is = absurd is
-event_of_loss plan lives node (WasThrown letter why) is = absurd is
-event_of_loss plan lives node (WasDropped letter) is = absurd is
-event_of_loss plan lives node HasFlowed is = absurd is
-event_of_loss plan lives node (HasSent count) is = absurd is
-event_of_loss plan lives node (HasWidened did) is = absurd is
-event_of_loss plan lives node (HasFaulted n) is = absurd is
-
--- the first act of the line writes that
-loss_says : (plan : Plan) (been : List Act) (old new : List Session) (line : List ℕ) (acts : List Act) (outputs : List (List Entry)) (turn : Turn) (node : ℕ) (begun : IsBegun plan been old line acts outputs turn new)
-    → IsMoved plan been line begun.first (order.Lose node) → begun.said ≡ lost_event node ∷ []
-loss_says plan been old new line acts outputs turn node begun moved =
-    let is : begun.first ≡ Makes (order.Lose node) (WasLost node) = moved.is ∙ ap (Makes (order.Lose node)) (event_of_loss plan (life_after been) node moved.event moved.may) in
-    let makes : Acted plan old (Makes (order.Lose node) (WasLost node)) begun.said begun.mid = subst (λ (a : Act). Acted plan old a begun.said begun.mid) is begun.acted in
-    makes.0
-
-handled_lost : (plan : Plan) (been : List Act) (old new : List Session) (lines : List (List ℕ)) (by_line : List (List Act)) (outputs : List (List (List Entry))) (node : ℕ)
-    → AreHandled plan been old lines by_line outputs new → Among (Made.Moves (order.Lose node)) (flat_map made_by (flat_map (λ a. a) by_line)) → IsLost (flat_map all_of outputs) node
-handled_lost plan been old new [] [] outputs node are among = absurd among
-handled_lost plan been old new [] (x ∷ xs) [] node are among = absurd are
-handled_lost plan been old new [] (x ∷ xs) (y ∷ outputs) node are among = absurd are
-handled_lost plan been old new (line ∷ lines) [] outputs node are among = absurd among
-handled_lost plan been old new (line ∷ lines) (acts ∷ by_line) [] node are among = absurd are
-handled_lost plan been old new (line ∷ lines) (acts ∷ by_line) (says ∷ outputs) node (mid, one, more) among = ⊎_elim
-    (λ here. lost_front (all_of says) (flat_map all_of outputs) node (says_lost (begun_moves plan been old mid line acts says one.last (order.Lose node) one.begun here)))
-    (λ later. lost_behind (all_of says) (flat_map all_of outputs) node (handled_lost plan (been ++ acts) mid new lines by_line outputs node more later))
-    (split_acts acts by_line (Made.Moves (order.Lose node)) among)
-  where
-    says_lost : IsMoved plan been line one.begun.first (order.Lose node) → IsLost (all_of says) node
-    says_lost moved =
-        subst (λ (o : List (List Entry)). IsLost (all_of o) node) (sym one.begun.outputs_are)
-        (lost_front one.begun.said (all_of one.begun.others) node (subst (λ (e : List Entry). IsLost e node) (sym (loss_says plan been old mid line acts says one.last node one.begun moved)) (inl refl)))
-
-short : (stop : Stop) (missing : List Entry) → MayMiss stop missing → IsCutShort stop
-short BehindLine missing may = may
-short Denied missing may = may
-short SinkFailed missing may = tt
-short OutOfMemory missing may = tt
-
-module _ (plan : Plan) (stop : Stop) (handled : List (List ℕ)) (been : List Act) (node : ℕ) (line : List ℕ) (old new : List Session) (acts : List Act) (entries : List Entry) (turn : Turn)
-    (cut : IsCutOff plan been stop old line acts entries turn new) (moved : IsMoved plan been line cut.begun.first (order.Lose node)) where
-  said_is : cut.begun.said ≡ lost_event node ∷ []
-  said_is = loss_says plan been old new line acts (cut.before ++ cut.says ∷ []) turn node cut.begun moved
-
-  -- the line was cut off in the loss, or it says so
-  cut_lost : (outputs : List Entry) → IsLostIn stop (handled ++ line ∷ []) (outputs ++ entries) node
-  cut_lost outputs = by cut.before refl
-    where
-      head_same : (a b : List Entry) (more others : List (List Entry)) → a ∷ more ≡ b ∷ others → a ≡ b
-      head_same a b more others e = cc
-
-      in_entries : IsLost (all_of cut.before ++ cut.front) node → IsLostIn stop (handled ++ line ∷ []) (outputs ++ entries) node
-      in_entries lost = inl (lost_behind outputs entries node (subst (λ (e : List Entry). IsLost e node) (sym cut.written) lost))
-
-      by : (before : List (List Entry)) → cut.before ≡ before → IsLostIn stop (handled ++ line ∷ []) (outputs ++ entries) node
-      by [] none =
-          let one : cut.says ∷ [] ≡ cut.begun.said ∷ cut.begun.others = sym (ap (λ (b : List (List Entry)). b ++ cut.says ∷ []) none) ∙ cut.begun.outputs_are in
-          let says : cut.says ≡ cut.begun.said = head_same cut.says cut.begun.said [] cut.begun.others one in
-          ⊎_elim
-          (λ empty. inr (short stop cut.missing cut.may, record { before = handled; line = line; last = refl; loses = moved.spelled }))
-          (λ whole. in_entries (lost_behind (all_of cut.before) cut.front node (subst (λ (e : List Entry). IsLost e node) (sym whole) (inl refl))))
-          (front_of_one (lost_event node) cut.front cut.missing (sym said_is ∙ sym says ∙ cut.cut))
-      by (first ∷ rest) some =
-          let one : first ∷ (rest ++ cut.says ∷ []) ≡ cut.begun.said ∷ cut.begun.others = sym (ap (λ (b : List (List Entry)). b ++ cut.says ∷ []) some) ∙ cut.begun.outputs_are in
-          let says : first ≡ lost_event node ∷ [] = head_same first cut.begun.said (rest ++ cut.says ∷ []) cut.begun.others one ∙ said_is in
-          in_entries (lost_front (all_of cut.before) cut.front node (subst (λ (b : List (List Entry)). IsLost (all_of b) node) (sym some)
-          (lost_front first (all_of rest) node (subst (λ (e : List Entry). IsLost e node) (sym says) (inl refl)))))
-
-left_lost : (plan : Plan) (stop : Stop) (handled : List (List ℕ)) (been : List Act) (old new : List Session) (left : List (List ℕ)) (by_line : List (List Act)) (tail : List Entry) (extra : List Made) (node : ℕ) (outputs : List Entry)
-    → IsLeftOff plan been stop old left by_line tail extra new → Among (Made.Moves (order.Lose node)) (flat_map made_by (flat_map (λ a. a) by_line)) → IsLostIn stop (handled ++ left) (outputs ++ tail) node
-left_lost plan stop handled been old new [] [] tail extra node outputs off among = absurd among
-left_lost plan stop handled been old new (line ∷ []) ([] ∷ []) tail extra node outputs off among = absurd among
-left_lost plan stop handled been old new (line ∷ []) ((act ∷ acts) ∷ []) tail extra node outputs (turn, cut, may) among =
-    cut_lost plan stop handled been node line old new (act ∷ acts) tail turn cut
-    (begun_moves plan been old new line (act ∷ acts) (cut.before ++ cut.says ∷ []) turn (order.Lose node) cut.begun (subst (λ (l : List Act). Among (Made.Moves (order.Lose node)) (flat_map made_by l)) (append-nil (act ∷ acts)) among)) outputs
-left_lost plan stop handled been old new left by_line tail extra node outputs off among = absurd off
-
--- whatever line then says why the program ended
-pub lost_more : (stop : Stop) (lines : List (List ℕ)) (entries ending : List Entry) (node : ℕ) → IsLostIn stop lines entries node → IsLostIn stop lines (entries ++ ending) node
-lost_more stop lines entries ending node lost = ⊎_elim (λ says. inl (lost_front entries ending node says)) (λ cut. inr cut) lost
-
-module _ (plan : Plan) (stop : Stop) (handled left : List (List ℕ)) (acts others : List (List Act)) (made : List Made) (entries : List Entry) (last : List Session)
-    (driven : IsDriven plan stop handled left acts others made entries last) where
-  -- a node of which a loss was made is lost as tape and transcript tell it
-  pub lost_by_line : (node : ℕ) → Among (Made.Moves (order.Lose node)) made → IsLostIn stop (handled ++ left) entries node
-  lost_by_line node among = subst (λ (e : List Entry). IsLostIn stop (handled ++ left) e node) (sym driven.written) (⊎_elim
-      (λ own. ⊎_elim
-      (λ early. inl (lost_front (flat_map all_of driven.outputs) driven.tail node (handled_lost plan [] [] driven.mid handled acts driven.outputs node driven.are early)))
-      (λ late. left_lost plan stop handled (flat_map (λ a. a) acts) driven.mid last left others driven.tail driven.extra node (flat_map all_of driven.outputs) driven.off late)
-      (acts_split plan stop handled left acts others made entries last driven (Made.Moves (order.Lose node)) own))
-      (λ beside. absurd (((left_extra plan (flat_map (λ a. a) acts) stop driven.mid last left others driven.tail driven.extra (Made.Moves (order.Lose node)) driven.off beside).moves (order.Lose node) refl).0 tt))
-      (made_split plan stop handled left acts others made entries last driven (Made.Moves (order.Lose node)) among))

@@ -1,5 +1,5 @@
 -- What posting, flowing and pushing make of a world.
-use Rattle.std.proofs.Common.{◌≡◌, ◌⊎◌, ⊎_elim, ◌+◌, ◌-◌, ◌<◌, ◌≤◌, ℕ, suc, nat_eq, Bool, true, false, List, [], ◌∷◌, ◌++◌, Option, Some, None, Result, Ok, Err, refl, sym, ap, ◌∙◌, subst, if◌then◌else◌, arith, append_assoc}
+use Rattle.std.proofs.Common.{◌≡◌, ⊎_elim, ◌+◌, ◌-◌, ◌<◌, ◌≤◌, ℕ, suc, nat_eq, Bool, true, false, List, [], ◌∷◌, ◌++◌, Option, Some, None, Result, Ok, Err, refl, sym, ap, ◌∙◌, subst, if◌then◌else◌, arith, append_assoc}
 use Rattle.std.specs.Prelude.{min, MatchBool, IfOk}
 use Rattle.std.proofs.lemmas.Bool.Decides.{nat_tests}
 use Rattle.std.proofs.lemmas.List.{append-nil}
@@ -283,7 +283,7 @@ module _ {D : Type 0} (on : View D) (start old : World D) (outcomes : List Outco
         let so : FlowsSo (Err why) has.steps = subst (λ (r : Result (Option ℕ) StepFault). FlowsSo r has.steps) is has.flows in
         let makes : PostsAll on (so.0 ++ so.1 ∷ []) old new = subst (λ (s : List StepMade). PostsAll on s old new) so.2 has.made in
         let ends = steps_last on so.0 so.1 old new (posts_make on (so.0 ++ so.1 ∷ []) old new makes) in
-        denied_after on start old outcomes awaited been order.Flow fit new ends.mid so.0 so.1 why stop ends.before ends.last makes so.5 stops (λ always. always)
+        denied_after on start old outcomes awaited been order.Flow fit new ends.mid so.0 so.1 why stop ends.before (all_calm so.0 so.3) ends.last makes so.5 stops (λ always. always)
 
   module _ (from : ℕ) (fit : OrderIsFit on start outcomes awaited been (order.Push from) old) (up : IsUp (life_after been from)) (works : IsUp (life_of old from)) where
     pushes_so : (steps : List StepMade) → PushesTo from (nodes_but from (plan_of old).nodes 1) steps → PushesAll (plan_of old).nodes (life_of old from) from steps
@@ -305,7 +305,7 @@ module _ {D : Type 0} (on : View D) (start old : World D) (outcomes : List Outco
         → IsStep on (Err why) (step.Push from (done + 1)) mid new → MovedSo on start outcomes awaited been old (order.Push from) (Err stop) new
     push_denied done count why stop mid new stops has within other is =
         let one : StepMade = record { step = step.Push from (done + 1); result = Err why } in
-        denied_after on start old outcomes awaited been (order.Push from) fit new mid has.steps one why stop has.made is
+        denied_after on start old outcomes awaited been (order.Push from) fit new mid has.steps one why stop has.made has.calm is
         (pushes_so (has.steps ++ one ∷ []) (pushed_last on old from done count mid has one within other refl refl), steps_more on has.steps one old mid new has.made is) refl stops (λ always. always)
 
   -- a node that is not up sends nothing

@@ -1,5 +1,5 @@
 -- What the steps of a run line make of a world.
-use Rattle.std.proofs.Common.{◌≡◌, ◌≢◌, ◌≤◌, ◌<◌, ◌⊎◌, ⊎_elim, ℕ, nat_eq, nat_lt, Bool, true, false, List, [], ◌∷◌, ◌++◌, Option, None, Result, Ok, Err, refl, sym, ap, ◌∙◌, subst, arith}
+use Rattle.std.proofs.Common.{◌≡◌, ◌≢◌, ◌≤◌, ◌<◌, ⊎_elim, ℕ, nat_eq, nat_lt, Bool, true, false, List, [], ◌∷◌, ◌++◌, Option, None, Result, Ok, Err, refl, sym, ap, ◌∙◌, subst, arith}
 use Rattle.std.proofs.lemmas.Bool.Decides.{nat_tests}
 use Rattle.std.specs.Prelude.{◌||◌, ⊤}
 use Rattle.object_model.specs.Lists.{Among}
@@ -32,6 +32,7 @@ use Rattle.drive_tape.specs.Led.{Tells}
 use Rattle.drive_tape.specs.Moved.{OrderIsFit, Happened, MovedSo}
 use Rattle.drive_tape.specs.Worlds.{WentTo}
 use Rattle.drive_tape.proofs.WholeTexts.{are_ended, front_ended}
+use Rattle.drive_tape.proofs.Done.{refused_life}
 use Rattle.drive_tape.proofs.Chains.{carried, carries_steps, carries_more, stands_at, stands_steps, has_failed, went_more}
 
 -- a step in which no node changes
@@ -147,9 +148,9 @@ module _ {D : Type 0} (on : View D) where
     }
 
     -- and one that was refused
-    pub denied_after : (new mid : World D) (front : List StepMade) (one : StepMade) (why : StepFault) (stop : Stop) → MakesSteps on front old mid → IsStep on one.result one.step mid new
+    pub denied_after : (new mid : World D) (front : List StepMade) (one : StepMade) (why : StepFault) (stop : Stop) → MakesSteps on front old mid → AreCalm front → IsStep on one.result one.step mid new
         → MakesOrder on order (front ++ one ∷ []) old new → one.result ≡ Err why → stop ≡ stop_by why → (IsAlwaysDone order → ⊥) → MovedSo on start outcomes awaited been old order (Err stop) new
-    denied_after new mid front one why stop before last makes refused stops never = (
+    denied_after new mid front one why stop before calm last makes refused stops never = (
       never,
       front ++ one ∷ [],
       record { before = front; one = one; last = refl; why = why; refused = refused; stops = stops },
@@ -157,6 +158,8 @@ module _ {D : Type 0} (on : View D) where
         left_after_all (front ++ one ∷ []) awaited,
         went_more on start outcomes awaited old fit.at (Moved order (front ++ one ∷ [])) (left_after_all (front ++ one ∷ []) awaited) new (makes, refl) tt,
       ),
+      λ f bad n. last.did.lives n ∙ ap (λ (r : Result Said StepFault). life_after_step r one.step n (life_of mid n)) refused ∙ refused_life why one.step n (life_of mid n) f (sym stops ∙ bad)
+          ∙ calm_lives front old mid before calm n,
     )
 
     -- a line of one step
@@ -167,4 +170,4 @@ module _ {D : Type 0} (on : View D) where
 
     pub denied : (new : World D) (s : Step) (why : StepFault) (stop : Stop) → IsStep on (Err why) s old new → MakesOrder on order (record { step = s; result = Err why } ∷ []) old new → stop ≡ stop_by why
         → (IsAlwaysDone order → ⊥) → MovedSo on start outcomes awaited been old order (Err stop) new
-    denied new s why stop last makes stops never = denied_after new old [] (record { step = s; result = Err why }) why stop refl last makes refl stops never
+    denied new s why stop last makes stops never = denied_after new old [] (record { step = s; result = Err why }) why stop refl tt last makes refl stops never

@@ -40,7 +40,7 @@ use Rattle.drive_tape.specs.Faults.{tape_fault_seen}
 use Rattle.drive_tape.specs.Kept.{AreToldOrBlind, KeptIn}
 use Rattle.drive_tape.specs.Led.{AreLedTo}
 use Rattle.drive_tape.specs.Points.{AreAtOwnNodes}
-use Rattle.drive_tape.specs.Worlds.{HasFailed}
+use Rattle.drive_tape.specs.Worlds.{AreLives, HasFailed}
 
 -- the octets are a line that is this order
 pub record IsOrder (octets : List ℕ) (order : Order) : Type 0 where
@@ -150,6 +150,8 @@ pub record Drives {D : Type 0} (on : View D) (start : World D) (left0 left1 held
   pub led : AreLedTo stop [] (flat_map (λ a. a) (acts ++ behind)) outcomes lacking driven.extra
   -- each call began at the node of its session, and each user left there
   pub at_nodes : AreAtOwnNodes sessions outcomes
+  -- the nodes are as the acts left them; as memory runs out, one may have gone down with it
+  pub lives : (stop ≡ OutOfMemory → ⊥) → AreLives (plan_of start) (flat_map (λ a. a) (acts ++ behind)) last
   -- where one node is all there is, none waits
   pub none_waits : AreToldOrBlind on start (handled ++ midst) → (plan_of start).nodes ≡ 1 → (plan_of start).confirm ≡ 1 → 1 ≤ (plan_of start).copies → (k : ℕ) → Among (StillWaits k) (flat_map (λ a. a) (acts ++ behind)) → ⊥
   -- whoever waits, waits for letters

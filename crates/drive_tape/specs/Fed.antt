@@ -29,6 +29,7 @@ use Rattle.cluster_world.specs.declared.fault.StepFault.{StepFault}
 use Rattle.drive_tape.specs.declared.cluster.Cluster.{Cluster}
 use Rattle.drive_tape.specs.declared.sessions.After.{After}
 use Rattle.drive_tape.specs.declared.drove.Stop.{Stop as Why}
+use Rattle.drive_tape.specs.declared.drove.Stop.TheVariants.{Bad}
 use Rattle.drive_tape.specs.declared.event.ClusterEvent.{ClusterEvent}
 use Rattle.drive_tape.specs.Faults.{tape_fault_seen}
 use Rattle.drive_tape.specs.Clusters.{RestsAt, MovedTo, IsAfter, IsFalling}
@@ -110,7 +111,7 @@ pub record HadNone {D : Type 0} (on : View D) (start : World D) (plan : Plan) (p
   pub quiet : Waits (Some freed.plain) → ⊥
 
 -- it is not given up: the step was refused
-pub record IsKeptUp {D : Type 0} (on : View D) (start : World D) (p : Point) (place : ℕ) (stop : Why) (world : World D) : Type 0 where
+pub record IsKeptUp {D : Type 0} (on : View D) (start : World D) (plan : Plan) (p : Point) (place : ℕ) (stop : Why) (world : World D) : Type 0 where
   pub ticket : Number
   pub why : StepFault
   pub stops : stop ≡ stop_by why
@@ -118,13 +119,14 @@ pub record IsKeptUp {D : Type 0} (on : View D) (start : World D) (p : Point) (pl
   pub here : slice_get p.sessions place ≡ Some plain
   pub waits : Waits (Some plain)
   pub since : IsSince on start (p.outcomes ++ KeptUp (place + 1) ticket why ∷ []) world
+  pub lives : (fault : TapeFault) → stop ≡ Bad fault → AreLives plan p.been world
   pub causes : HasCauses on start (failed_in p.been) world
 
 -- whether it had a call that was given up
 abbrev pub GaveUpCall : {D : Type 0} → View D → World D → Plan → Point → ℕ → Result Bool Why → Cluster D → Type 0
 GaveUpCall on start plan p place (Ok true) cluster = IsLetGo on start plan p place cluster
 GaveUpCall on start plan p place (Ok false) cluster = HadNone on start plan p place cluster
-GaveUpCall on start plan p place (Err stop) cluster = IsKeptUp on start p place stop cluster.world
+GaveUpCall on start plan p place (Err stop) cluster = IsKeptUp on start plan p place stop cluster.world
 
 -- a line closes the session at this place, whose call is not in progress any more
 pub record IsClosingAt {D : Type 0} (on : View D) (start : World D) (plan : Plan) (p : Point) (line : List ℕ) (place : ℕ) (cluster : Cluster D) : Type 0 where

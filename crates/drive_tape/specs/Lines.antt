@@ -25,7 +25,7 @@ use Rattle.drive_tape.specs.Faults.{tape_fault_seen}
 use Rattle.drive_tape.specs.Parts.{IsCutEntry}
 use Rattle.drive_tape.specs.Led.{Led, AreLed, AreLedTo}
 use Rattle.drive_tape.specs.Points.{Point, AreAtOwnNodes, IsAtPoint}
-use Rattle.drive_tape.specs.Worlds.{IsSince, HasCauses}
+use Rattle.drive_tape.specs.Worlds.{IsSince, AreLives, HasCauses}
 
 -- nothing is under way, and nobody is left to be asked
 abbrev pub NothingIsUnderWay : Point → Type 0
@@ -87,6 +87,7 @@ pub record LineStopped {D : Type 0} (on : View D) (start : World D) (plan : Plan
   pub linked : AreLedTo stop p.outcomes (flat_map (λ a. a) behind) new lacking extra
   pub at_nodes : AreAtOwnNodes sessions new
   pub since : IsSince on start (p.outcomes ++ new) world
+  pub lives : (stop ≡ OutOfMemory → ⊥) → AreLives plan (p.been ++ flat_map (λ a. a) behind) world
   pub causes : HasCauses on start (failed_in (p.been ++ flat_map (λ a. a) behind)) world
   pub missing : List Entry
   pub all : (missing ≡ []) ⊎ ((more : List Made) × IsLeftOff plan p.been OutOfMemory p.sessions midst behind (tail ++ missing) more sessions)

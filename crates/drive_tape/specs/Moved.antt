@@ -1,5 +1,5 @@
 -- What a run line made of the cluster.
-use Rattle.std.specs.Prelude.{◌≡◌, ◌⊎◌, ℕ, List, [], ◌∷◌, ◌++◌, ⊤, Option, Some, None, Result, Ok, Err}
+use Rattle.std.specs.Prelude.{◌≡◌, ℕ, List, [], ◌∷◌, ◌++◌, ⊤, Option, Some, None, Result, Ok, Err}
 use Rattle.object_model.specs.Lists.{Among}
 use Rattle.mail_model.specs.Tape.{ClusterOrder}
 use Rattle.session_model.specs.Acts.{Act}
@@ -23,7 +23,7 @@ use Rattle.drive_tape.specs.declared.event.ClusterEvent.TheVariants as event
 use Rattle.drive_tape.specs.Denials.{stop_by}
 use Rattle.drive_tape.specs.Happenings.{event_seen, fallen_by}
 use Rattle.drive_tape.specs.Led.{Tells}
-use Rattle.drive_tape.specs.Worlds.{WorldIsAt, WentTo, HasGone, AreLives, HasFailed}
+use Rattle.drive_tape.specs.Worlds.{WorldIsAt, WentTo, HasGone, AreLives, StaysOn, HasFailed}
 
 -- The order is not refused to a world that the acts so far left.
 pub record OrderIsFit {D : Type 0} (on : View D) (start : World D) (outcomes : List Outcome) (awaited : List Awaited) (been : List Act) (order : ClusterOrder) (world : World D) : Type 0 where
@@ -52,7 +52,7 @@ pub record IsDeniedBy (steps : List StepMade) (stop : Stop) : Type 0 where
 abbrev pub MovedSo : {D : Type 0} → View D → World D → List Outcome → List Awaited → List Act → World D → ClusterOrder → Result ClusterEvent Stop → World D → Type 0
 MovedSo on start outcomes awaited been old order (Ok event) world = Happened on start outcomes awaited been old order event world
 MovedSo on start outcomes awaited been old order (Err stop) world =
-    (IsAlwaysDone order → ⊥) × (steps : List StepMade) × IsDeniedBy steps stop × HasGone on start old (outcomes ++ Moved order steps ∷ []) world
+    (IsAlwaysDone order → ⊥) × (steps : List StepMade) × IsDeniedBy steps stop × HasGone on start old (outcomes ++ Moved order steps ∷ []) world × StaysOn stop old world
 
 -- one node pushed to another
 abbrev pub PushedSo : {D : Type 0} → View D → ℕ → ℕ → Result (Option ℕ) Stop → World D → World D → Type 0

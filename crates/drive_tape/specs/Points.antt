@@ -122,6 +122,7 @@ pub record Stopped {D : Type 0} (on : View D) (start : World D) (plan : Plan) (p
   pub is : IsStop reason stop
   pub outcomes : List Outcome
   pub cut : Cut plan stop p held outcomes
+  pub lives : (stop ≡ OutOfMemory → ⊥) → AreLives plan (p.been ++ cut.acts) world
   pub causes : HasCauses on start (failed_in (p.been ++ cut.acts)) world
   pub since : IsSince on start outcomes world
 

@@ -26,6 +26,8 @@ use Rattle.cluster_world.specs.declared.step.Said.TheVariants as said
 use Rattle.cluster_world.specs.declared.fault.StepFault.{StepFault}
 use Rattle.cluster_world.specs.declared.world.World.{World}
 use Rattle.drive_tape.specs.declared.drove.Stop.{Stop}
+use Rattle.drive_tape.specs.declared.drove.Stop.TheVariants.{Bad}
+use Rattle.drive_tape.specs.declared.drove.TapeFault.{TapeFault}
 use Rattle.drive_tape.specs.declared.open_call.OpenCall.{OpenCall}
 use Rattle.drive_tape.specs.Denials.{stop_by}
 use Rattle.drive_tape.specs.Kinds.{fits_kind, IsKindOf}
@@ -66,6 +68,10 @@ AreLives plan been world = (n : ℕ) → is_no_node plan n ≡ false → life_of
 -- each node is as it was
 abbrev pub AreSameLives : {D : Type 0} → World D → World D → Type 0
 AreSameLives old new = (n : ℕ) → life_of new n ≡ life_of old n
+
+-- so it is where the tape has a fault, and not where memory ran out
+abbrev pub StaysOn : {D : Type 0} → Stop → World D → World D → Type 0
+StaysOn stop old new = (fault : TapeFault) → stop ≡ Bad fault → AreSameLives old new
 
 -- each but this one, which is down
 abbrev pub IsDownNow : {D : Type 0} → ℕ → World D → World D → Type 0
@@ -133,7 +139,8 @@ abbrev pub GaveUpSo : {D T : Type 0} → View D → World D → List Outcome →
 GaveUpSo on start outcomes awaited k call ticket (Ok _) old new =
     AreSameLives old new × WentTo on start old (outcomes ++ GaveUp k call ticket ∷ []) (without_session k awaited) new
     × WentTo on start old (outcomes ++ Abandoned k call ticket ∷ []) (without_session k awaited) new
-GaveUpSo on start outcomes awaited k call ticket (Err stop) old new = (why : StepFault) × (stop ≡ stop_by why) × HasGone on start old (outcomes ++ KeptUp k ticket why ∷ []) new
+GaveUpSo on start outcomes awaited k call ticket (Err stop) old new =
+    (why : StepFault) × (stop ≡ stop_by why) × HasGone on start old (outcomes ++ KeptUp k ticket why ∷ []) new × StaysOn stop old new
 
 -- what came of a leave
 abbrev pub LeftSo : {D T E : Type 0} → View D → World D → List Outcome → List Awaited → ℕ → ℕ → List ℕ → Result T E → World D → World D → Type 0

@@ -13,7 +13,7 @@ use Rattle.drive_tape.proofs.lines.close_line.Goals as goal
 
 pub returns-in_default-clause-did : goal.returns-in_default-clause-did
 returns-in_default-clause-did g c start p line spelled shows held =
-    refused _ start _ p line _ c.args.cluster.now.world held (since_shows _ start _ c.args.cluster.now p shows) shows.causes _ NoSuchSession spelled
+    refused _ start _ p line _ c.args.cluster.now.world held (since_shows _ start _ c.args.cluster.now p shows) shows.causes shows.lives _ NoSuchSession spelled
     (no_session p c.args.session (c.in_default.ensures.found p.sessions shows.talks))
 
 pub returns-in_err-let_go-clause-did : goal.returns-in_err-let_go-clause-did

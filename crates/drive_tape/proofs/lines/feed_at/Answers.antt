@@ -10,7 +10,7 @@ use Rattle.drive_tape.proofs.lines.feed_at.Goals as goal
 pub returns-in_err-feed-clause-did : goal.returns-in_err-feed-clause-did
 returns-in_err-feed-clause-did g c start p line f shows held =
     let e = err_from_is_err_and c.from_residual.result c.from_residual.ensures.1 in
-    rw (e.1, e.2) (not_begun _ start _ p line _ c.args.cluster.now.world held (since_shows _ start _ c.args.cluster.now p shows) shows.causes)
+    rw (e.1, e.2) (not_begun _ start _ p line _ c.args.cluster.now.world held (since_shows _ start _ c.args.cluster.now p shows) shows.causes shows.lives)
 
 pub returns-in_err-hear-clause-did : goal.returns-in_err-hear-clause-did
 returns-in_err-hear-clause-did g c start p line f shows held =

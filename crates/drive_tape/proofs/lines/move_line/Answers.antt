@@ -16,7 +16,7 @@ use Rattle.drive_tape.proofs.lines.move_line.Goals as goal
 pub returns-in-Err-clause-did : goal.returns-in-Err-clause-did
 returns-in-Err-clause-did g c start p line spelled shows held =
     let w = c.args.cluster.now.world in
-    refused _ start _ p line _ w held (since_shows _ start _ c.args.cluster.now p shows) shows.causes _ c.in-Err.fault spelled
+    refused _ start _ p line _ w held (since_shows _ start _ c.args.cluster.now p shows) shows.causes shows.lives _ c.in-Err.fault spelled
     (sym (refusal_alike (plan_of w) p.been w shows.lives (cluster_order_seen c.args.order)) ∙ c.in-Err.ensures)
 
 pub returns-in_err-event-clause-did : goal.returns-in_err-event-clause-did
@@ -26,7 +26,7 @@ returns-in_err-event-clause-did g c start p line spelled shows held =
     let fit = fit_so _ start c.args.cluster.now p c.in-Ok.admitted (cluster_order_seen c.args.order) shows c.in-Ok.ensures.0 c.in-Ok.ensures.1 in
     let moved = subst (λ (o : ClusterOrder). MovedSo (view_of g.D.Disk.seen g.D.Disk.faults g.D.Disk.clock) start p.outcomes p.awaited p.been w o (Err c.in_err-event.field-0.0) c.make.new.world) c.in-Ok.ensures.0
     (c.in_err-event.ensures.moved start p.outcomes p.awaited p.been (subst (λ (o : ClusterOrder). OrderIsFit (view_of g.D.Disk.seen g.D.Disk.faults g.D.Disk.clock) start p.outcomes p.awaited p.been o w) (sym c.in-Ok.ensures.0) fit)) in
-    rw (e.1, e.2) (moved_in_vain _ start _ p line (cluster_order_seen c.args.order) c.in_err-event.field-0.0 _ w c.make.new.world held spelled fit.accepted shows.causes moved)
+    rw (e.1, e.2) (moved_in_vain _ start _ p line (cluster_order_seen c.args.order) c.in_err-event.field-0.0 _ w c.make.new.world held spelled fit.accepted shows.lives shows.causes moved)
 
 pub returns-clause-did : goal.returns-clause-did
 returns-clause-did g c start p line spelled shows held =

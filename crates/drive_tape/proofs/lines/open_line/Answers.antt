@@ -12,13 +12,13 @@ use Rattle.drive_tape.proofs.lines.open_line.Goals as goal
 
 pub returns-in-Err-clause-did : goal.returns-in-Err-clause-did
 returns-in-Err-clause-did g c start p line spelled shows held =
-    refused _ start _ p line _ c.args.cluster.now.world held (since_shows _ start _ c.args.cluster.now p shows) shows.causes _ c.in-Err.fault spelled
+    refused _ start _ p line _ c.args.cluster.now.world held (since_shows _ start _ c.args.cluster.now p shows) shows.causes shows.lives _ c.in-Err.fault spelled
     (sym (opening_alike _ start _ c.args.cluster.now p (protocol_seen c.args.protocol) c.args.node shows) ∙ c.in-Err.ensures.admits)
 
 pub returns-in_err-open-clause-did : goal.returns-in_err-open-clause-did
 returns-in_err-open-clause-did g c start p line spelled shows held =
     let e = err_from_is_err_and c.from_residual.result c.from_residual.ensures.1 in
-    rw (e.1, e.2) (not_begun _ start _ p line _ c.args.cluster.now.world held (since_shows _ start _ c.args.cluster.now p shows) shows.causes)
+    rw (e.1, e.2) (not_begun _ start _ p line _ c.args.cluster.now.world held (since_shows _ start _ c.args.cluster.now p shows) shows.causes shows.lives)
 
 pub returns-in_err-write_reply-clause-did : goal.returns-in_err-write_reply-clause-did
 returns-in_err-write_reply-clause-did g c start p line spelled shows held =

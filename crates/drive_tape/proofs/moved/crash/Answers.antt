@@ -1,5 +1,4 @@
-use Rattle.std.proofs.Common.{◌≡◌, ℕ, Ok, Err, refl, subst}
-use Rattle.std.proofs.lemmas.Result.{err_from_is_err_and}
+use Rattle.std.proofs.Common.{Ok, refl, subst}
 use Rattle.mail_model.specs.Tape.{ClusterOrder as order}
 use Rattle.node_store.specs.Disks.{view_of}
 use Rattle.cluster_world.specs.Steps.{IsStep}

@@ -1,5 +1,5 @@
 use Rattle.node_store.specs.Disks.{view_of}
-use Rattle.drive_tape.proofs.Posting.{post_done, said_of_post}
+use Rattle.drive_tape.proofs.Posting.{post_done}
 use Rattle.drive_tape.proofs.moved.post.Goals as goal
 
 pub returns-clause-moved : goal.returns-clause-moved
