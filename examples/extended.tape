@@ -18,8 +18,8 @@ say 1 NOOP
 say 1 QUIT
 open pop 1
 say 2 CAPA
-say 2 USER alice
-say 2 PASS tanstaaf
+say 2 APOP alice c74ecdd9484c34e50e708ce3f1a6114f
+say 2 APOP alice 53469115d388082c0489dbf8319aa86f
 say 2 TOP 1 1
 say 2 DELE 1
 say 2 RSET

@@ -6,6 +6,7 @@ use Rattle.io_edge.specs.Octets.{IsToldAlike}
 use Rattle.mail_model.specs.Record.{Record, payloads_of}
 use Rattle.mail_model.specs.Book.{BookEntry}
 use Rattle.mail_model.specs.Book.BookEntry.{WentDown}
+use Rattle.mail_base.specs.Bodies.{proof_seen}
 use Rattle.object_model.specs.Letters.{Number, Letter}
 use Rattle.session_model.specs.Events.{NodeLife as life, turned}
 use Rattle.cluster_model.specs.Cluster.{CallKind}
@@ -58,7 +59,7 @@ use Rattle.cluster_world.proofs.BeginParts.{Began, begin_named, begin_life, begi
 
 amiss : (call : Call) (user : List ℕ) (id : _) (from most : ℕ) → call_seen call ≡ Fetch user id from most → MayReadAmiss call
 amiss (kind.Deliver deliver) user id from most e = let never : Deliver (Rattle.mail_base.specs.Delivers.mail_in deliver) ≡ Fetch user id from most = e in cc
-amiss (kind.Login name proof) user id from most e = let never : Login name (Rattle.node_core.specs.Beginning.secret_of_proof proof) ≡ Fetch user id from most = e in cc
+amiss (kind.Login name proof) user id from most e = let never : Login name (proof_seen proof) ≡ Fetch user id from most = e in cc
 amiss (kind.Fetch name other holders first top) user id from most e = tt
 amiss (kind.Strike name items) user id from most e = let never : Strike name (Rattle.node_core.specs.Beginning.struck_of items) ≡ Fetch user id from most = e in cc
 amiss (kind.Leave name login manager) user id from most e = let never : Leave name ≡ Fetch user id from most = e in cc

@@ -63,14 +63,14 @@ one_tells seen (d ∷ c ∷ disks) n disk one e = absurd (omega (arith, one))
 -- a call that reads has a rule in a plan of one node, and is to delete nothing
 found_one : (plan : Plan) (tells : Bool) (records : List Record) (call : NodeCall) (found : Found) → HasRule plan.nodes call → IsFound plan tells records call found → plan.nodes ≡ 1
 found_one plan tells records (Deliver mail) found rule is = absurd is
-found_one plan tells records (Login user secret) found rule is = rule
+found_one plan tells records (Login user proof) found rule is = rule
 found_one plan tells records (Fetch user id from most) found rule is = rule
 found_one plan tells records (Strike user items) found rule is = absurd is
 found_one plan tells records (Leave user) found rule is = absurd is
 
 found_strikes : (plan : Plan) (tells : Bool) (records : List Record) (call : NodeCall) (found : Found) (w : machine.World) → IsFound plan tells records call found → struck_world w call ≡ w
 found_strikes plan tells records (Deliver mail) found w is = absurd is
-found_strikes plan tells records (Login user secret) found w is = ap (λ b. record w { book = b }) (append-nil w.book)
+found_strikes plan tells records (Login user proof) found w is = ap (λ b. record w { book = b }) (append-nil w.book)
 found_strikes plan tells records (Fetch user id from most) found w is = ap (λ b. record w { book = b }) (append-nil w.book)
 found_strikes plan tells records (Strike user items) found w is = absurd is
 found_strikes plan tells records (Leave user) found w is = absurd is

@@ -5,6 +5,7 @@ use Rattle.std.specs.List.{list_all}
 use Rattle.mail_model.specs.Lines.{ends_in_crlf}
 use Rattle.mail_model.specs.Plan.{Plan}
 use Rattle.mail_model.specs.Record.{Record}
+use Rattle.mail_base.specs.Bodies.{proof_seen}
 use Rattle.object_model.specs.Letters.{Number}
 use Rattle.cluster_model.specs.Cluster as plain
 use Rattle.cluster_model.specs.Cluster.{Slot, slot_at}
@@ -38,7 +39,7 @@ struck_world w call = record w { book = w.book ++ strikes_of_call call }
 
 pub with_struck_is : (w : World) (call : NodeCall) → with_struck w call ≡ struck_world w call
 with_struck_is w (Deliver mail) = ap (λ b. record w { book = b }) (sym (append-nil w.book))
-with_struck_is w (Login user secret) = ap (λ b. record w { book = b }) (sym (append-nil w.book))
+with_struck_is w (Login user proof) = ap (λ b. record w { book = b }) (sym (append-nil w.book))
 with_struck_is w (Fetch user id from most) = ap (λ b. record w { book = b }) (sym (append-nil w.book))
 with_struck_is w (Strike user items) = refl
 with_struck_is w (Leave user) = ap (λ b. record w { book = b }) (sym (append-nil w.book))
@@ -50,7 +51,7 @@ fetch_strikes_none w call user id from most e = subst (λ c. w ≡ struck_world 
 -- what a call does depends on the seconds of the world alone
 pub filed_in : (w : World) (own : ℕ) (node : plain.Node) (call : NodeCall) (octets : List ℕ) → IsFiled (at_second w.seconds) own node call octets → IsFiled w own node call octets
 filed_in w own node (Deliver mail) octets filed = filed
-filed_in w own node (Login user secret) octets filed = filed
+filed_in w own node (Login user proof) octets filed = filed
 filed_in w own node (Fetch user id from most) octets filed = filed
 filed_in w own node (Strike user items) octets filed = filed
 filed_in w own node (Leave user) octets filed = filed
@@ -58,7 +59,7 @@ filed_in w own node (Leave user) octets filed = filed
 pub begun_in : (plan : Plan) (w : World) (own : ℕ) (node : plain.Node) (disk : List Record) (call : NodeCall) (octets : List ℕ)
     → begun_by plan w own node disk call octets ≡ begun_by plan (at_second w.seconds) own node disk call octets
 begun_in plan w own node disk (Deliver mail) octets = refl
-begun_in plan w own node disk (Login user secret) octets = refl
+begun_in plan w own node disk (Login user proof) octets = refl
 begun_in plan w own node disk (Fetch user id from most) octets = refl
 begun_in plan w own node disk (Strike user items) octets = refl
 begun_in plan w own node disk (Leave user) octets = refl
@@ -66,7 +67,7 @@ begun_in plan w own node disk (Leave user) octets = refl
 -- a call that files has a kind
 pub filed_kind : (w : World) (own : ℕ) (node : plain.Node) (call : NodeCall) (octets : List ℕ) → IsFiled w own node call octets → kind_of_call call ≡ None → ⊥
 filed_kind w own node (Deliver mail) octets filed e = let never : Some plain.CallKind.Delivering ≡ None = e in cc
-filed_kind w own node (Login user secret) octets filed e = filed
+filed_kind w own node (Login user proof) octets filed e = filed
 filed_kind w own node (Fetch user id from most) octets filed e = filed
 filed_kind w own node (Strike user items) octets filed e = let never : Some plain.CallKind.Striking ≡ None = e in cc
 filed_kind w own node (Leave user) octets filed e = filed
@@ -81,7 +82,7 @@ begun_so (kind.Leave user login manager) own ticket e some = some refl
 
 pub noted_so : (call : Call) (own : ℕ) (user : List ℕ) → call_seen call ≡ Leave user → BeginsSo call own said.Noted
 noted_so (kind.Deliver deliver) own user e = let never : Deliver (Rattle.mail_base.specs.Delivers.mail_in deliver) ≡ Leave user = e in cc
-noted_so (kind.Login name proof) own user e = let never : Login name (Rattle.node_core.specs.Beginning.secret_of_proof proof) ≡ Leave user = e in cc
+noted_so (kind.Login name proof) own user e = let never : Login name (proof_seen proof) ≡ Leave user = e in cc
 noted_so (kind.Fetch name id holders from most) own user e = let never : Fetch name id from most ≡ Leave user = e in cc
 noted_so (kind.Strike name items) own user e = let never : Strike name (Rattle.node_core.specs.Beginning.struck_of items) ≡ Leave user = e in cc
 noted_so (kind.Leave name login manager) own user e = tt

@@ -29,14 +29,14 @@ IsQuietStep step = ((outcome : machine.StepOutcome) → IsIdleStep (step_seen st
 
 pub refused_begins : (node : ℕ) (call : machine.NodeCall) (fault : machine.StepFault) → IsIdleStep (machine.Step.Begin node call) (machine.StepOutcome.Refused fault)
 refused_begins node (machine.NodeCall.Deliver mail) fault = tt
-refused_begins node (machine.NodeCall.Login user secret) fault = tt
+refused_begins node (machine.NodeCall.Login user proof) fault = tt
 refused_begins node (machine.NodeCall.Fetch user id from most) fault = tt
 refused_begins node (machine.NodeCall.Strike user items) fault = tt
 refused_begins node (machine.NodeCall.Leave user) fault = tt
 
 short_begins : (node : ℕ) (call : machine.NodeCall) → IsIdleStep (machine.Step.Begin node call) (machine.StepOutcome.NoMemory None)
 short_begins node (machine.NodeCall.Deliver mail) = tt
-short_begins node (machine.NodeCall.Login user secret) = tt
+short_begins node (machine.NodeCall.Login user proof) = tt
 short_begins node (machine.NodeCall.Fetch user id from most) = tt
 short_begins node (machine.NodeCall.Strike user items) = tt
 short_begins node (machine.NodeCall.Leave user) = tt

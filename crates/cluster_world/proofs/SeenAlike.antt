@@ -1,7 +1,6 @@
 -- A session sees a call of the world as it sees that of the machine, and an answer, too.
 use Rattle.std.proofs.Common.{◌≡◌, List, [], ◌∷◌, Some, refl, sym, ap, map}
 use Rattle.mail_base.specs.declared.item.Item.{Item}
-use Rattle.mail_base.specs.declared.proof.Proof.TheVariants.{Pass}
 use Rattle.call_tickets.specs.Seen.{call_seen, answer_seen}
 use Rattle.call_tickets.specs.declared.call.Call.{Call}
 use Rattle.call_tickets.specs.declared.call.Call.TheVariants.{Deliver, Login, Fetch, Strike, Leave}
@@ -18,7 +17,7 @@ map_map f g h (x ∷ xs) each = rw (each x, map_map f g h xs each) refl
 
 pub made_alike : (call : Call) → call_made (machine_call call) ≡ call_seen call
 made_alike (Deliver deliver) = refl
-made_alike (Login user (Pass secret)) = refl
+made_alike (Login user proof) = refl
 made_alike (Fetch user id holders from most) = refl
 made_alike (Strike user items) = ap (λ ids. Some (model.Call.Strike user ids)) (map_map _ _ (λ (item : Item). item.id) items (λ item. refl))
 made_alike (Leave user login manager) = refl

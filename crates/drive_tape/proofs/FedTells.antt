@@ -140,7 +140,7 @@ telling_out on start plan p q line place after out other cluster same t = subst 
 -- the reply to a call that failed: to each unit that asked it is the same
 pub failed_reply : (asked : calls.Call) → (reply : List (List ℕ)) × IsReply asked Failed reply × ((unit : Unit) → calls.RepliesTo unit asked Failed reply)
 failed_reply (call.Deliver mail) = (one_line unstored_text, refl, λ unit. refl)
-failed_reply (call.Login user secret) = (one_line later_text, refl, λ unit. refl)
+failed_reply (call.Login user given) = (one_line later_text, refl, λ unit. refl)
 failed_reply (call.Fetch user id) = (one_line later_text, refl, λ unit. refl)
 failed_reply (call.Strike user ids) = (one_line remaining_text, refl, λ unit. refl)
 

@@ -160,7 +160,7 @@ module _ {D : Type 0} (on : View D) (start last : World D) (begins : IsAtBeginni
 
   sound_begun : (k : ℕ) (call : Call) → Among (Made.Begins k call) made → IsSoundMail call
   sound_begun k (Deliver mail) among = (mail_begun k mail among).0
-  sound_begun k (Login user secret) among = tt
+  sound_begun k (Login user given) among = tt
   sound_begun k (Fetch user id) among = tt
   sound_begun k (Strike user ids) among = tt
 
@@ -183,7 +183,7 @@ module _ {D : Type 0} (on : View D) (start last : World D) (begins : IsAtBeginni
           let mail = (mail_begun k mail among).1 in
           let same : session.protocol ≡ Smtp = protocol_same session.protocol Smtp session.node mail.0 (sym kind ∙ mail.1) in
           kind ∙ ap₂ (λ (p : Protocol) (n : ℕ). Some (p, n)) same at
-  taken_begun k node (Login user secret) among own = tt
+  taken_begun k node (Login user given) among own = tt
   taken_begun k node (Fetch user id) among own = tt
   taken_begun k node (Strike user ids) among own = tt
 

@@ -187,13 +187,13 @@ says_on plan old one said new did is = by_lead (lead_of plan old.node did.0 one.
 
 answered_on : (state : TalkState) (call : Call) (answer : Answer) → NotWaiting (answered state call answer)
 answered_on state (Deliver mail) answer s c waits = absurd cc
-answered_on state (Login user secret) (Stored id) s c waits = absurd cc
-answered_on state (Login user secret) (Listed items) s c waits = absurd cc
-answered_on state (Login user secret) Wrong s c waits = absurd cc
-answered_on state (Login user secret) (Part octets) s c waits = absurd cc
-answered_on state (Login user secret) GoneAlready s c waits = absurd cc
-answered_on state (Login user secret) Dropped s c waits = absurd cc
-answered_on state (Login user secret) Failed s c waits = absurd cc
+answered_on state (Login user given) (Stored id) s c waits = absurd cc
+answered_on state (Login user given) (Listed items) s c waits = absurd cc
+answered_on state (Login user given) Wrong s c waits = absurd cc
+answered_on state (Login user given) (Part octets) s c waits = absurd cc
+answered_on state (Login user given) GoneAlready s c waits = absurd cc
+answered_on state (Login user given) Dropped s c waits = absurd cc
+answered_on state (Login user given) Failed s c waits = absurd cc
 answered_on state (Fetch user id) answer s c waits = absurd cc
 answered_on state (Strike user ids) answer s c waits = absurd cc
 
@@ -240,13 +240,13 @@ says_ended plan old one said new did is = by_lead (lead_of plan old.node did.0 o
 
 answered_ended : (state : TalkState) (call : Call) (answer : Answer) → HasEnded (answered state call answer) → answered state call answer ≡ EndedByQuit
 answered_ended state (Deliver mail) answer ended = absurd ended
-answered_ended state (Login user secret) (Stored id) ended = absurd ended
-answered_ended state (Login user secret) (Listed items) ended = absurd ended
-answered_ended state (Login user secret) Wrong ended = absurd ended
-answered_ended state (Login user secret) (Part octets) ended = absurd ended
-answered_ended state (Login user secret) GoneAlready ended = absurd ended
-answered_ended state (Login user secret) Dropped ended = absurd ended
-answered_ended state (Login user secret) Failed ended = absurd ended
+answered_ended state (Login user given) (Stored id) ended = absurd ended
+answered_ended state (Login user given) (Listed items) ended = absurd ended
+answered_ended state (Login user given) Wrong ended = absurd ended
+answered_ended state (Login user given) (Part octets) ended = absurd ended
+answered_ended state (Login user given) GoneAlready ended = absurd ended
+answered_ended state (Login user given) Dropped ended = absurd ended
+answered_ended state (Login user given) Failed ended = absurd ended
 answered_ended state (Fetch user id) answer ended = absurd ended
 answered_ended state (Strike user ids) answer ended = refl
 

@@ -123,7 +123,7 @@ says_or_asks false one call whole = whole
 line_whole : (user : List ℕ) (outcome : LineOutcome) → LeadsWhole (line_lead user outcome)
 line_whole user (Answered reply) = tt
 line_whole user (Closed reply) = tt
-line_whole user (AsksLogin name secret) = tt
+line_whole user (AsksLogin name given) = tt
 line_whole user (AsksMessage number id) = tt
 line_whole user (AsksDeletion ids) = tt
 

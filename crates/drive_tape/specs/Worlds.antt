@@ -35,7 +35,7 @@ use Rattle.drive_tape.specs.Kinds.{fits_kind, IsKindOf}
 -- the text of a message that is to be stored is empty or ends in CRLF
 abbrev pub IsWholeCall : calls.Call → Type 0
 IsWholeCall (Deliver mail) = (mail.text ≡ []) ⊎ (ends_in_crlf mail.text ≡ true)
-IsWholeCall (Login user secret) = ⊤
+IsWholeCall (Login user given) = ⊤
 IsWholeCall (Fetch user id) = ⊤
 IsWholeCall (Strike user ids) = ⊤
 

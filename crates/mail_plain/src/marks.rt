@@ -128,6 +128,7 @@ pub fn slots_after(alloc: Global, slots: &[Slot], line: &[u8]) -> Result<Vec<Slo
         Ok(
             PopCommand::User { .. }
             | PopCommand::Pass { .. }
+            | PopCommand::Apop { .. }
             | PopCommand::Stat
             | PopCommand::List { .. }
             | PopCommand::Uidl { .. }

@@ -17,7 +17,7 @@ use Rattle.mail_model.specs.Identity.Value.{Here, Gone, Secret}
 use Rattle.mail_model.specs.Identity.Key.{Message}
 use Rattle.mail_model.specs.Grammar.{IsId, IsRecord}
 use Rattle.mail_model.specs.Listing.{is_same_id, is_here, octets_in}
-use Rattle.mail_model.specs.Plan.{Plan, Users, is_that, opens}
+use Rattle.mail_model.specs.Plan.{Plan, Proof, Users, is_right_by, proves}
 use Rattle.mail_model.specs.Record.{Record}
 use Rattle.mail_model.specs.Record.Record.{Octets}
 use Rattle.object_model.specs.Keys.{id_cmp}
@@ -233,12 +233,12 @@ is_listing user records ids items sorted fit here copies permuted ordered = reco
     named : (copy : ListedCopy) → IsListedCopy user records copy → IsId copy.id
     named copy is = each_of IsRecord (Octets copy.id is.octets) records fit (octets_stand copy.id is.octets records is.held)
 
-module _ (users : Users) (user secret : List ℕ) (node : Node) where
-  let_in : (plan : Plan) → users ≡ plan.users → opens plan user secret ≡ is_that (fin.get users user) secret
-  let_in plan same = ap (λ (u : Users). is_that (fin.get u user) secret) (sym same)
+module _ (users : Users) (user : List ℕ) (proof : Proof) (node : Node) where
+  let_in : (plan : Plan) → users ≡ plan.users → proves plan user proof ≡ is_right_by (fin.get users user) proof
+  let_in plan same = ap (λ (u : Users). is_right_by (fin.get u user) proof) (sym same)
 
-  -- a secret that is not the user's
-  pub wrong_found : (answer : Answer) → found_in answer ≡ Some WrongSecret → is_that (fin.get users user) secret ≡ false → MailboxFound users user secret node answer
+  -- a proof that is not right by the user's secret
+  pub wrong_found : (answer : Answer) → found_in answer ≡ Some WrongSecret → is_right_by (fin.get users user) proof ≡ false → MailboxFound users user proof node answer
   wrong_found answer is wrong = record {
     found = WrongSecret;
     is = is;
@@ -246,8 +246,8 @@ module _ (users : Users) (user secret : List ℕ) (node : Node) where
   }
 
   -- and one that is
-  pub listing_found : (answer : Answer) (items : List ListedCopy) → found_in answer ≡ Some (Listed items) → is_that (fin.get users user) secret ≡ true
-      → ((records : List Record) → NodeKeeps records node → IsListing user records items) → MailboxFound users user secret node answer
+  pub listing_found : (answer : Answer) (items : List ListedCopy) → found_in answer ≡ Some (Listed items) → is_right_by (fin.get users user) proof ≡ true
+      → ((records : List Record) → NodeKeeps records node → IsListing user records items) → MailboxFound users user proof node answer
   listing_found answer items is right listing = record {
     found = Listed items;
     is = is;

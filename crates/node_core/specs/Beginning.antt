@@ -5,8 +5,7 @@ use Rattle.mail_model.specs.Plan.{Plan}
 use Rattle.mail_model.specs.Record.{Record, payloads_of}
 use Rattle.object_model.specs.Letters.{Number, Letter}
 use Rattle.mail_base.specs.declared.item.Item.{Item}
-use Rattle.mail_base.specs.declared.proof.Proof.{Proof}
-use Rattle.mail_base.specs.declared.proof.Proof.TheVariants.{Pass}
+use Rattle.mail_base.specs.Bodies.{proof_seen}
 use Rattle.mail_base.specs.Delivers.{mail_in}
 use Rattle.call_tickets.specs.declared.call.Call as code
 use Rattle.call_tickets.specs.declared.call.Call.TheVariants as kind
@@ -37,13 +36,10 @@ at_second seconds = record { slots = []; flying = []; sent = 0; seconds = second
 abbrev pub struck_of : List Item → List Struck
 struck_of items = map (λ item. record { id = item.id; targets = item.targets }) items
 
-abbrev pub secret_of_proof : Proof → List ℕ
-secret_of_proof (Pass octets) = octets
-
 -- a call of the code in the machine's words
 abbrev pub call_seen : code.Call → NodeCall
 call_seen (kind.Deliver deliver) = Deliver (mail_in deliver)
-call_seen (kind.Login user proof) = Login user (secret_of_proof proof)
+call_seen (kind.Login user proof) = Login user (proof_seen proof)
 call_seen (kind.Fetch user id holders from most) = Fetch user id from most
 call_seen (kind.Strike user items) = Strike user (struck_of items)
 call_seen (kind.Leave user login manager) = Leave user

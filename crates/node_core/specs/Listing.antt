@@ -5,7 +5,7 @@ use Rattle.std.specs.List.Sorted.{IsSortedBy}
 use Rattle.mail_model.specs.Identity.{Id, State}
 use Rattle.mail_model.specs.Identity.Key.{Message}
 use Rattle.mail_model.specs.Listing.{is_here, octets_in}
-use Rattle.mail_model.specs.Plan.{Plan, Users}
+use Rattle.mail_model.specs.Plan.{Plan, Users, Proof}
 use Rattle.mail_model.specs.Record.{Record}
 use Rattle.object_model.specs.Said.{said}
 use Rattle.mail_base.specs.declared.item.Item.{Item}
@@ -47,7 +47,7 @@ abbrev pub AreInOrder : List Item → Type 0
 AreInOrder items = IsSortedBy comes_first items
 
 -- What a Login finds, whatever the records of the disk are.
-pub record MailboxFound (users : Users) (user secret : List ℕ) (node : Node) (answer : Answer) : Type 0 where
+pub record MailboxFound (users : Users) (user : List ℕ) (proof : Proof) (node : Node) (answer : Answer) : Type 0 where
   pub found : Found
   pub is : found_in answer ≡ Some found
-  pub those : (plan : Plan) → users ≡ plan.users → (tells : Bool) (records : List Record) → NodeKeeps records node → IsFound plan tells records (Login user secret) found
+  pub those : (plan : Plan) → users ≡ plan.users → (tells : Bool) (records : List Record) → NodeKeeps records node → IsFound plan tells records (Login user proof) found

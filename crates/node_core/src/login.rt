@@ -2,15 +2,16 @@
 ghost use Rattle.std.specs.Prelude.{◌≡◌, ℕ, List, map, option_map, IfOk};
 ghost use Rattle.std.specs.FinMap as fin;
 ghost use Rattle.std.specs.List.Sorted.{IsPermutation};
-ghost use Rattle.mail_model.specs.Plan.{Plan as PlainPlan, is_that};
+ghost use Rattle.mail_model.specs.Plan.{Plan as PlainPlan, is_right_by};
 ghost use Rattle.mail_model.specs.Record.{Record};
 ghost use Rattle.cluster_model.specs.Reads.{IsListing, copy_cmp};
 ghost use Rattle.cluster_model.specs.Steps.NodeCall.{Login as Logins};
+ghost use Rattle.mail_base.specs.Bodies.{proof_seen};
 ghost use Rattle.node_store.specs.Disks.{view_of};
 ghost use Rattle.node_tickets.specs.Seen.{copy_seen};
 ghost use Rattle.node_core.specs.Nodes.{NodeKeeps, CanWork, IsNodeOf};
 ghost use Rattle.node_core.specs.Works.{LeavesUp};
-ghost use Rattle.node_core.specs.Beginning.{NodeBegins, secret_of_proof};
+ghost use Rattle.node_core.specs.Beginning.{NodeBegins};
 ghost use Rattle.node_core.specs.Listing.{copy_by, copy_of, copies_for, AreInOrder, MailboxFound};
 
 use crate::fault::NodeFault;
@@ -25,13 +26,12 @@ use mail_base::{
 use std::alloc::{AllocError, Global};
 use std::cmp::Ordering;
 
-// Whether the proof has the secret of the user.
+// Whether the proof is right by the secret of the user.
 fn opens(users: &Users, user: &Name, proof: &Proof) -> bool
-    ensures { result ≡ is_that (fin.get users.now user.now) (secret_of_proof proof.now) }
+    ensures { result ≡ is_right_by (fin.get users.now user.now) (proof_seen proof.now) }
 {
-    let Proof::Pass(given) = proof;
     match users.secret(user) {
-        Some(secret) => secret.octets() == given.as_slice(),
+        Some(secret) => proof.is_right(secret),
         None => false,
     }
 }
@@ -131,7 +131,7 @@ impl Node {
         proof: &Proof,
         login: Ticket,
     ) -> Result<Answer, AllocError>
-        ensures { IfOk result (λ answer. MailboxFound users.now user.now (secret_of_proof proof.now) self.now answer) }
+        ensures { IfOk result (λ answer. MailboxFound users.now user.now (proof_seen proof.now) self.now answer) }
     {
         if !opens(users, user, proof) {
             // No node made the secrets of the plan.
@@ -158,7 +158,7 @@ impl Node {
         proof: &Proof,
     ) -> Result<(Option<Ticket>, Outbox), NodeFault>
         requires works { CanWork (D.seen disk.old) self.old }
-        ensures begins { (plan : PlainPlan) (own seconds : ℕ) → IsNodeOf plan own self.old → users.now ≡ plan.users → NodeBegins (view_of D.seen D.faults D.clock) plan own seconds (Logins user.now (secret_of_proof proof.now)) self.old disk.old self.new disk.new result }
+        ensures begins { (plan : PlainPlan) (own seconds : ℕ) → IsNodeOf plan own self.old → users.now ≡ plan.users → NodeBegins (view_of D.seen D.faults D.clock) plan own seconds (Logins user.now (proof_seen proof.now)) self.old disk.old self.new disk.new result }
         ensures settled { LeavesUp result → D.settled disk.old → D.settled disk.new }
     {
         if self.numbers.lack(0, 0) {

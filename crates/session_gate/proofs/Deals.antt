@@ -39,9 +39,9 @@ answers (Deliver mail) begun answer is kind = by_answer answer (subst (λ (k : C
     by_answer GoneAlready k = absurd k
     by_answer Dropped k = absurd k
     by_answer Failed k = tt
-answers (Login user secret) begun answer is kind = by_answer answer (subst (λ (k : CallKind). FitsKind k answer) is kind)
+answers (Login user given) begun answer is kind = by_answer answer (subst (λ (k : CallKind). FitsKind k answer) is kind)
   where
-    by_answer : (a : model.Answer) → FitsKind kinds.Login a → IsAnswerTo (Login user secret) a
+    by_answer : (a : model.Answer) → FitsKind kinds.Login a → IsAnswerTo (Login user given) a
     by_answer (Stored id) k = absurd k
     by_answer (Listed items) k = tt
     by_answer Wrong k = tt
@@ -97,9 +97,9 @@ acks : (call : model.Call) (begun : Begun) (answer : model.Answer) (old new : Op
     → (copies : List Acked) × CallAcks call answer copies × (new ≡ with_more old copies)
 acks (Deliver mail) begun (Stored id) old new is to acked = (filed_copies acked.filing acked.confirmers, filing_copies mail id begun.filing acked.filing acked.confirmers is.1 acked.was acked.is, acked.acked)
 acks (Deliver mail) begun Failed old new is to acked = ([], refl, acked ∙ sym (more_none old))
-acks (Login user secret) begun (Listed items) old new is to acked = ([], refl, acked ∙ sym (more_none old))
-acks (Login user secret) begun Wrong old new is to acked = ([], refl, acked ∙ sym (more_none old))
-acks (Login user secret) begun Failed old new is to acked = ([], refl, acked ∙ sym (more_none old))
+acks (Login user given) begun (Listed items) old new is to acked = ([], refl, acked ∙ sym (more_none old))
+acks (Login user given) begun Wrong old new is to acked = ([], refl, acked ∙ sym (more_none old))
+acks (Login user given) begun Failed old new is to acked = ([], refl, acked ∙ sym (more_none old))
 acks (Fetch user id) begun (Part octets) old new is to acked = ([], refl, acked ∙ sym (more_none old))
 acks (Fetch user id) begun GoneAlready old new is to acked = ([], refl, acked ∙ sym (more_none old))
 acks (Fetch user id) begun Failed old new is to acked = ([], refl, acked ∙ sym (more_none old))
@@ -110,10 +110,10 @@ acks (Deliver mail) begun Wrong old new is to acked = absurd to
 acks (Deliver mail) begun (Part octets) old new is to acked = absurd to
 acks (Deliver mail) begun GoneAlready old new is to acked = absurd to
 acks (Deliver mail) begun Dropped old new is to acked = absurd to
-acks (Login user secret) begun (Stored i) old new is to acked = absurd to
-acks (Login user secret) begun (Part octets) old new is to acked = absurd to
-acks (Login user secret) begun GoneAlready old new is to acked = absurd to
-acks (Login user secret) begun Dropped old new is to acked = absurd to
+acks (Login user given) begun (Stored i) old new is to acked = absurd to
+acks (Login user given) begun (Part octets) old new is to acked = absurd to
+acks (Login user given) begun GoneAlready old new is to acked = absurd to
+acks (Login user given) begun Dropped old new is to acked = absurd to
 acks (Fetch user id) begun (Stored i) old new is to acked = absurd to
 acks (Fetch user id) begun (Listed items) old new is to acked = absurd to
 acks (Fetch user id) begun Wrong old new is to acked = absurd to
@@ -158,7 +158,7 @@ module _ (call : model.Call) (ticket : DeskTicket) (old mid new : PassKnows) (be
     where
       failed_none : (c : model.Call) → CallAcks c Failed []
       failed_none (Deliver mail) = refl
-      failed_none (Login user secret) = refl
+      failed_none (Login user given) = refl
       failed_none (Fetch user id) = refl
       failed_none (Strike user ids) = refl
 
@@ -184,7 +184,7 @@ module _ (call : model.Call) (ticket : DeskTicket) (old mid new : PassKnows) (be
 
 pub failed_copies : (c : model.Call) → CallAcks c Failed []
 failed_copies (Deliver mail) = refl
-failed_copies (Login user secret) = refl
+failed_copies (Login user given) = refl
 failed_copies (Fetch user id) = refl
 failed_copies (Strike user ids) = refl
 

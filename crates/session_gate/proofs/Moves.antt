@@ -117,13 +117,13 @@ snoc_same (a ∷ xs) (b ∷ ys) x y is =
 -- an answer takes no node down
 answered_up : (state : TalkState) (call : model.Call) (answer : model.Answer) → answered state call answer ≢ EndedDown
 answered_up state (model.Call.Deliver mail) answer is = cc
-answered_up state (model.Call.Login user secret) (model.Answer.Stored id) is = cc
-answered_up state (model.Call.Login user secret) (model.Answer.Listed items) is = cc
-answered_up state (model.Call.Login user secret) model.Answer.Wrong is = cc
-answered_up state (model.Call.Login user secret) (model.Answer.Part octets) is = cc
-answered_up state (model.Call.Login user secret) model.Answer.GoneAlready is = cc
-answered_up state (model.Call.Login user secret) model.Answer.Dropped is = cc
-answered_up state (model.Call.Login user secret) Failed is = cc
+answered_up state (model.Call.Login user given) (model.Answer.Stored id) is = cc
+answered_up state (model.Call.Login user given) (model.Answer.Listed items) is = cc
+answered_up state (model.Call.Login user given) model.Answer.Wrong is = cc
+answered_up state (model.Call.Login user given) (model.Answer.Part octets) is = cc
+answered_up state (model.Call.Login user given) model.Answer.GoneAlready is = cc
+answered_up state (model.Call.Login user given) model.Answer.Dropped is = cc
+answered_up state (model.Call.Login user given) Failed is = cc
 answered_up state (model.Call.Fetch user id) answer is = cc
 answered_up state (model.Call.Strike user ids) answer is = cc
 
@@ -236,13 +236,13 @@ hears_settled plan old new one said did none = by_lead (lead_of plan old.node di
 
 answered_settled : (state : TalkState) (call : model.Call) (answer : model.Answer) → IsSettled (answered state call answer)
 answered_settled state (model.Call.Deliver mail) answer = tt
-answered_settled state (model.Call.Login user secret) (model.Answer.Stored id) = tt
-answered_settled state (model.Call.Login user secret) (model.Answer.Listed items) = tt
-answered_settled state (model.Call.Login user secret) model.Answer.Wrong = tt
-answered_settled state (model.Call.Login user secret) (model.Answer.Part octets) = tt
-answered_settled state (model.Call.Login user secret) model.Answer.GoneAlready = tt
-answered_settled state (model.Call.Login user secret) model.Answer.Dropped = tt
-answered_settled state (model.Call.Login user secret) Failed = tt
+answered_settled state (model.Call.Login user given) (model.Answer.Stored id) = tt
+answered_settled state (model.Call.Login user given) (model.Answer.Listed items) = tt
+answered_settled state (model.Call.Login user given) model.Answer.Wrong = tt
+answered_settled state (model.Call.Login user given) (model.Answer.Part octets) = tt
+answered_settled state (model.Call.Login user given) model.Answer.GoneAlready = tt
+answered_settled state (model.Call.Login user given) model.Answer.Dropped = tt
+answered_settled state (model.Call.Login user given) Failed = tt
 answered_settled state (model.Call.Fetch user id) answer = tt
 answered_settled state (model.Call.Strike user ids) answer = tt
 
@@ -401,7 +401,7 @@ module _ (follows0 follows1 : Session → Due → Type 0) (line : Connection) (f
 -- each call may fail
 pub failed_answers : (call : model.Call) → IsAnswerTo call Failed
 failed_answers (model.Call.Deliver mail) = tt
-failed_answers (model.Call.Login user secret) = tt
+failed_answers (model.Call.Login user given) = tt
 failed_answers (model.Call.Fetch user id) = tt
 failed_answers (model.Call.Strike user ids) = tt
 

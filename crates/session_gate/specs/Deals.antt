@@ -42,7 +42,7 @@ DeliverAcks mail Failed copies = copies ≡ []
 -- no other call acknowledges any
 abbrev pub CallAcks : model.Call → model.Answer → List Acked → Type 0
 CallAcks (Deliver mail) answer copies = DeliverAcks mail answer copies
-CallAcks (Login user secret) answer copies = copies ≡ []
+CallAcks (Login user given) answer copies = copies ≡ []
 CallAcks (Fetch user id) answer copies = copies ≡ []
 CallAcks (Strike user ids) answer copies = copies ≡ []
 

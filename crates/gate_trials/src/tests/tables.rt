@@ -106,7 +106,7 @@ const READ_DOWN: &[u8] =
 const READ_WORN: &[u8] =
     b"+OK node1 ready <3.12.1000000000@node1>\r\n+OK send PASS\r\n+OK maildrop open\r\n-ERR [SYS/TEMP] try again later\r\n+OK message 2 deleted\r\n-ERR [SYS/TEMP] some messages may remain\r\n";
 
-pub(super) const POP: [Case<'static>; 7] = [
+pub(super) const POP: [Case<'static>; 9] = [
     Case {
         script: b"sss",
         says: READ,
@@ -153,6 +153,20 @@ pub(super) const POP: [Case<'static>; 7] = [
         script: b"x",
         says: b"USER alice\r\nPASS sesame\r\nQUIT\r\n",
         hears: b"+OK node1 ready <3.12.1000000000@node1>\r\n+OK send PASS\r\n-ERR name or secret is wrong\r\n+OK bye\r\n",
+        served: Served::Ended,
+        leaves: 0,
+    },
+    Case {
+        script: b"s",
+        says: b"APOP alice 1c9053e391e7f9bbf5501b773c9dbbfc\r\nQUIT\r\n",
+        hears: b"+OK node1 ready <3.12.1000000000@node1>\r\n+OK maildrop open\r\n+OK bye\r\n",
+        served: Served::Ended,
+        leaves: 1,
+    },
+    Case {
+        script: b"x",
+        says: b"APOP alice 1c9053e391e7f9bbf5501b773c9dbbfc\r\nQUIT\r\n",
+        hears: b"+OK node1 ready <3.12.1000000000@node1>\r\n-ERR name or secret is wrong\r\n+OK bye\r\n",
         served: Served::Ended,
         leaves: 0,
     },

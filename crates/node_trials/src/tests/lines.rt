@@ -11,7 +11,7 @@ ghost use Rattle.node_core.specs.Spelling.{CanBeTaken};
 use call_tickets::Call;
 use mail_base::{
     Body, Deliver, EpochId, Ids, Item, Items, Key, Letter, MsgId, Name, Names, NodeNo, NodeSet,
-    ObjState, Octets, Proof, Secret, Sequence, Stamp, StrikeMark, Ticket, Value,
+    ObjState, Octets, Proof, Secret, Sequence, Stamp, StrikeMark, Ticket, Value, apop_digest,
 };
 use std::alloc::{AllocError, Global};
 
@@ -263,18 +263,36 @@ pub(super) fn deletion_at(alloc: Global, line: &[u8]) -> Result<Call, AllocError
     })
 }
 
-/// Ann gives her secret, or where the line has an x one that is as long.
+/// Ann gives the digest of a banner and her secret, with this banner.
+fn digest_with(alloc: Global, banner: &[u8]) -> Result<Proof, AllocError> {
+    Ok(Proof::Apop {
+        banner: Octets::from_vec(Vec::from_slice(alloc, banner)?),
+        digest: apop_digest(b"<1.2.3@node1>", b"tulip"),
+    })
+}
+
+fn secret_given(alloc: Global, secret: &[u8]) -> Result<Proof, AllocError> {
+    Ok(Proof::Pass(Octets::from_vec(Vec::from_slice(alloc, secret)?)))
+}
+
+fn proof_at(alloc: Global, sign: u8) -> Result<Proof, AllocError> {
+    match sign {
+        b'x' => secret_given(alloc, b"lotus"),
+        b'd' => digest_with(alloc, b"<1.2.3@node1>"),
+        b'o' => digest_with(alloc, b"<1.2.4@node1>"),
+        b'e' => digest_with(alloc, b""),
+        _ => secret_given(alloc, b"tulip"),
+    }
+}
+
+/// Ann gives her secret, or where the line has an x one that is as long. With a d she gives the digest of her
+/// banner; with an o it comes with another one, and with an e with none.
 pub(super) fn login_at(alloc: Global, line: &[u8]) -> Result<Call, AllocError>
     ensures { IfOk result (λ call. IsTextEnded (call_seen call)) }
 {
-    let given: &[u8] = if at(line, 13) == b'x' {
-        b"lotus"
-    } else {
-        b"tulip"
-    };
     Ok(Call::Login {
         user: named(alloc, b"ann")?,
-        proof: Proof::Pass(Octets::from_vec(Vec::from_slice(alloc, given)?)),
+        proof: proof_at(alloc, at(line, 13))?,
     })
 }
 

@@ -160,9 +160,9 @@ say 2 CAPA
   2 PIPELINING
   2 RESP-CODES
   2 .
-say 2 USER alice
-  2 +OK send PASS
-say 2 PASS tanstaaf
+say 2 APOP alice c74ecdd9484c34e50e708ce3f1a6114f
+  2 -ERR name or secret is wrong
+say 2 APOP alice 53469115d388082c0489dbf8319aa86f
   2 +OK maildrop open
 say 2 TOP 1 1
   2 +OK top

@@ -98,7 +98,9 @@ say 2 RETR 3
 say 2 TOP 3 0
   2 -ERR no such message
 say 2 APOP alice 0
-  2 -ERR unknown command
+  2 -ERR bad argument
+say 2 APOP alice 0123456789abcdef0123456789ABCDEF
+  2 -ERR bad order
 say 2 USER bob
   2 -ERR bad order
 open pop 1

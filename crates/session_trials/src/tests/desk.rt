@@ -107,11 +107,10 @@ impl Desk {
         })
     }
 
-    // The answer to a login: the maildrop, where the secret is right.
+    // The answer to a login: the maildrop, where the proof is right.
     fn let_in(&mut self, plan: &Plan, user: &Name, proof: &Proof) -> Answer {
-        let Proof::Pass(secret) = proof;
         let right = match plan.users.secret(user) {
-            Some(wanted) => wanted.octets() == secret.as_slice(),
+            Some(secret) => proof.is_right(secret),
             None => false,
         };
         match self.maildrop.take() {

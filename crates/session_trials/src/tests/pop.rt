@@ -6,8 +6,8 @@ use super::client::pop;
 use super::desk::Message;
 use std::test::Fail;
 use tables::{
-    FAILED_LOGIN, LET_IN, LOGIN_GIVEN_UP, LOGINS, MARKS, NO_MESSAGE, NOT_LET_IN, ONE_MESSAGE, ROWS,
-    THREE_MESSAGES,
+    DIGESTS, FAILED_LOGIN, LET_IN, LOGIN_GIVEN_UP, LOGINS, MARKS, NO_MESSAGE, NOT_LET_IN,
+    ONE_MESSAGE, ROWS, THREE_MESSAGES,
 };
 
 // One message, of 151 octets.
@@ -36,8 +36,9 @@ const LOGIN: &[u8] = b"USER alice\r\nPASS sesame\r\n";
 
 #[test]
 fn clients_hear_what_the_tables_say(rt: HostRuntime) -> Result<(), Fail> {
-    let cases: [(&[Message], &[u8]); 9] = [
+    let cases: [(&[Message], &[u8]); 10] = [
         (&TWO, LOGINS),
+        (&TWO, DIGESTS),
         (&TWO, NOT_LET_IN),
         (&TWO, FAILED_LOGIN),
         (&TWO, LOGIN_GIVEN_UP),
@@ -61,6 +62,7 @@ fn octets_come_in_any_pieces(rt: HostRuntime) -> Result<(), Fail> {
     for size in [1, 2, 3, 7, 100_000usize] {
         pop(&rt, rt.alloc(), &ONE, &[Pieces(ONE_MESSAGE, size)])?;
         pop(&rt, rt.alloc(), &[], &[Pieces(LOGINS, size)])?;
+        pop(&rt, rt.alloc(), &TWO, &[Pieces(DIGESTS, size)])?;
         pop(&rt, rt.alloc(), &FOUR, &[Pieces(MARKS, size)])?;
         pop(&rt, rt.alloc(), &FOUR, &[Pieces(ROWS, size)])?;
     }

@@ -1,6 +1,6 @@
 // Lines, and what RFC 1939 and our profile of it make of them.
 use pop_wire::{
-    PopCommand, PopFault, blanks_at_end_mean_nothing, case_of_verb_means_nothing,
+    PopCommand, PopFault, apop_digest, blanks_at_end_mean_nothing, case_of_verb_means_nothing,
     larger_numbers_are_bad, more_spaces_mean_nothing, names_are_read, numbers_are_read,
     other_verbs_are_unknown, read_command, secrets_are_read, two_arguments_are_too_many,
 };
@@ -15,7 +15,7 @@ fn reads_commands(rt: HostRuntime) {
     let last = Ok(PopCommand::Uidl {
         number: Some(u32::MAX),
     });
-    let lines: [(&[u8], Result<PopCommand, PopFault>); 31] = [
+    let lines: [(&[u8], Result<PopCommand, PopFault>); 33] = [
         (b"USER Bob", bob),
         (b"user Bob \t", bob),
         (b"uSeR   Bob", bob),
@@ -32,6 +32,20 @@ fn reads_commands(rt: HostRuntime) {
             b"pAsS \x00\xFF",
             Ok(PopCommand::Pass {
                 secret: b"\x00\xFF",
+            }),
+        ),
+        (
+            b"APOP Mrose c4c9334bac560ecc979e58001b3e22fb",
+            Ok(PopCommand::Apop {
+                name: b"Mrose",
+                digest: MROSE,
+            }),
+        ),
+        (
+            b"aPoP  mrose   C4C9334BAC560ECC979E58001B3E22FB \t",
+            Ok(PopCommand::Apop {
+                name: b"mrose",
+                digest: MROSE,
             }),
         ),
         (b"STAT", Ok(PopCommand::Stat)),
@@ -75,9 +89,22 @@ fn reads_commands(rt: HostRuntime) {
     }
 }
 
+// The digest of RFC 1939, section 7.
+const MROSE: [u8; 16] = [
+    0xC4, 0xC9, 0x33, 0x4B, 0xAC, 0x56, 0x0E, 0xCC, 0x97, 0x9E, 0x58, 0x00, 0x1B, 0x3E, 0x22, 0xFB,
+];
+
+#[test]
+fn digests_are_those_of_the_rfc(rt: HostRuntime) {
+    let banner = b"<1896.697170952@dbc.mtview.ca.us>";
+    assert_eq!(rt; apop_digest(banner, b"tanstaaf"), MROSE);
+    assert!(rt; apop_digest(b"", b"tanstaaf") != MROSE);
+    assert!(rt; apop_digest(b"tanstaaf", banner) != MROSE);
+}
+
 #[test]
 fn refuses_arguments(rt: HostRuntime) {
-    let arguments: [&[u8]; 33] = [
+    let arguments: [&[u8]; 42] = [
         b"USER",
         b"USER \t",
         b"USER a b",
@@ -90,6 +117,15 @@ fn refuses_arguments(rt: HostRuntime) {
         b"PASS ",
         b"PASS\t",
         b"PASS\t ",
+        b"APOP",
+        b"APOP mrose",
+        b"APOP mrose ",
+        b"APOP c4c9334bac560ecc979e58001b3e22fb",
+        b"APOP @ c4c9334bac560ecc979e58001b3e22fb",
+        b"APOP mrose c4c9334bac560ecc979e58001b3e22f",
+        b"APOP mrose c4c9334bac560ecc979e58001b3e22fb0",
+        b"APOP mrose c4c9334bac560ecc979e58001b3e22fg",
+        b"APOP mrose c4c9334bac560ecc979e58001b3e22fb x",
         b"STAT 1",
         b"STAT \tx",
         b"LIST 1 2",
@@ -154,7 +190,7 @@ fn refuses_numbers_and_verbs(rt: HostRuntime) {
         b"QUIT\tnow",
         b"DELE\t1",
         b"TOP\t1 0",
-        b"APOP bob 0",
+        b"APOP\tbob 0",
         b"NOO",
         b"RSETS",
     ];

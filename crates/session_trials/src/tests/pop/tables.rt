@@ -67,6 +67,47 @@ PASS sesame
   +OK maildrop open
 ";
 
+// APOP: it takes two words, comes at any time before the login and not after it, and its digest is of the session's own banner.
+pub(super) const DIGESTS: &[u8] = b"\
+APOP
+  -ERR bad argument
+APOP alice
+  -ERR bad argument
+APOP alice 1c9053e391e7f9bbf5501b773c9dbbf
+  -ERR bad argument
+APOP alice 1c9053e391e7f9bbf5501b773c9dbbfc 1
+  -ERR bad argument
+APOP al<ice 1c9053e391e7f9bbf5501b773c9dbbfc
+  -ERR bad argument
+APOP nobody 1c9053e391e7f9bbf5501b773c9dbbfc
+  -ERR name or secret is wrong
+APOP alice 4e9be835328395b469b9663708f5dc43
+  asks for alice
+  -ERR name or secret is wrong
+APOP alice c8dae1c50e092f3d877192fc555b1dcf
+  asks for alice
+  -ERR name or secret is wrong
+USER alice
+  +OK send PASS
+APOP alice 00000000000000000000000000000000
+  asks for alice
+  -ERR name or secret is wrong
+PASS sesame
+  -ERR bad order
+apop  ALICE   1c9053e391e7f9bbf5501b773c9dbbFC \t
+  asks for alice
+  +OK maildrop open
+APOP alice 1c9053e391e7f9bbf5501b773c9dbbfc
+  -ERR bad order
+APOP alice
+  -ERR bad argument
+STAT
+  +OK 2 179
+QUIT
+  +OK bye
+  closed
+";
+
 // A maildrop of one message of 151 octets.
 pub(super) const ONE_MESSAGE: &[u8] = b"\
 USER alice

@@ -2,9 +2,9 @@ use Rattle.std.proofs.Common.{refl, sym, ◌∙◌}
 use Rattle.std.specs.Prelude.{is_some}
 use Rattle.cluster_model.specs.Cluster.CallKind.{LoggingIn}
 use Rattle.cluster_model.specs.Steps.NodeCall.{Login}
+use Rattle.mail_base.specs.Bodies.{proof_seen}
 use Rattle.node_store.specs.Disks.{view_of}
 use Rattle.node_tickets.specs.Seen.{found_in}
-use Rattle.node_core.specs.Beginning.{secret_of_proof}
 use Rattle.node_core.proofs.Begun.{worn_goes, untouched}
 use Rattle.node_core.proofs.Parts.{reads}
 use Rattle.node_core.proofs.node.Node.login.Goals as goal
@@ -14,7 +14,7 @@ returns-clause-begins g c =
     let on = view_of g.D.Disk.seen g.D.Disk.faults g.D.Disk.clock in
     let old = c.args.self.now in
     let disk = c.args.disk.now in
-    let call = Login c.args.user.now (secret_of_proof c.args.proof.now) in
+    let call = Login c.args.user.now (proof_seen c.args.proof.now) in
     let mailbox = c.in_ok-answer.ensures in
     let read = untouched on disk disk refl in
     λ plan own seconds p users.
