@@ -32,5 +32,5 @@ fn main(rt: HostRuntime) -> ExitCode {
     };
     let mut source = ReadSource::new(input);
     let mut sink = WriteSink::new(rt.stdout());
-    ExitCode::from(program::run(rt.alloc(), env::args(&rt), &mut source, &mut sink))
+    ExitCode::from(program::run(&rt, env::args(&rt), &mut source, &mut sink))
 }

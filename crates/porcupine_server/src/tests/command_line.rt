@@ -3,7 +3,6 @@
 use crate::program::run;
 use io_edge::faulty::FaultySink;
 use io_edge::{SliceSource, VecSink};
-use std::alloc::Global;
 use std::env;
 use std::env::{Env, FillError};
 
@@ -50,17 +49,18 @@ const CASES: [(&[&[u8]], u64, u8, &[u8]); 11] = [
 ];
 
 // Runs the program with these words, of whose writes this one fails.
-fn runs_with(alloc: Global, words: &[&[u8]], write: u64) -> (u8, Vec<u8>) {
+fn runs_with(rt: &HostRuntime, words: &[&[u8]], write: u64) -> (u8, Vec<u8>) {
+    let alloc = rt.alloc();
     let mut sink = FaultySink::new(VecSink::new(alloc), write);
     let arguments = env::args(&(HandedOver { words }, alloc));
-    let status = run(alloc, arguments, &mut SliceSource::new(b""), &mut sink);
+    let status = run(rt, arguments, &mut SliceSource::new(b""), &mut sink);
     (status, sink.inner.held)
 }
 
 #[test]
 fn other_words_are_refused(rt: HostRuntime) {
     for (words, write, status, written) in CASES {
-        let answer = runs_with(rt.alloc(), words, write);
+        let answer = runs_with(&rt, words, write);
         assert_eq!(rt; answer.0, status);
         assert_eq!(rt; answer.1.as_slice(), written);
     }
