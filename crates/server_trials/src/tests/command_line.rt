@@ -1,8 +1,8 @@
 // What the system hands over as words: the program's name, and then those of the command line.
 
-use crate::program::run;
 use io_edge::faulty::FaultySink;
 use io_edge::{SliceSource, VecSink};
+use porcupine_server::run;
 use std::env;
 use std::env::{Env, FillError};
 
