@@ -52,7 +52,7 @@ module _ (filed : Id → Option (List ℕ)) (sessions : List Session) (facts : P
       (λ listed.
       let place = item_at items n item there in
       each_at (SizesFiled filed) listed.before listed.behind listed.login
-      (subst (Each (SizesFiled filed)) listed.are (facts.sizes k session at)) listed.user listed.secret items listed.asked listed.told place.0 item place.1) was
+      (subst (Each (SizesFiled filed)) listed.are (facts.sizes k session at)) listed.user listed.given items listed.asked listed.told place.0 item place.1) was
 
   -- and each part
   part_filed : (front rest : List Exchange) (x : Exchange) (cut : session.whole ≡ front ++ x ∷ rest) → IsPartFiled filed x

@@ -13,7 +13,7 @@ use Rattle.mail_model.specs.Session.Unit.{Line, Text}
 use Rattle.mail_model.specs.Pop.{Command, Fault, pop_command_of, lines_asked}
 use Rattle.mail_model.specs.Pop.Command.{Uidl, Listing, Retr, Top}
 use Rattle.mail_model.specs.PopReplies.{Item, ListingSlot, one_line, shown_part, shown_text, dotted_line, last_line}
-use Rattle.mail_model.specs.Maildrop.{Stage, LineOutcome, line_outcome, command_outcome, before_login, behind_login, retr_outcome, bad_order, message_at, of_message, named_in, deleted_in, wrong_text, entered_text, later_text, bye_text, remaining_text}
+use Rattle.mail_model.specs.Maildrop.{Stage, Given, LineOutcome, line_outcome, command_outcome, before_login, behind_login, retr_outcome, bad_order, message_at, of_message, named_in, deleted_in, wrong_text, entered_text, later_text, bye_text, remaining_text}
 use Rattle.mail_model.specs.Maildrop.Stage.{Authorization, Transaction}
 use Rattle.mail_model.specs.Maildrop.LineOutcome.{Answered, Closed, AsksLogin, AsksMessage, AsksDeletion}
 use Rattle.mail_model.specs.Shown.{SeenExchange, ShowsId, ShowsSize, CarriesOctets, is_good}
@@ -105,7 +105,7 @@ no_text_quiet line reply nothing command n octets fetches shows = fetches.someth
 abbrev FetchLeads : LineOutcome → Type 0
 FetchLeads (Answered lines) = (rest : List ℕ) × (lines ≡ (45 ∷ rest) ∷ [])
 FetchLeads (Closed lines) = ⊥
-FetchLeads (AsksLogin user secret) = ⊥
+FetchLeads (AsksLogin user given) = ⊥
 FetchLeads (AsksMessage number id) = ⊤
 FetchLeads (AsksDeletion ids) = ⊥
 
@@ -255,7 +255,7 @@ listed_more items been one was = record {
   behind = was.behind ++ one ∷ [];
   login = was.login;
   user = was.user;
-  secret = was.secret;
+  given = was.given;
   asked = was.asked;
   are = ap (λ (l : List Exchange). l ++ one ∷ []) was.are ∙ append_assoc was.before (was.login ∷ was.behind) (one ∷ []);
   told = was.told;
@@ -269,23 +269,23 @@ module _ (plan : Plan) (named : Option (List ℕ)) (been : List Exchange) (so_fa
   not_listed none items others listed = absurd (none-some (Listed others) (sym none ∙ listed))
 
   -- a login
-  login_shown : (name secret : List ℕ) → AsksNothing (pop_command_of line) → one.call ≡ Some (Login name secret) → (answer : Option Answer) → one.answer ≡ answer → Awaits one.unit (Login name secret) answer one.reply
-      → ShowsSoFar (standing_asked (Entering (named_in line)) (Login name secret) answer) (been ++ one ∷ [])
-  login_shown name secret nothing call None there says =
+  login_shown : (name : List ℕ) (given : Given) → AsksNothing (pop_command_of line) → one.call ≡ Some (Login name given) → (answer : Option Answer) → one.answer ≡ answer → Awaits one.unit (Login name given) answer one.reply
+      → ShowsSoFar (standing_asked (Entering (named_in line)) (Login name given) answer) (been ++ one ∷ [])
+  login_shown name given nothing call None there says =
       ([], inl refl, each_more (ShowsListed []) been one (so_far []) (waits_shown [] line one is says there))
-  login_shown name secret nothing call (Some (Listed items)) there says =
+  login_shown name given nothing call (Some (Listed items)) there says =
       subst (λ (l : List Item). WasListed l (been ++ one ∷ []) × Each (ShowsListed l) (been ++ one ∷ [])) (sym (listed_all items)) (
-        record { before = been; behind = []; login = one; user = name; secret = secret; are = refl; asked = call; told = there },
+        record { before = been; behind = []; login = one; user = name; given = given; are = refl; asked = call; told = there },
         each_more (ShowsListed items) been one (so_far items) (quiet_shown items line entered_text one is nothing says
             (λ others listed. let both : Some (Listed items) ≡ Some (Listed others) = sym there ∙ listed in let same : items ≡ others = cc in sym same)),
       )
-  login_shown name secret nothing call (Some Wrong) there says = λ items.
+  login_shown name given nothing call (Some Wrong) there says = λ items.
       each_more (ShowsListed items) been one (so_far items) (quiet_shown items line wrong_text one is nothing says
       (λ others listed. let both : Some Wrong ≡ Some (Listed others) = sym there ∙ listed in cc))
-  login_shown name secret nothing call (Some Failed) there says = λ items.
+  login_shown name given nothing call (Some Failed) there says = λ items.
       each_more (ShowsListed items) been one (so_far items) (quiet_shown items line later_text one is nothing says
       (λ others listed. let both : Some Failed ≡ Some (Listed others) = sym there ∙ listed in cc))
-  login_shown name secret nothing call (Some answer) there says = absurd says
+  login_shown name given nothing call (Some answer) there says = absurd says
 
   -- whatever the line leads to
   entering_shown : (outcome : LineOutcome) → line_outcome plan (Authorization named) line ≡ outcome → ((items : List Item) → LeadsBefore (map sized items) line outcome)
@@ -300,7 +300,7 @@ module _ (plan : Plan) (named : Option (List ℕ)) (been : List Exchange) (so_fa
     each_more (ShowsListed []) been one (so_far [])
         (by_fits [] line lines one is led.2 (leads []).fits (no_text_at_once plan (Authorization named) line (Closed lines) outcome_is lines (inr refl)) (not_listed led.1 [])),
   )
-  entering_shown (AsksLogin name secret) outcome_is leads led = login_shown name secret (leads []) led.0 one.answer refl led.1
+  entering_shown (AsksLogin name given) outcome_is leads led = login_shown name given (leads []) led.0 one.answer refl led.1
   entering_shown (AsksMessage number id) outcome_is leads led = absurd (leads [])
   entering_shown (AsksDeletion ids) outcome_is leads led = absurd (leads [])
 
@@ -360,7 +360,7 @@ module _ (plan : Plan) (user : List ℕ) (slots : List ListingSlot) (been : List
   reading_shown (Closed lines) outcome_is leads led =
       ends_with (by_fits (all_items slots) line lines one is led.2 leads.fits
       (no_text_at_once plan (Transaction slots) line (Closed lines) outcome_is lines (inr refl)) (never_listed None led.1 (λ others e. none-some (Listed others) e)))
-  reading_shown (AsksLogin name secret) outcome_is leads led = absurd leads
+  reading_shown (AsksLogin name given) outcome_is leads led = absurd leads
   reading_shown (AsksMessage number id) outcome_is leads led = fetch_shown number id leads.0 leads.1.0 leads.1.1 leads.1.2 led.0 one.answer refl led.1
   reading_shown (AsksDeletion ids) outcome_is leads led = strike_shown ids leads one.answer refl led.1
 

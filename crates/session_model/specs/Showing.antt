@@ -7,6 +7,7 @@ use Rattle.mail_model.specs.Lines.{closed}
 use Rattle.mail_model.specs.Tape.Protocol.{Pop}
 use Rattle.mail_model.specs.PopReplies.{Item, shown_part}
 use Rattle.mail_model.specs.Shown.{ShowsId, ShowsSize, ShowsOctets, ShowsTop}
+use Rattle.mail_model.specs.Maildrop.{Given}
 use Rattle.session_model.specs.Calls.Call.{Login, Fetch}
 use Rattle.session_model.specs.Calls.Answer.{Listed, Part}
 use Rattle.session_model.specs.Talk.{Exchange, Standing, TalkGoes, opening_state}
@@ -43,9 +44,9 @@ pub record WasListed (items : List Item) (exchanges : List Exchange) : Type 0 wh
   pub behind : List Exchange
   pub login : Exchange
   pub user : List ℕ
-  pub secret : List ℕ
+  pub given : Given
   pub are : exchanges ≡ before ++ login ∷ behind
-  pub asked : login.call ≡ Some (Login user secret)
+  pub asked : login.call ≡ Some (Login user given)
   pub told : login.answer ≡ Some (Listed items)
 
 -- All exchanges of a session show what one listing has; it is that with which a login was answered, or it is empty.
