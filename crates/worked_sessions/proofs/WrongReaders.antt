@@ -7,6 +7,7 @@ use Rattle.mail_model.specs.Identity.{Id, id_text}
 use Rattle.mail_model.specs.Lines.{HasNoCrlf, sent_line}
 use Rattle.mail_model.specs.Listing.{is_same_id}
 use Rattle.mail_model.specs.Maildrop.{wrong_text, entered_text, deleted_in}
+use Rattle.mail_model.specs.Maildrop.Given.{BySecret}
 use Rattle.mail_model.specs.Maildrop.LineOutcome.{Answered, AsksLogin}
 use Rattle.mail_model.specs.Pop.{pop_command_of}
 use Rattle.mail_model.specs.Pop.Command.{Quit}
@@ -117,13 +118,13 @@ found_view (one ∷ xs) front back unit line lines e = by (λ front' e'. found_v
 -- PASS, answered with this listing
 module _ (items : List Item) where
   abbrev pass : Exchange
-  pass = record { unit = Line (codes "PASS tanstaaf"); call = Some (Login (codes "alice") (codes "tanstaaf")); answer = Some (Listed items); reply = one_line entered_text }
+  pass = record { unit = Line (codes "PASS tanstaaf"); call = Some (Login (codes "alice") (BySecret (codes "tanstaaf"))); answer = Some (Listed items); reply = one_line entered_text }
 
   abbrev named : TalkState
   named = Entering (Some (codes "alice"))
 
-  pass_leads : lead_of small_plan 1 named (Line (codes "PASS tanstaaf")) ≡ Asks (Login (codes "alice") (codes "tanstaaf"))
-  pass_leads = ap (λ (b : Bool). line_lead [] (if b then AsksLogin (codes "alice") (codes "tanstaaf") else Answered (one_line wrong_text))) has_alice
+  pass_leads : lead_of small_plan 1 named (Line (codes "PASS tanstaaf")) ≡ Asks (Login (codes "alice") (BySecret (codes "tanstaaf")))
+  pass_leads = ap (λ (b : Bool). line_lead [] (if b then AsksLogin (codes "alice") (BySecret (codes "tanstaaf")) else Answered (one_line wrong_text))) has_alice
 
 -- the worked reader that is shown another text
 abbrev uidl : Exchange
