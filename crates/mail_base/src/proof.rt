@@ -3,8 +3,7 @@ ghost use Rattle.std.specs.Prelude.{◌≡◌, IfOk};
 ghost use Rattle.mail_model.specs.Plan.{apop_digest, is_right};
 ghost use Rattle.mail_base.specs.Bodies.{proof_seen};
 
-use crate::Octets;
-use crate::Secret;
+use crate::{Octets, Secret};
 use md5::{Digest, Md5};
 use std::alloc::AllocError;
 

@@ -5,7 +5,7 @@ use Rattle.std.proofs.lemmas.List.{length-drop}
 use Rattle.mail_model.specs.Lines.{HasNoCrlf, sent_line}
 use Rattle.mail_model.specs.Plan.{Plan}
 use Rattle.mail_model.specs.Session.{Unit}
-use Rattle.mail_model.specs.PopReplies.{one_line, ready_text}
+use Rattle.mail_model.specs.PopReplies.{one_line, ready_text, banner_text}
 use Rattle.mail_model.specs.Maildrop.{entered_text}
 use Rattle.session_model.specs.Calls as calls
 use Rattle.session_model.specs.Calls.{IsReply, ShowsPart}
@@ -101,10 +101,10 @@ module _ (plan : Plan) (node boot number seconds : ℕ) (now : Turn) (stage late
   listed_is (Transaction login listing) = refl
 
   -- what is asked is its own
-  own_move : (heard : Heard) (next : Turn) (did : Move) → LeadsTurn heard (next, did) → IsOwn (name_in stage) (slots_in stage) heard → IsOwnMove (session node boot number seconds turn.Hears stage cutter) did
+  own_move : (heard : Heard) (next : Turn) (did : Move) → LeadsTurn heard (next, did) → IsOwn (banner_text node boot number seconds) (name_in stage) (slots_in stage) heard → IsOwnMove (session node boot number seconds turn.Hears stage cutter) did
   own_move (hears.Said reply) next did begins own = let At : Move → Type 0 = IsOwnMove (session node boot number seconds turn.Hears stage cutter) in subst At (sym begins.1) tt
   own_move (hears.Ended reply) next did begins own = let At : Move → Type 0 = IsOwnMove (session node boot number seconds turn.Hears stage cutter) in subst At (sym begins.1) tt
-  own_move (hears.LogsIn user kept secret) next did begins own = let At : Move → Type 0 = IsOwnMove (session node boot number seconds turn.Hears stage cutter) in subst At (sym begins.1) tt
+  own_move (hears.LogsIn user kept proof) next did begins own = let At : Move → Type 0 = IsOwnMove (session node boot number seconds turn.Hears stage cutter) in subst At (sym begins.1) own.1
   own_move (hears.Fetches user number_of lines item) next did begins own =
       let At : Move → Type 0 = IsOwnMove (session node boot number seconds turn.Hears stage cutter) in
       subst At (sym begins.1) (own.1.0, item, ap (λ (l : List Item). slice_get l own.1.0) (listed_is stage) ∙ own.1.1, refl, refl)
@@ -114,13 +114,13 @@ module _ (plan : Plan) (node boot number seconds : ℕ) (now : Turn) (stage late
       × ((s : Stage) → told_login next s ≡ login_in s) × ((s : Stage) → told_items next s ≡ listed_in s)
   quiet (hears.Said reply) next did begins = (ap due_count begins.0, λ idle. let both = sym begins.1 ∙ idle in cc (both), λ s. ap (λ t. told_login t s) begins.0, λ s. ap (λ t. told_items t s) begins.0)
   quiet (hears.Ended reply) next did begins = (ap due_count begins.0, λ idle. let both = sym begins.1 ∙ idle in cc (both), λ s. ap (λ t. told_login t s) begins.0, λ s. ap (λ t. told_items t s) begins.0)
-  quiet (hears.LogsIn user kept secret) next did begins = (ap due_count begins.0, λ idle. let both = sym begins.1 ∙ idle in cc (both), λ s. ap (λ t. told_login t s) begins.0, λ s. ap (λ t. told_items t s) begins.0)
+  quiet (hears.LogsIn user kept proof) next did begins = (ap due_count begins.0, λ idle. let both = sym begins.1 ∙ idle in cc (both), λ s. ap (λ t. told_login t s) begins.0, λ s. ap (λ t. told_items t s) begins.0)
   quiet (hears.Fetches user number_of lines item) next did begins = (ap due_count begins.0, λ idle. let both = sym begins.1 ∙ idle in cc (both), λ s. ap (λ t. told_login t s) begins.0, λ s. ap (λ t. told_items t s) begins.0)
   quiet (hears.Deletes user items) next did begins = (ap due_count begins.0, λ idle. let both = sym begins.1 ∙ idle in cc (both), λ s. ap (λ t. told_login t s) begins.0, λ s. ap (λ t. told_items t s) begins.0)
 
   pub moved_line : (found : Found) → Finds cutter found cutter → new ≡ behind_line cutter found → (heard : Heard) (next : Turn) (did : Move) (octets : List ℕ) → LeadsTurn heard (next, did)
-      → octets ≡ flat_map sent_line (reply_in heard) → IsOwn (name_in stage) (slots_in stage) heard → login_in later ≡ login_in stage → listed_in later ≡ listed_in stage
-      → ((line : List ℕ) → HasNoCrlf line → IsLine cutter found line → cutter.limit ≡ 1024 → HearsLine plan stage line heard later)
+      → octets ≡ flat_map sent_line (reply_in heard) → IsOwn (banner_text node boot number seconds) (name_in stage) (slots_in stage) heard → login_in later ≡ login_in stage → listed_in later ≡ listed_in stage
+      → ((line : List ℕ) → HasNoCrlf line → IsLine cutter found line → cutter.limit ≡ 1024 → HearsLine (banner_text node boot number seconds) plan stage line heard later)
       → Moved plan (session node boot number seconds now stage cutter) did octets (session node boot number seconds next later new)
   moved_line found finds cut heard next did octets begins says own login items means =
       let At : Turn → Type 0 = λ t. Moved plan (session node boot number seconds t stage cutter) did octets (session node boot number seconds next later new) in

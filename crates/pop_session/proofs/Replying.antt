@@ -156,14 +156,14 @@ enters plan node boot number seconds stage cutter login listed plain due follows
     let answer = follows.stands.0 in
     let waits = follows.stands.1 in
     let says = follows.stands.3 in
-    let secret = says.1.0 in
+    let given = says.1.0 in
     let After : PopSession = session node boot number seconds turn.Hears (Transaction login (map listed_slot (items_told listed))) cutter in
     let At : moves.Due → Type 0 = λ d. Moves (Follows (session node boot number seconds turn.Hears (Transaction login (map listed_slot (items_told listed))) cutter)) (ready_text node boot number seconds) plan plain d Said
     (flat_map sent_line (one_line entered_text)) in
     let IsTold : calls.Call → calls.Answer → Type 0 = λ c a. RepliesTo waits.one.unit c a (one_line entered_text) × (answered (talk_state_of stage) c a ≡ Hearing (Reading login.user (listed_slots (map item_seen (items_told listed)))))
     × (let_in (Some c) (Some a) ≡ Some login.user) in
     let told : IsTold waits.call answer =
-    subst (λ c. IsTold c answer) (sym says.1.1) (subst (λ a. IsTold (calls.Call.Login login.user secret) a) (sym says.2) (refl, refl, refl)) in
+    subst (λ c. IsTold c answer) (sym says.1.1) (subst (λ a. IsTold (calls.Call.Login login.user given) a) (sym says.2) (refl, refl, refl)) in
     let whole : List Exchange = waits.before ++ with_answer waits.one answer (one_line entered_text) ∷ [] in
     subst At (sym follows.stands.2) (record {
       call = waits.call;

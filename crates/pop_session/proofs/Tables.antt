@@ -9,21 +9,23 @@ use Rattle.mail_model.specs.Plan.{Plan, is_user}
 use Rattle.mail_model.specs.Identity.{Id, id_text}
 use Rattle.mail_model.specs.Session.{is_long_line}
 use Rattle.mail_model.specs.Pop.{Command, Fault, pop_command_of}
-use Rattle.mail_model.specs.Pop.Command.{User, Pass, Stat, Listing, Uidl, Retr, Dele, Top, Noop, Rset, Quit, Capa}
+use Rattle.mail_model.specs.Pop.Command.{User, Pass, Apop, Stat, Listing, Uidl, Retr, Dele, Top, Noop, Rset, Quit, Capa}
 use Rattle.mail_model.specs.Pop.Fault.{UnknownVerb, BadArgument, BadNumber}
-use Rattle.mail_model.specs.PopReplies.{Item, ListingSlot, unmarked, marked_ids, size_line, id_line, stat_text, deleted_text, lines_from, last_line, capability_lines, capability_reply, ready_text, down_text}
-use Rattle.mail_model.specs.Maildrop.{Stage, LineOutcome, line_outcome, command_outcome, pass_outcome, before_login, behind_login, of_message, message_at, deletion_of}
+use Rattle.mail_model.specs.PopReplies.{Item, ListingSlot, unmarked, marked_ids, size_line, id_line, stat_text, deleted_text, lines_from, last_line, capability_lines, capability_reply, banner_text, ready_text, down_text}
+use Rattle.mail_model.specs.Maildrop.{Stage, Given, LineOutcome, line_outcome, command_outcome, login_outcome, pass_outcome, before_login, behind_login, of_message, message_at, deletion_of}
 use Rattle.mail_model.specs.Maildrop as drop
 use Rattle.mail_model.specs.Maildrop.Stage.{Authorization, Transaction}
+use Rattle.mail_model.specs.Maildrop.Given.{BySecret, ByDigest}
 use Rattle.mail_model.specs.Maildrop.LineOutcome.{Answered, Closed, AsksLogin, AsksMessage, AsksDeletion}
 use Rattle.mail_model.proofs.OneLine.{IsNoLf, by_test, decimal_no_lf}
+use Rattle.mail_model.specs.Names.{lower}
 use Rattle.pop_session.proofs.Messages.{none_of, text}
 
 -- the lines of a reply
 abbrev pub AreLines : LineOutcome → Type 0
 AreLines (Answered lines) = All HasNoCrlf lines
 AreLines (Closed lines) = All HasNoCrlf lines
-AreLines (AsksLogin user secret) = ⊤
+AreLines (AsksLogin user given) = ⊤
 AreLines (AsksMessage number id) = ⊤
 AreLines (AsksDeletion ids) = ⊤
 
@@ -61,21 +63,26 @@ stat_none slots =
 deleted_none : (n : ℕ) → HasNoLf (deleted_text n)
 deleted_none n = joined (codes "+OK message " ++ decimal n) (codes " deleted") (joined (codes "+OK message ") (decimal n) (by_test (codes "+OK message ") refl) (decimal_no_lf n)) (by_test (codes " deleted") refl)
 
-pub ready_none : (node boot number seconds : ℕ) → HasNoCrlf (ready_text node boot number seconds)
-ready_none node boot number seconds =
-    let a : List ℕ = codes "+OK node" ++ decimal node in
-    let b : List ℕ = a ++ codes " ready <" in
-    let c : List ℕ = b ++ decimal boot in
+banner_none : (node boot number seconds : ℕ) → HasNoLf (banner_text node boot number seconds)
+banner_none node boot number seconds =
+    let c : List ℕ = codes "<" ++ decimal boot in
     let d : List ℕ = c ++ codes "." in
     let e : List ℕ = d ++ decimal number in
     let f : List ℕ = e ++ codes "." in
     let g : List ℕ = f ++ decimal seconds in
     let h : List ℕ = g ++ codes "@node" in
     let i : List ℕ = h ++ decimal node in
+    joined i (codes ">") (joined h (decimal node) (joined g (codes "@node") (joined f (decimal seconds) (joined e (codes ".") (joined d (decimal number) (joined c (codes ".")
+    (joined (codes "<") (decimal boot) (by_test (codes "<") refl) (decimal_no_lf boot)) (by_test (codes ".") refl)) (decimal_no_lf number)) (by_test (codes ".") refl)) (decimal_no_lf seconds))
+    (by_test (codes "@node") refl)) (decimal_no_lf node)) (by_test (codes ">") refl)
+
+pub ready_none : (node boot number seconds : ℕ) → HasNoCrlf (ready_text node boot number seconds)
+ready_none node boot number seconds =
+    let a : List ℕ = codes "+OK node" ++ decimal node in
     none_of (ready_text node boot number seconds)
-    (joined i (codes ">") (joined h (decimal node) (joined g (codes "@node") (joined f (decimal seconds) (joined e (codes ".") (joined d (decimal number) (joined c (codes ".") (joined b (decimal boot)
-    (joined a (codes " ready <") (joined (codes "+OK node") (decimal node) (by_test (codes "+OK node") refl) (decimal_no_lf node)) (by_test (codes " ready <") refl))
-    (decimal_no_lf boot)) (by_test (codes ".") refl)) (decimal_no_lf number)) (by_test (codes ".") refl)) (decimal_no_lf seconds)) (by_test (codes "@node") refl)) (decimal_no_lf node)) (by_test (codes ">") refl))
+    (joined (a ++ codes " ready ") (banner_text node boot number seconds)
+    (joined a (codes " ready ") (joined (codes "+OK node") (decimal node) (by_test (codes "+OK node") refl) (decimal_no_lf node)) (by_test (codes " ready ") refl))
+    (banner_none node boot number seconds))
 
 pub down_none : (node : ℕ) → HasNoCrlf (down_text node)
 down_none node =
@@ -99,13 +106,16 @@ deletion : (ids : List Id) → AreLines (deletion_of ids)
 deletion [] = one (codes "+OK bye") refl
 deletion (id ∷ ids) = tt
 
-passes : (plan : Plan) (user : Option (List ℕ)) (secret : List ℕ) → AreLines (pass_outcome plan user secret)
-passes plan None secret = one (codes "-ERR bad order") refl
-passes plan (Some user) secret = by_user (is_user plan user)
+login : (plan : Plan) (user : List ℕ) (given : Given) → AreLines (login_outcome plan user given)
+login plan user given = by_user (is_user plan user)
   where
-    by_user : (known : Bool) → AreLines (if known then AsksLogin user secret else drop.says_line drop.wrong_text)
+    by_user : (known : Bool) → AreLines (if known then AsksLogin user given else drop.says_line drop.wrong_text)
     by_user true = tt
     by_user false = one (codes "-ERR name or secret is wrong") refl
+
+passes : (plan : Plan) (user : Option (List ℕ)) (secret : List ℕ) → AreLines (pass_outcome plan user secret)
+passes plan None secret = one (codes "-ERR bad order") refl
+passes plan (Some user) secret = login plan user (BySecret secret)
 
 one_more : (line : List ℕ) (lines : List (List ℕ)) → list_all (λ x. not (nat_eq x 10)) line ≡ true → All HasNoCrlf lines → All HasNoCrlf (line ∷ lines)
 one_more line lines h behind = All-cons HasNoCrlf line lines (text line h) behind
@@ -122,6 +132,7 @@ capabilities =
 before : (plan : Plan) (user : Option (List ℕ)) (command : Command) → AreLines (before_login plan user command)
 before plan user (User name) = one (codes "+OK send PASS") refl
 before plan user (Pass secret) = passes plan user secret
+before plan user (Apop name digest) = login plan (lower name) (ByDigest digest)
 before plan user Stat = one (codes "-ERR bad order") refl
 before plan user (Listing number) = one (codes "-ERR bad order") refl
 before plan user (Uidl number) = one (codes "-ERR bad order") refl
@@ -136,6 +147,7 @@ before plan user Capa = capabilities
 after : (slots : List ListingSlot) (command : Command) → AreLines (behind_login slots command)
 after slots (User name) = one (codes "-ERR bad order") refl
 after slots (Pass secret) = one (codes "-ERR bad order") refl
+after slots (Apop name digest) = one (codes "-ERR bad order") refl
 after slots Stat = single (stat_text slots) (stat_none slots)
 after slots (Listing None) = All-cons HasNoCrlf (codes "+OK listing") (lines_from size_line 1 slots ++ last_line) (text (codes "+OK listing") refl) (listed size_line size_none 1 slots)
 after slots (Listing (Some n)) = of_one _ (λ item. single (codes "+OK " ++ size_line n item) (joined (codes "+OK ") (size_line n item) (by_test (codes "+OK ") refl) (size_none n item))) (message_at slots n)

@@ -8,6 +8,7 @@ use Rattle.mail_model.specs.Lines.{HasNoCrlf, sent_line}
 use Rattle.mail_model.specs.Plan.{Plan}
 use Rattle.mail_model.specs.Tape.{or_else}
 use Rattle.mail_model.specs.PopReplies as replies
+use Rattle.mail_model.specs.PopReplies.{banner_text}
 use Rattle.mail_model.specs.Session.{is_long_line}
 use Rattle.mail_model.specs.Session.Unit.{Line, Text}
 use Rattle.mail_model.specs.Told.{IsUnit, HasNoUnit}
@@ -15,12 +16,13 @@ use Rattle.mail_model.specs.Maildrop as drops
 use Rattle.mail_model.specs.Maildrop.{line_outcome, after_line}
 use Rattle.mail_model.specs.Pop.{pop_command_of}
 use Rattle.session_model.specs.Calls as calls
-use Rattle.session_model.specs.Calls.{asked_lines}
+use Rattle.session_model.specs.Calls.{asked_lines, given_of}
 use Rattle.session_model.specs.Talk as talks
 use Rattle.session_model.specs.Talk.{TalkState, Lead, Exchange, Standing, IsNext, IsLed, in_text, lead_of, line_lead, heard, stands, stands_by, let_in, entered_as}
 use Rattle.session_model.specs.Talk.TalkState.{Entering, Reading}
 use Rattle.session_model.specs.Talk.Standing.{Hearing, Waiting, EndedByQuit}
 use Rattle.session_model.specs.Sessions.{Session}
+use Rattle.mail_base.specs.Bodies.{proof_seen}
 use Rattle.call_tickets.specs.Seen.{ids_in}
 use Rattle.call_tickets.specs.Moves as moves
 use Rattle.call_tickets.specs.Moves.{Moves, HearsNothing}
@@ -61,7 +63,7 @@ all_pending limit rest = record { gone = []; whole = refl; none = λ k within. a
 pub let_none : (call : Option calls.Call) → let_in call None ≡ None
 let_none None = refl
 let_none (Some (calls.Call.Deliver mail)) = refl
-let_none (Some (calls.Call.Login user secret)) = refl
+let_none (Some (calls.Call.Login user given)) = refl
 let_none (Some (calls.Call.Fetch user id)) = refl
 let_none (Some (calls.Call.Strike user ids)) = refl
 
@@ -115,9 +117,9 @@ heard_is plan (Transaction old_login old) (Transaction known listing) line reply
     ap (λ (o : Option Login). Reading (login_user o) (slots_seen listing)) login ∙ ap (λ s. Reading old_login.user (slots_of s)) told
 
 -- a line that is too long
-pub hears_long : (plan : Plan) (old new : Stage) (line : List ℕ) (limit : ℕ) → limit ≡ 1024 → limit < length (sent_line line) → stage_of new ≡ told_long (stage_of old)
-    → login_in new ≡ login_in old → listed_in new ≡ listed_in old → HearsLine plan old line (hears.Said (codes "-ERR line too long" ∷ [])) new
-hears_long plan old new line limit is over told login items =
+pub hears_long : (banner : List ℕ) (plan : Plan) (old new : Stage) (line : List ℕ) (limit : ℕ) → limit ≡ 1024 → limit < length (sent_line line) → stage_of new ≡ told_long (stage_of old)
+    → login_in new ≡ login_in old → listed_in new ≡ listed_in old → HearsLine banner plan old line (hears.Said (codes "-ERR line too long" ∷ [])) new
+hears_long banner plan old new line limit is over told login items =
     let long : is_long_line line ≡ true = is_long line limit is over in
     record { outcome = rw long refl; told = told ∙ sym (after_long (stage_of old)); asks = tt; own = tt; login = login; items = items }
   where
@@ -193,12 +195,12 @@ at_nothing follows greeting plan plain due move octets is did =
     let At : moves.Due → Type 0 = λ d. Moves follows greeting plan plain d move octets in subst At (sym is) did
 
 -- only a session that was not let in asks to be
-entering : (plan : Plan) (stage later : Stage) (line user secret : List ℕ) → line_outcome plan (stage_of stage) line ≡ drops.LineOutcome.AsksLogin user secret
+entering : (plan : Plan) (stage later : Stage) (line user : List ℕ) (given : drops.Given) → line_outcome plan (stage_of stage) line ≡ drops.LineOutcome.AsksLogin user given
     → stage_of later ≡ after_line (stage_of stage) line → (named : Option (List ℕ)) × (talk_state_of later ≡ Entering named)
-entering plan stage (Authorization user) line name secret asks told = (user, refl)
-entering plan stage (Transaction login listing) line name secret asks told =
-    let stands = (asks_at plan (stage_of stage) (is_long_line line) (pop_command_of line) name secret _ asks).asks.stands in
-    let was : drops.Stage.Transaction (slots_seen listing) ≡ after_line (drops.Stage.Authorization (Some name)) line = told ∙ ap (λ s. after_line s line) stands in
+entering plan stage (Authorization user) line name given asks told = (user, refl)
+entering plan stage (Transaction login listing) line name given asks told =
+    let stands = (asks_at plan (stage_of stage) (is_long_line line) (pop_command_of line) name given _ asks).asks.stands in
+    let was : drops.Stage.Transaction (slots_seen listing) ≡ after_line (drops.Stage.Authorization stands.0) line = told ∙ ap (λ s. after_line s line) stands.1 in
     absurd (cc (was))
 
 -- The next line.
@@ -260,7 +262,7 @@ module _ (plan : Plan) (node boot number seconds : ℕ) (stage later : Stage) (o
         })
 
     pub hears_line : (heard_it : Heard) (now : Turn) (did : Move) (octets : List ℕ) → LeadsTurn heard_it (now, did) → octets ≡ flat_map sent_line (reply_in heard_it)
-        → ((line : List ℕ) → HasNoCrlf line → IsLine old found line → old.limit ≡ 1024 → HearsLine plan stage line heard_it later)
+        → ((line : List ℕ) → HasNoCrlf line → IsLine old found line → old.limit ≡ 1024 → HearsLine (banner_text node boot number seconds) plan stage line heard_it later)
         → Goes plan before did octets (session node boot number seconds now later new)
     hears_line (hears.Said reply) now did octets begins says means plain due follows =
         let gives = finds.gives plain.rest follows.pends in
@@ -287,23 +289,23 @@ module _ (plan : Plan) (node boot number seconds : ℕ) (stage later : Stage) (o
         let after : Session = record plain { whole = plain.whole ++ one ∷ []; standing = EndedByQuit; rest = rest } in
         let Now : Turn → Type 0 = λ t. Stands t (talk_state_of later) after Nothing in
         behind now plain after due one follows refl none meaning.login (subst Now (sym begins.0) (refl, tt)))))
-    hears_line (hears.LogsIn user kept secret) now did octets begins says means plain due follows =
+    hears_line (hears.LogsIn user kept proof) now did octets begins says means plain due follows =
         let gives = finds.gives plain.rest follows.pends in
         let meaning = means gives.line gives.first gives.is follows.limit in
-        let leads : lead_of plan plain.node (talk_state_of stage) (Line gives.line) ≡ talks.Lead.Asks (calls.Call.Login user secret) =
+        let leads : lead_of plan plain.node (talk_state_of stage) (Line gives.line) ≡ talks.Lead.Asks (calls.Call.Login user (given_of (proof_seen proof))) =
         lead_is plan plain.node stage gives.line ∙ ap (line_lead (name_in stage)) (sym meaning.outcome) in
         let At : Move → Type 0 = λ m. Moves (Follows (session node boot number seconds now later new)) (opening_line before) plan plain Nothing m octets in
         at_nothing _ _ plan plain due did octets follows.stands.0 (subst At (sym begins.1) (
-          calls.Call.Login user secret,
+          calls.Call.Login user (given_of (proof_seen proof)),
           refl,
           heard_asks plan plain (talk_state_of stage) gives.line rest octets (Follows (session node boot number seconds now later new)) follows.stands.1 (is_line gives.line gives.first) gives.octets
-              (calls.Call.Login user secret) leads says (λ one none asks heard_is_line.
-              let after : Session = record plain { whole = plain.whole ++ one ∷ []; standing = Waiting (heard plan (talk_state_of stage) (Line gives.line) []) (calls.Call.Login user secret); rest = rest } in
+              (calls.Call.Login user (given_of (proof_seen proof))) leads says (λ one none asks heard_is_line.
+              let after : Session = record plain { whole = plain.whole ++ one ∷ []; standing = Waiting (heard plan (talk_state_of stage) (Line gives.line) []) (calls.Call.Login user (given_of (proof_seen proof))); rest = rest } in
               let Now : Turn → Type 0 = λ t. Stands t (talk_state_of later) after Nothing in
               behind now plain after due one follows refl none meaning.login (subst Now (sym begins.0) (
                 record {
-                  call = calls.Call.Login user secret;
-                  standing = ap (λ s. Waiting s (calls.Call.Login user secret)) (sym (heard_is plan stage later gives.line [] meaning.told meaning.login));
+                  call = calls.Call.Login user (given_of (proof_seen proof));
+                  standing = ap (λ s. Waiting s (calls.Call.Login user (given_of (proof_seen proof)))) (sym (heard_is plan stage later gives.line [] meaning.told meaning.login));
                   before = plain.whole;
                   one = one;
                   whole = refl;
@@ -311,7 +313,7 @@ module _ (plan : Plan) (node boot number seconds : ℕ) (stage later : Stage) (o
                   unanswered = none;
                 },
                 refl,
-                (entering plan stage later gives.line user secret (sym meaning.outcome) meaning.told, (secret, ap (λ n. calls.Call.Login n secret) (sym meaning.own))),
+                (entering plan stage later gives.line user (given_of (proof_seen proof)) (sym meaning.outcome) meaning.told, (given_of (proof_seen proof), ap (λ n. calls.Call.Login n (given_of (proof_seen proof))) (sym meaning.own.0))),
               ))),
         ))
     hears_line (hears.Fetches user number_of lines item) now did octets begins says means plain due follows =

@@ -3,7 +3,7 @@ use Rattle.std.specs.Prelude.{◌≡◌, ℕ, List, [], map, Option, Some, None}
 use Rattle.mail_model.specs.Identity.{Id}
 use Rattle.mail_model.specs.Session.{Unit}
 use Rattle.mail_model.specs.PopReplies.{one_line}
-use Rattle.mail_model.specs.Maildrop.{wrong_text, later_text, gone_text, bye_text, remaining_text}
+use Rattle.mail_model.specs.Maildrop.{wrong_text, later_text, gone_text, bye_text, remaining_text, Given}
 use Rattle.mail_base.specs.Items.{item_seen}
 use Rattle.session_model.specs.Calls as calls
 use Rattle.session_model.specs.Calls.{RepliesTo, asked_lines}
@@ -31,7 +31,7 @@ text_of Remaining = remaining_text
 
 -- the session asked this call in this state, as it heard this unit
 abbrev pub IsAsked : Asked → Unit → TalkState → calls.Call → Type 0
-IsAsked (Login user) unit state call = ((named : Option (List ℕ)) × (state ≡ Entering named)) × ((secret : List ℕ) × (call ≡ calls.Call.Login user secret))
+IsAsked (Login user) unit state call = ((named : Option (List ℕ)) × (state ≡ Entering named)) × ((given : Given) × (call ≡ calls.Call.Login user given))
 IsAsked (Message lines) unit state call = ((user : List ℕ) × (id : Id) × (call ≡ calls.Call.Fetch user id)) × (asked_lines unit ≡ lines)
 IsAsked Deletion unit state call = (user : List ℕ) × (ids : List Id) × (call ≡ calls.Call.Strike user ids)
 
@@ -49,7 +49,7 @@ items_told answer = []
 -- this is to be said to the answer
 abbrev pub Says : Due → Unit → TalkState → calls.Call → calls.Answer → Type 0
 Says (Entered login listed) unit state call answer =
-    ((named : Option (List ℕ)) × (state ≡ Entering named)) × ((secret : List ℕ) × (call ≡ calls.Call.Login login.user secret)) × (answer ≡ calls.Answer.Listed (map item_seen (items_told listed)))
+    ((named : Option (List ℕ)) × (state ≡ Entering named)) × ((given : Given) × (call ≡ calls.Call.Login login.user given)) × (answer ≡ calls.Answer.Listed (map item_seen (items_told listed)))
 Says (Shown octets lines) unit state call answer = ((user : List ℕ) × (id : Id) × (call ≡ calls.Call.Fetch user id)) × (answer ≡ calls.Answer.Part octets) × (asked_lines unit ≡ lines)
 Says (Said text) unit state call answer = SaysLine text unit call answer Hearing
 Says (Last text) unit state call answer = SaysLine text unit call answer (λ state. EndedByQuit)

@@ -2,7 +2,7 @@
 use Rattle.std.specs.Prelude.{◌≡◌, ℕ, ◌+◌, ◌<◌, ◌≤◌, List, [], ◌∷◌, ◌++◌, length, ⊤, Option, Some, None, slice_get}
 use Rattle.std.specs.Option.{option_map}
 use Rattle.mail_model.specs.Plan.{Plan}
-use Rattle.mail_model.specs.PopReplies.{ready_text}
+use Rattle.mail_model.specs.PopReplies.{ready_text, banner_text}
 use Rattle.mail_model.specs.Tape.Protocol.{Pop}
 use Rattle.session_model.specs.Calls as calls
 use Rattle.session_model.specs.Talk.{TalkState, Exchange, entered_as}
@@ -28,8 +28,8 @@ use Rattle.pop_session.specs.declared.stage.Heard.{Heard}
 use Rattle.pop_session.specs.declared.stage.Heard.TheVariants as heard
 use Rattle.pop_session.specs.declared.listing.Slot.{Slot}
 use Rattle.pop_session.specs.declared.due.Asked.TheVariants as asked
-use Rattle.mail_base.specs.declared.proof.Proof.TheVariants.{Pass}
 use Rattle.call_tickets.specs.declared.step.Move.TheVariants as move
+use Rattle.pop_session.specs.Banners.{HasBanner}
 use Rattle.pop_session.specs.Slots.{marked_items}
 use Rattle.pop_session.specs.Shown.{talk_state_of, login_in, listed_in, slots_in}
 use Rattle.pop_session.specs.Dues.{IsAsked, Says, due_login, due_items, taken_login, taken_items}
@@ -70,6 +70,10 @@ pub record Follows (session : PopSession) (plain : Session) (due : moves.Due) : 
 abbrev pub opening_line : PopSession → List ℕ
 opening_line session = ready_text session.node session.boot session.number session.seconds
 
+-- and the banner in it, from `<` to `>`
+abbrev pub banner_of : PopSession → List ℕ
+banner_of session = banner_text session.node session.boot session.number session.seconds
+
 -- what a move does, whichever session of the definitions the value is
 abbrev pub Goes : Plan → PopSession → Move → List ℕ → PopSession → Type 0
 Goes plan old move octets new = (plain : Session) (due : moves.Due) → Follows old plain due → Moves (Follows new) (opening_line old) plan plain due move octets
@@ -96,11 +100,11 @@ login_of session = told_login session.turn session.stage
 abbrev pub items_of : PopSession → List Item
 items_of session = told_items session.turn session.stage
 
--- The call that a session asks names its login and what it was listed: a fetch asks the nodes that hold one of its messages for all octets of it, and a
+-- The call that a session asks names its banner, its login and what it was listed: a digest is of the banner that it greeted with, a fetch asks the nodes that hold one of its messages for all octets of it, and a
 -- deletion has all that are marked, each as it was listed.
 abbrev pub IsOwnCall : PopSession → Call → Type 0
 IsOwnCall session (tickets.Deliver deliver) = ⊥
-IsOwnCall session (tickets.Login user proof) = ⊤
+IsOwnCall session (tickets.Login user proof) = HasBanner (banner_of session) proof
 IsOwnCall session (tickets.Fetch user id holders from most) = (at : ℕ) × (item : Item) × (slice_get (items_of session) at ≡ Some item) × (id ≡ item.id) × (holders ≡ item.holders)
 IsOwnCall session (tickets.Strike user items) = items ≡ marked_items (slots_in session.stage)
 IsOwnCall session (tickets.Leave user login manager) = ⊥
@@ -149,7 +153,7 @@ fetch_of user item = tickets.Fetch user item.id item.holders 0 18446744073709551
 abbrev pub LeadsTurn : Heard → Turn × Move → Type 0
 LeadsTurn (heard.Said reply) next = (next.0 ≡ Hears) × (next.1 ≡ move.Said)
 LeadsTurn (heard.Ended reply) next = (next.0 ≡ Ended) × (next.1 ≡ move.Said)
-LeadsTurn (heard.LogsIn user kept secret) next = (next.0 ≡ Waits (asked.Login kept)) × (next.1 ≡ Begin (tickets.Login user (Pass secret)))
+LeadsTurn (heard.LogsIn user kept proof) next = (next.0 ≡ Waits (asked.Login kept)) × (next.1 ≡ Begin (tickets.Login user proof))
 LeadsTurn (heard.Fetches user number lines item) next = (next.0 ≡ Waits (asked.Message lines)) × (next.1 ≡ Begin (fetch_of user item))
 LeadsTurn (heard.Deletes user items) next = (next.0 ≡ Waits asked.Deletion) × (next.1 ≡ Begin (tickets.Strike user items))
 

@@ -1,12 +1,14 @@
 -- What the definition of a session says, in the client's terms.
-use Rattle.std.specs.Prelude.{◌≡◌, ℕ, ◌+◌, true, false, List, length, take, Some, None, Ok, slice_get}
+use Rattle.std.specs.Prelude.{◌≡◌, ℕ, ◌+◌, true, false, List, length, take, Option, Some, None, Ok, slice_get}
 use Rattle.mail_model.specs.Plan.{Plan, is_user}
 use Rattle.mail_model.specs.Session.{is_long_line}
 use Rattle.mail_model.specs.Pop.{pop_command_of}
-use Rattle.mail_model.specs.Pop.Command.{User, Pass}
+use Rattle.mail_model.specs.Pop.Command.{User, Pass, Apop}
 use Rattle.mail_model.specs.Names.{lower}
 use Rattle.mail_model.specs.PopReplies.{Item, ListingSlot, listing_reply, unmarked}
 use Rattle.mail_model.specs.Maildrop.{Stage, line_outcome, after_line, message_at, with_mark, list_outcome, uidl_outcome, retr_outcome, dele_outcome}
+use Rattle.mail_model.specs.Maildrop.Stage.{Authorization}
+use Rattle.mail_model.specs.Maildrop.Given.{BySecret, ByDigest}
 use Rattle.mail_model.specs.Maildrop.LineOutcome.{AsksLogin}
 
 -- After its first line a listing shows of each message that is not marked what is shown of it alone, under its own number, in the place that it has among those that are not marked.
@@ -48,7 +50,22 @@ pub record LogsIn (plan : Plan) (first second user secret : List ℕ) : Type 0 w
   pub short : is_long_line second ≡ false
   pub says : pop_command_of second ≡ Ok (Pass secret)
 
--- whatever came before two lines, the second asks the node for a login only where the first is the USER of it, and the second its PASS
+-- whatever came before two lines, the second asks the node for a login by a secret only where the first is the USER of it, and the second its PASS
 abbrev pub AsksBehindUser : Type 0
 AsksBehindUser = (plan : Plan) (stage : Stage) (first second user secret : List ℕ) →
-    line_outcome plan (after_line stage first) second ≡ AsksLogin user secret → LogsIn plan first second user secret
+    line_outcome plan (after_line stage first) second ≡ AsksLogin user (BySecret secret) → LogsIn plan first second user secret
+
+-- the login of this user with this digest
+pub record LogsInByDigest (plan : Plan) (stage : Stage) (line user digest : List ℕ) : Type 0 where
+  pub name : List ℕ
+  pub named : Option (List ℕ)
+  pub before : stage ≡ Authorization named
+  pub configured : is_user plan user ≡ true
+  pub short : is_long_line line ≡ false
+  pub says : pop_command_of line ≡ Ok (Apop name digest)
+  pub same : lower name ≡ user
+
+-- a line asks the node for a login by a digest only before TRANSACTION, and only where it is the APOP of it
+abbrev pub AsksByApop : Type 0
+AsksByApop = (plan : Plan) (stage : Stage) (line user digest : List ℕ) →
+    line_outcome plan stage line ≡ AsksLogin user (ByDigest digest) → LogsInByDigest plan stage line user digest

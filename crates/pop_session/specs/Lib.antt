@@ -1,4 +1,5 @@
 pub mod Slots
+pub mod Banners
 pub mod Shown
 pub mod Laws
 pub mod Messages

@@ -2,6 +2,7 @@
 ghost use Rattle.std.specs.Prelude.{◌≡◌, ◌++◌, ℕ, List, Option, OnOk, OnErr};
 ghost use Rattle.mail_model.specs.Lines.{sent_line};
 ghost use Rattle.session_model.specs.Calls as calls;
+ghost use Rattle.mail_model.specs.Maildrop.{Given};
 ghost use Rattle.mail_model.specs.Session.{Unit};
 ghost use Rattle.session_model.specs.Calls.{IsReply, asked_lines};
 ghost use Rattle.mail_model.specs.Identity.{Id};
@@ -33,7 +34,7 @@ pub(crate) enum Asked {
 /// A reply of one line to the answer of a call.
 #[derive(Clone, Copy, Debug, PartialEq, Eq)]
 pub(crate) enum Text {
-    /// To a login whose secret is wrong (RFC 1939, section 7).
+    /// To a login whose secret or digest is wrong (RFC 1939, section 7).
     Wrong,
     /// To a login, or to RETR or TOP, that the node can't answer now (RFC 3206).
     Later,
@@ -85,7 +86,7 @@ impl Text {
 
 // To a login.
 fn login_due(user: Name, answer: Option<Answer>) -> Due
-    ensures says { (named : Option (List ℕ)) (secret : List ℕ) (reply : List (List ℕ)) (unit : Unit) → IsReply (calls.Call.Login user secret) (given_answer answer) reply → Says result unit (Entering named) (calls.Call.Login user secret) (given_answer answer) }
+    ensures says { (named : Option (List ℕ)) (given : Given) (reply : List (List ℕ)) (unit : Unit) → IsReply (calls.Call.Login user given) (given_answer answer) reply → Says result unit (Entering named) (calls.Call.Login user given) (given_answer answer) }
     ensures login { (other : Option Logins) → due_login result other ≡ taken_login (asks.Login user) answer other }
     ensures items { (other : List Listings) → due_items result other ≡ taken_items (asks.Login user) answer other }
 {

@@ -1,5 +1,5 @@
 // Laws over the definition of a session, each a function that does nothing.
-ghost use Rattle.pop_session.specs.Laws.{NumberedAlike, ListsUnmarkedOnce, NumbersStay, MarkedIsNone, AsksBehindUser};
+ghost use Rattle.pop_session.specs.Laws.{NumberedAlike, ListsUnmarkedOnce, NumbersStay, MarkedIsNone, AsksBehindUser, AsksByApop};
 
 /// LIST and UIDL show of each message that is not marked what they show of it alone, under its number.
 pub fn numbered_alike()
@@ -21,7 +21,12 @@ pub fn marked_is_none()
     ensures { MarkedIsNone }
 {}
 
-/// The node is asked for a login only by a PASS whose line follows that of a good USER.
+/// The node is asked for a login by a digest only by an APOP with the user's name, and before any login.
+pub fn asks_by_apop()
+    ensures { AsksByApop }
+{}
+
+/// The node is asked for a login by a secret only by a PASS whose line follows that of a good USER.
 pub fn asks_behind_user()
     ensures { AsksBehindUser }
 {}

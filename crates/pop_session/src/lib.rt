@@ -26,7 +26,8 @@
 //!
 //! - Before the login, `USER` with any name, and `PASS` in the line directly after it. Any other line between
 //!   them, also one that is no command, makes `PASS` come out of its order. Names mean the same in either case.
-//!   `PASS` asks the call Login, if the name is a user's.
+//!   `PASS` asks the call Login, if the name is a user's. So does `APOP`, at any time before the login, with the
+//!   digest that it gives and the banner of the session's greeting, from `<` to `>`.
 //! - `CAPA` at any time (RFC 2449).
 //! - After the login `STAT`, `LIST`, `UIDL`, `RETR`, `TOP`, `DELE`, `RSET` and `NOOP`, over the listing that the
 //!   node answered. The messages
@@ -60,7 +61,7 @@
 //! `dot_text` for lines out of octets and for a message as it is sent, `pop_wire` for commands, `mail_base` for
 //! names, listings and the plan, `call_tickets` for calls and answers, and `session_model`, whose moves of a
 //! session are the contract: `Follows` ties a value to a session of the definitions, and each call makes one of
-//! its moves or none. Five laws say what the tables of replies mean: `asks_behind_user`, `listed_once`,
+//! its moves or none. Six laws say what the tables of replies mean: `asks_behind_user`, `asks_by_apop`, `listed_once`,
 //! `numbered_alike`, `numbers_stay` and `marked_is_none`.
 //!
 //! COSTS
@@ -73,10 +74,11 @@
 //!
 //! WHAT IT DOES NOT DO
 //!
-//! It compares no secrets, reads no messages and deletes none: its node does. It does not look whether a listing
-//! names a message twice. It does not bound what is fed while it waits. APOP is an unknown command.
+//! It compares no secrets and no digests, reads no messages and deletes none: its node does. It does not look whether a listing
+//! names a message twice. It does not bound what is fed while it waits.
 #![tactic(auto)]
 
+mod banner;
 mod due;
 mod laws;
 mod listing;
@@ -86,5 +88,7 @@ mod stage;
 mod text;
 mod top;
 
-pub use laws::{asks_behind_user, listed_once, marked_is_none, numbered_alike, numbers_stay};
+pub use laws::{
+    asks_behind_user, asks_by_apop, listed_once, marked_is_none, numbered_alike, numbers_stay,
+};
 pub use session::PopSession;

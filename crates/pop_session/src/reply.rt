@@ -6,6 +6,7 @@ ghost use Rattle.mail_base.specs.Items.{item_seen};
 ghost use Rattle.pop_session.specs.Slots.{slots_seen};
 ghost use Rattle.pop_session.specs.Messages.{ShowsPartIn};
 
+use crate::banner::Banner;
 use crate::listing::Listing;
 use crate::text::{with_number, with_text};
 use crate::top::top;
@@ -207,13 +208,15 @@ pub(crate) fn ready_into(
     ensures ok { OnOk result (out.new.items ≡ out.old.items ++ sent_line (ready_text node boot number seconds)) }
     ensures err { OnErr result (out.new.items ≡ out.old.items) }
 {
-    let at = u128::from(node.number());
-    let line = with_number(b"+OK node".to_vec(alloc)?, alloc, at)?;
-    let line = with_number(with_text(line, b" ready <")?, alloc, u128::from(boot))?;
-    let line = with_number(with_text(line, b".")?, alloc, u128::from(number))?;
-    let line = with_number(with_text(line, b".")?, alloc, u128::from(seconds))?;
-    let line = with_number(with_text(line, b"@node")?, alloc, at)?;
-    line_into(out, &with_text(line, b">")?)
+    let line = with_number(b"+OK node".to_vec(alloc)?, alloc, u128::from(node.number()))?;
+    let line = with_text(line, b" ready ")?;
+    let banner = Banner {
+        node,
+        boot,
+        number,
+        seconds,
+    };
+    line_into(out, &with_text(line, &banner.text(alloc)?)?)
 }
 
 /// Appends the last line of a session whose node goes down, with its CRLF.

@@ -17,13 +17,14 @@ ghost use Rattle.pop_session.specs.Slots.{listed_slot};
 ghost use Rattle.pop_session.specs.Dues.{items_told};
 ghost use Rattle.pop_session.specs.Follows.{Follows, Moved, LeadsTurn, EntersTransaction, HasReply, KeepsLogin, TakesAnswer, fetch_of, opening_line, login_of, leave_of_login, user_of_login, due_count, left, held};
 
+use crate::banner::Banner;
 use crate::due::{Asked, Due};
 use crate::listing::Listing;
 use crate::reply::{down_into, line_into, message_into, ready_into};
 use crate::stage::{Heard, Stage};
 use call_tickets::{Answer, Call, Move};
 use dot_text::{Line, LineCutter};
-use mail_base::{Item, Name, NodeNo, Plan, Proof};
+use mail_base::{Item, Name, NodeNo, Plan};
 use std::alloc::{AllocError, Global};
 
 // The most octets of a line with its CRLF.
@@ -160,7 +161,13 @@ impl PopSession {
             }
             Some(Line::Whole(length)) => {
                 let line = &self.cutter.rest()[..length];
-                let heard = self.stage.hear(alloc, plan, line, out)?;
+                let banner = Banner {
+                    node: self.node,
+                    boot: self.boot,
+                    number: self.number,
+                    seconds: self.seconds,
+                };
+                let heard = self.stage.hear(alloc, plan, &banner, line, out)?;
                 self.cutter.take(Line::Whole(length));
                 let (turn, did) = begun(heard);
                 self.turn = turn;
@@ -304,12 +311,9 @@ fn begun(heard: Heard) -> (Turn, Move)
     match heard {
         Heard::Said(_) => (Turn::Hears, Move::Said),
         Heard::Ended(_) => (Turn::Ended, Move::Said),
-        Heard::LogsIn { user, kept, secret } => (
+        Heard::LogsIn { user, kept, proof } => (
             Turn::Waits(Asked::Login(kept)),
-            Move::Begin(Call::Login {
-                user,
-                proof: Proof::Pass(secret),
-            }),
+            Move::Begin(Call::Login { user, proof }),
         ),
         Heard::Fetches {
             user,

@@ -1,17 +1,23 @@
 // What a line leads to, by what its session has been told.
-ghost use Rattle.std.specs.Prelude.{◌≡◌, ◌++◌, List, ℕ, Option, Ok, flat_map, codes, false, IfOk, OnOk, OnErr};
+ghost use Rattle.std.specs.Prelude.{◌≡◌, ◌++◌, List, ℕ, Option, Ok, flat_map, codes, true, false, IfOk, OnOk, OnErr};
 ghost use Rattle.mail_model.specs.Lines.{sent_line};
 ghost use Rattle.mail_model.specs.Session.{is_long_line};
-ghost use Rattle.mail_model.specs.Maildrop.{says_line, bad_order, outcome_of_quit, no_such_message, retr_outcome, dele_outcome, quit_outcome, pass_outcome, before_login, behind_login, list_outcome, uidl_outcome, command_outcome, named_by, marked_by};
+ghost use Rattle.mail_model.specs.Maildrop.{says_line, bad_order, outcome_of_quit, no_such_message, retr_outcome, dele_outcome, quit_outcome, login_outcome, pass_outcome, before_login, behind_login, list_outcome, uidl_outcome, command_outcome, named_by, marked_by};
+ghost use Rattle.mail_model.specs.Names.{is_name, lower};
+ghost use Rattle.mail_model.specs.Maildrop.Given.{ByDigest};
 ghost use Rattle.mail_model.specs.Pop.{lines_asked};
+ghost use Rattle.session_model.specs.Calls.{given_of};
+ghost use Rattle.mail_base.specs.Bodies.{proof_seen};
 ghost use Rattle.pop_wire.specs.Seen.{seen, command_seen, IsWithinLimits};
 ghost use Rattle.pop_session.specs.declared.listing.Slot.{Slot as Slots};
+ghost use Rattle.pop_session.specs.Banners.{banner_seen, HasBanner};
 ghost use Rattle.pop_session.specs.Slots.{slots_seen, items_of_slots};
 ghost use Rattle.pop_session.specs.Shown.{stage_of, outcome_of_heard, reply_in, told_by_line, told_long, login_in, listed_in, name_in, slots_in, IsOwn, AsksSo, HearsLine};
 
+use crate::banner::Banner;
 use crate::listing::Listing;
 use crate::reply::Reply;
-use mail_base::{Item, Items, Name, NodeNo, Octets, Plan, Ticket};
+use mail_base::{Item, Items, Name, NodeNo, Octets, Plan, Proof, Ticket};
 use pop_wire::{PopCommand, PopFault, read_command};
 use std::alloc::{AllocError, Global};
 
@@ -44,14 +50,14 @@ pub(crate) enum Heard {
     Said(Reply),
     /// Its reply, which ends the session.
     Ended(Reply),
-    /// The node is asked whether this is the user's secret.
+    /// The node is asked whether this proves to be the user.
     LogsIn {
         /// The user.
         user: Name,
         /// The same name, which the session keeps until the answer.
         kept: Name,
-        /// The octets that were given as the secret.
-        secret: Octets,
+        /// What was given.
+        proof: Proof,
     },
     /// The node is asked for this message of the user, of this number; the reply shows all of it, or so many
     /// lines behind its header.
@@ -72,7 +78,7 @@ pub(crate) enum Heard {
 // A reply of one line.
 fn said(alloc: Global, text: &[u8]) -> Result<Heard, AllocError>
     ensures outcome { IfOk result (λ heard. outcome_of_heard heard ≡ says_line text.now) }
-    ensures own { (name : List ℕ) (slots : List Slots) → IfOk result (λ heard. IsOwn name slots heard) }
+    ensures own { (banner name : List ℕ) (slots : List Slots) → IfOk result (λ heard. IsOwn banner name slots heard) }
     ensures asks { (asked : Option ℕ) → IfOk result (λ heard. AsksSo heard asked) }
 {
     Ok(Heard::Said(Reply::said(alloc, text)?))
@@ -81,7 +87,7 @@ fn said(alloc: Global, text: &[u8]) -> Result<Heard, AllocError>
 // The command is none that may come now.
 fn bad_order(alloc: Global) -> Result<Heard, AllocError>
     ensures outcome { IfOk result (λ heard. outcome_of_heard heard ≡ bad_order) }
-    ensures own { (name : List ℕ) (slots : List Slots) → IfOk result (λ heard. IsOwn name slots heard) }
+    ensures own { (banner name : List ℕ) (slots : List Slots) → IfOk result (λ heard. IsOwn banner name slots heard) }
     ensures asks { (asked : Option ℕ) → IfOk result (λ heard. AsksSo heard asked) }
 {
     said(alloc, b"-ERR bad order")
@@ -90,10 +96,26 @@ fn bad_order(alloc: Global) -> Result<Heard, AllocError>
 // To QUIT with nothing to delete (RFC 1939, sections 4 and 6).
 fn farewell(alloc: Global) -> Result<Heard, AllocError>
     ensures outcome { IfOk result (λ heard. outcome_of_heard heard ≡ outcome_of_quit) }
-    ensures own { (name : List ℕ) (slots : List Slots) → IfOk result (λ heard. IsOwn name slots heard) }
+    ensures own { (banner name : List ℕ) (slots : List Slots) → IfOk result (λ heard. IsOwn banner name slots heard) }
     ensures asks { (asked : Option ℕ) → IfOk result (λ heard. AsksSo heard asked) }
 {
     Ok(Heard::Ended(Reply::said(alloc, b"+OK bye")?))
+}
+
+// The login of this user, where it is one of the plan, by this proof.
+fn ask_login(alloc: Global, plan: &Plan, user: &Name, proof: Proof) -> Result<Heard, AllocError>
+    ensures outcome { IfOk result (λ heard. outcome_of_heard heard ≡ login_outcome plan.now user.now (given_of (proof_seen proof))) }
+    ensures own { (banner name : List ℕ) (slots : List Slots) → HasBanner banner proof → IfOk result (λ heard. IsOwn banner name slots heard) }
+    ensures asks { (asked : Option ℕ) → IfOk result (λ heard. AsksSo heard asked) }
+{
+    if !plan.users.has(user) {
+        return said(alloc, b"-ERR name or secret is wrong");
+    }
+    Ok(Heard::LogsIn {
+        user: user.copy()?,
+        kept: user.copy()?,
+        proof,
+    })
 }
 
 // PASS (RFC 1939, section 7).
@@ -104,36 +126,51 @@ fn log_in(
     secret: &[u8],
 ) -> Result<Heard, AllocError>
     ensures outcome { IfOk result (λ heard. outcome_of_heard heard ≡ pass_outcome plan.now user.now secret.now) }
-    ensures own { (name : List ℕ) (slots : List Slots) → IfOk result (λ heard. IsOwn name slots heard) }
+    ensures own { (banner name : List ℕ) (slots : List Slots) → IfOk result (λ heard. IsOwn banner name slots heard) }
     ensures asks { (asked : Option ℕ) → IfOk result (λ heard. AsksSo heard asked) }
 {
     let Some(user) = user else {
         return bad_order(alloc);
     };
-    if !plan.users.has(user) {
+    let secret = Octets::from_vec(secret.to_vec(alloc)?);
+    ask_login(alloc, plan, user, Proof::Pass(secret))
+}
+
+// APOP (RFC 1939, section 7).
+fn log_in_by_digest(
+    banner: &Banner,
+    alloc: Global,
+    plan: &Plan,
+    name: &[u8],
+    digest: [u8; 16],
+) -> Result<Heard, AllocError>
+    ensures outcome { is_name name.now ≡ true → IfOk result (λ heard. outcome_of_heard heard ≡ login_outcome plan.now (lower name.now) (ByDigest digest)) }
+    ensures own { (name : List ℕ) (slots : List Slots) → IfOk result (λ heard. IsOwn (banner_seen banner.now) name slots heard) }
+    ensures asks { (asked : Option ℕ) → IfOk result (λ heard. AsksSo heard asked) }
+{
+    let Some(user) = Name::spelt(alloc, name)? else {
         return said(alloc, b"-ERR name or secret is wrong");
-    }
-    Ok(Heard::LogsIn {
-        user: user.copy()?,
-        kept: user.copy()?,
-        secret: Octets::from_vec(secret.to_vec(alloc)?),
-    })
+    };
+    let banner = Octets::from_vec(banner.text(alloc)?);
+    ask_login(alloc, plan, &user, Proof::Apop { banner, digest })
 }
 
 // A command before the login.
 fn authorize(
     user: &Option<Name>,
+    banner: &Banner,
     alloc: Global,
     plan: &Plan,
     command: &PopCommand<'_>,
 ) -> Result<Heard, AllocError>
-    ensures outcome { IfOk result (λ heard. outcome_of_heard heard ≡ before_login plan.now user.now (command_seen command.now)) }
-    ensures own { (name : List ℕ) (slots : List Slots) → IfOk result (λ heard. IsOwn name slots heard) }
+    ensures outcome { IsWithinLimits command.now → IfOk result (λ heard. outcome_of_heard heard ≡ before_login plan.now user.now (command_seen command.now)) }
+    ensures own { (name : List ℕ) (slots : List Slots) → IfOk result (λ heard. IsOwn (banner_seen banner.now) name slots heard) }
     ensures asks { IfOk result (λ heard. AsksSo heard (lines_asked (Ok (command_seen command.now)))) }
 {
     match command {
         PopCommand::User { .. } => said(alloc, b"+OK send PASS"),
         PopCommand::Pass { secret } => log_in(user, alloc, plan, secret),
+        PopCommand::Apop { name, digest } => log_in_by_digest(banner, alloc, plan, name, *digest),
         PopCommand::Stat => bad_order(alloc),
         PopCommand::List { .. } => bad_order(alloc),
         PopCommand::Uidl { .. } => bad_order(alloc),
@@ -150,7 +187,7 @@ fn authorize(
 // There is no message of the number that was asked for.
 fn no_such_message(alloc: Global) -> Result<Heard, AllocError>
     ensures outcome { IfOk result (λ heard. outcome_of_heard heard ≡ no_such_message) }
-    ensures own { (name : List ℕ) (slots : List Slots) → IfOk result (λ heard. IsOwn name slots heard) }
+    ensures own { (banner name : List ℕ) (slots : List Slots) → IfOk result (λ heard. IsOwn banner name slots heard) }
     ensures asks { (asked : Option ℕ) → IfOk result (λ heard. AsksSo heard asked) }
 {
     said(alloc, b"-ERR no such message")
@@ -159,7 +196,7 @@ fn no_such_message(alloc: Global) -> Result<Heard, AllocError>
 // LIST (RFC 1939, section 5).
 fn list(listing: &Listing, alloc: Global, number: Option<u32>) -> Result<Heard, AllocError>
     ensures outcome { IfOk result (λ heard. outcome_of_heard heard ≡ list_outcome (slots_seen listing.now) number) }
-    ensures own { (name : List ℕ) (slots : List Slots) → IfOk result (λ heard. IsOwn name slots heard) }
+    ensures own { (banner name : List ℕ) (slots : List Slots) → IfOk result (λ heard. IsOwn banner name slots heard) }
     ensures asks { (asked : Option ℕ) → IfOk result (λ heard. AsksSo heard asked) }
 {
     let Some(number) = number else {
@@ -174,7 +211,7 @@ fn list(listing: &Listing, alloc: Global, number: Option<u32>) -> Result<Heard, 
 // UIDL (RFC 1939, section 7).
 fn uidl(listing: &Listing, alloc: Global, number: Option<u32>) -> Result<Heard, AllocError>
     ensures outcome { IfOk result (λ heard. outcome_of_heard heard ≡ uidl_outcome (slots_seen listing.now) number) }
-    ensures own { (name : List ℕ) (slots : List Slots) → IfOk result (λ heard. IsOwn name slots heard) }
+    ensures own { (banner name : List ℕ) (slots : List Slots) → IfOk result (λ heard. IsOwn banner name slots heard) }
     ensures asks { (asked : Option ℕ) → IfOk result (λ heard. AsksSo heard asked) }
 {
     let Some(number) = number else {
@@ -195,7 +232,7 @@ fn retr(
     lines: Option<u32>,
 ) -> Result<Heard, AllocError>
     ensures outcome { IfOk result (λ heard. outcome_of_heard heard ≡ retr_outcome (slots_seen listing.now) number) }
-    ensures own { IfOk result (λ heard. IsOwn user.now listing.now heard) }
+    ensures own { (banner : List ℕ) → IfOk result (λ heard. IsOwn banner user.now listing.now heard) }
     ensures asks { IfOk result (λ heard. AsksSo heard lines) }
 {
     match listing.message(number) {
@@ -212,7 +249,7 @@ fn retr(
 // DELE (RFC 1939, section 5). The mark itself comes once this reply stands.
 fn dele(listing: &Listing, alloc: Global, number: u32) -> Result<Heard, AllocError>
     ensures outcome { IfOk result (λ heard. outcome_of_heard heard ≡ dele_outcome (slots_seen listing.now) number) }
-    ensures own { (name : List ℕ) (slots : List Slots) → IfOk result (λ heard. IsOwn name slots heard) }
+    ensures own { (banner name : List ℕ) (slots : List Slots) → IfOk result (λ heard. IsOwn banner name slots heard) }
     ensures asks { (asked : Option ℕ) → IfOk result (λ heard. AsksSo heard asked) }
 {
     match listing.message(number) {
@@ -224,7 +261,7 @@ fn dele(listing: &Listing, alloc: Global, number: u32) -> Result<Heard, AllocErr
 // QUIT after the login (RFC 1939, section 6).
 fn quit(user: &Name, listing: &Listing, alloc: Global) -> Result<Heard, AllocError>
     ensures outcome { IfOk result (λ heard. outcome_of_heard heard ≡ quit_outcome (slots_seen listing.now)) }
-    ensures own { IfOk result (λ heard. IsOwn user.now listing.now heard) }
+    ensures own { (banner : List ℕ) → IfOk result (λ heard. IsOwn banner user.now listing.now heard) }
     ensures asks { (asked : Option ℕ) → IfOk result (λ heard. AsksSo heard asked) }
 {
     let items = listing.marked_items(alloc)?;
@@ -245,12 +282,13 @@ fn transact(
     command: &PopCommand<'_>,
 ) -> Result<Heard, AllocError>
     ensures outcome { IfOk result (λ heard. outcome_of_heard heard ≡ behind_login (slots_seen listing.now) (command_seen command.now)) }
-    ensures own { IfOk result (λ heard. IsOwn user.now listing.now heard) }
+    ensures own { (banner : List ℕ) → IfOk result (λ heard. IsOwn banner user.now listing.now heard) }
     ensures asks { IfOk result (λ heard. AsksSo heard (lines_asked (Ok (command_seen command.now)))) }
 {
     match command {
         PopCommand::User { .. } => bad_order(alloc),
         PopCommand::Pass { .. } => bad_order(alloc),
+        PopCommand::Apop { .. } => bad_order(alloc),
         PopCommand::Stat => Ok(Heard::Said(Reply::count(alloc, listing)?)),
         PopCommand::List { number } => list(listing, alloc, *number),
         PopCommand::Uidl { number } => uidl(listing, alloc, *number),
@@ -267,12 +305,14 @@ fn transact(
 // What a command line that is not too long leads to.
 fn obey(
     stage: &Stage,
+    banner: &Banner,
     alloc: Global,
     plan: &Plan,
     command: &Result<PopCommand<'_>, PopFault>,
 ) -> Result<Heard, AllocError>
+    requires { IfOk command.now IsWithinLimits }
     ensures outcome { IfOk result (λ heard. outcome_of_heard heard ≡ command_outcome plan.now (stage_of stage.now) (seen command.now)) }
-    ensures own { IfOk result (λ heard. IsOwn (name_in stage.now) (slots_in stage.now) heard) }
+    ensures own { IfOk result (λ heard. IsOwn (banner_seen banner.now) (name_in stage.now) (slots_in stage.now) heard) }
     ensures asks { IfOk result (λ heard. AsksSo heard (lines_asked (seen command.now))) }
 {
     match command {
@@ -280,7 +320,7 @@ fn obey(
         Err(PopFault::BadArgument) => said(alloc, b"-ERR bad argument"),
         Err(PopFault::BadNumber) => said(alloc, b"-ERR bad argument"),
         Ok(command) => match stage {
-            Stage::Authorization { user } => authorize(user, alloc, plan, command),
+            Stage::Authorization { user } => authorize(user, banner, alloc, plan, command),
             Stage::Transaction { login, listing } => transact(&login.user, listing, alloc, command),
         },
     }
@@ -344,18 +384,19 @@ impl Stage {
         &mut self,
         alloc: Global,
         plan: &Plan,
+        banner: &Banner,
         line: &[u8],
         out: &mut Vec<u8>,
     ) -> Result<Heard, AllocError>
-        ensures ok { is_long_line line.now ≡ false → IfOk result (λ heard. HearsLine plan.now self.old line.now heard self.new) }
-        ensures own { IfOk result (λ heard. IsOwn (name_in self.old) (slots_in self.old) heard) }
+        ensures ok { is_long_line line.now ≡ false → IfOk result (λ heard. HearsLine (banner_seen banner.now) plan.now self.old line.now heard self.new) }
+        ensures own { IfOk result (λ heard. IsOwn (banner_seen banner.now) (name_in self.old) (slots_in self.old) heard) }
         ensures login { login_in self.new ≡ login_in self.old }
         ensures items { listed_in self.new ≡ listed_in self.old }
         ensures said { IfOk result (λ heard. out.new.items ≡ out.old.items ++ flat_map sent_line (reply_in heard)) }
         ensures err { OnErr result ((self.new ≡ self.old) × (out.new.items ≡ out.old.items)) }
     {
         let command = read_command(line);
-        let heard = obey(self, alloc, plan, &command)?;
+        let heard = obey(self, banner, alloc, plan, &command)?;
         let user = named_by(alloc, &command)?;
         heard.reply_into(alloc, out)?;
         self.tell(user, &command);

@@ -1,4 +1,4 @@
-use Rattle.std.proofs.Common.{◌≡◌, ◌≤◌, ◌<◌, Bool, true, false, length, drop, sym, ap, subst, ◌∙◌, arith, ◌++◌, take}
+use Rattle.std.proofs.Common.{◌≡◌, Bool, true, false, drop, sym, subst, ◌∙◌, arith, ◌++◌, take}
 use Rattle.mail_model.specs.PopReplies.{header_from, header_of}
 use Rattle.pop_session.specs.Messages.{begins_crlf}
 use Rattle.pop_session.proofs.Tops.{looked, room_behind, some_left, header_other, header_more, header_found}

@@ -1,4 +1,4 @@
-use Rattle.std.proofs.Common.{◌≡◌, ◌≤◌, ◌<◌, ◌-◌, true, false, length, drop, sym, ◌∙◌, arith}
+use Rattle.std.proofs.Common.{◌≡◌, ◌-◌, true, drop, sym, ◌∙◌, arith}
 use Rattle.mail_model.specs.PopReplies.{first_lines}
 use Rattle.pop_session.specs.Messages.{begins_crlf}
 use Rattle.pop_session.proofs.Tops.{looked, room_behind, some_left, lines_other, lines_more, lines_all}

@@ -1,4 +1,4 @@
-use Rattle.std.proofs.Common.{◌≡◌, ◌+◌, List, length, ap, ◌∙◌, arith}
+use Rattle.std.proofs.Common.{List, length, ap, ◌∙◌, arith}
 use Rattle.pop_session.specs.declared.listing.Slot.{Slot}
 use Rattle.pop_session.specs.Slots.{slots_seen, items_of_slots, unmarked_to}
 use Rattle.pop_session.proofs.Marks.{unmarked_alike, unmarked_stay, held_back}

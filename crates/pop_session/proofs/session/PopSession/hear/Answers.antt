@@ -3,6 +3,7 @@ use Rattle.std.specs.Prelude.{codes}
 use Rattle.std.proofs.lemmas.List.{append-nil}
 use Rattle.mail_model.specs.Lines.{sent_line}
 use Rattle.mail_model.specs.Session.{is_long_line}
+use Rattle.mail_model.specs.PopReplies.{banner_text}
 use Rattle.dot_text.specs.Shown.{Shown, Finds, behind_line}
 use Rattle.dot_text.specs.declared.cutter.Line.TheVariants.{Whole, Long}
 use Rattle.call_tickets.specs.declared.step.Move.TheVariants.{Said}
@@ -29,7 +30,7 @@ returns-in_ok-hear_long-in-Some-Long-clause-ok c =
       heard.said ∙ ap (λ (l : List ℕ). c.args.out.now.items ++ l) (sym (append-nil (sent_line (codes "-ERR line too long")))),
       moved_line c.args.plan.now old.node old.boot old.number old.seconds old.turn old.stage c.hear_long.new.self old.cutter c.take.new.self c.requires (Long count)
           (found_same old.cutter c.find.new.self (Long count) finds) cut (hears.Said (codes "-ERR line too long" ∷ [])) old.turn Said _ (c.requires, refl) refl tt c.hear_long.ensures.login c.hear_long.ensures.items
-          (λ text none kind limit. hears_long c.args.plan.now old.stage c.hear_long.new.self text old.cutter.limit limit kind heard.ok c.hear_long.ensures.login c.hear_long.ensures.items),
+          (λ text none kind limit. hears_long (banner_text old.node old.boot old.number old.seconds) c.args.plan.now old.stage c.hear_long.new.self text old.cutter.limit limit kind heard.ok c.hear_long.ensures.login c.hear_long.ensures.items),
     )
 
 pub returns-in_ok-heard-in-Some-Whole-clause-ok : goal.returns-in_ok-heard-in-Some-Whole-clause-ok
@@ -41,7 +42,7 @@ returns-in_ok-heard-in-Some-Whole-clause-ok c =
     let heard = c.in_ok-heard-in-Some-Whole.heard in
     let later = c.hear.new.self in
     let line : take count c.rest.result.now ≡ take count old.cutter.rest = ap (λ (l : List ℕ). take count l) (c.rest.ensures ∙ ap (λ (s : Shown). s.rest) finds.same) in
-    let Means : List ℕ → Type 0 = λ l. is_long_line l ≡ false → HearsLine c.args.plan.now old.stage l heard later in
+    let Means : List ℕ → Type 0 = λ l. is_long_line l ≡ false → HearsLine (banner_text old.node old.boot old.number old.seconds) c.args.plan.now old.stage l heard later in
     let means : Means (take count old.cutter.rest) = subst Means line c.in_ok-heard-in-Some-Whole.ensures.ok in (
       flat_map sent_line (reply_in heard),
       c.in_ok-heard-in-Some-Whole.ensures.said,
