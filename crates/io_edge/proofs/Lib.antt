@@ -1,3 +1,4 @@
 pub mod Known
+pub mod NamedFiles
 pub mod Passing
 pub mod Torn

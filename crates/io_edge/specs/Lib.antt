@@ -1,5 +1,6 @@
 pub mod Causes
 pub mod Faulty
+pub mod Files
 pub mod Moments
 pub mod Octets
 pub mod Plain

@@ -1,14 +1,16 @@
-// A yard over stores in memory.
+// A yard over stores and files in memory.
 ghost use Rattle.std.specs.Prelude.{◌≡◌, [], Some, false, map};
 ghost use Rattle.io_edge.specs.Yards.{remembered, unless};
+ghost use Rattle.io_edge.specs.Files.{octets_in};
 
+use crate::named_file::{NamedFile, octets_of};
 use crate::{Disk, Yard, YardRefusal};
 use std::alloc::Global;
 use std::collections::VecDeque;
 use std::snapshot::Snapshot;
 
-/// A yard that hands out given stores, in order, and fails where none is left.
-/// It keeps the stores that it gets back as long as there is memory for them.
+/// A yard that hands out given stores, in order, and fails where none is left. It keeps the stores that it gets back as long
+/// as there is memory for them. It reads given files, and fails where none has the name.
 #[derive(Drop)]
 pub struct MemoryYard<D> {
     /// The stores that are left to hand out, the next one first.
@@ -19,25 +21,33 @@ pub struct MemoryYard<D> {
     pub returned: Vec<(u16, u8, D)>,
     /// Whether a store that was given back found no memory, and was dropped.
     pub lost: bool,
+    /// The files. Of two that have one name it reads the first.
+    pub files: Vec<NamedFile>,
     /// How often no store was left.
     pub faults: u64,
+    /// How often no file had the name.
+    pub unread: u64,
 }
 
 impl<D: Disk + Drop> MemoryYard<D> {
-    /// A yard that hands out these stores, the first one first.
+    /// A yard that hands out these stores, the first one first, and has no files.
     pub fn new(alloc: Global, stores: Vec<D>) -> MemoryYard<D>
         ensures left { result.left.items ≡ stores.items }
         ensures handed { result.handed.items ≡ [] }
         ensures returned { result.returned.items ≡ [] }
         ensures lost { result.lost ≡ false }
+        ensures files { result.files.items ≡ [] }
         ensures faults { result.faults ≡ 0 }
+        ensures unread { result.unread ≡ 0 }
     {
         MemoryYard {
             left: VecDeque::from(stores),
             handed: Vec::new(alloc),
             returned: Vec::new(alloc),
             lost: false,
+            files: Vec::new(alloc),
             faults: 0,
+            unread: 0,
         }
     }
 }
@@ -49,7 +59,11 @@ impl<D: Disk + Drop> Yard for MemoryYard<D> {
 
     ghost returned = { λ y. unless y.lost y.returned.items };
 
+    ghost files = { λ y. octets_in y.files.items };
+
     ghost faults = { λ y. y.faults };
+
+    ghost unread = { λ y. y.unread };
 
     fn store(&mut self, shard: u16, node: u8, _folder: &str) -> Result<D, YardRefusal> {
         let Ok(()) = self.handed.reserve(1) else {
@@ -68,6 +82,17 @@ impl<D: Disk + Drop> Yard for MemoryYard<D> {
         match self.returned.push((shard, node, store)) {
             Ok(()) => {}
             Err(_) => self.lost = true,
+        }
+    }
+
+    fn file(&mut self, name: &str) -> Result<Vec<u8>, YardRefusal> {
+        let Some(octets) = octets_of(&self.files, name) else {
+            self.unread = self.unread.saturating_add(1);
+            return Err(YardRefusal::Failed);
+        };
+        match octets.clone() {
+            Ok(octets) => Ok(octets),
+            Err(_) => Err(YardRefusal::NoMemory),
         }
     }
 }

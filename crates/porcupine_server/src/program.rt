@@ -8,16 +8,17 @@ use crate::real_yard::RealYard;
 use crate::server::porcupine;
 use crate::words::words_of;
 use io_edge::{Sink, Source};
-use std::alloc::Global;
 use std::env::Args;
 use std::io;
+use std::rt::Files;
 
-/// Does what the words that the system hands over name, with stores in memory, and answers the exit status.
+/// Does what the words that the system hands over name, with stores in memory and the files of the system, and answers the exit
+/// status.
 ///
 /// The call `porcupine` says which status comes where. A word that is not text is of no form. A store in memory does not fail,
 /// so no run ends for the sake of one.
-pub fn run<S: Source, K: Sink>(
-    alloc: Global,
+pub fn run<R: Files + AllocGlobal, S: Source, K: Sink>(
+    system: &R,
     arguments: io::Result<Args>,
     source: &mut S,
     sink: &mut K,
@@ -29,9 +30,10 @@ pub fn run<S: Source, K: Sink>(
         → (Rose (S.faults source.old) (S.faults source.new) → ⊥) → (Rose (K.faults sink.old) (K.faults sink.new) → ⊥)
         → (result ≡ 0) ⊎ (result ≡ 7) }
 {
+    let alloc = system.alloc();
     let Ok(words) = words_of(alloc, arguments) else {
         return 7;
     };
-    let mut yard = RealYard::new(alloc);
+    let mut yard = RealYard::new(system);
     porcupine(alloc, &words, source, sink, &mut yard)
 }

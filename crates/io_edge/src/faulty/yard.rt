@@ -4,10 +4,10 @@ ghost use Rattle.std.specs.Prelude.{◌≡◌, ◌+◌};
 use super::Countdown;
 use crate::{Yard, YardRefusal};
 
-/// A yard of which one call of `store` fails. Giving back never fails.
+/// A yard of which one call of `store` fails. Giving back never fails, and a file is read as the yard inside reads it.
 #[derive(Drop)]
 pub struct FaultyYard<Y> {
-    /// The yard that makes the stores.
+    /// The yard that makes the stores and reads the files.
     pub inner: Y,
     /// Which call of `store` fails.
     pub countdown: Countdown,
@@ -34,7 +34,11 @@ impl<Y: Yard> Yard for FaultyYard<Y> {
 
     ghost returned = { λ y. Y.returned y.inner };
 
+    ghost files = { λ y. Y.files y.inner };
+
     ghost faults = { λ y. Y.faults y.inner + y.countdown.faults };
+
+    ghost unread = { λ y. Y.unread y.inner };
 
     fn store(&mut self, shard: u16, node: u8, folder: &str) -> Result<Y::Store, YardRefusal> {
         if self.countdown.strikes() {
@@ -45,5 +49,9 @@ impl<Y: Yard> Yard for FaultyYard<Y> {
 
     fn give_back(&mut self, shard: u16, node: u8, store: Y::Store) {
         self.inner.give_back(shard, node, store);
+    }
+
+    fn file(&mut self, name: &str) -> Result<Vec<u8>, YardRefusal> {
+        self.inner.file(name)
     }
 }

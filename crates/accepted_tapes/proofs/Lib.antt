@@ -1,0 +1,8 @@
+pub mod OneSession
+mod Flown
+mod Posted
+pub mod AcceptedLines
+pub mod Told
+mod Letters
+mod Delivered
+mod Accepts

@@ -1,0 +1,24 @@
+//! porcupine: the program.
+//!
+//! It reads its words and does what they name. `drive` reads a tape from standard input and writes
+//! the transcript to standard output: what a cluster of 1 to 16 nodes, each with a fresh store, says
+//! to the sessions of the tape. `main` makes a source and a sink of what the system gives, and ends
+//! with the status that the call `run` of `porcupine_server` answers. Whatever can be said of the
+//! program is said there: nothing stands on a program, so there is nothing here but `main`.
+#![tactic(auto)]
+
+use io_edge::{ReadSource, WriteSink};
+use porcupine_server::run;
+use std::env;
+use std::io::BufReader;
+use std::process::ExitCode;
+
+fn main(rt: HostRuntime) -> ExitCode {
+    // A tape is read octet by octet. Without memory for the buffer the status is that of out of memory.
+    let Ok(input) = BufReader::new(rt.alloc(), rt.stdin()) else {
+        return ExitCode::from(7);
+    };
+    let mut source = ReadSource::new(input);
+    let mut sink = WriteSink::new(rt.stdout());
+    ExitCode::from(run(&rt, env::args(&rt), &mut source, &mut sink))
+}
