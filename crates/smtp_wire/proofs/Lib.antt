@@ -1,3 +1,4 @@
 pub mod Routes
 pub mod Meanings
 pub mod Words
+pub mod Hearing

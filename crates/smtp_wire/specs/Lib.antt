@@ -1,2 +1,4 @@
 pub mod Seen
 pub mod Laws
+pub mod Replies
+pub mod Readers

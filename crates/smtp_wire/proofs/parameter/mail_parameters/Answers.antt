@@ -1,4 +1,4 @@
-use Rattle.std.proofs.Common.{◌≡◌, ◌∙◌, List, ℕ, drop, sym, ap}
+use Rattle.std.proofs.Common.{◌∙◌, List, ℕ, drop, sym, ap}
 use Rattle.mail_model.specs.Smtp.{rest_of, words_of, and_then, with_word, with_words}
 use Rattle.smtp_wire.specs.Seen.{fault_seen, given_seen, given_result}
 use Rattle.smtp_wire.proofs.Words.{words_step, words_stop, words_all}

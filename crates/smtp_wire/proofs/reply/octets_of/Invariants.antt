@@ -1,0 +1,7 @@
+use Rattle.std.proofs.Common.{◌≡◌, ◌++◌, drop}
+use Rattle.smtp_wire.specs.Replies.{reply_octets}
+use Rattle.smtp_wire.proofs.reply.octets_of.Given as goal
+
+-- what was written, and the octets of the lines that are left
+abbrev pub invariant-loop-at : goal.invariant-loop-at
+invariant-loop-at l = l.octets.items ++ reply_octets l.fn.code (drop l.at l.fn.lines) ≡ reply_octets l.fn.code l.fn.lines
