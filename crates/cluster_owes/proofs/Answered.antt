@@ -1,12 +1,13 @@
 -- Whatever a ticket that was begun is answered, what is known stays known.
 use Rattle.std.proofs.Common.{◌≡◌, ⊎_elim, ℕ, Bool, List, [], ◌∷◌, ◌++◌, map, flat_map, Some, refl, sym, ap, ◌∙◌, subst, append-nil}
+use Rattle.std.proofs.lemmas.List.{map-append}
 use Rattle.std.proofs.lemmas.List.Concat.{flat_map-append}
 use Rattle.mail_model.specs.Identity.{Id}
 use Rattle.mail_model.specs.Mail.{IsStored}
 use Rattle.mail_model.specs.Plan.{Plan}
 use Rattle.mail_model.specs.Record.{Record}
 use Rattle.mail_model.specs.Book.{struck_in, dropped_in, acked_in}
-use Rattle.mail_model.specs.Stored.{Ack, HaveOtherIds, opened, kind_at}
+use Rattle.mail_model.specs.Stored.{Ack, IsOnClock, opened, kind_at}
 use Rattle.mail_model.specs.Tape.Protocol.{Smtp}
 use Rattle.mail_model.specs.Told.{Mail}
 use Rattle.object_model.specs.Lists.{Among}
@@ -17,7 +18,7 @@ use Rattle.session_model.specs.Calls.{Call, Answer}
 use Rattle.session_model.specs.Calls.Call.{Deliver, Login, Fetch, Strike}
 use Rattle.session_model.specs.Calls.Answer.{Stored as StoredAnswer, Dropped as DroppedAnswer, Failed as FailedAnswer}
 use Rattle.session_model.specs.Logs.{Asked, Answered}
-use Rattle.session_model.specs.Books.{acks_by, dropped_by}
+use Rattle.session_model.specs.Books.{acks_by, dropped_by, untimed, AreAcksOf}
 use Rattle.session_model.specs.SoundMails.{IsSoundMail}
 use Rattle.cluster_model.specs.Reads.{Found}
 use Rattle.cluster_model.specs.Reads.Found.{Listed, WrongSecret, PartOf, NotThere}
@@ -61,20 +62,20 @@ module _ (plan : Plan) (tells : Bool) (lines : List (List ℕ)) (asked : List As
 
   -- a message is stored
   module _ (mail : Mail) (f : Filed) (want : Want) (inside : Among f known.files) (ticket : f.ticket ≡ number) (mail_is : f.mail ≡ mail) (wants : stood.wants ≡ want ∷ [])
-      (asks : want.asked ≡ Copies (filing_of f)) (mask : IsMask want.confirmed) (kind : kind_at (opened lines) k ≡ Some (Smtp, f.id.node)) (sound : IsSoundMail (Deliver mail))
+      (asks : want.asked ≡ Copies (filing_of f)) (mask : IsMask want.confirmed) (kind : kind_at (opened lines) k ≡ Some (Smtp, f.id.node)) (clock : IsOnClock lines f.seconds) (sound : IsSoundMail (Deliver mail))
       (stored : own ≡ Stored f.id want.confirmed) where
     abbrev ack : Ack
-    ack = record { session = k; mail = mail; id = f.id; seconds = 0 }
+    ack = record { session = k; mail = mail; id = f.id; seconds = f.seconds }
 
     abbrev last : Answered
     last = record { session = k; call = Deliver mail; answer = StoredAnswer f.id }
 
-    entries_are : entries_with own stood ≡ map (entry_for f.id f.octets want.confirmed) mail.mailboxes
+    entries_are : entries_with own stood ≡ map (entry_for f.id f.seconds f.octets want.confirmed) mail.mailboxes
     entries_are = ap (λ a. entries_with a stood) stored ∙ ap wants_entries wants ∙ ap (λ a. confirmed_entries want a ++ []) asks
-        ∙ append-nil (confirmed_entries want (Copies (filing_of f))) ∙ ap (λ (m : Mail). map (entry_for f.id f.octets want.confirmed) m.mailboxes) mail_is
+        ∙ append-nil (confirmed_entries want (Copies (filing_of f))) ∙ ap (λ (m : Mail). map (entry_for f.id f.seconds f.octets want.confirmed) m.mailboxes) mail_is
 
-    acks_are : flat_map acks_by (answered ++ last ∷ []) ≡ flat_map acks_by answered ++ ack ∷ []
-    acks_are = flat_map-append acks_by answered (last ∷ [])
+    told_now : AreAcksOf (answered ++ last ∷ []) (known.told ++ ack ∷ [])
+    told_now = map-append untimed known.told (ack ∷ []) ∙ ap (λ (l : List Ack). l ++ untimed ack ∷ []) known.told_are ∙ sym (flat_map-append acks_by answered (last ∷ []))
 
     new_ack : AckStands lines new known.files ack
     new_ack = record {
@@ -83,17 +84,18 @@ module _ (plan : Plan) (tells : Bool) (lines : List (List ℕ)) (asked : List As
       same_id = refl;
       same_mail = mail_is;
       seconds = refl;
+      clock = clock;
       kind = kind;
       ended = λ t s. stands_not plan tells lines asked answered begun old new known k (Deliver mail) number node disk stood up kept holds (entries_with own stood) is stands t (subst (λ n. StandsAs new.slots n t) ticket s);
     }
 
-    all_acks : (one : Ack) → Among one (flat_map acks_by answered ++ ack ∷ []) → AckStands lines new known.files one
+    all_acks : (one : Ack) → Among one (known.told ++ ack ∷ []) → AckStands lines new known.files one
     all_acks one m = ⊎_elim
         (λ was. old_acks plan tells lines asked answered begun old new known k (Deliver mail) number node disk stood up kept holds (entries_with own stood) is stands one was)
         (λ last_one. ⊎_elim (λ same. subst (AckStands lines new known.files) same new_ack) (λ none. absurd none) last_one)
-        (among_either one (flat_map acks_by answered) (ack ∷ []) m)
+        (among_either one known.told (ack ∷ []) m)
 
-    apart : (one : Ack) → Among one (flat_map acks_by answered) → f.id ≡ one.id → ⊥
+    apart : (one : Ack) → Among one known.told → f.id ≡ one.id → ⊥
     apart one m same =
         let was = known.acks one m in
         let one_file : was.file ≡ f = apart_same known.files known.apart was.file f was.inside inside (was.same_id ∙ sym same) in
@@ -101,14 +103,14 @@ module _ (plan : Plan) (tells : Bool) (lines : List (List ℕ)) (asked : List As
 
     pub stored_told : Told (Deliver mail) (StoredAnswer f.id)
     stored_told = told_answer plan tells lines asked answered begun old new known k (Deliver mail) number node disk stood up kept holds (entries_with own stood) is stands (StoredAnswer f.id)
-        (book_acknowledged lines asked answered old.book (entries_with own stood) k known.book_is mail f.id f.octets want.confirmed sound.3
-        (subst (λ (m : Mail). IsStored m f.id 0 f.octets) mail_is (known.filed f inside).stored)
-        (ap struck_in entries_are ∙ struck_for f.id f.octets want.confirmed mail.mailboxes)
-        (ap dropped_in entries_are ∙ dropped_for f.id f.octets want.confirmed mail.mailboxes)
-        (ap acked_in entries_are ∙ acked_for f.id f.octets want.confirmed mail.mailboxes))
-        (subst AreMasked (sym entries_are) (masked_for f.id f.octets want.confirmed mask mail.mailboxes))
-        (λ one m. all_acks one (subst (Among one) acks_are m))
-        (subst HaveOtherIds (sym acks_are) (others_push (flat_map acks_by answered) ack known.other_ids apart))
+        (known.told ++ ack ∷ []) told_now
+        (book_acknowledged lines asked answered known.told old.book (entries_with own stood) k known.book_is mail f.id f.seconds f.octets want.confirmed clock sound.3
+        (subst (λ (m : Mail). IsStored m f.id f.seconds f.octets) mail_is (known.filed f inside).stored)
+        (ap struck_in entries_are ∙ struck_for f.id f.seconds f.octets want.confirmed mail.mailboxes)
+        (ap dropped_in entries_are ∙ dropped_for f.id f.seconds f.octets want.confirmed mail.mailboxes)
+        (ap acked_in entries_are ∙ acked_for f.id f.seconds f.octets want.confirmed mail.mailboxes))
+        (subst AreMasked (sym entries_are) (masked_for f.id f.seconds f.octets want.confirmed mask mail.mailboxes))
+        all_acks (others_push known.told ack known.other_ids apart)
         (tt, tt)
 
   delivered : (mail : Mail) (one : BegunCall) → one.ticket ≡ number → one.session ≡ k → IsSoundMail (Deliver mail) → TicketFits lines tells old.slots known.files one (Deliver mail) stood → Told (Deliver mail) (answer_told own)
@@ -116,11 +118,11 @@ module _ (plan : Plan) (tells : Bool) (lines : List (List ℕ)) (asked : List As
       let asks = sym (unread plan.confirm stood fits.0) ∙ e in
       ⊎_elim
       (λ none. failed (Deliver mail) (stood.mishaps, failed_so plan.confirm stood.mishaps stood.wants own none asks))
-      (λ (f, want, inside, ticket, mail_is, wants, copies, mask, kind). ⊎_elim
+      (λ (f, want, inside, ticket, mail_is, wants, copies, mask, kind, clock). ⊎_elim
       (λ all.
       let stored : own ≡ Stored f.id want.confirmed = all ∙ ap (answer_once_confirmed (want ∷ []) want) copies in
       subst (λ a. Told (Deliver mail) (answer_told a)) (sym stored)
-      (stored_told mail f want inside (ticket ∙ at) mail_is wants copies mask (subst (λ s. kind_at (opened lines) s ≡ Some (Smtp, f.id.node)) by kind) sound stored))
+      (stored_told mail f want inside (ticket ∙ at) mail_is wants copies mask (subst (λ s. kind_at (opened lines) s ≡ Some (Smtp, f.id.node)) by kind) clock sound stored))
       (λ bad. failed (Deliver mail) (stood.mishaps, bad))
       (answered_so plan.confirm stood.mishaps stood.wants want [] own wants asks))
       fits.1
@@ -131,10 +133,11 @@ module _ (plan : Plan) (tells : Bool) (lines : List (List ℕ)) (asked : List As
       let entries_are : entries_with own stood ≡ wants_entries stood.wants = ap (λ a. entries_with a stood) same in
       let done = done_entries user ids stood.wants are in
       told_answer plan tells lines asked answered begun old new known k (Strike user ids) number node disk stood up kept holds (entries_with own stood) is stands DroppedAnswer
-      (book_dropped lines asked answered old.book (entries_with own stood) k known.book_is user ids (ap struck_in entries_are ∙ done.struck) (ap dropped_in entries_are ∙ done.dropped) (ap acked_in entries_are ∙ done.acked))
+      known.told (known.told_are ∙ sym acks_are)
+      (book_dropped lines asked answered known.told old.book (entries_with own stood) k known.book_is user ids (ap struck_in entries_are ∙ done.struck) (ap dropped_in entries_are ∙ done.dropped) (ap acked_in entries_are ∙ done.acked))
       (subst AreMasked (sym entries_are) done.masked)
-      (λ one m. old_acks plan tells lines asked answered begun old new known k (Strike user ids) number node disk stood up kept holds (entries_with own stood) is stands one (subst (Among one) acks_are m))
-      (subst HaveOtherIds (sym acks_are) known.other_ids)
+      (λ one m. old_acks plan tells lines asked answered begun old new known k (Strike user ids) number node disk stood up kept holds (entries_with own stood) is stands one m)
+      known.other_ids
       (tt, tt)
     where
       acks_are : flat_map acks_by (answered ++ record { session = k; call = Strike user ids; answer = DroppedAnswer } ∷ []) ≡ flat_map acks_by answered

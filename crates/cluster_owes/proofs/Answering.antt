@@ -8,13 +8,13 @@ use Rattle.mail_model.specs.Identity.{Id}
 use Rattle.mail_model.specs.Plan.{Plan}
 use Rattle.mail_model.specs.Record.{Record}
 use Rattle.mail_model.specs.Book.{BookEntry}
-use Rattle.mail_model.specs.Stored.{Ack, HaveOtherIds, IsOther}
+use Rattle.mail_model.specs.Stored.{Ack, HaveOtherIds, IsOther, IsOnClock}
 use Rattle.object_model.specs.Lists.{Among}
 use Rattle.object_model.specs.Letters.{Number}
 use Rattle.object_model.specs.Mishaps.{Mishaps}
 use Rattle.session_model.specs.Calls.{Call, Answer}
 use Rattle.session_model.specs.Logs.{Asked, Answered}
-use Rattle.session_model.specs.Books.{acks_by, dropped_by}
+use Rattle.session_model.specs.Books.{acks_by, dropped_by, AreAcksOf}
 use Rattle.cluster_model.specs.Cluster.{AskedOfNodes, Want, Ticket, Node, Slot, slot_at, with_slot}
 use Rattle.cluster_model.specs.Cluster.AskedOfNodes.{Copies, Deletion}
 use Rattle.cluster_model.specs.Rules.{ticket_at, end_ticket}
@@ -119,15 +119,18 @@ module _ (plan : Plan) (tells : Bool) (lines : List (List ℕ)) (asked : List As
       (record { entries = entries; lives = subst AreLives (sym none) (record { acked = refl; struck = refl; dropped = refl }); goes = record { seconds = seconds; book = book; tickets = step } }) holds)
 
   -- what is known in any case, with a book and answers of its own
-  module _ (answer : Answer) (book_is : IsBooked lines asked (answered ++ record { session = k; call = call; answer = answer } ∷ []) (old.book ++ entries)) (masked : AreMasked entries)
-      (acks : (ack : Ack) → Among ack (flat_map acks_by (answered ++ record { session = k; call = call; answer = answer } ∷ [])) → AckStands lines new known.files ack)
-      (others : HaveOtherIds (flat_map acks_by (answered ++ record { session = k; call = call; answer = answer } ∷ []))) (stands_so : AnswerStands tells new.slots call answer) where
+  module _ (answer : Answer) (told : List Ack) (told_are : AreAcksOf (answered ++ record { session = k; call = call; answer = answer } ∷ []) told)
+      (book_is : IsBooked lines asked (answered ++ record { session = k; call = call; answer = answer } ∷ []) told (old.book ++ entries)) (masked : AreMasked entries)
+      (acks : (ack : Ack) → Among ack told → AckStands lines new known.files ack)
+      (others : HaveOtherIds told) (stands_so : AnswerStands tells new.slots call answer) where
     pub told_answer : Known plan tells lines asked (answered ++ record { session = k; call = call; answer = answer } ∷ []) begun new
     told_answer = record {
       in_plan = kept.in_plan;
       sound = kept.sound;
-      clock = seconds ∙ known.clock;
-      book_is = subst (IsBooked lines asked (answered ++ record { session = k; call = call; answer = answer } ∷ [])) (sym book) book_is;
+      clock = subst (IsOnClock lines) (sym seconds) known.clock;
+      told = told;
+      told_are = told_are;
+      book_is = subst (IsBooked lines asked (answered ++ record { session = k; call = call; answer = answer } ∷ []) told) (sym book) book_is;
       masked = subst (λ b. AreMasked b) (sym book) (masked_both old.book entries known.masked masked);
       files = known.files;
       apart = known.apart;
@@ -147,7 +150,7 @@ module _ (plan : Plan) (tells : Bool) (lines : List (List ℕ)) (asked : List As
         same_files [] = refl
         same_files (f ∷ files) = ap (λ (l : List Filed). f ∷ l) (same_files files)
 
-  pub old_acks : (ack : Ack) → Among ack (flat_map acks_by answered) → AckStands lines new known.files ack
+  pub old_acks : (ack : Ack) → Among ack known.told → AckStands lines new known.files ack
   old_acks ack m = subst (λ files. AckStands lines new files ack) (same_files known.files)
       (acks_still plan tells lines asked answered begun old new known kept.grew (λ n. ⊥) step (λ n w none. none) [] ack m)
     where

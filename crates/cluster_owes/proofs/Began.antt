@@ -124,7 +124,7 @@ module _ (plan : Plan) (tells : Bool) (lines : List (List ℕ)) (asked : List As
   may_not f m (StrikeCall user items) octets b = b
   may_not f m (Leave user) octets b = b
 
-  pub held : (f : Filed) → Among f known.files → (octets : List ℕ) → IsHeldSomewhere new.slots (letters_of new.flying) f.id octets → IsStored f.mail f.id 0 octets
+  pub held : (f : Filed) → Among f known.files → (octets : List ℕ) → IsHeldSomewhere new.slots (letters_of new.flying) f.id octets → IsStored f.mail f.id f.seconds octets
   held f m octets h = ⊎_elim
       (λ was. (known.filed f m).held octets was)
       (λ b. absurd (may_not f m call octets b))

@@ -7,6 +7,7 @@ use Rattle.mail_model.specs.Identity.{Id}
 use Rattle.mail_model.specs.Mail.{IsStored}
 use Rattle.mail_model.specs.Plan.{Plan}
 use Rattle.mail_model.specs.Record.{Record}
+use Rattle.mail_model.specs.Stored.{IsOnClock}
 use Rattle.mail_model.specs.Book.{BookEntry, acked_in, struck_in, dropped_in}
 use Rattle.mail_model.specs.Told.{Mail}
 use Rattle.object_model.specs.Lists.{Among}
@@ -165,7 +166,7 @@ module _ (plan : Plan) (tells : Bool) (lines : List (List ℕ)) (asked : List As
     (seconds : new.seconds ≡ old.seconds) (book : new.book ≡ old.book ++ more)
     (struck : struck_in more ≡ struck_by one.call) (dropped : dropped_in more ≡ []) (acked : acked_in more ≡ [])
     (step : TicketsStep old.slots new.slots (λ number ticket. New number)) (fresh : (number : Number) → IsWithinCalls old.slots number → New number → ⊥)
-    (held : (f : Filed) → Among f known.files → (octets : List ℕ) → IsHeldSomewhere new.slots (letters_of new.flying) f.id octets → IsStored f.mail f.id 0 octets)
+    (held : (f : Filed) → Among f known.files → (octets : List ℕ) → IsHeldSomewhere new.slots (letters_of new.flying) f.id octets → IsStored f.mail f.id f.seconds octets)
     (files : List Filed) (apart : AreApart (known.files ++ files)) (filed : (f : Filed) → Among f files → FiledStands new f)
     (lasts : List BegunCall) (stand : (last : BegunCall) → Among last lasts → BegunStands new last)
     (fit : (last : BegunCall) (ticket : Ticket) → Among last lasts → StandsAs new.slots last.ticket ticket → TicketFits lines tells new.slots (known.files ++ files) last last.call ticket) where
@@ -173,8 +174,10 @@ module _ (plan : Plan) (tells : Bool) (lines : List (List ℕ)) (asked : List As
   known_begun = record {
     in_plan = kept.in_plan;
     sound = kept.sound;
-    clock = seconds ∙ known.clock;
-    book_is = subst (IsBooked lines (asked ++ one ∷ []) answered) (sym book) (book_begun lines asked answered old.book more one struck dropped acked known.book_is);
+    clock = subst (IsOnClock lines) (sym seconds) known.clock;
+    told = known.told;
+    told_are = known.told_are;
+    book_is = subst (IsBooked lines (asked ++ one ∷ []) answered known.told) (sym book) (book_begun lines asked answered known.told old.book more one struck dropped acked known.book_is);
     masked = subst (λ b. AreMasked b) (sym book) (masked_both old.book more known.masked (masked_none more acked dropped));
     files = known.files ++ files;
     apart = apart;

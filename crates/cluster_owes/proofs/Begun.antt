@@ -71,7 +71,7 @@ module _ (plan : Plan) (tells : Bool) (lines : List (List ℕ)) (asked : List As
   pub step_kept_is : StepKept plan old new
   step_kept_is = kept plan tells lines asked answered begun old new known k own call made is_call (Says (Begun number)) did
 
-  held_is : (f : Filed) → Among f known.files → (octets : List ℕ) → IsHeldSomewhere new.slots (letters_of new.flying) f.id octets → IsStored f.mail f.id 0 octets
+  held_is : (f : Filed) → Among f known.files → (octets : List ℕ) → IsHeldSomewhere new.slots (letters_of new.flying) f.id octets → IsStored f.mail f.id f.seconds octets
   held_is = held plan tells lines asked answered begun old new known k own call made is_call (Says (Begun number)) did
 
   -- its ticket stands, and so much is filed

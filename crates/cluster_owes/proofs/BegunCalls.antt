@@ -78,10 +78,11 @@ module _ (plan : Plan) (tells : Bool) (lines : List (List ℕ)) (asked : List As
           among_behind file known.files (file ∷ []) (inl refl),
           sym number_is,
           refl,
-          ap (λ s. new_want own (Copies (filing_at s)) targets ∷ []) known.clock,
+          refl,
           refl,
           own_mask (has targets own),
           taken,
+          known.clock,
         ),
       )
     where
@@ -89,16 +90,13 @@ module _ (plan : Plan) (tells : Bool) (lines : List (List ℕ)) (asked : List As
       id = record { node = own; boot = node.boot; seq = node.drawn + 1 }
 
       file : Filed
-      file = record { ticket = new_number own node; id = id; mail = mail; octets = octets }
+      file = record { ticket = new_number own node; id = id; mail = mail; seconds = old.seconds; octets = octets }
 
       targets : ℕ
       targets = targets_for plan own node
 
-      filing_at : ℕ → NodeFiling
-      filing_at seconds = record { id = id; users = mail.mailboxes; seconds = seconds; size = length octets; digest = sha256 octets }
-
       ticket : Ticket
-      ticket = record { kind = Delivering; wants = new_want own (Copies (filing_at old.seconds)) targets ∷ []; mishaps = no_mishaps; found = None }
+      ticket = record { kind = Delivering; wants = new_want own (Copies (filing_of file)) targets ∷ []; mishaps = no_mishaps; found = None }
 
       le_64 : own ≤ 64
       le_64 = let p = known.in_plan own (slot_up node disk) up in le_trans p.within p.few
@@ -114,10 +112,10 @@ module _ (plan : Plan) (tells : Bool) (lines : List (List ℕ)) (asked : List As
       stands = record {
         drawn = drawn_now plan tells lines asked answered begun old new known k own (DeliverCall mail) (Deliver mail) refl number did sound taken node disk up (begun_by plan old own node disk (DeliverCall mail) octets)
             ticket refl refl refl is number_is id refl refl (le_refl (node.drawn + 1));
-        stored = subst (λ s. IsStored mail id s octets) known.clock filed.0;
+        stored = filed.0;
         held = λ others h. ⊎_elim
             (λ was. absurd (not_drawn_yet old own mail id octets filed_by (known.sound.contents.held_drawn id others was)))
-            (λ (b : FiledBy old own mail id others). subst (λ s. IsStored mail id s others) known.clock b.stored)
+            (λ (b : FiledBy old own mail id others). b.stored)
             (steps_bring plan tells old new (Begin own (DeliverCall mail)) (Says (Begun number)) did known.in_plan known.sound id others h);
         ticket_drawn = drawn_now plan tells lines asked answered begun old new known k own (DeliverCall mail) (Deliver mail) refl number did sound taken node disk up (begun_by plan old own node disk (DeliverCall mail) octets)
             ticket refl refl refl is number_is (record { node = own; boot = node.boot; seq = 0 }) refl refl (omega arith);

@@ -5,7 +5,7 @@ use Rattle.std.proofs.lemmas.List.Concat.{flat_map-append}
 use Rattle.sha2.specs.Sha256.{sha256}
 use Rattle.mail_model.specs.Identity.{Id}
 use Rattle.mail_model.specs.Mail.{IsStored}
-use Rattle.mail_model.specs.Stored.{Ack}
+use Rattle.mail_model.specs.Stored.{Ack, IsOnClock}
 use Rattle.mail_model.specs.Told.{Mail}
 use Rattle.mail_model.specs.Book.{Acked, BookEntry, AreCopies, AreCopiesOf, acked_in, struck_in, dropped_in, copies_acked}
 use Rattle.mail_model.specs.Book.BookEntry.{Acknowledged, Struck, Dropped, WentDown, CameUp, WasLost}
@@ -13,7 +13,7 @@ use Rattle.session_model.specs.Calls.Call.{Deliver, Strike as StrikeCall}
 use Rattle.session_model.specs.Calls.{Call, Answer}
 use Rattle.session_model.specs.Calls.Answer.{Stored, Dropped as WereDropped}
 use Rattle.session_model.specs.Logs.{Asked, Answered}
-use Rattle.session_model.specs.Books.{struck_by, dropped_by, acks_by}
+use Rattle.session_model.specs.Books.{struck_by, dropped_by}
 use Rattle.cluster_model.specs.Cluster.{Want}
 use Rattle.cluster_model.specs.Cluster.AskedOfNodes.{Deletion}
 use Rattle.cluster_model.specs.Progress.{confirmed_entries, wants_entries}
@@ -51,12 +51,12 @@ dropped_both (WentDown node ∷ book) more = dropped_both book more
 dropped_both (CameUp node boot ∷ book) more = dropped_both book more
 dropped_both (WasLost node ∷ book) more = dropped_both book more
 
--- So far the entries of a book are those of the calls that were begun and answered; the nodes that confirmed each message are those of these masks.
-pub record IsBooked (lines : List (List ℕ)) (begun : List Asked) (answered : List Answered) (book : List BookEntry) : Type 0 where
+-- So far the entries of a book are those of the calls that were begun and answered, and of these messages; the nodes that confirmed each message are those of these masks.
+pub record IsBooked (lines : List (List ℕ)) (begun : List Asked) (answered : List Answered) (acks : List Ack) (book : List BookEntry) : Type 0 where
   pub struck : struck_in book ≡ flat_map (λ one. struck_by one.call) begun
   pub dropped : dropped_in book ≡ flat_map (λ one. dropped_by one.call one.answer) answered
   pub masks : List ℕ
-  pub acked : AreCopies lines (flat_map acks_by answered) masks (acked_in book)
+  pub acked : AreCopies lines acks masks (acked_in book)
 
 -- the copies of one message more
 copies_push : (lines : List (List ℕ)) (acks : List Ack) (ack : Ack) (masks : List ℕ) (mask : ℕ) (copies more : List Acked) → AreCopies lines acks masks copies → AreCopiesOf lines ack mask more
@@ -113,30 +113,30 @@ with_more {A} f all one old new is were =
     is ∙ ap (λ (l : Pairs). l ++ f one) were ∙ ap (λ (l : Pairs). flat_map f all ++ l) (sym (append-nil (f one))) ∙ sym (flat_map-append f all (one ∷ []))
 
 -- entries that no client asked for
-pub book_lives : (lines : List (List ℕ)) (asked : List Asked) (answered : List Answered) (book more : List BookEntry) → AreLives more → IsBooked lines asked answered book
-    → IsBooked lines asked answered (book ++ more)
-book_lives lines asked answered book more lives is = record {
+pub book_lives : (lines : List (List ℕ)) (asked : List Asked) (answered : List Answered) (acks : List Ack) (book more : List BookEntry) → AreLives more
+    → IsBooked lines asked answered acks book → IsBooked lines asked answered acks (book ++ more)
+book_lives lines asked answered acks book more lives is = record {
   struck = struck_both book more ∙ ap (λ (l : Pairs). struck_in book ++ l) lives.struck ∙ append-nil (struck_in book) ∙ is.struck;
   dropped = dropped_both book more ∙ ap (λ (l : Pairs). dropped_in book ++ l) lives.dropped ∙ append-nil (dropped_in book) ∙ is.dropped;
   masks = is.masks;
-  acked = subst (λ (l : List Acked). AreCopies lines (flat_map acks_by answered) is.masks l) (sym (acked_both book more ∙ ap (λ (l : List Acked). acked_in book ++ l) lives.acked ∙ append-nil (acked_in book))) is.acked;
+  acked = subst (λ (l : List Acked). AreCopies lines acks is.masks l) (sym (acked_both book more ∙ ap (λ (l : List Acked). acked_in book ++ l) lives.acked ∙ append-nil (acked_in book))) is.acked;
 }
 
 -- a call was begun, and its deletions are noted
-pub book_begun : (lines : List (List ℕ)) (asked : List Asked) (answered : List Answered) (book more : List BookEntry) (one : Asked) → struck_in more ≡ struck_by one.call
-    → dropped_in more ≡ [] → acked_in more ≡ [] → IsBooked lines asked answered book → IsBooked lines (asked ++ one ∷ []) answered (book ++ more)
-book_begun lines asked answered book more one struck dropped acked is = record {
+pub book_begun : (lines : List (List ℕ)) (asked : List Asked) (answered : List Answered) (acks : List Ack) (book more : List BookEntry) (one : Asked) → struck_in more ≡ struck_by one.call
+    → dropped_in more ≡ [] → acked_in more ≡ [] → IsBooked lines asked answered acks book → IsBooked lines (asked ++ one ∷ []) answered acks (book ++ more)
+book_begun lines asked answered acks book more one struck dropped acked is = record {
   struck = with_more (λ (o : Asked). struck_by o.call) asked one (struck_in book) (struck_in (book ++ more)) (struck_both book more ∙ ap (λ (l : Pairs). struck_in book ++ l) struck) is.struck;
   dropped = dropped_both book more ∙ ap (λ (l : Pairs). dropped_in book ++ l) dropped ∙ append-nil (dropped_in book) ∙ is.dropped;
   masks = is.masks;
-  acked = subst (λ (l : List Acked). AreCopies lines (flat_map acks_by answered) is.masks l) (sym (acked_both book more ∙ ap (λ (l : List Acked). acked_in book ++ l) acked ∙ append-nil (acked_in book))) is.acked;
+  acked = subst (λ (l : List Acked). AreCopies lines acks is.masks l) (sym (acked_both book more ∙ ap (λ (l : List Acked). acked_in book ++ l) acked ∙ append-nil (acked_in book))) is.acked;
 }
 
-module _ (lines : List (List ℕ)) (asked : List Asked) (answered : List Answered) (old more : List BookEntry) (k : ℕ) (is : IsBooked lines asked answered old) where
+module _ (lines : List (List ℕ)) (asked : List Asked) (answered : List Answered) (acks : List Ack) (old more : List BookEntry) (k : ℕ) (is : IsBooked lines asked answered acks old) where
   -- an answer that the book does not tell of
-  pub book_quiet : (call : Call) (answer : Answer) → dropped_by call answer ≡ [] → acks_by (record { session = k; call = call; answer = answer }) ≡ []
-      → struck_in more ≡ [] → dropped_in more ≡ [] → acked_in more ≡ [] → IsBooked lines asked (answered ++ record { session = k; call = call; answer = answer } ∷ []) (old ++ more)
-  book_quiet call answer dropped acks no_struck no_dropped no_acked =
+  pub book_quiet : (call : Call) (answer : Answer) → dropped_by call answer ≡ []
+      → struck_in more ≡ [] → dropped_in more ≡ [] → acked_in more ≡ [] → IsBooked lines asked (answered ++ record { session = k; call = call; answer = answer } ∷ []) acks (old ++ more)
+  book_quiet call answer dropped no_struck no_dropped no_acked =
       let one : Answered = record { session = k; call = call; answer = answer } in
       record {
         struck = struck_both old more ∙ ap (λ (l : Pairs). struck_in old ++ l) no_struck ∙ append-nil (struck_in old) ∙ is.struck;
@@ -144,17 +144,16 @@ module _ (lines : List (List ℕ)) (asked : List Asked) (answered : List Answere
             (dropped_both old more ∙ ap (λ (l : Pairs). dropped_in old ++ l) (no_dropped ∙ sym dropped)) is.dropped;
         masks = is.masks;
         acked =
-            subst (λ (l : List Acked). AreCopies lines (flat_map acks_by (answered ++ one ∷ [])) is.masks l)
-            (sym (acked_both old more ∙ ap (λ (l : List Acked). acked_in old ++ l) no_acked ∙ append-nil (acked_in old)))
-            (subst (λ (l : List Ack). AreCopies lines l is.masks (acked_in old))
-            (sym (flat_map-append acks_by answered (one ∷ []) ∙ ap (λ (l : List Ack). flat_map acks_by answered ++ (l ++ [])) acks ∙ append-nil (flat_map acks_by answered))) is.acked);
+            subst (λ (l : List Acked). AreCopies lines acks is.masks l)
+            (sym (acked_both old more ∙ ap (λ (l : List Acked). acked_in old ++ l) no_acked ∙ append-nil (acked_in old))) is.acked;
       }
 
   -- a message is acknowledged to each of its users
-  pub book_acknowledged : (mail : Mail) (id : Id) (octets : List ℕ) (confirmers : ℕ) → AllPairs (λ one other. one ≢ other) mail.mailboxes → IsStored mail id 0 octets
-      → struck_in more ≡ [] → dropped_in more ≡ [] → acked_in more ≡ copies_acked id 0 octets confirmers mail.mailboxes
-      → IsBooked lines asked (answered ++ record { session = k; call = Deliver mail; answer = Stored id } ∷ []) (old ++ more)
-  book_acknowledged mail id octets confirmers once stored no_struck no_dropped copies =
+  pub book_acknowledged : (mail : Mail) (id : Id) (seconds : ℕ) (octets : List ℕ) (confirmers : ℕ) → IsOnClock lines seconds → AllPairs (λ one other. one ≢ other) mail.mailboxes
+      → IsStored mail id seconds octets → struck_in more ≡ [] → dropped_in more ≡ [] → acked_in more ≡ copies_acked id seconds octets confirmers mail.mailboxes
+      → IsBooked lines asked (answered ++ record { session = k; call = Deliver mail; answer = Stored id } ∷ []) (acks ++ record { session = k; mail = mail; id = id; seconds = seconds } ∷ [])
+      (old ++ more)
+  book_acknowledged mail id seconds octets confirmers clock once stored no_struck no_dropped copies =
       let one : Answered = record { session = k; call = Deliver mail; answer = Stored id } in
       record {
         struck = struck_both old more ∙ ap (λ (l : Pairs). struck_in old ++ l) no_struck ∙ append-nil (struck_in old) ∙ is.struck;
@@ -162,16 +161,15 @@ module _ (lines : List (List ℕ)) (asked : List Asked) (answered : List Answere
             (dropped_both old more ∙ ap (λ (l : Pairs). dropped_in old ++ l) no_dropped) is.dropped;
         masks = is.masks ++ confirmers ∷ [];
         acked =
-            subst (λ (l : List Acked). AreCopies lines (flat_map acks_by (answered ++ one ∷ [])) (is.masks ++ confirmers ∷ []) l)
+            subst (λ (l : List Acked). AreCopies lines (acks ++ record { session = k; mail = mail; id = id; seconds = seconds } ∷ []) (is.masks ++ confirmers ∷ []) l)
             (sym (acked_both old more ∙ ap (λ (l : List Acked). acked_in old ++ l) copies))
-            (subst (λ (l : List Ack). AreCopies lines l (is.masks ++ confirmers ∷ []) (acked_in old ++ copies_acked id 0 octets confirmers mail.mailboxes)) (sym (flat_map-append acks_by answered (one ∷ [])))
-            (copies_push lines (flat_map acks_by answered) (record { session = k; mail = mail; id = id; seconds = 0 }) is.masks confirmers (acked_in old) (copies_acked id 0 octets confirmers mail.mailboxes) is.acked
-            (record { octets = octets; at_clock = refl; stored = stored; each_once = once; are = refl })));
+            (copies_push lines acks (record { session = k; mail = mail; id = id; seconds = seconds }) is.masks confirmers (acked_in old) (copies_acked id seconds octets confirmers mail.mailboxes) is.acked
+            (record { octets = octets; at_clock = clock; stored = stored; each_once = once; are = refl }));
       }
 
   -- copies are gone
   pub book_dropped : (user : List ℕ) (ids : List Id) → struck_in more ≡ [] → dropped_in more ≡ map (λ id. (user, id)) ids → acked_in more ≡ []
-      → IsBooked lines asked (answered ++ record { session = k; call = StrikeCall user ids; answer = WereDropped } ∷ []) (old ++ more)
+      → IsBooked lines asked (answered ++ record { session = k; call = StrikeCall user ids; answer = WereDropped } ∷ []) acks (old ++ more)
   book_dropped user ids no_struck dropped no_acked =
       let one : Answered = record { session = k; call = StrikeCall user ids; answer = WereDropped } in
       record {
@@ -180,19 +178,18 @@ module _ (lines : List (List ℕ)) (asked : List Asked) (answered : List Answere
             (dropped_both old more ∙ ap (λ (l : Pairs). dropped_in old ++ l) dropped) is.dropped;
         masks = is.masks;
         acked =
-            subst (λ (l : List Acked). AreCopies lines (flat_map acks_by (answered ++ one ∷ [])) is.masks l)
-            (sym (acked_both old more ∙ ap (λ (l : List Acked). acked_in old ++ l) no_acked ∙ append-nil (acked_in old)))
-            (subst (λ (l : List Ack). AreCopies lines l is.masks (acked_in old)) (sym (flat_map-append acks_by answered (one ∷ []) ∙ append-nil (flat_map acks_by answered))) is.acked);
+            subst (λ (l : List Acked). AreCopies lines acks is.masks l)
+            (sym (acked_both old more ∙ ap (λ (l : List Acked). acked_in old ++ l) no_acked ∙ append-nil (acked_in old))) is.acked;
       }
 
 -- the entries of one message
-module _ (id : Id) (octets : List ℕ) (confirmers : ℕ) where
+module _ (id : Id) (seconds : ℕ) (octets : List ℕ) (confirmers : ℕ) where
   abbrev pub entry_for : List ℕ → BookEntry
-  entry_for user = Acknowledged (record { user = user; id = id; seconds = 0; size = length octets; digest = sha256 octets; confirmers = confirmers })
+  entry_for user = Acknowledged (record { user = user; id = id; seconds = seconds; size = length octets; digest = sha256 octets; confirmers = confirmers })
 
-  pub acked_for : (users : List (List ℕ)) → acked_in (map entry_for users) ≡ copies_acked id 0 octets confirmers users
+  pub acked_for : (users : List (List ℕ)) → acked_in (map entry_for users) ≡ copies_acked id seconds octets confirmers users
   acked_for [] = refl
-  acked_for (user ∷ users) = ap (λ (l : List Acked). record { user = user; id = id; seconds = 0; size = length octets; digest = sha256 octets; confirmers = confirmers } ∷ l) (acked_for users)
+  acked_for (user ∷ users) = ap (λ (l : List Acked). record { user = user; id = id; seconds = seconds; size = length octets; digest = sha256 octets; confirmers = confirmers } ∷ l) (acked_for users)
 
   pub struck_for : (users : List (List ℕ)) → struck_in (map entry_for users) ≡ []
   struck_for [] = refl

@@ -1,5 +1,5 @@
 -- What is known after all steps, from the opening on.
-use Rattle.std.proofs.Common.{◌≤◌, ℕ, Bool, List, [], ◌∷◌, ◌++◌, flat_map, refl, sym, subst, append_assoc, append-nil}
+use Rattle.std.proofs.Common.{inl, ◌≤◌, ℕ, Bool, List, [], ◌∷◌, ◌++◌, flat_map, refl, sym, subst, append_assoc, append-nil}
 use Rattle.mail_model.specs.Plan.{Plan}
 use Rattle.session_model.specs.Calls.Answer.{Failed}
 use Rattle.session_model.specs.Logs.{Asked, Answered}
@@ -10,9 +10,9 @@ use Rattle.cluster_model.specs.Steps.Said.{Finished}
 use Rattle.cluster_model.specs.Steps.StepOutcome.{Says}
 use Rattle.cluster_model.proofs.Opening.{opening_sound}
 use Rattle.cluster_owes.specs.Outcomes.{Outcome, BegunCall, asked_by_outcome, answered_by_outcome, begun_by_outcome, Came, Makes, IsOfSession, AreOfSessions}
-use Rattle.cluster_owes.specs.Outcomes.Outcome.{Began, Fell, Answers, GaveUp, Other}
+use Rattle.cluster_owes.specs.Outcomes.Outcome.{Began, Fell, Answers, GaveUp, Ticked, Other}
 use Rattle.cluster_owes.proofs.Known.{Known}
-use Rattle.cluster_owes.proofs.QuietSteps.{known_other, known_answered, failed_drops, failed_acks, failed_stands}
+use Rattle.cluster_owes.proofs.QuietSteps.{known_other, known_ticked, known_answered, failed_drops, failed_acks, failed_stands}
 use Rattle.cluster_owes.proofs.Answered.{known_answers}
 use Rattle.cluster_owes.proofs.BegunCalls.{known_began, known_fell}
 
@@ -44,6 +44,8 @@ module _ (plan : Plan) (tells : Bool) (lines : List (List ℕ)) where
       not_begun _ _ begun new (not_asked asked _ begun new
       (known_answered plan tells lines asked answered begun new k made Failed (failed_drops made) (failed_acks k made) (failed_stands tells new made)
       (known_other plan tells lines asked answered begun old new (GiveUp ticket) (Says Finished) tt did known)))
+  one_known (Ticked seconds) asked answered begun old new clock did known =
+      not_begun _ _ begun new (not_asked asked _ begun new (not_answered asked answered begun new (known_ticked plan tells lines asked answered begun old new seconds clock did known)))
   one_known (Other step outcome) asked answered begun old new of (other, did) known =
       not_begun _ _ begun new (not_asked asked _ begun new (not_answered asked answered begun new (known_other plan tells lines asked answered begun old new step outcome other did known)))
 
@@ -64,7 +66,9 @@ module _ (plan : Plan) (tells : Bool) (lines : List (List ℕ)) where
   opens_knowing le = let both = opening_sound plan.nodes plan.confirm le in record {
     in_plan = both.0;
     sound = both.1;
-    clock = refl;
+    clock = inl refl;
+    told = [];
+    told_are = refl;
     book_is = record { struck = refl; dropped = refl; masks = []; acked = (refl, refl) };
     masked = tt;
     files = [];

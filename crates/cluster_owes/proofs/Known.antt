@@ -7,7 +7,7 @@ use Rattle.mail_model.specs.Mail.{IsStored}
 use Rattle.mail_model.specs.Plan.{Plan}
 use Rattle.mail_model.specs.PopReplies.{Item}
 use Rattle.mail_model.specs.Record.Record.{Octets}
-use Rattle.mail_model.specs.Stored.{Ack, HaveOtherIds, opened, kind_at}
+use Rattle.mail_model.specs.Stored.{Ack, HaveOtherIds, IsOnClock, opened, kind_at}
 use Rattle.mail_model.specs.Tape.Protocol.{Smtp}
 use Rattle.mail_model.specs.Told.{Mail}
 use Rattle.object_model.specs.Lists.{Among}
@@ -17,7 +17,7 @@ use Rattle.session_model.specs.Calls.{Call, Answer, IsAnswerTo}
 use Rattle.session_model.specs.Calls.Call.{Deliver, Login, Fetch, Strike}
 use Rattle.session_model.specs.Calls.Answer.{Listed, Part}
 use Rattle.session_model.specs.Logs.{Asked, Answered}
-use Rattle.session_model.specs.Books.{AmongAnswers, acks_by}
+use Rattle.session_model.specs.Books.{AmongAnswers, AreAcksOf}
 use Rattle.session_model.specs.SoundMails.{IsSoundMail}
 use Rattle.cluster_model.specs.Reads.{Found}
 use Rattle.cluster_model.specs.Cluster.{NodeFiling, Want, Ticket, Slot, slot_at}
@@ -39,10 +39,11 @@ pub record Filed : Type 0 where
   pub ticket : Number
   pub id : Id
   pub mail : Mail
+  pub seconds : ℕ
   pub octets : List ℕ
 
 abbrev pub filing_of : Filed → NodeFiling
-filing_of f = record { id = f.id; users = f.mail.mailboxes; seconds = 0; size = length f.octets; digest = sha256 f.octets }
+filing_of f = record { id = f.id; users = f.mail.mailboxes; seconds = f.seconds; size = length f.octets; digest = sha256 f.octets }
 
 -- some disk has these octets of the id
 pub record IsOnDisk (slots : List Slot) (id : Id) (octets : List ℕ) : Type 0 where
@@ -70,7 +71,7 @@ AnswerStands tells slots call answer = IsAnswerTo call answer × OctetsStand tel
 abbrev pub DeliveryFits : List (List ℕ) → List Filed → BegunCall → Mail → List Want → Type 0
 DeliveryFits lines files one mail wants = (wants ≡ [])
     ⊎ ((f : Filed) × (want : Want) × Among f files × (f.ticket ≡ one.ticket) × (f.mail ≡ mail) × (wants ≡ want ∷ []) × (want.asked ≡ Copies (filing_of f)) × IsMask want.confirmed
-    × (kind_at (opened lines) one.session ≡ Some (Smtp, f.id.node)))
+    × (kind_at (opened lines) one.session ≡ Some (Smtp, f.id.node)) × IsOnClock lines f.seconds)
 
 -- the ticket is that of the call
 abbrev pub TicketFits : List (List ℕ) → Bool → List Slot → List Filed → BegunCall → Call → Ticket → Type 0
@@ -87,8 +88,8 @@ AreApart (f ∷ files) = ((g : Filed) → Among g files → g.id ≡ f.id → �
 -- what is known of a message that was filed
 pub record FiledStands (w : World) (f : Filed) : Type 0 where
   pub drawn : IsIdDrawn w.slots f.id
-  pub stored : IsStored f.mail f.id 0 f.octets
-  pub held : (octets : List ℕ) → IsHeldSomewhere w.slots (letters_of w.flying) f.id octets → IsStored f.mail f.id 0 octets
+  pub stored : IsStored f.mail f.id f.seconds f.octets
+  pub held : (octets : List ℕ) → IsHeldSomewhere w.slots (letters_of w.flying) f.id octets → IsStored f.mail f.id f.seconds octets
   pub ticket_drawn : IsIdDrawn w.slots (boot_id f.ticket)
   pub within : IsWithinCalls w.slots f.ticket
 
@@ -98,7 +99,8 @@ pub record AckStands (lines : List (List ℕ)) (w : World) (files : List Filed) 
   pub inside : Among file files
   pub same_id : file.id ≡ ack.id
   pub same_mail : file.mail ≡ ack.mail
-  pub seconds : ack.seconds ≡ 0
+  pub seconds : file.seconds ≡ ack.seconds
+  pub clock : IsOnClock lines ack.seconds
   pub kind : kind_at (opened lines) ack.session ≡ Some (Smtp, ack.id.node)
   pub ended : (ticket : Ticket) → StandsAs w.slots file.ticket ticket → ⊥
 
@@ -111,16 +113,19 @@ pub record BegunStands (w : World) (one : BegunCall) : Type 0 where
 pub record Known (plan : Plan) (tells : Bool) (lines : List (List ℕ)) (asked : List Asked) (answered : List Answered) (begun : List BegunCall) (w : World) : Type 0 where
   pub in_plan : InPlan plan.nodes w.slots
   pub sound : Sound plan.confirm (cluster_of w)
-  pub clock : w.seconds ≡ 0
-  pub book_is : IsBooked lines asked answered w.book
+  pub clock : IsOnClock lines w.seconds
+  -- the messages that were acknowledged
+  pub told : List Ack
+  pub told_are : AreAcksOf answered told
+  pub book_is : IsBooked lines asked answered told w.book
   pub masked : AreMasked w.book
   pub files : List Filed
   pub apart : AreApart files
   pub filed : (f : Filed) → Among f files → FiledStands w f
   pub calls : (one : BegunCall) → Among one begun → BegunStands w one
   pub tickets : (one : BegunCall) (ticket : Ticket) → Among one begun → StandsAs w.slots one.ticket ticket → TicketFits lines tells w.slots files one one.call ticket
-  pub acks : (ack : Ack) → Among ack (flat_map acks_by answered) → AckStands lines w files ack
-  pub other_ids : HaveOtherIds (flat_map acks_by answered)
+  pub acks : (ack : Ack) → Among ack told → AckStands lines w files ack
+  pub other_ids : HaveOtherIds told
   pub answers : (one : Answered) → AmongAnswers one answered → AnswerStands tells w.slots one.call one.answer
 
 -- what stands on a disk stays there
@@ -181,9 +186,9 @@ fits_still lines tells old new files others within one (Deliver mail) before aft
   sym same.found ∙ fits.0,
   ⊎_elim
       (λ none. inl (none_same before.wants after.wants same.wants none))
-      (λ (f, want, inside, ticket, mail_is, wants, asked, mask, kind).
+      (λ (f, want, inside, ticket, mail_is, wants, asked, mask, kind, clock).
       let now = one_same before.wants after.wants want same.wants wants in
-      inr (f, now.0, within f inside, ticket, mail_is, now.1, sym now.2.asked ∙ asked, now.2.mask mask, kind))
+      inr (f, now.0, within f inside, ticket, mail_is, now.1, sym now.2.asked ∙ asked, now.2.mask mask, kind, clock))
       fits.1,
 )
 fits_still lines tells old new files others within one (Strike user ids) before after grew same fits = (
@@ -215,7 +220,7 @@ module _ (plan : Plan) (tells : Bool) (lines : List (List ℕ)) (asked : List As
       (step.came one.ticket ticket s)
 
   pub filed_still : (f : Filed) → Among f known.files
-      → ((octets : List ℕ) → IsHeldSomewhere new.slots (letters_of new.flying) f.id octets → IsStored f.mail f.id 0 octets) → FiledStands new f
+      → ((octets : List ℕ) → IsHeldSomewhere new.slots (letters_of new.flying) f.id octets → IsStored f.mail f.id f.seconds octets) → FiledStands new f
   filed_still f m held = let was = known.filed f m in record {
     drawn = grew.drawn f.id was.drawn;
     stored = was.stored;
@@ -224,13 +229,14 @@ module _ (plan : Plan) (tells : Bool) (lines : List (List ℕ)) (asked : List As
     within = step.calls f.ticket was.ticket_drawn was.within;
   }
 
-  pub acks_still : (more : List Filed) (ack : Ack) → Among ack (flat_map acks_by answered) → AckStands lines new (known.files ++ more) ack
+  pub acks_still : (more : List Filed) (ack : Ack) → Among ack known.told → AckStands lines new (known.files ++ more) ack
   acks_still more ack m = let was = known.acks ack m in record {
     file = was.file;
     inside = among_front was.file known.files more was.inside;
     same_id = was.same_id;
     same_mail = was.same_mail;
     seconds = was.seconds;
+    clock = was.clock;
     kind = was.kind;
     ended = λ ticket s. ⊎_elim
         (λ (before, stood, same). was.ended before stood)

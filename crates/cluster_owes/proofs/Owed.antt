@@ -19,6 +19,7 @@ cluster_owes plan tells lines stores disks outcomes last few makes sessions held
     record {
       holds = are;
       one_content = one_content plan tells lines asked answered known.0 last known.1 stores disks held are counted;
+      acks = known.1.told;
       confirmers = (all_standing plan tells lines asked answered known.0 last known.1 stores disks held are counted).confirmers;
       stored = owes_stored plan tells lines asked answered known.0 last known.1 stores disks held are counted;
       deletions = owes_deletions plan tells lines asked answered known.0 last known.1 stores disks held are counted;

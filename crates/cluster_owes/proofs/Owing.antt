@@ -22,7 +22,7 @@ use Rattle.object_model.proofs.Lists.{among_front, among_behind, same_some}
 use Rattle.session_model.specs.Calls.Call.{Login, Fetch}
 use Rattle.session_model.specs.Calls.Answer.{Listed, Part}
 use Rattle.session_model.specs.Logs.{Asked, Answered}
-use Rattle.session_model.specs.Books.{IsAsBooked, AcknowledgedStand, acks_by}
+use Rattle.session_model.specs.Books.{IsAsBooked, AcknowledgedStand}
 use Rattle.session_model.specs.Copies.{AreDisks, OnNode, OnEnough, KeepsCopy, EachStands, OneContent}
 use Rattle.session_model.specs.Facts.{IsGoneIn}
 use Rattle.session_model.specs.Owes.{OwesDeletions, OwesStored, OwesParts, OwesBook}
@@ -119,15 +119,15 @@ module _ (plan : Plan) (tells : Bool) (lines : List (List ℕ)) (asked : List As
   copy_among user id (copy ∷ copies) m = ⊎_elim (λ same. inl same) (λ later. inr (copy_among user id copies later)) m
 
   -- a message that was acknowledged stands
-  module _ (ack : Ack) (among : Among ack (flat_map acks_by answered)) where
+  module _ (ack : Ack) (among : Among ack known.told) where
     is : AckStands lines last known.files ack
     is = known.acks ack among
 
     stored : (octets : List ℕ) → IsHeldSomewhere w.slots (letters_of w.flying) ack.id octets → IsStored ack.mail ack.id ack.seconds octets
     stored octets h =
         let was = (known.filed is.file is.inside).held octets (subst (λ i. IsHeldSomewhere last.slots (letters_of last.flying) i octets) (sym is.same_id) (held_before ack.id octets h)) in
-        subst (λ s. IsStored ack.mail ack.id s octets) (sym is.seconds)
-        (subst (λ i. IsStored ack.mail i 0 octets) is.same_id (subst (λ m. IsStored m is.file.id 0 octets) is.same_mail was))
+        subst (λ s. IsStored ack.mail ack.id s octets) is.seconds
+        (subst (λ i. IsStored ack.mail i is.file.seconds octets) is.same_id (subst (λ m. IsStored m is.file.id is.file.seconds octets) is.same_mail was))
 
     of_user : (octets : List ℕ) (mask : ℕ) (user : List ℕ) (users : List (List ℕ)) → Among user users
         → Among (record { user = user; id = ack.id; seconds = ack.seconds; size = length octets; digest = sha256 octets; confirmers = mask }) (copies_acked ack.id ack.seconds octets mask users)
@@ -223,7 +223,7 @@ module _ (plan : Plan) (tells : Bool) (lines : List (List ℕ)) (asked : List As
     pub stand : EachStands plan lines disks acks confirmers
     pub booked : AcknowledgedStand plan disks last.book acks confirmers
 
-  all_stand : (acks : List Ack) (masks : List ℕ) (copies : List Acked) → AreCopies lines acks masks copies → ((ack : Ack) → Among ack acks → Among ack (flat_map acks_by answered))
+  all_stand : (acks : List Ack) (masks : List ℕ) (copies : List Acked) → AreCopies lines acks masks copies → ((ack : Ack) → Among ack acks → Among ack known.told)
       → ((copy : Acked) → Among copy copies → Among copy (acked_in last.book)) → AllStand acks copies
   all_stand [] masks copies are within booked = record { confirmers = []; copied = (refl, are.1); stand = tt; booked = refl }
   all_stand (ack ∷ acks) [] copies are within booked = absurd are
@@ -234,15 +234,15 @@ module _ (plan : Plan) (tells : Bool) (lines : List (List ℕ)) (asked : List As
       record {
         confirmers = one.0 ∷ others.confirmers;
         copied = (first, rest, whole, one.1, others.copied);
-        stand = (record { at_node = known_ack.kind; at_clock = known_ack.seconds ∙ refl; copies = on_users ack one.0 ack.mail.mailboxes one.2 }, others.stand);
+        stand = (record { at_node = known_ack.kind; at_clock = known_ack.clock; copies = on_users ack one.0 ack.mail.mailboxes one.2 }, others.stand);
         booked = (one.2, others.booked);
       }
 
-  pub all_standing : AllStand (flat_map acks_by answered) (acked_in last.book)
-  all_standing = all_stand (flat_map acks_by answered) known.book_is.masks (acked_in last.book) known.book_is.acked (λ a m. m) (λ c m. m)
+  pub all_standing : AllStand known.told (acked_in last.book)
+  all_standing = all_stand known.told known.book_is.masks (acked_in last.book) known.book_is.acked (λ a m. m) (λ c m. m)
 
-  pub owes_stored : OwesStored plan lines disks answered all_standing.confirmers
-  owes_stored = record { stand = all_standing.stand; other_ids = known.other_ids }
+  pub owes_stored : OwesStored plan lines disks answered known.told all_standing.confirmers
+  owes_stored = record { are = known.told_are; stand = all_standing.stand; other_ids = known.other_ids }
 
   -- deletions
   asked_for : (n : ℕ) (user : List ℕ) (id : Id) → IsGoneIn disks n user id → Among (Struck user id) last.book
@@ -290,7 +290,7 @@ module _ (plan : Plan) (tells : Bool) (lines : List (List ℕ)) (asked : List As
   }
 
   -- the book
-  pub owes_book : OwesBook plan lines disks asked answered all_standing.confirmers last.book
+  pub owes_book : OwesBook plan lines disks asked answered known.told all_standing.confirmers last.book
   owes_book = record {
     is_book = record { struck = known.book_is.struck; dropped = known.book_is.dropped; acked = all_standing.copied };
     stand = all_standing.booked;

@@ -3,7 +3,7 @@ use Rattle.std.proofs.Common.{◌≡◌, ◌⊎◌, inl, inr, ⊎_elim, ℕ, Boo
 use Rattle.std.proofs.lemmas.List.Concat.{flat_map-append}
 use Rattle.mail_model.specs.Identity.{Id}
 use Rattle.mail_model.specs.Plan.{Plan}
-use Rattle.mail_model.specs.Stored.{Ack, HaveOtherIds}
+use Rattle.mail_model.specs.Stored.{Ack, IsOnClock}
 use Rattle.object_model.specs.Lists.{Among}
 use Rattle.session_model.specs.Calls.{Call, Answer}
 use Rattle.session_model.specs.Calls.Call.{Deliver, Login, Fetch, Strike}
@@ -16,6 +16,7 @@ use Rattle.cluster_model.specs.WorldLaws.{InPlan, MayBring}
 use Rattle.cluster_model.specs.Steps.{Step, Said, StepOutcome}
 use Rattle.cluster_model.specs.Steps.NodeCall.{Leave, Deliver as DeliverCall, Login as LoginCall, Fetch as FetchCall, Strike as StrikeCall}
 use Rattle.cluster_model.specs.Steps.Step.{Begin, AskFor, GiveUp, Post, DropLetter, PushTo, Widen, Crash, Start, Lose, Tick}
+use Rattle.cluster_model.specs.Steps.Said.{Finished}
 use Rattle.cluster_model.specs.Steps.StepOutcome.{Says, Refused, NoMemory}
 use Rattle.cluster_model.specs.Makes.{MakesStep}
 use Rattle.cluster_model.proofs.Running.{steps_sound, steps_bring}
@@ -47,8 +48,10 @@ pub known_quiet : (plan : Plan) (tells : Bool) (lines : List (List ℕ)) (asked 
 known_quiet plan tells lines asked answered begun old new known kept other no_more = record {
   in_plan = kept.in_plan;
   sound = kept.sound;
-  clock = other.goes.seconds ∙ known.clock;
-  book_is = subst (IsBooked lines asked answered) (sym other.goes.book) (book_lives lines asked answered old.book other.entries other.lives known.book_is);
+  clock = subst (IsOnClock lines) (sym other.goes.seconds) known.clock;
+  told = known.told;
+  told_are = known.told_are;
+  book_is = subst (IsBooked lines asked answered known.told) (sym other.goes.book) (book_lives lines asked answered known.told old.book other.entries other.lives known.book_is);
   masked = subst (λ b. AreMasked b) (sym other.goes.book) (masked_both old.book other.entries known.masked (masked_none other.entries other.lives.acked other.lives.dropped));
   files = known.files;
   apart = known.apart;
@@ -118,6 +121,37 @@ known_other plan tells lines asked answered begun old new step outcome other mad
     (other_goes plan tells old new known.sound step outcome other made)
     (other_holds plan tells old new step outcome other made known.in_plan known.sound)
 
+-- the clock is set
+pub known_ticked : (plan : Plan) (tells : Bool) (lines : List (List ℕ)) (asked : List Asked) (answered : List Answered) (begun : List BegunCall) (old new : World) (seconds : ℕ)
+    → IsOnClock lines seconds → MakesStep plan tells old (Tick seconds) (Says Finished) new → Known plan tells lines asked answered begun old → Known plan tells lines asked answered begun new
+known_ticked plan tells lines asked answered begun old new seconds clock made known = subst (λ (w : World). Known plan tells lines asked answered begun w) (sym made.1.1) (record {
+  in_plan = known.in_plan;
+  sound = known.sound;
+  clock = clock;
+  told = known.told;
+  told_are = known.told_are;
+  book_is = known.book_is;
+  masked = known.masked;
+  files = known.files;
+  apart = known.apart;
+  filed = λ f m. let was = known.filed f m in
+      record { drawn = was.drawn; stored = was.stored; held = was.held; ticket_drawn = was.ticket_drawn; within = was.within };
+  calls = λ one m. let was = known.calls one m in record { sound = was.sound; drawn = was.drawn; within = was.within };
+  tickets = known.tickets;
+  acks = λ ack m. let was = known.acks ack m in record {
+    file = was.file;
+    inside = was.inside;
+    same_id = was.same_id;
+    same_mail = was.same_mail;
+    seconds = was.seconds;
+    clock = was.clock;
+    kind = was.kind;
+    ended = was.ended;
+  };
+  other_ids = known.other_ids;
+  answers = known.answers;
+})
+
 -- one answer more
 pub answers_either : (one last : Answered) (answered : List Answered) → AmongAnswers one (answered ++ last ∷ []) → AmongAnswers one answered ⊎ (last ≡ one)
 answers_either one last [] m = ⊎_elim (λ is. inr is) (λ none. absurd none) m
@@ -133,15 +167,17 @@ known_answered plan tells lines asked answered begun w k one answer no_drop no_a
   in_plan = known.in_plan;
   sound = known.sound;
   clock = known.clock;
-  book_is = subst (IsBooked lines asked (answered ++ last ∷ [])) (append-nil w.book) (book_quiet lines asked answered w.book [] k known.book_is one answer no_drop no_ack refl refl refl);
+  told = known.told;
+  told_are = known.told_are ∙ sym (same_acks answered last no_ack);
+  book_is = subst (IsBooked lines asked (answered ++ last ∷ []) known.told) (append-nil w.book) (book_quiet lines asked answered known.told w.book [] k known.book_is one answer no_drop refl refl refl);
   masked = known.masked;
   files = known.files;
   apart = known.apart;
   filed = known.filed;
   calls = known.calls;
   tickets = known.tickets;
-  acks = λ ack m. known.acks ack (subst (Among ack) (same_acks answered last no_ack) m);
-  other_ids = subst HaveOtherIds (sym (same_acks answered last no_ack)) known.other_ids;
+  acks = known.acks;
+  other_ids = known.other_ids;
   answers = λ other m. ⊎_elim
       (λ old. known.answers other old)
       (λ is. subst (λ (a : Answered). AnswerStands tells w.slots a.call a.answer) is stands)

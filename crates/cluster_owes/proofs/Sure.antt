@@ -21,7 +21,7 @@ use Rattle.cluster_model.specs.World.{World, cluster_of}
 use Rattle.cluster_model.specs.WorldLaws.{InPlan, opening_world, fresh_slot}
 use Rattle.cluster_model.specs.Steps.{NodeCall, Step, Said, StepOutcome, fails_at_once, mishaps_of_call, ids_drawn}
 use Rattle.cluster_model.specs.Steps.NodeCall.{Deliver, Login, Fetch, Strike, Leave}
-use Rattle.cluster_model.specs.Steps.Step.{Begin, AskFor, GiveUp}
+use Rattle.cluster_model.specs.Steps.Step.{Begin, AskFor, GiveUp, Tick}
 use Rattle.cluster_model.specs.Steps.Said.{Begun, Asked as AskedFor}
 use Rattle.cluster_model.specs.Steps.StepOutcome.{Says, NoMemory}
 use Rattle.cluster_model.specs.Makes.{IsUp, after, with_struck, IsFiled, begun_by, BeginsCall, AnswersAsk, NodeGoesDown, RunsShort, MakesStep}
@@ -31,7 +31,7 @@ use Rattle.cluster_model.specs.Makes.RunsShort.{Beginning, Hearing, Widening, St
 use Rattle.cluster_model.proofs.Counting.{count_le}
 use Rattle.cluster_model.proofs.Opening.{opening_sound}
 use Rattle.cluster_owes.specs.Outcomes.{Outcome, BegunCall, Came, Makes, IsFall, begun_by_outcome}
-use Rattle.cluster_owes.specs.Outcomes.Outcome.{Began, Fell, Answers, GaveUp, Other}
+use Rattle.cluster_owes.specs.Outcomes.Outcome.{Began, Fell, Answers, GaveUp, Ticked, Other}
 use Rattle.cluster_owes.specs.Laws.{NoneWaits}
 use Rattle.cluster_owes.proofs.Standing.{StandsAs, NoneNew, SameWants, SameCall, slot_quiet, same_up}
 use Rattle.cluster_owes.proofs.NodeSteps.{end_goes}
@@ -151,6 +151,7 @@ module _ (plan : Plan) (tells : Bool) (one : plan.nodes ≡ 1) (sure_of : plan.c
     came_surely (Answers k asked ticket given) begun (own, given_is, waits, made) = stepped (AskFor ticket) (Says (AskedFor (Done own))) made (answers_sure ticket (AskedFor (Done own)) made.1)
     came_surely (GaveUp k asked ticket) begun made = stepped (GiveUp ticket) (Says Said.Finished) made
         (quiet_sure old.slots new.slots (other_goes plan tells old new s.sound (GiveUp ticket) (Says Said.Finished) tt made).goes.tickets s.sure)
+    came_surely (Ticked seconds) begun made = stepped (Tick seconds) (Says Said.Finished) made (subst (λ (w : World). AreSure w.slots) (sym made.1.1) s.sure)
     came_surely (Other step outcome) begun (other, made) = stepped step outcome made (quiet_sure old.slots new.slots (other_goes plan tells old new s.sound step outcome other made).goes.tickets s.sure)
 
     -- a ticket that is sure does not wait

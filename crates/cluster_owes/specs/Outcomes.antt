@@ -2,7 +2,7 @@
 use Rattle.std.specs.Prelude.{◌≡◌, ℕ, Bool, List, [], ◌∷◌, ◌++◌, ⊤, Some, None}
 use Rattle.mail_model.specs.Plan.{Plan}
 use Rattle.mail_model.specs.Tape.Protocol.{Smtp}
-use Rattle.mail_model.specs.Stored.{opened, kind_at}
+use Rattle.mail_model.specs.Stored.{opened, kind_at, IsOnClock}
 use Rattle.object_model.specs.Lists.{Among}
 use Rattle.object_model.specs.Letters.{Number}
 use Rattle.session_model.specs.Calls.{Call, Answer}
@@ -31,6 +31,8 @@ pub data Outcome : Type 0 where
   Answers : (k : ℕ) (asked : Call) (ticket : Number) (given : Answer) → Outcome
   -- a call of session k was given up
   GaveUp : (k : ℕ) (asked : Call) (ticket : Number) → Outcome
+  -- the clock was set
+  Ticked : (seconds : ℕ) → Outcome
   -- A step of which no session hears: a call was refused or left, a ticket still waits, or the cluster was moved.
   Other : (step : Step) (outcome : StepOutcome) → Outcome
 
@@ -62,14 +64,14 @@ IsFall (Says (Faulted node)) = ⊤
 IsFall (NoMemory (Some node)) = ⊤
 IsFall outcome = ⊥
 
--- no call begins in the step but a Leave, no ticket is answered, and the clock stays
+-- no call begins in the step but a Leave, no ticket is answered, and the clock is not set
 abbrev pub IsIdleStep : Step → StepOutcome → Type 0
 IsIdleStep (Begin node (Leave user)) outcome = ⊤
 IsIdleStep (Begin node call) (Refused fault) = ⊤
 IsIdleStep (Begin node call) (NoMemory None) = ⊤
 IsIdleStep (Begin node call) outcome = ⊥
 IsIdleStep (AskFor ticket) (Says (AskedFor (Done answer))) = ⊥
-IsIdleStep (Tick seconds) outcome = ⊥
+IsIdleStep (Tick seconds) (Says said) = ⊥
 IsIdleStep step outcome = ⊤
 
 -- the cluster made a step of which this came, where these calls had begun
@@ -81,6 +83,7 @@ Came plan tells (Answers k asked ticket given) begun old new =
     (own : NodeAnswer) × (given ≡ answer_told own) × Among (record { ticket = ticket; session = k; call = asked }) begun
     × MakesStep plan tells old (AskFor ticket) (Says (AskedFor (Done own))) new
 Came plan tells (GaveUp k asked ticket) begun old new = MakesStep plan tells old (GiveUp ticket) (Says Finished) new
+Came plan tells (Ticked seconds) begun old new = MakesStep plan tells old (Tick seconds) (Says Finished) new
 Came plan tells (Other step outcome) begun old new = IsIdleStep step outcome × MakesStep plan tells old step outcome new
 
 -- it made these, one after another, and no others
@@ -95,10 +98,11 @@ IsTakenAt lines k node (Login user given) = ⊤
 IsTakenAt lines k node (Fetch user id) = ⊤
 IsTakenAt lines k node (Strike user ids) = ⊤
 
--- each call is one that a session of its node makes
+-- each call is one that a session of its node makes, and the clock is set by a line
 abbrev pub IsOfSession : List (List ℕ) → Outcome → Type 0
 IsOfSession lines (Began k node asked ticket) = IsSoundMail asked × IsTakenAt lines k node asked
 IsOfSession lines (Fell k node asked) = IsSoundMail asked × IsTakenAt lines k node asked
+IsOfSession lines (Ticked seconds) = IsOnClock lines seconds
 IsOfSession lines outcome = ⊤
 
 abbrev pub AreOfSessions : List (List ℕ) → List Outcome → Type 0

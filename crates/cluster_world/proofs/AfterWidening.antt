@@ -39,7 +39,7 @@ use Rattle.cluster_world.specs.declared.life.Life.{Life}
 use Rattle.cluster_world.specs.declared.life.Life.TheVariants.{Up, Down, Lost}
 use Rattle.cluster_world.specs.declared.nodes.Nodes.{Nodes}
 use Rattle.cluster_world.specs.declared.step.Step.{Step}
-use Rattle.cluster_world.specs.declared.step.Step.TheVariants.{Begin, Ask, GiveUp, Post, Drop, Push, Widen, Crash, Start, Lose}
+use Rattle.cluster_world.specs.declared.step.Step.TheVariants.{Begin, Ask, GiveUp, Post, Drop, Push, Widen, Crash, Start, Lose, Tick}
 use Rattle.cluster_world.specs.declared.step.Said.TheVariants.{Faulted}
 use Rattle.cluster_world.specs.declared.fault.StepFault.TheVariants as fault
 use Rattle.cluster_world.proofs.Worked.{did_turned, cut_down, if_told, passed}
@@ -101,6 +101,7 @@ up_of (Drop letter) o works e = absurd works
 up_of (Crash node) o works e = absurd works
 up_of (Start node) o works e = absurd works
 up_of (Lose node) o works e = absurd works
+up_of (Tick seconds) o works e = absurd works
 
 -- a slot of the machine stands for a node that is up
 pub slot_up_of : {D : Type 0} (on : View D) (nodes : Nodes D) (n : ℕ) (node : Node) → of_node nodes.lives.items n ≡ Some (Up node) → (slots : List Slot) → SlotsStand on nodes.lives.items nodes.disks.items slots

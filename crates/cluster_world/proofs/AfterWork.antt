@@ -30,7 +30,7 @@ use Rattle.cluster_world.specs.Changes.{ChangesNode, IsTurnedTo}
 use Rattle.cluster_world.specs.Missing.{all_missed, OnlyTickets, SentOff}
 use Rattle.cluster_world.specs.Moments.{StopsKeep}
 use Rattle.cluster_world.specs.Works.{slot_after, SlotTurned, SlotCut}
-use Rattle.cluster_world.specs.Turns.{node_refusal, life_after_step}
+use Rattle.cluster_world.specs.Turns.{node_refusal, life_after_step, seconds_after_step}
 use Rattle.cluster_world.specs.Steps.{AreToldAlike, IsQuiet, AreSettled, EveryStopKeeps, StepDid, LeadsTo, FaultHasCause, IsRefusedRight, SaysSo, FallsSo, IsLighter, ChangesNothing}
 use Rattle.cluster_world.specs.declared.step.Step.{Step}
 use Rattle.cluster_world.specs.declared.step.Said.{Said}
@@ -154,12 +154,12 @@ module _ {D : Type 0} (on : View D) (n : ℕ) (P : Life → D → Life → D →
     }
 
     -- All of what the step does, of what is said of this node.
-    pub work_did : (result : Result Said StepFault) (step : Step) → IsRefusedRight result (node_refusal old.plan (life_among old) step) → IfOk result (SaysSo step)
+    pub work_did : (result : Result Said StepFault) (step : Step) → seconds ≡ seconds_after_step step result seconds → IsRefusedRight result (node_refusal old.plan (life_among old) step) → IfOk result (SaysSo step)
         → FallsSo result old.plan.nodes step (life_among old) → ((m : ℕ) → life_among new m ≡ life_after_step result step m (life_among old m))
         → IsToldAlike (on.seen ch.disk) (on.seen ch.disk') → on.faults ch.disk ≤ on.faults ch.disk'
         → ((boot : ℕ) → life_seen ch.life' ≡ life.Up boot → on.faults ch.disk' ≡ on.faults ch.disk) → IsLighter result step before behind → ChangesNothing on result step before behind
         → ((w : machine.World) → StateStandsFor on before w → LeadsTo on result step before behind w) → FaultHasCause on result step before behind → StepDid on result step before behind
-    work_did result step refused kind falls lives told later same lighter kept leads cause = record {
+    work_did result step clock refused kind falls lives told later same lighter kept leads cause = record {
       plan = work_plan;
       handed = work_handed;
       refused = refused;
@@ -168,6 +168,7 @@ module _ {D : Type 0} (on : View D) (n : ℕ) (P : Life → D → Life → D →
       lives = lives;
       told = work_told on.seen told;
       quiet = work_quiet on.faults later same;
+      clock = clock;
       lighter = lighter;
       kept = kept;
       leads = λ known ended w st. leads w st;

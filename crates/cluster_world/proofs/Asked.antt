@@ -232,6 +232,7 @@ module _ {D : Type 0} (on : View D) (ticket : Number) (left_of : Node → plain.
             lives = retold_lives;
             told = retold_told;
             quiet = retold_quiet;
+            clock = refl;
             lighter = tt;
             kept = unchanged_by ticket.node (IsRetoldOn left_of) old new ch flying flying seconds seconds book book' on (step.Ask ticket)
                 (ap (λ (l : Life). node_of_life (Some l)) a.is ∙ ap Some (a.tickets.seen ∙ ap (λ (l : plain.Tickets). record (node_seen a.old) { tickets = l }) left_is) ∙ sym (ap (λ (l : Life). node_of_life (Some l)) a.was))
@@ -299,6 +300,7 @@ module _ {D : Type 0} (on : View D) (ticket : Number) (left_of : Node → plain.
           lives = retold_lives;
           told = retold_told;
           quiet = retold_quiet;
+          clock = refl;
           lighter = tt;
           kept = tt;
           leads = λ known ended w st. ask_leads (ask_seen ask) refl w st;
@@ -335,6 +337,7 @@ module _ {D : Type 0} (on : View D) (ticket : Number) (left_of : Node → plain.
         lives = retold_lives;
         told = retold_told;
         quiet = retold_quiet;
+        clock = refl;
         lighter = tt;
         kept = tt;
         leads = λ known ended w st. give_up_leads w st;

@@ -70,6 +70,7 @@ module _ {D : Type 0} (on : View D) (n : ℕ) (call : Call) (seconds : ℕ) (old
     lives = λ m. refl;
     told = same_told on (state_with old flying seconds book);
     quiet = same_quiet on (state_with old flying seconds book);
+    clock = refl;
     lighter = tt;
     kept = same_unchanged on (state_with old flying seconds book) (step.Begin n call);
     leads = λ known ended w st.
@@ -125,6 +126,7 @@ module _ {D : Type 0} (on : View D) (is_settled : D → Type 0) (n : ℕ) (call 
             (ap life_seen is ∙ ap (λ (x : plain.Node). life.Up x.boot) same.seen ∙ sym (ap life_seen ch.does.0.was)) m ∙ sym (lives m);
         told = work_told on n B old mid mid ch (λ slots. slots) (nothing_else on mid) flying flying seconds book book' on.seen (ap (λ (o : Option (List ℕ)). is_some o) read.seen);
         quiet = work_quiet on n B old mid mid ch (λ slots. slots) (nothing_else on mid) flying flying seconds book book' on.faults (omega (arith, quiet)) (λ boot now. quiet);
+        clock = refl;
         lighter = tt;
         kept = changes_none on why (step.Begin n call) start final (unchanged_by n B old mid ch flying flying seconds seconds book book' on (step.Begin n call)
             (node_kept ch.life ch.life' a b ch.does.0.was is same) (λ away. absurd (away refl)) (λ _. (read, quiet)) refl refl (ap entries_seen (wrote ∙ append-nil (entries_of book))));

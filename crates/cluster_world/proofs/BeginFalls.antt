@@ -151,6 +151,7 @@ module _ {D : Type 0} (on : View D) (n : ℕ) (call : Call) (seconds : ℕ) (old
     lives = λ m. lives_turned n P old new ch m ∙ ap (λ l. turned n (life_seen l) m (life_among old m)) down ∙ sym (lives m);
     told = told_by n P old new ch flying flying seconds seconds book book' on.seen told;
     quiet = quiet_by n P old new ch flying flying seconds seconds book book' on.faults later (λ boot now. absurd (let never : life.Down ≡ life.Up boot = sym (ap life_seen down) ∙ now in cc));
+    clock = refl;
     lighter = lighter;
     kept = kept;
     leads = λ known ended w st. leads w st;

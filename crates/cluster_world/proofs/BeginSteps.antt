@@ -244,6 +244,7 @@ module _ {D : Type 0} (on : View D) (is_settled : D → Type 0) (n : ℕ) (call 
             lives = λ m. work_goes_on on n B old mid new ch _ only (begin_seen on is_settled n call seconds old mid fit ready began ch s) m ∙ sym (said_stays begun.0 n call m (life_among old m));
             told = work_told on n B old mid new ch _ only flying flying' seconds book book' on.seen s.told;
             quiet = work_quiet on n B old mid new ch _ only flying flying' seconds book book' on.faults (omega (arith, s.quiet)) (λ boot now. s.quiet);
+            clock = refl;
             lighter = tt;
             kept = tt;
             leads = λ known ended w st. did_leads begun.0 begun.1.letters s.is did.fresh w st (subst (λ x. CallDid on old.plan n x c a ch.disk b ch.disk' begun.0 begun.1.letters) st.seconds did.did) off;

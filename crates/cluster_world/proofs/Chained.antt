@@ -129,7 +129,7 @@ module _ {D : Type 0} (on : View D) where
   counts_came (Abandoned k asked ticket) awaited left old new within came = came.1.count
   counts_came (KeptUp k ticket why) awaited left old new within came = came.2.count
   counts_came (Left k node user) awaited left old new within came = came.3.count
-  counts_came (Moved order steps) awaited left old new within came = counts_steps steps old new within (order_makes on order steps old new came.0)
+  counts_came (Moved order steps sum) awaited left old new within came = counts_steps steps old new within (order_makes on order steps old new came.0)
 
   counts : (outcomes : List Outcome) (awaited left : List Awaited) (old new : World D) → steps_of old ≤ 18446744073709551615 → Makes on outcomes awaited old left new → Counts (all_steps_in outcomes) old new
   counts [] awaited left old new within makes = counts_none old new within makes.1

@@ -41,6 +41,7 @@ module _ {D : Type 0} (on : View D) (nodes : Nodes D) (flying : InFlight) (secon
   no_letter_dropped e = record {
     plan = refl;
     handed = refl;
+    clock = refl;
     lighter = tt;
     kept = same_unchanged on (state_with nodes flying seconds book) (step.Drop number);
     refused = refl;
@@ -64,6 +65,7 @@ module _ {D : Type 0} (on : View D) (nodes : Nodes D) (flying : InFlight) (secon
     worn_dropped late = record {
       plan = refl;
       handed = refl;
+      clock = refl;
       lighter = tt;
       kept = same_unchanged on (state_with nodes flying seconds book) (step.Drop number);
       refused = refl;
@@ -91,6 +93,7 @@ module _ {D : Type 0} (on : View D) (nodes : Nodes D) (flying : InFlight) (secon
     dropped_did new flying' early noted left = record {
       plan = noted.only.plan;
       handed = ap length noted.only.disks;
+      clock = refl;
       lighter = tt;
       kept = tt;
       refused = refl;

@@ -105,6 +105,7 @@ module _ {D : Type 0} (on : View D) (n : ℕ) (old new : Nodes D) (book book' : 
         quiet = quiet_by n (IsTurnedTo Down) old new ch flying flying seconds seconds book book' on.faults
             (subst (λ d. on.faults ch.disk ≤ on.faults d) (sym ch.does.1) (omega arith))
             (λ boot up. absurd (let never : life.Down ≡ life.Up boot = sym (ap life_seen ch.does.0) ∙ up in cc));
+        clock = refl;
         lighter = tt;
         kept = tt;
         leads = λ known ended w st. crash_leads wrote w st;

@@ -96,6 +96,7 @@ module _ {D : Type 0} (on : View D) (ticket : Number) (nodes : Nodes D) (fit : n
       lives = λ m. refl;
       told = same_told on (state_with nodes flying seconds book);
       quiet = same_quiet on (state_with nodes flying seconds book);
+      clock = refl;
       lighter = tt;
       kept = same_unchanged on (state_with nodes flying seconds book) (step.GiveUp ticket);
       leads = λ known ended w st. let f = finds w st in record {
@@ -118,6 +119,7 @@ module _ {D : Type 0} (on : View D) (ticket : Number) (nodes : Nodes D) (fit : n
       lives = λ m. refl;
       told = same_told on (state_with nodes flying seconds book);
       quiet = same_quiet on (state_with nodes flying seconds book);
+      clock = refl;
       lighter = tt;
       kept = same_unchanged on (state_with nodes flying seconds book) (step.GiveUp ticket);
       leads = λ known ended w st. let f = finds w st in record {

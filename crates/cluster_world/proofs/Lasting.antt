@@ -59,6 +59,7 @@ module _ (plan : Plan) (tells : Bool) where
   came_sound (owes.Outcome.Fell k node asked) begun old new came p s = step_sound old new (steps.Step.Begin node came.0) came.1 came.4 p s
   came_sound (owes.Outcome.Answers k asked ticket given) begun old new came p s = step_sound old new (steps.Step.AskFor ticket) (steps.StepOutcome.Says (steps.Said.Asked (Done came.0))) came.3 p s
   came_sound (owes.Outcome.GaveUp k asked ticket) begun old new came p s = step_sound old new (steps.Step.GiveUp ticket) (steps.StepOutcome.Says steps.Said.Finished) came p s
+  came_sound (owes.Outcome.Ticked seconds) begun old new came p s = step_sound old new (steps.Step.Tick seconds) (steps.StepOutcome.Says steps.Said.Finished) came p s
   came_sound (owes.Outcome.Other step outcome) begun old new came p s = step_sound old new step outcome came.1 p s
 
   makes_sound : (outcomes : List owes.Outcome) (begun : List owes.BegunCall) (old new : machine.World) → owes.Makes plan tells outcomes begun old new → InPlan plan.nodes old.slots → Sound plan.confirm (cluster_of old)

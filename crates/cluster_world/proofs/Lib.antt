@@ -10,6 +10,9 @@ pub mod BeginParts
 pub mod BeginSteps
 pub mod Beginning
 pub mod Chained
+pub mod Clocks
+pub mod Ticking
+pub mod Sums
 pub mod Changing
 pub mod Dropping
 pub mod Ended

@@ -2,6 +2,9 @@
 use Rattle.std.proofs.Common.{◌≡◌, ⊎_elim, ◌⊎◌, inl, inr, ℕ, Bool, true, false, List, [], ◌∷◌, Option, Some, None, refl, sym, ap, ◌∙◌, subst}
 use Rattle.std.specs.Prelude.{filter, not, nat_eq, if◌then◌else◌, flat_map, Result, Ok, Err}
 use Rattle.mail_model.specs.Plan.{Plan}
+use Rattle.session_model.specs.Sums.{BookSum}
+use Rattle.mail_model.specs.Tape.{ClusterOrder}
+use Rattle.mail_model.specs.Tape.{ClusterOrder as order}
 use Rattle.object_model.specs.Letters.{Number}
 use Rattle.object_model.specs.Lists.{Among}
 use Rattle.object_model.proofs.Lists.{among_front, among_behind, among_either}
@@ -24,7 +27,7 @@ use Rattle.cluster_world.specs.Worlds.{StandsFor}
 use Rattle.cluster_world.specs.Seen.{step_seen, outcome_seen}
 use Rattle.cluster_world.specs.Ended.{IsEnded}
 use Rattle.cluster_world.specs.Steps.{IsBlind, IsStep}
-use Rattle.cluster_world.specs.Outcomes.{asked_by_outcome as asked_by, answered_by_outcome as answered_by, Outcome, Awaited, StepMade, MakesSteps, Came, IsLeave, left_after, left_after_all, fallen_in}
+use Rattle.cluster_world.specs.Outcomes.{asked_by_outcome as asked_by, answered_by_outcome as answered_by, Outcome, Awaited, StepMade, MakesSteps, MakesOrder, Came, IsLeave, left_after, left_after_all, fallen_in}
 use Rattle.cluster_world.specs.Outcomes.Outcome.{Began, Refused, Fell, Broke, Answers, StillPending, Unanswered, GaveUp, Abandoned, KeptUp, Left, Moved}
 use Rattle.cluster_world.specs.Owing.{AreBlind, IsOfBlind, IsOfSession}
 use Rattle.cluster_world.specs.declared.world.World.{World}
@@ -37,7 +40,7 @@ use Rattle.cluster_world.specs.declared.fault.StepFault.TheVariants as fault
 use Rattle.cluster_world.proofs.Ordered.{order_makes, order_are}
 use Rattle.cluster_world.proofs.SeenAlike.{made_alike, told_alike}
 use Rattle.cluster_world.proofs.Ended.{sound_ended}
-use Rattle.cluster_world.proofs.Quietly.{AreQuiet, AnswersAmiss, refusal_quiet, untold_quiet, moves_quiet}
+use Rattle.cluster_world.proofs.Quietly.{AreQuiet, AnswersAmiss, refusal_quiet, untold_quiet, IsTick, tick_or, tick_done, unticked_quiet, moves_quiet}
 use Rattle.cluster_world.proofs.Chained.{step_stays}
 use Rattle.cluster_world.proofs.Mirrors.{Mirrored, Led, HaveBegun, IsOf, begun_of, begun_with, led, quiet_one, joined}
 
@@ -221,6 +224,28 @@ module _ {D : Type 0} (on : View D) (plan : Plan) (told : Bool) where
     abbrev silent : (outcomes : List Outcome) (result : Result Said StepFault) (made : Step) → Quiets outcomes result made
     silent = quietly awaited left begun w old new of stands within
 
+    -- the clock is set
+    ticked : (seconds : ℕ) (made : List StepMade) (sum : BookSum) → MakesOrder on (order.Tick seconds) made old new → left ≡ left_after_all made awaited
+        → Mirrored on plan told (Moved (order.Tick seconds) made sum ∷ []) left begun w new
+    ticked seconds made sum (result, made_is, is) left_is =
+        by result is (λ one m. fewer_after (fallen_in (step.Tick seconds) result) awaited one (subst (Among one) (left_is ∙ ap (λ (l : List StepMade). left_after_all l awaited) made_is) m))
+      where
+        by : (r : Result Said StepFault) → IsStep on r (step.Tick seconds) old new → ((one : Awaited) → Among one left → Among one awaited)
+            → Mirrored on plan told (Moved (order.Tick seconds) made sum ∷ []) left begun w new
+        by (Err why) is fewer = silent (Moved (order.Tick seconds) made sum ∷ []) (Err why) (step.Tick seconds) (inr tt) tt is (unticked_quiet seconds why) refl refl fewer
+        by (Ok what) is fewer =
+            let done = subst (λ (s : Said). IsStep on (Ok s) (step.Tick seconds) old new) (tick_done seconds what is.did.kind) is in
+            let l = led on plan told (Ok said.Done) (step.Tick seconds) old new of (inr tt) tt done w stands in record {
+              outs = owes.Outcome.Ticked seconds ∷ [];
+              next = l.next;
+              makes = (l.next, l.made, refl);
+              stands = l.stands;
+              asked = refl;
+              answered = refl;
+              within = λ one m. among_front (begun_of one) begun [] (within one (fewer one m));
+              sessions = λ lines all. (all (Moved (order.Tick seconds) made sum) (inl refl), tt);
+            }
+
     pub mirror : (outcome : Outcome) → (told ≡ true) ⊎ IsOfBlind plan.nodes outcome → IsOfSession lines outcome → Came on outcome awaited old left new → Mirrored on plan told (outcome ∷ []) left begun w new
     mirror (Began k node asked ticket) known of_it came = began awaited left begun w old new of stands within k node asked ticket of_it.0 came
     mirror (Refused k node asked) known of_it (call, why, e, refusal, is, left_is) =
@@ -241,8 +266,11 @@ module _ {D : Type 0} (on : View D) (plan : Plan) (told : Bool) where
     mirror (Left k node user) known of_it (call, result, leaves, is, left_is) =
         silent (Left k node user ∷ []) result (step.Begin node call) (inr tt) (leave_ended user call leaves) is (leave_quiet user node call (outcome_seen result) leaves) refl refl
         (λ one m. fewer_after (fallen_in (step.Begin node call) result) awaited one (subst (Among one) left_is m))
-    mirror (Moved order made) known of_it (makes, left_is) =
-        let m = moved made awaited begun w old new of stands within (moves_quiet order made (order_are on order made old new makes)) known (order_makes on order made old new makes) in record {
+    mirror (Moved asked made sum) known of_it (makes, left_is, sum_is) = ⊎_elim
+        (λ (seconds, same). subst (λ (o : ClusterOrder). Mirrored on plan told (Moved o made sum ∷ []) left begun w new) (sym same)
+        (ticked seconds made sum (subst (λ (o : ClusterOrder). MakesOrder on o made old new) same makes) left_is))
+        (λ other.
+        let m = moved made awaited begun w old new of stands within (moves_quiet asked made other (order_are on asked made old new makes)) known (order_makes on asked made old new makes) in record {
           outs = m.outs;
           next = m.next;
           makes = m.makes;
@@ -251,4 +279,5 @@ module _ {D : Type 0} (on : View D) (plan : Plan) (told : Bool) where
           answered = m.answered;
           within = λ one k. m.within one (subst (Among one) left_is k);
           sessions = λ lines all. m.sessions lines (λ outcome k. absurd k);
-        }
+        })
+        (tick_or asked)

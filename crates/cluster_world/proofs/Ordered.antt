@@ -34,6 +34,8 @@ AreStepsOf (order.Drop letter) steps = AreOne (step.Drop letter) steps
 AreStepsOf order.Flow steps = All IsPost steps
 AreStepsOf (order.Push node) steps = All (IsPushOf node) steps
 AreStepsOf (order.Widen at user id to) steps = AreOne (step.Widen at user id to) steps
+AreStepsOf (order.Tick seconds) steps = AreOne (step.Tick seconds) steps
+AreStepsOf order.Sum steps = steps ≡ []
 
 module _ {D : Type 0} (on : View D) where
   pub steps_more : (steps : List StepMade) (one : StepMade) (old mid new : World D) → MakesSteps on steps old mid → IsStep on one.result one.step mid new
@@ -87,6 +89,8 @@ module _ {D : Type 0} (on : View D) where
   order_makes order.Flow steps old new made = posts_make steps old new made
   order_makes (order.Push node) steps old new made = made.1
   order_makes (order.Widen at user id to) steps old new made = one_makes (step.Widen at user id to) steps old new made
+  order_makes (order.Tick seconds) steps old new made = one_makes (step.Tick seconds) steps old new made
+  order_makes order.Sum steps old new made = subst (λ (l : List StepMade). MakesSteps on l old new) (sym made.0) made.1
 
   pub order_are : (asked : ClusterOrder) (steps : List StepMade) (old new : World D) → MakesOrder on asked steps old new → AreStepsOf asked steps
   order_are (order.Crash node) steps old new made = one_is (step.Crash node) steps old new made
@@ -98,3 +102,5 @@ module _ {D : Type 0} (on : View D) where
   order_are order.Flow steps old new made = posts_are steps old new made
   order_are (order.Push node) steps old new made = all_pushes _ _ node steps made.0
   order_are (order.Widen at user id to) steps old new made = one_is (step.Widen at user id to) steps old new made
+  order_are (order.Tick seconds) steps old new made = one_is (step.Tick seconds) steps old new made
+  order_are order.Sum steps old new made = made.0

@@ -96,6 +96,7 @@ module _ {D : Type 0} (on : View D) (old : Nodes D) (flying : InFlight) (seconds
   no_letter_posted none = record {
     plan = refl;
     handed = refl;
+    clock = refl;
     lighter = tt;
     kept = same_unchanged on before (step.Post number keep);
     refused = refl;
@@ -121,6 +122,7 @@ module _ {D : Type 0} (on : View D) (old : Nodes D) (flying : InFlight) (seconds
     worn_posted late = record {
       plan = refl;
       handed = refl;
+      clock = refl;
       lighter = tt;
       kept = same_unchanged on before (step.Post number keep);
       refused = refl;
@@ -176,6 +178,7 @@ module _ {D : Type 0} (on : View D) (old : Nodes D) (flying : InFlight) (seconds
       nobody_posted new flying' down noted left = record {
         plan = noted.only.plan;
         handed = ap length noted.only.disks;
+        clock = refl;
         lighter = lighter_left keep (said.Thrown why.Down) new flying' book left;
         kept = tt;
         refused = refl;
@@ -217,7 +220,7 @@ module _ {D : Type 0} (on : View D) (old : Nodes D) (flying : InFlight) (seconds
               → ((w : machine.World) (flies : Flies w number) (node : plain.Node) (disk : List Record) → flies.letter ≡ letter → IsUp w letter.to node disk → thrown_by letter.to node letter ≡ Some (why_seen what)
               → Posts old.plan w number keep (steps.Said.Thrown (why_seen what)) (record w { slots = change w.slots; flying = flies_on w number flies keep }))
               → thrown_by letter.to (node_seen a) letter ≡ Some (why_seen what) → StepDid on (Ok (said.Thrown what)) (step.Post number keep) before (state_with new flying' seconds book)
-          thrown_so what x x_is change only left kept posts by = work_did on letter.to P old mid new ch change only flying flying' seconds book book (Ok (said.Thrown what)) (step.Post number keep) refl tt tt
+          thrown_so what x x_is change only left kept posts by = work_did on letter.to P old mid new ch change only flying flying' seconds book book (Ok (said.Thrown what)) (step.Post number keep) refl refl tt tt
               (work_goes_on on letter.to P old mid new ch change only (up_boot b is (ap (λ (n : plain.Node). n.boot) alike.seen)))
               (ap (λ d. is_some (on.seen d)) untold)
               (subst (λ d. on.faults ch.disk ≤ on.faults d) (sym untold) (omega arith))
@@ -265,7 +268,7 @@ module _ {D : Type 0} (on : View D) (old : Nodes D) (flying : InFlight) (seconds
 
         -- memory ran out before anything was done
         pub short_posted : (b : Node) → ch.life' ≡ Up b → IsAsBefore a b → ch.disk' ≡ ch.disk → StepDid on (Err (fault.NoMemory None)) (step.Post number keep) before (state_with mid flying seconds book)
-        short_posted b is alike untold = work_did on letter.to P old mid mid ch (λ slots. slots) (nothing_else on mid) flying flying seconds book book (Err (fault.NoMemory None)) (step.Post number keep) tt tt tt
+        short_posted b is alike untold = work_did on letter.to P old mid mid ch (λ slots. slots) (nothing_else on mid) flying flying seconds book book (Err (fault.NoMemory None)) (step.Post number keep) refl tt tt tt
             (work_goes_on on letter.to P old mid mid ch (λ slots. slots) (nothing_else on mid) (up_boot b is (ap (λ (n : plain.Node). n.boot) alike.seen)))
             (ap (λ d. is_some (on.seen d)) untold)
             (subst (λ d. on.faults ch.disk ≤ on.faults d) (sym untold) (omega arith))
@@ -285,7 +288,7 @@ module _ {D : Type 0} (on : View D) (old : Nodes D) (flying : InFlight) (seconds
         pub heard_posted : (b : Node) → ch.life' ≡ Up b → (letters : List Letter) → weight_of_all letters < weight_of letter → thrown_by letter.to (node_seen a) letter ≡ None
             → NodeDid on rule a ch.disk b ch.disk' letters → (new : Nodes D) (flying' : InFlight) → SentOff on old.plan letters (out_of number keep) flying flying' mid new
             → StepDid on (Ok said.Heard) (step.Post number keep) before (state_with new flying' seconds book)
-        heard_posted b is letters less taken did new flying' off = work_did on letter.to P old mid new ch _ off.noticed.only flying flying' seconds book book (Ok said.Heard) (step.Post number keep) refl tt tt
+        heard_posted b is letters less taken did new flying' off = work_did on letter.to P old mid new ch _ off.noticed.only flying flying' seconds book book (Ok said.Heard) (step.Post number keep) refl refl tt tt
             (work_goes_on on letter.to P old mid new ch _ off.noticed.only (up_boot b is did.boot))
             did.appends.told
             (subst (λ f. on.faults ch.disk ≤ f) (sym did.appends.quiet) (omega arith))
@@ -324,7 +327,7 @@ module _ {D : Type 0} (on : View D) (old : Nodes D) (flying : InFlight) (seconds
 
           pub faulted_posted : Rose (on.faults ch.disk) (on.faults ch.disk') → Noticed on old.plan (λ slots. missed mishap.Disk slots letter) mid new → flying' ≡ taken_out (out_of number keep) flying
               → StepDid on (Ok (said.Faulted letter.to)) (step.Post number keep) before (state_with new flying' seconds book')
-          faulted_posted rose noted left = work_did on letter.to P old mid new ch (λ slots. missed mishap.Disk slots letter) noted.only flying flying' seconds book book' (Ok (said.Faulted letter.to)) (step.Post number keep)
+          faulted_posted rose noted left = work_did on letter.to P old mid new ch (λ slots. missed mishap.Disk slots letter) noted.only flying flying' seconds book book' (Ok (said.Faulted letter.to)) (step.Post number keep) refl
               refl tt was_to_work (lives_down (λ slots. missed mishap.Disk slots letter) noted.only) told later (λ boot up. absurd (not_up boot up))
               (lighter_left keep (said.Faulted letter.to) new flying' book' left)
               tt
@@ -356,7 +359,7 @@ module _ {D : Type 0} (on : View D) (old : Nodes D) (flying : InFlight) (seconds
           pub fallen_posted : new ≡ mid → flying' ≡ flying → StepDid on (Err (fault.NoMemory (Some letter.to))) (step.Post number keep) before (state_with new flying' seconds book')
           fallen_posted same_nodes left =
               let only : OnlyTickets on (λ slots. slots) mid new = subst (λ (m : Nodes D). OnlyTickets on (λ slots. slots) mid m) (sym same_nodes) (nothing_else on mid) in
-              work_did on letter.to P old mid new ch (λ slots. slots) only flying flying' seconds book book' (Err (fault.NoMemory (Some letter.to))) (step.Post number keep)
+              work_did on letter.to P old mid new ch (λ slots. slots) only flying flying' seconds book book' (Err (fault.NoMemory (Some letter.to))) (step.Post number keep) refl
               tt tt was_to_work (lives_down (λ slots. slots) only) told later (λ boot up. absurd (not_up boot up)) tt tt
               (λ w st.
               let s = standing w.flying number letter (there w st) in

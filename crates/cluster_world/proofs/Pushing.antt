@@ -121,6 +121,7 @@ module _ {D : Type 0} (on : View D) (n to : ℕ) (old : Nodes D) (fit : node_ref
       lives = λ m. refl;
       told = same_told on before;
       quiet = same_quiet on before;
+      clock = refl;
       lighter = tt;
       kept = same_unchanged on before (step.Push n to);
       leads = λ known ended w st.
@@ -146,6 +147,7 @@ module _ {D : Type 0} (on : View D) (n to : ℕ) (old : Nodes D) (fit : node_ref
       lives = λ m. refl;
       told = same_told on before;
       quiet = same_quiet on before;
+      clock = refl;
       lighter = tt;
       kept = same_unchanged on before (step.Push n to);
       leads = λ known ended w st.
@@ -282,6 +284,7 @@ module _ {D : Type 0} (on : View D) (n to : ℕ) (old : Nodes D) (fit : node_ref
         lives = stays_lives on n P old mid ch ready a was b (stays r);
         told = stays_told on n P old mid ch ready a was b (stays r) flying flying seconds seconds book book';
         quiet = stays_quiet on n P old mid ch ready a was b (stays r) flying flying seconds seconds book book';
+        clock = refl;
         lighter = tt;
         kept = unchanged_by n P old mid ch flying flying seconds seconds book book' on (step.Push n to) (node_kept ch.life ch.life' a b was r.is r.as_before)
             (λ away. absurd (away refl)) (λ _. (r.read, r.quiet)) refl refl (ap entries_seen wrote);
@@ -323,6 +326,7 @@ module _ {D : Type 0} (on : View D) (n to : ℕ) (old : Nodes D) (fit : node_ref
           lives = down_lives on n P old mid ch ready a was (falls_so c);
           told = down_told on n P old mid ch ready a was (falls_so c) flying flying seconds seconds book book';
           quiet = down_quiet on n P old mid ch ready a was (falls_so c) flying flying seconds seconds book book';
+          clock = refl;
           lighter = tt;
           kept = tt;
           leads = λ known ended w st.
@@ -435,6 +439,7 @@ module _ {D : Type 0} (on : View D) (n to : ℕ) (old : Nodes D) (fit : node_ref
                   later = λ k d d' p q. quiet.later k d d' p (same_disk k d' q);
                   same = λ k boot d d' y p q. quiet.same k boot d d' (sym (off.noticed.only.lives k) ∙ y) p (same_disk k d' q);
                 };
+                clock = refl;
                 lighter = tt;
                 kept = tt;
                 leads = λ known ended w st. sent_leads known w st;

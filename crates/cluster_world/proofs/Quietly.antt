@@ -13,6 +13,7 @@ use Rattle.call_tickets.specs.declared.answer.Ask.TheVariants as ask
 use Rattle.cluster_model.specs.Steps as machine
 use Rattle.cluster_owes.specs.Outcomes.{IsIdleStep}
 use Rattle.cluster_world.specs.Seen.{step_seen, outcome_seen}
+use Rattle.cluster_world.specs.Steps.{SaysSo}
 use Rattle.cluster_world.specs.Ended.{IsEnded}
 use Rattle.cluster_world.specs.Outcomes.{StepMade, IsPost, IsRefusal, LeavesUnanswered}
 use Rattle.cluster_world.proofs.Ordered.{IsPushOf, AreOne, AreStepsOf}
@@ -99,13 +100,57 @@ all_quiet : (P : StepMade → Type 0) → ((one : StepMade) → P one → IsQuie
 all_quiet P each [] all = tt
 all_quiet P each (one ∷ more) all = (each one (All-head P one more all), all_quiet P each more (All-tail P one more all))
 
-pub moves_quiet : (order : ClusterOrder) (steps : List StepMade) → AreStepsOf order steps → AreQuiet steps
-moves_quiet (order.Crash node) steps are = one_quiet (step.Crash node) steps (λ outcome. tt, tt) are
-moves_quiet (order.Start node) steps are = one_quiet (step.Start node) steps (λ outcome. tt, tt) are
-moves_quiet (order.Lose node) steps are = one_quiet (step.Lose node) steps (λ outcome. tt, tt) are
-moves_quiet (order.Post letter) steps are = one_quiet (step.Post letter false) steps (λ outcome. tt, tt) are
-moves_quiet (order.Again letter) steps are = one_quiet (step.Post letter true) steps (λ outcome. tt, tt) are
-moves_quiet (order.Drop letter) steps are = one_quiet (step.Drop letter) steps (λ outcome. tt, tt) are
-moves_quiet order.Flow steps are = all_quiet IsPost (λ one is. subst IsQuietStep (sym is.1) (λ outcome. tt, tt)) steps are
-moves_quiet (order.Push node) steps are = all_quiet (IsPushOf node) (λ one is. subst IsQuietStep (sym is.1) (λ outcome. tt, tt)) steps are
-moves_quiet (order.Widen at user id to) steps are = one_quiet (step.Widen at user id to) steps (λ outcome. tt, tt) are
+-- whether an order sets the clock
+abbrev pub IsTick : ClusterOrder → Type 0
+IsTick (order.Tick seconds) = ⊤
+IsTick other = ⊥
+
+pub tick_or : (asked : ClusterOrder) → ((seconds : ℕ) × (asked ≡ order.Tick seconds)) ⊎ (IsTick asked → ⊥)
+tick_or (order.Crash node) = inr (λ is. is)
+tick_or (order.Start node) = inr (λ is. is)
+tick_or (order.Lose node) = inr (λ is. is)
+tick_or (order.Post letter) = inr (λ is. is)
+tick_or (order.Again letter) = inr (λ is. is)
+tick_or (order.Drop letter) = inr (λ is. is)
+tick_or order.Flow = inr (λ is. is)
+tick_or (order.Push node) = inr (λ is. is)
+tick_or (order.Widen at user id to) = inr (λ is. is)
+tick_or (order.Tick seconds) = inl (seconds, refl)
+tick_or order.Sum = inr (λ is. is)
+
+-- the clock is set, or nothing is done
+pub tick_done : (seconds : ℕ) (what : Said) → SaysSo (step.Tick seconds) what → what ≡ said.Done
+tick_done seconds said.Done so = refl
+tick_done seconds (said.Begun number stirs) so = absurd so
+tick_done seconds said.Noted so = absurd so
+tick_done seconds (said.Asked ask) so = absurd so
+tick_done seconds said.Heard so = absurd so
+tick_done seconds (said.Thrown why) so = absurd so
+tick_done seconds (said.Sent letters) so = absurd so
+tick_done seconds (said.Widened did) so = absurd so
+tick_done seconds (said.NodeUp boot) so = absurd so
+tick_done seconds (said.Faulted node) so = absurd so
+
+pub unticked_quiet : (seconds : ℕ) (why : StepFault) → IsIdleStep (machine.Step.Tick seconds) (outcome_seen (Err why))
+unticked_quiet seconds fault.NoSuchNode = tt
+unticked_quiet seconds fault.NodeLost = tt
+unticked_quiet seconds fault.NodeDown = tt
+unticked_quiet seconds fault.NodeUp = tt
+unticked_quiet seconds fault.NoSuchLetter = tt
+unticked_quiet seconds fault.NoSuchTicket = tt
+unticked_quiet seconds fault.Worn = tt
+unticked_quiet seconds fault.NoRoom = tt
+unticked_quiet seconds (fault.NoMemory down) = tt
+
+pub moves_quiet : (asked : ClusterOrder) (steps : List StepMade) → (IsTick asked → ⊥) → AreStepsOf asked steps → AreQuiet steps
+moves_quiet (order.Crash node) steps other are = one_quiet (step.Crash node) steps (λ outcome. tt, tt) are
+moves_quiet (order.Start node) steps other are = one_quiet (step.Start node) steps (λ outcome. tt, tt) are
+moves_quiet (order.Lose node) steps other are = one_quiet (step.Lose node) steps (λ outcome. tt, tt) are
+moves_quiet (order.Post letter) steps other are = one_quiet (step.Post letter false) steps (λ outcome. tt, tt) are
+moves_quiet (order.Again letter) steps other are = one_quiet (step.Post letter true) steps (λ outcome. tt, tt) are
+moves_quiet (order.Drop letter) steps other are = one_quiet (step.Drop letter) steps (λ outcome. tt, tt) are
+moves_quiet order.Flow steps other are = all_quiet IsPost (λ one is. subst IsQuietStep (sym is.1) (λ outcome. tt, tt)) steps are
+moves_quiet (order.Push node) steps other are = all_quiet (IsPushOf node) (λ one is. subst IsQuietStep (sym is.1) (λ outcome. tt, tt)) steps are
+moves_quiet (order.Widen at user id to) steps other are = one_quiet (step.Widen at user id to) steps (λ outcome. tt, tt) are
+moves_quiet (order.Tick seconds) steps other are = absurd (other tt)
+moves_quiet order.Sum steps other are = subst AreQuiet (sym are) tt

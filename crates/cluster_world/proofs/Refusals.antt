@@ -22,7 +22,7 @@ use Rattle.cluster_world.proofs.Still.{some_same, both_at}
 use Rattle.cluster_world.specs.declared.life.Life.{Life}
 use Rattle.cluster_world.specs.declared.life.Life.TheVariants.{Up, Down, Lost}
 use Rattle.cluster_world.specs.declared.step.Step.{Step}
-use Rattle.cluster_world.specs.declared.step.Step.TheVariants.{Begin, Ask, GiveUp, Post, Drop, Push, Widen, Crash, Start, Lose}
+use Rattle.cluster_world.specs.declared.step.Step.TheVariants.{Begin, Ask, GiveUp, Post, Drop, Push, Widen, Crash, Start, Lose, Tick}
 use Rattle.cluster_world.specs.declared.fault.StepFault.{StepFault}
 use Rattle.cluster_world.specs.declared.fault.StepFault.TheVariants as fault
 
@@ -50,6 +50,7 @@ up_alike (Widen at user id to) boot state = tt
 up_alike (Crash node) boot state = tt
 up_alike (Start node) boot state = refl
 up_alike (Lose node) boot state = tt
+up_alike (Tick seconds) boot state = tt
 
 down_alike : (step : Step) (pending : List Record) → AreAlike (life_refusal step life.Down) (life_fault (step_seen step) (plain.Life.Down pending))
 down_alike (Begin node call) pending = refl
@@ -62,6 +63,7 @@ down_alike (Widen at user id to) pending = refl
 down_alike (Crash node) pending = refl
 down_alike (Start node) pending = tt
 down_alike (Lose node) pending = tt
+down_alike (Tick seconds) pending = refl
 
 pub life_alike : (step : Step) (one : NodeLife) (other : plain.Life) → IsLifeOf one other → AreAlike (life_refusal step one) (life_fault (step_seen step) other)
 life_alike step (life.Up boot) (plain.Life.Up state) h = up_alike step boot state
@@ -144,6 +146,7 @@ module _ {D : Type 0} (on : View D) where
       actor_there (Crash node) e n same = first_there node [] e n same
       actor_there (Start node) e n same = first_there node [] e n same
       actor_there (Lose node) e n same = first_there node [] e n same
+      actor_there (Tick seconds) e n same = none_there n same
 
       alike_some : (one : Option StepFault) (other : Option steps.StepFault) (rest : List (Option steps.StepFault)) → AreAlike one other → (f : StepFault) → one ≡ Some f
           → (g : steps.StepFault) × (fault_seen f ≡ steps.StepOutcome.Refused g) × (steps.first_fault (None ∷ other ∷ rest) ≡ Some g)

@@ -13,9 +13,10 @@ use Rattle.cluster_world.specs.Worlds.{WorldState, life_in, tells_in, StateStand
 use Rattle.cluster_world.specs.Steps.{StepDid}
 use Rattle.cluster_world.specs.Sure.{IsSurelyDone}
 use Rattle.cluster_world.specs.declared.step.Step.{Step}
-use Rattle.cluster_world.specs.declared.step.Step.TheVariants.{Begin, Ask, GiveUp, Post, Drop, Push, Widen, Crash, Start, Lose}
+use Rattle.cluster_world.specs.declared.step.Step.TheVariants.{Begin, Ask, GiveUp, Post, Drop, Push, Widen, Crash, Start, Lose, Tick}
 use Rattle.cluster_world.specs.declared.fault.StepFault.{StepFault}
 use Rattle.cluster_world.specs.declared.fault.StepFault.TheVariants as fault
+use Rattle.cluster_world.proofs.Clocks.{unticked}
 use Rattle.cluster_world.proofs.Same.{same_stops, same_told, same_quiet, same_unchanged}
 use Rattle.cluster_world.proofs.Refusals.{named_fault}
 
@@ -43,6 +44,7 @@ life_of_node (Widen at user id to) (life.Up boot) = tt
 life_of_node (Crash node) (life.Up boot) = tt
 life_of_node (Start node) (life.Up boot) = tt
 life_of_node (Lose node) (life.Up boot) = tt
+life_of_node (Tick seconds) (life.Up boot) = tt
 life_of_node (Begin node call) life.Down = tt
 life_of_node (Ask ticket) life.Down = tt
 life_of_node (GiveUp ticket) life.Down = tt
@@ -53,6 +55,7 @@ life_of_node (Widen at user id to) life.Down = tt
 life_of_node (Crash node) life.Down = tt
 life_of_node (Start node) life.Down = tt
 life_of_node (Lose node) life.Down = tt
+life_of_node (Tick seconds) life.Down = tt
 
 actor_of_node : (step : Step) (lives : ℕ → NodeLife) (actor : Option ℕ) → OfNode (actor_refusal step lives actor)
 actor_of_node step lives None = tt
@@ -75,6 +78,7 @@ module _ {D : Type 0} (on : View D) (state : WorldState D) (even : length state.
   did_so fault.NoSuchNode of e = record {
     plan = refl;
     handed = refl;
+    clock = unticked step fault.NoSuchNode state.seconds;
     lighter = tt;
     kept = same_unchanged on state step;
     refused = sym e;
@@ -89,6 +93,7 @@ module _ {D : Type 0} (on : View D) (state : WorldState D) (even : length state.
   did_so fault.NodeLost of e = record {
     plan = refl;
     handed = refl;
+    clock = unticked step fault.NodeLost state.seconds;
     lighter = tt;
     kept = same_unchanged on state step;
     refused = sym e;
@@ -103,6 +108,7 @@ module _ {D : Type 0} (on : View D) (state : WorldState D) (even : length state.
   did_so fault.NodeDown of e = record {
     plan = refl;
     handed = refl;
+    clock = unticked step fault.NodeDown state.seconds;
     lighter = tt;
     kept = same_unchanged on state step;
     refused = sym e;
@@ -117,6 +123,7 @@ module _ {D : Type 0} (on : View D) (state : WorldState D) (even : length state.
   did_so fault.NodeUp of e = record {
     plan = refl;
     handed = refl;
+    clock = unticked step fault.NodeUp state.seconds;
     lighter = tt;
     kept = same_unchanged on state step;
     refused = sym e;
@@ -142,6 +149,7 @@ module _ {D : Type 0} (state : WorldState D) where
   sure_by : (step : Step) (f : StepFault) → IsOfNode f → node_refusal state.plan (life_in state) step ≡ Some f → IsSurelyDone state step (Err f)
   sure_by (Crash node) f of e = e
   sure_by (Lose node) f of e = e
+  sure_by (Tick seconds) f of e = absurd (let never : None ≡ Some f = e in cc)
   sure_by (Drop letter) f of e = let never : None ≡ Some f = e in cc
   sure_by (Ask ticket) f of e = ask_sure f of
     where

@@ -5,6 +5,7 @@ use Rattle.cluster_model.specs.World as machine
 use Rattle.node_store.specs.Disks.{View}
 use Rattle.cluster_world.specs.Worlds.{WorldState, disk_in, StateStandsFor}
 use Rattle.cluster_world.specs.Steps.{AreToldAlike, IsQuiet, IsUnchanged, EveryStopKeeps, StepDid}
+use Rattle.cluster_world.proofs.Clocks.{unticked}
 use Rattle.cluster_world.proofs.Still.{some_same, nothing_read, all_untouched}
 use Rattle.cluster_world.specs.Moments.{StopsKeep}
 use Rattle.cluster_world.specs.declared.step.Step.{Step}
@@ -45,6 +46,7 @@ module _ {D : Type 0} (on : View D) (state : WorldState D) where
   none_done step = record {
     plan = refl;
     handed = refl;
+    clock = unticked step (fault.NoMemory None) state.seconds;
     lighter = tt;
     kept = same_unchanged step;
     refused = tt;

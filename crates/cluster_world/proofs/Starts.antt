@@ -229,6 +229,7 @@ module _ {D : Type 0} (on : View D) (is_settled : D → Type 0) (only : (disk : 
       lives = λ m. lives_turned n P old new ch m ∙ ap (λ l. turned n (life_seen l) m (life_among old m)) down ∙ sym (lives m);
       told = told_by n P old new ch flying flying seconds seconds book book' on.seen ch.does.told;
       quiet = quiet_by n P old new ch flying flying seconds seconds book book' on.faults ch.does.faults (λ boot up. absurd (let never : life.Down ≡ life.Up boot = sym (ap life_seen down) ∙ up in cc));
+      clock = refl;
       lighter = lighter_by why;
       kept = kept;
       leads = λ known ended w st. leads known w st;
@@ -328,6 +329,7 @@ module _ {D : Type 0} (on : View D) (is_settled : D → Type 0) (only : (disk : 
       lives = λ m. lives_turned n P old new ch m ∙ ap (λ l. turned n l m (life_among old m)) (ap life_seen up.is ∙ ap life.Up (sym up.boot_is));
       told = told_by n P old new ch flying flying seconds seconds book book' on.seen ch.does.told;
       quiet = quiet_by n P old new ch flying flying seconds seconds book book' on.faults ch.does.faults (λ boot _. st.quiet);
+      clock = refl;
       lighter = tt;
       kept = tt;
       leads = λ known ended w stands.
@@ -375,6 +377,7 @@ module _ {D : Type 0} (on : View D) (n : ℕ) (old : Nodes D) (fit : node_refusa
     lives = λ m. refl;
     told = same_told on (state_with old flying seconds book);
     quiet = same_quiet on (state_with old flying seconds book);
+    clock = refl;
     lighter = tt;
     kept = same_unchanged on (state_with old flying seconds book) (step.Start n);
     leads = λ known ended w st.

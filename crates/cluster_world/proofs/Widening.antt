@@ -165,6 +165,7 @@ module _ {D : Type 0} (on : View D) (n to : ℕ) (user : List ℕ) (id : Id) (ol
           lives = stays_lives on n P old new ch ready a was b s;
           told = stays_told on n P old new ch ready a was b s flying flying seconds seconds book book';
           quiet = stays_quiet on n P old new ch ready a was b s flying flying seconds seconds book book';
+          clock = refl;
           lighter = tt;
           kept = tt;
           leads = λ known ended w st.
@@ -207,6 +208,7 @@ module _ {D : Type 0} (on : View D) (n to : ℕ) (user : List ℕ) (id : Id) (ol
           lives = down_lives on n P old new ch ready a was s;
           told = down_told on n P old new ch ready a was s flying flying seconds seconds book book';
           quiet = down_quiet on n P old new ch ready a was s flying flying seconds seconds book book';
+          clock = refl;
           lighter = tt;
           kept = tt;
           leads = λ known ended w st.
@@ -231,6 +233,7 @@ module _ {D : Type 0} (on : View D) (n to : ℕ) (user : List ℕ) (id : Id) (ol
           lives = down_lives on n P old new ch ready a was s;
           told = down_told on n P old new ch ready a was s flying flying seconds seconds book book';
           quiet = down_quiet on n P old new ch ready a was s flying flying seconds seconds book book';
+          clock = refl;
           lighter = tt;
           kept = tt;
           leads = λ known ended w st.
@@ -256,6 +259,7 @@ module _ {D : Type 0} (on : View D) (n to : ℕ) (user : List ℕ) (id : Id) (ol
           lives = stays_lives on n P old new ch ready a was b s;
           told = stays_told on n P old new ch ready a was b s flying flying seconds seconds book book';
           quiet = stays_quiet on n P old new ch ready a was b s flying flying seconds seconds book book';
+          clock = refl;
           lighter = tt;
           kept = unchanged_by n P old new ch flying flying seconds seconds book book' on (step.Widen n user id to) (node_kept ch.life ch.life' a b was c.1 c.0.0)
               (λ _. c.0.1) (λ _. (nothing_read on ch.disk ch.disk' c.0.1, ap on.faults c.0.1)) refl refl (booked (Err (NoMemory false)) e ∙ append-nil (booked_by book));
@@ -297,6 +301,7 @@ module _ {D : Type 0} (on : View D) (n to : ℕ) (user : List ℕ) (id : Id) (ol
       lives = λ m. refl;
       told = same_told on (state_with old flying seconds book);
       quiet = same_quiet on (state_with old flying seconds book);
+      clock = refl;
       lighter = tt;
       kept = same_unchanged on (state_with old flying seconds book) (step.Widen n user id to);
       leads = λ known ended w st.

@@ -3,6 +3,7 @@ pub mod Books
 pub mod Lives
 pub mod Stands
 pub mod Seen
+pub mod Sums
 pub mod Worlds
 pub mod Changes
 pub mod Asking

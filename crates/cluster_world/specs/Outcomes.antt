@@ -3,6 +3,7 @@
 use Rattle.std.specs.Prelude.{◌≡◌, ℕ, zero, suc, ◌+◌, Bool, true, false, not, nat_eq, List, [], ◌∷◌, ◌++◌, filter, ⊤, MatchBool, Option, Some, None, Result, Ok, Err, if◌then◌else◌}
 use Rattle.mail_model.specs.Tape.{ClusterOrder}
 use Rattle.mail_model.specs.Tape.{ClusterOrder as order}
+use Rattle.session_model.specs.Sums.{BookSum, sum_of}
 use Rattle.object_model.specs.Letters.{Number}
 use Rattle.session_model.specs.Calls.{Call, Answer, IsAnswerTo}
 use Rattle.session_model.specs.Calls.Answer.{Failed}
@@ -18,7 +19,7 @@ use Rattle.call_tickets.specs.declared.answer.Ask.TheVariants as ask
 use Rattle.node_store.specs.Disks.{View}
 use Rattle.cluster_world.specs.Flights.{first_number}
 use Rattle.cluster_world.specs.Steps.{IsStep}
-use Rattle.cluster_world.specs.Worlds.{state_of, plan_of, life_of}
+use Rattle.cluster_world.specs.Worlds.{state_of, plan_of, life_of, book_of}
 use Rattle.cluster_world.specs.declared.world.World.{World}
 use Rattle.cluster_world.specs.declared.step.Step.{Step}
 use Rattle.cluster_world.specs.declared.step.Step.TheVariants as step
@@ -65,8 +66,8 @@ pub data Outcome : Type 0 where
   KeptUp : (k : ℕ) (ticket : Number) (why : StepFault) → Outcome
   -- it has left its node, or was refused
   Left : (k node : ℕ) (user : List ℕ) → Outcome
-  -- these steps were made for a run line
-  Moved : (order : ClusterOrder) (steps : List StepMade) → Outcome
+  -- these steps were made for a run line, where the book had so many entries
+  Moved : (order : ClusterOrder) (steps : List StepMade) (sum : BookSum) → Outcome
 
 -- what was made of the cluster
 abbrev pub made_of : Outcome → Made
@@ -81,7 +82,7 @@ made_of (GaveUp k asked ticket) = Made.GivesUp k
 made_of (Abandoned k asked ticket) = Made.GivesUp k
 made_of (KeptUp k ticket why) = Made.GivesUp k
 made_of (Left k node user) = Made.Leaves k user
-made_of (Moved order steps) = Made.Moves order
+made_of (Moved order steps sum) = Made.Moves order
 
 -- What it was asked. A call that was refused is none: nothing came of it.
 abbrev pub asked_by_outcome : Outcome → List Asked
@@ -176,6 +177,8 @@ MakesOrder on (order.Drop letter) steps old new = MakesOne on (step.Drop letter)
 MakesOrder on order.Flow steps old new = PostsAll on steps old new
 MakesOrder on (order.Push node) steps old new = PushesAll (plan_of old).nodes (life_of old node) node steps × MakesSteps on steps old new
 MakesOrder on (order.Widen at user id to) steps old new = MakesOne on (step.Widen at user id to) steps old new
+MakesOrder on (order.Tick seconds) steps old new = MakesOne on (step.Tick seconds) steps old new
+MakesOrder on order.Sum steps old new = (steps ≡ []) × (new ≡ old)
 
 -- a refusal after which the world is as it was
 abbrev pub IsRefusal : StepFault → Type 0
@@ -219,7 +222,7 @@ Came on (KeptUp k ticket why) awaited old left new =
 Came on (Left k node user) awaited old left new =
     (begun : WorldCall) × (result : Result Said StepFault) × IsLeave user begun × IsStep on result (step.Begin node begun) old new
     × (left ≡ left_after (fallen_in (step.Begin node begun) result) awaited)
-Came on (Moved order steps) awaited old left new = MakesOrder on order steps old new × (left ≡ left_after_all steps awaited)
+Came on (Moved order steps sum) awaited old left new = MakesOrder on order steps old new × (left ≡ left_after_all steps awaited) × (sum ≡ sum_of (book_of old))
 
 -- the world made these steps, one after another, and no others
 abbrev pub Makes : {D : Type 0} → View D → List Outcome → List Awaited → World D → List Awaited → World D → Type 0

@@ -2,6 +2,8 @@
 use Rattle.std.specs.Prelude.{◌≡◌, ◌⊎◌, ◌≤◌, ℕ, true, List, [], ◌∷◌, flat_map, map, ⊤, IfSome}
 use Rattle.mail_model.specs.Plan.{Plan}
 use Rattle.mail_model.specs.Record.{Record}
+use Rattle.mail_model.specs.Stored.{IsOnClock}
+use Rattle.mail_model.specs.Tape.{ClusterOrder as order}
 use Rattle.object_model.specs.Letters.{Number}
 use Rattle.object_model.specs.Lists.{Among}
 use Rattle.session_model.specs.SoundMails.{IsSoundMail}
@@ -23,7 +25,7 @@ AreBlind nodes (one ∷ more) = IsBlind nodes one.step × AreBlind nodes more
 
 -- nor does any that led to this outcome; a step that a session leads to never does
 abbrev pub IsOfBlind : ℕ → Outcome → Type 0
-IsOfBlind nodes (Moved order steps) = AreBlind nodes steps
+IsOfBlind nodes (Moved order steps sum) = AreBlind nodes steps
 IsOfBlind nodes outcome = ⊤
 
 abbrev pub AllBlind : ℕ → List Outcome → Type 0
@@ -34,12 +36,13 @@ AllBlind nodes (outcome ∷ more) = IsOfBlind nodes outcome × AllBlind nodes mo
 abbrev pub AreKnown : {D : Type 0} → View D → World D → List Outcome → Type 0
 AreKnown on start outcomes = (disks_tell on.seen start ≡ true) ⊎ AllBlind (plan_of start).nodes outcomes
 
--- A call that has begun, or whose node fell in it, is one that a session of that node makes. A call that was refused tells a message whole, too.
+-- A call that has begun, or whose node fell in it, is one that a session of that node makes. A call that was refused tells a message whole, too. The clock is set by a line.
 abbrev pub IsOfSession : List (List ℕ) → Outcome → Type 0
 IsOfSession lines (Began k node asked ticket) = IsSoundMail asked × IsTakenAt lines k node asked
 IsOfSession lines (Fell k node asked) = IsSoundMail asked × IsTakenAt lines k node asked
 IsOfSession lines (Broke k node asked) = IsSoundMail asked × IsTakenAt lines k node asked
 IsOfSession lines (Refused k node asked) = IsSoundMail asked
+IsOfSession lines (Moved (order.Tick seconds) steps sum) = IsOnClock lines seconds
 IsOfSession lines outcome = ⊤
 
 abbrev pub AreOfSessions : List (List ℕ) → List Outcome → Type 0

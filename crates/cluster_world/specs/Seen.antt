@@ -22,6 +22,7 @@ step_seen (step.Widen at user id to) = plain.Step.Widen at user id to
 step_seen (step.Crash node) = plain.Step.Crash node
 step_seen (step.Start node) = plain.Step.Start node
 step_seen (step.Lose node) = plain.Step.Lose node
+step_seen (step.Tick seconds) = plain.Step.Tick seconds
 
 abbrev pub said_seen : Said → plain.Said
 said_seen (said.Begun ticket stirs) = plain.Said.Begun ticket

@@ -16,11 +16,11 @@ use Rattle.cluster_world.specs.Flights.{weight_of_flights}
 use Rattle.cluster_world.specs.Worlds.{WorldState, state_of, life_in, node_in, disk_in, tells_in, steps_of, one_more, StateStandsFor}
 use Rattle.cluster_world.specs.Seen.{step_seen, outcome_seen}
 use Rattle.cluster_world.specs.Ended.{IsEnded}
-use Rattle.cluster_world.specs.Turns.{node_refusal, refused_for_node, life_after_step}
+use Rattle.cluster_world.specs.Turns.{node_refusal, refused_for_node, life_after_step, seconds_after_step}
 use Rattle.cluster_world.specs.Moments.{StopsKeep}
 use Rattle.cluster_world.specs.declared.world.World.{World}
 use Rattle.cluster_world.specs.declared.step.Step.{Step}
-use Rattle.cluster_world.specs.declared.step.Step.TheVariants.{Begin, Ask, GiveUp, Post, Drop, Push, Widen, Crash, Start, Lose}
+use Rattle.cluster_world.specs.declared.step.Step.TheVariants.{Begin, Ask, GiveUp, Post, Drop, Push, Widen, Crash, Start, Lose, Tick}
 use Rattle.cluster_world.specs.declared.step.Said.{Said}
 use Rattle.cluster_world.specs.declared.step.Said.TheVariants.{Begun, Noted, Asked, Heard, Thrown, Sent, Widened, NodeUp, Done, Faulted}
 use Rattle.cluster_world.specs.declared.fault.StepFault.{StepFault}
@@ -74,6 +74,7 @@ MayMisread (Widen at user id to) = ⊥
 MayMisread (Crash node) = ⊥
 MayMisread (Start node) = ⊤
 MayMisread (Lose node) = ⊥
+MayMisread (Tick seconds) = ⊥
 
 -- That a disk failed is said only where its count rose, or where it does not tell what it holds and was read. The octets of a disk that tells them are those of its node's
 -- records, as long as the world stands for one of the machine.
@@ -116,6 +117,7 @@ SaysSo (Crash node) Done = ⊤
 SaysSo (Start node) (NodeUp boot) = ⊤
 SaysSo (Start node) (Faulted failed) = failed ≡ node
 SaysSo (Lose node) Done = ⊤
+SaysSo (Tick seconds) Done = ⊤
 SaysSo step said = ⊥
 
 -- A node of the plan goes down that was up, or it was to start.
@@ -166,6 +168,7 @@ pub record StepDid {D : Type 0} (on : View D) (result : Result Said StepFault) (
   pub kind : IfOk result (SaysSo step)
   pub falls : FallsSo result old.plan.nodes step (life_in old)
   pub lives : (n : ℕ) → life_in new n ≡ life_after_step result step n (life_in old n)
+  pub clock : new.seconds ≡ seconds_after_step step result old.seconds
   pub told : AreToldAlike on.seen old new
   pub quiet : IsQuiet on.faults old new
   pub lighter : IsLighter result step old new

@@ -9,7 +9,7 @@ use Rattle.cluster_world.specs.Telling.{standing_on}
 use Rattle.cluster_world.specs.Worlds.{WorldState, life_in}
 use Rattle.cluster_world.specs.Turns.{node_refusal}
 use Rattle.cluster_world.specs.declared.step.Step.{Step}
-use Rattle.cluster_world.specs.declared.step.Step.TheVariants.{Ask, GiveUp, Drop, Crash, Lose}
+use Rattle.cluster_world.specs.declared.step.Step.TheVariants.{Ask, GiveUp, Drop, Crash, Lose, Tick}
 use Rattle.cluster_world.specs.declared.step.Said.{Said}
 use Rattle.cluster_world.specs.declared.fault.StepFault.{StepFault}
 use Rattle.cluster_world.specs.declared.fault.StepFault.TheVariants.{NoSuchLetter, Worn, NoMemory}
@@ -26,11 +26,12 @@ drop_refusal number flying = refusal_to_drop flying.sent (letter_at number flyin
 abbrev pub is_done_in : {D : Type 0} → WorldState D → Number → Bool
 is_done_in state number = done_at state.plan.confirm (standing_on (of_node state.lives number.node) number)
 
--- A node that is to stop, or to be lost, is refused only for the sake of a node, and a letter is dropped unless it is refused for its own: these steps need no memory. Nor does a
--- GiveUp, and an Ask needs it only to end a call that is done.
+-- The clock is always set. A node that is to stop, or to be lost, is refused only for the sake of a node, and a letter is dropped unless it is refused for its own: these steps need
+-- no memory. Nor does a GiveUp, and an Ask needs it only to end a call that is done.
 abbrev pub IsSurelyDone : {D : Type 0} → WorldState D → Step → Result Said StepFault → Type 0
 IsSurelyDone state (Crash node) (Err why) = node_refusal state.plan (life_in state) (Crash node) ≡ Some why
 IsSurelyDone state (Lose node) (Err why) = node_refusal state.plan (life_in state) (Lose node) ≡ Some why
+IsSurelyDone state (Tick seconds) (Err why) = ⊥
 IsSurelyDone state (Drop letter) (Err why) = drop_refusal letter state.flying ≡ Some why
 IsSurelyDone state (GiveUp ticket) (Err (NoMemory down)) = ⊥
 IsSurelyDone state (Ask ticket) (Err (NoMemory down)) = (down ≡ None) × (is_done_in state ticket ≡ true)

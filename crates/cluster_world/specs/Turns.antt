@@ -6,7 +6,7 @@ use Rattle.cluster_model.specs.Steps.{nodes_named, actor_of, is_node}
 use Rattle.session_model.specs.Events.{NodeLife, NodeLife as life, turned}
 use Rattle.cluster_world.specs.Seen.{step_seen}
 use Rattle.cluster_world.specs.declared.step.Step.{Step}
-use Rattle.cluster_world.specs.declared.step.Step.TheVariants.{Begin, Crash, Start, Lose}
+use Rattle.cluster_world.specs.declared.step.Step.TheVariants.{Begin, Crash, Start, Lose, Tick}
 use Rattle.cluster_world.specs.declared.step.Said.{Said}
 use Rattle.cluster_world.specs.declared.step.Said.TheVariants.{NodeUp, Done, Faulted}
 use Rattle.cluster_world.specs.declared.fault.StepFault.{StepFault}
@@ -59,3 +59,9 @@ life_after_step (Ok Done) (Lose node) n was = turned node life.Lost n was
 life_after_step (Ok (Faulted node)) step n was = turned node life.Down n was
 life_after_step (Err (fault.NoMemory (Some node))) step n was = turned node life.Down n was
 life_after_step result step n was = was
+
+-- and what it makes of the seconds of the clock
+abbrev pub seconds_after_step : Step → Result Said StepFault → ℕ → ℕ
+seconds_after_step (Tick seconds) (Ok said) was = seconds
+seconds_after_step (Tick seconds) (Err why) was = was
+seconds_after_step step result was = was

@@ -5,7 +5,7 @@
 //! A `World` is all that a cluster holds: the nodes of a plan, each with its disk, the letters in flight, and a `Book` of what
 //! was acknowledged. `open` makes one over empty disks, one for each node, in order. `step` makes one step, `run` several, and
 //! `flow` posts letters until none is in flight. `close` hands the disks back. `plan`, `book`, `is_up`, `is_lost`, `boot`,
-//! `members`, `kind`, `filing`, `flying` and `seconds` tell what the world has, take no memory, and change nothing.
+//! `members`, `kind`, `filing`, `flying`, `seconds` and `sum` tell what the world has, take no memory, and change nothing.
 //!
 //! DESCRIPTION
 //!
@@ -23,6 +23,7 @@
 //! | `Crash` | a node stops; what is on its disk stays |
 //! | `Start` | a node that is down starts over its disk, in its next boot |
 //! | `Lose` | a node loses its disk for good |
+//! | `Tick` | the clock is set, forward or back; a message has the seconds of the clock as its call begins |
 //!
 //! A letter gets the next number as it is sent, from 1. At most 65,536 letters are in flight, of 536,870,912 octets together,
 //! where a letter counts for 64 octets and those of the message that it carries. One that finds no room is not sent: that is a
@@ -71,7 +72,8 @@
 //! The costs on a disk are those of the node's calls in `node_core`; a step touches the disk of one node at most. A letter is
 //! found by its number in a time that grows with the logarithm of how many are in flight, and one that leaves from the middle
 //! moves those on its shorter side. Room in the book is made before the entries that need it, for all nodes that may still go
-//! down or be lost, so `Crash`, `Lose` and `Drop` take no memory.
+//! down or be lost, so `Crash`, `Lose` and `Drop` take no memory; nor does
+//! `Tick`.
 //!
 //! STANDS ON
 //!
@@ -81,8 +83,8 @@
 //!
 //! WHAT IT DOES NOT DO
 //!
-//! It knows no time: the seconds of a world are 0 so far. It sends nothing by itself, tries nothing again, and starts no node
-//! that is down. All nodes of the plan are the members, in the one epoch of a plan. In a plan of several nodes the calls of a
+//! Its clock stands still between two ticks, and shows 0 before the first. It sends nothing by itself, tries nothing again, and
+//! starts no node that is down. All nodes of the plan are the members, in the one epoch of a plan. In a plan of several nodes the calls of a
 //! POP3 session are not begun yet.
 #![tactic(auto)]
 
@@ -101,6 +103,7 @@ mod running;
 mod sending;
 mod step;
 mod steps;
+mod sum;
 mod telling;
 mod working;
 mod world;
@@ -108,4 +111,5 @@ mod world;
 pub use fault::{OpenFault, StepFault};
 pub use laws::{later_after, makes_more, none_pending, plan_stays, steps_are_counted, world_owes};
 pub use step::{Said, Step};
+pub use sum::BookSum;
 pub use world::World;

@@ -40,7 +40,7 @@ fn actor(step: &Step) -> Option<NodeNo>
         | Step::Start { node }
         | Step::Lose { node } => Some(*node),
         Step::Ask { ticket } | Step::GiveUp { ticket } => Some(ticket.node),
-        Step::Post { .. } | Step::Drop { .. } => None,
+        Step::Post { .. } | Step::Drop { .. } | Step::Tick { .. } => None,
         Step::Push { from, .. } => Some(*from),
         Step::Widen { at, .. } => Some(*at),
     }
@@ -62,7 +62,7 @@ impl<D> Nodes<D> {
             | Step::Start { node }
             | Step::Lose { node } => self.has(*node),
             Step::Ask { ticket } | Step::GiveUp { ticket } => self.has(ticket.node),
-            Step::Post { .. } | Step::Drop { .. } => true,
+            Step::Post { .. } | Step::Drop { .. } | Step::Tick { .. } => true,
             Step::Push { from, to } => self.has(*from) && self.has(*to),
             Step::Widen { at, to, .. } => self.has(*at) && self.has(*to),
         }

@@ -68,6 +68,11 @@ pub enum Step {
         /// The node.
         node: NodeNo,
     },
+    /// The clock is set, forward or back.
+    Tick {
+        /// The seconds since 1970 that it shows from then on.
+        seconds: u64,
+    },
 }
 
 /// The answer of a step that was made.

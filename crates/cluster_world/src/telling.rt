@@ -1,19 +1,22 @@
 //! What a world tells of its letters, its calls and its members.
 ghost use Rattle.std.specs.Prelude.{◌≡◌, ◌≤◌, Some, if◌then◌else◌};
 ghost use Rattle.std.specs.Option.{option_copied};
+ghost use Rattle.session_model.specs.Sums.{sum_of};
 ghost use Rattle.object_model.specs.Sets.{all_nodes};
 ghost use Rattle.node_core.specs.Nodes.{IsWhole};
 ghost use Rattle.node_core.specs.declared.node.Node.{Node as ANode};
 ghost use Rattle.node_tickets.specs.Standing.{call_kind_seen, kind_of_ticket, filed_seen, filing_at};
 ghost use Rattle.cluster_world.specs.Flights.{first_number};
 ghost use Rattle.cluster_world.specs.Lives.{is_up_life};
-ghost use Rattle.cluster_world.specs.Worlds.{state_of, plan_of, life_of, CanMakeSteps};
+ghost use Rattle.cluster_world.specs.Sums.{sum_seen};
+ghost use Rattle.cluster_world.specs.Worlds.{state_of, plan_of, life_of, book_of, CanMakeSteps};
 ghost use Rattle.cluster_world.specs.Telling.{standing_on, standing_in};
 ghost use Rattle.cluster_world.specs.declared.life.Life.TheVariants as lives;
 
 use crate::life::Life;
 use crate::nodes::numbered;
 use crate::steps::ask::{node_of, ticket_of};
+use crate::sum::{BookSum, sum};
 use crate::world::World;
 use io_edge::Disk;
 use mail_base::{CallKind, Filing, NodeNo, NodeSet, Ticket};
@@ -61,7 +64,7 @@ impl<D: Disk> World<D> {
         self.flying.first()
     }
 
-    /// The seconds since 1970. They are 0 so far.
+    /// The seconds since 1970 that the clock shows: those of the last tick, and 0 before the first. It takes no memory.
     pub fn seconds(&self) -> u64
         ensures { result ≡ (state_of self.now).seconds }
     {
@@ -77,6 +80,13 @@ impl<D: Disk> World<D> {
         } else {
             NodeSet::empty()
         }
+    }
+
+    /// How many entries of each kind the book has. It takes no memory.
+    pub fn sum(&self) -> BookSum
+        ensures { sum_seen result ≡ sum_of (book_of self.now) }
+    {
+        sum(self.book.entries())
     }
 
     /// The kind of the call for which the ticket stands; none exactly where it stands at no node that is up. It takes no memory.

@@ -175,6 +175,10 @@ impl<D: Disk> World<D> {
                 *id,
                 *to,
             ),
+            Step::Tick { seconds } => {
+                self.seconds = *seconds;
+                Ok(Said::Done)
+            }
             // `make_fit` takes the beginning of a call.
             Step::Begin { .. } => unreachable!(),
         }

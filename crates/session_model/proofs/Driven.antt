@@ -18,6 +18,7 @@ use Rattle.session_model.specs.Acts.{Act, Acted, ActedAll, AreActsOf, greeting_o
 use Rattle.session_model.specs.Acts.Act.{Does, Faults, StillWaits, Leaves}
 use Rattle.session_model.specs.Acts.Deed.{Hears, IsAnswered, Falls, Closes}
 use Rattle.session_model.specs.Logs.{IsLogged, asked_by, answered_by, asked_in, answered_in}
+use Rattle.session_model.specs.Clocks.{seconds_after}
 use Rattle.session_model.specs.Turns.{Turn, Next, ActsGo, Starts}
 use Rattle.session_model.specs.Turns.Turn.{Hearing, Beginning, Closing, Falling, Asking}
 use Rattle.session_model.specs.Run.{Stop, Made, MayMiss, FirstStep, IsTried, IsBegun, AreHandled, IsLeftOff, IsDriven, IsCutShort}
@@ -87,7 +88,7 @@ greets Pop node boot number seconds = refl
 
 starts_of : (plan : Plan) (been : List Act) (order : Order) (sessions : List Session) (act : Act) (turn : Turn) → Starts plan been order sessions act turn → IsOfOrder order act
 starts_of plan been (Open protocol node) sessions act turn (boot, up, is, next) =
-    is_of (Open protocol node) act _ is (record { opens = refl; feeds = λ j. refl; greeted = greets protocol node boot (length sessions + 1) 0 })
+    is_of (Open protocol node) act _ is (record { opens = refl; feeds = λ j. refl; greeted = greets protocol node boot (length sessions + 1) (seconds_after been) })
 starts_of plan been (Say k text) sessions act turn (is, next) = is_of (Say k text) act _ is (record { opens = refl; feeds = λ j. refl; greeted = tt })
 starts_of plan been (Feed k octets) sessions act turn (is, next) = is_of (Feed k octets) act _ is (record { opens = refl; feeds = λ j. refl; greeted = tt })
 starts_of plan been (Close k) sessions act turn starts = ⊎_elim

@@ -32,7 +32,7 @@ use Rattle.session_model.specs.Runs.{Shows}
 use Rattle.session_model.specs.Promises.{Deletes, IsTold}
 use Rattle.session_model.specs.Copies.{EachStands}
 use Rattle.session_model.specs.Facts.{DroppedAreTrue}
-use Rattle.session_model.specs.Books.{Among, AreBegun, IsBookOf, AcknowledgedStand, MayBeUnwritten, StruckAsMarked}
+use Rattle.session_model.specs.Books.{Among, AreBegun, IsBookOf, AcknowledgedStand, AtMostOne, MayBeUnwritten, StruckAsMarked, untimed}
 use Rattle.session_model.specs.Owes.{OwesDeletions}
 use Rattle.session_model.specs.Kept.{OwedIsKept, IsEnding}
 use Rattle.session_model.proofs.Acts.{kind_of}
@@ -169,6 +169,58 @@ stand_front plan lines disks [] more confirmers stand = tt
 stand_front plan lines disks (ack ∷ acks) more [] stand = absurd stand
 stand_front plan lines disks (ack ∷ acks) more (nodes ∷ confirmers) stand = (stand.0, stand_front plan lines disks acks more confirmers stand.1)
 
+-- messages and their sessions are the same without seconds
+sessions_untimed : (acks : List Ack) → map (λ (ack : Ack). ack.session) acks ≡ map (λ (ack : Ack). ack.session) (map untimed acks)
+sessions_untimed [] = refl
+sessions_untimed (ack ∷ acks) = ap (λ (l : List ℕ). ack.session ∷ l) (sessions_untimed acks)
+
+mails_untimed : (k : ℕ) (acks : List Ack) → mails_in k acks ≡ mails_in k (map untimed acks)
+mails_untimed k [] = refl
+mails_untimed k (ack ∷ acks) = by_test (nat_eq ack.session k) (mails_untimed k acks)
+  where
+    by_test : (b : Bool) → mails_in k acks ≡ mails_in k (map untimed acks)
+        → (if b then ack.mail ∷ mails_in k acks else mails_in k acks) ≡ (if b then ack.mail ∷ mails_in k (map untimed acks) else mails_in k (map untimed acks))
+    by_test true same = ap (λ (l : List Mail). ack.mail ∷ l) same
+    by_test false same = same
+
+none_untimed : (acks : List Ack) → map untimed acks ≡ [] → acks ≡ []
+none_untimed [] is = refl
+none_untimed (ack ∷ acks) is = absurd (cc is)
+
+one_untimed : (acks : List Ack) (one : Ack) → map untimed acks ≡ one ∷ [] → AtMostOne acks
+one_untimed [] one is = inl refl
+one_untimed (ack ∷ []) one is = inr (ack, refl)
+one_untimed (ack ∷ other ∷ acks) one is = absurd (cc is)
+
+few_untimed : (acks : List Ack) → AtMostOne (map untimed acks) → AtMostOne acks
+few_untimed acks few = ⊎_elim (λ none. inl (none_untimed acks none)) (λ (one, is). one_untimed acks one is) few
+
+may_untimed : (stop : Stop) (acks : List Ack) → MayBeUnwritten stop (map untimed acks) → MayBeUnwritten stop acks
+may_untimed BehindLine acks may = none_untimed acks may
+may_untimed Denied acks may = none_untimed acks may
+may_untimed SinkFailed acks may = few_untimed acks may
+may_untimed OutOfMemory acks may = few_untimed acks may
+
+-- messages with their seconds, parted as those without are
+record IsTimed (acks first last : List Ack) : Type 0 where
+  front : List Ack
+  rest : List Ack
+  are : acks ≡ front ++ rest
+  front_is : map untimed front ≡ first
+  rest_is : map untimed rest ≡ last
+
+timed_as : (acks first last : List Ack) → map untimed acks ≡ first ++ last → IsTimed acks first last
+timed_as acks [] last same = record { front = []; rest = acks; are = refl; front_is = refl; rest_is = same }
+timed_as [] (one ∷ first) last same = absurd (cc same)
+timed_as (ack ∷ acks) (one ∷ first) last same =
+    let later = timed_as acks first last (let s : map untimed acks ≡ first ++ last = cc same in s) in record {
+      front = ack ∷ later.front;
+      rest = later.rest;
+      are = ap (λ (l : List Ack). ack ∷ l) later.are;
+      front_is = ap₂ ◌∷◌ (let s : untimed ack ≡ one = cc same in s) later.front_is;
+      rest_is = later.rest_is;
+    }
+
 module _ (plan : Plan) (lines : List (List ℕ)) (entries : List Entry) (acts : List Act) (sessions : List Session) (shows : Shows plan lines entries acts sessions) where
   -- the messages of a session
   of_session : (k : ℕ) (session : Session) → session_at sessions k ≡ Some session → mails_in k (acks_in acts) ≡ mails (filings (exchanges_of session))
@@ -204,10 +256,10 @@ module _ (plan : Plan) (lines : List (List ℕ)) (entries : List Entry) (acts : 
       front = same_front (mails_in k acked.acks) (mails_in k unwritten) (mails (filings session.whole)) (mails (filings session.others)) whole long
 
   -- The book has the deletions that clients marked.
-  struck : (stop : Stop) (disks : List (List Record)) (begun : List Asked) (book : List BookEntry) (confirmers : List (List ℕ)) (facts : DroppedAreTrue plan disks sessions)
-      → AreBegun stop (flat_map asked_by acts) begun → IsBookOf lines begun (flat_map answered_by acts) confirmers book
+  struck : (stop : Stop) (disks : List (List Record)) (begun : List Asked) (book : List BookEntry) (stored : List Ack) (confirmers : List (List ℕ)) (facts : DroppedAreTrue plan disks sessions)
+      → AreBegun stop (flat_map asked_by acts) begun → IsBookOf lines begun (flat_map answered_by acts) stored confirmers book
       → StruckAsMarked stop entries sessions (flat_map asked_by acts) begun (flat_map answered_by acts) book
-  struck stop disks begun book confirmers facts were is_book = record {
+  struck stop disks begun book stored confirmers facts were is_book = record {
     were = were;
     struck = is_book.struck;
     marked = λ k user ids among.
@@ -266,16 +318,21 @@ pub owed_is_kept : OwedIsKept
 owed_is_kept plan tells stop handled left acts others made entries ending last stores disks filed begun book driven ends were owes = record {
   holds = owes.holds;
   sessions = sessions;
-  acks = acked.acks;
-  unwritten = all.0;
+  acks = timed.front;
+  unwritten = timed.rest;
   confirmers = owes.confirmers;
   clients = record {
     are = shows.are;
     stored_stands = record {
-      lines_of = acked.lines_of;
-      told = told_of plan lines (entries ++ ending) done sessions shows all.0 acked;
-      other_ids = ids_front acked.acks all.0 (subst HaveOtherIds (sym acked.are) owes.stored.other_ids);
-      stands = stand_front plan lines disks acked.acks all.0 owes.confirmers (subst (λ (a : List Ack). EachStands plan lines disks a owes.confirmers) (sym acked.are) owes.stored.stand);
+      lines_of = sessions_untimed timed.front ∙ ap (map (λ (ack : Ack). ack.session)) timed.front_is ∙ acked.lines_of;
+      told = λ k session at smtp. let one = told_of plan lines (entries ++ ending) done sessions shows all.0 acked k session at smtp in record {
+        in_text = one.in_text;
+        rest = one.rest;
+        units = one.units;
+        messages = mails_untimed k timed.front ∙ ap (mails_in k) timed.front_is ∙ one.messages;
+      };
+      other_ids = ids_front timed.front timed.rest (subst HaveOtherIds timed.are owes.stored.other_ids);
+      stands = stand_front plan lines disks timed.front timed.rest owes.confirmers (subst (λ (a : List Ack). EachStands plan lines disks a owes.confirmers) timed.are owes.stored.stand);
     };
     deleted_by_quit = true_answers_delete plan lines (entries ++ ending) disks sessions shows.are facts;
     shown_as_filed = λ told. true_answers_show plan lines (entries ++ ending) filed sessions shows.are
@@ -286,13 +343,13 @@ owed_is_kept plan tells stop handled left acts others made entries ending last s
   answered = answered;
   logged = shows.logged;
   acknowledged_as_told = record {
-    may = all.1;
-    copies = subst (λ (a : List Ack). AreCopies lines a (map mask_of owes.confirmers) (acked_in book)) (sym acked.are) owes.books.is_book.acked;
-    other_ids = subst HaveOtherIds (sym acked.are) owes.stored.other_ids;
-    of_sessions = λ k session at. ap (mails_in k) acked.are ∙ of_session plan lines (entries ++ ending) done sessions shows k session at;
+    may = may_untimed stop timed.rest (subst (MayBeUnwritten stop) (sym timed.rest_is) all.1);
+    copies = subst (λ (a : List Ack). AreCopies lines a (map mask_of owes.confirmers) (acked_in book)) timed.are owes.books.is_book.acked;
+    other_ids = subst HaveOtherIds timed.are owes.stored.other_ids;
+    of_sessions = λ k session at. ap (mails_in k) (sym timed.are) ∙ mails_untimed k owes.acks ∙ ap (mails_in k) owes.stored.are ∙ of_session plan lines (entries ++ ending) done sessions shows k session at;
   };
-  struck_as_marked = struck plan lines (entries ++ ending) done sessions shows stop disks begun book owes.confirmers facts were owes.books.is_book;
-  acknowledged_stand = subst (λ (a : List Ack). AcknowledgedStand plan disks book a owes.confirmers) (sym acked.are) owes.books.stand;
+  struck_as_marked = struck plan lines (entries ++ ending) done sessions shows stop disks begun book owes.acks owes.confirmers facts were owes.books.is_book;
+  acknowledged_stand = subst (λ (a : List Ack). AcknowledgedStand plan disks book a owes.confirmers) timed.are owes.books.stand;
   dropped_are_gone = owes.books.dropped;
 }
   where
@@ -334,6 +391,10 @@ owed_is_kept plan tells stop handled left acts others made entries ending last s
       greeted = λ k. subst Greeted (sym (shown.lines_both k entries ending ∙ ap (λ (l : List (List ℕ)). lines_to k entries ++ l) (ending_silent k ending ends) ∙ append-nil (lines_to k entries)))
           (all.2.greeted k);
     }
+
+    -- those whose line was written, and the one whose line was not, each with its seconds
+    timed : IsTimed owes.acks acked.acks all.0
+    timed = timed_as owes.acks acked.acks all.0 (owes.stored.are ∙ sym acked.are)
 
     -- what is owed of what was begun is owed of what was asked
     owed : OwesDeletions plan disks (flat_map asked_by done) (flat_map answered_by done)

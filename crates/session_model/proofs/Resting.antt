@@ -21,6 +21,7 @@ use Rattle.session_model.specs.Sessions.{Session, IsSession, session_at, exchang
 use Rattle.session_model.specs.Acts.{Act, Deed, Acted, replace, greeting_of, opened_session, fed_by_act}
 use Rattle.session_model.specs.Acts.Act.{Opens, Does, Faults, StillWaits, Leaves, Makes, Abandons}
 use Rattle.session_model.specs.Acts.Deed.{IsFed, Hears, IsAnswered, IsGivenUp, Falls, Closes}
+use Rattle.session_model.specs.Clocks.{seconds_after}
 use Rattle.session_model.specs.Turns.{Turn, Next, ActsGo, Starts, IsReadyToAsk, IsAtRest, turn_after_unit, to_leave}
 use Rattle.session_model.specs.Turns.Turn.{Hearing, Beginning, Closing, Falling, Asking}
 use Rattle.session_model.specs.Run.{Stop, Made, MayMiss, IsCutShort, IsHandled, AreHandled, IsLeftOff}
@@ -144,7 +145,7 @@ module _ (plan : Plan) (old new : List Session) where
       (λ other. inl (subst IsAtRest (sym (ap (λ (l : List Session). session_at l j) opened.1 ∙ pushed_other old (opened_session protocol node) j other)) (rest j)))
       (cases_eq j (length old + 1))
     where
-      opened : Acted plan old (Opens protocol node (greeting_of protocol node boot (length old + 1) 0)) entries new
+      opened : Acted plan old (Opens protocol node (greeting_of protocol node boot (length old + 1) (seconds_after been))) entries new
       opened = subst (λ (a : Act). Acted plan old a entries new) is_act acted
   starts_rest been (Say k text) act turn entries (is_act, is_turn) acted rest =
       deed_rest k (IsFed (sent_line text)) entries turn (subst (λ (a : Act). Acted plan old a entries new) is_act acted) is_turn rest

@@ -10,7 +10,7 @@ use Rattle.mail_model.specs.Lines.{sent_line}
 use Rattle.mail_model.specs.Transcript.{Entry}
 use Rattle.mail_model.proofs.Sessions.{by_number}
 use Rattle.session_model.specs.Events.{ClusterEvent, NodeLife, IsUp, turned, life_by_event}
-use Rattle.session_model.specs.Events.ClusterEvent.{WentDown, CameUp, WasLost, WasHeard, WasThrown, WasDropped, HasFlowed, HasSent, HasWidened, HasFaulted}
+use Rattle.session_model.specs.Events.ClusterEvent.{WentDown, CameUp, WasLost, WasHeard, WasThrown, WasDropped, HasFlowed, HasSent, HasWidened, HasTicked, HasSummed, HasFaulted}
 use Rattle.session_model.specs.Events.NodeLife.{Up, Down, Lost}
 use Rattle.session_model.specs.Talk.{IsOn}
 use Rattle.session_model.specs.Sessions.{Session, session_at}
@@ -18,6 +18,7 @@ use Rattle.session_model.specs.Acts.{Act, Deed, Acted, Did, replace, opened_sess
 use Rattle.session_model.specs.Acts.Act.{Opens, Does, Faults, StillWaits, Leaves, Makes, Abandons}
 use Rattle.session_model.specs.Acts.Deed.{IsFed, Hears, IsAnswered, IsGivenUp, Falls, Closes}
 use Rattle.session_model.specs.Lives.{life_by, life_from, life_after}
+use Rattle.session_model.specs.Clocks.{seconds_after}
 use Rattle.session_model.specs.Turns.{Turn, Next, ActsGo, Starts, IsReadyToAsk, IsFirst, StandsAt, turn_after_event}
 use Rattle.session_model.specs.Turns.Turn.{Hearing, Beginning, Closing, Falling, Asking}
 use Rattle.session_model.specs.Run.{Stop, Made, IsCutShort, IsHandled, AreHandled, IsLeftOff}
@@ -168,6 +169,8 @@ event_stands lives sessions (WasDropped letter) stand = λ j session at on. inl 
 event_stands lives sessions HasFlowed stand = λ j session at on. inl (stand j session at on)
 event_stands lives sessions (HasSent count) stand = λ j session at on. inl (stand j session at on)
 event_stands lives sessions (HasWidened did) stand = λ j session at on. inl (stand j session at on)
+event_stands lives sessions HasTicked stand = λ j session at on. inl (stand j session at on)
+event_stands lives sessions (HasSummed sum) stand = λ j session at on. inl (stand j session at on)
 
 -- the first act of a line, where it is this one
 first_stands : (lives : ℕ → NodeLife) (act other : Act) (turn : Turn) (sessions : List Session) → act ≡ other → StandUp (λ n. life_by other n (lives n)) turn sessions
@@ -184,7 +187,7 @@ module _ (plan : Plan) (been : List Act) (old new : List Session) (stand : AllUp
       → StandUp (λ n. life_by act n (life_after been n)) turn new
   starts_stands (Open protocol node) act turn entries (boot, up, is, later) acted = first_stands (life_after been) act _ turn new is (up_stands (life_after been) turn new opened)
     where
-      opens : Acted plan old (Opens protocol node (greeting_of protocol node boot (length old + 1) 0)) entries new
+      opens : Acted plan old (Opens protocol node (greeting_of protocol node boot (length old + 1) (seconds_after been))) entries new
       opens = subst (λ (a : Act). Acted plan old a entries new) is acted
 
       opened : AllUp (life_after been) new

@@ -11,8 +11,9 @@ use Rattle.mail_model.specs.Transcript.Why.{WhileDown, Stale, Old, NotPromised, 
 use Rattle.mail_model.proofs.OneLine.{IsNoLf, by_test, decimal_no_lf, said_line, event_line, closed_line}
 use Rattle.session_model.specs.Sessions.{Session}
 use Rattle.session_model.specs.Acts.{Act, Acted, ActedAll, closing}
-use Rattle.session_model.specs.Events.{ClusterEvent, event_entries, fault_event}
-use Rattle.session_model.specs.Events.ClusterEvent.{WentDown, CameUp, WasLost, WasHeard, WasThrown, WasDropped, HasFlowed, HasSent, HasWidened, HasFaulted}
+use Rattle.session_model.specs.Sums.{BookSum}
+use Rattle.session_model.specs.Events.{ClusterEvent, event_entries, fault_event, sum_text}
+use Rattle.session_model.specs.Events.ClusterEvent.{WentDown, CameUp, WasLost, WasHeard, WasThrown, WasDropped, HasFlowed, HasSent, HasWidened, HasTicked, HasSummed, HasFaulted}
 use Rattle.session_model.specs.Acts.Act.{Opens, Does, Faults, StillWaits, Leaves, Makes, Abandons}
 use Rattle.session_model.specs.Run.{Stop}
 use Rattle.session_model.specs.Run.Stop.{BehindLine, Denied, SinkFailed, OutOfMemory}
@@ -62,6 +63,17 @@ of_node n word has = All-append IsNoLf (codes "node " ++ decimal n) word (before
 faulted : (node : ℕ) → AreLines (fault_event node ∷ [])
 faulted node = event_of (codes "fault " ++ decimal node) (before_number (codes "fault ") node (by_test (codes "fault ") refl))
 
+-- a word and a number more
+more_number : (front word : List ℕ) (n : ℕ) → HasNoLf front → HasNoLf word → HasNoLf (front ++ word ++ decimal n)
+more_number front word n has of_word = All-append IsNoLf (front ++ word) (decimal n) (All-append IsNoLf front word has of_word) (decimal_no_lf n)
+
+sum_line : (sum : BookSum) → HasNoLf (sum_text sum)
+sum_line sum =
+    more_number (codes "sum acked " ++ decimal sum.acked ++ codes " struck " ++ decimal sum.struck ++ codes " dropped " ++ decimal sum.dropped) (codes " lost ") sum.lost
+    (more_number (codes "sum acked " ++ decimal sum.acked ++ codes " struck " ++ decimal sum.struck) (codes " dropped ") sum.dropped
+    (more_number (codes "sum acked " ++ decimal sum.acked) (codes " struck ") sum.struck (before_number (codes "sum acked ") sum.acked (by_test (codes "sum acked ") refl))
+    (by_test (codes " struck ") refl)) (by_test (codes " dropped ") refl)) (by_test (codes " lost ") refl)
+
 words : (why : Why) → HasNoLf (why_word why)
 words WhileDown = by_test (codes "down") refl
 words Stale = by_test (codes "stale") refl
@@ -82,6 +94,8 @@ event_lines HasFlowed = event_of (codes "flowed") (by_test (codes "flowed") refl
 event_lines (HasSent count) = event_of _ (before_number (codes "sent ") count (by_test (codes "sent ") refl))
 event_lines (HasWidened true) = event_of (codes "widened") (by_test (codes "widened") refl)
 event_lines (HasWidened false) = event_of (codes "not widened") (by_test (codes "not widened") refl)
+event_lines HasTicked = no_lines
+event_lines (HasSummed sum) = event_of (sum_text sum) (sum_line sum)
 event_lines (HasFaulted node) = faulted node
 
 -- one act

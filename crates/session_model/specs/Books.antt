@@ -36,16 +36,24 @@ abbrev pub dropped_by : Call → Answer → List (List ℕ × Id)
 dropped_by (Strike user ids) Dropped = map (λ id. (user, id)) ids
 dropped_by call answer = []
 
--- the message that an answer acknowledges
+-- the message that an answer acknowledges, but for its seconds, of which an answer says nothing
 abbrev pub acks_by : Answered → List Ack
 acks_by one = map (ack_of one.session) (filing_of (Some one.call) (Some one.answer))
 
--- What a cluster owes of its book: its entries are those of the calls that it began and that it answered, in their order, and no others. These nodes confirmed each
--- message.
-pub record IsBookOf (lines : List (List ℕ)) (begun : List Asked) (answered : List Answered) (confirmers : List (List ℕ)) (book : List BookEntry) : Type 0 where
+-- a message without its seconds
+abbrev pub untimed : Ack → Ack
+untimed ack = record ack { seconds = 0 }
+
+-- these are the messages that the answers acknowledge, in their order, each with its seconds
+abbrev pub AreAcksOf : List Answered → List Ack → Type 0
+AreAcksOf answered acks = map untimed acks ≡ flat_map acks_by answered
+
+-- What a cluster owes of its book: its entries are those of the calls that it began and that it answered, in their order, and no others. These are the messages that
+-- were acknowledged, and the nodes that confirmed each.
+pub record IsBookOf (lines : List (List ℕ)) (begun : List Asked) (answered : List Answered) (acks : List Ack) (confirmers : List (List ℕ)) (book : List BookEntry) : Type 0 where
   pub struck : struck_in book ≡ flat_map (λ one. struck_by one.call) begun
   pub dropped : dropped_in book ≡ flat_map (λ one. dropped_by one.call one.answer) answered
-  pub acked : AreCopies lines (flat_map acks_by answered) (map mask_of confirmers) (acked_in book)
+  pub acked : AreCopies lines acks (map mask_of confirmers) (acked_in book)
 
 -- The user's copy of a message is here with the octets that were told; or it is gone, and the book has it among those that were to be deleted.
 abbrev pub IsAsBooked : List BookEntry → Ack → List ℕ → List Record → Type 0

@@ -8,7 +8,7 @@ use Rattle.mail_model.specs.Mail.{IsStored}
 use Rattle.mail_model.specs.Record.{Record, IsAmongRecords, IsJournal, payloads_of, SaysHere, SaysGone, HoldsOctets}
 use Rattle.mail_model.specs.Record.Record.{Octets}
 use Rattle.mail_model.specs.Grammar.{IsRecord}
-use Rattle.mail_model.specs.Stored.{Ack, AreRising, opened, kind_at, clock_of}
+use Rattle.mail_model.specs.Stored.{Ack, AreRising, opened, kind_at, IsOnClock}
 use Rattle.mail_model.specs.Book.{BookEntry}
 use Rattle.mail_model.specs.Book.BookEntry.{Dropped}
 use Rattle.mail_model.specs.Deleted.{mask_of}
@@ -40,10 +40,10 @@ KeepsCopy ack user records =
     (SaysHere (Message user ack.id) records × ((octets : List ℕ) × IsStored ack.mail ack.id ack.seconds octets × HoldsOctets ack.id octets records))
     ⊎ SaysGone (Message user ack.id) records
 
--- A message that was acknowledged, under an id of the node of its session and with the seconds of the clock: on each of these nodes the copy of each of its users is so.
+-- A message that was acknowledged, under an id of the node of its session and with seconds of the clock: on each of these nodes the copy of each of its users is so.
 pub record Stands (plan : Plan) (lines : List (List ℕ)) (disks : List (List Record)) (ack : Ack) (nodes : List ℕ) : Type 0 where
   pub at_node : kind_at (opened lines) ack.session ≡ Some (Smtp, ack.id.node)
-  pub at_clock : ack.seconds ≡ clock_of lines
+  pub at_clock : IsOnClock lines ack.seconds
   pub copies : All (λ user. OnEnough plan disks (KeepsCopy ack user) nodes) ack.mail.mailboxes
 
 -- each message stands so, on the nodes that confirmed it

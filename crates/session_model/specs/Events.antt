@@ -3,12 +3,13 @@ use Rattle.std.specs.Prelude.{◌≡◌, ℕ, ◌<◌, ◌≤◌, Bool, true, fa
 use Rattle.std.specs.Fmt.{decimal}
 use Rattle.mail_model.specs.Plan.{Plan}
 use Rattle.mail_model.specs.Tape.{ClusterOrder}
-use Rattle.mail_model.specs.Tape.ClusterOrder.{Crash, Start, Lose, Post, Again, Drop, Flow, Push, Widen}
+use Rattle.mail_model.specs.Tape.ClusterOrder.{Crash, Start, Lose, Post, Again, Drop, Flow, Push, Widen, Tick, Sum}
+use Rattle.session_model.specs.Sums.{BookSum}
 use Rattle.mail_model.specs.Transcript.{Entry, Why, why_word}
 use Rattle.mail_model.specs.Transcript.Entry.{Event}
 
 -- A node went down, came up in this boot, or is lost for good; a letter was heard, thrown, or dropped; all letters were posted; a node sent so many letters; a
--- copy got a target more, or did not; or the disk of a node failed.
+-- copy got a target more, or did not; the clock was set; the entries of the book were counted; or the disk of a node failed.
 pub data ClusterEvent : Type 0 where
   WentDown : (node : ℕ) → ClusterEvent
   CameUp : (node boot : ℕ) → ClusterEvent
@@ -19,6 +20,8 @@ pub data ClusterEvent : Type 0 where
   HasFlowed : ClusterEvent
   HasSent : (count : ℕ) → ClusterEvent
   HasWidened : (did : Bool) → ClusterEvent
+  HasTicked : ClusterEvent
+  HasSummed : (sum : BookSum) → ClusterEvent
   HasFaulted : (node : ℕ) → ClusterEvent
 
 -- that the disk of a node failed
@@ -34,6 +37,11 @@ abbrev pub widened_text : Bool → List ℕ
 widened_text true = codes "widened"
 widened_text false = codes "not widened"
 
+-- how many entries of the book there are
+abbrev pub sum_text : BookSum → List ℕ
+sum_text sum =
+    codes "sum acked " ++ decimal sum.acked ++ codes " struck " ++ decimal sum.struck ++ codes " dropped " ++ decimal sum.dropped ++ codes " lost " ++ decimal sum.lost
+
 -- the line that the transcript has for it
 abbrev pub event_entries : ClusterEvent → List Entry
 event_entries (WentDown node) = Event (codes "node " ++ decimal node ++ codes " down") ∷ []
@@ -45,6 +53,8 @@ event_entries (WasDropped letter) = []
 event_entries HasFlowed = Event (codes "flowed") ∷ []
 event_entries (HasSent count) = Event (codes "sent " ++ decimal count) ∷ []
 event_entries (HasWidened did) = Event (widened_text did) ∷ []
+event_entries HasTicked = []
+event_entries (HasSummed sum) = Event (sum_text sum) ∷ []
 event_entries (HasFaulted node) = fault_event node ∷ []
 
 -- How a node is: up in this boot, down, or lost for good.
@@ -102,4 +112,6 @@ IsEventOf plan lives (Push node) (HasSent count) = (IsUp (lives node) → ⊥) �
 IsEventOf plan lives (Push node) (HasFaulted n) = (n ≡ node) × IsUp (lives node)
 IsEventOf plan lives (Widen node user id to) (HasWidened did) = ⊤
 IsEventOf plan lives (Widen node user id to) (HasFaulted n) = n ≡ node
+IsEventOf plan lives (Tick seconds) HasTicked = ⊤
+IsEventOf plan lives Sum (HasSummed sum) = ⊤
 IsEventOf plan lives order event = ⊥

@@ -21,7 +21,7 @@ abbrev pub IsIn : Id → List Id → Type 0
 IsIn id [] = ⊥
 IsIn id (other ∷ ids) = (other ≡ id) ⊎ IsIn id ids
 
--- a message that was filed in session k
+-- a message that was filed in session k, but for its seconds
 abbrev pub ack_of : ℕ → StoredMail → Ack
 ack_of k filing = record { session = k; mail = filing.mail; id = filing.id; seconds = 0 }
 

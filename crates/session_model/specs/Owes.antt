@@ -7,7 +7,7 @@ use Rattle.mail_model.specs.Plan.{Plan}
 use Rattle.mail_model.specs.Transcript.{Entry}
 use Rattle.mail_model.specs.PopReplies.{Item}
 use Rattle.mail_model.specs.Record.{Record}
-use Rattle.mail_model.specs.Stored.{HaveOtherIds}
+use Rattle.mail_model.specs.Stored.{Ack, HaveOtherIds}
 use Rattle.mail_model.specs.Book.{BookEntry}
 use Rattle.mail_model.specs.Maildrop.{Given}
 use Rattle.session_model.specs.Calls.Call.{Login, Fetch, Strike}
@@ -17,7 +17,7 @@ use Rattle.session_model.specs.Sessions.{Session}
 use Rattle.session_model.specs.Facts.{IsIn, IsGoneIn, DroppedAreTrue, ListingsAreTrue, PartsAreTrue}
 use Rattle.session_model.specs.Acts.{Act}
 use Rattle.session_model.specs.Logs.{Asked, Answered, asked_by, answered_by}
-use Rattle.session_model.specs.Books.{Among, AmongAnswers, IsBookOf, AcknowledgedStand, acks_by}
+use Rattle.session_model.specs.Books.{Among, AmongAnswers, IsBookOf, AcknowledgedStand, AreAcksOf}
 use Rattle.session_model.specs.Runs.{Shows}
 
 -- what is gone was asked for, what was answered `Dropped` is gone, and a listing has each id once, and only ids that a journal can spell
@@ -31,9 +31,10 @@ pub record OwesDeletions (plan : Plan) (disks : List (List Record)) (begun : Lis
       → (i : ℕ) (item : Item) → slice_get items i ≡ Some item → IsId item.id
 
 -- each message that was answered `Stored` stands on the nodes that confirmed it, under an id of its own and of the node of its session
-pub record OwesStored (plan : Plan) (lines : List (List ℕ)) (disks : List (List Record)) (answered : List Answered) (confirmers : List (List ℕ)) : Type 0 where
-  pub stand : EachStands plan lines disks (flat_map acks_by answered) confirmers
-  pub other_ids : HaveOtherIds (flat_map acks_by answered)
+pub record OwesStored (plan : Plan) (lines : List (List ℕ)) (disks : List (List Record)) (answered : List Answered) (acks : List Ack) (confirmers : List (List ℕ)) : Type 0 where
+  pub are : AreAcksOf answered acks
+  pub stand : EachStands plan lines disks acks confirmers
+  pub other_ids : HaveOtherIds acks
 
 -- listings and parts are as it is filed
 pub record OwesParts (filed : Id → Option (List ℕ)) (answered : List Answered) : Type 0 where
@@ -44,9 +45,9 @@ pub record OwesParts (filed : Id → Option (List ℕ)) (answered : List Answere
 
 -- Its entries are those of the calls that were begun and that were answered, in their order, and no others; each copy that was acknowledged stands on the nodes that
 -- confirmed it, which are enough, and each copy whose deletion was confirmed is gone.
-pub record OwesBook (plan : Plan) (lines : List (List ℕ)) (disks : List (List Record)) (begun : List Asked) (answered : List Answered) (confirmers : List (List ℕ)) (book : List BookEntry) : Type 0 where
-  pub is_book : IsBookOf lines begun answered confirmers book
-  pub stand : AcknowledgedStand plan disks book (flat_map acks_by answered) confirmers
+pub record OwesBook (plan : Plan) (lines : List (List ℕ)) (disks : List (List Record)) (begun : List Asked) (answered : List Answered) (acks : List Ack) (confirmers : List (List ℕ)) (book : List BookEntry) : Type 0 where
+  pub is_book : IsBookOf lines begun answered acks confirmers book
+  pub stand : AcknowledgedStand plan disks book acks confirmers
   pub dropped : DroppedAreGone plan disks book
 
 -- All that a cluster owes of the calls that it began and that it answered. The octets of a message are told by `filed` where the disks tell theirs.
@@ -55,12 +56,13 @@ pub record Owes (plan : Plan) (tells : Bool) (lines : List (List ℕ)) (stores :
   -- the stores hold the records of the nodes
   pub holds : AreDisks 1 stores disks
   pub one_content : OneContent filed disks
-  -- the nodes that confirmed each message, in the order of the answers
+  -- the messages that were acknowledged, and the nodes that confirmed each, in the order of the answers
+  pub acks : List Ack
   pub confirmers : List (List ℕ)
-  pub stored : OwesStored plan lines disks answered confirmers
+  pub stored : OwesStored plan lines disks answered acks confirmers
   pub deletions : OwesDeletions plan disks begun answered
   pub parts : tells ≡ true → OwesParts filed answered
-  pub books : OwesBook plan lines disks begun answered confirmers book
+  pub books : OwesBook plan lines disks begun answered acks confirmers book
 
 -- what is owed of the calls is true in the sessions
 abbrev pub OwedDeletionsAreTrue : Type 0

@@ -4,7 +4,7 @@ use Rattle.mail_model.specs.Plan.{Plan, is_user}
 use Rattle.mail_model.specs.Tape.{Protocol, Order, ClusterOrder, tape_order, or_else}
 use Rattle.mail_model.specs.Tape.Protocol.{Smtp, Pop}
 use Rattle.mail_model.specs.Tape.Order.{Open, Say, Feed, Close, GiveUp, End}
-use Rattle.mail_model.specs.Tape.ClusterOrder.{Crash, Start, Lose, Post, Again, Drop, Flow, Push, Widen}
+use Rattle.mail_model.specs.Tape.ClusterOrder.{Crash, Start, Lose, Post, Again, Drop, Flow, Push, Widen, Tick, Sum}
 use Rattle.mail_model.specs.Transcript.{Entry}
 use Rattle.mail_model.specs.Transcript.{all_of}
 use Rattle.mail_model.specs.Site.{TapeFault}
@@ -116,6 +116,8 @@ cluster_refusal plan lives (Push node) = fault_if (is_no_node plan node) NoSuchN
 cluster_refusal plan lives (Widen node user id to) =
     or_else (fault_if (not (is_user plan user)) BadLine)
     (or_else (fault_if (is_no_node plan node || is_no_node plan to) NoSuchNode) (work_fault (lives node)))
+cluster_refusal plan lives (Tick seconds) = None
+cluster_refusal plan lives Sum = None
 
 -- why an order is refused after the acts so far, the first that applies
 abbrev pub refusal : Plan → List Act → List Session → Order → Option TapeFault
@@ -202,6 +204,8 @@ MayHaveAsked other turn sessions extra = extra ≡ []
 abbrev pub IsAlwaysDone : ClusterOrder → Type 0
 IsAlwaysDone (Crash node) = ⊤
 IsAlwaysDone (Lose node) = ⊤
+IsAlwaysDone (Tick seconds) = ⊤
+IsAlwaysDone Sum = ⊤
 IsAlwaysDone order = ⊥
 
 -- The step that a line begins with, where nothing may come of it: the cluster denies it, or memory runs out in it.

@@ -15,6 +15,7 @@ use Rattle.session_model.specs.Acts.{Act, Acted, greeting_of}
 use Rattle.session_model.specs.Acts.Act.{Opens, Does, Faults, StillWaits, Leaves, Makes, Abandons}
 use Rattle.session_model.specs.Acts.Deed.{IsFed, Hears, IsAnswered, IsGivenUp, Falls, Closes}
 use Rattle.session_model.specs.Lives.{life_after}
+use Rattle.session_model.specs.Clocks.{seconds_after}
 
 -- What is under way: session k hears; its call has just begun; it is to be closed, since its call was given up; the sessions of a node that went down fall, from
 -- number k on; or the sessions that wait are asked, from number k on. After the first four they are asked from number `onward` on.
@@ -111,11 +112,11 @@ StartsToClose k sessions act turn =
     ((act ≡ Does k Closes) × (Waits (session_at sessions k) → ⊥) × (turn ≡ Hearing k 1))
     ⊎ ((act ≡ Abandons k) × Waits (session_at sessions k) × (turn ≡ Closing k 1))
 
--- What a line begins with after the acts so far, and what is under way after it. A POP3 greeting names the boot of its node. A session whose call is given up is
--- told so in the line.
+-- What a line begins with after the acts so far, and what is under way after it. A POP3 greeting names the boot of its node and the seconds
+-- of the clock. A session whose call is given up is told so in the line.
 abbrev pub Starts : Plan → List Act → Order → List Session → Act → Turn → Type 0
 Starts plan been (Open protocol node) sessions act turn =
-    (boot : ℕ) × (life_after been node ≡ Up boot) × (act ≡ Opens protocol node (greeting_of protocol node boot (length sessions + 1) 0)) × (turn ≡ Asking 1)
+    (boot : ℕ) × (life_after been node ≡ Up boot) × (act ≡ Opens protocol node (greeting_of protocol node boot (length sessions + 1) (seconds_after been))) × (turn ≡ Asking 1)
 Starts plan been (Say k text) sessions act turn = (act ≡ Does k (IsFed (sent_line text))) × (turn ≡ Hearing k 1)
 Starts plan been (Feed k octets) sessions act turn = (act ≡ Does k (IsFed octets)) × (turn ≡ Hearing k 1)
 Starts plan been (Close k) sessions act turn = StartsToClose k sessions act turn

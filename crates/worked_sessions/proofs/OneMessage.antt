@@ -252,12 +252,14 @@ owes : Owes small_plan true (small_lines ++ []) (Some small_store ∷ []) (small
 owes = record {
   holds = (grammar, holds, tt);
   one_content = one_content;
+  acks = small_ack ∷ [];
   confirmers = (1 ∷ []) ∷ [];
   stored = record {
+    are = refl;
     stand = (
       record {
         at_node = refl;
-        at_clock = refl;
+        at_clock = inl refl;
         copies = All-cons (λ (user : List ℕ). OnEnough small_plan (small_records ∷ []) (KeepsCopy small_ack user) (1 ∷ [])) (codes "alice") []
             (on_it (KeepsCopy small_ack (codes "alice")) (inl (says_here, (small_octets, stored, has_octets)))) (All-nil _);
       },
@@ -283,7 +285,7 @@ owes = record {
         copies_acked (nth_id 1) 0 small_octets 1 (codes "alice" ∷ []),
         [],
         refl,
-        record { octets = small_octets; at_clock = refl; stored = stored; each_once = λ i j d before within. absurd (omega (arith, before, within)); are = refl },
+        record { octets = small_octets; at_clock = inl refl; stored = stored; each_once = λ i j d before within. absurd (omega (arith, before, within)); are = refl },
         (refl, refl),
       );
     };

@@ -225,12 +225,14 @@ owes : Owes three_nodes true (posted_lines ++ []) (map (λ node. Some (node_stor
 owes = record {
   holds = (grammar, holds 1, (grammar, holds 2, (grammar, holds 3, tt)));
   one_content = one_content;
+  acks = posted_ack ∷ [];
   confirmers = (1 ∷ 2 ∷ 3 ∷ []) ∷ [];
   stored = record {
+    are = refl;
     stand = (
       record {
         at_node = refl;
-        at_clock = refl;
+        at_clock = inl refl;
         copies = All-cons (λ (user : List ℕ). OnEnough three_nodes three_disks (KeepsCopy posted_ack user) (1 ∷ 2 ∷ 3 ∷ [])) (codes "alice") []
             (on_all (KeepsCopy posted_ack (codes "alice")) (inl (says_here, (small_octets, stored, has_octets)))) (All-nil _);
       },
@@ -256,7 +258,7 @@ owes = record {
         copies_acked (nth_id 1) 0 small_octets 7 (codes "alice" ∷ []),
         [],
         refl,
-        record { octets = small_octets; at_clock = refl; stored = stored; each_once = λ i j d before within. absurd (omega (arith, before, within)); are = refl },
+        record { octets = small_octets; at_clock = inl refl; stored = stored; each_once = λ i j d before within. absurd (omega (arith, before, within)); are = refl },
         (refl, refl),
       );
     };

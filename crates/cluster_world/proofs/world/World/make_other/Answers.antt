@@ -4,6 +4,7 @@ use Rattle.cluster_world.specs.Worlds.{state_of, state_with}
 use Rattle.cluster_world.specs.Steps.{StepDid}
 use Rattle.cluster_world.specs.Sure.{IsSurelyDone}
 use Rattle.cluster_world.specs.declared.step.Said.TheVariants.{Done}
+use Rattle.cluster_world.proofs.Ticking.{ticked_did, ticked_settled}
 use Rattle.cluster_world.proofs.world.World.make_other.Goals as goal
 
 pub returns-in-Ask-clause-did : goal.returns-in-Ask-clause-did
@@ -62,3 +63,12 @@ returns-in-GiveUp-clause-sure g c =
 pub returns-in-Drop-clause-sure : goal.returns-in-Drop-clause-sure
 returns-in-Drop-clause-sure g c =
     subst (λ s. IsSurelyDone (state_of c.args.self.now) s c.drop_letter.result) (sym c.in-Drop.is) (c.drop_letter.ensures.sure c.args.self.now.seconds c.args.self.now.book)
+
+pub returns-in-Tick-clause-did : goal.returns-in-Tick-clause-did
+returns-in-Tick-clause-did g c =
+    subst (λ s. StepDid (view_of g.D.Disk.seen g.D.Disk.faults g.D.Disk.clock) (Ok Done) s (state_of c.args.self.now) (state_with c.args.self.now.nodes c.args.self.now.flying c.in-Tick.seconds c.args.self.now.book))
+    (sym c.in-Tick.is) (ticked_did (view_of g.D.Disk.seen g.D.Disk.faults g.D.Disk.clock) c.args.self.now.nodes c.args.self.now.flying c.args.self.now.book c.args.self.now.seconds c.in-Tick.seconds)
+
+pub returns-in-Tick-clause-settled : goal.returns-in-Tick-clause-settled
+returns-in-Tick-clause-settled g c =
+    ticked_settled (view_of g.D.Disk.seen g.D.Disk.faults g.D.Disk.clock) c.args.self.now.nodes c.args.self.now.flying c.args.self.now.book c.args.self.now.seconds c.in-Tick.seconds g.D.Disk.settled

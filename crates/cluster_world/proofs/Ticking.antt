@@ -1,0 +1,45 @@
+-- What the clock is set to: a step in which nothing else changes.
+use Rattle.std.proofs.Common.{◌≡◌, ℕ, Ok, Err, refl}
+use Rattle.cluster_model.specs.World as machine
+use Rattle.node_store.specs.Disks.{View}
+use Rattle.world_book.specs.declared.book.Book.{Book}
+use Rattle.cluster_world.specs.Flights.{InFlight}
+use Rattle.cluster_world.specs.Turns.{seconds_after_step}
+use Rattle.cluster_world.specs.Worlds.{state_with, StateStandsFor}
+use Rattle.cluster_world.specs.Steps.{StepDid, AreSettled, LeadsTo}
+use Rattle.cluster_world.specs.declared.nodes.Nodes.{Nodes}
+use Rattle.cluster_world.specs.declared.step.Step.{Step}
+use Rattle.cluster_world.specs.declared.step.Step.TheVariants as step
+use Rattle.cluster_world.specs.declared.step.Said.TheVariants.{Done}
+use Rattle.cluster_world.specs.declared.fault.StepFault.{StepFault}
+use Rattle.cluster_world.proofs.Same.{same_stops, same_told, same_quiet}
+
+module _ {D : Type 0} (on : View D) (nodes : Nodes D) (flying : InFlight) (book : Book) (was seconds : ℕ) where
+  leads : (w : machine.World) → StateStandsFor on (state_with nodes flying was book) w
+      → LeadsTo on (Ok Done) (step.Tick seconds) (state_with nodes flying was book) (state_with nodes flying seconds book) w
+  leads w st = record {
+    next = record w { seconds = seconds };
+    stands = record { slots = st.slots; flying = st.flying; sent = st.sent; seconds = refl; book = st.book };
+    made = (refl, (refl, refl));
+    stops = record { each = (same_stops on (state_with nodes flying was book) w st).each };
+  }
+
+  pub ticked_did : StepDid on (Ok Done) (step.Tick seconds) (state_with nodes flying was book) (state_with nodes flying seconds book)
+  ticked_did = record {
+    plan = refl;
+    handed = refl;
+    clock = refl;
+    lighter = tt;
+    kept = tt;
+    refused = refl;
+    kind = tt;
+    falls = tt;
+    lives = λ n. refl;
+    told = record { each = (same_told on (state_with nodes flying was book)).each };
+    quiet = record { later = (same_quiet on (state_with nodes flying was book)).later; same = (same_quiet on (state_with nodes flying was book)).same };
+    leads = λ known ended w st. leads w st;
+    cause = λ w st. tt;
+  }
+
+  pub ticked_settled : (is_settled : D → Type 0) → AreSettled is_settled (state_with nodes flying was book) → AreSettled is_settled (state_with nodes flying seconds book)
+  ticked_settled is_settled settled = record { each = settled.each }
