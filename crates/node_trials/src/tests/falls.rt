@@ -85,126 +85,97 @@ fn falls_everywhere(rt: &impl Abort, alloc: Global, case: &Case) -> Result<(), F
     Ok(())
 }
 
-#[test]
-fn a_failing_disk_takes_the_node_down(rt: HostRuntime) -> Result<(), Fail> {
-    falls_everywhere(
-        &rt,
-        rt.alloc(),
-        &Case {
-            number: b'2',
-            before: b"? - 111 -- - - - - > --- -- - - -",
-            line: b"F 1 111 11 3 1 1 1",
-            after: b"\
+// What each kind of work takes of its disk.
+const CASES: [Case<'static>; 9] = [
+    Case {
+        number: b'2',
+        before: b"? - 111 -- - - - - > --- -- - - -",
+        line: b"F 1 111 11 3 1 1 1",
+        after: b"\
 F 1 111 11 3 1 1 1 > f 1 111 -- - - 1 1
 ? - 111 -- - - - - > 111 11 3 h o1",
-            calls: 8,
-        },
-    )?;
-    falls_everywhere(
-        &rt,
-        rt.alloc(),
-        &Case {
-            number: b'2',
-            before: b"F 1 111 11 3 1 1 1 > f 1 111 -- - - 1 1",
-            line: b"S 1 111 21 - 1 2 1",
-            after: b"\
+        calls: 8,
+    },
+    Case {
+        number: b'2',
+        before: b"F 1 111 11 3 1 1 1 > f 1 111 -- - - 1 1",
+        line: b"S 1 111 21 - 1 2 1",
+        after: b"\
 S 1 111 21 - 1 2 1 > s 1 111 -- - 1 2 1
 ? - 111 -- - - - - > 111 21 7 g o13",
-            calls: 4,
-        },
-    )?;
-    falls_everywhere(
-        &rt,
-        rt.alloc(),
-        &Case {
-            number: b'2',
-            before: b"? - 111 -- - - - - > --- -- - - -",
-            line: b"P 1 111 11 3 h 0 1",
-            after: b"\
+        calls: 4,
+    },
+    Case {
+        number: b'2',
+        before: b"? - 111 -- - - - - > --- -- - - -",
+        line: b"P 1 111 11 3 h 0 1",
+        after: b"\
 P 1 111 11 3 h 0 1 > A 1 111 11 3 h - 1
 ? - 111 -- - - - - > 111 11 3 h o1",
-            calls: 8,
-        },
-    )?;
-    falls_everywhere(
-        &rt,
-        rt.alloc(),
-        &Case {
-            number: b'2',
-            before: b"P 1 111 11 3 h 0 1 > A 1 111 11 3 h - 1",
-            line: b"P 1 111 21 2 g 0 1",
-            after: b"\
+        calls: 8,
+    },
+    Case {
+        number: b'2',
+        before: b"P 1 111 11 3 h 0 1 > A 1 111 11 3 h - 1",
+        line: b"P 1 111 21 2 g 0 1",
+        after: b"\
 P 1 111 21 2 g 0 1 > A 1 111 21 2 g - 1
 ? - 111 -- - - - - > 111 21 3 g o1",
-            calls: 4,
-        },
-    )?;
-    falls_everywhere(
-        &rt,
-        rt.alloc(),
-        &Case {
-            number: b'2',
-            before: b"? - 111 -- - - - - > --- -- - - -",
-            line: b"P 1 111 21 2 g 0 1",
-            after: b"\
+        calls: 4,
+    },
+    Case {
+        number: b'2',
+        before: b"? - 111 -- - - - - > --- -- - - -",
+        line: b"P 1 111 21 2 g 0 1",
+        after: b"\
 P 1 111 21 2 g 0 1 > A 1 111 21 2 g - 1
 R 1 111 21 2 g 0 1 >
 ? - 111 -- - - - - > 111 21 2 g -",
-            calls: 8,
-        },
-    )?;
-    falls_everywhere(
-        &rt,
-        rt.alloc(),
-        &Case {
-            number: b'2',
-            before: b"F 1 111 11 3 1 1 1 > f 1 111 -- - - 1 1",
-            line: b"A 1 111 11 3 h 0 1",
-            after: b"\
+        calls: 8,
+    },
+    Case {
+        number: b'2',
+        before: b"F 1 111 11 3 1 1 1 > f 1 111 -- - - 1 1",
+        line: b"A 1 111 11 3 h 0 1",
+        after: b"\
 R 1 111 11 3 h 0 1 >
 ? - 111 -- - - - - > 111 11 3 h o
 A 1 111 11 3 h 0 1 >",
-            calls: 4,
-        },
-    )?;
-    falls_everywhere(
-        &rt,
-        rt.alloc(),
-        &Case {
-            number: b'2',
-            before: b"F 1 111 11 3 1 1 1 > f 1 111 -- - - 1 1",
-            line: b"R 1 111 11 3 h 0 1",
-            after: b"\
+        calls: 4,
+    },
+    Case {
+        number: b'2',
+        before: b"F 1 111 11 3 1 1 1 > f 1 111 -- - - 1 1",
+        line: b"R 1 111 11 3 h 0 1",
+        after: b"\
 R 1 111 11 3 h 0 1 >
 ? - 111 -- - - - - > 111 11 3 h o",
-            calls: 4,
-        },
-    )?;
-    falls_everywhere(
-        &rt,
-        rt.alloc(),
-        &Case {
-            number: b'1',
-            before: b"? - 111 -- - - - - > --- -- - - -",
-            line: b"d - --- -- - 1 - -",
-            after: b"\
+        calls: 4,
+    },
+    Case {
+        number: b'1',
+        before: b"? - 111 -- - - - - > --- -- - - -",
+        line: b"d - --- -- - 1 - -",
+        after: b"\
 a - --- -- - - 1 - > none
 f 2 111 -- - - 1 1 > late",
-            calls: 8,
-        },
-    )?;
-    falls_everywhere(
-        &rt,
-        rt.alloc(),
-        &Case {
-            number: b'1',
-            before: b"d - --- -- - 1 - - > F 2 111 11 3 1 1 1",
-            line: b"w 3 111 -- - - - -",
-            after: b"\
+        calls: 8,
+    },
+    Case {
+        number: b'1',
+        before: b"d - --- -- - 1 - - > F 2 111 11 3 1 1 1",
+        line: b"w 3 111 -- - - - -",
+        after: b"\
 d - --- -- - 1 - - > F 2 121 21 3 1 1 1
 a - --- -- - - 2 - > none",
-            calls: 4,
-        },
-    )?;
+        calls: 4,
+    },
+];
+
+#[test]
+fn a_failing_disk_takes_the_node_down(rt: HostRuntime) -> Result<(), Fail> {
+    for case in &CASES {
+        falls_everywhere(&rt, rt.alloc(), case)?;
+    }
     Ok(())
 }

@@ -1,11 +1,10 @@
 // Each part of the outside failing in turn, and other words.
 
 use super::store::Journal;
-use super::{PLAN, Script, drive, joined, words, yard_of};
+use super::{PLAN, Script, answered, drive, joined, yard_of};
 use io_edge::faulty::{FaultySink, FaultySource, FaultyYard};
 use io_edge::{Disk, MemoryYard, PlainDisk, SliceSource, VecSink};
 use node_disk::{Image, MemoryDisk};
-use porcupine_server::porcupine;
 use std::alloc::{AllocError, Global};
 use std::process::Abort;
 use std::test::Fail;
@@ -146,11 +145,10 @@ fn write_fails(rt: &impl Abort, alloc: Global, write: u64, messages: u64) -> Res
     for _ in 0..messages {
         journal.message(b"", b"c", &[b"alice"], b"")?;
     }
-    let words = words(alloc, "drive")?;
     let mut yard = yard_of(alloc, 0)?;
     let mut sink = FaultySink::new(VecSink::new(alloc), write);
     let mut source = SliceSource::new(&tape);
-    let answer = porcupine(alloc, &words, &mut source, &mut sink, &mut yard);
+    let answer = answered(alloc, &mut source, &mut sink, &mut yard)?;
     assert_eq!(rt; answer, if write <= 10 { 5 } else { 0 });
     match yard.returned.last() {
         Some((_, _, disk)) => journal.is_held(rt, disk.octets()),
@@ -199,11 +197,10 @@ fn outside_fails(
     status: u8,
     transcript: &[u8],
 ) -> Result<(), Fail> {
-    let words = words(alloc, "drive")?;
     let mut yard = FaultyYard::new(yard_of(alloc, 0)?, failing.store);
     let mut sink = FaultySink::new(VecSink::new(alloc), failing.write);
     let mut source = FaultySource::new(SliceSource::new(tape), failing.read);
-    let answer = porcupine(alloc, &words, &mut source, &mut sink, &mut yard);
+    let answer = answered(alloc, &mut source, &mut sink, &mut yard)?;
     assert_eq!(rt; answer, status);
     assert_eq!(rt; sink.inner.held.as_slice(), transcript);
     Ok(())
@@ -246,11 +243,10 @@ fn held_by(alloc: Global, node: u8) -> Result<Vec<PlainDisk>, AllocError> {
 // The store of this node, which holds something, is given back as it was.
 fn is_given_back(rt: &impl Abort, alloc: Global, node: u8, transcript: &[u8]) -> Result<(), Fail> {
     let tape = joined(alloc, &[PLAN_OF_TWO, b"open smtp 1\nend\n"])?;
-    let words = words(alloc, "drive")?;
     let mut yard = MemoryYard::new(alloc, held_by(alloc, node)?);
     let mut sink = VecSink::new(alloc);
     let mut source = SliceSource::new(&tape);
-    let answer = porcupine(alloc, &words, &mut source, &mut sink, &mut yard);
+    let answer = answered(alloc, &mut source, &mut sink, &mut yard)?;
     assert_eq!(rt; answer, 6);
     assert_eq!(rt; sink.held.as_slice(), transcript);
     match yard.returned.last() {
