@@ -24,6 +24,7 @@ use Rattle.session_model.specs.Turns.Turn.{Hearing, Beginning, Closing, Falling,
 use Rattle.session_model.specs.Run.{Made, count_on}
 use Rattle.session_model.specs.Run.Stop.{OutOfMemory}
 use Rattle.session_model.proofs.Replies.{each_answer_has_reply}
+use Rattle.call_tickets.specs.Moves.{HasEnded}
 use Rattle.call_tickets.specs.Seen.{answer_seen}
 use Rattle.call_tickets.specs.declared.answer.Answer.{Answer}
 use Rattle.node_store.specs.Disks.{View}
@@ -37,13 +38,13 @@ use Rattle.drive_tape.specs.declared.sessions.After.{After}
 use Rattle.drive_tape.specs.declared.sessions.After.TheVariants.{Stays, Ends}
 use Rattle.drive_tape.specs.declared.drove.Stop.TheVariants as why
 use Rattle.drive_tape.specs.Kinds.{fits_kind, IsKindOf}
-use Rattle.drive_tape.specs.Moving.{has_ended, RepliesTo, GoesOn, left_at, call_here, work_at}
-use Rattle.drive_tape.specs.Worlds.{WentTo, HasGone, AskedSo, AreSameLives, HasCauses}
+use Rattle.drive_tape.specs.Moving.{has_ended, RepliesTo, GoesOn, left_at, call_here, work_at, AreOver, AreEven}
+use Rattle.drive_tape.specs.Worlds.{WorldIsAt, WentTo, HasGone, AskedSo, AreLives, AreSameLives, HasCauses}
 use Rattle.drive_tape.specs.Points.{Point, OneAct, IsAtPoint, Stopped, WentOn}
-use Rattle.drive_tape.specs.Talks.{HasOwnTicket, HasTicket, TicketFits, StandsOnNode, IsUpAt}
+use Rattle.drive_tape.specs.Talks.{Converse, EachSession, HasOwnTicket, HasTicket, TicketFits, StandsOnNode, IsUpAt}
 use Rattle.drive_tape.specs.Clusters.{RestsAt, IsAfter, IsSaying, AsksFrom, CallHasAnswer}
 use Rattle.drive_tape.specs.Lines.{NothingIsUnderWay}
-use Rattle.drive_tape.proofs.Talks.{at_place, count_same, count_less, converse_length, found_at, set_here, within_get, some_same, did_node, replies_on, replies_ended}
+use Rattle.drive_tape.proofs.Talks.{at_place, converse_get, count_same, count_less, converse_length, found_at, set_here, within_get, some_same, did_node, replies_on, replies_ended}
 use Rattle.drive_tape.proofs.Led.{to_untold}
 use Rattle.drive_tape.proofs.Works.{work_act, cut_act}
 use Rattle.drive_tape.proofs.Clusters.{since_gone}
@@ -387,6 +388,40 @@ asks_past on start plan p place cluster shows asks none = record {
         by : (o : Option Session) → slice_get p.sessions place ≡ o → Waits o → ⊥
         by None is w = w
         by (Some s) is w = waits_ticket (slice_get cluster.sessions.calls.items place) s (place + 1) p.awaited s.standing (shows.tickets place s is) none w.0 w.1 w.2
+
+-- a session that has ended waits for nothing
+ended_none : (kept : Option (Option OpenCall)) (s : Session) (k : ℕ) (awaited : List Awaited) (standing : Standing) → HasEnded standing → TicketFits kept s k awaited standing → kept ≡ Some None
+ended_none kept s k awaited (Waiting state call) ended fits = absurd ended
+ended_none kept s k awaited (Standing.Hearing state) ended fits = absurd ended
+ended_none kept s k awaited Standing.EndedByQuit ended fits = fits
+ended_none kept s k awaited Standing.EndedDown ended fits = fits
+ended_none kept s k awaited Standing.EndedClosed ended fits = fits
+
+-- those that have ended are passed over
+pub asks_over : {D : Type 0} (on : View D) (start : World D) (plan : Plan) (p : Point) (over : ℕ) (cluster : Cluster D) → IsAtPoint on start plan cluster p → AreOver over cluster.sessions.talkers.items → AsksFrom 0 p → AsksFrom over p
+asks_over on start plan p zero cluster shows over asks = asks
+asks_over on start plan p (suc n) cluster shows over asks =
+    let got = converse_get cluster.sessions.talkers.items p.sessions n None shows.talks (over n (omega arith)) in
+    let next : n + 1 ≡ suc n = omega arith in
+    subst (λ (k : ℕ). AsksFrom k p) next
+    (asks_past on start plan p n cluster shows (asks_over on start plan p n cluster shows (λ i before. over i (omega (arith, before))) asks)
+    (ended_none _ got.0 (n + 1) p.awaited got.0.standing got.2 (shows.tickets n got.0 got.1)))
+
+-- how many are passed over changes nothing else
+pub at_over : {D : Type 0} (on : View D) (start : World D) (plan : Plan) (p : Point) (old new : Cluster D) (over : ℕ) → new.world ≡ old.world → new.sessions ≡ record old.sessions { over = over } → IsAtPoint on start plan old p → IsAtPoint on start plan new p
+at_over on start plan p old new over world sessions shows = record {
+  at = subst (WorldIsAt on start p.outcomes p.awaited) (sym world) shows.at;
+  talks = subst (λ (t : Sessions). Converse t.talkers.items p.sessions) (sym sessions) shows.talks;
+  nodes = ap (λ (t : Sessions). t.nodes.items) sessions ∙ shows.nodes;
+  tickets = subst (λ (t : Sessions). EachSession (HasOwnTicket t.calls.items p.awaited) p.sessions) (sym sessions) shows.tickets;
+  count = ap (λ (t : Sessions). t.standing) sessions ∙ shows.count;
+  lives = subst (AreLives plan p.been) (sym world) shows.lives;
+  up = shows.up;
+  causes = subst (HasCauses on start (failed_in p.been)) (sym world) shows.causes;
+}
+
+pub even_over : (old new : Sessions) (over : ℕ) → new ≡ record old { over = over } → AreEven old → AreOver over old.talkers.items → AreEven new
+even_over old new over is even all = subst AreEven (sym is) (record { calls = even.calls; nodes = even.nodes; over = all })
 
 -- those after this place are to be asked
 pub asks_on : (place : ℕ) (p : Point) → RestsAt (place + 1) p → AsksFrom place p

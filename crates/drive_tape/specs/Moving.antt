@@ -1,5 +1,5 @@
 -- What the moves of one session make of all sessions.
-use Rattle.std.specs.Prelude.{◌≡◌, ◌+◌, ◌-◌, ℕ, Bool, true, false, List, [], ◌∷◌, flat_map, length, All, slice_get, slice_set, Option, Some, None}
+use Rattle.std.specs.Prelude.{◌≡◌, ◌+◌, ◌-◌, ◌<◌, ℕ, Bool, true, false, List, [], ◌∷◌, flat_map, length, All, slice_get, slice_set, Option, Some, None}
 use Rattle.mail_model.specs.Lines.{HasNoCrlf, sent_line}
 use Rattle.mail_model.specs.Plan.{Plan}
 use Rattle.session_model.specs.Calls as calls
@@ -102,7 +102,12 @@ abbrev pub FallsTo : List Session → ℕ → Session → Bool → List ℕ → 
 FallsTo sessions place plain true octets standing table = FellAt sessions place plain octets standing table
 FallsTo sessions place plain false octets standing table = HasEnded plain.standing × StaysAt sessions octets standing table
 
--- a node and a place for a call for each session
+-- the sessions before this place have ended
+abbrev pub AreOver : {T : Type 0} → ℕ → List (Option T) → Type 0
+AreOver over talkers = (i : ℕ) → i < over → slice_get talkers i ≡ Some None
+
+-- a node and a place for a call for each session, and those that are passed over have ended
 pub record AreEven (table : Sessions) : Type 0 where
   pub calls : length table.calls.items ≡ length table.talkers.items
   pub nodes : length table.nodes.items ≡ length table.talkers.items
+  pub over : AreOver table.over table.talkers.items

@@ -206,7 +206,7 @@ impl<D: Disk> Cluster<D> {
         Ok(())
     }
 
-    // All sessions that wait are asked for, in rising order.
+    // All sessions that wait are asked for, in rising order. Those before `from` have ended.
     pub fn ask_all<K: Sink>(&mut self, alloc: Global, sink: &mut K) -> Result<(), Stop>
         requires ready { WorldIsReady D.seen D.settled self.old.world }
         requires even { AreEven self.old.sessions }
@@ -219,7 +219,8 @@ impl<D: Disk> Cluster<D> {
         ensures later { K.faults sink.old ≤ K.faults sink.new }
         ensures failed { IsErrOf result Stop.WriteFault → Rose (K.faults sink.old) (K.faults sink.new) }
     {
-        for place in 0..self.sessions.talkers.len() {
+        let from = self.sessions.pass_over();
+        for place in from..self.sessions.talkers.len() {
             self.ask_at(alloc, sink, place)?;
         }
         Ok(())

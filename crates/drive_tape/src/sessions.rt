@@ -13,7 +13,7 @@ ghost use Rattle.tape_lines.specs.Orders.{protocol_seen};
 ghost use Rattle.drive_tape.specs.Leaving.{IsLeaveOf};
 ghost use Rattle.drive_tape.specs.Talks.{Converse, SessionIsFound};
 ghost use Rattle.drive_tape.specs.Speakers.{Matches};
-ghost use Rattle.drive_tape.specs.Moving.{MovesTo, RepliesTo, FallsTo, GoesOn, left_at};
+ghost use Rattle.drive_tape.specs.Moving.{MovesTo, RepliesTo, FallsTo, GoesOn, left_at, AreOver};
 
 use crate::open_call::OpenCall;
 use crate::talker::Talker;
@@ -33,6 +33,8 @@ pub(crate) struct Sessions {
     pub calls: Vec<Option<OpenCall>>,
     /// How many of them have not ended.
     pub standing: u64,
+    /// So many from the first on have ended and are not asked any more.
+    pub over: usize,
 }
 
 /// How a session goes on after what it said.
@@ -51,12 +53,14 @@ impl Sessions {
         ensures nodes { result.nodes.items ≡ [] }
         ensures calls { result.calls.items ≡ [] }
         ensures standing { result.standing ≡ 0 }
+        ensures over { result.over ≡ 0 }
     {
         Sessions {
             talkers: Vec::new(alloc),
             nodes: Vec::new(alloc),
             calls: Vec::new(alloc),
             standing: 0,
+            over: 0,
         }
     }
 
@@ -118,6 +122,7 @@ impl Sessions {
         ensures calls { OnOk result (self.new.calls.items ≡ self.old.calls.items ++ None ∷ []) }
         ensures length { OnOk result (length self.new.talkers.items ≡ length self.old.talkers.items + 1) }
         ensures count { OnOk result (self.new.standing ≡ self.old.standing + 1) }
+        ensures over { OnOk result (AreOver self.old.over self.old.talkers.items → AreOver self.new.over self.new.talkers.items) }
     {
         let number = self.talkers.len() as u64 + 1;
         let talker = Talker::open(alloc, protocol, node, boot, number, seconds, plan, out)?;
@@ -141,6 +146,7 @@ impl Sessions {
         ensures calls { self.new.calls ≡ self.old.calls }
         ensures count { self.new.standing ≡ self.old.standing }
         ensures length { length self.new.talkers.items ≡ length self.old.talkers.items }
+        ensures over { AreOver self.old.over self.old.talkers.items → AreOver self.new.over self.new.talkers.items }
     {
         match &mut self.talkers[place] {
             Some(talker) => talker.feed(octets),
@@ -157,6 +163,7 @@ impl Sessions {
         ensures nodes { self.new.nodes ≡ self.old.nodes }
         ensures calls { self.new.calls ≡ self.old.calls }
         ensures length { length self.new.talkers.items ≡ length self.old.talkers.items }
+        ensures over { AreOver self.old.over self.old.talkers.items → AreOver self.new.over self.new.talkers.items }
         ensures less { left_at place self.new ≤ left_at place self.old }
     {
         if self.is_on(place) {
@@ -188,6 +195,7 @@ impl Sessions {
         ensures nodes { self.new.nodes ≡ self.old.nodes }
         ensures calls { self.new.calls ≡ self.old.calls }
         ensures length { length self.new.talkers.items ≡ length self.old.talkers.items }
+        ensures over { AreOver self.old.over self.old.talkers.items → AreOver self.new.over self.new.talkers.items }
         ensures less { IfOk result (λ move. (IsBusy move.0 → left_at place self.new < left_at place self.old) × (left_at place self.new ≤ left_at place self.old)) }
     {
         let did = match &mut self.talkers[place] {
@@ -225,6 +233,7 @@ impl Sessions {
         ensures nodes { self.new.nodes ≡ self.old.nodes }
         ensures calls { self.new.calls ≡ self.old.calls }
         ensures length { length self.new.talkers.items ≡ length self.old.talkers.items }
+        ensures over { AreOver self.old.over self.old.talkers.items → AreOver self.new.over self.new.talkers.items }
         ensures less { OnOk result (left_at place self.new ≤ left_at place self.old) }
     {
         match &mut self.talkers[place] {
@@ -253,6 +262,7 @@ impl Sessions {
         ensures nodes { self.new.nodes ≡ self.old.nodes }
         ensures calls { OnOk result (self.new.calls.items ≡ slice_set self.old.calls.items place None) }
         ensures length { length self.new.talkers.items ≡ length self.old.talkers.items }
+        ensures over { AreOver self.old.over self.old.talkers.items → AreOver self.new.over self.new.talkers.items }
         ensures call_length { length self.new.calls.items ≡ length self.old.calls.items }
         ensures left { (other : ℕ) → left_at other self.new ≤ left_at other self.old }
     {
@@ -270,6 +280,19 @@ impl Sessions {
         }
     }
 
+    /// Passes over those from the first on that have ended. The place where the others begin.
+    pub fn pass_over(&mut self) -> usize
+        ensures over { AreOver self.old.over self.old.talkers.items → AreOver result self.old.talkers.items }
+        ensures others { self.new ≡ record self.old { over = result } }
+    {
+        let mut over = self.over;
+        while over < self.talkers.len() && self.talkers[over].is_none() {
+            over += 1;
+        }
+        self.over = over;
+        over
+    }
+
     /// The client of the session at this place, which has not ended, closed it. What it asks as it leaves.
     pub fn close(&mut self, place: usize) -> Option<Call>
         requires within { place < length self.old.talkers.items }
@@ -279,6 +302,7 @@ impl Sessions {
         ensures calls { self.new.calls ≡ self.old.calls }
         ensures count { self.new.standing ≡ self.old.standing - 1 }
         ensures length { length self.new.talkers.items ≡ length self.old.talkers.items }
+        ensures over { AreOver self.old.over self.old.talkers.items → AreOver self.new.over self.new.talkers.items }
     {
         self.standing = self.standing.saturating_sub(1);
         match self.talkers[place].take() {

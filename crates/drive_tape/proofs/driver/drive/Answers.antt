@@ -11,7 +11,7 @@ pub loop-handled-init : goal.loop-handled-init
 loop-handled-init g c = record {
   ready = record { few = c.requires.nodes; ready = c.requires.ready; settled = c.requires.settled };
   plan = refl;
-  even = record { calls = ap length c.new.ensures.calls ∙ sym (ap length c.new.ensures.talkers); nodes = ap length c.new.ensures.nodes ∙ sym (ap length c.new.ensures.talkers) };
+  even = record { calls = ap length c.new.ensures.calls ∙ sym (ap length c.new.ensures.talkers); nodes = ap length c.new.ensures.nodes ∙ sym (ap length c.new.ensures.talkers); over = λ i before. absurd (let none = c.new.ensures.over in omega (arith, before, none)) };
   progress = λ begins. progress_start _ _ _ _ _ begins refl c.new.ensures.talkers c.new.ensures.nodes c.new.ensures.standing;
   unread = omega arith;
   read_later = omega arith;

@@ -27,6 +27,7 @@ returns-in_err-give_up-clause-let_go g c start p plain shows here on =
         nodes = c.args.cluster.now.sessions.nodes;
         calls = with_item c.args.cluster.now.sessions.calls c.args.place c.take.new.self;
         standing = c.args.cluster.now.sessions.standing;
+        over = c.args.cluster.now.sessions.over;
       };
     } in
     rw (e.1, e.2) (kept_up _ start _ p c.args.place plain c.args.cluster.now new shows here on refl refl refl inside kept c.in-Some.open_call was c.in_err-give_up.field-0.0
@@ -44,6 +45,7 @@ returns-clause-let_go g c start p plain shows here on =
         nodes = c.args.cluster.now.sessions.nodes;
         calls = with_item c.args.cluster.now.sessions.calls c.args.place c.take.new.self;
         standing = c.args.cluster.now.sessions.standing;
+        over = c.args.cluster.now.sessions.over;
       };
     } in
     given_up _ start _ p c.args.place plain c.args.cluster.now new shows here on refl refl refl inside kept c.in-Some.open_call was true

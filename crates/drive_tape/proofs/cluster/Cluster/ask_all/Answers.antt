@@ -1,17 +1,24 @@
-use Rattle.std.proofs.Common.{refl, sym, ◌∙◌, arith}
+use Rattle.std.proofs.Common.{refl, sym, ap, ◌∙◌, length, arith}
 use Rattle.std.proofs.lemmas.Result.{err_from_is_err_and}
 use Rattle.drive_tape.proofs.Works.{work_none}
 use Rattle.drive_tape.proofs.Clusters.{went_on, stopped_on, stopped_plan, went_plan, at_plan}
-use Rattle.drive_tape.proofs.Asking.{all_asked}
+use Rattle.drive_tape.specs.declared.sessions.Sessions.{Sessions}
+use Rattle.drive_tape.proofs.Asking.{all_asked, asks_over, at_over, even_over}
 use Rattle.drive_tape.proofs.cluster.Cluster.ask_all.Goals as goal
 
 pub loop-place-init : goal.loop-place-init
 loop-place-init g c = record {
-  asked = λ start p shows held asks. record { q = p; work = work_none _ p; held_is = held; shows = shows; so_is = asks };
+  asked = λ start p shows held asks. record {
+    q = p;
+    work = work_none _ p;
+    held_is = held;
+    shows = at_over _ start _ p c.args.self.now _ _ refl c.pass_over-from.ensures.others shows;
+    so_is = asks_over _ start _ p c.pass_over-from.result c.args.self.now shows (c.pass_over-from.ensures.over c.requires.even.over) asks;
+  };
   ready = c.requires.ready;
   plan = refl;
-  places = refl;
-  even = c.requires.even;
+  places = ap (λ (t : Sessions). length t.talkers.items) c.pass_over-from.ensures.others;
+  even = even_over c.args.self.now.sessions _ _ c.pass_over-from.ensures.others c.requires.even (c.pass_over-from.ensures.over c.requires.even.over);
   later = omega arith;
 }
 
@@ -38,10 +45,11 @@ loop-place-preserved g c = record {
 pub returns-clause-asked : goal.returns-clause-asked
 returns-clause-asked g c start p shows held asks =
     let so = c.loop-place.invariant.asked start p shows held asks in
+    let same = ap (λ (t : Sessions). length t.talkers.items) c.pass_over-from.ensures.others in
     record {
       q = so.q;
       work = so.work;
       held_is = so.held_is;
       shows = so.shows;
-      so_is = all_asked _ start _ so.q c.loop-place.place _ so.shows so.so_is (omega (arith, c.loop-place-test.false, c.loop-place.invariant.places, c.len-place-end.ensures));
+      so_is = all_asked _ start _ so.q c.loop-place.place _ so.shows so.so_is (omega (arith, c.loop-place-test.false, c.loop-place.invariant.places, c.len-place-end.ensures, same));
     }
