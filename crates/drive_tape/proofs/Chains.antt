@@ -84,7 +84,7 @@ module _ {D : Type 0} (on : View D) where
   carries_came (Abandoned k asked ticket) awaited left old new came = carries_step _ _ _ _ came.1.did
   carries_came (KeptUp k ticket why) awaited left old new came = carries_step _ _ _ _ came.2.did
   carries_came (Left k node user) awaited left old new came = carries_step _ _ _ _ came.3.did
-  carries_came (Moved order steps) awaited left old new came = carries_steps steps old new (order_makes on order steps old new came.0)
+  carries_came (Moved order steps sum) awaited left old new came = carries_steps steps old new (order_makes on order steps old new came.0)
 
   pub carries_makes : (outcomes : List Outcome) (awaited left : List Awaited) (old new : World D) → Makes on outcomes awaited old left new → Carries on (state_of old) (state_of new)
   carries_makes [] awaited left old new made = subst (λ (w : World D). Carries on (state_of old) (state_of w)) (sym made.1) (carries_none (state_of old))
@@ -132,7 +132,7 @@ module _ {D : Type 0} (on : View D) where
   stands_came (Abandoned k asked ticket) awaited left old new came whole = stands_step _ _ _ _ came.1.did tt
   stands_came (KeptUp k ticket why) awaited left old new came whole = stands_step _ _ _ _ came.2.did tt
   stands_came (Left k node user) awaited left old new came whole = stands_step _ _ _ _ came.3.did (leave_ended user came.0 came.2)
-  stands_came (Moved order steps) awaited left old new came whole = stands_steps steps old new (order_makes on order steps old new came.0) (are_ended order steps (order_are on order steps old new came.0))
+  stands_came (Moved order steps sum) awaited left old new came whole = stands_steps steps old new (order_makes on order steps old new came.0) (are_ended order steps (order_are on order steps old new came.0))
 
   stands_makes : (outcomes : List Outcome) (awaited left : List Awaited) (old new : World D) → Makes on outcomes awaited old left new → AreWhole outcomes → disks_tell on.seen old ≡ true → ((w : machine.World) × StandsFor on old w)
       → ((w : machine.World) × StandsFor on new w)

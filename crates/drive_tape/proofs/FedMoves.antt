@@ -7,6 +7,7 @@ use Rattle.std.proofs.lemmas.List.{append-nil}
 use Rattle.std.proofs.lemmas.Grind.{flat_map-append}
 use Rattle.object_model.specs.Lists.{Among}
 use Rattle.mail_model.specs.Plan.{Plan, is_user}
+use Rattle.session_model.specs.Sums.{sum_of}
 use Rattle.mail_model.specs.Site.{TapeFault as SiteFault}
 use Rattle.mail_model.specs.Site.TapeFault.{BadLine, NoSuchNode}
 use Rattle.mail_model.specs.Tape as tape
@@ -27,7 +28,7 @@ use Rattle.session_model.specs.Run.{refusal, cluster_refusal, fault_if, is_no_no
 use Rattle.node_store.specs.Disks.{View}
 use Rattle.cluster_world.specs.Outcomes.{left_after}
 use Rattle.cluster_world.specs.Outcomes.Outcome.{Moved}
-use Rattle.cluster_world.specs.Worlds.{plan_of, life_of}
+use Rattle.cluster_world.specs.Worlds.{plan_of, life_of, book_of}
 use Rattle.cluster_world.specs.declared.world.World.{World}
 use Rattle.drive_tape.specs.declared.cluster.Cluster.{Cluster}
 use Rattle.drive_tape.specs.declared.event.ClusterEvent.{ClusterEvent as OwnEvent}
@@ -62,6 +63,8 @@ refusal_alike plan been world lives (order.Again letter) = refl
 refusal_alike plan been world lives (order.Drop letter) = refl
 refusal_alike plan been world lives order.Flow = refl
 refusal_alike plan been world lives (order.Push node) = refl
+refusal_alike plan been world lives (order.Tick seconds) = refl
+refusal_alike plan been world lives order.Sum = refl
 refusal_alike plan been world lives (order.Widen node user id to) = ap (λ (rest : Option SiteFault). or_else (fault_if (not (is_user plan user)) BadLine) rest) (both (is_no_node plan node) (is_no_node plan to) refl)
   where
     both : (a b : Bool) → is_no_node plan node ≡ a → or_else (fault_if (a || b) NoSuchNode) (work_fault (life_of world node)) ≡ or_else (fault_if (a || b) NoSuchNode) (work_fault (life_after been node))
@@ -90,6 +93,8 @@ turn_asks (plain.WasDropped letter) is = refl
 turn_asks plain.HasFlowed is = refl
 turn_asks (plain.HasSent count) is = refl
 turn_asks (plain.HasWidened did) is = refl
+turn_asks plain.HasTicked is = refl
+turn_asks (plain.HasSummed sum) is = refl
 turn_asks (plain.HasFaulted node) is = absurd (let never : ◌≡◌ {A = Option ℕ} (Some node) None = is in cc)
 
 turn_falls : (event : ClusterEvent) (n : ℕ) → fallen_by event ≡ Some n → turn_after_event event ≡ Falling 1 n 1
@@ -102,6 +107,8 @@ turn_falls (plain.WasDropped letter) n is = absurd (let never : ◌≡◌ {A = O
 turn_falls plain.HasFlowed n is = absurd (let never : ◌≡◌ {A = Option ℕ} None (Some n) = is in cc)
 turn_falls (plain.HasSent count) n is = absurd (let never : ◌≡◌ {A = Option ℕ} None (Some n) = is in cc)
 turn_falls (plain.HasWidened did) n is = absurd (let never : ◌≡◌ {A = Option ℕ} None (Some n) = is in cc)
+turn_falls plain.HasTicked n is = absurd (let never : ◌≡◌ {A = Option ℕ} None (Some n) = is in cc)
+turn_falls (plain.HasSummed sum) n is = absurd (let never : ◌≡◌ {A = Option ℕ} None (Some n) = is in cc)
 turn_falls (plain.HasFaulted node) n is = ap (λ (m : ℕ). Falling 1 m 1) (some_same node n is)
 
 -- the life of another node
@@ -122,6 +129,8 @@ same_apart (plain.WasDropped letter) m n life is other = refl
 same_apart plain.HasFlowed m n life is other = refl
 same_apart (plain.HasSent count) m n life is other = refl
 same_apart (plain.HasWidened did) m n life is other = refl
+same_apart plain.HasTicked m n life is other = refl
+same_apart (plain.HasSummed sum) m n life is other = refl
 same_apart (plain.HasFaulted node) m n life is other = turned_apart node n _ life (λ same. other (same ∙ some_same node m is))
 
 -- a node that is up stays so, where none falls
@@ -142,6 +151,8 @@ still_up (plain.WasDropped letter) n was is = (was, refl)
 still_up plain.HasFlowed n was is = (was, refl)
 still_up (plain.HasSent count) n was is = (was, refl)
 still_up (plain.HasWidened did) n was is = (was, refl)
+still_up plain.HasTicked n was is = (was, refl)
+still_up (plain.HasSummed sum) n was is = (was, refl)
 still_up (plain.HasFaulted node) n was is = absurd (let never : ◌≡◌ {A = Option ℕ} (Some node) None = is in cc)
 
 module _ (plan : Plan) (been : List Act) (one : tape.ClusterOrder) (event : ClusterEvent) (n : ℕ) (up : IsUpAt plan been n) where
@@ -159,7 +170,7 @@ module _ {D : Type 0} (on : View D) (start : World D) (plan : Plan) (p : Point) 
   moved_point held = record p {
     turn = turn_after_event (event_seen event);
     been = p.been ++ Makes h.order (event_seen event) ∷ [];
-    outcomes = p.outcomes ++ Moved h.order h.happened.steps ∷ [];
+    outcomes = p.outcomes ++ Moved h.order h.happened.steps (sum_of (book_of h.old.world)) ∷ [];
     awaited = left_after (fallen_by (event_seen event)) p.awaited;
     held = held;
   }
@@ -176,8 +187,8 @@ module _ {D : Type 0} (on : View D) (start : World D) (plan : Plan) (p : Point) 
       (λ (now : Among n (failed_by_event (event_seen event) ++ [])). h.happened.cause n (subst (Among n) (append-nil (failed_by_event (event_seen event))) now))
       (among_split n (failed_in p.been) (failed_by_event (event_seen event) ++ []) (subst (Among n) (flat_map-append failed_by p.been (Makes h.order (event_seen event) ∷ [])) among))
 
-  linked_so : Led p.outcomes (Makes h.order (event_seen event)) (Moved h.order h.happened.steps ∷ [])
-  linked_so = (h.happened.steps, refl, h.happened.tells)
+  linked_so : Led p.outcomes (Makes h.order (event_seen event)) (Moved h.order h.happened.steps (sum_of (book_of h.old.world)) ∷ [])
+  linked_so = (h.happened.steps, sum_of (book_of h.old.world), refl, h.happened.tells)
 
   pub moved_started : (held : Option (List ℕ)) → Appends p.held held (written_of (event_entries (event_seen event))) → IsStarted plan p (moved_point held) (Moves h.order)
   moved_started held gave = record {
@@ -186,7 +197,7 @@ module _ {D : Type 0} (on : View D) (start : World D) (plan : Plan) (p : Point) 
     said = event_entries (event_seen event);
     starts = (event_seen event, is_event, refl, refl);
     acted = (refl, refl);
-    outcomes = Moved h.order h.happened.steps ∷ [];
+    outcomes = Moved h.order h.happened.steps (sum_of (book_of h.old.world)) ∷ [];
     linked = linked_so;
     at_nodes = (tt, tt);
     came = refl;
@@ -197,7 +208,7 @@ module _ {D : Type 0} (on : View D) (start : World D) (plan : Plan) (p : Point) 
   pub stops_moved : (reason : WriteStop) (held : Option (List ℕ)) → WritesOrStops p.held held (Err reason) (event_entries (event_seen event)) → LineStopped on start plan p line (of_write reason) held cluster.world
   stops_moved reason held wrote =
       stops_event on start plan p (Moves h.order) line h.spelled h.accepted (Makes h.order (event_seen event)) (event_entries (event_seen event)) (turn_after_event (event_seen event)) p.sessions
-      (event_seen event, is_event, refl, refl) (refl, refl) (Moved h.order h.happened.steps ∷ []) linked_so (tt, tt) reason held cluster.world wrote
+      (event_seen event, is_event, refl, refl) (refl, refl) (Moved h.order h.happened.steps (sum_of (book_of h.old.world)) ∷ []) linked_so (tt, tt) reason held cluster.world wrote
       (left_after (fallen_by (event_seen event)) p.awaited, h.happened.at.at) lives_now causes_now
 
   pub may_fall : (held : Option (List ℕ)) (fallen : Option ℕ) → fallen_by (event_seen event) ≡ fallen → MayFallBy on start plan (moved_point held) fallen cluster
@@ -236,5 +247,5 @@ pub moved_in_vain : {D : Type 0} (on : View D) (start : World D) (plan : Plan) (
 moved_in_vain on start plan p line one stop held old world same spelled accepted lives causes so =
     let denied = so.2 in
     let gone = so.3 in
-    in_vain on start plan p line held world same (Moves one) spelled accepted (Moved one so.1) (so.0, refl) (denied.why, (denied.before, denied.one, denied.last, denied.refused)) tt (gone.0, gone.1.at) (gone.1.causes (failed_in p.been) causes) denied.why stop denied.stops
+    in_vain on start plan p line held world same (Moves one) spelled accepted (Moved one so.1 (sum_of (book_of old))) (so.0, refl) (denied.why, (denied.before, denied.one, denied.last, denied.refused)) tt (gone.0, gone.1.at) (gone.1.causes (failed_in p.been) causes) denied.why stop denied.stops
     (λ f is. (denied.before, denied.one, denied.why, denied.last, denied.refused, is)) (λ f is n there. so.4 f (denied.stops ∙ is) n ∙ lives n there)

@@ -1,5 +1,5 @@
 -- A session is opened.
-use Rattle.std.proofs.Common.{◌≡◌, ◌⊎◌, ◌+◌, ◌++◌, ◌∷◌, ◌<◌, ℕ, zero, suc, Bool, true, false, List, [], length, All, Option, Some, None, Ok, Err, refl, sym, ap, ◌∙◌, subst, inl, inr, ⊎_elim, arith}
+use Rattle.std.proofs.Common.{◌≡◌, ◌⊎◌, ◌+◌, ◌++◌, ◌∷◌, ◌<◌, ℕ, zero, suc, Bool, true, false, List, [], length, All, Option, Some, None, Ok, Err, refl, sym, ap, ap₂, ◌∙◌, subst, inl, inr, ⊎_elim, arith}
 use Rattle.std.specs.Prelude.{slice_get, not, nat_le, flat_map}
 use Rattle.std.specs.Io.KnownBytes.{Appends}
 use Rattle.std.proofs.lemmas.List.{append-nil, map-append}
@@ -18,6 +18,7 @@ use Rattle.session_model.specs.Acts.{Acted, greeting_of, opened_session}
 use Rattle.session_model.specs.Acts.Act.{Opens}
 use Rattle.session_model.specs.Events.{NodeLife}
 use Rattle.session_model.specs.Lives.{life_after}
+use Rattle.session_model.specs.Clocks.{seconds_after}
 use Rattle.session_model.specs.Turns.{Starts}
 use Rattle.session_model.specs.Turns.Turn.{Asking}
 use Rattle.session_model.specs.Run.{refusal, work_fault, can_serve, fault_if, is_no_node, is_on, count_on}
@@ -86,22 +87,22 @@ opens_plain protocol node greeting = record { lives = λ n life. refl; failed = 
 module _ {D : Type 0} (on : View D) (start : World D) (plan : Plan) (p : Point) (protocol : tape.Protocol) (node boot : ℕ) (old : Cluster D) (a : AdmitsSession plan old protocol node (Ok (node, boot)))
     (shows : IsAtPoint on start plan old p) where
   abbrev pub greeting : List ℕ
-  greeting = greeting_of protocol node boot (length p.sessions + 1) 0
+  greeting = greeting_of protocol node boot (length p.sessions + 1) (seconds_after p.been)
 
   abbrev pub opened_point : Option (List ℕ) → Point
-  opened_point held = record p { turn = Asking 1; sessions = p.sessions ++ opened_session protocol node ∷ []; been = p.been ++ Opens protocol node (greeting_of protocol node boot (length p.sessions + 1) 0) ∷ []; held = held }
+  opened_point held = record p { turn = Asking 1; sessions = p.sessions ++ opened_session protocol node ∷ []; been = p.been ++ Opens protocol node (greeting_of protocol node boot (length p.sessions + 1) (seconds_after p.been)) ∷ []; held = held }
 
   accepted : refusal plan p.been p.sessions (Open protocol node) ≡ None
   accepted = sym (opening_alike on start plan old p protocol node shows) ∙ a.4
 
-  opens_so : Starts plan p.been (Open protocol node) p.sessions (Opens protocol node (greeting_of protocol node boot (length p.sessions + 1) 0)) (Asking 1)
+  opens_so : Starts plan p.been (Open protocol node) p.sessions (Opens protocol node (greeting_of protocol node boot (length p.sessions + 1) (seconds_after p.been))) (Asking 1)
   opens_so = (boot, sym (shows.lives node a.3) ∙ a.1, refl, refl)
 
-  opens_acted : Acted plan p.sessions (Opens protocol node (greeting_of protocol node boot (length p.sessions + 1) 0)) (said_lines (length p.sessions + 1) (greeting_of protocol node boot (length p.sessions + 1) 0 ∷ []) ++ [])
+  opens_acted : Acted plan p.sessions (Opens protocol node (greeting_of protocol node boot (length p.sessions + 1) (seconds_after p.been))) (said_lines (length p.sessions + 1) (greeting_of protocol node boot (length p.sessions + 1) (seconds_after p.been) ∷ []) ++ [])
       (p.sessions ++ opened_session protocol node ∷ [])
   opens_acted = (refl, refl)
 
-  pub opened_started : (held : Option (List ℕ)) → Appends p.held held (written_of (said_lines (length p.sessions + 1) (greeting_of protocol node boot (length p.sessions + 1) 0 ∷ []) ++ []))
+  pub opened_started : (held : Option (List ℕ)) → Appends p.held held (written_of (said_lines (length p.sessions + 1) (greeting_of protocol node boot (length p.sessions + 1) (seconds_after p.been) ∷ []) ++ []))
       → IsStarted plan p (opened_point held) (Open protocol node)
   opened_started held gave = record {
     accepted = accepted;
@@ -119,7 +120,7 @@ module _ {D : Type 0} (on : View D) (start : World D) (plan : Plan) (p : Point) 
 
   -- its greeting was written in part
   pub opened_stopped : (line : List ℕ) (held : Option (List ℕ)) (reason : WriteStop) (world : World D) → world ≡ old.world → tape.tape_order line ≡ Some (Open protocol node)
-      → WritesEntries {E = WriteStop} p.held held (Err reason) (said_lines (length p.sessions + 1) (greeting_of protocol node boot (length p.sessions + 1) 0 ∷ []) ++ []) → LineStopped on start plan p line (of_write reason) held world
+      → WritesEntries {E = WriteStop} p.held held (Err reason) (said_lines (length p.sessions + 1) (greeting_of protocol node boot (length p.sessions + 1) (seconds_after p.been) ∷ []) ++ []) → LineStopped on start plan p line (of_write reason) held world
   opened_stopped line held reason world same spelled wrote =
       stops_first on start plan p (Open protocol node) line spelled accepted (Opens protocol node greeting) _ (Asking 1) (p.sessions ++ opened_session protocol node ∷ []) opens_so opens_acted [] refl tt
       reason held world wrote (p.awaited, rw (same, append-nil p.outcomes) shows.at)
@@ -178,8 +179,8 @@ not_greeted h old new n k text texts reason same is at wrote =
     (subst (λ (m : ℕ). WritesEntries {E = WriteStop} old new (Err reason) (said_lines m (text ∷ []) ++ [])) is
     (subst (λ (t : List ℕ). WritesEntries {E = WriteStop} old new (Err reason) (said_lines n (t ∷ []) ++ [])) at wrote))
 
-pub greets_same : (protocol : tape.Protocol) (node boot n m : ℕ) → n ≡ m → greeting_of protocol node boot (n + 1) 0 ≡ greeting_of protocol node boot (m + 1) 0
-greets_same protocol node boot n m same = ap (λ (i : ℕ). greeting_of protocol node boot (i + 1) 0) same
+pub greets_same : (protocol : tape.Protocol) (node boot n m seconds now : ℕ) → n ≡ m → seconds ≡ now → greeting_of protocol node boot (n + 1) seconds ≡ greeting_of protocol node boot (m + 1) now
+greets_same protocol node boot n m seconds now same clock = ap₂ (λ (i s : ℕ). greeting_of protocol node boot (i + 1) s) same clock
 
 pub all_one : (text : List ℕ) → HasNoCrlf text → All HasNoCrlf (text ∷ [])
 all_one text is = All-cons HasNoCrlf text [] is (All-nil HasNoCrlf)

@@ -51,6 +51,7 @@ use Rattle.drive_tape.specs.Drive.{HasLetters}
 use Rattle.drive_tape.specs.Kept.{IsBlindOrder, AreBlindLines, AreToldOrBlind, KeptIn}
 use Rattle.drive_tape.specs.Points.{IsAtOwnNode, AreAtOwnNodes}
 use Rattle.drive_tape.proofs.Led.{MayLackOne}
+use Rattle.drive_tape.proofs.Clocks.{ticked_by}
 use Rattle.drive_tape.proofs.LineActs.{begun_is_asked, moved_by_line}
 use Rattle.drive_tape.proofs.OpenedKinds.{driven_kinds}
 
@@ -85,6 +86,8 @@ order_blind nodes (order.Drop letter) steps (result, are) blind = subst (AreBlin
 order_blind nodes order.Flow steps are blind = posts_blind nodes steps are
 order_blind nodes (order.Push node) steps are blind = pushes_blind nodes node steps blind are
 order_blind nodes (order.Widen at user id to) steps (result, are) blind = subst (AreBlind nodes) (sym are) (tt, tt)
+order_blind nodes (order.Tick seconds) steps (result, are) blind = subst (AreBlind nodes) (sym are) (tt, tt)
+order_blind nodes order.Sum steps are blind = subst (AreBlind nodes) (sym are) tt
 
 line_blind : (nodes : ℕ) (lines : List (List ℕ)) (line : List ℕ) → AreBlindLines nodes lines → Among line lines → IsBlindOrder nodes (tape_order line)
 line_blind nodes [] line all among = absurd among
@@ -99,7 +102,7 @@ all_blind on nodes [] awaited left old new makes blind = tt
 all_blind {D} on nodes (outcome ∷ more) awaited left old new (between, mid, came, makes) blind = (one outcome came (λ asked is. blind asked (inl is)), all_blind on nodes more between left mid new makes (λ asked among. blind asked (inr among)))
   where
     one : (outcome : Outcome) → Came on outcome awaited old between mid → ((asked : ClusterOrder) → made_of outcome ≡ Made.Moves asked → IsBlindOrder nodes (Some (tape.Order.Moves asked))) → IsOfBlind nodes outcome
-    one (Moved asked steps) (made, waits) may = order_blind nodes asked steps (order_are on asked steps old mid made) (may asked refl)
+    one (Moved asked steps sum) (made, waits) may = order_blind nodes asked steps (order_are on asked steps old mid made) (may asked refl)
     one (Began k node asked ticket) came may = tt
     one (Refused k node asked) came may = tt
     one (Fell k node asked) came may = tt
@@ -200,7 +203,10 @@ module _ {D : Type 0} (on : View D) (start last : World D) (begins : IsAtBeginni
   of_sessions (Abandoned k asked ticket) among = tt
   of_sessions (KeptUp k ticket why) among = tt
   of_sessions (Left k node user) among = tt
-  of_sessions (Moved asked made_steps) among = tt
+  of_sessions (Moved (order.Tick seconds) made_steps sum) among =
+      let found = moved_by_line plan stop handled midst acts behind made entries sessions driven (order.Tick seconds) (made_in _ among) in
+      inr (ticked_by lines found.0 seconds found.1 found.2)
+  of_sessions (Moved asked made_steps sum) among = tt
 
   -- the disks tell what they hold, or no step needs it
   pub known : AreToldOrBlind on start lines → AreKnown on start outcomes

@@ -121,7 +121,7 @@ one_linked before (Does k Closes) own led = subst (λ (os : List Outcome). AreLi
 one_linked before (Faults node) own led = subst (λ (os : List Outcome). AreLinked (Faults node ∷ []) os [] []) (sym led.0) (record { made = refl; asked = refl; answered = refl })
 one_linked before (StillWaits k) own led = subst (λ (os : List Outcome). AreLinked (StillWaits k ∷ []) os [] []) (sym led.1) (record { made = refl; asked = refl; answered = refl })
 one_linked before (Leaves k user) own led = subst (λ (os : List Outcome). AreLinked (Leaves k user ∷ []) os [] []) (sym led.1) (record { made = refl; asked = refl; answered = refl })
-one_linked before (Makes asked event) own led = subst (λ (os : List Outcome). AreLinked (Makes asked event ∷ []) os [] []) (sym led.1) (record { made = refl; asked = refl; answered = refl })
+one_linked before (Makes asked event) own led = subst (λ (os : List Outcome). AreLinked (Makes asked event ∷ []) os [] []) (sym led.2) (record { made = refl; asked = refl; answered = refl })
 one_linked before (Abandons k) own led = subst (λ (os : List Outcome). AreLinked (Abandons k ∷ []) os [] []) (sym led.2) (record { made = refl; asked = refl; answered = refl })
 
 pub led_linked : (before : List Outcome) (acts : List Act) (outcomes : List Outcome) → AreLed before acts outcomes → AreLinked acts outcomes [] []
@@ -143,7 +143,7 @@ lacks_none OutOfMemory lacking none = inl none
 untold_linked : (outcome : Outcome) → IsUntold outcome → AreLinked [] (outcome ∷ []) [] (made_of outcome ∷ [])
 untold_linked (Unanswered k asked ticket) untold = record { made = refl; asked = refl; answered = refl }
 untold_linked (KeptUp k ticket why) untold = record { made = refl; asked = refl; answered = refl }
-untold_linked (Moved asked steps) untold = record { made = refl; asked = refl; answered = refl }
+untold_linked (Moved asked steps sum) untold = record { made = refl; asked = refl; answered = refl }
 untold_linked outcome untold = absurd untold
 
 nothing_linked : (k : ℕ) (one : Exchange) (asked : Call) (outcome : Outcome) (lacking : List Asked) → one.call ≡ Some asked → CameToNothing k asked outcome lacking

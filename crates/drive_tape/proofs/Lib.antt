@@ -28,6 +28,7 @@ pub mod LineActs
 pub mod OpenedKinds
 pub mod Wholes
 pub mod Kept
+pub mod Clocks
 pub mod Drives
 pub mod Joins
 pub mod Fed

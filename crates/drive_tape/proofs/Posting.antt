@@ -7,6 +7,7 @@ use Rattle.std.proofs.lemmas.Bool.{cases_lt}
 use Rattle.std.proofs.Math.Nat.{min-eq_left, min-eq_right, min-le_right}
 use Rattle.object_model.specs.Lists.{Among}
 use Rattle.mail_model.specs.Plan.{Plan}
+use Rattle.session_model.specs.Sums.{BookSum, sum_of}
 use Rattle.mail_model.specs.Tape.{ClusterOrder}
 use Rattle.mail_model.specs.Tape.{ClusterOrder as order}
 use Rattle.mail_model.specs.Transcript as transcript
@@ -19,7 +20,7 @@ use Rattle.mail_model.specs.Site.TapeFault.{NoSuchNode}
 use Rattle.session_model.specs.Run.{IsAlwaysDone, is_no_node, fault_if}
 use Rattle.cluster_world.specs.Lives.{is_up_life}
 use Rattle.drive_tape.specs.Happenings.{event_seen, why_seen, fallen_by}
-use Rattle.cluster_world.specs.Worlds.{state_of, plan_of, life_of, life_in}
+use Rattle.cluster_world.specs.Worlds.{state_of, plan_of, life_of, life_in, book_of}
 use Rattle.cluster_world.specs.Steps.{IsStep, SaysSo, FallsSo, WasToWork}
 use Rattle.cluster_world.specs.Turns.{life_after_step}
 use Rattle.cluster_world.specs.Flows.{IsDelivered, AllDelivered, FlowsSo, HasFlowed}
@@ -44,8 +45,8 @@ use Rattle.drive_tape.specs.Moved.{OrderIsFit, Happened, MovedSo, PushedSo, Post
 use Rattle.drive_tape.proofs.Stepping.{IsCalm, AreCalm, steps_last, steps_more, plan_kept, calm_lives, may_fault, happens_calm, happens_after, happens, denied_after, denied, one_among}
 
 -- that the disk of a node failed is told of any line
-tells_fault : (asked : ClusterOrder) (steps : List StepMade) (node : ℕ) → EndsIn (Ok (said.Faulted node)) steps → Tells asked steps (plain.ClusterEvent.HasFaulted node)
-tells_fault asked steps node ends = ends
+tells_fault : (asked : ClusterOrder) (steps : List StepMade) (sum : BookSum) (node : ℕ) → EndsIn (Ok (said.Faulted node)) steps → Tells asked steps sum (plain.ClusterEvent.HasFaulted node)
+tells_fault asked steps sum node ends = ends
 
 -- the order of a line that posts
 abbrev pub post_order : Bool → ℕ → ClusterOrder
@@ -57,14 +58,14 @@ are_post on old new true letter r is = (r, refl, is)
 are_post on old new false letter r is = (r, refl, is)
 
 -- what it tells
-tells_heard : (keep : Bool) (letter : ℕ) → Tells (post_order keep letter) (record { step = step.Post letter keep; result = Ok said.Heard } ∷ []) (plain.ClusterEvent.WasHeard letter)
-tells_heard true letter = (record { step = step.Post letter true; result = Ok said.Heard }, refl, refl)
-tells_heard false letter = (record { step = step.Post letter false; result = Ok said.Heard }, refl, refl)
+tells_heard : (keep : Bool) (letter : ℕ) (sum : BookSum) → Tells (post_order keep letter) (record { step = step.Post letter keep; result = Ok said.Heard } ∷ []) sum (plain.ClusterEvent.WasHeard letter)
+tells_heard true letter sum = (record { step = step.Post letter true; result = Ok said.Heard }, refl, refl)
+tells_heard false letter sum = (record { step = step.Post letter false; result = Ok said.Heard }, refl, refl)
 
-tells_thrown : (keep : Bool) (letter : ℕ) (why : Why)
-    → Tells (post_order keep letter) (record { step = step.Post letter keep; result = Ok (said.Thrown why) } ∷ []) (plain.ClusterEvent.WasThrown letter (why_seen why))
-tells_thrown true letter why = (record { step = step.Post letter true; result = Ok (said.Thrown why) }, refl, refl)
-tells_thrown false letter why = (record { step = step.Post letter false; result = Ok (said.Thrown why) }, refl, refl)
+tells_thrown : (keep : Bool) (letter : ℕ) (sum : BookSum) (why : Why)
+    → Tells (post_order keep letter) (record { step = step.Post letter keep; result = Ok (said.Thrown why) } ∷ []) sum (plain.ClusterEvent.WasThrown letter (why_seen why))
+tells_thrown true letter sum why = (record { step = step.Post letter true; result = Ok (said.Thrown why) }, refl, refl)
+tells_thrown false letter sum why = (record { step = step.Post letter false; result = Ok (said.Thrown why) }, refl, refl)
 
 never_post : (keep : Bool) (letter : ℕ) → IsAlwaysDone (post_order keep letter) → ⊥
 never_post true letter always = always
@@ -250,7 +251,7 @@ module _ {D : Type 0} (on : View D) (start old : World D) (outcomes : List Outco
     pub faults_after : (new mid : World D) (front : List StepMade) (one : StepMade) (node : ℕ) → MakesSteps on front old mid → AreCalm front → IsStep on one.result one.step mid new → MakesOrder on order (front ++ one ∷ []) old new
         → one.result ≡ Ok (said.Faulted node) → IsEventOf (plan_of old) (life_after been) order (plain.ClusterEvent.HasFaulted node) → Happened on start outcomes awaited been old order (HasFaulted node) new
     faults_after new mid front one node before calm last are failed is =
-        happens_after on start old outcomes awaited been order fit new mid front one (HasFaulted node) before calm last are (tells_fault order (front ++ one ∷ []) node (front, one, refl, failed)) (ap (λ (r : Result Said StepFault). fallen_in one.step r) failed) is
+        happens_after on start old outcomes awaited been order fit new mid front one (HasFaulted node) before calm last are (tells_fault order (front ++ one ∷ []) (sum_of (book_of old)) node (front, one, refl, failed)) (ap (λ (r : Result Said StepFault). fallen_in one.step r) failed) is
         (λ n was. ap (λ (r : Result Said StepFault). life_after_step r one.step n was) failed) (λ n among. failed ∙ ap (λ (m : ℕ). Ok (said.Faulted m)) (one_among n node among))
 
     -- which was one that may fail
@@ -342,7 +343,7 @@ module _ {D : Type 0} (on : View D) (start old : World D) (outcomes : List Outco
 
   -- what came of posting a letter
   module _ (keep : Bool) (letter : ℕ) (fit : OrderIsFit on start outcomes awaited been (post_order keep letter) old) (new : World D) where
-    posted_so : (r : Result Said StepFault) (happened event : ClusterEvent) → IsStep on r (step.Post letter keep) old new → happened ≡ event → Tells (post_order keep letter) (record { step = step.Post letter keep; result = r } ∷ []) (event_seen event) → fallen_in (step.Post letter keep) r ≡ fallen_by (event_seen event)
+    posted_so : (r : Result Said StepFault) (happened event : ClusterEvent) → IsStep on r (step.Post letter keep) old new → happened ≡ event → Tells (post_order keep letter) (record { step = step.Post letter keep; result = r } ∷ []) (sum_of (book_of old)) (event_seen event) → fallen_in (step.Post letter keep) r ≡ fallen_by (event_seen event)
         → IsEventOf (plan_of old) (life_after been) (post_order keep letter) (event_seen event) → ((n : ℕ) (was : NodeLife) → life_after_step r (step.Post letter keep) n was ≡ plain.life_by_event (event_seen event) n was)
         → ((n : ℕ) → Among n (plain.failed_by_event (event_seen event)) → r ≡ Ok (said.Faulted n)) → MovedSo on start outcomes awaited been old (post_order keep letter) (Ok happened) new
     posted_so r happened event is same tells falls may lives failed =
@@ -352,15 +353,15 @@ module _ {D : Type 0} (on : View D) (start old : World D) (outcomes : List Outco
     pub post_done : (r : Result Said StepFault) (handed : Result ClusterEvent Stop) → PostsTo letter r handed → IsStep on r (step.Post letter keep) old new
         → MovedSo on start outcomes awaited been old (post_order keep letter) handed new
     post_done (Ok said.Heard) (Ok happened) posts is =
-        posted_so (Ok said.Heard) happened (WasHeard letter) is posts (tells_heard keep letter) refl (is_heard (plan_of old) (life_after been) keep letter) (λ n was. refl) (λ n among. absurd among)
+        posted_so (Ok said.Heard) happened (WasHeard letter) is posts (tells_heard keep letter (sum_of (book_of old))) refl (is_heard (plan_of old) (life_after been) keep letter) (λ n was. refl) (λ n among. absurd among)
     post_done (Ok said.Heard) (Err stop) posts is = absurd posts
     post_done (Ok (said.Thrown why)) (Ok happened) posts is =
-        posted_so (Ok (said.Thrown why)) happened (WasThrown letter why) is posts (tells_thrown keep letter why) refl (is_thrown (plan_of old) (life_after been) keep letter (why_seen why)) (λ n was. refl) (λ n among. absurd among)
+        posted_so (Ok (said.Thrown why)) happened (WasThrown letter why) is posts (tells_thrown keep letter (sum_of (book_of old)) why) refl (is_thrown (plan_of old) (life_after been) keep letter (why_seen why)) (λ n was. refl) (λ n among. absurd among)
     post_done (Ok (said.Thrown why)) (Err stop) posts is = absurd posts
     post_done (Ok (said.Faulted node)) (Ok happened) posts is =
         let one : StepMade = record { step = step.Post letter keep; result = Ok (said.Faulted node) } in
         let may = may_fault_after (post_order keep letter) fit new old [] one node letter keep refl tt is refl refl in
-        posted_so (Ok (said.Faulted node)) happened (HasFaulted node) is posts (tells_fault (post_order keep letter) (one ∷ []) node ([], one, refl, refl)) refl (is_fault_of_post (plan_of old) (life_after been) keep letter node may) (λ n was. refl)
+        posted_so (Ok (said.Faulted node)) happened (HasFaulted node) is posts (tells_fault (post_order keep letter) (one ∷ []) (sum_of (book_of old)) node ([], one, refl, refl)) refl (is_fault_of_post (plan_of old) (life_after been) keep letter node may) (λ n was. refl)
         (λ n among. ap (λ (m : ℕ). Ok (said.Faulted m)) (one_among n node among))
     post_done (Ok (said.Faulted node)) (Err stop) posts is = absurd posts
     post_done (Ok (said.Begun ticket stirs)) handed posts is = absurd is.did.kind

@@ -4,6 +4,7 @@ use Rattle.std.proofs.lemmas.Bool.Decides.{nat_tests}
 use Rattle.std.specs.Prelude.{◌||◌, ⊤}
 use Rattle.object_model.specs.Lists.{Among}
 use Rattle.mail_model.specs.Plan.{Plan}
+use Rattle.session_model.specs.Sums.{sum_of}
 use Rattle.mail_model.specs.Tape.{ClusterOrder}
 use Rattle.session_model.specs.Acts.{Act}
 use Rattle.session_model.specs.Acts.Act.{Makes as MakesAct}
@@ -12,7 +13,7 @@ use Rattle.session_model.specs.Events.NodeLife.{Up}
 use Rattle.session_model.specs.Lives.{life_by, life_from, life_after}
 use Rattle.session_model.specs.Run.{IsAlwaysDone, is_no_node}
 use Rattle.node_store.specs.Disks.{View}
-use Rattle.cluster_world.specs.Worlds.{state_of, plan_of, life_of}
+use Rattle.cluster_world.specs.Worlds.{state_of, plan_of, life_of, book_of}
 use Rattle.cluster_world.specs.Steps.{StepDid, IsStep, WasToWork}
 use Rattle.cluster_world.specs.Turns.{life_after_step}
 use Rattle.cluster_world.specs.Outcomes.{Outcome, Awaited, StepMade, MakesSteps, MakesOrder, fallen_in, left_after, left_after_all}
@@ -106,13 +107,13 @@ module _ {D : Type 0} (on : View D) where
         }
 
     -- steps in which no node changed, and nothing else was to come of them
-    pub happens_calm : (new : World D) (steps : List StepMade) (event : ClusterEvent) → MakesOrder on order steps old new → AreCalm steps → Tells order steps (event_seen event) → fallen_by (event_seen event) ≡ None
+    pub happens_calm : (new : World D) (steps : List StepMade) (event : ClusterEvent) → MakesOrder on order steps old new → AreCalm steps → Tells order steps (sum_of (book_of old)) (event_seen event) → fallen_by (event_seen event) ≡ None
         → IsEventOf (plan_of old) (life_after been) order (event_seen event) → ((n : ℕ) (was : NodeLife) → life_by_event (event_seen event) n was ≡ was) → ((n : ℕ) → Among n (failed_by_event (event_seen event)) → ⊥)
         → Happened on start outcomes awaited been old order event new
     happens_calm new steps event makes calm tells falls is lives none = record {
       steps = steps;
-      at = subst (λ (a : List Awaited). WentTo on start old (outcomes ++ Moved order steps ∷ []) a new) left
-          (went_more on start outcomes awaited old fit.at (Moved order steps) (left_after_all steps awaited) new (makes, refl) tt);
+      at = subst (λ (a : List Awaited). WentTo on start old (outcomes ++ Moved order steps (sum_of (book_of old)) ∷ []) a new) left
+          (went_more on start outcomes awaited old fit.at (Moved order steps (sum_of (book_of old))) (left_after_all steps awaited) new (makes, refl, refl) tt);
       is = is;
       tells = tells;
       lives = λ n there. calm_lives steps old new (order_makes on order steps old new makes) calm n ∙ fit.lives n there ∙ sym (life_more been (MakesAct order (event_seen event)) n (Up 1) ∙ lives n (life_after been n));
@@ -128,14 +129,14 @@ module _ {D : Type 0} (on : View D) where
 
     -- such steps, and one more of which something came
     pub happens_after : (new mid : World D) (front : List StepMade) (one : StepMade) (event : ClusterEvent) → MakesSteps on front old mid → AreCalm front → IsStep on one.result one.step mid new
-        → MakesOrder on order (front ++ one ∷ []) old new → Tells order (front ++ one ∷ []) (event_seen event) → fallen_in one.step one.result ≡ fallen_by (event_seen event) → IsEventOf (plan_of old) (life_after been) order (event_seen event)
+        → MakesOrder on order (front ++ one ∷ []) old new → Tells order (front ++ one ∷ []) (sum_of (book_of old)) (event_seen event) → fallen_in one.step one.result ≡ fallen_by (event_seen event) → IsEventOf (plan_of old) (life_after been) order (event_seen event)
         → ((n : ℕ) (was : NodeLife) → life_after_step one.result one.step n was ≡ life_by_event (event_seen event) n was)
         → ((n : ℕ) → Among n (failed_by_event (event_seen event)) → one.result ≡ Ok (said.Faulted n)) → Happened on start outcomes awaited been old order event new
     happens_after new mid front one event before calm last makes tells falls is lives failed = record {
       steps = front ++ one ∷ [];
-      at = subst (λ (a : List Awaited). WentTo on start old (outcomes ++ Moved order (front ++ one ∷ []) ∷ []) a new)
+      at = subst (λ (a : List Awaited). WentTo on start old (outcomes ++ Moved order (front ++ one ∷ []) (sum_of (book_of old)) ∷ []) a new)
           (calm_left front (one ∷ []) awaited calm ∙ ap (λ (f : Option ℕ). left_after f awaited) falls)
-          (went_more on start outcomes awaited old fit.at (Moved order (front ++ one ∷ [])) (left_after_all (front ++ one ∷ []) awaited) new (makes, refl) tt);
+          (went_more on start outcomes awaited old fit.at (Moved order (front ++ one ∷ []) (sum_of (book_of old))) (left_after_all (front ++ one ∷ []) awaited) new (makes, refl, refl) tt);
       is = is;
       tells = tells;
       lives = λ n there.
@@ -156,14 +157,14 @@ module _ {D : Type 0} (on : View D) where
       record { before = front; one = one; last = refl; why = why; refused = refused; stops = stops },
       (
         left_after_all (front ++ one ∷ []) awaited,
-        went_more on start outcomes awaited old fit.at (Moved order (front ++ one ∷ [])) (left_after_all (front ++ one ∷ []) awaited) new (makes, refl) tt,
+        went_more on start outcomes awaited old fit.at (Moved order (front ++ one ∷ []) (sum_of (book_of old))) (left_after_all (front ++ one ∷ []) awaited) new (makes, refl, refl) tt,
       ),
       λ f bad n. last.did.lives n ∙ ap (λ (r : Result Said StepFault). life_after_step r one.step n (life_of mid n)) refused ∙ refused_life why one.step n (life_of mid n) f (sym stops ∙ bad)
           ∙ calm_lives front old mid before calm n,
     )
 
     -- a line of one step
-    pub happens : (new : World D) (s : Step) (r : Result Said StepFault) (event : ClusterEvent) → IsStep on r s old new → MakesOrder on order (record { step = s; result = r } ∷ []) old new → Tells order (record { step = s; result = r } ∷ []) (event_seen event) → fallen_in s r ≡ fallen_by (event_seen event)
+    pub happens : (new : World D) (s : Step) (r : Result Said StepFault) (event : ClusterEvent) → IsStep on r s old new → MakesOrder on order (record { step = s; result = r } ∷ []) old new → Tells order (record { step = s; result = r } ∷ []) (sum_of (book_of old)) (event_seen event) → fallen_in s r ≡ fallen_by (event_seen event)
         → IsEventOf (plan_of old) (life_after been) order (event_seen event) → ((n : ℕ) (was : NodeLife) → life_after_step r s n was ≡ life_by_event (event_seen event) n was)
         → ((n : ℕ) → Among n (failed_by_event (event_seen event)) → r ≡ Ok (said.Faulted n)) → Happened on start outcomes awaited been old order event new
     happens new s r event last makes tells falls is lives failed = happens_after new old [] (record { step = s; result = r }) event refl tt last makes tells falls is lives failed

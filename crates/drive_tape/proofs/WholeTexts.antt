@@ -73,6 +73,8 @@ are_ended (order.Drop letter) steps are = one_ended _ steps tt are.0 are.1
 are_ended order.Flow steps are = posts_ended steps are
 are_ended (order.Push node) steps are = pushes_ended node steps are
 are_ended (order.Widen node user id to) steps are = one_ended _ steps tt are.0 are.1
+are_ended (order.Tick seconds) steps are = one_ended _ steps tt are.0 are.1
+are_ended order.Sum steps are = subst AreEnded (sym are) tt
 
 pub front_ended : (front more : List StepMade) → AreEnded (front ++ more) → AreEnded front
 front_ended [] more ended = tt

@@ -3,6 +3,7 @@ use Rattle.std.proofs.Common.{◌≡◌, ◌≢◌, ◌⊎◌, inl, inr, ⊎_eli
 use Rattle.std.specs.Prelude.{if◌then◌else◌}
 use Rattle.std.proofs.lemmas.Bool.{eqb-true}
 use Rattle.std.proofs.lemmas.List.Elements.{All-head, All-tail}
+use Rattle.session_model.specs.Sums.{BookSum}
 use Rattle.mail_model.specs.Tape.{ClusterOrder}
 use Rattle.mail_model.specs.Tape.{ClusterOrder as order}
 use Rattle.object_model.specs.Lists.{Among}
@@ -48,6 +49,7 @@ done_up (step.Post letter keep) n now was is = is
 done_up (step.Drop letter) n now was is = is
 done_up (step.Push from to) n now was is = is
 done_up (step.Widen at user id to) n now was is = is
+done_up (step.Tick seconds) n now was is = is
 done_up (step.Crash node) n now was is = turned_up node n now Down was down_not_up is
 done_up (step.Start node) n now was is = is
 done_up (step.Lose node) n now was is = turned_up node n now Lost was lost_not_up is
@@ -60,6 +62,7 @@ comes_up (step.Post letter keep) boot n now was is = inl is
 comes_up (step.Drop letter) boot n now was is = inl is
 comes_up (step.Push from to) boot n now was is = inl is
 comes_up (step.Widen at user id to) boot n now was is = inl is
+comes_up (step.Tick seconds) boot n now was is = inl is
 comes_up (step.Crash node) boot n now was is = inl is
 comes_up (step.Lose node) boot n now was is = inl is
 comes_up (step.Start node) boot n now was is = by (nat_eq node n) refl is
@@ -109,19 +112,21 @@ pushes_start node (first ∷ steps) one n all among starts = ⊎_elim
     (λ (same : first ≡ one). let is : IsPushOf node one = subst (IsPushOf node) same (All-head (IsPushOf node) first steps all) in let never : step.Push node is.0 ≡ step.Start n = sym is.1 ∙ starts in cc)
     (λ (rest : Among one steps). pushes_start node steps one n (All-tail (IsPushOf node) first steps all) rest starts) among
 
-order_starts : (asked : ClusterOrder) (steps : List StepMade) (one : StepMade) (n : ℕ) → AreStepsOf asked steps → Among one steps → one.step ≡ step.Start n → StartsAgain n (Moved asked steps)
-order_starts (order.Crash node) steps one n are among starts = absurd (let never : step.Crash node ≡ step.Start n = one_starts (step.Crash node) steps one n are among starts in cc)
-order_starts (order.Lose node) steps one n are among starts = absurd (let never : step.Lose node ≡ step.Start n = one_starts (step.Lose node) steps one n are among starts in cc)
-order_starts (order.Start node) steps one n are among starts = start_same node n (one_starts (step.Start node) steps one n are among starts)
+order_starts : (asked : ClusterOrder) (steps : List StepMade) (sum : BookSum) (one : StepMade) (n : ℕ) → AreStepsOf asked steps → Among one steps → one.step ≡ step.Start n → StartsAgain n (Moved asked steps sum)
+order_starts (order.Crash node) steps sum one n are among starts = absurd (let never : step.Crash node ≡ step.Start n = one_starts (step.Crash node) steps one n are among starts in cc)
+order_starts (order.Lose node) steps sum one n are among starts = absurd (let never : step.Lose node ≡ step.Start n = one_starts (step.Lose node) steps one n are among starts in cc)
+order_starts (order.Start node) steps sum one n are among starts = start_same node n (one_starts (step.Start node) steps one n are among starts)
   where
     start_same : (a b : ℕ) → step.Start a ≡ step.Start b → a ≡ b
     start_same a b e = cc
-order_starts (order.Post letter) steps one n are among starts = absurd (let never : step.Post letter false ≡ step.Start n = one_starts (step.Post letter false) steps one n are among starts in cc)
-order_starts (order.Again letter) steps one n are among starts = absurd (let never : step.Post letter true ≡ step.Start n = one_starts (step.Post letter true) steps one n are among starts in cc)
-order_starts (order.Drop letter) steps one n are among starts = absurd (let never : step.Drop letter ≡ step.Start n = one_starts (step.Drop letter) steps one n are among starts in cc)
-order_starts order.Flow steps one n are among starts = absurd (posts_start steps one n are among starts)
-order_starts (order.Push node) steps one n are among starts = absurd (pushes_start node steps one n are among starts)
-order_starts (order.Widen at user id to) steps one n are among starts = absurd (let never : step.Widen at user id to ≡ step.Start n = one_starts (step.Widen at user id to) steps one n are among starts in cc)
+order_starts (order.Post letter) steps sum one n are among starts = absurd (let never : step.Post letter false ≡ step.Start n = one_starts (step.Post letter false) steps one n are among starts in cc)
+order_starts (order.Again letter) steps sum one n are among starts = absurd (let never : step.Post letter true ≡ step.Start n = one_starts (step.Post letter true) steps one n are among starts in cc)
+order_starts (order.Drop letter) steps sum one n are among starts = absurd (let never : step.Drop letter ≡ step.Start n = one_starts (step.Drop letter) steps one n are among starts in cc)
+order_starts order.Flow steps sum one n are among starts = absurd (posts_start steps one n are among starts)
+order_starts (order.Push node) steps sum one n are among starts = absurd (pushes_start node steps one n are among starts)
+order_starts (order.Widen at user id to) steps sum one n are among starts = absurd (let never : step.Widen at user id to ≡ step.Start n = one_starts (step.Widen at user id to) steps one n are among starts in cc)
+order_starts (order.Tick seconds) steps sum one n are among starts = absurd (let never : step.Tick seconds ≡ step.Start n = one_starts (step.Tick seconds) steps one n are among starts in cc)
+order_starts order.Sum steps sum one n are among starts = absurd (subst (Among one) are among)
 
 -- a node that is up now was so, in the same boot, and its disk has not failed since
 pub record IsWhole {D : Type 0} (on : View D) (n now : ℕ) (old new : World D) : Type 0 where
@@ -163,7 +168,7 @@ module _ {D : Type 0} (on : View D) (n now : ℕ) where
   whole_came (Abandoned k asked ticket) awaited left old mid new came other later = whole_step _ _ old mid new came.1 (λ e. cc) later
   whole_came (KeptUp k ticket why) awaited left old mid new came other later = whole_step _ _ old mid new came.2 (λ e. cc) later
   whole_came (Left k node user) awaited left old mid new came other later = whole_step _ _ old mid new came.3 (λ e. cc) later
-  whole_came (Moved asked steps) awaited left old mid new came other later = whole_steps steps old mid new (order_makes on asked steps old mid came.0) (λ one among starts. other (order_starts asked steps one n (order_are on asked steps old mid came.0) among starts)) later
+  whole_came (Moved asked steps sum) awaited left old mid new came other later = whole_steps steps old mid new (order_makes on asked steps old mid came.0) (λ one among starts. other (order_starts asked steps sum one n (order_are on asked steps old mid came.0) among starts)) later
 
   whole_makes : (outcomes : List Outcome) (awaited left : List Awaited) (old new : World D) → Makes on outcomes awaited old left new → ((outcome : Outcome) → Among outcome outcomes → StartsAgain n outcome → ⊥)
       → life_of new n ≡ Up now → IsWhole on n now old new

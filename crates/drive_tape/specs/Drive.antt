@@ -82,7 +82,7 @@ NamesLine (drove.NoMemory n) line = n ≡ line
 
 -- the last step of an outcome was refused, for this fault of the tape
 abbrev pub IsDenied : TapeFault → Outcome → Type 0
-IsDenied fault (Moved order steps) = (before : List StepMade) × (one : StepMade) × (cause : StepFault) × (steps ≡ before ++ one ∷ []) × (one.result ≡ Err cause) × (stop_by cause ≡ why.Bad fault)
+IsDenied fault (Moved order steps sum) = (before : List StepMade) × (one : StepMade) × (cause : StepFault) × (steps ≡ before ++ one ∷ []) × (one.result ≡ Err cause) × (stop_by cause ≡ why.Bad fault)
 IsDenied fault (KeptUp k ticket cause) = stop_by cause ≡ why.Bad fault
 IsDenied fault outcome = ⊥
 
@@ -105,7 +105,7 @@ Stops why.NoMemory stop plan been sessions midst left octets room outcomes = (st
 
 -- a run line started the node
 abbrev pub StartsAgain : ℕ → Outcome → Type 0
-StartsAgain n (Moved (order.Start node) steps) = node ≡ n
+StartsAgain n (Moved (order.Start node) steps sum) = node ≡ n
 StartsAgain n outcome = ⊥
 
 -- Whatever world the run came by, a node that is up at last and was not started again behind it has a disk that has not failed since.

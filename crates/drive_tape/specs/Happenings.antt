@@ -6,9 +6,10 @@ use Rattle.mail_model.specs.Transcript.{Entry}
 use Rattle.mail_model.specs.Transcript.Entry.{Event}
 use Rattle.session_model.specs.Events as plain
 use Rattle.node_core.specs.declared.outbox.Why.{Why}
+use Rattle.cluster_world.specs.Sums.{sum_seen}
 use Rattle.node_core.specs.declared.outbox.Why.TheVariants as why
 use Rattle.drive_tape.specs.declared.event.ClusterEvent.{ClusterEvent}
-use Rattle.drive_tape.specs.declared.event.ClusterEvent.TheVariants.{WentDown, CameUp, WasLost, WasHeard, WasThrown, WasDropped, HasFlowed, HasSent, HasWidened, HasFaulted}
+use Rattle.drive_tape.specs.declared.event.ClusterEvent.TheVariants.{WentDown, CameUp, WasLost, WasHeard, WasThrown, WasDropped, HasFlowed, HasSent, HasWidened, HasTicked, HasSummed, HasFaulted}
 use Rattle.drive_tape.specs.declared.entry.WriteStop.{WriteStop}
 use Rattle.drive_tape.specs.declared.entry.WriteStop.TheVariants as write
 use Rattle.drive_tape.specs.Entries.{WritesEntries}
@@ -31,6 +32,8 @@ event_seen (WasDropped letter) = plain.ClusterEvent.WasDropped letter
 event_seen HasFlowed = plain.ClusterEvent.HasFlowed
 event_seen (HasSent count) = plain.ClusterEvent.HasSent count
 event_seen (HasWidened did) = plain.ClusterEvent.HasWidened did
+event_seen HasTicked = plain.ClusterEvent.HasTicked
+event_seen (HasSummed sum) = plain.ClusterEvent.HasSummed (sum_seen sum)
 event_seen (HasFaulted node) = plain.ClusterEvent.HasFaulted node
 
 -- the line of this text, where there is one

@@ -1,11 +1,12 @@
 -- What the cluster made of each act of a run, and what each run line tells of the steps that were made for it.
 use Rattle.std.specs.Prelude.{◌≡◌, ◌⊎◌, ℕ, ◌+◌, ◌-◌, ◌^◌, min, false, List, [], ◌∷◌, ◌++◌, ⊤, Option, Some, None, Result, Ok, Err}
 use Rattle.object_model.specs.Letters.{Number}
+use Rattle.session_model.specs.Sums.{BookSum}
 use Rattle.mail_model.specs.Tape.{ClusterOrder}
 use Rattle.mail_model.specs.Tape.{ClusterOrder as order}
 use Rattle.session_model.specs.Calls.{Call}
 use Rattle.session_model.specs.Events.{ClusterEvent}
-use Rattle.session_model.specs.Events.ClusterEvent.{WentDown, CameUp, WasLost, WasHeard, WasThrown, WasDropped, HasFlowed, HasSent, HasWidened, HasFaulted}
+use Rattle.session_model.specs.Events.ClusterEvent.{WentDown, CameUp, WasLost, WasHeard, WasThrown, WasDropped, HasFlowed, HasSent, HasWidened, HasTicked, HasSummed, HasFaulted}
 use Rattle.session_model.specs.Acts.{Act}
 use Rattle.session_model.specs.Acts.Act.{Opens, Does, Faults, StillWaits, Leaves, Makes, Abandons}
 use Rattle.session_model.specs.Acts.Deed.{IsFed, Hears, IsAnswered, IsGivenUp, Falls, Closes}
@@ -30,6 +31,7 @@ told_of (step.Post letter keep) (Ok said.Heard) = Some (WasHeard letter)
 told_of (step.Post letter keep) (Ok (said.Thrown why)) = Some (WasThrown letter (why_seen why))
 told_of (step.Drop letter) (Ok said.Done) = Some (WasDropped letter)
 told_of (step.Widen at user id to) (Ok (said.Widened did)) = Some (HasWidened did)
+told_of (step.Tick seconds) (Ok said.Done) = Some HasTicked
 told_of step result = None
 
 -- none of the steps failed
@@ -50,13 +52,14 @@ sent_in (one ∷ more) = sent_of one.result + sent_in more
 abbrev pub EndsIn : Result Said StepFault → List StepMade → Type 0
 EndsIn result steps = (before : List StepMade) × (one : StepMade) × (steps ≡ before ++ one ∷ []) × (one.result ≡ result)
 
--- What a run line tells of its steps. That the disk of a node failed is told of the last of them; else what came of the one that there is, or of all. A count of letters
--- stays at its type's end.
-abbrev pub Tells : ClusterOrder → List StepMade → ClusterEvent → Type 0
-Tells asked steps (HasFaulted node) = EndsIn (Ok (said.Faulted node)) steps
-Tells order.Flow steps HasFlowed = WentWell steps
-Tells (order.Push node) steps (HasSent count) = WentWell steps × (count ≡ min (sent_in steps) (2 ^ 64 - 1))
-Tells asked steps event = (one : StepMade) × (steps ≡ one ∷ []) × (told_of one.step one.result ≡ Some event)
+-- What a run line tells of its steps, and of a book with so many entries. That the disk of a node failed is told of the last of them; else what came of the one that there
+-- is, or of all. A count of letters stays at its type's end. Of no step the entries of the book are told.
+abbrev pub Tells : ClusterOrder → List StepMade → BookSum → ClusterEvent → Type 0
+Tells asked steps sum (HasFaulted node) = EndsIn (Ok (said.Faulted node)) steps
+Tells order.Flow steps sum HasFlowed = WentWell steps
+Tells (order.Push node) steps sum (HasSent count) = WentWell steps × (count ≡ min (sent_in steps) (2 ^ 64 - 1))
+Tells order.Sum steps sum (HasSummed told) = (steps ≡ []) × (told ≡ sum)
+Tells asked steps sum event = (one : StepMade) × (steps ≡ one ∷ []) × (told_of one.step one.result ≡ Some event)
 
 -- the call that a session asks, if any, began; or its node went down in it, since its disk failed
 abbrev pub Begins : ℕ → Option Call → List Outcome → Type 0
@@ -80,7 +83,7 @@ Led before (Does k Closes) outcomes = outcomes ≡ []
 Led before (Faults node) outcomes = (outcomes ≡ []) × EndsFell node before
 Led before (StillWaits k) outcomes = (ticket : Number) × (outcomes ≡ StillPending k ticket ∷ [])
 Led before (Leaves k user) outcomes = (node : ℕ) × (outcomes ≡ Left k node user ∷ [])
-Led before (Makes asked event) outcomes = (steps : List StepMade) × (outcomes ≡ Moved asked steps ∷ []) × Tells asked steps event
+Led before (Makes asked event) outcomes = (steps : List StepMade) × (sum : BookSum) × (outcomes ≡ Moved asked steps sum ∷ []) × Tells asked steps sum event
 Led before (Abandons k) outcomes = (asked : Call) × (ticket : Number) × (outcomes ≡ Abandoned k asked ticket ∷ [])
 
 -- so it is of acts, one after another
@@ -93,7 +96,7 @@ AreLed before (act ∷ acts) outcomes =
 abbrev pub IsUntold : Outcome → Type 0
 IsUntold (Unanswered k asked ticket) = ⊤
 IsUntold (KeptUp k ticket why) = ⊤
-IsUntold (Moved asked steps) = (why : StepFault) × EndsIn (Err why) steps
+IsUntold (Moved asked steps sum) = (why : StepFault) × EndsIn (Err why) steps
 IsUntold outcome = ⊥
 
 -- nothing came of the call but this: it was refused, and is lacking among those that have begun; or its node went down in it as memory ran out

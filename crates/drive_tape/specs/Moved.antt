@@ -1,6 +1,7 @@
 -- What a run line made of the cluster.
 use Rattle.std.specs.Prelude.{◌≡◌, ℕ, List, [], ◌∷◌, ◌++◌, ⊤, Option, Some, None, Result, Ok, Err}
 use Rattle.object_model.specs.Lists.{Among}
+use Rattle.session_model.specs.Sums.{sum_of}
 use Rattle.mail_model.specs.Tape.{ClusterOrder}
 use Rattle.session_model.specs.Acts.{Act}
 use Rattle.session_model.specs.Acts.Act.{Makes}
@@ -8,7 +9,7 @@ use Rattle.session_model.specs.Events.{IsEventOf, failed_by_event}
 use Rattle.session_model.specs.Lives.{life_after}
 use Rattle.session_model.specs.Run.{IsAlwaysDone, cluster_refusal}
 use Rattle.node_store.specs.Disks.{View}
-use Rattle.cluster_world.specs.Worlds.{plan_of}
+use Rattle.cluster_world.specs.Worlds.{plan_of, book_of}
 use Rattle.cluster_world.specs.Steps.{IsStep}
 use Rattle.cluster_world.specs.Outcomes.{Outcome, Awaited, StepMade, left_after}
 use Rattle.cluster_world.specs.Outcomes.Outcome.{Moved}
@@ -34,9 +35,9 @@ pub record OrderIsFit {D : Type 0} (on : View D) (start : World D) (outcomes : L
 -- The steps were made, and this came of them.
 pub record Happened {D : Type 0} (on : View D) (start : World D) (outcomes : List Outcome) (awaited : List Awaited) (been : List Act) (old : World D) (order : ClusterOrder) (event : ClusterEvent) (world : World D) : Type 0 where
   pub steps : List StepMade
-  pub at : WentTo on start old (outcomes ++ Moved order steps ∷ []) (left_after (fallen_by (event_seen event)) awaited) world
+  pub at : WentTo on start old (outcomes ++ Moved order steps (sum_of (book_of old)) ∷ []) (left_after (fallen_by (event_seen event)) awaited) world
   pub is : IsEventOf (plan_of old) (life_after been) order (event_seen event)
-  pub tells : Tells order steps (event_seen event)
+  pub tells : Tells order steps (sum_of (book_of old)) (event_seen event)
   pub lives : AreLives (plan_of old) (been ++ Makes order (event_seen event) ∷ []) world
   pub cause : (n : ℕ) → Among n (failed_by_event (event_seen event)) → HasFailed on start world n
 
@@ -52,7 +53,7 @@ pub record IsDeniedBy (steps : List StepMade) (stop : Stop) : Type 0 where
 abbrev pub MovedSo : {D : Type 0} → View D → World D → List Outcome → List Awaited → List Act → World D → ClusterOrder → Result ClusterEvent Stop → World D → Type 0
 MovedSo on start outcomes awaited been old order (Ok event) world = Happened on start outcomes awaited been old order event world
 MovedSo on start outcomes awaited been old order (Err stop) world =
-    (IsAlwaysDone order → ⊥) × (steps : List StepMade) × IsDeniedBy steps stop × HasGone on start old (outcomes ++ Moved order steps ∷ []) world × StaysOn stop old world
+    (IsAlwaysDone order → ⊥) × (steps : List StepMade) × IsDeniedBy steps stop × HasGone on start old (outcomes ++ Moved order steps (sum_of (book_of old)) ∷ []) world × StaysOn stop old world
 
 -- one node pushed to another
 abbrev pub PushedSo : {D : Type 0} → View D → ℕ → ℕ → Result (Option ℕ) Stop → World D → World D → Type 0

@@ -6,6 +6,8 @@ use Rattle.mail_model.specs.Transcript.{Entry, written_of, all_of}
 use Rattle.session_model.specs.Sessions.{Session, session_at}
 use Rattle.session_model.specs.Acts.{Act, Acted}
 use Rattle.session_model.specs.Lives.{failed_in}
+use Rattle.session_model.specs.Clocks.{seconds_after}
+use Rattle.cluster_world.specs.Worlds.{state_of}
 use Rattle.session_model.specs.Logs.{Asked}
 use Rattle.session_model.specs.Turns as turns
 use Rattle.session_model.specs.Turns.{Turn, Next, IsAtNode}
@@ -109,6 +111,10 @@ pub record IsAtPoint {D : Type 0} (on : View D) (start : World D) (plan : Plan) 
   pub lives : AreLives plan p.been cluster.world
   pub up : EachSession (λ place session. StandsOnNode plan p.been session) p.sessions
   pub causes : HasCauses on start (failed_in p.been) cluster.world
+
+-- the clock of the world shows the seconds that the acts so far left
+abbrev pub IsOnTime : {D : Type 0} → World D → Point → Type 0
+IsOnTime world p = (state_of world).seconds ≡ seconds_after p.been
 
 -- the stop is this one of the definitions
 abbrev pub IsStop : Why → Stop → Type 0

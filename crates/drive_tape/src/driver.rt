@@ -8,7 +8,7 @@ ghost use Rattle.cluster_world.specs.Opens.{IsAtBeginning};
 ghost use Rattle.cluster_world.specs.declared.world.World.{World as AWorld};
 ghost use Rattle.drive_tape.specs.Drive.{Drives, stop_of, NamesLine};
 ghost use Rattle.drive_tape.specs.Lines.{LineDid};
-ghost use Rattle.drive_tape.specs.Points.{Point, IsAtPoint};
+ghost use Rattle.drive_tape.specs.Points.{Point, IsAtPoint, IsOnTime};
 ghost use Rattle.drive_tape.specs.Runs.{Turned};
 ghost use Rattle.drive_tape.specs.Worlds.{WorldIsReady};
 ghost use Rattle.drive_tape.specs.Moving.{AreEven};
@@ -94,7 +94,7 @@ fn handle<D: Disk, K: Sink>(
     ensures ready { WorldIsReady D.seen D.settled cluster.new.world }
     ensures plan { plan_of cluster.new.world ≡ plan_of cluster.old.world }
     ensures even { OnOk result (AreEven cluster.new.sessions) }
-    ensures did { (start : AWorld D) (p : Point) → IsAtPoint (view_of D.seen D.faults D.clock) start (plan_of cluster.old.world) cluster.old p
+    ensures did { (start : AWorld D) (p : Point) → IsAtPoint (view_of D.seen D.faults D.clock) start (plan_of cluster.old.world) cluster.old p → IsOnTime cluster.old.world p
         → p.held ≡ K.contents sink.old → LineDid (view_of D.seen D.faults D.clock) start (plan_of cluster.old.world) p line.now result (K.contents sink.new) cluster.new }
     ensures later { K.faults sink.old ≤ K.faults sink.new }
     ensures failed { IsErrOf result Stop.WriteFault → Rose (K.faults sink.old) (K.faults sink.new) }
@@ -126,12 +126,12 @@ fn turn<S: Source, K: Sink, D: Disk>(
     ensures ready { WorldIsReady D.seen D.settled cluster.new.world }
     ensures plan { plan_of cluster.new.world ≡ plan_of cluster.old.world }
     ensures even { OnOk result (AreEven cluster.new.sessions) }
-    ensures turned { (start : AWorld D) (p : Point) → IsAtPoint (view_of D.seen D.faults D.clock) start (plan_of cluster.old.world) cluster.old p → p.held ≡ K.contents sink.old
+    ensures turned { (start : AWorld D) (p : Point) → IsAtPoint (view_of D.seen D.faults D.clock) start (plan_of cluster.old.world) cluster.old p → IsOnTime cluster.old.world p → p.held ≡ K.contents sink.old
         → Turned (view_of D.seen D.faults D.clock) start (plan_of cluster.old.world) p result (S.left source.old) (S.left source.new) room.old room.new (K.contents sink.new) cluster.old cluster.new }
     ensures less { OnOk result (room.new < room.old) }
     ensures read_later { S.faults source.old ≤ S.faults source.new }
     ensures write_later { K.faults sink.old ≤ K.faults sink.new }
-    ensures read_fault { (start : AWorld D) (p : Point) → IsAtPoint (view_of D.seen D.faults D.clock) start (plan_of cluster.old.world) cluster.old p → p.held ≡ K.contents sink.old
+    ensures read_fault { (start : AWorld D) (p : Point) → IsAtPoint (view_of D.seen D.faults D.clock) start (plan_of cluster.old.world) cluster.old p → IsOnTime cluster.old.world p → p.held ≡ K.contents sink.old
         → IsErrOf result Stop.ReadFault → Rose (S.faults source.old) (S.faults source.new) }
     ensures write_fault { IsErrOf result Stop.WriteFault → Rose (K.faults sink.old) (K.faults sink.new) }
 {

@@ -1,13 +1,15 @@
 // What came of a run line that moves the cluster, and its line of the transcript.
-ghost use Rattle.std.specs.Prelude.{◌≡◌, ◌≤◌, ◌++◌, codes, IfOk, IsErrOf};
+ghost use Rattle.std.specs.Prelude.{◌≡◌, ◌≤◌, ◌++◌, codes, OnOk, IfOk, IsErrOf};
 ghost use Rattle.std.specs.Fmt.{decimal};
 ghost use Rattle.io_edge.specs.Causes.{Rose};
 ghost use Rattle.mail_model.specs.Transcript.{why_word};
-ghost use Rattle.session_model.specs.Events.{event_entries, widened_text};
+ghost use Rattle.session_model.specs.Events.{event_entries, widened_text, sum_text};
+ghost use Rattle.cluster_world.specs.Sums.{sum_seen};
 ghost use Rattle.drive_tape.specs.Happenings.{why_seen, event_seen, entries_of_event, fallen_by, WritesOrStops};
 
 use crate::entry::Entry;
 use crate::{WriteStop, write_entries};
+use cluster_world::BookSum;
 use io_edge::Sink;
 use mail_base::{NodeNo, Octets};
 use node_core::Why;
@@ -34,6 +36,10 @@ pub(crate) enum ClusterEvent {
     HasSent(u64),
     /// Whether a copy got a target more.
     HasWidened(bool),
+    /// The clock was set.
+    HasTicked,
+    /// The entries of the book were counted.
+    HasSummed(BookSum),
     /// The disk of a node failed, and the node is down.
     HasFaulted(NodeNo),
 }
@@ -109,6 +115,31 @@ fn widened(alloc: Global, did: bool) -> Result<Octets, AllocError>
     Ok(Octets::from_vec(Vec::from_slice(alloc, text)?))
 }
 
+// A word and a number more.
+fn push_number(
+    alloc: Global,
+    text: &mut Vec<u8>,
+    word: &[u8],
+    number: u64,
+) -> Result<(), AllocError>
+    ensures { OnOk result (text.new.items ≡ text.old.items ++ word.now ++ decimal number) }
+{
+    let number = number.to_string(alloc)?;
+    text.extend_from_slice(word)?;
+    text.extend_from_slice(number.as_bytes())
+}
+
+// `sum acked A struck S dropped D lost L`
+fn summed(alloc: Global, sum: &BookSum) -> Result<Octets, AllocError>
+    ensures { IfOk result (λ text. text ≡ sum_text (sum_seen sum.now)) }
+{
+    let mut text = behind_word(alloc, b"sum acked ", sum.acked)?;
+    push_number(alloc, &mut text, b" struck ", sum.struck)?;
+    push_number(alloc, &mut text, b" dropped ", sum.dropped)?;
+    push_number(alloc, &mut text, b" lost ", sum.lost)?;
+    Ok(Octets::from_vec(text))
+}
+
 // The octets of the word.
 fn word(alloc: Global, word: &[u8]) -> Result<Octets, AllocError>
     ensures { IfOk result (λ text. text ≡ word.now) }
@@ -145,6 +176,8 @@ impl ClusterEvent {
             ClusterEvent::HasFlowed => Ok(Some(word(alloc, b"flowed")?)),
             ClusterEvent::HasSent(count) => Ok(Some(numbered(alloc, b"sent ", *count)?)),
             ClusterEvent::HasWidened(did) => Ok(Some(widened(alloc, *did)?)),
+            ClusterEvent::HasTicked => Ok(None),
+            ClusterEvent::HasSummed(sum) => Ok(Some(summed(alloc, sum)?)),
             ClusterEvent::HasFaulted(node) => Ok(Some(faulted(alloc, *node)?)),
         }
     }
@@ -164,6 +197,8 @@ impl ClusterEvent {
             ClusterEvent::HasFlowed => None,
             ClusterEvent::HasSent(_) => None,
             ClusterEvent::HasWidened(_) => None,
+            ClusterEvent::HasTicked => None,
+            ClusterEvent::HasSummed(_) => None,
         }
     }
 }

@@ -10,7 +10,7 @@ ghost use Rattle.cluster_world.specs.Worlds.{plan_of};
 ghost use Rattle.cluster_world.specs.declared.world.World.{World as AWorld};
 ghost use Rattle.drive_tape.specs.Clusters.{RestsAt, MovedTo};
 ghost use Rattle.drive_tape.specs.declared.drove.Stop.{Stop as Why};
-ghost use Rattle.drive_tape.specs.Points.{Point, IsAtPoint, WorkGoes};
+ghost use Rattle.drive_tape.specs.Points.{Point, IsAtPoint, IsOnTime, WorkGoes};
 ghost use Rattle.drive_tape.specs.Lines.{LineDid};
 ghost use Rattle.drive_tape.specs.Fed.{IsFeedingAt, AdmitsSession, GaveUpCall, IsGivingUpAt, IsClosingAt, MayFallBy, Happens};
 ghost use Rattle.session_model.specs.Talk.{IsOn};
@@ -73,7 +73,7 @@ pub(crate) fn open_line<D: Disk, K: Sink>(
     ensures plan { plan_of cluster.new.world ≡ plan_of cluster.old.world }
     ensures even { OnOk result (AreEven cluster.new.sessions) }
     ensures did { (start : AWorld D) (p : Point) (line : List ℕ) → tape_order line ≡ Some (AnOrder.Open (protocol_seen protocol) node) → IsAtPoint (view_of D.seen D.faults D.clock) start (plan_of cluster.old.world) cluster.old p
-        → p.held ≡ K.contents sink.old → LineDid (view_of D.seen D.faults D.clock) start (plan_of cluster.old.world) p line result (K.contents sink.new) cluster.new }
+        → IsOnTime cluster.old.world p → p.held ≡ K.contents sink.old → LineDid (view_of D.seen D.faults D.clock) start (plan_of cluster.old.world) p line result (K.contents sink.new) cluster.new }
     ensures later { K.faults sink.old ≤ K.faults sink.new }
     ensures failed { IsErrOf result Stop.WriteFault → Rose (K.faults sink.old) (K.faults sink.new) }
 {
@@ -82,8 +82,17 @@ pub(crate) fn open_line<D: Disk, K: Sink>(
         Err(fault) => return Err(Stop::Bad(fault)),
     };
     let number = cluster.sessions.talkers.len() as u64 + 1;
+    let seconds = cluster.world.seconds();
     let mut out = Vec::new(alloc);
-    cluster.sessions.open(alloc, cluster.world.plan(), protocol, only, boot, &mut out)?;
+    cluster.sessions.open(
+        alloc,
+        cluster.world.plan(),
+        protocol,
+        only,
+        boot,
+        seconds,
+        &mut out,
+    )?;
     write_reply(alloc, sink, number, &out, false)?;
     cluster.ask_all(alloc, sink)
 }

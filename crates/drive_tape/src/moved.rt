@@ -227,6 +227,28 @@ fn push<D: Disk>(world: &mut World<D>, alloc: Global, from: NodeNo) -> Result<Cl
     Ok(ClusterEvent::HasSent(sent))
 }
 
+// The clock is set.
+fn tick<D: Disk>(world: &mut World<D>, alloc: Global, seconds: u64) -> Result<ClusterEvent, Stop>
+    requires ready { WorldIsReady D.seen D.settled world.old }
+    ensures ready { WorldIsReady D.seen D.settled world.new }
+    ensures plan { plan_of world.new ≡ plan_of world.old }
+    ensures moved { (start : AWorld D) (outcomes : List Outcome) (awaited : List Awaited) (been : List AnAct)
+        → OrderIsFit (view_of D.seen D.faults D.clock) start outcomes awaited been (order.Tick seconds) world.old → MovedSo (view_of D.seen D.faults D.clock) start outcomes awaited been world.old (order.Tick seconds) result world.new }
+    ensures why { IsErrOf result Stop.WriteFault → ⊥ }
+{
+    let said = world.step(alloc, Step::Tick { seconds });
+    done(&said)?;
+    Ok(ClusterEvent::HasTicked)
+}
+
+// The entries of the book are counted. No step is made.
+fn sum<D: Disk>(world: &World<D>) -> ClusterEvent
+    ensures moved { (start : AWorld D) (outcomes : List Outcome) (awaited : List Awaited) (been : List AnAct)
+        → OrderIsFit (view_of D.seen D.faults D.clock) start outcomes awaited been order.Sum world.now → MovedSo (view_of D.seen D.faults D.clock) start outcomes awaited been world.now order.Sum (Ok result) world.now }
+{
+    ClusterEvent::HasSummed(world.sum())
+}
+
 /// Makes the steps of the order, and says what came of them.
 ///
 /// # Errors
@@ -253,5 +275,7 @@ pub(crate) fn make<D: Disk>(
         Admitted::Flow => flow(world, alloc),
         Admitted::Push(node) => push(world, alloc, node),
         Admitted::Widen { at, user, id, to } => widen(world, alloc, at, user, id, to),
+        Admitted::Tick(seconds) => tick(world, alloc, seconds),
+        Admitted::Sum => Ok(sum(world)),
     }
 }

@@ -40,6 +40,10 @@ pub(crate) enum Admitted {
         id: MsgId,
         to: NodeNo,
     },
+    /// The clock is set.
+    Tick(u64),
+    /// The entries of the book are counted.
+    Sum,
 }
 
 /// The node of this number, where the plan has it.
@@ -164,5 +168,7 @@ pub(crate) fn admit<D: Disk>(world: &World<D>, order: ClusterOrder) -> Result<Ad
         ClusterOrder::Flow => Ok(Admitted::Flow),
         ClusterOrder::Push { node } => Ok(Admitted::Push(node_of(world.plan(), node)?)),
         ClusterOrder::Widen { at, user, id, to } => widen(world, at, user, id, to),
+        ClusterOrder::Tick { seconds } => Ok(Admitted::Tick(seconds)),
+        ClusterOrder::Sum => Ok(Admitted::Sum),
     }
 }

@@ -94,7 +94,7 @@ impl Sessions {
         }
     }
 
-    /// One session more, with its greeting appended.
+    /// One session more, with its greeting appended; the clock shows these seconds.
     ///
     /// # Errors
     ///
@@ -106,11 +106,12 @@ impl Sessions {
         protocol: Protocol,
         node: NodeNo,
         boot: u32,
+        seconds: u64,
         out: &mut Vec<u8>,
     ) -> Result<(), AllocError>
         requires few { self.old.standing < 256 }
-        ensures greets { OnOk result (out.new.items ≡ out.old.items ++ sent_line (greeting_of (protocol_seen protocol) node boot (length self.old.talkers.items + 1) 0)) }
-        ensures line { OnOk result (HasNoCrlf (greeting_of (protocol_seen protocol) node boot (length self.old.talkers.items + 1) 0)) }
+        ensures greets { OnOk result (out.new.items ≡ out.old.items ++ sent_line (greeting_of (protocol_seen protocol) node boot (length self.old.talkers.items + 1) seconds)) }
+        ensures line { OnOk result (HasNoCrlf (greeting_of (protocol_seen protocol) node boot (length self.old.talkers.items + 1) seconds)) }
         ensures talks { OnOk result ((sessions : List Session) → Converse self.old.talkers.items sessions
             → Converse self.new.talkers.items (sessions ++ opened_session (protocol_seen protocol) node ∷ [])) }
         ensures nodes { OnOk result (self.new.nodes.items ≡ self.old.nodes.items ++ node ∷ []) }
@@ -119,7 +120,7 @@ impl Sessions {
         ensures count { OnOk result (self.new.standing ≡ self.old.standing + 1) }
     {
         let number = self.talkers.len() as u64 + 1;
-        let talker = Talker::open(alloc, protocol, node, boot, number, plan, out)?;
+        let talker = Talker::open(alloc, protocol, node, boot, number, seconds, plan, out)?;
         self.talkers.push(Some(talker))?;
         self.nodes.push(node)?;
         self.calls.push(None)?;

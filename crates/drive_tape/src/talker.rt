@@ -32,7 +32,7 @@ pub(crate) enum Talker {
 }
 
 impl Talker {
-    /// Opens a session of this number at the node, which is in this boot, at second 0, and appends its greeting.
+    /// Opens a session of this number at the node, which is in this boot, at these seconds, and appends its greeting.
     ///
     /// # Errors
     ///
@@ -43,11 +43,12 @@ impl Talker {
         node: NodeNo,
         boot: u32,
         number: u64,
+        seconds: u64,
         plan: &Plan,
         out: &mut Vec<u8>,
     ) -> Result<Talker, AllocError>
-        ensures greets { OnOk result (out.new.items ≡ out.old.items ++ sent_line (greeting_of (protocol_seen protocol) node boot number 0)) }
-        ensures line { OnOk result (HasNoCrlf (greeting_of (protocol_seen protocol) node boot number 0)) }
+        ensures greets { OnOk result (out.new.items ≡ out.old.items ++ sent_line (greeting_of (protocol_seen protocol) node boot number seconds)) }
+        ensures line { OnOk result (HasNoCrlf (greeting_of (protocol_seen protocol) node boot number seconds)) }
         ensures opened { IfOk result (λ talker. Matches talker (opened_session (protocol_seen protocol) node) Due.Nothing) }
     {
         match protocol {
@@ -57,7 +58,7 @@ impl Talker {
                 Ok(Talker::Smtp(session))
             }
             Protocol::Pop => {
-                let mut session = PopSession::new(alloc, node, boot, number, 0);
+                let mut session = PopSession::new(alloc, node, boot, number, seconds);
                 session.next(alloc, plan, out)?;
                 Ok(Talker::Pop(session))
             }

@@ -7,7 +7,7 @@ use Rattle.std.proofs.lemmas.List.Concat.{flat_map-append}
 use Rattle.mail_model.specs.Plan.{Plan}
 use Rattle.mail_model.specs.Tape.{Order, ClusterOrder, or_else}
 use Rattle.mail_model.specs.Tape.Order.{Open, Say, Feed, Close, GiveUp, Moves, End}
-use Rattle.mail_model.specs.Tape.ClusterOrder.{Crash, Start, Lose, Post, Again, Drop, Flow, Push, Widen}
+use Rattle.mail_model.specs.Tape.ClusterOrder.{Crash, Start, Lose, Post, Again, Drop, Flow, Push, Widen, Tick, Sum}
 use Rattle.mail_model.specs.Lines.{sent_line}
 use Rattle.mail_model.specs.Site.{TapeFault}
 use Rattle.mail_model.specs.Site.TapeFault.{BadLine, NoSuchNode}
@@ -16,12 +16,13 @@ use Rattle.mail_model.proofs.Sessions.{by_number}
 use Rattle.object_model.specs.Lists.{Among}
 use Rattle.object_model.proofs.Lists.{among_either}
 use Rattle.session_model.specs.Events.{ClusterEvent, NodeLife, MayFault, IsEventOf, failed_by_event}
-use Rattle.session_model.specs.Events.ClusterEvent.{WentDown, CameUp, WasLost, WasHeard, WasThrown, WasDropped, HasFlowed, HasSent, HasWidened, HasFaulted}
+use Rattle.session_model.specs.Events.ClusterEvent.{WentDown, CameUp, WasLost, WasHeard, WasThrown, WasDropped, HasFlowed, HasSent, HasWidened, HasTicked, HasSummed, HasFaulted}
 use Rattle.session_model.specs.Sessions.{Session, session_at}
 use Rattle.session_model.specs.Acts.{Act, Deed, Acted, replace, opened_session, greeting_of}
 use Rattle.session_model.specs.Acts.Act.{Opens, Does, Faults, StillWaits, Leaves, Makes, Abandons}
 use Rattle.session_model.specs.Acts.Deed.{IsFed, Hears, IsAnswered, IsGivenUp, Falls, Closes}
 use Rattle.session_model.specs.Lives.{life_after, failed_by, failed_in}
+use Rattle.session_model.specs.Clocks.{seconds_after}
 use Rattle.session_model.specs.Turns.{Turn, Next, ActsGo, Starts, IsAtNode}
 use Rattle.session_model.specs.Turns.Turn.{Hearing, Beginning, Closing, Falling, Asking}
 use Rattle.session_model.specs.Run.{IsHandled, AreHandled, refusal, cluster_refusal, fault_if, is_no_node, can_serve}
@@ -79,6 +80,8 @@ event_of plan lives order (WasDropped letter) accepted is n among = absurd among
 event_of plan lives order HasFlowed accepted is n among = absurd among
 event_of plan lives order (HasSent count) accepted is n among = absurd among
 event_of plan lives order (HasWidened did) accepted is n among = absurd among
+event_of plan lives order HasTicked accepted is n among = absurd among
+event_of plan lives order (HasSummed sum) accepted is n among = absurd among
 event_of plan lives order (HasFaulted failed) accepted is n (inr none) = absurd none
 event_of plan lives order (HasFaulted failed) accepted is n (inl same) = subst (IsOfPlan plan) same (by order accepted is)
   where
@@ -96,6 +99,8 @@ event_of plan lives order (HasFaulted failed) accepted is n (inl same) = subst (
     by (Push node) accepted is = subst (IsOfPlan plan) (sym is.0) (not_so (is_no_node plan node) NoSuchNode accepted)
     by (Widen node user id to) accepted is = subst (IsOfPlan plan) (sym is)
         (or_parts (is_no_node plan node) (is_no_node plan to) (not_so (is_no_node plan node || is_no_node plan to) NoSuchNode (first_none _ _ (second_none _ _ accepted)))).0
+    by (Tick seconds) accepted is = absurd is
+    by Sum accepted is = absurd is
 
 none_fail : (plan : Plan) → FailOfPlan plan []
 none_fail plan n among = absurd among
@@ -153,7 +158,7 @@ module _ (plan : Plan) (been : List Act) (old new : List Session) (all : AllOfPl
       → AllOfPlan plan new × FailOfPlan plan (failed_by act)
   starts_of (Open protocol node) act turn entries accepted (boot, up, is, later) acted = (opened, first_of plan act _ is (none_fail plan))
     where
-      opens : Acted plan old (Opens protocol node (greeting_of protocol node boot (length old + 1) 0)) entries new
+      opens : Acted plan old (Opens protocol node (greeting_of protocol node boot (length old + 1) (seconds_after been))) entries new
       opens = subst (λ (a : Act). Acted plan old a entries new) is acted
 
       there : IsOfPlan plan node

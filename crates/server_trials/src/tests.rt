@@ -1,5 +1,6 @@
 // Whole tapes through the program's one call, over an outside in memory.
 
+mod clocks;
 mod clusters;
 mod command_line;
 mod crashes;

@@ -3,6 +3,7 @@ use Rattle.node_store.specs.Disks.{view_of}
 use Rattle.cluster_world.specs.Worlds.{plan_of}
 use Rattle.cluster_world.proofs.Owed.{world_owes}
 use Rattle.drive_tape.proofs.Clusters.{at_plan}
+use Rattle.drive_tape.proofs.Clocks.{on_time}
 use Rattle.drive_tape.proofs.Drives.{progress_start, goes_on, stops}
 use Rattle.drive_tape.proofs.driver.drive.Goals as goal
 
@@ -27,7 +28,7 @@ loop-handled-preserved g c =
       even = turn.even;
       progress = λ begins. let p = loop.progress begins in
           goes_on _ _ _ _ _ _ _ _ _ _ _ _ _ _ p (plan_of c.loop-handled.cluster.world) loop.plan
-          (turn.turned c.args.world p.point (at_plan _ _ _ _ _ _ (sym loop.plan) p.shows) p.held_is);
+          (turn.turned c.args.world p.point (at_plan _ _ _ _ _ _ (sym loop.plan) p.shows) (on_time _ _ _ _ _ _ _ _ _ begins p) p.held_is);
       unread = omega (arith, loop.unread, turn.less);
       read_later = omega (arith, loop.read_later, turn.read_later);
       write_later = omega (arith, loop.write_later, turn.write_later);
@@ -38,11 +39,11 @@ returns-in-Err-clause-drives g c begins =
     let loop = c.loop-handled.invariant in
     let p = loop.progress begins in
     stops _ _ _ _ _ _ _ _ _ _ _ _ _ _ c.in-Err.stop c.at_line.result p (plan_of c.loop-handled.cluster.world) loop.plan
-    (c.in-Err.ensures.turned c.args.world p.point (at_plan _ _ _ _ _ _ (sym loop.plan) p.shows) p.held_is)
+    (c.in-Err.ensures.turned c.args.world p.point (at_plan _ _ _ _ _ _ (sym loop.plan) p.shows) (on_time _ _ _ _ _ _ _ _ _ begins p) p.held_is)
     c.at_line.ensures.stop c.at_line.ensures.number begins (world_owes (view_of g.D.Disk.seen g.D.Disk.faults g.D.Disk.clock) g.met.D.Disk.seen_is_image)
 
 pub returns-in-Err-clause-read_fault : goal.returns-in-Err-clause-read_fault
 returns-in-Err-clause-read_fault g c begins is =
     let loop = c.loop-handled.invariant in
     let p = loop.progress begins in
-    omega (arith, c.in-Err.ensures.read_fault c.args.world p.point (at_plan _ _ _ _ _ _ (sym loop.plan) p.shows) p.held_is (ap Err (sym c.at_line.ensures.stop ∙ is)), loop.read_later)
+    omega (arith, c.in-Err.ensures.read_fault c.args.world p.point (at_plan _ _ _ _ _ _ (sym loop.plan) p.shows) (on_time _ _ _ _ _ _ _ _ _ begins p) p.held_is (ap Err (sym c.at_line.ensures.stop ∙ is)), loop.read_later)

@@ -12,7 +12,7 @@ use Rattle.drive_tape.proofs.talker.Talker.open.Goals as goal
 pub returns-in_ok-next-in-Smtp-clause-line : goal.returns-in_ok-next-in-Smtp-clause-line
 returns-in_ok-next-in-Smtp-clause-line c =
     let moved = c.in_ok-next-in-Smtp.ensures.ok in
-    let At : Protocol → Type 0 = λ p. HasNoCrlf (greeting_of (protocol_seen p) c.args.node c.args.boot c.args.number 0) in
+    let At : Protocol → Type 0 = λ p. HasNoCrlf (greeting_of (protocol_seen p) c.args.node c.args.boot c.args.number c.args.seconds) in
     subst At (sym c.in-Smtp.is)
     (mail_greets c.args.plan.now c.args.node c.new-session.result c.next.new.self c.in_ok-next-in-Smtp.field-0 moved.0 c.new-session.ensures moved.2).line
 
@@ -20,9 +20,9 @@ pub returns-in_ok-next-in-Pop-clause-line : goal.returns-in_ok-next-in-Pop-claus
 returns-in_ok-next-in-Pop-clause-line c =
     let moved = c.in_ok-next-in-Pop.ensures.ok in
     let opened = c.new-session-in-Pop.ensures in
-    let At : Protocol → Type 0 = λ p. HasNoCrlf (greeting_of (protocol_seen p) c.args.node c.args.boot c.args.number 0) in
+    let At : Protocol → Type 0 = λ p. HasNoCrlf (greeting_of (protocol_seen p) c.args.node c.args.boot c.args.number c.args.seconds) in
     subst At (sym c.in-Pop.is)
-    (reader_greets c.args.plan.now c.args.node (ready_text c.args.node c.args.boot c.args.number 0) c.new-session-in-Pop.result c.next-in-Pop.new.self c.in_ok-next-in-Pop.field-0 moved.0
+    (reader_greets c.args.plan.now c.args.node (ready_text c.args.node c.args.boot c.args.number c.args.seconds) c.new-session-in-Pop.result c.next-in-Pop.new.self c.in_ok-next-in-Pop.field-0 moved.0
     opened.follows opened.greets moved.2).line
 
 pub returns-in_ok-next-in-Pop-clause-opened : goal.returns-in_ok-next-in-Pop-clause-opened
@@ -31,5 +31,5 @@ returns-in_ok-next-in-Pop-clause-opened c =
     let opened = c.new-session-in-Pop.ensures in
     let At : Protocol → Type 0 = λ p. reader.Follows c.next-in-Pop.new.self (opened_session (protocol_seen p) c.args.node) Nothing in
     subst At (sym c.in-Pop.is)
-    (reader_greets c.args.plan.now c.args.node (ready_text c.args.node c.args.boot c.args.number 0) c.new-session-in-Pop.result c.next-in-Pop.new.self c.in_ok-next-in-Pop.field-0 moved.0
+    (reader_greets c.args.plan.now c.args.node (ready_text c.args.node c.args.boot c.args.number c.args.seconds) c.new-session-in-Pop.result c.next-in-Pop.new.self c.in_ok-next-in-Pop.field-0 moved.0
     opened.follows opened.greets moved.2).goes_on
