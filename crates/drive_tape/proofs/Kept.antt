@@ -102,7 +102,7 @@ all_blind on nodes [] awaited left old new makes blind = tt
 all_blind {D} on nodes (outcome ∷ more) awaited left old new (between, mid, came, makes) blind = (one outcome came (λ asked is. blind asked (inl is)), all_blind on nodes more between left mid new makes (λ asked among. blind asked (inr among)))
   where
     one : (outcome : Outcome) → Came on outcome awaited old between mid → ((asked : ClusterOrder) → made_of outcome ≡ Made.Moves asked → IsBlindOrder nodes (Some (tape.Order.Moves asked))) → IsOfBlind nodes outcome
-    one (Moved asked steps sum) (made, waits) may = order_blind nodes asked steps (order_are on asked steps old mid made) (may asked refl)
+    one (Moved asked steps sum) (made, waits, sum_is) may = order_blind nodes asked steps (order_are on asked steps old mid made) (may asked refl)
     one (Began k node asked ticket) came may = tt
     one (Refused k node asked) came may = tt
     one (Fell k node asked) came may = tt

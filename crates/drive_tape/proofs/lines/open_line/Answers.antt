@@ -31,7 +31,7 @@ returns-in_err-write_reply-clause-did g c start p line spelled shows clock held 
     let wrote = c.in_err-write_reply.ensures.written (_ ∷ []) (all_one _ c.in_ok-open.ensures.line) (c.deref.ensures.value ∙ one_line_said _ _ c.open.new.out.items c.new-out.ensures.items c.in_ok-open.ensures.greets) in
     rw (e.1, e.2) (opened_stopped _ start plan p protocol c.in-Ok.found.0 c.in-Ok.found.1 c.args.cluster.now a shows line _ c.in_err-write_reply.field-0.0 c.args.cluster.now.world refl
     (spelled ∙ ap (λ (n : ℕ). Some (Open protocol n)) (sym c.in-Ok.ensures.admits.0))
-    (not_greeted p.held _ _ _ (length p.sessions + 1) _ _ c.in_err-write_reply.field-0.0 held (ap (λ (n : ℕ). n + 1) (c.len.ensures ∙ c.args.cluster.now.sessions.talkers.ok.0 ∙ same)) (greets_same protocol c.in-Ok.found.0 c.in-Ok.found.1 _ (length p.sessions) _ (seconds_after p.been) same (c.seconds.ensures ∙ clock)) wrote))
+    (not_greeted p.held _ _ _ (length p.sessions + 1) _ _ c.in_err-write_reply.field-0.0 held (ap (λ (n : ℕ). n + 1) (c.len.ensures ∙ c.args.cluster.now.sessions.talkers.ok.0 ∙ same)) (greets_same protocol c.in-Ok.found.0 c.in-Ok.found.1 _ (length p.sessions) _ (seconds_after p.been) same (c.seconds-seconds.ensures ∙ clock)) wrote))
 
 pub returns-clause-did : goal.returns-clause-did
 returns-clause-did g c start p line spelled shows clock held =
@@ -43,7 +43,7 @@ returns-clause-did g c start p line spelled shows clock held =
     let mid : Cluster g.row.D.Denot = record { world = c.args.cluster.now.world; sessions = c.open.new.self } in
     joins _ start plan p _ _ line c.ask_all.result _ c.ask_all.new.self (spelled ∙ ap (λ (n : ℕ). Some (Open protocol n)) (sym c.in-Ok.ensures.admits.0))
     (opened_started _ start plan p protocol c.in-Ok.found.0 c.in-Ok.found.1 c.args.cluster.now a shows _
-    (greeted p.held _ _ _ (length p.sessions + 1) _ _ held (ap (λ (n : ℕ). n + 1) (c.len.ensures ∙ c.args.cluster.now.sessions.talkers.ok.0 ∙ same)) (greets_same protocol c.in-Ok.found.0 c.in-Ok.found.1 _ (length p.sessions) _ (seconds_after p.been) same (c.seconds.ensures ∙ clock)) wrote))
+    (greeted p.held _ _ _ (length p.sessions + 1) _ _ held (ap (λ (n : ℕ). n + 1) (c.len.ensures ∙ c.args.cluster.now.sessions.talkers.ok.0 ∙ same)) (greets_same protocol c.in-Ok.found.0 c.in-Ok.found.1 _ (length p.sessions) _ (seconds_after p.been) same (c.seconds-seconds.ensures ∙ clock)) wrote))
     (c.ask_all.ensures.asked start _
     (opened_shows _ start plan p protocol c.in-Ok.found.0 c.in-Ok.found.1 c.args.cluster.now a shows _ mid refl c.requires.even (c.in_ok-open.ensures.talks p.sessions shows.talks) c.in_ok-open.ensures.nodes c.in_ok-open.ensures.calls c.in_ok-open.ensures.count)
     refl (opened_asks _ start plan p protocol c.in-Ok.found.0 c.in-Ok.found.1 c.args.cluster.now a shows _))
