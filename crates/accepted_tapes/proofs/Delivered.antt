@@ -13,7 +13,7 @@ use Rattle.mail_model.specs.Lines.{sent_line}
 use Rattle.mail_model.specs.Record.{Record}
 use Rattle.mail_model.specs.Record.Record.{Boot}
 use Rattle.object_model.specs.Letters.{Number, Letter}
-use Rattle.session_model.specs.Calls.{Call}
+use Rattle.session_model.specs.Calls.{Call, given_of}
 use Rattle.session_model.specs.Calls.Call.{Deliver as DeliverCall}
 use Rattle.cluster_model.specs.Cluster.{Node, Life, Slot, with_slot}
 use Rattle.cluster_model.specs.Cluster.Life.{Up, Down, Lost}
@@ -55,7 +55,7 @@ is_fresh node disk up = ap (λ (slot : Slot). node_in slot.life) (same_Some (slo
 -- the call of the message
 same_mail : (call : NodeCall) → call_made call ≡ Some (DeliverCall small_mail) → call ≡ Deliver small_mail
 same_mail (Deliver mail) is = let e : DeliverCall mail ≡ DeliverCall small_mail = same_Some (DeliverCall mail) (DeliverCall small_mail) is in let m : mail ≡ small_mail = cc in ap Deliver m
-same_mail (Login user secret) is = let e : Call.Login user secret ≡ DeliverCall small_mail = same_Some (Call.Login user secret) (DeliverCall small_mail) is in absurd (cc e)
+same_mail (Login user proof) is = let e : Call.Login user (given_of proof) ≡ DeliverCall small_mail = same_Some (Call.Login user (given_of proof)) (DeliverCall small_mail) is in absurd (cc e)
 same_mail (Fetch user id from most) is = by (is_whole from most) is
   where
     by : (b : Bool) → (if b then Some (Call.Fetch user id) else None) ≡ Some (DeliverCall small_mail) → Fetch user id from most ≡ Deliver small_mail

@@ -5,4 +5,4 @@ pub mod AcceptedLines
 pub mod Told
 mod Letters
 mod Delivered
-mod Accepts
+pub mod Accepts

@@ -10,7 +10,7 @@ use Rattle.cluster_model.specs.Cluster.{Node}
 use Rattle.cluster_model.specs.Room.{Flight}
 use Rattle.cluster_model.specs.World.{World}
 use Rattle.cluster_model.specs.Steps.{Step, StepOutcome}
-use Rattle.cluster_model.specs.Steps.Step.{Post, DropLetter, PushTo, Widen, Crash, Start, Lose}
+use Rattle.cluster_model.specs.Steps.Step.{Post, DropLetter, PushTo, Widen, Crash, Start, Lose, Tick}
 use Rattle.cluster_model.specs.Steps.Said.{Faulted}
 use Rattle.cluster_model.specs.Steps.StepOutcome.{Says}
 use Rattle.cluster_model.specs.Makes.{MadeStep, MakesStep, MakesAll, IsUp}
@@ -68,6 +68,8 @@ MakesOrder plan (order.Drop letter) steps old new = StepsOnce plan (DropLetter l
 MakesOrder plan order.Flow steps old new = PostsAll plan steps old new
 MakesOrder plan (order.Push node) steps old new = PushesAll plan.nodes old node steps × MakesAll plan true old steps new
 MakesOrder plan (order.Widen at user id to) steps old new = StepsOnce plan (Widen at user id to) steps old new
+MakesOrder plan (order.Tick seconds) steps old new = StepsOnce plan (Tick seconds) steps old new
+MakesOrder plan order.Sum steps old new = (steps ≡ []) × (new ≡ old)
 
 -- this is what came of the last of them
 abbrev pub EndsIn : StepOutcome → List MadeStep → Type 0
