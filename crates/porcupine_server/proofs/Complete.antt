@@ -3,6 +3,10 @@ use Rattle.std.proofs.Common.{◌≡◌, ◌≤◌, ℕ, Bool, true, false, List
 use Rattle.std.specs.Prelude.{◌⊎◌, ⊤}
 use Rattle.std.specs.Io.KnownBytes.{Appends}
 use Rattle.std.proofs.lemmas.List.{append-nil}
+use Rattle.std.proofs.lemmas.Option.{same_Some}
+use Rattle.cluster_model.specs.WorldLaws.{opening_world}
+use Rattle.accepted_tapes.specs.Follows.{FollowsAll}
+use Rattle.porcupine_server.proofs.Followed.{Followed}
 use Rattle.std.proofs.lemmas.List.Concat.{flat_map-append}
 use Rattle.io_edge.specs.Causes.{Rose}
 use Rattle.mail_model.specs.Lines.{HasNoLf, ended}
@@ -30,12 +34,20 @@ use Rattle.drive_tape.specs.Drive.{Drives, StopsAt}
 use Rattle.drive_tape.specs.Plans.{ReadsHead}
 use Rattle.porcupine_server.specs.declared.ending.Ending.{Ending}
 use Rattle.porcupine_server.specs.declared.ending.Ending.TheVariants.{Done, Line, Read, Write, Store, NoMemory}
-use Rattle.porcupine_server.specs.Complete.{IsGoodTape, NobodyWaits}
+use Rattle.mail_model.specs.Tape.{tape_order}
+use Rattle.mail_model.specs.Tape.Order.{End}
+use Rattle.session_model.specs.Run.{FirstStep}
+use Rattle.session_model.specs.Run.Stop.{BehindLine, OutOfMemory}
+use Rattle.cluster_world.specs.Opens.{IsAtBeginning}
+use Rattle.drive_tape.specs.Drive.{EndsDenied}
+use Rattle.accepted_tapes.specs.Accepted.{NobodyWaits}
+use Rattle.porcupine_server.specs.Complete.{IsGoodTape}
 use Rattle.porcupine_server.specs.Endings.{ending_of, status_of, last_entries, Finishes}
 use Rattle.porcupine_server.specs.Stores.{NodeStoreFailed, StoreFailed}
 use Rattle.porcupine_server.specs.Works.{SourceAndSink, Stores, Works, NoPlan, NoStores, ServedStores, NotOpened, Ran, IsBeforeRun}
 use Rattle.porcupine_server.proofs.GoodPlan.{run_part, no_plan_fault, reads_good_plan}
-use Rattle.porcupine_server.proofs.GoodRun.{no_run_fault, no_denial}
+use Rattle.porcupine_server.proofs.GoodRun.{first_lines, no_end_handled, no_end_next, read_first, no_run_fault, granted}
+use Rattle.porcupine_server.proofs.Granted.{followed, refuses}
 use Rattle.porcupine_server.proofs.Placed.{untold_store, fell}
 use Rattle.porcupine_server.proofs.Within.{failed_within, node_ends}
 
@@ -82,7 +94,7 @@ module _ (tape : List ℕ) (good : IsGoodTape tape) where
   module _ {D : Type 0} (on : View D) (start last : World D) (between left1 held0 held1 : Option (List ℕ)) (answer : Drove) (from : ℕ) (same : plan_of start ≡ good.plan)
       (told : between ≡ Some (run_part tape good)) (d : Drives on start between left1 held0 held1 answer from last)
       (never : (n : ℕ) → is_no_node (plan_of start) n ≡ false → HasFailed on start last n → ⊥)
-      (alone : (plan_of start).nodes ≡ 1 → NobodyWaits (flat_map (λ a. a) (d.acts ++ d.behind))) where
+      (alone : (plan_of start).nodes ≡ 1 → NobodyWaits (flat_map (λ a. a) (d.acts ++ d.behind))) (begins : IsAtBeginning on (plan_of start) start) (tells : disks_tell on.seen start ≡ true) where
     abbrev been : List Act
     been = flat_map (λ a. a) d.acts
 
@@ -101,39 +113,73 @@ module _ (tape : List ℕ) (good : IsGoodTape tape) where
     runs : AreHandled good.plan [] [] d.handled d.acts d.driven.outputs d.driven.mid
     runs = subst (λ (p : Plan). AreHandled p [] [] d.handled d.acts d.driven.outputs d.driven.mid) same d.driven.are
 
-    not_refused : (fault : TapeFault) → d.midst ≡ [] → StopsAt fault (plan_of start) been d.sessions left1 d.others d.room → ⊥
-    not_refused fault none why =
+    -- what was read begins the run part
+    began_with : (more : List ℕ) × (run_part tape good ≡ flat_map ended (d.handled ++ d.midst) ++ more)
+    began_with = read_first tape good between left1 d.read d.others (d.handled ++ d.midst) told d.took d.tape
+
+    -- no act is left of a line that was not handled
+    quiet_behind : (midst : List (List ℕ)) (behind : List (List Act)) → (flat_map (λ a. a) behind ≡ []) → flat_map (λ a. a) (d.acts ++ behind) ≡ been
+    quiet_behind midst behind none = flat_map-append (λ (a : List Act). a) d.acts behind ∙ ap (λ (l : List Act). been ++ l) none ∙ append-nil been
+
+    module _ (others : List (List ℕ)) (first : good.lines ≡ (d.handled ++ d.midst) ++ others) (ample : d.stop ≡ OutOfMemory → ⊥) (none : flat_map (λ a. a) d.behind ≡ []) where
+      f : Followed on good.plan good.lines (flat_map (λ a. a) (d.acts ++ d.behind)) d.led.rest [] (opening_world good.plan.nodes) d.awaited last
+      f = followed on start last begins tells good.plan same d.stop d.handled d.midst d.acts d.behind d.outcomes d.entries d.sessions d.driven d.awaited d.steps d.at_nodes d.lacking d.led good.lines others first ample
+
+      follows : FollowsAll good.plan good.lines been [] (opening_world good.plan.nodes) f.now f.next
+      follows = subst (λ (l : List Act). FollowsAll good.plan good.lines l [] (opening_world good.plan.nodes) f.now f.next) (quiet_behind d.midst d.behind none) f.follows
+
+    nothing_behind : (midst : List (List ℕ)) (behind : List (List Act)) → midst ≡ [] → IsLeftOff (plan_of start) been d.stop d.driven.mid midst behind d.driven.tail d.driven.extra d.sessions → flat_map (λ a. a) behind ≡ []
+    nothing_behind [] [] none off = refl
+    nothing_behind [] (a ∷ acts) none off = absurd off
+    nothing_behind (line ∷ midst) behind none off = absurd (omega (arith, ap length none))
+
+    not_refused : (fault : TapeFault) → d.stop ≡ BehindLine → d.midst ≡ [] → StopsAt fault (plan_of start) been d.sessions left1 d.others d.room → ⊥
+    not_refused fault stopped none why =
         let off = none_left (plan_of start) been d.stop d.driven.mid d.midst d.behind d.driven.tail d.driven.extra d.sessions none d.driven.off in
         let all : d.handled ++ d.midst ≡ d.handled = ap (λ (ls : List (List ℕ)). d.handled ++ ls) none ∙ append-nil d.handled in
-        no_run_fault tape good between left1 fault d.read d.others d.room d.handled d.acts d.driven.outputs d.driven.mid told d.took
-        (d.tape ∙ ap (λ (ls : List (List ℕ)). flat_map ended ls ++ d.others) all) (subst (All HasNoLf) all d.each) runs up calm d.limit
+        let first = first_lines tape good (d.handled ++ d.midst) began_with.0 d.each
+        (λ front rest is. no_end_handled tape good d.handled d.acts d.driven.outputs d.driven.mid runs front rest (sym all ∙ is)) began_with.1 in
+        let quiet = nothing_behind d.midst d.behind none d.driven.off in
+        let ample : d.stop ≡ OutOfMemory → ⊥ = λ is. (let clash : BehindLine ≡ OutOfMemory = sym stopped ∙ is in cc) in
+        no_run_fault tape good between left1 fault d.read d.others d.room d.handled d.acts d.driven.outputs d.driven.mid (f first.0 first.1 ample quiet).now (f first.0 first.1 ample quiet).next told d.took
+        (d.tape ∙ ap (λ (ls : List (List ℕ)). flat_map ended ls ++ d.others) all) (subst (All HasNoLf) all d.each) runs (follows first.0 first.1 ample quiet) up calm d.limit
         (subst (λ (ss : List Session). StopsAt fault good.plan been ss left1 d.others d.room) off
         (subst (λ (p : Plan). StopsAt fault p been d.sessions left1 d.others d.room) same why))
 
-    not_denied : d.stop ≡ Denied → ⊥
-    not_denied is = by d.midst d.behind refl (subst (λ (s : Stop). IsLeftOff (plan_of start) been s d.driven.mid d.midst d.behind d.driven.tail d.driven.extra d.sessions) is d.driven.off)
+    not_denied : (fault : TapeFault) → d.stop ≡ Denied → EndsDenied fault d.outcomes → ⊥
+    unfolding f
+    not_denied fault is denied = by d.midst d.behind refl refl (subst (λ (s : Stop). IsLeftOff (plan_of start) been s d.driven.mid d.midst d.behind d.driven.tail d.driven.extra d.sessions) is d.driven.off)
       where
-        by : (midst : List (List ℕ)) (behind : List (List Act)) → d.midst ≡ midst → IsLeftOff (plan_of start) been Denied d.driven.mid midst behind d.driven.tail d.driven.extra d.sessions → ⊥
-        by [] [] here off = off.4 refl
-        by (line ∷ []) ([] ∷ []) here (tried, stays) =
-            no_denial tape good between left1 d.read d.others d.handled line d.acts d.driven.outputs d.driven.mid tried.order told d.took
+        ample : d.stop ≡ OutOfMemory → ⊥
+        ample out = let clash : Denied ≡ OutOfMemory = sym is ∙ out in cc
+
+        by : (midst : List (List ℕ)) (behind : List (List Act)) → d.midst ≡ midst → d.behind ≡ behind → IsLeftOff (plan_of start) been Denied d.driven.mid midst behind d.driven.tail d.driven.extra d.sessions → ⊥
+        by [] [] here after off = off.4 refl
+        by (line ∷ []) ([] ∷ []) here after (tried, stays) =
+            let quiet : flat_map (λ a. a) d.behind ≡ [] = ap (λ (b : List (List Act)). flat_map (λ a. a) b) after in
+            let other : tape_order line ≡ Some End → ⊥ = λ ends. subst (λ o. FirstStep o d.driven.mid tried.step) (same_Some tried.order End (sym tried.spelled ∙ ends)) tried.first in
+            let first = first_lines tape good (d.handled ++ d.midst) began_with.0 d.each
+            (λ front rest e. no_end_next tape good d.handled line d.acts d.driven.outputs d.driven.mid runs other front rest (sym (ap (λ (ms : List (List ℕ)). d.handled ++ ms) here) ∙ e)) began_with.1 in
+            let grants = granted tape good between left1 d.read d.others d.handled line d.acts d.driven.outputs d.driven.mid tried.order (f first.0 first.1 ample quiet).now (f first.0 first.1 ample quiet).next told d.took
             (d.tape ∙ ap (λ (ms : List (List ℕ)). flat_map ended (d.handled ++ ms) ++ d.others) here)
-            (subst (λ (ms : List (List ℕ)). All HasNoLf (d.handled ++ ms)) here d.each) runs up calm tried.spelled (tried.step, tried.first)
-        by (line ∷ []) ((act ∷ acts) ∷ []) here (turn, cut, more) = absurd cut.may
-        by midst behind here off = absurd off
+            (subst (λ (ms : List (List ℕ)). All HasNoLf (d.handled ++ ms)) here d.each) runs (follows first.0 first.1 ample quiet) up calm tried.spelled (tried.step, tried.first) in
+            refuses on start last begins tells good.plan same d.stop d.handled d.midst d.acts d.behind d.outcomes d.entries d.sessions d.driven d.awaited d.steps d.at_nodes d.lacking d.led good.lines first.0 first.1 ample
+            tried.order tried.step fault denied tried.extra_is (subst (λ (ss : List Session). FirstStep tried.order ss tried.step) (sym stays) tried.first) grants
+        by (line ∷ []) ((act ∷ acts) ∷ []) here after (turn, cut, more) = absurd cut.may
+        by midst behind here after off = absurd off
 
   handled : {D : Type 0} (on : View D) (start last : World D) (between left1 held0 held1 : Option (List ℕ)) (answer : Drove) (from : ℕ) → plan_of start ≡ good.plan
       → between ≡ Some (run_part tape good) → (d : Drives on start between left1 held0 held1 answer from last)
       → ((n : ℕ) → is_no_node (plan_of start) n ≡ false → HasFailed on start last n → ⊥)
-      → ((plan_of start).nodes ≡ 1 → NobodyWaits (flat_map (λ a. a) (d.acts ++ d.behind))) → NamesNone (ending_of answer)
-  handled on start last between left1 held0 held1 drove.Ended from same told d never alone = tt
-  handled on start last between left1 held0 held1 drove.ReadFault from same told d never alone = tt
-  handled on start last between left1 held0 held1 (drove.WriteFault n) from same told d never alone = tt
-  handled on start last between left1 held0 held1 (drove.BadTape n fault) from same told d never alone = absurd (⊎_elim
-      (λ refused. not_refused on start last between left1 held0 held1 (drove.BadTape n fault) from same told d never alone fault refused.1 refused.2)
-      (λ denied. not_denied on start last between left1 held0 held1 (drove.BadTape n fault) from same told d never alone denied.0)
+      → ((plan_of start).nodes ≡ 1 → NobodyWaits (flat_map (λ a. a) (d.acts ++ d.behind))) → IsAtBeginning on (plan_of start) start → disks_tell on.seen start ≡ true → NamesNone (ending_of answer)
+  handled on start last between left1 held0 held1 drove.Ended from same told d never alone begins tells = tt
+  handled on start last between left1 held0 held1 drove.ReadFault from same told d never alone begins tells = tt
+  handled on start last between left1 held0 held1 (drove.WriteFault n) from same told d never alone begins tells = tt
+  handled on start last between left1 held0 held1 (drove.BadTape n fault) from same told d never alone begins tells = absurd (⊎_elim
+      (λ refused. not_refused on start last between left1 held0 held1 (drove.BadTape n fault) from same told d never alone begins tells fault refused.0 refused.1 refused.2)
+      (λ denied. not_denied on start last between left1 held0 held1 (drove.BadTape n fault) from same told d never alone begins tells fault denied.0 denied.2)
       d.why)
-  handled on start last between left1 held0 held1 (drove.NoMemory n) from same told d never alone = tt
+  handled on start last between left1 held0 held1 (drove.NoMemory n) from same told d never alone begins tells = tt
 
   -- whatever the work did, with stores that do not fail
   module _ {D : Type 0} (on : View D) (is_settled : D → Type 0) (stores : Stores D) (ends : SourceAndSink) (ending : Ending) (before now : ℕ) (told : ends.left0 ≡ Some tape)
@@ -141,7 +187,8 @@ module _ (tape : List ℕ) (good : IsGoodTape tape) where
     by_run : (served : ServedStores on is_settled stores ends ending) → Ran on is_settled (record ends { left0 = served.between }) served.plan served.count ending served.disks served.given → NamesNone ending
     by_run served ran =
         let plan = reads_good_plan tape good ends.left0 served.between served.plan served.count told served.reads in
-        subst NamesNone (sym ran.is) (handled on ran.start ran.last served.between ends.left1 ends.held0 ends.held1 ran.answer served.count (ran.opened.begins.plan_is ∙ plan.1) plan.0 ran.drives never alone)
+        subst NamesNone (sym ran.is) (handled on ran.start ran.last served.between ends.left1 ends.held0 ends.held1 ran.answer served.count (ran.opened.begins.plan_is ∙ plan.1) plan.0 ran.drives never alone
+        (subst (λ (p : Plan). IsAtBeginning on p ran.start) (sym ran.opened.begins.plan_is) ran.opened.begins) (all_told (disks_tell on.seen ran.start) refl))
       where
         stays : (plan_of ran.last ≡ plan_of ran.start) × (length (disks_of ran.last) ≡ length (disks_of ran.start)) × (disks_tell on.seen ran.last ≡ disks_tell on.seen ran.start)
         stays = plan_stays on ran.drives.outcomes [] ran.drives.awaited ran.start ran.last ran.drives.steps

@@ -1,4 +1,5 @@
 -- The run lines of a good tape are handled, and none is refused.
+use Rattle.std.proofs.lemmas.List.{append-nil}
 use Rattle.std.proofs.Common.{◌≡◌, ◌≤◌, ◌<◌, ◌+◌, ◌^◌, ℕ, Bool, true, false, List, [], ◌∷◌, ◌++◌, length, flat_map, All, Option, Some, None, refl, sym, ap, ◌∙◌, subst, arith, append_assoc, length-append, ⊎_elim, if◌then◌else◌}
 use Rattle.std.specs.Prelude.{◌⊎◌}
 use Rattle.std.specs.Io.KnownBytes.{Consumes, IsAtEnd}
@@ -20,7 +21,11 @@ use Rattle.drive_tape.specs.declared.drove.TapeFault.{TapeFault}
 use Rattle.drive_tape.specs.declared.drove.TapeFault.TheVariants.{BadLine, TapeTooLong}
 use Rattle.drive_tape.specs.Faults.{tape_fault_seen}
 use Rattle.drive_tape.specs.Drive.{IsOrder, IsNoOrder, StopsAt}
-use Rattle.porcupine_server.specs.Complete.{IsGoodTape, NobodyWaits, MayBeDenied}
+use Rattle.cluster_model.specs.World.{World}
+use Rattle.cluster_model.specs.WorldLaws.{opening_world}
+use Rattle.accepted_tapes.specs.Follows.{Standing, FollowsAll}
+use Rattle.accepted_tapes.specs.Accepted.{NobodyWaits, MayBeDenied, Grants}
+use Rattle.porcupine_server.specs.Complete.{IsGoodTape}
 use Rattle.porcupine_server.proofs.NextLine.{flat_map_last, front_all, last_all, Ahead, same_line, begins_more, within_line, no_line, next_line, last_or_before}
 use Rattle.porcupine_server.proofs.GoodPlan.{consumed, at_end, run_part}
 
@@ -49,24 +54,20 @@ no_end_run plan been old (l ∷ front) line rest [] outputs new ends runs = absu
 no_end_run plan been old (l ∷ front) line rest (a ∷ acts) [] new ends runs = absurd runs
 no_end_run plan been old (l ∷ front) line rest (a ∷ acts) (o ∷ outputs) new ends runs = no_end_run plan (been ++ a) runs.0 front line rest acts outputs new ends runs.2
 
--- `end` asks nothing of the cluster
-end_undenied : (sessions : List Session) → MayBeDenied End sessions → ⊥
-end_undenied sessions denied = denied.1
-
 module _ (tape : List ℕ) (good : IsGoodTape tape) where
   -- the run lines and `end`
   abbrev all_lines : List (List ℕ)
   all_lines = good.lines ++ good.last ∷ []
 
-  -- The next line after run lines that were handled, where no node failed: it is an order, and is neither refused nor denied.
-  record RunNext (lines : List (List ℕ)) (been : List Act) (sessions : List Session) (more : List ℕ) : Type 0 where
+  -- The next line after run lines that were handled, where no node failed: it is an order that is not refused, and no step of it is.
+  record RunNext (lines : List (List ℕ)) (been : List Act) (sessions : List Session) (calls : List Standing) (w : World) (more : List ℕ) : Type 0 where
     next : List ℕ
     rest : List ℕ
     begins : BeginsWith more next rest
     order : Order
     spelled : tape_order next ≡ Some order
     accepted : refusal good.plan been sessions order ≡ None
-    undenied : MayBeDenied order sessions → ⊥
+    grants : MayBeDenied order sessions → Grants good.plan order calls w
     short : length (flat_map ended lines) + length next < 2 ^ 40
 
   octets_of : flat_map ended all_lines ≡ flat_map ended good.lines ++ ended good.last
@@ -86,11 +87,47 @@ module _ (tape : List ℕ) (good : IsGoodTape tape) where
     length-append next (10 ∷ []),
   )
 
-  run_next : (lines : List (List ℕ)) (acts : List (List Act)) (outputs : List (List (List Entry))) (sessions : List Session) (more : List ℕ) → All HasNoLf lines
-      → AreHandled good.plan [] [] lines acts outputs sessions → failed_in (flat_map (λ a. a) acts) ≡ []
+  -- what the machine makes of the acts of these lines
+  abbrev Follow : List (List Act) → List Standing → World → Type 0
+  Follow acts calls w = FollowsAll good.plan good.lines (flat_map (λ a. a) acts) [] (opening_world good.plan.nodes) calls w
+
+  -- Lines that were read, with no `end` among them, are the first of the run lines.
+  pub first_lines : (lines : List (List ℕ)) (more : List ℕ) → All HasNoLf lines → ((front : List (List ℕ)) (rest : List (List ℕ)) → lines ≡ front ++ good.last ∷ rest → ⊥)
+      → run_part tape good ≡ flat_map ended lines ++ more → (others : List (List ℕ)) × (good.lines ≡ lines ++ others)
+  first_lines lines more each never is = ⊎_elim
+      (λ (ahead : Ahead all_lines lines good.behind more). ⊎_elim
+      (λ (here : (good.lines ≡ lines) × (good.last ≡ ahead.next) × (ahead.others ≡ [])). ([], here.0 ∙ sym (append-nil lines)))
+      (λ (before : (others : List (List ℕ)) × (good.lines ≡ lines ++ ahead.next ∷ others)). (ahead.next ∷ before.0, before.1))
+      (last_or_before good.lines good.last lines ahead.next ahead.others ahead.split))
+      (λ (beyond : (extra : List (List ℕ)) × (lines ≡ all_lines ++ extra)). absurd (never good.lines beyond.0 (beyond.1 ∙ append_assoc good.lines (good.last ∷ []) beyond.0)))
+      (next_line all_lines lines good.behind more (All-push HasNoLf good.lines good.last good.each good.last_one) each (run_lines lines more is))
+
+  -- no line that was handled is `end`
+  pub no_end_handled : (lines : List (List ℕ)) (acts : List (List Act)) (outputs : List (List (List Entry))) (sessions : List Session) → AreHandled good.plan [] [] lines acts outputs sessions
+      → (front rest : List (List ℕ)) → lines ≡ front ++ good.last ∷ rest → ⊥
+  no_end_handled lines acts outputs sessions runs front rest is =
+      no_end_run good.plan [] [] front good.last rest acts outputs sessions good.ends (subst (λ (ls : List (List ℕ)). AreHandled good.plan [] [] ls acts outputs sessions) is runs)
+
+  -- nor is one more that is another order
+  pub no_end_next : (lines : List (List ℕ)) (line : List ℕ) (acts : List (List Act)) (outputs : List (List (List Entry))) (sessions : List Session) → AreHandled good.plan [] [] lines acts outputs sessions
+      → (tape_order line ≡ Some End → ⊥) → (front rest : List (List ℕ)) → lines ++ line ∷ [] ≡ front ++ good.last ∷ rest → ⊥
+  no_end_next lines line acts outputs sessions runs other front rest is = ⊎_elim
+      (λ (here : (lines ≡ front) × (line ≡ good.last) × (rest ≡ [])). other (ap tape_order here.1 ∙ good.ends))
+      (λ (before : (others : List (List ℕ)) × (lines ≡ front ++ good.last ∷ others)). no_end_handled lines acts outputs sessions runs front before.0 before.1)
+      (last_or_before lines line front good.last rest is)
+
+  -- what was read is the first of the run part
+  pub read_first : (between left1 : Option (List ℕ)) (read others : List ℕ) (lines : List (List ℕ)) → between ≡ Some (run_part tape good) → Consumes between left1 read → read ≡ flat_map ended lines ++ others
+      → (more : List ℕ) × (run_part tape good ≡ flat_map ended lines ++ more)
+  read_first between left1 read others lines told took cut =
+      let later = consumed (run_part tape good) left1 read (subst (λ (l : Option (List ℕ)). Consumes l left1 read) told took) in
+      (others ++ later.0, later.2 ∙ ap (λ (l : List ℕ). l ++ later.0) cut ∙ append_assoc (flat_map ended lines) others later.0)
+
+  run_next : (lines : List (List ℕ)) (acts : List (List Act)) (outputs : List (List (List Entry))) (sessions : List Session) (calls : List Standing) (w : World) (more : List ℕ) → All HasNoLf lines
+      → AreHandled good.plan [] [] lines acts outputs sessions → Follow acts calls w → failed_in (flat_map (λ a. a) acts) ≡ []
       → (good.plan.nodes ≡ 1 → NobodyWaits (flat_map (λ a. a) acts))
-      → run_part tape good ≡ flat_map ended lines ++ more → RunNext lines (flat_map (λ a. a) acts) sessions more
-  run_next lines acts outputs sessions more each runs up alone is = ⊎_elim
+      → run_part tape good ≡ flat_map ended lines ++ more → RunNext lines (flat_map (λ a. a) acts) sessions calls w more
+  run_next lines acts outputs sessions calls w more each runs follows up alone is = ⊎_elim
       (λ (ahead : Ahead all_lines lines good.behind more). ⊎_elim
       (λ (here : (good.lines ≡ lines) × (good.last ≡ ahead.next) × (ahead.others ≡ [])). record {
         next = ahead.next;
@@ -99,11 +136,11 @@ module _ (tape : List ℕ) (good : IsGoodTape tape) where
         order = End;
         spelled = ap tape_order (sym here.1) ∙ good.ends;
         accepted = refl;
-        undenied = end_undenied sessions;
+        grants = λ denied. tt;
         short = run_short lines ahead.next ahead.others ahead.split;
       })
       (λ (before : (others : List (List ℕ)) × (good.lines ≡ lines ++ ahead.next ∷ others)).
-      let accepted = good.accepted lines ahead.next before.0 acts outputs sessions before.1 runs up alone in
+      let accepted = good.accepted lines ahead.next before.0 acts outputs sessions calls w before.1 runs follows up alone in
       record {
         next = ahead.next;
         rest = flat_map ended ahead.others ++ good.behind;
@@ -111,7 +148,7 @@ module _ (tape : List ℕ) (good : IsGoodTape tape) where
         order = accepted.0;
         spelled = accepted.1;
         accepted = accepted.2;
-        undenied = accepted.3;
+        grants = accepted.3;
         short = run_short lines ahead.next ahead.others ahead.split;
       })
       (last_or_before good.lines good.last lines ahead.next ahead.others ahead.split))
@@ -122,10 +159,10 @@ module _ (tape : List ℕ) (good : IsGoodTape tape) where
 
   -- the run lines of the tape have no fault
   pub no_run_fault : (between left1 : Option (List ℕ)) (fault : TapeFault) (read others : List ℕ) (room : ℕ) (lines : List (List ℕ)) (acts : List (List Act)) (outputs : List (List (List Entry))) (sessions : List Session)
-      → between ≡ Some (run_part tape good) → Consumes between left1 read → read ≡ flat_map ended lines ++ others → All HasNoLf lines
-      → AreHandled good.plan [] [] lines acts outputs sessions → failed_in (flat_map (λ a. a) acts) ≡ []
+      → (calls : List Standing) (w : World) → between ≡ Some (run_part tape good) → Consumes between left1 read → read ≡ flat_map ended lines ++ others → All HasNoLf lines
+      → AreHandled good.plan [] [] lines acts outputs sessions → Follow acts calls w → failed_in (flat_map (λ a. a) acts) ≡ []
       → (good.plan.nodes ≡ 1 → NobodyWaits (flat_map (λ a. a) acts)) → length read + room ≡ 2 ^ 40 → StopsAt fault good.plan (flat_map (λ a. a) acts) sessions left1 others room → ⊥
-  no_run_fault between left1 fault read others room lines acts outputs sessions told took cut each runs up alone limit why = ⊎_elim
+  no_run_fault between left1 fault read others room lines acts outputs sessions calls w told took cut each runs follows up alone limit why = ⊎_elim
       (λ (end : (fault ≡ BadLine) × HasNoLf others × IsAtEnd left1). no_line others n.next n.rest end.1 (ap (λ (l : List ℕ). others ++ l) (sym (at_end left1 later.0 later.1 end.2)) ∙ n.begins.whole))
       (λ (a : ((fault ≡ BadLine) × HasNoLf others × (65535 < length others)) ⊎ ((fault ≡ BadLine) × IsNoOrder others) ⊎ ((fault ≡ TapeTooLong) × HasNoLf others × (room ≡ 0))
       ⊎ ((order : Order) × IsOrder others order × (refusal good.plan (flat_map (λ a. a) acts) sessions order ≡ Some (tape_fault_seen fault)))). ⊎_elim
@@ -142,8 +179,8 @@ module _ (tape : List ℕ) (good : IsGoodTape tape) where
       later : (later : List ℕ) × (left1 ≡ Some later) × (run_part tape good ≡ read ++ later)
       later = consumed (run_part tape good) left1 read (subst (λ (l : Option (List ℕ)). Consumes l left1 read) told took)
 
-      n : RunNext lines (flat_map (λ a. a) acts) sessions (others ++ later.0)
-      n = run_next lines acts outputs sessions (others ++ later.0) each runs up alone (later.2 ∙ ap (λ (l : List ℕ). l ++ later.0) cut ∙ append_assoc (flat_map ended lines) others later.0)
+      n : RunNext lines (flat_map (λ a. a) acts) sessions calls w (others ++ later.0)
+      n = run_next lines acts outputs sessions calls w (others ++ later.0) each runs follows up alone (later.2 ∙ ap (λ (l : List ℕ). l ++ later.0) cut ∙ append_assoc (flat_map ended lines) others later.0)
 
       next_is : (line : List ℕ) → others ≡ ended line → HasNoLf line → line ≡ n.next
       next_is line whole one = (same_line (others ++ later.0) line ([] ++ later.0) n.next n.rest (begins_more others line [] later.0 (record { whole = whole; one = one })) n.begins).0
@@ -157,13 +194,13 @@ module _ (tape : List ℕ) (good : IsGoodTape tape) where
           let same = same_Some order n.order (sym is.spelled ∙ ap tape_order (next_is is.line is.whole is.one) ∙ n.spelled) in
           none-some (tape_fault_seen fault) (sym n.accepted ∙ ap (refusal good.plan (flat_map (λ a. a) acts) sessions) (sym same) ∙ refused)
 
-  -- and the cluster denies none of them
-  pub no_denial : (between left1 : Option (List ℕ)) (read others : List ℕ) (lines : List (List ℕ)) (line : List ℕ) (acts : List (List Act)) (outputs : List (List (List Entry))) (sessions : List Session) (order : Order)
-      → between ≡ Some (run_part tape good) → Consumes between left1 read → read ≡ flat_map ended (lines ++ line ∷ []) ++ others → All HasNoLf (lines ++ line ∷ [])
-      → AreHandled good.plan [] [] lines acts outputs sessions → failed_in (flat_map (λ a. a) acts) ≡ [] → (good.plan.nodes ≡ 1 → NobodyWaits (flat_map (λ a. a) acts))
-      → tape_order line ≡ Some order → MayBeDenied order sessions → ⊥
-  no_denial between left1 read others lines line acts outputs sessions order told took cut each runs up alone spelled denied =
-      n.undenied (subst (λ (o : Order). MayBeDenied o sessions) (same_Some order n.order (sym spelled ∙ ap tape_order next_is ∙ n.spelled)) denied)
+  -- and the machine grants the next
+  pub granted : (between left1 : Option (List ℕ)) (read others : List ℕ) (lines : List (List ℕ)) (line : List ℕ) (acts : List (List Act)) (outputs : List (List (List Entry))) (sessions : List Session) (order : Order)
+      → (calls : List Standing) (w : World) → between ≡ Some (run_part tape good) → Consumes between left1 read → read ≡ flat_map ended (lines ++ line ∷ []) ++ others → All HasNoLf (lines ++ line ∷ [])
+      → AreHandled good.plan [] [] lines acts outputs sessions → Follow acts calls w → failed_in (flat_map (λ a. a) acts) ≡ [] → (good.plan.nodes ≡ 1 → NobodyWaits (flat_map (λ a. a) acts))
+      → tape_order line ≡ Some order → MayBeDenied order sessions → Grants good.plan order calls w
+  granted between left1 read others lines line acts outputs sessions order calls w told took cut each runs follows up alone spelled denied =
+      subst (λ (o : Order). Grants good.plan o calls w) (sym same) (n.grants (subst (λ (o : Order). MayBeDenied o sessions) same denied))
     where
       later : (later : List ℕ) × (left1 ≡ Some later) × (run_part tape good ≡ read ++ later)
       later = consumed (run_part tape good) left1 read (subst (λ (l : Option (List ℕ)). Consumes l left1 read) told took)
@@ -172,8 +209,8 @@ module _ (tape : List ℕ) (good : IsGoodTape tape) where
       cut_more = ap (λ (l : List ℕ). l ++ later.0) (cut ∙ ap (λ (l : List ℕ). l ++ others) (flat_map_last ended lines line) ∙ append_assoc (flat_map ended lines) (ended line) others)
           ∙ append_assoc (flat_map ended lines) (ended line ++ others) later.0
 
-      n : RunNext lines (flat_map (λ a. a) acts) sessions ((ended line ++ others) ++ later.0)
-      n = run_next lines acts outputs sessions ((ended line ++ others) ++ later.0) (front_all HasNoLf lines (line ∷ []) each) runs up alone (later.2 ∙ cut_more)
+      n : RunNext lines (flat_map (λ a. a) acts) sessions calls w ((ended line ++ others) ++ later.0)
+      n = run_next lines acts outputs sessions calls w ((ended line ++ others) ++ later.0) (front_all HasNoLf lines (line ∷ []) each) runs follows up alone (later.2 ∙ cut_more)
 
       begins : BeginsWith ((ended line ++ others) ++ later.0) line (others ++ later.0)
       begins = record {
@@ -183,3 +220,6 @@ module _ (tape : List ℕ) (good : IsGoodTape tape) where
 
       next_is : line ≡ n.next
       next_is = (same_line ((ended line ++ others) ++ later.0) line (others ++ later.0) n.next n.rest begins n.begins).0
+
+      same : order ≡ n.order
+      same = same_Some order n.order (sym spelled ∙ ap tape_order next_is ∙ n.spelled)

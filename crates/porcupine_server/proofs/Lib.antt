@@ -10,7 +10,10 @@ pub mod Serving
 pub mod Promises
 pub mod Named
 pub mod OwnStores
-mod AcceptedLines
-mod OneSession
+mod PlanHead
 mod SmallTape
+mod PostedTape
 mod WrongRuns
+mod MachineOrders
+mod Followed
+mod Granted

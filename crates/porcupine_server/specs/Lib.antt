@@ -6,4 +6,5 @@ pub mod Promises
 pub mod Complete
 pub mod Fresh
 pub mod SmallTape
+pub mod PostedTape
 pub mod WrongRuns

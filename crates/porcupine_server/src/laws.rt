@@ -1,5 +1,6 @@
 //! Laws of tapes.
 ghost use Rattle.porcupine_server.specs.Complete.{IsGoodTape};
+ghost use Rattle.porcupine_server.specs.PostedTape.{posted_tape};
 ghost use Rattle.porcupine_server.specs.SmallTape.{small_tape};
 ghost use Rattle.porcupine_server.specs.WrongRuns.{EmptyStoreIsRefused};
 
@@ -12,4 +13,10 @@ pub fn one_tape_is_good()
 /// keep what `promises` says: no fewer lines and no other sessions can be chosen.
 pub fn empty_store_is_refused()
     ensures { EmptyStoreIsRefused }
+{}
+
+/// A tape of three nodes is good, on which letters are heard twice and out of their order, until the message
+/// that they carry is stored.
+pub fn posted_tape_is_good()
+    ensures { IsGoodTape posted_tape }
 {}

@@ -30,6 +30,6 @@ mod real_yard;
 mod server;
 mod words;
 
-pub use laws::{empty_store_is_refused, one_tape_is_good};
+pub use laws::{empty_store_is_refused, one_tape_is_good, posted_tape_is_good};
 pub use program::run;
 pub use server::porcupine;

@@ -1,0 +1,252 @@
+-- The steps that a world makes for a run line are those that the machine makes for it.
+use Rattle.std.proofs.Common.{◌≡◌, ⊎_elim, inl, inr, ℕ, zero, suc, ◌+◌, nat_eq, Bool, true, false, List, [], ◌∷◌, ◌++◌, map, Option, Some, None, Result, Ok, Err, refl, sym, ap, ◌∙◌, subst, if◌then◌else◌}
+use Rattle.std.specs.Prelude.{◌⊎◌, MatchBool}
+use Rattle.std.proofs.lemmas.Option.{none-some}
+use Rattle.mail_model.specs.Plan.{Plan}
+use Rattle.mail_model.specs.Record.{Record}
+use Rattle.mail_model.specs.Tape.{ClusterOrder}
+use Rattle.mail_model.specs.Tape.{ClusterOrder as order}
+use Rattle.session_model.specs.Events.{NodeLife, NodeLife as life, IsUp}
+use Rattle.cluster_model.specs.Cluster as plain
+use Rattle.cluster_model.specs.Room.{Flight}
+use Rattle.cluster_model.specs.World as machine
+use Rattle.cluster_model.specs.Makes.{MadeStep, MakesStep, MakesAll}
+use Rattle.accepted_tapes.specs.Orders as asks
+use Rattle.node_store.specs.Disks.{View}
+use Rattle.cluster_world.specs.Flights.{first_number}
+use Rattle.cluster_world.specs.Lives.{of_node, life_seen}
+use Rattle.cluster_world.specs.Worlds.{state_of, life_of, seen_life, StandsFor}
+use Rattle.cluster_world.specs.Seen.{step_seen, outcome_seen}
+use Rattle.cluster_world.specs.Ended.{IsEnded}
+use Rattle.cluster_world.specs.Steps.{IsStep}
+use Rattle.cluster_world.specs.Outcomes.{StepMade, MakesSteps, PostsAll, PushesTo, PushesAll, MakesOne, MakesOrder, has_failed, nodes_but}
+use Rattle.cluster_world.specs.declared.life.Life.{Life}
+use Rattle.cluster_world.specs.declared.world.World.{World}
+use Rattle.cluster_world.specs.declared.step.Step.{Step}
+use Rattle.cluster_world.specs.declared.step.Step.TheVariants as step
+use Rattle.cluster_world.specs.declared.step.Said.{Said}
+use Rattle.cluster_world.specs.declared.step.Said.TheVariants as said
+use Rattle.cluster_world.specs.declared.fault.StepFault.{StepFault}
+use Rattle.cluster_world.specs.declared.fault.StepFault.TheVariants as fault
+use Rattle.cluster_world.proofs.Chained.{step_stays}
+use Rattle.cluster_world.proofs.Mirrors.{IsOf, Led, led}
+use Rattle.cluster_world.proofs.Refusals.{IsLifeOf, HasSlot, has_slot, slot_alike}
+use Rattle.cluster_world.proofs.Still.{both_at}
+
+-- a step as the machine sees it
+abbrev pub made_seen : StepMade → MadeStep
+made_seen one = record { step = step_seen one.step; outcome = outcome_seen one.result }
+
+-- it failed there where it failed here
+pub failed_alike : (result : Result Said StepFault) → asks.has_failed (outcome_seen result) ≡ has_failed result
+failed_alike (Ok (said.Begun ticket stirs)) = refl
+failed_alike (Ok said.Noted) = refl
+failed_alike (Ok (said.Asked ask)) = refl
+failed_alike (Ok said.Heard) = refl
+failed_alike (Ok (said.Thrown why)) = refl
+failed_alike (Ok (said.Sent letters)) = refl
+failed_alike (Ok (said.Widened did)) = refl
+failed_alike (Ok (said.NodeUp boot)) = refl
+failed_alike (Ok said.Done) = refl
+failed_alike (Ok (said.Faulted node)) = refl
+failed_alike (Err fault.NoSuchNode) = refl
+failed_alike (Err fault.NodeLost) = refl
+failed_alike (Err fault.NodeDown) = refl
+failed_alike (Err fault.NodeUp) = refl
+failed_alike (Err fault.NoSuchLetter) = refl
+failed_alike (Err fault.NoSuchTicket) = refl
+failed_alike (Err fault.Worn) = refl
+failed_alike (Err fault.NoRoom) = refl
+failed_alike (Err (fault.NoMemory down)) = refl
+
+lowest_alike : (flying : List Flight) → asks.lowest flying ≡ first_number flying
+lowest_alike [] = refl
+lowest_alike (flight ∷ flying) = refl
+
+-- the nodes are counted alike
+but_alike : (node left from : ℕ) → asks.nodes_but node left from ≡ nodes_but node left from
+but_alike node zero from = refl
+but_alike node (suc left) from = ap (λ (l : List ℕ). if nat_eq from node then l else from ∷ l) (but_alike node left (from + 1))
+
+module _ {D : Type 0} (on : View D) (plan : Plan) where
+  abbrev pub Known : World D → Type 0
+  Known world = IsOf on plan true world
+
+  pub known_on : (result : Result Said StepFault) (made : Step) (old new : World D) → Known old → IsStep on result made old new → Known new
+  known_on result made old new of is = let s = step_stays on result made old new is in record { plan_is = s.plan ∙ of.plan_is; told_is = s.told ∙ of.told_is }
+
+  -- where the steps of a run line lead the machine
+  pub record Ordered (asked : ClusterOrder) (steps : List StepMade) (w : machine.World) (new : World D) : Type 0 where
+    pub next : machine.World
+    pub stands : StandsFor on new next
+    pub known : IsOf on plan true new
+    pub makes : asks.MakesOrder plan asked (map made_seen steps) w next
+
+  -- and where other steps lead it
+  record Stepped (Makes : List MadeStep → machine.World → machine.World → Type 0) (steps : List StepMade) (w : machine.World) (new : World D) : Type 0 where
+    next : machine.World
+    stands : StandsFor on new next
+    known : IsOf on plan true new
+    makes : Makes (map made_seen steps) w next
+
+  one_step : (made : Step) → IsEnded made → (steps : List StepMade) (old new : World D) → Known old → (w : machine.World) → StandsFor on old w → MakesOne on made steps old new
+      → Stepped (λ ms u v. asks.StepsOnce plan (step_seen made) ms u v) steps w new
+  one_step made ended steps old new of w stands (result, are, is) =
+      let l = led on plan true result made old new of (inl refl) ended is w stands in
+      record { next = l.next; stands = l.stands; known = known_on result made old new of is; makes = (outcome_seen result, ap (map made_seen) are, l.made) }
+
+  posts : (steps : List StepMade) (old new : World D) → Known old → (w : machine.World) → StandsFor on old w → PostsAll on steps old new → Stepped (λ ms u v. asks.PostsAll plan ms u v) steps w new
+  posts [] old new of w stands (none, same) = record {
+    next = w;
+    stands = subst (λ (v : World D). StandsFor on v w) (sym same) stands;
+    known = subst Known (sym same) of;
+    makes = (sym stands.flying ∙ none, refl);
+  }
+  posts (one ∷ more) old new of w stands (letter, mid, first, is, did, ends) = by (has_failed one.result) refl ends (λ p. posts more mid new here l.next l.stands p)
+    where
+      here : Known mid
+      here = known_on one.result one.step old mid of did
+
+      l : Led on plan true one.result one.step w mid
+      l = led on plan true one.result one.step old mid of (inl refl) (subst IsEnded (sym is) tt) did w stands
+
+      lowest : asks.lowest w.flying ≡ Some letter
+      lowest = lowest_alike w.flying ∙ ap first_number (sym stands.flying) ∙ first
+
+      by : (b : Bool) → has_failed one.result ≡ b → MatchBool b ((more ≡ []) × (new ≡ mid)) (PostsAll on more mid new)
+          → (PostsAll on more mid new → Stepped (λ ms u v. asks.PostsAll plan ms u v) more l.next new) → Stepped (λ ms u v. asks.PostsAll plan ms u v) (one ∷ more) w new
+      by true failed so rest = record {
+        next = l.next;
+        stands = subst (λ (v : World D). StandsFor on v l.next) (sym so.1) l.stands;
+        known = subst Known (sym so.1) here;
+        makes = (
+          letter,
+          l.next,
+          lowest,
+          ap step_seen is,
+          l.made,
+          subst (λ b. MatchBool b ((map made_seen more ≡ []) × (l.next ≡ l.next)) (asks.PostsAll plan (map made_seen more) l.next l.next)) (sym (failed_alike one.result ∙ failed)) (ap (map made_seen) so.0, refl),
+        );
+      }
+      by false well so rest =
+          let r = rest so in
+          record {
+            next = r.next;
+            stands = r.stands;
+            known = r.known;
+            makes = (
+              letter,
+              l.next,
+              lowest,
+              ap step_seen is,
+              l.made,
+              subst (λ b. MatchBool b ((map made_seen more ≡ []) × (r.next ≡ l.next)) (asks.PostsAll plan (map made_seen more) l.next r.next)) (sym (failed_alike one.result ∙ well)) r.makes,
+            );
+          }
+
+  -- any steps but beginnings
+  abbrev AllEnded : List StepMade → Type 0
+  AllEnded [] = Unit {0}
+  AllEnded (one ∷ more) = IsEnded one.step × AllEnded more
+
+  several : (steps : List StepMade) → AllEnded steps → (old new : World D) → Known old → (w : machine.World) → StandsFor on old w → MakesSteps on steps old new → Stepped (λ ms u v. MakesAll plan true u ms v) steps w new
+  several [] ended old new of w stands same = record { next = w; stands = subst (λ (v : World D). StandsFor on v w) (sym same) stands; known = subst Known (sym same) of; makes = refl }
+  several (one ∷ more) ended old new of w stands (mid, did, rest) =
+      let l = led on plan true one.result one.step old mid of (inl refl) ended.0 did w stands in
+      let r = several more ended.1 mid new (known_on one.result one.step old mid of did) l.next l.stands rest in
+      record { next = r.next; stands = r.stands; known = r.known; makes = (l.next, l.made, r.makes) }
+
+  pushes_to : (node : ℕ) (others : List ℕ) (steps : List StepMade) → PushesTo node others steps → asks.PushesTo node others (map made_seen steps) × AllEnded steps
+  pushes_to node [] steps none = (ap (map made_seen) none, subst AllEnded (sym none) tt)
+  pushes_to node (to ∷ others) [] pushes = absurd pushes
+  pushes_to node (to ∷ others) (one ∷ more) (is, ends) = by (has_failed one.result) refl ends (λ p. pushes_to node others more p)
+    where
+      by : (b : Bool) → has_failed one.result ≡ b → MatchBool b (more ≡ []) (PushesTo node others more) → (PushesTo node others more → asks.PushesTo node others (map made_seen more) × AllEnded more)
+          → asks.PushesTo node (to ∷ others) (map made_seen (one ∷ more)) × AllEnded (one ∷ more)
+      by true failed none rest = (
+        (ap step_seen is, subst (λ b. MatchBool b (map made_seen more ≡ []) (asks.PushesTo node others (map made_seen more))) (sym (failed_alike one.result ∙ failed)) (ap (map made_seen) none)),
+        (subst IsEnded (sym is) tt, subst AllEnded (sym none) tt),
+      )
+      by false well so rest =
+          let r = rest so in (
+            (ap step_seen is, subst (λ b. MatchBool b (map made_seen more ≡ []) (asks.PushesTo node others (map made_seen more))) (sym (failed_alike one.result ∙ well)) r.0),
+            (subst IsEnded (sym is) tt, r.1),
+          )
+
+  -- a node that there is not is not there
+  none_there : (old : World D) (w : machine.World) → StandsFor on old w → (node : ℕ) (slot : plain.Slot) → of_node (state_of old).lives node ≡ None → plain.slot_at w.slots node ≡ Some slot → ⊥
+  none_there old w stands zero slot none here = none-some slot here
+  none_there old w stands (suc k) slot none here = let (one, f) = both_at (state_of old).lives w.slots k slot stands.slots.count here in none-some one (sym none ∙ f)
+
+  -- a node that is up there is up here
+  up_here : (old : World D) (w : machine.World) → StandsFor on old w → (node : ℕ) → asks.Works w node → IsUp (life_of old node)
+  up_here old w stands node works = by (of_node (state_of old).lives node) refl
+    where
+      by : (o : Option Life) → of_node (state_of old).lives node ≡ o → IsUp (life_of old node)
+      by None none = absurd (none_there old w stands node _ none works.2)
+      by (Some one) here =
+          let has = has_slot on (state_of old) w (old.nodes.disk_each ∙ sym old.nodes.all) stands node one here in
+          let up : has.slot.life ≡ plain.Life.Up works.0 = ap (λ (o : Option plain.Slot). life_in o) (sym has.slot_here ∙ works.2) in
+          subst (λ o. IsUp (seen_life o)) (sym here) (alike (life_seen one) has.slot.life up (slot_alike on node one has.disk has.slot has.stands))
+        where
+          life_in : Option plain.Slot → plain.Life
+          life_in None = plain.Life.Lost
+          life_in (Some slot) = slot.life
+
+          alike : (l : NodeLife) (there : plain.Life) → there ≡ plain.Life.Up works.0 → IsLifeOf l there → IsUp l
+          alike (life.Up boot) there is same = tt
+          alike life.Down there is same = absurd (subst (λ (t : plain.Life). IsLifeOf life.Down t) is same)
+          alike life.Lost there is same = absurd (subst (λ (t : plain.Life). IsLifeOf life.Lost t) is same)
+
+  -- and one that is up here is up there
+  up_there : (old : World D) (w : machine.World) → StandsFor on old w → (node : ℕ) → IsUp (life_of old node) → asks.Works w node
+  up_there old w stands node up = by (of_node (state_of old).lives node) refl
+    where
+      by : (o : Option Life) → of_node (state_of old).lives node ≡ o → asks.Works w node
+      by None none = absurd (subst (λ o. IsUp (seen_life o)) none up)
+      by (Some one) here =
+          let has = has_slot on (state_of old) w (old.nodes.disk_each ∙ sym old.nodes.all) stands node one here in
+          alike has.slot has.slot.life refl has.slot_here (life_seen one) (subst (λ o. IsUp (seen_life o)) here up) (slot_alike on node one has.disk has.slot has.stands)
+        where
+          alike : (slot : plain.Slot) (there : plain.Life) → slot.life ≡ there → plain.slot_at w.slots node ≡ Some slot → (l : NodeLife) → IsUp l → IsLifeOf l there → asks.Works w node
+          alike slot (plain.Life.Up state) lives at (life.Up boot) is same = (state, slot.disk, at ∙ ap (λ (t : plain.Life). Some (record slot { life = t })) lives)
+          alike slot (plain.Life.Down pending) lives at (life.Up boot) is same = absurd same
+          alike slot plain.Life.Lost lives at (life.Up boot) is same = absurd same
+          alike slot there lives at life.Down is same = absurd is
+          alike slot there lives at life.Lost is same = absurd is
+
+  pub order_follows : (asked : ClusterOrder) (steps : List StepMade) (old new : World D) → Known old → (w : machine.World) → StandsFor on old w → MakesOrder on asked steps old new → Ordered asked steps w new
+  order_follows (order.Crash node) steps old new of w stands makes = let s = one_step (step.Crash node) tt steps old new of w stands makes in record { next = s.next; stands = s.stands; known = s.known; makes = s.makes }
+  order_follows (order.Start node) steps old new of w stands makes = let s = one_step (step.Start node) tt steps old new of w stands makes in record { next = s.next; stands = s.stands; known = s.known; makes = s.makes }
+  order_follows (order.Lose node) steps old new of w stands makes = let s = one_step (step.Lose node) tt steps old new of w stands makes in record { next = s.next; stands = s.stands; known = s.known; makes = s.makes }
+  order_follows (order.Post letter) steps old new of w stands makes = let s = one_step (step.Post letter false) tt steps old new of w stands makes in record { next = s.next; stands = s.stands; known = s.known; makes = s.makes }
+  order_follows (order.Again letter) steps old new of w stands makes = let s = one_step (step.Post letter true) tt steps old new of w stands makes in record { next = s.next; stands = s.stands; known = s.known; makes = s.makes }
+  order_follows (order.Drop letter) steps old new of w stands makes = let s = one_step (step.Drop letter) tt steps old new of w stands makes in record { next = s.next; stands = s.stands; known = s.known; makes = s.makes }
+  order_follows order.Flow steps old new of w stands makes = let s = posts steps old new of w stands makes in record { next = s.next; stands = s.stands; known = s.known; makes = s.makes }
+  order_follows (order.Widen at user id to) steps old new of w stands makes = let s = one_step (step.Widen at user id to) tt steps old new of w stands makes in record { next = s.next; stands = s.stands; known = s.known; makes = s.makes }
+  order_follows (order.Tick seconds) steps old new of w stands makes = let s = one_step (step.Tick seconds) tt steps old new of w stands makes in record { next = s.next; stands = s.stands; known = s.known; makes = s.makes }
+  order_follows order.Sum steps old new of w stands (none, same) = record {
+    next = w;
+    stands = subst (λ (v : World D). StandsFor on v w) (sym same) stands;
+    known = subst Known (sym same) of;
+    makes = (ap (map made_seen) none, refl);
+  }
+  order_follows (order.Push node) steps old new of w stands makes =
+      let s = several steps ended old new of w stands makes.1 in
+      record { next = s.next; stands = s.stands; known = s.known; makes = (record { up = λ works. (pushed works).0; else_none = λ down. ap (map made_seen) (makes.0.else_none (λ up. down (up_there old w stands node up))) }, s.makes) }
+    where
+      nodes_are : nodes_but node plan.nodes 1 ≡ asks.nodes_but node plan.nodes 1
+      nodes_are = sym (but_alike node plan.nodes 1)
+
+      pushed : asks.Works w node → asks.PushesTo node (asks.nodes_but node plan.nodes 1) (map made_seen steps) × AllEnded steps
+      pushed works =
+          let to = pushes_to node (nodes_but node plan.nodes 1) steps (subst (λ (p : Plan). PushesTo node (nodes_but node p.nodes 1) steps) of.plan_is (makes.0.up (up_here old w stands node works))) in
+          (subst (λ (l : List ℕ). asks.PushesTo node l (map made_seen steps)) nodes_are to.0, to.1)
+
+      ended : AllEnded steps
+      ended = by (life_of old node) refl
+        where
+          by : (l : NodeLife) → life_of old node ≡ l → AllEnded steps
+          by (life.Up boot) is = (pushed (up_there old w stands node (subst IsUp (sym is) tt))).1
+          by life.Down is = subst AllEnded (sym (makes.0.else_none (subst IsUp is))) tt
+          by life.Lost is = subst AllEnded (sym (makes.0.else_none (subst IsUp is))) tt
