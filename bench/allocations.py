@@ -17,7 +17,7 @@ import sys
 import tempfile
 
 HERE = pathlib.Path(__file__).resolve().parent
-PROGRAM = HERE.parent / "crates" / "porcupine_server" / "out" / "porcupine_server"
+PROGRAM = HERE.parent / "crates" / "porcupine" / "out" / "porcupine"
 
 
 def run(library, tape, refuse, count):

@@ -17,7 +17,7 @@ import sys
 import tempfile
 
 ROOT = pathlib.Path(__file__).resolve().parent.parent
-PROGRAM = ROOT / "crates" / "porcupine_server" / "out" / "porcupine_server"
+PROGRAM = ROOT / "crates" / "porcupine" / "out" / "porcupine"
 PLAN = b"nodes 1\ncopies 1 1\nbuckets 1\nuser alice tanstaaf\npostmaster alice\ngo\n"
 COMMANDS = b"say 1 MAIL FROM:<bob@b.example>\nsay 1 RCPT TO:<alice>\nsay 1 DATA\n"
 LINE = b"say 1 " + b"x" * 62 + b"\n"

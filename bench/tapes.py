@@ -18,7 +18,7 @@ import tempfile
 import time
 
 ROOT = pathlib.Path(__file__).resolve().parent.parent
-PROGRAM = ROOT / "crates" / "porcupine_server" / "out" / "porcupine_server"
+PROGRAM = ROOT / "crates" / "porcupine" / "out" / "porcupine"
 PLAN = b"nodes 1\ncopies 1 1\nbuckets 1\nuser alice tanstaaf\npostmaster alice\ngo\n"
 COMMANDS = b"say 1 MAIL FROM:<bob@b.example>\nsay 1 RCPT TO:<alice>\nsay 1 DATA\n"
 # One line of a text with its CRLF: 64 octets.

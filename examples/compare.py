@@ -1,7 +1,7 @@
 #!/usr/bin/env python3
 """Compares the examples with the tables that the tests run.
 
-crates/porcupine_server/src/tests/examples.rt has each tape and its transcript as one table. The gate runs the tables; this
+crates/server_trials/src/tests/examples.rt has each tape and its transcript as one table. The gate runs the tables; this
 script says whether they are still the files of this folder: `examples/compare.py` writes nothing and ends with 0 where they are.
 """
 import pathlib
@@ -9,7 +9,7 @@ import re
 import sys
 
 HERE = pathlib.Path(__file__).resolve().parent
-TABLES = HERE.parent / "crates/porcupine_server/src/tests/examples.rt"
+TABLES = HERE.parent / "crates/server_trials/src/tests/examples.rt"
 
 
 def octets(literal):

@@ -31,7 +31,7 @@ FilingFits mail (Some filing) = IsFilingOf mail filing
 -- what stands under the ticket is this call
 abbrev pub IsBegunFor : model.Call → Begun → Type 0
 IsBegunFor (Deliver mail) begun = (begun.kind ≡ kinds.Deliver) × FilingFits mail begun.filing
-IsBegunFor (Login user secret) begun = begun.kind ≡ kinds.Login
+IsBegunFor (Login user given) begun = begun.kind ≡ kinds.Login
 IsBegunFor (Fetch user id) begun = begun.kind ≡ kinds.Fetch
 IsBegunFor (Strike user ids) begun = begun.kind ≡ kinds.Strike
 

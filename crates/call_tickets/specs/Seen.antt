@@ -2,8 +2,7 @@
 use Rattle.std.specs.Prelude.{ℕ, Bool, ◌&&◌, nat_eq, List, map, Option, Some, None, if◌then◌else◌}
 use Rattle.mail_model.specs.Identity.{Id}
 use Rattle.mail_base.specs.declared.item.Item.{Item}
-use Rattle.mail_base.specs.declared.proof.Proof.{Proof}
-use Rattle.mail_base.specs.declared.proof.Proof.TheVariants.{Pass}
+use Rattle.mail_base.specs.Bodies.{proof_seen}
 use Rattle.mail_base.specs.Delivers.{mail_in}
 use Rattle.mail_base.specs.Items.{item_seen}
 use Rattle.session_model.specs.Calls as model
@@ -11,10 +10,6 @@ use Rattle.call_tickets.specs.declared.call.Call.{Call}
 use Rattle.call_tickets.specs.declared.call.Call.TheVariants.{Deliver, Login, Fetch, Strike, Leave}
 use Rattle.call_tickets.specs.declared.answer.Answer.{Answer}
 use Rattle.call_tickets.specs.declared.answer.Answer.TheVariants.{Stored, Listed, Wrong, Part, GoneAlready, Dropped, Failed}
-
--- the octets that were given as a secret
-abbrev pub secret_given : Proof → List ℕ
-secret_given (Pass octets) = octets
 
 -- the ids of listed messages
 abbrev pub ids_in : List Item → List Id
@@ -27,7 +22,7 @@ asks_whole from most = nat_eq from 0 && nat_eq most 18446744073709551615
 -- The call as a session makes it: one that fetches a whole message, and no Leave, which has no answer.
 abbrev pub call_seen : Call → Option model.Call
 call_seen (Deliver deliver) = Some (model.Call.Deliver (mail_in deliver))
-call_seen (Login user proof) = Some (model.Call.Login user (secret_given proof))
+call_seen (Login user proof) = Some (model.Call.Login user (model.given_of (proof_seen proof)))
 call_seen (Fetch user id holders from most) = if asks_whole from most then Some (model.Call.Fetch user id) else None
 call_seen (Strike user items) = Some (model.Call.Strike user (ids_in items))
 call_seen (Leave user login manager) = None

@@ -44,7 +44,7 @@ module _ (plan : Plan) (tells : Bool) (old : World) (own : ℕ) (numbered : IsOf
   -- the entries of what is to be deleted
   struck_leads : (May : Id → List ℕ → Type 0) (call : NodeCall) → Leads plan.confirm May (cluster_of old) (cluster_of (with_struck old call))
   struck_leads May (Deliver mail) = no_move plan.confirm May (cluster_of old) (cluster_of old) refl
-  struck_leads May (Login user secret) = no_move plan.confirm May (cluster_of old) (cluster_of old) refl
+  struck_leads May (Login user proof) = no_move plan.confirm May (cluster_of old) (cluster_of old) refl
   struck_leads May (Fetch user id from most) = no_move plan.confirm May (cluster_of old) (cluster_of old) refl
   struck_leads May (Leave user) = no_move plan.confirm May (cluster_of old) (cluster_of old) refl
   struck_leads May (Strike user items) = entered_leads plan.confirm May (struck_entries user items) (cluster_of old) (λ entry m.
@@ -52,7 +52,7 @@ module _ (plan : Plan) (tells : Bool) (old : World) (own : ℕ) (numbered : IsOf
 
   still_up : (call : NodeCall) (node : Node) (disk : List Record) → IsUp old own node disk → slot_at (with_struck old call).slots own ≡ Some (slot_up node disk)
   still_up (Deliver mail) node disk up = up
-  still_up (Login user secret) node disk up = up
+  still_up (Login user proof) node disk up = up
   still_up (Fetch user id from most) node disk up = up
   still_up (Strike user items) node disk up = up
   still_up (Leave user) node disk up = up
@@ -60,7 +60,7 @@ module _ (plan : Plan) (tells : Bool) (old : World) (own : ℕ) (numbered : IsOf
   -- what is struck is in the book
   is_struck : (node : Node) (call : NodeCall) (user : List ℕ) (id : Id) → Among (user, id) (strikes_of plan own node call) → Among (StruckEntry user id) (with_struck old call).book
   is_struck node (Deliver mail) user id m = absurd m
-  is_struck node (Login name secret) user id m = absurd m
+  is_struck node (Login name proof) user id m = absurd m
   is_struck node (Fetch name other from most) user id m = absurd m
   is_struck node (Leave name) user id m = absurd m
   is_struck node (Strike name items) user id m =
@@ -76,7 +76,7 @@ module _ (plan : Plan) (tells : Bool) (old : World) (own : ℕ) (numbered : IsOf
       → IsCallDone (act_of own node disk (begun_by plan old own node disk call octets) None (files_of own node call octets) (strikes_of plan own node call))
   goes_acts node disk (Deliver mail) octets filed ready = deliver_acts own plan.nodes old.seconds node disk mail.mailboxes octets (targets_for plan own node)
       (λ m h. nodes_within (members_of node) plan.nodes m (targets_are_members plan.copies own (node.drawn + 1) (nodes_in (members_of node) plan.nodes) m h)) filed.1 ready
-  goes_acts node disk (Login user secret) octets filed ready = absurd filed
+  goes_acts node disk (Login user proof) octets filed ready = absurd filed
   goes_acts node disk (Fetch user id from most) octets filed ready = absurd filed
   goes_acts node disk (Leave user) octets filed ready = absurd filed
   goes_acts node disk (Strike user items) octets filed ready = strike_begins own plan.nodes numbered.some numbered.within numbered.few node disk user (asked_for plan own node items)
@@ -94,7 +94,7 @@ module _ (plan : Plan) (tells : Bool) (old : World) (own : ℕ) (numbered : IsOf
     where
       same : (c : Content) → Some (content_of own node mail.mailboxes octets) ≡ Some c → content_of own node mail.mailboxes octets ≡ c
       same c e = cc
-  files_told node disk (Login user secret) octets up filed content e = absurd (cc e)
+  files_told node disk (Login user proof) octets up filed content e = absurd (cc e)
   files_told node disk (Fetch user id from most) octets up filed content e = absurd (cc e)
   files_told node disk (Strike user items) octets up filed content e = absurd (cc e)
   files_told node disk (Leave user) octets up filed content e = absurd (cc e)

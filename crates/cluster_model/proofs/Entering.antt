@@ -91,7 +91,7 @@ module _ (old new : World) where
   call_entries : (call : NodeCall) → (entries : List BookEntry) × ((with_struck old call).book ≡ old.book ++ entries) × NoneConfirms entries
   call_entries (Strike user items) = (struck_entries user items, refl, struck_none user items)
   call_entries (Deliver mail) = ([], sym (append-nil old.book), none)
-  call_entries (Login user secret) = ([], sym (append-nil old.book), none)
+  call_entries (Login user proof) = ([], sym (append-nil old.book), none)
   call_entries (Fetch user id from most) = ([], sym (append-nil old.book), none)
   call_entries (Leave user) = ([], sym (append-nil old.book), none)
 

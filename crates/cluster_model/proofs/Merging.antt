@@ -191,7 +191,7 @@ module _ (plan : Plan) (old new : World) (step : Step) where
 struck_slots : (old : World) (call : NodeCall) → (with_struck old call).slots ≡ old.slots
 struck_slots old (Strike user items) = refl
 struck_slots old (Deliver mail) = refl
-struck_slots old (Login user secret) = refl
+struck_slots old (Login user proof) = refl
 struck_slots old (Fetch user id from most) = refl
 struck_slots old (Leave user) = refl
 
@@ -248,7 +248,7 @@ module _ (plan : Plan) (tells : Bool) (old new : World) where
         did_merge old new (with_struck old (Strike user items)) refl own node disk up (begun_by plan old own node disk (Strike user items) octets) e (gone_updates user (all_nodes plan.nodes) marks)
             (λ key. says_merge own (gone_updates user (all_nodes plan.nodes) marks) (store_of node disk) key),
       )
-  goes_take own (Login user secret) node disk octets up filed e = absurd filed
+  goes_take own (Login user proof) node disk octets up filed e = absurd filed
   goes_take own (Fetch user id from most) node disk octets up filed e = absurd filed
   goes_take own (Leave user) node disk octets up filed e = absurd filed
 

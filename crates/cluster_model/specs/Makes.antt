@@ -3,7 +3,7 @@ use Rattle.std.specs.Prelude.{◌≡◌, ◌≢◌, ◌⊎◌, ◌≤◌, ℕ, �
 use Rattle.mail_model.specs.Identity.{Id, Key}
 use Rattle.mail_model.specs.Identity.Key.{Message}
 use Rattle.mail_model.specs.Lines.{ends_in_crlf}
-use Rattle.mail_model.specs.Plan.{Plan, opens}
+use Rattle.mail_model.specs.Plan.{Plan, proves}
 use Rattle.mail_model.specs.Record.{Record}
 use Rattle.mail_model.specs.Mail.{IsStored}
 use Rattle.mail_model.specs.Book.{BookEntry}
@@ -55,7 +55,7 @@ with_struck w call = w
 -- the kind of the ticket of a call, which a Leave does not have
 abbrev pub kind_of_call : NodeCall → Option CallKind
 kind_of_call (Deliver mail) = Some Delivering
-kind_of_call (Login user secret) = Some LoggingIn
+kind_of_call (Login user proof) = Some LoggingIn
 kind_of_call (Fetch user id from most) = Some Fetching
 kind_of_call (Strike user items) = Some Striking
 kind_of_call (Leave user) = None
@@ -86,10 +86,10 @@ pub data FetchFinds (tells : Bool) (user : List ℕ) (id : Id) (from most : ℕ)
       → FetchFinds tells user id from most disk found
   HasNone : has_copy user id disk ≡ false → found ≡ NotThere → FetchFinds tells user id from most disk found
 
--- What a call that reads finds on the disk of its node. A Login with a secret that is not the user's finds that alone.
+-- What a call that reads finds on the disk of its node. A Login whose proof is not right by the user's secret finds that alone.
 abbrev pub IsFound : Plan → Bool → List Record → NodeCall → Found → Type 0
-IsFound plan tells disk (Login user secret) found = ((opens plan user secret ≡ false) × (found ≡ WrongSecret))
-    ⊎ ((opens plan user secret ≡ true) × ((items : List ListedCopy) × IsListing user disk items × (found ≡ Listed items)))
+IsFound plan tells disk (Login user proof) found = ((proves plan user proof ≡ false) × (found ≡ WrongSecret))
+    ⊎ ((proves plan user proof ≡ true) × ((items : List ListedCopy) × IsListing user disk items × (found ≡ Listed items)))
 IsFound plan tells disk (Fetch user id from most) found = FetchFinds tells user id from most disk found
 IsFound plan tells disk call found = ⊥
 

@@ -73,7 +73,7 @@ abbrev pub begins : Plan → List ℕ → World → ℕ → NodeCall → Node �
 begins plan octets w own (Deliver mail) node disk = begins_as Delivering plan octets w own (Deliver mail) node disk
 begins plan octets w own (Strike user items) node disk = begins_as Striking plan octets w own (Strike user items) node disk
 begins plan octets w own (Leave user) node disk = says Noted w
-begins plan octets w own (Login user secret) node disk = runs_short w
+begins plan octets w own (Login user proof) node disk = runs_short w
 begins plan octets w own (Fetch user id from most) node disk = runs_short w
 
 -- a ticket is asked

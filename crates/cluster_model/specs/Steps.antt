@@ -2,7 +2,7 @@
 use Rattle.std.specs.Prelude.{ℕ, ◌+◌, ◌-◌, ◌^◌, Bool, true, false, not, ◌&&◌, ◌||◌, nat_eq, nat_lt, nat_le, List, [], ◌∷◌, length, Option, Some, None, is_some, if◌then◌else◌}
 use Rattle.std.specs.List.{list_all}
 use Rattle.mail_model.specs.Identity.{Id}
-use Rattle.mail_model.specs.Plan.{Plan}
+use Rattle.mail_model.specs.Plan.{Plan, Proof}
 use Rattle.mail_model.specs.Told.{Mail}
 use Rattle.object_model.specs.Letters.{Number, Letter}
 use Rattle.object_model.specs.Sets.{nodes_in}
@@ -25,7 +25,7 @@ pub record Struck : Type 0 where
 -- login end. A part is of the octets from one on, and at most so many.
 pub data NodeCall : Type 0 where
   Deliver : (mail : Mail) → NodeCall
-  Login : (user secret : List ℕ) → NodeCall
+  Login : (user : List ℕ) (proof : Proof) → NodeCall
   Fetch : (user : List ℕ) (id : Id) (from most : ℕ) → NodeCall
   Strike : (user : List ℕ) (items : List Struck) → NodeCall
   Leave : (user : List ℕ) → NodeCall

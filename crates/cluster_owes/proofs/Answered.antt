@@ -165,13 +165,13 @@ module _ (plan : Plan) (tells : Bool) (lines : List (List ℕ)) (asked : List As
 
   no_acks : (call : Call) (found : Found) → ((mail : Mail) → call ≡ Deliver mail → ⊥) → acks_by (record { session = k; call = call; answer = found_told found }) ≡ []
   no_acks (Deliver mail) found never = absurd (never mail refl)
-  no_acks (Login user secret) found never = refl
+  no_acks (Login user given) found never = refl
   no_acks (Fetch user id) found never = refl
   no_acks (Strike user ids) found never = refl
 
   no_drops : (call : Call) (found : Found) → dropped_by call (found_told found) ≡ []
   no_drops (Deliver mail) found = refl
-  no_drops (Login user secret) found = refl
+  no_drops (Login user given) found = refl
   no_drops (Fetch user id) found = refl
   no_drops (Strike user ids) (Listed items) = refl
   no_drops (Strike user ids) WrongSecret = refl
@@ -186,7 +186,7 @@ module _ (plan : Plan) (tells : Bool) (lines : List (List ℕ)) (asked : List As
   pub any_answer : (one : BegunCall) → one.ticket ≡ number → one.session ≡ k → IsSoundMail one.call → (call : Call) → one.call ≡ call → TicketFits lines tells old.slots known.files one call stood
       → Told call (answer_told own)
   any_answer one at by sound (Deliver mail) same fits = delivered mail one at by (subst IsSoundMail same sound) fits
-  any_answer one at by sound (Login user secret) same fits = read (Login user secret) fits.0 (λ mail e. cc e) fits.1 fits.2
+  any_answer one at by sound (Login user given) same fits = read (Login user given) fits.0 (λ mail e. cc e) fits.1 fits.2
   any_answer one at by sound (Fetch user id) same fits = read (Fetch user id) fits.0 (λ mail e. cc e) fits.1 fits.2
   any_answer one at by sound (Strike user ids) same fits = struck user ids one fits
 

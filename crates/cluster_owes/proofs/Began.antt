@@ -6,7 +6,7 @@ use Rattle.mail_model.specs.Plan.{Plan}
 use Rattle.mail_model.specs.Record.{Record}
 use Rattle.mail_model.specs.Book.{Acked, BookEntry, acked_in, struck_in, dropped_in}
 use Rattle.object_model.specs.Lists.{Among}
-use Rattle.session_model.specs.Calls.{Call}
+use Rattle.session_model.specs.Calls.{Call, given_of}
 use Rattle.session_model.specs.Calls.Call.{Deliver, Login, Fetch, Strike}
 use Rattle.session_model.specs.Logs.{Asked, Answered}
 use Rattle.session_model.specs.Books.{struck_by}
@@ -44,21 +44,21 @@ back xs = sym (nothing xs)
 
 pub with_book : (w : World) (call : NodeCall) → (with_struck w call).book ≡ w.book ++ struck_more call
 with_book w (DeliverCall mail) = nothing w.book
-with_book w (LoginCall user secret) = nothing w.book
+with_book w (LoginCall user proof) = nothing w.book
 with_book w (FetchCall user id from most) = nothing w.book
 with_book w (StrikeCall user items) = refl
 with_book w (Leave user) = nothing w.book
 
 pub with_slots : (w : World) (call : NodeCall) → (with_struck w call).slots ≡ w.slots
 with_slots w (DeliverCall mail) = refl
-with_slots w (LoginCall user secret) = refl
+with_slots w (LoginCall user proof) = refl
 with_slots w (FetchCall user id from most) = refl
 with_slots w (StrikeCall user items) = refl
 with_slots w (Leave user) = refl
 
 pub with_seconds : (w : World) (call : NodeCall) → (with_struck w call).seconds ≡ w.seconds
 with_seconds w (DeliverCall mail) = refl
-with_seconds w (LoginCall user secret) = refl
+with_seconds w (LoginCall user proof) = refl
 with_seconds w (FetchCall user id from most) = refl
 with_seconds w (StrikeCall user items) = refl
 with_seconds w (Leave user) = refl
@@ -80,7 +80,7 @@ dropped_items user (item ∷ items) = dropped_items user items
 
 pub struck_is : (call : NodeCall) (asked : Call) → call_made call ≡ Some asked → struck_in (struck_more call) ≡ struck_by asked
 struck_is (DeliverCall mail) asked e = ap struck_by (let same : Deliver mail ≡ asked = cc e in same)
-struck_is (LoginCall user secret) asked e = ap struck_by (let same : Login user secret ≡ asked = cc e in same)
+struck_is (LoginCall user proof) asked e = ap struck_by (let same : Login user (given_of proof) ≡ asked = cc e in same)
 struck_is (FetchCall user id from most) asked e = by (is_whole from most) e
   where
     by : (b : Bool) → (if b then Some (Fetch user id) else None) ≡ Some asked → [] ≡ struck_by asked
@@ -91,14 +91,14 @@ struck_is (Leave user) asked e = absurd (cc e)
 
 pub struck_acked : (call : NodeCall) → acked_in (struck_more call) ≡ []
 struck_acked (DeliverCall mail) = refl
-struck_acked (LoginCall user secret) = refl
+struck_acked (LoginCall user proof) = refl
 struck_acked (FetchCall user id from most) = refl
 struck_acked (StrikeCall user items) = acked_items user items
 struck_acked (Leave user) = refl
 
 pub struck_dropped : (call : NodeCall) → dropped_in (struck_more call) ≡ []
 struck_dropped (DeliverCall mail) = refl
-struck_dropped (LoginCall user secret) = refl
+struck_dropped (LoginCall user proof) = refl
 struck_dropped (FetchCall user id from most) = refl
 struck_dropped (StrikeCall user items) = dropped_items user items
 struck_dropped (Leave user) = refl
@@ -119,7 +119,7 @@ module _ (plan : Plan) (tells : Bool) (lines : List (List ℕ)) (asked : List As
   -- octets of a message that was filed before were held before
   may_not : (f : Filed) → Among f known.files → (some : NodeCall) (octets : List ℕ) → MayBring old (Begin own some) f.id octets → ⊥
   may_not f m (DeliverCall mail) octets b = not_drawn_yet old own mail f.id octets b (known.filed f m).drawn
-  may_not f m (LoginCall user secret) octets b = b
+  may_not f m (LoginCall user proof) octets b = b
   may_not f m (FetchCall user id from most) octets b = b
   may_not f m (StrikeCall user items) octets b = b
   may_not f m (Leave user) octets b = b

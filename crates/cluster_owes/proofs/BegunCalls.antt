@@ -50,7 +50,7 @@ refused_fits plan lines tells slots files last seconds node (DeliverCall mail) m
     subst (λ c. TicketFits lines tells slots files last c ticket) (let same : Deliver mail ≡ made = cc is in same) (found, inl wants)
 refused_fits plan lines tells slots files last seconds node (StrikeCall user items) made is fails ticket wants found =
     subst (λ c. TicketFits lines tells slots files last c ticket) (let same : Strike user (map (λ item. item.id) items) ≡ made = cc is in same) (found, inl wants)
-refused_fits plan lines tells slots files last seconds node (LoginCall user secret) made is fails ticket wants found = absurd (true≢false (sym fails))
+refused_fits plan lines tells slots files last seconds node (LoginCall user proof) made is fails ticket wants found = absurd (true≢false (sym fails))
 refused_fits plan lines tells slots files last seconds node (FetchCall user id from most) made is fails ticket wants found = absurd (true≢false (sym fails))
 refused_fits plan lines tells slots files last seconds node (Leave user) made is fails ticket wants found = absurd (cc is)
 
@@ -152,7 +152,7 @@ module _ (plan : Plan) (tells : Bool) (lines : List (List ℕ)) (asked : List As
   goes (StrikeCall user items) made is_call did sound taken node disk octets up filed number_is is =
       let same : Strike user (map (λ item. item.id) items) ≡ made = cc is_call in
       subst Goal same (strikes user items did (subst IsSoundMail (sym same) sound) (subst (IsTakenAt lines k own) (sym same) taken) node disk octets up number_is is)
-  goes (LoginCall user secret) made is_call did sound taken node disk octets up filed number_is is = absurd filed
+  goes (LoginCall user proof) made is_call did sound taken node disk octets up filed number_is is = absurd filed
   goes (FetchCall user id from most) made is_call did sound taken node disk octets up filed number_is is = absurd filed
   goes (Leave user) made is_call did sound taken node disk octets up filed number_is is = absurd filed
 
@@ -161,14 +161,14 @@ module _ (plan : Plan) (tells : Bool) (lines : List (List ℕ)) (asked : List As
       → AnswerStands tells new.slots made (found_told what) → TicketFits lines tells new.slots known.files (last made) made ticket
   read_fits (Deliver mail) what ticket found deliver strike so = absurd (deliver mail refl)
   read_fits (Strike user ids) what ticket found deliver strike so = absurd (strike user ids refl)
-  read_fits (Login user secret) what ticket found deliver strike so = (what, found, so)
+  read_fits (Login user given) what ticket found deliver strike so = (what, found, so)
   read_fits (Fetch user id) what ticket found deliver strike so = (what, found, so)
 
   reads_not_deliver : (call : NodeCall) (made : Call) (what : Found) (disk : List Record) → call_made call ≡ Some made → IsFound plan tells disk call what → (mail : Mail) → made ≡ Deliver mail → ⊥
   reads_not_deliver (DeliverCall mail) made what disk is_call finds other same = finds
   reads_not_deliver (StrikeCall user items) made what disk is_call finds other same = finds
   reads_not_deliver (Leave user) made what disk is_call finds other same = finds
-  reads_not_deliver (LoginCall user secret) made what disk is_call finds other same = cc (is_call ∙ ap Some same)
+  reads_not_deliver (LoginCall user proof) made what disk is_call finds other same = cc (is_call ∙ ap Some same)
   reads_not_deliver (FetchCall user id from most) made what disk is_call finds other same = by (is_whole from most) (is_call ∙ ap Some same)
     where
       by : (b : Bool) → (if b then Some (Fetch user id) else None) ≡ Some (Deliver other) → ⊥
@@ -179,7 +179,7 @@ module _ (plan : Plan) (tells : Bool) (lines : List (List ℕ)) (asked : List As
   reads_not_strike (DeliverCall mail) made what disk is_call finds name ids same = finds
   reads_not_strike (StrikeCall user items) made what disk is_call finds name ids same = finds
   reads_not_strike (Leave user) made what disk is_call finds name ids same = finds
-  reads_not_strike (LoginCall user secret) made what disk is_call finds name ids same = cc (is_call ∙ ap Some same)
+  reads_not_strike (LoginCall user proof) made what disk is_call finds name ids same = cc (is_call ∙ ap Some same)
   reads_not_strike (FetchCall user id from most) made what disk is_call finds name ids same = by (is_whole from most) (is_call ∙ ap Some same)
     where
       by : (b : Bool) → (if b then Some (Fetch user id) else None) ≡ Some (Strike name ids) → ⊥
@@ -189,7 +189,7 @@ module _ (plan : Plan) (tells : Bool) (lines : List (List ℕ)) (asked : List As
   -- the entries stay where a call reads
   unstruck : (call : NodeCall) (what : Found) (disk : List Record) → IsFound plan tells disk call what → with_struck old call ≡ old
   unstruck (DeliverCall mail) what disk finds = refl
-  unstruck (LoginCall user secret) what disk finds = refl
+  unstruck (LoginCall user proof) what disk finds = refl
   unstruck (FetchCall user id from most) what disk finds = refl
   unstruck (Leave user) what disk finds = refl
   unstruck (StrikeCall user items) what disk finds = absurd finds

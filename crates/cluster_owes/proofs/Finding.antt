@@ -3,11 +3,12 @@ use Rattle.std.proofs.Common.{◌≡◌, ◌≢◌, ⊎_elim, ℕ, Bool, true, f
 use Rattle.std.specs.Prelude.{nat_eq}
 use Rattle.std.proofs.lemmas.Bool.{and_parts}
 use Rattle.mail_model.specs.Identity.{Id}
-use Rattle.mail_model.specs.Plan.{Plan}
+use Rattle.mail_model.specs.Plan.{Plan, Proof}
 use Rattle.mail_model.specs.PopReplies.{Item}
 use Rattle.mail_model.specs.Record.{Record}
 use Rattle.mail_model.specs.Listing.{octets_in}
-use Rattle.session_model.specs.Calls.{Call}
+use Rattle.mail_model.specs.Maildrop.{Given}
+use Rattle.session_model.specs.Calls.{Call, given_of}
 use Rattle.session_model.specs.Calls.Call.{Login, Fetch}
 use Rattle.cluster_model.specs.Reads.{ListedCopy, Found, IsListing}
 use Rattle.cluster_model.specs.Reads.Found.{Listed}
@@ -30,8 +31,8 @@ module _ (plan : Plan) (tells : Bool) (slots : List Slot) (own : ℕ) (node : No
   same_ids [] = refl
   same_ids (c ∷ items) = ap (λ (l : List Id). c.id ∷ l) (same_ids items)
 
-  listed : (user secret : List ℕ) (items : List ListedCopy) → IsListing user disk items → AnswerStands tells slots (Login user secret) (found_told (Listed items))
-  listed user secret items is = (
+  listed : (user : List ℕ) (given : Given) (items : List ListedCopy) → IsListing user disk items → AnswerStands tells slots (Login user given) (found_told (Listed items))
+  listed user given items is = (
     tt,
     (
       subst (AllPairs (λ (a b : Id). a ≢ b)) (same_ids items) (listed_once user disk items is),
@@ -42,10 +43,10 @@ module _ (plan : Plan) (tells : Bool) (slots : List Slot) (own : ℕ) (node : No
     ),
   )
 
-  logged_in : (user secret : List ℕ) (what : Found) → IsFound plan tells disk (LoginCall user secret) what → AnswerStands tells slots (Login user secret) (found_told what)
-  logged_in user secret what is = ⊎_elim
-      (λ (wrong, same). subst (λ f. AnswerStands tells slots (Login user secret) (found_told f)) (sym same) (tt, tt))
-      (λ (right, (items, listing, same)). subst (λ f. AnswerStands tells slots (Login user secret) (found_told f)) (sym same) (listed user secret items listing))
+  logged_in : (user : List ℕ) (proof : Proof) (given : Given) (what : Found) → IsFound plan tells disk (LoginCall user proof) what → AnswerStands tells slots (Login user given) (found_told what)
+  logged_in user proof given what is = ⊎_elim
+      (λ (wrong, same). subst (λ f. AnswerStands tells slots (Login user given) (found_told f)) (sym same) (tt, tt))
+      (λ (right, (items, listing, same)). subst (λ f. AnswerStands tells slots (Login user given) (found_told f)) (sym same) (listed user given items listing))
       is
 
   fetched : (user : List ℕ) (id : Id) (from most : ℕ) (what : Found) → is_whole from most ≡ true → FetchFinds tells user id from most disk what → AnswerStands tells slots (Fetch user id) (found_told what)
@@ -60,7 +61,7 @@ module _ (plan : Plan) (tells : Bool) (slots : List Slot) (own : ℕ) (node : No
   found_stands (DeliverCall mail) asked what made is = absurd is
   found_stands (StrikeCall user items) asked what made is = absurd is
   found_stands (Leave user) asked what made is = absurd is
-  found_stands (LoginCall user secret) asked what made is = subst (λ c. AnswerStands tells slots c (found_told what)) (let same : Login user secret ≡ asked = cc made in same) (logged_in user secret what is)
+  found_stands (LoginCall user proof) asked what made is = subst (λ c. AnswerStands tells slots c (found_told what)) (let same : Login user (given_of proof) ≡ asked = cc made in same) (logged_in user proof (given_of proof) what is)
   found_stands (FetchCall user id from most) asked what made is = by (is_whole from most) refl made
     where
       by : (b : Bool) → is_whole from most ≡ b → (if b then Some (Fetch user id) else None) ≡ Some asked → AnswerStands tells slots asked (found_told what)

@@ -56,7 +56,7 @@ greatest = 18446744073709551615
 
 -- what a listing or a part says of octets stands on disks
 abbrev pub OctetsStand : Bool → List Slot → Call → Answer → Type 0
-OctetsStand tells slots (Login user secret) (Listed items) =
+OctetsStand tells slots (Login user given) (Listed items) =
     AllPairs (λ (a b : Id). a ≢ b) (map (λ (item : Item). item.id) items)
     × ((item : Item) → Among item items → (octets : List ℕ) × IsOnDisk slots item.id octets × (item.size ≡ length octets))
 OctetsStand tells slots (Fetch user id) (Part octets) = tells ≡ true → (all : List ℕ) × IsOnDisk slots id all × (octets ≡ take greatest all)
@@ -76,7 +76,7 @@ DeliveryFits lines files one mail wants = (wants ≡ [])
 abbrev pub TicketFits : List (List ℕ) → Bool → List Slot → List Filed → BegunCall → Call → Ticket → Type 0
 TicketFits lines tells slots files one (Deliver mail) ticket = (ticket.found ≡ None) × DeliveryFits lines files one mail ticket.wants
 TicketFits lines tells slots files one (Strike user ids) ticket = (ticket.found ≡ None) × ((ticket.wants ≡ []) ⊎ AreDeletions user ids ticket.wants)
-TicketFits lines tells slots files one (Login user secret) ticket = (found : Found) × (ticket.found ≡ Some found) × AnswerStands tells slots (Login user secret) (found_told found)
+TicketFits lines tells slots files one (Login user given) ticket = (found : Found) × (ticket.found ≡ Some found) × AnswerStands tells slots (Login user given) (found_told found)
 TicketFits lines tells slots files one (Fetch user id) ticket = (found : Found) × (ticket.found ≡ Some found) × AnswerStands tells slots (Fetch user id) (found_told found)
 
 -- no two of them have one id
@@ -133,16 +133,16 @@ on_disk old new grew id octets h = let now = grew.slots h.n h.slot h.here in rec
 }
 
 octets_stay : (tells : Bool) (old new : List Slot) → ClusterGrew old new → (call : Call) (answer : Answer) → OctetsStand tells old call answer → OctetsStand tells new call answer
-octets_stay tells old new grew (Login user secret) (Listed items) a = (a.0, λ item m. let o = a.1 item m in (o.0, on_disk old new grew item.id o.0 o.1, o.2))
+octets_stay tells old new grew (Login user given) (Listed items) a = (a.0, λ item m. let o = a.1 item m in (o.0, on_disk old new grew item.id o.0 o.1, o.2))
 octets_stay tells old new grew (Fetch user id) (Part octets) a = λ told. let o = a told in (o.0, on_disk old new grew id o.0 o.1, o.2)
 octets_stay tells old new grew (Deliver mail) answer a = tt
 octets_stay tells old new grew (Strike user ids) answer a = tt
-octets_stay tells old new grew (Login user secret) (Answer.Stored id) a = tt
-octets_stay tells old new grew (Login user secret) Answer.Wrong a = tt
-octets_stay tells old new grew (Login user secret) (Part octets) a = tt
-octets_stay tells old new grew (Login user secret) Answer.GoneAlready a = tt
-octets_stay tells old new grew (Login user secret) Answer.Dropped a = tt
-octets_stay tells old new grew (Login user secret) Answer.Failed a = tt
+octets_stay tells old new grew (Login user given) (Answer.Stored id) a = tt
+octets_stay tells old new grew (Login user given) Answer.Wrong a = tt
+octets_stay tells old new grew (Login user given) (Part octets) a = tt
+octets_stay tells old new grew (Login user given) Answer.GoneAlready a = tt
+octets_stay tells old new grew (Login user given) Answer.Dropped a = tt
+octets_stay tells old new grew (Login user given) Answer.Failed a = tt
 octets_stay tells old new grew (Fetch user id) (Answer.Stored other) a = tt
 octets_stay tells old new grew (Fetch user id) (Listed items) a = tt
 octets_stay tells old new grew (Fetch user id) Answer.Wrong a = tt
@@ -193,7 +193,7 @@ fits_still lines tells old new files others within one (Strike user ids) before 
       (λ are. inr (deletions_same user ids before.wants after.wants same.wants are))
       fits.1,
 )
-fits_still lines tells old new files others within one (Login user secret) before after grew same fits = (fits.0, sym same.found ∙ fits.1, answer_stays tells old new grew (Login user secret) (found_told fits.0) fits.2)
+fits_still lines tells old new files others within one (Login user given) before after grew same fits = (fits.0, sym same.found ∙ fits.1, answer_stays tells old new grew (Login user given) (found_told fits.0) fits.2)
 fits_still lines tells old new files others within one (Fetch user id) before after grew same fits = (fits.0, sym same.found ∙ fits.1, answer_stays tells old new grew (Fetch user id) (found_told fits.0) fits.2)
 
 -- no octets are held after that were not held before

@@ -144,7 +144,7 @@ struck_call (one ∷ asked) user id m = ⊎_elim
         let r = among_pair user name id ids k in
         (one.session, ids, inl (λ i. record { session = one.session; call = (same ∙ ap (λ n. Strike n ids) r.0) i }), r.1)
     by (Deliver mail) same k = absurd k
-    by (Login name secret) same k = absurd k
+    by (Login name given) same k = absurd k
     by (Fetch name other) same k = absurd k
 
 pub dropped_answer : (answered : List Answered) (k : ℕ) (user : List ℕ) (ids : List Id) (id : Id) → AmongAnswers (record { session = k; call = Strike user ids; answer = WereDropped }) answered → IsIn id ids

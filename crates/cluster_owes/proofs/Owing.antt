@@ -255,9 +255,9 @@ module _ (plan : Plan) (tells : Bool) (lines : List (List ℕ)) (asked : List As
     gone = λ k user ids id m inside.
         let entry = dropped_among last.book user id (subst (Among (user, id)) (sym known.book_is.dropped) (dropped_answer answered k user ids id m inside)) in
         (nodes_in entry.0 64, gone_on plan disks w sound in_plan at_disk user id entry.0 (subst (Among (Dropped user id entry.0)) (sym settled.book) entry.1));
-    once = λ k user secret items m. (known.answers (record { session = k; call = Login user secret; answer = Listed items }) m).1.0;
-    named = λ k user secret items m i item e.
-        let o = (known.answers (record { session = k; call = Login user secret; answer = Listed items }) m).1.1 item (got_among items i item e) in
+    once = λ k user given items m. (known.answers (record { session = k; call = Login user given; answer = Listed items }) m).1.0;
+    named = λ k user given items m i item e.
+        let o = (known.answers (record { session = k; call = Login user given; answer = Listed items }) m).1.1 item (got_among items i item e) in
         let there = on_store item.id o.0 o.1 in
         each_of IsRecord (Octets item.id o.0) there.1 (in_grammar 1 stores disks are there.0 there.1 there.2) there.3;
   }
@@ -276,8 +276,8 @@ module _ (plan : Plan) (tells : Bool) (lines : List (List ℕ)) (asked : List As
 
   pub owes_parts : tells ≡ true → OwesParts (filed_on disks) answered
   owes_parts told = record {
-    sizes = λ k user secret items m i item e.
-        let o = (known.answers (record { session = k; call = Login user secret; answer = Listed items }) m).1.1 item (got_among items i item e) in
+    sizes = λ k user given items m i item e.
+        let o = (known.answers (record { session = k; call = Login user given; answer = Listed items }) m).1.1 item (got_among items i item e) in
         (o.0, filed_is item.id o.0 o.1, o.2);
     parts = λ k user id part m.
         let o = (known.answers (record { session = k; call = Fetch user id; answer = Part part }) m).1 told in

@@ -69,7 +69,7 @@ same_holds old new same id octets h = subst (λ (w : World). IsHeldSomewhere w.s
 other_brings : (old : World) (step : Step) (said : Said) → IsIdleStep step (Says said) → (id : Id) (octets : List ℕ) → MayBring old step id octets → ⊥
 other_brings old (Begin node (Leave user)) said other id octets m = m
 other_brings old (Begin node (DeliverCall mail)) said other id octets m = other
-other_brings old (Begin node (LoginCall user secret)) said other id octets m = other
+other_brings old (Begin node (LoginCall user proof)) said other id octets m = other
 other_brings old (Begin node (FetchCall user one from most)) said other id octets m = other
 other_brings old (Begin node (StrikeCall user items)) said other id octets m = other
 other_brings old (AskFor ticket) said other id octets m = m
@@ -86,7 +86,7 @@ other_brings old (Tick seconds) said other id octets m = m
 short_brings : (old : World) (step : Step) (n : ℕ) → IsIdleStep step (NoMemory (Some n)) → (id : Id) (octets : List ℕ) → MayBring old step id octets → ⊥
 short_brings old (Begin node (Leave user)) n other id octets m = m
 short_brings old (Begin node (DeliverCall mail)) n other id octets m = other
-short_brings old (Begin node (LoginCall user secret)) n other id octets m = other
+short_brings old (Begin node (LoginCall user proof)) n other id octets m = other
 short_brings old (Begin node (FetchCall user one from most)) n other id octets m = other
 short_brings old (Begin node (StrikeCall user items)) n other id octets m = other
 short_brings old (AskFor ticket) n other id octets m = m
@@ -154,18 +154,18 @@ known_answered plan tells lines asked answered begun w k one answer no_drop no_a
 -- a call has failed
 pub failed_drops : (one : Call) → dropped_by one Failed ≡ []
 failed_drops (Deliver mail) = refl
-failed_drops (Login user secret) = refl
+failed_drops (Login user given) = refl
 failed_drops (Fetch user id) = refl
 failed_drops (Strike user ids) = refl
 
 pub failed_acks : (k : ℕ) (one : Call) → acks_by (record { session = k; call = one; answer = Failed }) ≡ []
 failed_acks k (Deliver mail) = refl
-failed_acks k (Login user secret) = refl
+failed_acks k (Login user given) = refl
 failed_acks k (Fetch user id) = refl
 failed_acks k (Strike user ids) = refl
 
 pub failed_stands : (tells : Bool) (w : World) (one : Call) → AnswerStands tells w.slots one Failed
 failed_stands tells w (Deliver mail) = (tt, tt)
-failed_stands tells w (Login user secret) = (tt, tt)
+failed_stands tells w (Login user given) = (tt, tt)
 failed_stands tells w (Fetch user id) = (tt, tt)
 failed_stands tells w (Strike user ids) = (tt, tt)

@@ -76,7 +76,7 @@ module _ (w : World) (own : ℕ) (node : Node) (disk : List Record) (did : React
 
 struck_same : (old : World) (call : NodeCall) → (with_struck old call).slots ≡ old.slots
 struck_same old (Deliver mail) = refl
-struck_same old (Login user secret) = refl
+struck_same old (Login user proof) = refl
 struck_same old (Fetch user id from most) = refl
 struck_same old (Strike user items) = refl
 struck_same old (Leave user) = refl
@@ -107,7 +107,7 @@ module _ (plan : Plan) (tells : Bool) (one : plan.nodes ≡ 1) (sure_of : plan.c
     goes_sure own (Strike user items) node disk octets up fails filed is = subst (λ (w : World). AreSure w.slots) (sym is)
         (begun_sure (with_struck old (Strike user items)) own node disk (begun_by plan old own node disk (Strike user items) octets) _ up refl refl refl s.sure
         (λ want m. deletion_sure plan one sure_of some own (own_one own node disk up) old.seconds node user items fails node.count want m))
-    goes_sure own (Login user secret) node disk octets up fails filed is = absurd filed
+    goes_sure own (Login user proof) node disk octets up fails filed is = absurd filed
     goes_sure own (Fetch user id from most) node disk octets up fails filed is = absurd filed
     goes_sure own (Leave user) node disk octets up fails filed is = absurd filed
 

@@ -232,7 +232,7 @@ module _ (plan : Plan) (tells : Bool) (old new : World) (sound : Sound plan.conf
   does_go : (step : Step) (said : Said) → IsIdleStep step (Says said) → DoesStep plan tells old step said new → OtherGoes old new
   does_go (Begin node (Leave user)) said other d = leaves_go user node said d
   does_go (Begin node (Deliver mail)) said other d = absurd other
-  does_go (Begin node (Login user secret)) said other d = absurd other
+  does_go (Begin node (Login user proof)) said other d = absurd other
   does_go (Begin node (Fetch user id from most)) said other d = absurd other
   does_go (Begin node (Strike user items)) said other d = absurd other
   does_go (AskFor ticket) said other d = asks_go ticket said other d
@@ -248,7 +248,7 @@ module _ (plan : Plan) (tells : Bool) (old new : World) (sound : Sound plan.conf
 
   begins_short : (n : ℕ) (call : NodeCall) (node : Node) (disk : List Record) (octets : List ℕ) → IsIdleStep (Begin n call) (NoMemory (Some n)) → IsFiled old n node call octets → OtherGoes old new
   begins_short n (Deliver mail) node disk octets other filed = absurd other
-  begins_short n (Login user secret) node disk octets other filed = absurd other
+  begins_short n (Login user proof) node disk octets other filed = absurd other
   begins_short n (Fetch user id from most) node disk octets other filed = absurd other
   begins_short n (Strike user items) node disk octets other filed = absurd other
   begins_short n (Leave user) node disk octets other filed = absurd filed

@@ -91,7 +91,7 @@ Makes plan tells (outcome ∷ more) begun old new = (mid : World) × Came plan t
 -- a session of the node that takes mail asked for each message
 abbrev pub IsTakenAt : List (List ℕ) → ℕ → ℕ → Call → Type 0
 IsTakenAt lines k node (Deliver mail) = kind_at (opened lines) k ≡ Some (Smtp, node)
-IsTakenAt lines k node (Login user secret) = ⊤
+IsTakenAt lines k node (Login user given) = ⊤
 IsTakenAt lines k node (Fetch user id) = ⊤
 IsTakenAt lines k node (Strike user ids) = ⊤
 

@@ -1,7 +1,7 @@
 -- A node's calls and answers as sessions make and get them.
 use Rattle.std.specs.Prelude.{ℕ, Bool, ◌&&◌, nat_eq, map, Option, Some, None, if◌then◌else◌}
 use Rattle.mail_model.specs.PopReplies.{Item}
-use Rattle.session_model.specs.Calls.{Call, Answer}
+use Rattle.session_model.specs.Calls.{Call, Answer, given_of}
 use Rattle.session_model.specs.Calls.Answer.{Stored, Listed, Wrong, Part, GoneAlready, Dropped, Failed}
 use Rattle.cluster_model.specs.Reads.{ListedCopy, Found}
 use Rattle.cluster_model.specs.Reads.Found.{Listed as ListedFound, WrongSecret, PartOf, NotThere}
@@ -17,7 +17,7 @@ is_whole from most = nat_eq from 0 && nat_eq most 18446744073709551615
 -- The call that a session makes so: one that fetches a whole message, and no Leave, which has no answer.
 abbrev pub call_made : NodeCall → Option Call
 call_made (Deliver mail) = Some (Call.Deliver mail)
-call_made (Login user secret) = Some (Call.Login user secret)
+call_made (Login user proof) = Some (Call.Login user (given_of proof))
 call_made (Fetch user id from most) = if is_whole from most then Some (Call.Fetch user id) else None
 call_made (Strike user items) = Some (Call.Strike user (map (λ item. item.id) items))
 call_made (Leave user) = None

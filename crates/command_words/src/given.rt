@@ -1,6 +1,6 @@
 // Which word is which.
-ghost use Rattle.std.specs.Prelude.{◌≡◌, ◌≤◌, false, length, map, IfOk, option_map, string_bytes, codes};
-ghost use Rattle.clap.specs.Words.{app_of, first_of, found_of, matches_of, rows_of};
+ghost use Rattle.std.specs.Prelude.{◌≡◌, ◌≤◌, false, length, map, IfOk, string_bytes};
+ghost use Rattle.clap.specs.Words.{app_of, found_of, matches_of, rows_of};
 ghost use Rattle.command_words.specs.Forms.{has_option};
 ghost use Rattle.command_words.specs.Places.{places};
 

@@ -1,9 +1,10 @@
 -- A letter's body in the plain words of the definitions.
 use Rattle.std.specs.Prelude.{ℕ, List, length, Option, Some, None}
+use Rattle.mail_model.specs.Plan as plan
 use Rattle.object_model.specs.Letters as plain
 use Rattle.mail_base.specs.Seen.{key_seen}
 use Rattle.mail_base.specs.declared.proof.Proof.{Proof}
-use Rattle.mail_base.specs.declared.proof.Proof.TheVariants.{Pass}
+use Rattle.mail_base.specs.declared.proof.Proof.TheVariants.{Pass, Apop}
 use Rattle.mail_base.specs.declared.told.LoginWord.{LoginWord}
 use Rattle.mail_base.specs.declared.told.LoginWord.TheVariants.{Named, Wrong, InUse, NoProfile}
 use Rattle.mail_base.specs.declared.told.ToldPart.{ToldPart}
@@ -11,8 +12,9 @@ use Rattle.mail_base.specs.declared.told.ToldPart.TheVariants as part
 use Rattle.mail_base.specs.declared.body.Body.{Body}
 use Rattle.mail_base.specs.declared.body.Body.TheVariants.{File, Filed, LoginAsk, LoginTold, ListAsk, ListTold, FetchAsk, FetchTold, Strike, StrikeTold, Unlock, Push, PushAck, Retired, Group, Join, Install, Report, ReportAck}
 
-abbrev pub proof_seen : Proof → plain.Proof
-proof_seen (Pass octets) = plain.Proof.Pass octets
+abbrev pub proof_seen : Proof → plan.Proof
+proof_seen (Pass octets) = plan.Proof.Pass octets
+proof_seen (Apop banner digest) = plan.Proof.Apop banner digest
 
 abbrev pub word_seen : LoginWord → plain.LoginWord
 word_seen (Named nodes) = plain.LoginWord.Named nodes

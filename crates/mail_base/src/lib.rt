@@ -64,7 +64,7 @@ pub use node_set::NodeSet;
 pub use obj_state::ObjState;
 pub use octets::Octets;
 pub use plan::Plan;
-pub use proof::Proof;
+pub use proof::{Proof, apop_digest};
 pub use row::Row;
 pub use secret::Secret;
 pub use sequence::Sequence;

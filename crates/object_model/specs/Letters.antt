@@ -1,17 +1,13 @@
 -- The letters by which nodes speak: who sends what to whom, and what each kind carries.
 use Rattle.std.specs.Prelude.{ℕ, Bool, List, Option}
 use Rattle.mail_model.specs.Identity.{Id, Stamp, EpochId, Key, State}
+use Rattle.mail_model.specs.Plan.{Proof}
 
 -- the number of a ticket: its node, the boot of that node, and a number drawn in that boot
 pub record Number : Type 0 where
   pub node : ℕ
   pub boot : ℕ
   pub seq : ℕ
-
--- what a client gives to show who it is: its secret, or the digest of a banner and its secret (RFC 1939, section 7)
-pub data Proof : Type 0 where
-  Pass : (octets : List ℕ) → Proof
-  Apop : (banner digest : List ℕ) → Proof
 
 -- What a manager tells a login: the nodes that hold messages of the user, the stamp of the profile that the proof does not match, the ticket that
 -- holds the maildrop, or that it knows no profile of the user.

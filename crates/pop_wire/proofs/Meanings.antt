@@ -11,8 +11,8 @@ use Rattle.mail_model.specs.Names.{begins_with, is_name, is_no_name_octet}
 use Rattle.mail_model.specs.Numbers.{is_digit, value_after}
 use Rattle.mail_model.specs.Tape.{first_word, behind_word, has_space}
 use Rattle.mail_model.specs.Smtp.{is_blank, is_word, trimmed, verb_of, rest_of, unspaced}
-use Rattle.mail_model.specs.Pop.{Command, Fault, mapped, short_number_of, user_command, alone, number_in, maybe_number_in, numbers_in, second_in, both_of, command_in, pop_command_of}
-use Rattle.mail_model.specs.Pop.Command.{User, Pass, Stat, Listing, Uidl, Retr, Dele, Top, Noop, Rset, Quit, Capa}
+use Rattle.mail_model.specs.Pop.{Command, Fault, mapped, short_number_of, user_command, digest_of, apop_of, apop_command, alone, number_in, maybe_number_in, numbers_in, second_in, both_of, command_in, pop_command_of}
+use Rattle.mail_model.specs.Pop.Command.{User, Pass, Apop, Stat, Listing, Uidl, Retr, Dele, Top, Noop, Rset, Quit, Capa}
 use Rattle.mail_model.specs.Pop.Fault.{UnknownVerb, BadArgument, BadNumber}
 use Rattle.pop_wire.specs.Laws.{is_pass, NamesAreRead, SecretsAreRead, NumbersAreRead, TwoArgumentsAreTooMany, BlanksAtEndMeanNothing, MoreSpacesMeanNothing, CaseOfVerbMeansNothing, LargerNumbersAreBad, OtherVerbsAreUnknown}
 use Rattle.line_words.specs.Words.{IsOneWord}
@@ -31,6 +31,7 @@ abbrev said : List ℕ → List ℕ → List ℕ → Result Command Fault
 said secret verb rest =
     cond (pointwise nat_eq verb (codes "USER")) (user_command rest)
     (cond (pointwise nat_eq verb (codes "PASS")) (cond (nat_eq (length secret) 0) (Err BadArgument) (Ok (Pass secret)))
+    (cond (pointwise nat_eq verb (codes "APOP")) (apop_command rest)
     (cond (pointwise nat_eq verb (codes "STAT")) (alone Stat rest)
     (cond (pointwise nat_eq verb (codes "LIST")) (mapped Listing (maybe_number_in rest))
     (cond (pointwise nat_eq verb (codes "UIDL")) (mapped Uidl (maybe_number_in rest))
@@ -41,7 +42,7 @@ said secret verb rest =
     (cond (pointwise nat_eq verb (codes "RSET")) (alone Rset rest)
     (cond (pointwise nat_eq verb (codes "QUIT")) (alone Quit rest)
     (cond (pointwise nat_eq verb (codes "CAPA")) (alone Capa rest)
-    (Err UnknownVerb))))))))))))
+    (Err UnknownVerb)))))))))))))
 
 drop_behind : (xs ys : List ℕ) → drop (length xs + 1) (xs ++ ys) ≡ drop 1 ys
 drop_behind [] ys = refl
@@ -280,6 +281,10 @@ numbers_spaces rest =
 user_spaces : (rest : List ℕ) → user_command (32 ∷ rest) ≡ user_command rest
 user_spaces rest = ap (λ (n : List ℕ). cond (is_name n) (Ok (User n)) (Err BadArgument)) (unspaced_more rest)
 
+apop_spaces : (rest : List ℕ) → apop_command (32 ∷ rest) ≡ apop_command rest
+apop_spaces rest =
+    ap (λ (o : List ℕ). cond (is_name (first_word o)) (apop_of (first_word o) (digest_of (unspaced (behind_word o)))) (Err BadArgument)) (unspaced_more rest)
+
 maybe_spaces : (rest : List ℕ) → maybe_number_in (32 ∷ 32 ∷ rest) ≡ maybe_number_in (32 ∷ rest)
 maybe_spaces rest = rw (some_more (suc (length rest)), some_more (length rest)) (ap (mapped Some) (number_spaces (32 ∷ rest)))
 
@@ -291,6 +296,7 @@ said_spaces secret other verb rest h =
     rw (
       h,
       user_spaces (32 ∷ rest),
+      apop_spaces (32 ∷ rest),
       maybe_spaces rest,
       number_spaces (32 ∷ rest),
       numbers_spaces (32 ∷ rest),
@@ -320,7 +326,8 @@ pub others_unknown : OtherVerbsAreUnknown
 others_unknown verb rest w h r =
     let user = or_false (is_word verb (codes "USER")) _ h in
     let pass = or_false (is_word verb (codes "PASS")) _ user.1 in
-    let stat = or_false (is_word verb (codes "STAT")) _ pass.1 in
+    let apop = or_false (is_word verb (codes "APOP")) _ pass.1 in
+    let stat = or_false (is_word verb (codes "STAT")) _ apop.1 in
     let list = or_false (is_word verb (codes "LIST")) _ stat.1 in
     let uidl = or_false (is_word verb (codes "UIDL")) _ list.1 in
     let retr = or_false (is_word verb (codes "RETR")) _ uidl.1 in
@@ -330,4 +337,4 @@ others_unknown verb rest w h r =
     let rset = or_false (is_word verb (codes "RSET")) _ noop.1 in
     let quit = or_false (is_word verb (codes "QUIT")) _ rset.1 in
     let capa = or_false (is_word verb (codes "CAPA")) _ quit.1 in
-    word_said verb rest w (begins_or_ends_from rest r) ∙ rw (user.0, pass.0, stat.0, list.0, uidl.0, retr.0, dele.0, top.0, noop.0, rset.0, quit.0, capa.0)
+    word_said verb rest w (begins_or_ends_from rest r) ∙ rw (user.0, pass.0, apop.0, stat.0, list.0, uidl.0, retr.0, dele.0, top.0, noop.0, rset.0, quit.0, capa.0)

@@ -63,7 +63,7 @@ CaseOfVerbMeansNothing = (verb other rest : List ℕ) → IsOneWord verb → IsO
 
 -- the verbs that are read
 abbrev pub verbs : List (List ℕ)
-verbs = codes "USER" ∷ codes "PASS" ∷ codes "STAT" ∷ codes "LIST" ∷ codes "UIDL" ∷ codes "RETR" ∷ codes "DELE" ∷ codes "TOP" ∷ codes "NOOP" ∷ codes "RSET" ∷ codes "QUIT" ∷ codes "CAPA" ∷ []
+verbs = codes "USER" ∷ codes "PASS" ∷ codes "APOP" ∷ codes "STAT" ∷ codes "LIST" ∷ codes "UIDL" ∷ codes "RETR" ∷ codes "DELE" ∷ codes "TOP" ∷ codes "NOOP" ∷ codes "RSET" ∷ codes "QUIT" ∷ codes "CAPA" ∷ []
 
 -- whatever follows
 abbrev pub OtherVerbsAreUnknown : Type 0

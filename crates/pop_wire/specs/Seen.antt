@@ -3,7 +3,7 @@ use Rattle.std.specs.Prelude.{◌<◌, ⊤, length, IsTrue, Result, Ok, Err}
 use Rattle.mail_model.specs.Names.{is_name}
 use Rattle.mail_model.specs.Pop as pop
 use Rattle.pop_wire.specs.declared.command.PopCommand.{PopCommand}
-use Rattle.pop_wire.specs.declared.command.PopCommand.TheVariants.{User, Pass, Stat, List, Uidl, Retr, Dele, Top, Noop, Rset, Quit, Capa}
+use Rattle.pop_wire.specs.declared.command.PopCommand.TheVariants.{User, Pass, Apop, Stat, List, Uidl, Retr, Dele, Top, Noop, Rset, Quit, Capa}
 use Rattle.pop_wire.specs.declared.command.PopFault.{PopFault}
 use Rattle.pop_wire.specs.declared.command.PopFault.TheVariants.{UnknownVerb, BadArgument, BadNumber}
 
@@ -11,6 +11,7 @@ use Rattle.pop_wire.specs.declared.command.PopFault.TheVariants.{UnknownVerb, Ba
 abbrev pub command_seen : PopCommand → pop.Command
 command_seen (User name) = pop.Command.User name.now
 command_seen (Pass secret) = pop.Command.Pass secret.now
+command_seen (Apop name digest) = pop.Command.Apop name.now digest
 command_seen Stat = pop.Command.Stat
 command_seen (List number) = pop.Command.Listing number
 command_seen (Uidl number) = pop.Command.Uidl number
@@ -26,6 +27,7 @@ command_seen Capa = pop.Command.Capa
 abbrev pub IsWithinLimits : PopCommand → Type 0
 IsWithinLimits (User name) = IsTrue (is_name name.now)
 IsWithinLimits (Pass secret) = 0 < length secret.now
+IsWithinLimits (Apop name digest) = IsTrue (is_name name.now)
 IsWithinLimits Stat = ⊤
 IsWithinLimits (List number) = ⊤
 IsWithinLimits (Uidl number) = ⊤

@@ -1,10 +1,11 @@
 // Commands and the lines that they are read from.
 ghost use Rattle.std.specs.Prelude.{◌≡◌, IfOk};
 ghost use Rattle.mail_model.specs.Pop as pop;
-ghost use Rattle.mail_model.specs.Pop.{alone, mapped, number_in, maybe_number_in, numbers_in, pass_of, pop_command_of, user_command};
+ghost use Rattle.mail_model.specs.Pop.{alone, apop_command, digest_of, mapped, number_in, maybe_number_in, numbers_in, pass_of, pop_command_of, user_command};
 ghost use Rattle.pop_wire.specs.Seen.{seen, IsWithinLimits, command_seen, faults_seen};
 
 use crate::number::short_number;
+use hex::FromHex;
 use line_words::{behind_word, first_word, has_space, is_word, split_verb, trimmed, unspaced};
 use mail_base::spells_name;
 
@@ -15,6 +16,8 @@ pub enum PopCommand<'a> {
     User { name: &'a [u8] },
     /// The secret of that mailbox, with every space in it, not empty (section 7).
     Pass { secret: &'a [u8] },
+    /// The mailbox as it was sent, and the digest of the session's banner and the mailbox's secret (section 7).
+    Apop { name: &'a [u8], digest: [u8; 16] },
     /// How many messages there are, and of how many octets (section 5).
     Stat,
     /// The size of one message, or of each (section 5).
@@ -42,7 +45,7 @@ pub enum PopCommand<'a> {
 pub enum PopFault {
     /// The verb is none of those that are read here.
     UnknownVerb,
-    /// The verb is one of those, and what follows it is too much, too little or no name.
+    /// The verb is one of those, and what follows it is too much, too little, no name or no digest.
     BadArgument,
     /// As many words follow as should, and one in the place of a number is none of 1 to 10 digits below
     /// 2^32.
@@ -70,6 +73,31 @@ fn read_pass(line: &[u8]) -> Result<PopCommand<'_>, PopFault>
         Err(PopFault::BadArgument)
     } else {
         Ok(PopCommand::Pass { secret })
+    }
+}
+
+// The octets that 32 hexadecimal digits spell.
+fn digest(word: &[u8]) -> Option<[u8; 16]>
+    ensures { result ≡ digest_of word.now }
+{
+    match <[u8; 16] as FromHex>::from_hex(word) {
+        Ok(digest) => Some(digest),
+        Err(_) => None,
+    }
+}
+
+fn read_apop(rest: &[u8]) -> Result<PopCommand<'_>, PopFault>
+    ensures exact { seen result ≡ apop_command rest.now }
+    ensures limits { IfOk result IsWithinLimits }
+{
+    let words = unspaced(rest);
+    let name = first_word(words);
+    if !spells_name(name) {
+        return Err(PopFault::BadArgument);
+    }
+    match digest(unspaced(behind_word(words))) {
+        Some(digest) => Ok(PopCommand::Apop { name, digest }),
+        None => Err(PopFault::BadArgument),
     }
 }
 
@@ -179,6 +207,8 @@ pub fn read_command(line: &[u8]) -> Result<PopCommand<'_>, PopFault>
         read_user(rest)
     } else if is_word(verb, b"PASS") {
         read_pass(line)
+    } else if is_word(verb, b"APOP") {
+        read_apop(rest)
     } else if is_word(verb, b"STAT") {
         read_alone(PopCommand::Stat, rest)
     } else if is_word(verb, b"LIST") {

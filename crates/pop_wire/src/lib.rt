@@ -4,6 +4,7 @@
 //!
 //! `read_command(line)` reads one line, given without its CRLF, and says which command it is or
 //! which rule it breaks first. What it reads borrows the line: nothing is copied or allocated.
+//! `apop_digest(banner, secret)` is the digest that APOP gives.
 //!
 //! DESCRIPTION
 //!
@@ -15,6 +16,7 @@
 //!   not `@`. It stays as it was sent.
 //! - `PASS secret`: whatever stands after the first space, of any octets but not empty. Each space
 //!   and tab in it counts, at its beginning and its end too.
+//! - `APOP name digest`: a name as in USER, and 32 hexadecimal digits of either case.
 //! - `LIST n` and `UIDL n`, or `LIST` and `UIDL` alone.
 //! - `RETR n` and `DELE n`.
 //! - `TOP n m`: a number, and how many lines of the message come after its header.
@@ -25,27 +27,29 @@
 //! DIAGNOSTICS
 //!
 //! `UnknownVerb` where the verb is none of these, and so for an empty line. `BadArgument` where
-//! there are too few or too many words, the name is none or the secret is empty. `BadNumber` where as
+//! there are too few or too many words, the name or the digest is none, or the secret is empty. `BadNumber` where as
 //! many words follow as should, and one in the place of a number is none.
 //!
 //! STANDS ON
 //!
-//! `mail_model`, whose `pop_command_of` says what each line means, `mail_base`, which knows names, and
-//! `line_words`, which cuts lines into words and reads numbers. The contract of `read_command` is that
+//! `mail_model`, whose `pop_command_of` says what each line means, `mail_base`, which knows names and
+//! digests, `line_words`, which cuts lines into words and reads numbers, and `hex`. The contract of `read_command` is that
 //! definition, both ways.
 //!
 //! WHAT IT DOES NOT DO
 //!
-//! APOP is an unknown verb here. Whether a command comes in its place,
+//! It compares no digest. Whether a command comes in its place,
 //! how long a line may be, whether the name is a mailbox and the secret is its own, and whether a
 //! message has that number, 0 among them, is for the session.
 #![tactic(auto)]
 
 mod command;
+mod digest;
 mod laws;
 mod number;
 
 pub use command::{PopCommand, PopFault, read_command};
+pub use digest::apop_digest;
 pub use laws::{
     blanks_at_end_mean_nothing, case_of_verb_means_nothing, larger_numbers_are_bad,
     more_spaces_mean_nothing, names_are_read, numbers_are_read, other_verbs_are_unknown,

@@ -42,7 +42,7 @@ mail_told plan node (Reading user slots) there left one mail once n is = absurd 
 no_mail : (user : List ℕ) (outcome : LineOutcome) (one : Exchange) (mail : Mail) → IsLed (line_lead user outcome) one → one.call ≡ Some (Deliver mail) → ⊥
 no_mail user (Answered lines) one mail led is = none-some (Deliver mail) (sym led.0 ∙ is)
 no_mail user (Closed lines) one mail led is = none-some (Deliver mail) (sym led.0 ∙ is)
-no_mail user (AsksLogin name secret) one mail led is = let both : Some (Login name secret) ≡ Some (Deliver mail) = sym led.0 ∙ is in cc
+no_mail user (AsksLogin name given) one mail led is = let both : Some (Login name given) ≡ Some (Deliver mail) = sym led.0 ∙ is in cc
 no_mail user (AsksMessage number id) one mail led is = let both : Some (Fetch user id) ≡ Some (Deliver mail) = sym led.0 ∙ is in cc
 no_mail user (AsksDeletion ids) one mail led is = let both : Some (Strike user ids) ≡ Some (Deliver mail) = sym led.0 ∙ is in cc
 

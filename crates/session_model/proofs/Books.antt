@@ -26,7 +26,7 @@ filed_by answers = flat_map (λ one. filing_of (Some one.0) (Some one.1)) answer
 -- a call that has no answer files nothing
 unanswered : (call : Call) → filing_of (Some call) None ≡ []
 unanswered (Deliver mail) = refl
-unanswered (Login user secret) = refl
+unanswered (Login user given) = refl
 unanswered (Fetch user id) = refl
 unanswered (Strike user ids) = refl
 

@@ -26,8 +26,8 @@ pub record Speaks (plan : Plan) (said : List (List ℕ)) (session : Session) : T
 
 -- no unit and no answer ends a session with a farewell
 answered_quiet : (protocol : Protocol) (node : ℕ) (told : TalkState) (call : Call) (answer : Answer) → farewell protocol node (answered told call answer) ≡ []
-answered_quiet protocol node told (Login user secret) (Listed items) = refl
-answered_quiet protocol node told (Login user secret) answer = refl
+answered_quiet protocol node told (Login user given) (Listed items) = refl
+answered_quiet protocol node told (Login user given) answer = refl
 answered_quiet protocol node told (Deliver mail) answer = refl
 answered_quiet protocol node told (Fetch user id) answer = refl
 answered_quiet protocol node told (Strike user ids) answer = refl
@@ -51,8 +51,8 @@ on_quiet protocol node EndedClosed is = absurd is
 
 -- what an answer leads to is no waiting
 pub never_waits : (told state : TalkState) (asks call : Call) (answer : Answer) → Waiting state call ≡ answered told asks answer → ⊥
-never_waits told state (Login user secret) call (Listed items) e = cc
-never_waits told state (Login user secret) call answer e = cc
+never_waits told state (Login user given) call (Listed items) e = cc
+never_waits told state (Login user given) call answer e = cc
 never_waits told state (Deliver mail) call answer e = cc
 never_waits told state (Fetch user id) call answer e = cc
 never_waits told state (Strike user ids) call answer e = cc

@@ -4,17 +4,18 @@ use Rattle.std.specs.Fmt.{decimal}
 use Rattle.std.proofs.lemmas.Option.{none-some}
 use Rattle.mail_model.specs.Identity.{Id, id_text}
 use Rattle.mail_model.specs.Tape.{Protocol}
-use Rattle.mail_model.specs.PopReplies.{Item}
+use Rattle.mail_model.specs.PopReplies.{Item, top_of}
 use Rattle.session_model.specs.Talk.{Exchange, TalkGoes, opening_state}
 use Rattle.session_model.specs.Talk.Standing.{Hearing}
 use Rattle.session_model.specs.Reading.{Each, seen_exchange}
 use Rattle.session_model.specs.Showing.{numbered, ShowsListed, WasListed}
-use Rattle.mail_model.specs.Shown.{ShowsId, ShowsSize, ShowsOctets}
+use Rattle.mail_model.specs.Shown.{ShowsId, ShowsSize, ShowsOctets, ShowsTop}
 use Rattle.session_model.specs.Sessions.{Session, session_at, exchanges_of}
 use Rattle.session_model.specs.Facts.{SizesFiled, IsPartFiled, PartsAreTrue}
 use Rattle.session_model.specs.Promises.{AreFiled, TrueAnswersShow}
 use Rattle.session_model.proofs.Striking.{each_at}
 use Rattle.session_model.proofs.Showing.{shown_as_listed}
+use Rattle.session_model.proofs.TopClosed.{top_closed}
 
 -- the item of a number is one of the listing
 pub item_at : (items : List Item) (n : ℕ) (item : Item) → numbered items n ≡ Some item → (i : ℕ) × (slice_get items i ≡ Some item)
@@ -51,7 +52,7 @@ module _ (filed : Id → Option (List ℕ)) (sessions : List Session) (facts : P
       (λ listed.
       let place = item_at items n item there in
       each_at (SizesFiled filed) listed.before listed.behind listed.login
-      (subst (Each (SizesFiled filed)) listed.are (facts.sizes k session at)) listed.user listed.secret items listed.asked listed.told place.0 item place.1) was
+      (subst (Each (SizesFiled filed)) listed.are (facts.sizes k session at)) listed.user listed.given items listed.asked listed.told place.0 item place.1) was
 
   -- and each part
   part_filed : (front rest : List Exchange) (x : Exchange) (cut : session.whole ≡ front ++ x ∷ rest) → IsPartFiled filed x
@@ -62,6 +63,7 @@ module _ (filed : Id → Option (List ℕ)) (sessions : List Session) (facts : P
       → session.whole ≡ before_it ++ other ∷ behind_it
       → ((size : List ℕ) → ShowsSize n size (seen_exchange other) → (octets : List ℕ) × AreFiled filed text octets × (size ≡ decimal (length octets)))
       × ((octets : List ℕ) → ShowsOctets n octets (seen_exchange other) → AreFiled filed text octets)
+      × ((count : ℕ) (octets : List ℕ) → ShowsTop n count octets (seen_exchange other) → (whole : List ℕ) × AreFiled filed text whole × (octets ≡ top_of count whole))
   shown_filed n text before behind before_it behind_it one other small at_one shows_id at_other =
       let named = (shows_it before behind one at_one).ids n text small shows_id in
       let it = shows_it before_it behind_it other at_other in (
@@ -75,6 +77,14 @@ module _ (filed : Id → Option (List ℕ)) (sessions : List Session) (facts : P
             let same = same_item items n named.0 fetched.item named.1 fetched.is in
             let part = part_filed before_it behind_it other at_other fetched.user fetched.item.id fetched.part fetched.asked fetched.told in
             (fetched.item.id, ap (λ (i : Item). id_text i.id) (sym same) ∙ sym named.2, part.0 ∙ ap Some (sym part.1 ∙ sym fetched.same)),
+        λ count octets shows_top.
+            let fetched = it.tops n count octets shows_top in
+            let same = same_item items n named.0 fetched.item named.1 fetched.is in
+            let part = part_filed before_it behind_it other at_other fetched.user fetched.item.id fetched.part fetched.asked fetched.told in (
+              fetched.part,
+              (fetched.item.id, ap (λ (i : Item). id_text i.id) (sym same) ∙ sym named.2, part.0),
+              fetched.same ∙ top_closed count fetched.part part.1,
+            ),
       )
 
 pub true_answers_show : TrueAnswersShow

@@ -83,7 +83,7 @@ module _ (plan : Plan) (node : ℕ) (octets rest : List ℕ) (last : _) where
       by_call (Some (Deliver mail)) answer is =
           let clash : Pop ≡ Smtp = (asks_as_told plan node Pop octets (front ++ one ∷ xs) last rest g front xs one mail refl is).0 in cc
       by_call None answer is = refl
-      by_call (Some (Login user secret)) answer is = refl
+      by_call (Some (Login user given)) answer is = refl
       by_call (Some (Fetch user id)) answer is = refl
       by_call (Some (Strike user ids)) answer is = refl
 
@@ -307,7 +307,7 @@ whole_acked plan kinds acts entries sessions in_order =
 one_filing : (k : ℕ) (call : Call) (answer : Answer) → AtMostOne (map (ack_of k) (filing_of (Some call) (Some answer)))
 one_filing k (Deliver mail) (Stored id) = inr (ack_of k (record { mail = mail; id = id }), refl)
 one_filing k (Deliver mail) answer = inl refl
-one_filing k (Login user secret) answer = inl refl
+one_filing k (Login user given) answer = inl refl
 one_filing k (Fetch user id) answer = inl refl
 one_filing k (Strike user ids) answer = inl refl
 

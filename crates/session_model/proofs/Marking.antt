@@ -1,6 +1,6 @@
 -- The slots of a session that reads mail are as its exchanges left them.
 use Rattle.std.proofs.Common.{◌≡◌, ⊎_elim, ℕ, false, List, [], ◌∷◌, ◌++◌, length, map, Option, Some, None, get_or, refl, sym, ap, ap₂, ◌∙◌, subst, arith}
-use Rattle.std.specs.Prelude.{Ok, codes}
+use Rattle.std.specs.Prelude.{codes}
 use Rattle.std.specs.Fmt.{decimal}
 use Rattle.std.proofs.lemmas.List.{map-append}
 use Rattle.mail_model.specs.Identity.{Id}
@@ -8,9 +8,8 @@ use Rattle.mail_model.specs.Plan.{Plan}
 use Rattle.mail_model.specs.Session.{Unit}
 use Rattle.mail_model.specs.Session.Unit.{Line, Text}
 use Rattle.mail_model.specs.Pop.{pop_command_of}
-use Rattle.mail_model.specs.Pop.Command.{Pass}
 use Rattle.mail_model.specs.PopReplies.{Item, ListingSlot, one_line, listed_slots, shown_text, dotted_line, last_line}
-use Rattle.mail_model.specs.Maildrop.{LineOutcome, line_outcome, named_in, deleted_in, wrong_text, entered_text, gone_text, later_text}
+use Rattle.mail_model.specs.Maildrop.{Given, LineOutcome, line_outcome, named_in, deleted_in, wrong_text, entered_text, gone_text, later_text}
 use Rattle.mail_model.specs.Maildrop.Stage.{Authorization, Transaction}
 use Rattle.mail_model.specs.Maildrop.LineOutcome.{Answered, Closed, AsksLogin, AsksMessage, AsksDeletion}
 use Rattle.mail_model.specs.Told.{IsUnit}
@@ -18,7 +17,7 @@ use Rattle.mail_model.proofs.ShownCuts.{bad_answers}
 use Rattle.mail_model.proofs.ShownReplies.{exchange, fetched_number}
 use Rattle.mail_model.proofs.DeletedNumbers.{says_first}
 use Rattle.mail_model.proofs.DeletedReplies.{Quiet, Tells}
-use Rattle.mail_model.proofs.DeletedOutcomes.{LeadsBefore, LeadsBehind, before, behind, bad, pass_quiet, unmarked_tells, fetch_keeps, fetch_tells, gone_tells}
+use Rattle.mail_model.proofs.DeletedOutcomes.{LeadsBefore, LeadsBehind, AsksFor, before, behind, bad, unmarked_tells, fetch_keeps, fetch_tells, gone_tells}
 use Rattle.mail_model.proofs.DeletedSessions.{Unknown, Known, unknown_more, logs_in, known_more}
 use Rattle.session_model.specs.Calls.{Answer, asked_lines}
 use Rattle.session_model.specs.Calls.Call.{Login, Fetch, Strike}
@@ -64,29 +63,28 @@ module _ (plan : Plan) (node : ℕ) (named : Option (List ℕ)) (been : List Exc
       (unknown_more named (all_seen been) line reply unknown quiet)
 
   -- a login that is let in
-  entered : (name secret : List ℕ) (items : List Item) → named ≡ Some name → pop_command_of line ≡ Ok (Pass secret) → one.call ≡ Some (Login name secret) → one.answer ≡ Some (Listed items)
+  entered : (name : List ℕ) (given : Given) (items : List Item) → AsksFor named line name → one.call ≡ Some (Login name given) → one.answer ≡ Some (Listed items)
       → one.reply ≡ one_line entered_text → IsAsSeen (Reading name (listed_slots items)) (been ++ one ∷ [])
-  entered name secret items is_named standing_asked call there says =
+  entered name given items asks call there says =
       subst (Known (listed_slots items) name)
       (ap₂ (λ (l : List ℕ) (r : List (List ℕ)). all_seen been ++ exchange l r ∷ []) (ap line_of (sym is)) (sym says) ∙ sym (seen_more been one))
-      (logs_in name secret line (all_seen been) items (subst (λ (n : Option (List ℕ)). Unknown n (all_seen been)) is_named unknown) standing_asked
-      (pass_quiet line secret standing_asked) (lists name secret items call there))
+      (logs_in named name line (all_seen been) items unknown asks (lists name given items call there))
 
   -- the answer to a login
-  login_seen : (name secret : List ℕ) → named ≡ Some name → pop_command_of line ≡ Ok (Pass secret) → one.call ≡ Some (Login name secret) → (answer : Option Answer) → one.answer ≡ answer
-      → Awaits one.unit (Login name secret) answer one.reply → (state : TalkState) → standing_asked (Entering (named_in line)) (Login name secret) answer ≡ Hearing state
+  login_seen : (name : List ℕ) (given : Given) → AsksFor named line name → one.call ≡ Some (Login name given) → (answer : Option Answer) → one.answer ≡ answer
+      → Awaits one.unit (Login name given) answer one.reply → (state : TalkState) → standing_asked (Entering (named_in line)) (Login name given) answer ≡ Hearing state
       → IsAsSeen state (been ++ one ∷ [])
-  login_seen name secret is_named pass call None there says state e = cc
-  login_seen name secret is_named pass call (Some (Listed items)) there says state e =
+  login_seen name given asks call None there says state e = cc
+  login_seen name given asks call (Some (Listed items)) there says state e =
       let same : Reading name (listed_slots items) ≡ state = cc in
-      subst (λ (s : TalkState). IsAsSeen s (been ++ one ∷ [])) same (entered name secret items is_named pass call there says)
-  login_seen name secret is_named pass call (Some Wrong) there says state e =
+      subst (λ (s : TalkState). IsAsSeen s (been ++ one ∷ [])) same (entered name given items asks call there says)
+  login_seen name given asks call (Some Wrong) there says state e =
       let same : Entering (named_in line) ≡ state = cc in
       subst (λ (s : TalkState). IsAsSeen s (been ++ one ∷ [])) same (quiet_entering (one_line wrong_text) says (bad line wrong_text (refl, refl, refl)))
-  login_seen name secret is_named pass call (Some Failed) there says state e =
+  login_seen name given asks call (Some Failed) there says state e =
       let same : Entering (named_in line) ≡ state = cc in
       subst (λ (s : TalkState). IsAsSeen s (been ++ one ∷ [])) same (quiet_entering (one_line later_text) says (later_quiet line))
-  login_seen name secret is_named pass call (Some answer) there says state e = absurd says
+  login_seen name given asks call (Some answer) there says state e = absurd says
 
   -- whatever the line leads to
   outcome_seen : (outcome : LineOutcome) → LeadsBefore named line outcome → IsLed (line_lead [] outcome) one → (state : TalkState)
@@ -95,7 +93,7 @@ module _ (plan : Plan) (node : ℕ) (named : Option (List ℕ)) (been : List Exc
       let same : Entering (named_in line) ≡ state = cc in
       subst (λ (s : TalkState). IsAsSeen s (been ++ one ∷ [])) same (quiet_entering lines led.2 leads)
   outcome_seen (Closed lines) leads led state e = cc
-  outcome_seen (AsksLogin name secret) leads led state e = login_seen name secret leads.0 leads.1 led.0 one.answer refl led.1 state e
+  outcome_seen (AsksLogin name given) leads led state e = login_seen name given leads led.0 one.answer refl led.1 state e
   outcome_seen (AsksMessage number id) leads led state e = absurd leads
   outcome_seen (AsksDeletion ids) leads led state e = absurd leads
 
@@ -144,7 +142,7 @@ module _ (plan : Plan) (node : ℕ) (user : List ℕ) (slots : List ListingSlot)
       let same : Reading user (deleted_in slots line) ≡ state = cc in
       subst (λ (s : TalkState). IsAsSeen s (been ++ one ∷ [])) same (tells_reading lines led.2 leads)
   outcome_seen_behind (Closed lines) leads led state e = cc
-  outcome_seen_behind (AsksLogin name secret) leads led state e = absurd leads
+  outcome_seen_behind (AsksLogin name given) leads led state e = absurd leads
   outcome_seen_behind (AsksMessage number id) leads led state e = fetch_seen number id leads one.answer led.1 state e
   outcome_seen_behind (AsksDeletion ids) leads led state e = absurd (strike_over ids one.answer state e)
 

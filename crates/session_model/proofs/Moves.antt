@@ -26,8 +26,8 @@ hears_next plan node protocol octets rest left exchanges state one t next = reco
 }
   where
     breaks_answer : (told : TalkState) (call : Call) (answer : Answer) → Breaks (answered told call answer) (answered told call answer)
-    breaks_answer told (Login user secret) (Listed items) = refl
-    breaks_answer told (Login user secret) answer = refl
+    breaks_answer told (Login user given) (Listed items) = refl
+    breaks_answer told (Login user given) answer = refl
     breaks_answer told (Deliver mail) answer = refl
     breaks_answer told (Fetch user id) answer = refl
     breaks_answer told (Strike user ids) answer = refl
@@ -43,8 +43,8 @@ hears_next plan node protocol octets rest left exchanges state one t next = reco
 
 -- what an answer leads to is no waiting
 never_waits : (told state : TalkState) (asks call : Call) (answer : Answer) → Waiting state call ≡ answered told asks answer → ⊥
-never_waits told state (Login user secret) call (Listed items) e = cc
-never_waits told state (Login user secret) call answer e = cc
+never_waits told state (Login user given) call (Listed items) e = cc
+never_waits told state (Login user given) call answer e = cc
 never_waits told state (Deliver mail) call answer e = cc
 never_waits told state (Fetch user id) call answer e = cc
 never_waits told state (Strike user ids) call answer e = cc
@@ -74,8 +74,8 @@ waits_before before state call e = e
 
 -- a standing that an answer leads to
 hears_or_quits : (told : TalkState) (call : Call) (answer : Answer) → Breaks (answered told call answer) (answered told call answer)
-hears_or_quits told (Login user secret) (Listed items) = refl
-hears_or_quits told (Login user secret) answer = refl
+hears_or_quits told (Login user given) (Listed items) = refl
+hears_or_quits told (Login user given) answer = refl
 hears_or_quits told (Deliver mail) answer = refl
 hears_or_quits told (Fetch user id) answer = refl
 hears_or_quits told (Strike user ids) answer = refl

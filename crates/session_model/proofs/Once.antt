@@ -104,8 +104,8 @@ module _ (sessions : List Session) (facts : ListingsAreTrue sessions) (k : ℕ) 
   one_number n m text (a, at_a, text_a) (b, at_b, text_b) = ⊎_elim
       (λ none. absurd (no_item items n a none at_a))
       (λ listed.
-      let once = each_at ListsOnce listed.before listed.behind listed.login (subst (Each ListsOnce) listed.are (facts.once k session at)) listed.user listed.secret items listed.asked listed.told in
-      let named = each_at ListsNamed listed.before listed.behind listed.login (subst (Each ListsNamed) listed.are (facts.named k session at)) listed.user listed.secret items listed.asked listed.told in
+      let once = each_at ListsOnce listed.before listed.behind listed.login (subst (Each ListsOnce) listed.are (facts.once k session at)) listed.user listed.given items listed.asked listed.told in
+      let named = each_at ListsNamed listed.before listed.behind listed.login (subst (Each ListsNamed) listed.are (facts.named k session at)) listed.user listed.given items listed.asked listed.told in
       let place = item_at items n a at_a in
       let place_too = item_at items m b at_b in
       same_number items once n m a b at_a at_b (same_id a.id b.id (named place.0 a place.1) (named place_too.0 b place_too.1) (sym text_a ∙ text_b))) was

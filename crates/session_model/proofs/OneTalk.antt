@@ -42,9 +42,9 @@ one_part asked octets a b shows shows_too =
 pub one_reply_to : (unit : Unit) (call : Call) (answer : Answer) (a b : List (List ℕ)) → RepliesTo unit call answer a → RepliesTo unit call answer b → a ≡ b
 one_reply_to unit (Deliver mail) (Stored id) a b is is_too = is ∙ sym is_too
 one_reply_to unit (Deliver mail) Failed a b is is_too = is ∙ sym is_too
-one_reply_to unit (Login user secret) (Listed items) a b is is_too = is ∙ sym is_too
-one_reply_to unit (Login user secret) Wrong a b is is_too = is ∙ sym is_too
-one_reply_to unit (Login user secret) Failed a b is is_too = is ∙ sym is_too
+one_reply_to unit (Login user given) (Listed items) a b is is_too = is ∙ sym is_too
+one_reply_to unit (Login user given) Wrong a b is is_too = is ∙ sym is_too
+one_reply_to unit (Login user given) Failed a b is is_too = is ∙ sym is_too
 one_reply_to unit (Fetch user id) (Part octets) a b is is_too = one_part (asked_lines unit) octets a b is is_too
 one_reply_to unit (Fetch user id) GoneAlready a b is is_too = is ∙ sym is_too
 one_reply_to unit (Fetch user id) Failed a b is is_too = is ∙ sym is_too

@@ -87,22 +87,22 @@ owed_deletions_are_true plan lines entries disks acts sessions shows owes = reco
       (k, found.0, ids, found.1, found.2, found.3, within);
   gone = λ k session user ids one at (before, behind, are, asks) told id within.
       owes.gone k user ids id (answer_among plan lines entries acts sessions shows k session at (Strike user ids) Dropped before behind one are asks told) within;
-  once = λ k session at. each_from ListsOnce [] (exchanges_of session) (λ before behind one are user secret items asks told.
-      owes.once k user secret items (answer_among plan lines entries acts sessions shows k session at (Login user secret) (Listed items) before behind one are asks told));
+  once = λ k session at. each_from ListsOnce [] (exchanges_of session) (λ before behind one are user given items asks told.
+      owes.once k user given items (answer_among plan lines entries acts sessions shows k session at (Login user given) (Listed items) before behind one are asks told));
 }
 
 pub owed_listings_are_true : OwedListingsAreTrue
 owed_listings_are_true plan lines entries disks acts sessions shows owes = record {
-  once = λ k session at. each_from ListsOnce [] (exchanges_of session) (λ before behind one are user secret items asks told.
-      owes.once k user secret items (answer_among plan lines entries acts sessions shows k session at (Login user secret) (Listed items) before behind one are asks told));
-  named = λ k session at. each_from ListsNamed [] (exchanges_of session) (λ before behind one are user secret items asks told.
-      owes.named k user secret items (answer_among plan lines entries acts sessions shows k session at (Login user secret) (Listed items) before behind one are asks told));
+  once = λ k session at. each_from ListsOnce [] (exchanges_of session) (λ before behind one are user given items asks told.
+      owes.once k user given items (answer_among plan lines entries acts sessions shows k session at (Login user given) (Listed items) before behind one are asks told));
+  named = λ k session at. each_from ListsNamed [] (exchanges_of session) (λ before behind one are user given items asks told.
+      owes.named k user given items (answer_among plan lines entries acts sessions shows k session at (Login user given) (Listed items) before behind one are asks told));
 }
 
 pub owed_parts_are_true : OwedPartsAreTrue
 owed_parts_are_true plan lines entries filed acts sessions shows owes = record {
-  sizes = λ k session at. each_from (SizesFiled filed) [] (exchanges_of session) (λ before behind one are user secret items asks told.
-      owes.sizes k user secret items (answer_among plan lines entries acts sessions shows k session at (Login user secret) (Listed items) before behind one are asks told));
+  sizes = λ k session at. each_from (SizesFiled filed) [] (exchanges_of session) (λ before behind one are user given items asks told.
+      owes.sizes k user given items (answer_among plan lines entries acts sessions shows k session at (Login user given) (Listed items) before behind one are asks told));
   parts = λ k session at. each_from (IsPartFiled filed) [] (exchanges_of session) (λ before behind one are user id part asks told.
       owes.parts k user id part (answer_among plan lines entries acts sessions shows k session at (Fetch user id) (Part part) before behind one are asks told));
 }

@@ -106,8 +106,8 @@ mailing_behind plan node talk one is_unit led = by_unit one.unit refl
 
 -- a session that reads mail
 reader_answered : (told : TalkState) (call : Call) (answer : Answer) → Speaks Pop told → in_text told ≡ false → SpeaksAt Pop (answered told call answer) × ModeIs false (answered told call answer)
-reader_answered told (Login user secret) (Listed items) speaks off = (tt, refl)
-reader_answered told (Login user secret) answer speaks off = (speaks, off)
+reader_answered told (Login user given) (Listed items) speaks off = (tt, refl)
+reader_answered told (Login user given) answer speaks off = (speaks, off)
 reader_answered told (Deliver mail) answer speaks off = (speaks, off)
 reader_answered told (Fetch user id) answer speaks off = (speaks, off)
 reader_answered told (Strike user ids) answer speaks off = (tt, tt)
@@ -121,9 +121,9 @@ reader_outcome : (plan : Plan) (state told : TalkState) (one : Exchange) (user :
 reader_outcome plan state told one user (Answered lines) is speaks off =
     subst (λ (s : TalkState). Speaks Pop s × (in_text s ≡ false)) (sym (is one.reply)) (speaks, off)
 reader_outcome plan state told one user (Closed lines) is speaks off = (tt, tt)
-reader_outcome plan state told one user (AsksLogin name secret) is speaks off =
-    subst (λ (s : TalkState). SpeaksAt Pop (standing_asked s (Login name secret) one.answer) × ModeIs false (standing_asked s (Login name secret) one.answer)) (sym (is []))
-    (reader_asked told (Login name secret) one.answer speaks off)
+reader_outcome plan state told one user (AsksLogin name given) is speaks off =
+    subst (λ (s : TalkState). SpeaksAt Pop (standing_asked s (Login name given) one.answer) × ModeIs false (standing_asked s (Login name given) one.answer)) (sym (is []))
+    (reader_asked told (Login name given) one.answer speaks off)
 reader_outcome plan state told one user (AsksMessage number id) is speaks off =
     subst (λ (s : TalkState). SpeaksAt Pop (standing_asked s (Fetch user id) one.answer) × ModeIs false (standing_asked s (Fetch user id) one.answer)) (sym (is []))
     (reader_asked told (Fetch user id) one.answer speaks off)

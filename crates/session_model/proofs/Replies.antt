@@ -98,9 +98,9 @@ part_reply asked octets =
 pub each_answer_has_reply : EachAnswerHasReply
 each_answer_has_reply unit (Deliver mail) (Stored id) is = ((one_line stored_text, refl), (one_line stored_text, refl))
 each_answer_has_reply unit (Deliver mail) Failed is = ((one_line unstored_text, refl), (one_line unstored_text, refl))
-each_answer_has_reply unit (Login user secret) (Listed items) is = ((one_line entered_text, refl), (one_line entered_text, refl))
-each_answer_has_reply unit (Login user secret) Wrong is = ((one_line wrong_text, refl), (one_line wrong_text, refl))
-each_answer_has_reply unit (Login user secret) Failed is = ((one_line later_text, refl), (one_line later_text, refl))
+each_answer_has_reply unit (Login user given) (Listed items) is = ((one_line entered_text, refl), (one_line entered_text, refl))
+each_answer_has_reply unit (Login user given) Wrong is = ((one_line wrong_text, refl), (one_line wrong_text, refl))
+each_answer_has_reply unit (Login user given) Failed is = ((one_line later_text, refl), (one_line later_text, refl))
 each_answer_has_reply unit (Fetch user id) GoneAlready is = ((one_line gone_text, refl), (one_line gone_text, refl))
 each_answer_has_reply unit (Fetch user id) Failed is = ((one_line later_text, refl), (one_line later_text, refl))
 each_answer_has_reply unit (Strike user ids) Dropped is = ((one_line bye_text, refl), (one_line bye_text, refl))

@@ -24,7 +24,7 @@ use Rattle.mail_model.specs.Told.{IsUnit, mail_of}
 use Rattle.mail_model.proofs.Replies.{line_fits}
 use Rattle.mail_model.proofs.ShownCuts.{IsBehind, one_reply}
 use Rattle.mail_model.proofs.DeletedReplies.{Answers}
-use Rattle.mail_model.proofs.DeletedOutcomes.{LeadsBefore, LeadsBehind, before, behind, bad, pass_quiet, fetch_tells, gone_tells}
+use Rattle.mail_model.proofs.DeletedOutcomes.{LeadsBefore, LeadsBehind, before, behind, bad, login_quiet, fetch_tells, gone_tells}
 use Rattle.session_model.specs.Calls.{Call, Answer, unstored_text, asked_lines}
 use Rattle.session_model.specs.Calls.Call.{Deliver, Login, Fetch, Strike}
 use Rattle.session_model.specs.Calls.Answer.{Stored, Listed, Wrong, Part, GoneAlready, Dropped, Failed}
@@ -181,11 +181,11 @@ module _ (node : ℕ) (line : List ℕ) (one : Exchange) (is : one.unit ≡ Line
   entering_replied : (named : Option (List ℕ)) (outcome : LineOutcome) → LeadsBefore named line outcome → IsLed (line_lead [] outcome) one → IsReplied Pop node one
   entering_replied named (Answered lines) leads led = by_answers lines led.2 leads.answers
   entering_replied named (Closed lines) leads led = by_quit bye_text (led.2 ∙ leads.0) leads.1.1 bye_other
-  entering_replied named (AsksLogin name secret) leads led = by_answer one.answer refl led.1
+  entering_replied named (AsksLogin name given) leads led = by_answer one.answer refl led.1
     where
-      by_answer : (answer : Option Answer) → one.answer ≡ answer → Awaits one.unit (Login name secret) answer one.reply → IsReplied Pop node one
-      by_answer None there says = inl (says, there, (Login name secret, led.0))
-      by_answer (Some (Listed items)) there says = by_answers (one_line entered_text) says (pass_quiet line secret leads.1).answers
+      by_answer : (answer : Option Answer) → one.answer ≡ answer → Awaits one.unit (Login name given) answer one.reply → IsReplied Pop node one
+      by_answer None there says = inl (says, there, (Login name given, led.0))
+      by_answer (Some (Listed items)) there says = by_answers (one_line entered_text) says (login_quiet named line name leads).answers
       by_answer (Some Wrong) there says = by_answers (one_line wrong_text) says (bad line wrong_text (refl, refl, refl)).answers
       by_answer (Some Failed) there says = by_answers (one_line later_text) says (later_quiet line).answers
       by_answer (Some answer) there says = absurd says
@@ -195,7 +195,7 @@ module _ (node : ℕ) (line : List ℕ) (one : Exchange) (is : one.unit ≡ Line
   reading_replied : (user : List ℕ) (slots : List pop.ListingSlot) (outcome : LineOutcome) → LeadsBehind slots line outcome → IsLed (line_lead user outcome) one → IsReplied Pop node one
   reading_replied user slots (Answered lines) leads led = by_answers lines led.2 leads.answers
   reading_replied user slots (Closed lines) leads led = by_quit bye_text (led.2 ∙ leads.0) leads.1.1 bye_other
-  reading_replied user slots (AsksLogin name secret) leads led = absurd leads
+  reading_replied user slots (AsksLogin name given) leads led = absurd leads
   reading_replied user slots (AsksMessage number id) leads led = by_answer one.answer refl led.1
     where
       by_part : (asked : Option ℕ) (size : ℕ) (lines : List (List ℕ)) → one.reply ≡ shown_text asked size ∷ map dotted_line lines ++ last_line → IsReplied Pop node one

@@ -11,12 +11,12 @@ use Rattle.mail_model.specs.Lines.{closed, sent_line}
 use Rattle.mail_model.specs.Session.{Unit, undotted, is_long_line}
 use Rattle.mail_model.specs.Session.Unit.{Line, Text}
 use Rattle.mail_model.specs.Pop.{Command, Fault, pop_command_of, lines_asked}
-use Rattle.mail_model.specs.Pop.Command.{Uidl, Listing, Retr}
+use Rattle.mail_model.specs.Pop.Command.{Uidl, Listing, Retr, Top}
 use Rattle.mail_model.specs.PopReplies.{Item, ListingSlot, one_line, shown_part, shown_text, dotted_line, last_line}
-use Rattle.mail_model.specs.Maildrop.{Stage, LineOutcome, line_outcome, command_outcome, message_at, of_message, named_in, deleted_in, wrong_text, entered_text, later_text, bye_text, remaining_text}
+use Rattle.mail_model.specs.Maildrop.{Stage, Given, LineOutcome, line_outcome, command_outcome, before_login, behind_login, retr_outcome, bad_order, message_at, of_message, named_in, deleted_in, wrong_text, entered_text, later_text, bye_text, remaining_text}
 use Rattle.mail_model.specs.Maildrop.Stage.{Authorization, Transaction}
 use Rattle.mail_model.specs.Maildrop.LineOutcome.{Answered, Closed, AsksLogin, AsksMessage, AsksDeletion}
-use Rattle.mail_model.specs.Shown.{ShowsId, ShowsSize, ShowsOctets, is_good}
+use Rattle.mail_model.specs.Shown.{SeenExchange, ShowsId, ShowsSize, CarriesOctets, is_good}
 use Rattle.mail_model.specs.Told.{IsUnit}
 use Rattle.mail_model.proofs.ShownSlots.{all_items, listed_all, deleted_all}
 use Rattle.mail_model.proofs.ShownReplies.{Message, Fits, AsksNothing, fetched_number, items_for, exchange, bad_fits, quiet}
@@ -30,7 +30,7 @@ use Rattle.session_model.specs.Talk.{TalkState, Exchange, Standing, IsNext, IsLe
 use Rattle.session_model.specs.Talk.TalkState.{Mailing, Entering, Reading}
 use Rattle.session_model.specs.Talk.Standing.{Hearing, Waiting, EndedByQuit, EndedDown, EndedClosed}
 use Rattle.session_model.specs.Reading.{Each, seen_exchange, line_of}
-use Rattle.session_model.specs.Showing.{numbered, ShowsListed, WasListed, ShownAsListed}
+use Rattle.session_model.specs.Showing.{numbered, IsFetched, ShowsListed, WasListed, ShownAsListed}
 use Rattle.session_model.proofs.Chains.{through}
 
 -- each, with one more
@@ -67,58 +67,77 @@ sized_number : (items : List Item) (n : ℕ) (message : Message) → shown.numbe
 sized_number items zero message at = absurd (none-some message at)
 sized_number items (suc n) message at = sized_at items n message at
 
+-- commands that show octets
+
+-- the command asks for the message of this number
+record Fetches (command : Command) (n : ℕ) : Type 0 where
+  something : AsksNothing (Ok command) → ⊥
+  number : fetched_number (Ok command) ≡ Some n
+  early : (plan : Plan) (user : Option (List ℕ)) → before_login plan user command ≡ bad_order
+  late : (slots : List ListingSlot) → behind_login slots command ≡ retr_outcome slots n
+
+retr_fetches : (n : ℕ) → Fetches (Retr n) n
+retr_fetches n = record { something = λ h. h; number = refl; early = λ plan user. refl; late = λ slots. refl }
+
+top_fetches : (n count : ℕ) → Fetches (Top n count) n
+top_fetches n count = record { something = λ h. h; number = refl; early = λ plan user. refl; late = λ slots. refl }
+
 -- replies that show no message
 
+-- no octets of a message
+abbrev ShowsNone : SeenExchange → Type 0
+ShowsNone one = (command : Command) (n : ℕ) (octets : List ℕ) → Fetches command n → CarriesOctets command octets one → ⊥
+
 -- a reply of one line that is not good, or no reply
-no_text_bad : (line rest : List ℕ) (n : ℕ) (octets : List ℕ) → ShowsOctets n octets (exchange line ((45 ∷ rest) ∷ [])) → ⊥
-no_text_bad line rest n octets shows = not_good shows.first (shows.lines ++ last_line) shows.good shows.reply
+no_text_bad : (line rest : List ℕ) → ShowsNone (exchange line ((45 ∷ rest) ∷ []))
+no_text_bad line rest command n octets fetches shows = not_good shows.first (shows.lines ++ last_line) shows.good shows.reply
   where
     not_good : (first : List ℕ) (body : List (List ℕ)) → is_good first ≡ true → (45 ∷ rest) ∷ [] ≡ first ∷ body → ⊥
     not_good first body good e =
         let same : 45 ∷ rest ≡ first = cc in
         let bad : is_good (45 ∷ rest) ≡ true = ap is_good same ∙ good in cc
 
--- the line is no RETR
-no_text_quiet : (line : List ℕ) (reply : List (List ℕ)) (n : ℕ) (octets : List ℕ) → AsksNothing (pop_command_of line) → ShowsOctets n octets (exchange line reply) → ⊥
-no_text_quiet line reply n octets nothing shows = subst AsksNothing shows.asked nothing
+-- the line asks for none
+no_text_quiet : (line : List ℕ) (reply : List (List ℕ)) → AsksNothing (pop_command_of line) → ShowsNone (exchange line reply)
+no_text_quiet line reply nothing command n octets fetches shows = fetches.something (subst AsksNothing shows.asked nothing)
 
--- what RETR leads to
-abbrev RetrLeads : LineOutcome → Type 0
-RetrLeads (Answered lines) = (rest : List ℕ) × (lines ≡ (45 ∷ rest) ∷ [])
-RetrLeads (Closed lines) = ⊥
-RetrLeads (AsksLogin user secret) = ⊥
-RetrLeads (AsksMessage number id) = ⊤
-RetrLeads (AsksDeletion ids) = ⊥
+-- what RETR and TOP lead to
+abbrev FetchLeads : LineOutcome → Type 0
+FetchLeads (Answered lines) = (rest : List ℕ) × (lines ≡ (45 ∷ rest) ∷ [])
+FetchLeads (Closed lines) = ⊥
+FetchLeads (AsksLogin user given) = ⊥
+FetchLeads (AsksMessage number id) = ⊤
+FetchLeads (AsksDeletion ids) = ⊥
 
-retr_leads : (plan : Plan) (stage : Stage) (line : List ℕ) (n : ℕ) → pop_command_of line ≡ Ok (Retr n) → RetrLeads (line_outcome plan stage line)
-retr_leads plan stage line n is =
-    cond_both (is_long_line line) _ _ RetrLeads (λ long. (codes "ERR line too long", refl))
-    (λ short. subst (λ (r : Result Command Fault). RetrLeads (command_outcome plan stage r)) (sym is) (by_stage stage))
+fetch_leads : (plan : Plan) (stage : Stage) (line : List ℕ) (command : Command) (n : ℕ) → Fetches command n → pop_command_of line ≡ Ok command → FetchLeads (line_outcome plan stage line)
+fetch_leads plan stage line command n fetches is =
+    cond_both (is_long_line line) _ _ FetchLeads (λ long. (codes "ERR line too long", refl))
+    (λ short. subst (λ (r : Result Command Fault). FetchLeads (command_outcome plan stage r)) (sym is) (by_stage stage))
   where
-    by_item : (item : Option Item) → RetrLeads (of_message (λ item. AsksMessage n item.id) item)
+    by_item : (item : Option Item) → FetchLeads (of_message (λ item. AsksMessage n item.id) item)
     by_item None = (codes "ERR no such message", refl)
     by_item (Some item) = tt
 
-    by_stage : (stage : Stage) → RetrLeads (command_outcome plan stage (Ok (Retr n)))
-    by_stage (Authorization user) = (codes "ERR bad order", refl)
-    by_stage (Transaction slots) = by_item (message_at slots n)
+    by_stage : (stage : Stage) → FetchLeads (command_outcome plan stage (Ok command))
+    by_stage (Authorization user) = subst FetchLeads (sym (fetches.early plan user)) (codes "ERR bad order", refl)
+    by_stage (Transaction slots) = subst FetchLeads (sym (fetches.late slots)) (by_item (message_at slots n))
 
 -- so what is answered at once shows none
 no_text_at_once : (plan : Plan) (stage : Stage) (line : List ℕ) (outcome : LineOutcome) → line_outcome plan stage line ≡ outcome → (lines : List (List ℕ))
-    → (outcome ≡ Answered lines) ⊎ (outcome ≡ Closed lines) → (n : ℕ) (octets : List ℕ) → ShowsOctets n octets (exchange line lines) → ⊥
-no_text_at_once plan stage line outcome is lines at_once n octets shows =
-    let leads : RetrLeads outcome = subst RetrLeads is (retr_leads plan stage line n shows.asked) in
+    → (outcome ≡ Answered lines) ⊎ (outcome ≡ Closed lines) → ShowsNone (exchange line lines)
+no_text_at_once plan stage line outcome is lines at_once command n octets fetches shows =
+    let leads : FetchLeads outcome = subst FetchLeads is (fetch_leads plan stage line command n fetches shows.asked) in
     ⊎_elim
     (λ answered.
-    let bad : RetrLeads (Answered lines) = subst RetrLeads answered leads in
-    no_text_bad line bad.0 n octets (subst (λ (l : List (List ℕ)). ShowsOctets n octets (exchange line l)) bad.1 shows))
-    (λ closed. subst RetrLeads closed leads) at_once
+    let bad : FetchLeads (Answered lines) = subst FetchLeads answered leads in
+    no_text_bad line bad.0 command n octets fetches (subst (λ (l : List (List ℕ)). CarriesOctets command octets (exchange line l)) bad.1 shows))
+    (λ closed. subst FetchLeads closed leads) at_once
 
 -- exchanges
 
 -- by what the reply shows, where it shows no message
 by_fits : (items : List Item) (line : List ℕ) (reply : List (List ℕ)) (one : Exchange) → one.unit ≡ Line line → one.reply ≡ reply
-    → Fits (map sized items) (exchange line reply) → ((n : ℕ) (octets : List ℕ) → ShowsOctets n octets (exchange line reply) → ⊥)
+    → Fits (map sized items) (exchange line reply) → ShowsNone (exchange line reply)
     → ((others : List Item) → one.answer ≡ Some (Listed others) → others ≡ items) → ShowsListed items one
 by_fits items line reply one unit_is reply_is fits no_text listed =
     let same : exchange line reply ≡ seen_exchange one = ap₂ exchange (ap line_of (sym unit_is)) (sym reply_is) in
@@ -132,7 +151,8 @@ by_fits items line reply one unit_is reply_is fits no_text listed =
           let found = fits.sizes n text small (subst (ShowsSize n text) (sym same) shows) in
           let item = sized_number items n found.0 found.1 in
           (item.0, item.1, found.2 ∙ ap (λ (m : Message). decimal (length m.octets)) item.2 ∙ ap decimal (so_many item.0.size));
-      texts = λ n octets shows. absurd (no_text n octets (subst (ShowsOctets n octets) (sym same) shows));
+      texts = λ n octets shows. absurd (no_text (Retr n) n octets (retr_fetches n) (subst (CarriesOctets (Retr n) octets) (sym same) shows));
+      tops = λ n count octets shows. absurd (no_text (Top n count) n octets (top_fetches n count) (subst (CarriesOctets (Top n count) octets) (sym same) shows));
     }
 
 -- one that waits
@@ -143,7 +163,8 @@ waits_shown items line one unit_is none unanswered =
       listed = λ others is. absurd (none-some (Listed others) (sym unanswered ∙ is));
       ids = λ n text small shows. absurd (no_id n text (subst (ShowsId n text) same shows));
       sizes = λ n text small shows. absurd (no_size n text (subst (ShowsSize n text) same shows));
-      texts = λ n octets shows. absurd (no_text n octets (subst (ShowsOctets n octets) same shows));
+      texts = λ n octets shows. absurd (no_text (Retr n) octets (subst (CarriesOctets (Retr n) octets) same shows));
+      tops = λ n count octets shows. absurd (no_text (Top n count) octets (subst (CarriesOctets (Top n count) octets) same shows));
     }
   where
     no_id : (n : ℕ) (text : List ℕ) → ShowsId n text (exchange line []) → ⊥
@@ -152,8 +173,8 @@ waits_shown items line one unit_is none unanswered =
     no_size : (n : ℕ) (text : List ℕ) → ShowsSize n text (exchange line []) → ⊥
     no_size n text shows = ⊎_elim (λ all. all.1) (λ one. let e = one.1 in cc) shows
 
-    no_text : (n : ℕ) (octets : List ℕ) → ShowsOctets n octets (exchange line []) → ⊥
-    no_text n octets shows = let e = shows.reply in cc
+    no_text : (command : Command) (octets : List ℕ) → CarriesOctets command octets (exchange line []) → ⊥
+    no_text command octets shows = let e = shows.reply in cc
 
 -- a command that fetches a message asks for no ids and no sizes
 fetch_no_uidl : (r : Result Command Fault) (n : ℕ) (number : Option ℕ) → fetched_number r ≡ Some n → r ≡ Ok (Uidl number) → ⊥
@@ -171,29 +192,33 @@ part_shown items line number item user octets lines one unit_is fetches at call 
   listed = λ others is. let clash : Some (Listed others) ≡ Some (Part octets) = sym is ∙ told in cc;
   ids = λ n text small shows. absurd (⊎_elim (fetch_no_uidl _ number None seen) (fetch_no_uidl _ number (Some n) seen) (⊎_firsts shows));
   sizes = λ n text small shows. absurd (⊎_elim (fetch_no_listing _ number None seen) (fetch_no_listing _ number (Some n) seen) (⊎_firsts shows));
-  texts = λ n shown_octets shows.
-      let both : Some number ≡ Some n = sym seen ∙ ap fetched_number shows.asked in
-      let numbers : number ≡ n = cc in
-      let asked : asked_lines one.unit ≡ None = asked_is one.unit shows.asked in
-      let body : map dotted_line lines ++ last_line ≡ shows.lines ++ last_line = ap (drop 1) (sym says ∙ shows.reply) in
-      let are : map dotted_line lines ≡ shows.lines = append_cancel_right _ _ last_line body in
-      record {
-        item = item;
-        is = ap (numbered items) (sym numbers) ∙ at;
-        user = user;
-        part = octets;
-        asked = call;
-        told = told;
-        same = shows.undots ∙ ap undotted (sym are) ∙ undotted_all lines ∙ whole ∙ ap (λ (a : Option ℕ). closed (shown_part a octets)) asked;
-      };
+  texts = λ n shown_octets shows. carried (Retr n) n None shown_octets refl refl shows;
+  tops = λ n count shown_octets shows. carried (Top n count) n (Some count) shown_octets refl refl shows;
 }
   where
-    seen : fetched_number (pop_command_of (line_of one.unit)) ≡ Some number
-    seen = ap (λ (u : Unit). fetched_number (pop_command_of (line_of u))) unit_is ∙ fetches
+    seen_is : pop_command_of (line_of one.unit) ≡ pop_command_of line
+    seen_is = ap (λ (u : Unit). pop_command_of (line_of u)) unit_is
 
-    asked_is : (unit : Unit) {n : ℕ} → pop_command_of (line_of unit) ≡ Ok (Retr n) → asked_lines unit ≡ None
-    asked_is (Line line) retr = ap lines_asked retr
-    asked_is (Text lines) retr = refl
+    seen : fetched_number (pop_command_of (line_of one.unit)) ≡ Some number
+    seen = ap fetched_number seen_is ∙ fetches
+
+    carried : (command : Command) (n : ℕ) (count : Option ℕ) (shown_octets : List ℕ) → fetched_number (Ok command) ≡ Some n → lines_asked (Ok command) ≡ count
+        → CarriesOctets command shown_octets (seen_exchange one) → IsFetched items n count shown_octets one
+    carried command n count shown_octets names counts shows =
+        let both : Some number ≡ Some n = sym seen ∙ ap fetched_number shows.asked ∙ names in
+        let numbers : number ≡ n = cc in
+        let asked : asked_lines one.unit ≡ count = ap asked_lines unit_is ∙ ap lines_asked (sym seen_is ∙ shows.asked) ∙ counts in
+        let body : map dotted_line lines ++ last_line ≡ shows.lines ++ last_line = ap (drop 1) (sym says ∙ shows.reply) in
+        let are : map dotted_line lines ≡ shows.lines = append_cancel_right _ _ last_line body in
+        record {
+          item = item;
+          is = ap (numbered items) (sym numbers) ∙ at;
+          user = user;
+          part = octets;
+          asked = call;
+          told = told;
+          same = shows.undots ∙ ap undotted (sym are) ∙ undotted_all lines ∙ whole ∙ ap (λ (a : Option ℕ). closed (shown_part a octets)) asked;
+        }
 
     ⊎_firsts : {A B C D : Type 0} → (A × B) ⊎ (C × D) → A ⊎ C
     ⊎_firsts (inl both) = inl both.0
@@ -203,7 +228,7 @@ part_shown items line number item user octets lines one unit_is fetches at call 
 quiet_shown : (items : List Item) (line text : List ℕ) (one : Exchange) → one.unit ≡ Line line → AsksNothing (pop_command_of line) → one.reply ≡ one_line text
     → ((others : List Item) → one.answer ≡ Some (Listed others) → others ≡ items) → ShowsListed items one
 quiet_shown items line text one unit_is nothing says listed =
-    by_fits items line (one_line text) one unit_is says (quiet (map sized items) line text nothing).fits (λ n octets. no_text_quiet line (one_line text) n octets nothing) listed
+    by_fits items line (one_line text) one unit_is says (quiet (map sized items) line text nothing).fits (no_text_quiet line (one_line text) nothing) listed
 
 -- one that was not obeyed
 bad_shown : (items : List Item) (line rest : List ℕ) (one : Exchange) → one.unit ≡ Line line → one.reply ≡ one_line (45 ∷ rest)
@@ -230,7 +255,7 @@ listed_more items been one was = record {
   behind = was.behind ++ one ∷ [];
   login = was.login;
   user = was.user;
-  secret = was.secret;
+  given = was.given;
   asked = was.asked;
   are = ap (λ (l : List Exchange). l ++ one ∷ []) was.are ∙ append_assoc was.before (was.login ∷ was.behind) (one ∷ []);
   told = was.told;
@@ -244,23 +269,23 @@ module _ (plan : Plan) (named : Option (List ℕ)) (been : List Exchange) (so_fa
   not_listed none items others listed = absurd (none-some (Listed others) (sym none ∙ listed))
 
   -- a login
-  login_shown : (name secret : List ℕ) → AsksNothing (pop_command_of line) → one.call ≡ Some (Login name secret) → (answer : Option Answer) → one.answer ≡ answer → Awaits one.unit (Login name secret) answer one.reply
-      → ShowsSoFar (standing_asked (Entering (named_in line)) (Login name secret) answer) (been ++ one ∷ [])
-  login_shown name secret nothing call None there says =
+  login_shown : (name : List ℕ) (given : Given) → AsksNothing (pop_command_of line) → one.call ≡ Some (Login name given) → (answer : Option Answer) → one.answer ≡ answer → Awaits one.unit (Login name given) answer one.reply
+      → ShowsSoFar (standing_asked (Entering (named_in line)) (Login name given) answer) (been ++ one ∷ [])
+  login_shown name given nothing call None there says =
       ([], inl refl, each_more (ShowsListed []) been one (so_far []) (waits_shown [] line one is says there))
-  login_shown name secret nothing call (Some (Listed items)) there says =
+  login_shown name given nothing call (Some (Listed items)) there says =
       subst (λ (l : List Item). WasListed l (been ++ one ∷ []) × Each (ShowsListed l) (been ++ one ∷ [])) (sym (listed_all items)) (
-        record { before = been; behind = []; login = one; user = name; secret = secret; are = refl; asked = call; told = there },
+        record { before = been; behind = []; login = one; user = name; given = given; are = refl; asked = call; told = there },
         each_more (ShowsListed items) been one (so_far items) (quiet_shown items line entered_text one is nothing says
             (λ others listed. let both : Some (Listed items) ≡ Some (Listed others) = sym there ∙ listed in let same : items ≡ others = cc in sym same)),
       )
-  login_shown name secret nothing call (Some Wrong) there says = λ items.
+  login_shown name given nothing call (Some Wrong) there says = λ items.
       each_more (ShowsListed items) been one (so_far items) (quiet_shown items line wrong_text one is nothing says
       (λ others listed. let both : Some Wrong ≡ Some (Listed others) = sym there ∙ listed in cc))
-  login_shown name secret nothing call (Some Failed) there says = λ items.
+  login_shown name given nothing call (Some Failed) there says = λ items.
       each_more (ShowsListed items) been one (so_far items) (quiet_shown items line later_text one is nothing says
       (λ others listed. let both : Some Failed ≡ Some (Listed others) = sym there ∙ listed in cc))
-  login_shown name secret nothing call (Some answer) there says = absurd says
+  login_shown name given nothing call (Some answer) there says = absurd says
 
   -- whatever the line leads to
   entering_shown : (outcome : LineOutcome) → line_outcome plan (Authorization named) line ≡ outcome → ((items : List Item) → LeadsBefore (map sized items) line outcome)
@@ -275,7 +300,7 @@ module _ (plan : Plan) (named : Option (List ℕ)) (been : List Exchange) (so_fa
     each_more (ShowsListed []) been one (so_far [])
         (by_fits [] line lines one is led.2 (leads []).fits (no_text_at_once plan (Authorization named) line (Closed lines) outcome_is lines (inr refl)) (not_listed led.1 [])),
   )
-  entering_shown (AsksLogin name secret) outcome_is leads led = login_shown name secret (leads []) led.0 one.answer refl led.1
+  entering_shown (AsksLogin name given) outcome_is leads led = login_shown name given (leads []) led.0 one.answer refl led.1
   entering_shown (AsksMessage number id) outcome_is leads led = absurd (leads [])
   entering_shown (AsksDeletion ids) outcome_is leads led = absurd (leads [])
 
@@ -335,7 +360,7 @@ module _ (plan : Plan) (user : List ℕ) (slots : List ListingSlot) (been : List
   reading_shown (Closed lines) outcome_is leads led =
       ends_with (by_fits (all_items slots) line lines one is led.2 leads.fits
       (no_text_at_once plan (Transaction slots) line (Closed lines) outcome_is lines (inr refl)) (never_listed None led.1 (λ others e. none-some (Listed others) e)))
-  reading_shown (AsksLogin name secret) outcome_is leads led = absurd leads
+  reading_shown (AsksLogin name given) outcome_is leads led = absurd leads
   reading_shown (AsksMessage number id) outcome_is leads led = fetch_shown number id leads.0 leads.1.0 leads.1.1 leads.1.2 led.0 one.answer refl led.1
   reading_shown (AsksDeletion ids) outcome_is leads led = strike_shown ids leads one.answer refl led.1
 

@@ -88,7 +88,7 @@ module _ (plan : Plan) (node : ℕ) (octets : List ℕ) (been behind_it : List E
       → one.call ≡ Some (Strike user ids) → ⊥
   no_strike named line user ids (Answered lines) leads led call = none-some (Strike user ids) (sym led.0 ∙ call)
   no_strike named line user ids (Closed lines) leads led call = none-some (Strike user ids) (sym led.0 ∙ call)
-  no_strike named line user ids (AsksLogin name secret) leads led call = let both : Some (Login name secret) ≡ Some (Strike user ids) = sym led.0 ∙ call in cc
+  no_strike named line user ids (AsksLogin name given) leads led call = let both : Some (Login name given) ≡ Some (Strike user ids) = sym led.0 ∙ call in cc
   no_strike named line user ids (AsksMessage number id) leads led call = absurd leads
   no_strike named line user ids (AsksDeletion other) leads led call = absurd leads
 
@@ -99,7 +99,7 @@ module _ (plan : Plan) (node : ℕ) (octets : List ℕ) (been behind_it : List E
       → (behind_it ≡ []) × QuitsMarked been one user ids
   strike_is name line user slots ids unit known (Answered lines) is leads led call g = absurd (none-some (Strike user ids) (sym led.0 ∙ call))
   strike_is name line user slots ids unit known (Closed lines) is leads led call g = absurd (none-some (Strike user ids) (sym led.0 ∙ call))
-  strike_is name line user slots ids unit known (AsksLogin other secret) is leads led call g = absurd leads
+  strike_is name line user slots ids unit known (AsksLogin other given) is leads led call g = absurd leads
   strike_is name line user slots ids unit known (AsksMessage number id) is leads led call g = let both : Some (Fetch name id) ≡ Some (Strike user ids) = sym led.0 ∙ call in cc
   strike_is name line user slots ids unit known (AsksDeletion all) is leads led call g =
       let both : Some (Strike name all) ≡ Some (Strike user ids) = sym led.0 ∙ call in

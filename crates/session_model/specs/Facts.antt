@@ -7,6 +7,7 @@ use Rattle.mail_model.specs.Plan.{Plan}
 use Rattle.mail_model.specs.PopReplies.{Item}
 use Rattle.mail_model.specs.Record.{Record, SaysGone}
 use Rattle.mail_model.specs.Stored.{Ack}
+use Rattle.mail_model.specs.Maildrop.{Given}
 use Rattle.session_model.specs.Calls.Call.{Login, Fetch, Strike}
 use Rattle.session_model.specs.Calls.Answer.{Listed, Part, Dropped}
 use Rattle.session_model.specs.Talk.{Exchange}
@@ -47,7 +48,7 @@ pub record ListingsAreTrue (sessions : List Session) : Type 0 where
 
 -- the sizes of a listing that a login was answered with are those of what is filed
 abbrev pub SizesFiled : (Id → Option (List ℕ)) → Exchange → Type 0
-SizesFiled filed one = (user secret : List ℕ) (items : List Item) → one.call ≡ Some (Login user secret) → one.answer ≡ Some (Listed items) → (i : ℕ) (item : Item) → slice_get items i ≡ Some item
+SizesFiled filed one = (user : List ℕ) (given : Given) (items : List Item) → one.call ≡ Some (Login user given) → one.answer ≡ Some (Listed items) → (i : ℕ) (item : Item) → slice_get items i ≡ Some item
     → (octets : List ℕ) × (filed item.id ≡ Some octets) × (item.size ≡ length octets)
 
 -- a part is what is filed, which is closed

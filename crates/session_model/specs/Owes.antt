@@ -9,6 +9,7 @@ use Rattle.mail_model.specs.PopReplies.{Item}
 use Rattle.mail_model.specs.Record.{Record}
 use Rattle.mail_model.specs.Stored.{HaveOtherIds}
 use Rattle.mail_model.specs.Book.{BookEntry}
+use Rattle.mail_model.specs.Maildrop.{Given}
 use Rattle.session_model.specs.Calls.Call.{Login, Fetch, Strike}
 use Rattle.session_model.specs.Calls.Answer.{Listed, Part, Dropped}
 use Rattle.session_model.specs.Copies.{AreDisks, EachStands, AreGoneOn, DroppedAreGone, OneContent}
@@ -24,9 +25,9 @@ pub record OwesDeletions (plan : Plan) (disks : List (List Record)) (begun : Lis
   pub asks : (n : ℕ) (user : List ℕ) (id : Id) → IsGoneIn disks n user id → (k : ℕ) × (ids : List Id) × Among (record { session = k; call = Strike user ids }) begun × IsIn id ids
   pub gone : (k : ℕ) (user : List ℕ) (ids : List Id) (id : Id) → AmongAnswers (record { session = k; call = Strike user ids; answer = Dropped }) answered → IsIn id ids
       → (nodes : List ℕ) × AreGoneOn plan disks user id nodes
-  pub once : (k : ℕ) (user secret : List ℕ) (items : List Item) → AmongAnswers (record { session = k; call = Login user secret; answer = Listed items }) answered
+  pub once : (k : ℕ) (user : List ℕ) (given : Given) (items : List Item) → AmongAnswers (record { session = k; call = Login user given; answer = Listed items }) answered
       → AllPairs (λ (a b : Id). a ≢ b) (map (λ (item : Item). item.id) items)
-  pub named : (k : ℕ) (user secret : List ℕ) (items : List Item) → AmongAnswers (record { session = k; call = Login user secret; answer = Listed items }) answered
+  pub named : (k : ℕ) (user : List ℕ) (given : Given) (items : List Item) → AmongAnswers (record { session = k; call = Login user given; answer = Listed items }) answered
       → (i : ℕ) (item : Item) → slice_get items i ≡ Some item → IsId item.id
 
 -- each message that was answered `Stored` stands on the nodes that confirmed it, under an id of its own and of the node of its session
@@ -36,7 +37,7 @@ pub record OwesStored (plan : Plan) (lines : List (List ℕ)) (disks : List (Lis
 
 -- listings and parts are as it is filed
 pub record OwesParts (filed : Id → Option (List ℕ)) (answered : List Answered) : Type 0 where
-  pub sizes : (k : ℕ) (user secret : List ℕ) (items : List Item) → AmongAnswers (record { session = k; call = Login user secret; answer = Listed items }) answered
+  pub sizes : (k : ℕ) (user : List ℕ) (given : Given) (items : List Item) → AmongAnswers (record { session = k; call = Login user given; answer = Listed items }) answered
       → (i : ℕ) (item : Item) → slice_get items i ≡ Some item → (octets : List ℕ) × (filed item.id ≡ Some octets) × (item.size ≡ length octets)
   pub parts : (k : ℕ) (user : List ℕ) (id : Id) (part : List ℕ) → AmongAnswers (record { session = k; call = Fetch user id; answer = Part part }) answered
       → (filed id ≡ Some part) × (closed part ≡ part)

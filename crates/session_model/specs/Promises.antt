@@ -7,11 +7,11 @@ use Rattle.mail_model.specs.Tape.Protocol.{Smtp, Pop}
 use Rattle.mail_model.specs.Transcript.{Entry}
 use Rattle.mail_model.specs.Session.{silent}
 use Rattle.mail_model.specs.Record.{Record}
-use Rattle.mail_model.specs.PopReplies.{one_line}
+use Rattle.mail_model.specs.PopReplies.{one_line, top_of}
 use Rattle.mail_model.specs.Maildrop.{bye_text}
 use Rattle.mail_model.specs.Told.{Answers, told_from}
 use Rattle.mail_model.specs.Stored.{Ack, HaveOtherIds, mails_in, opened, stored_sessions}
-use Rattle.mail_model.specs.Shown.{lines_to, ShowsId, ShowsSize, ShowsOctets}
+use Rattle.mail_model.specs.Shown.{lines_to, ShowsId, ShowsSize, ShowsOctets, ShowsTop}
 use Rattle.mail_model.specs.Deleted.{IsMarked, IsCopyOf}
 use Rattle.session_model.specs.Calls.{Call}
 use Rattle.session_model.specs.Calls.Call.{Strike}
@@ -81,13 +81,15 @@ GoneAtMostMarked = (plan : Plan) (entries : List Entry) (disks : List (List Reco
 abbrev pub AreFiled : (Id → Option (List ℕ)) → List ℕ → List ℕ → Type 0
 AreFiled filed text octets = (id : Id) × (id_text id ≡ text) × (filed id ≡ Some octets)
 
--- Where UIDL shows an id for a number, each size that LIST shows for it is the number of the octets filed under the id, and what RETR shows are these octets.
+-- Where UIDL shows an id for a number, each size that LIST shows for it is the number of the octets filed under the id, what RETR shows are these octets, and what TOP
+-- shows is their header and as many lines behind it as were asked for.
 abbrev pub ShownAsFiled : (Id → Option (List ℕ)) → List Session → Type 0
 ShownAsFiled filed sessions = (k : ℕ) (session : Session) → session_at sessions k ≡ Some session → session.protocol ≡ Pop
     → (n : ℕ) (text : List ℕ) (before behind : List Exchange) (one : Exchange) → n < 10 ^ 63 → session.whole ≡ before ++ one ∷ behind → ShowsId n text (seen_exchange one)
     → (before_it behind_it : List Exchange) (other : Exchange) → session.whole ≡ before_it ++ other ∷ behind_it
     → ((size : List ℕ) → ShowsSize n size (seen_exchange other) → (octets : List ℕ) × AreFiled filed text octets × (size ≡ decimal (length octets)))
     × ((octets : List ℕ) → ShowsOctets n octets (seen_exchange other) → AreFiled filed text octets)
+    × ((count : ℕ) (octets : List ℕ) → ShowsTop n count octets (seen_exchange other) → (whole : List ℕ) × AreFiled filed text whole × (octets ≡ top_of count whole))
 
 -- UIDL shows no id for two numbers of one session: no message is listed twice.
 abbrev pub ShownOnce : List Session → Type 0

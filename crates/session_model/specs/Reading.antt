@@ -11,6 +11,7 @@ use Rattle.mail_model.specs.Pop.Command.{Quit}
 use Rattle.mail_model.specs.PopReplies.{Item}
 use Rattle.mail_model.specs.Shown as reader
 use Rattle.mail_model.specs.Deleted.{Enters, IsMarked, Mark, AreMarks}
+use Rattle.mail_model.specs.Maildrop.{Given}
 use Rattle.session_model.specs.Calls.Call.{Login, Strike}
 use Rattle.session_model.specs.Calls.Answer.{Listed}
 use Rattle.session_model.specs.Talk.{Exchange, Standing, TalkGoes, opening_state}
@@ -36,12 +37,12 @@ Each P (one ∷ more) = P one × Each P more
 
 -- where a login was answered with a listing, this has each id once
 abbrev pub ListsOnce : Exchange → Type 0
-ListsOnce one = (user secret : List ℕ) (items : List Item) → one.call ≡ Some (Login user secret) → one.answer ≡ Some (Listed items)
+ListsOnce one = (user : List ℕ) (given : Given) (items : List Item) → one.call ≡ Some (Login user given) → one.answer ≡ Some (Listed items)
     → AllPairs (λ (a b : Id). a ≢ b) (map (λ (item : Item). item.id) items)
 
 -- and only ids that a journal can spell
 abbrev pub ListsNamed : Exchange → Type 0
-ListsNamed one = (user secret : List ℕ) (items : List Item) → one.call ≡ Some (Login user secret) → one.answer ≡ Some (Listed items)
+ListsNamed one = (user : List ℕ) (given : Given) (items : List Item) → one.call ≡ Some (Login user given) → one.answer ≡ Some (Listed items)
     → (i : ℕ) (item : Item) → slice_get items i ≡ Some item → IsId item.id
 
 -- the unit is QUIT

@@ -49,7 +49,7 @@ mail_lead plan node talk (Text lines) = if is_large lines then Says (one_line (r
 abbrev pub line_lead : List ℕ → LineOutcome → Lead
 line_lead user (Answered reply) = Says reply
 line_lead user (Closed reply) = Ends reply
-line_lead user (AsksLogin name secret) = Asks (Login name secret)
+line_lead user (AsksLogin name given) = Asks (Login name given)
 line_lead user (AsksMessage number id) = Asks (Fetch user id)
 line_lead user (AsksDeletion ids) = Asks (Strike user ids)
 
@@ -104,7 +104,7 @@ heard plan (Reading user slots) (Text lines) reply = Reading user slots
 
 -- how it stands once its node answered: a login begins TRANSACTION, and a deletion ends the session
 abbrev pub answered : TalkState → Call → Answer → Standing
-answered state (Login user secret) (Listed items) = Hearing (Reading user (listed_slots items))
+answered state (Login user given) (Listed items) = Hearing (Reading user (listed_slots items))
 answered state (Strike user ids) answer = EndedByQuit
 answered state call answer = Hearing state
 
@@ -185,7 +185,7 @@ replies exchanges = flat_map (λ one. one.reply) exchanges
 
 -- the user of a login that was answered with a listing
 abbrev pub let_in : Option Call → Option Answer → Option (List ℕ)
-let_in (Some (Login user secret)) (Some (Listed items)) = Some user
+let_in (Some (Login user given)) (Some (Listed items)) = Some user
 let_in call answer = None
 
 -- the user whom a session was let in as

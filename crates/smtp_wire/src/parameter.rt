@@ -1,5 +1,5 @@
 // Parameters of MAIL and RCPT (RFC 5321, section 4.1.2).
-ghost use Rattle.std.specs.Prelude.{◌≡◌, [], List, ℕ, option_and_then};
+ghost use Rattle.std.specs.Prelude.{◌≡◌};
 ghost use Rattle.std.specs.Option.{option_map};
 ghost use Rattle.mail_model.specs.Smtp.{is_parted, with_body, with_size, with_parameter, with_word, mail_parameters, rcpt_fault, unknown_parameter};
 ghost use Rattle.smtp_wire.specs.Seen.{fault_seen, given_seen, given_result};

@@ -2,7 +2,7 @@
 ghost use Rattle.std.specs.Prelude.{◌≡◌, codes, option_and_then, IfOk};
 ghost use Rattle.std.specs.Option.{option_map};
 ghost use Rattle.mail_model.specs.Tape as tape;
-ghost use Rattle.mail_model.specs.Tape.{strip, numbered_line, flow_line, widen_line, cluster_order_of};
+ghost use Rattle.mail_model.specs.Tape.{strip, numbered_line, bare_line, widen_line, cluster_order_of};
 ghost use Rattle.tape_lines.specs.ClusterOrders.{moves_seen};
 
 use crate::id_word::id_of_word;
@@ -52,6 +52,12 @@ pub enum ClusterOrder {
         id: MsgId,
         to: u64,
     },
+    /// The clock is set to these seconds since 1970.
+    Tick {
+        seconds: u64,
+    },
+    /// The entries of the book are counted.
+    Sum,
 }
 
 fn crashes(line: &[u8]) -> Option<ClusterOrder>
@@ -97,7 +103,7 @@ fn drops(line: &[u8]) -> Option<ClusterOrder>
 }
 
 fn flows(line: &[u8]) -> Option<ClusterOrder>
-    ensures { option_map moves_seen result ≡ option_and_then flow_line (strip (codes "flow") line.now) }
+    ensures { option_map moves_seen result ≡ option_and_then (bare_line tape.ClusterOrder.Flow) (strip (codes "flow") line.now) }
 {
     let rest = strip(b"flow", line)?;
     if !rest.is_empty() {
@@ -111,6 +117,23 @@ fn pushes(line: &[u8]) -> Option<ClusterOrder>
 {
     let node = number(strip(b"push ", line)?)?;
     Some(ClusterOrder::Push { node })
+}
+
+fn ticks(line: &[u8]) -> Option<ClusterOrder>
+    ensures { option_map moves_seen result ≡ option_and_then (numbered_line tape.ClusterOrder.Tick) (strip (codes "tick ") line.now) }
+{
+    let seconds = number(strip(b"tick ", line)?)?;
+    Some(ClusterOrder::Tick { seconds })
+}
+
+fn sums(line: &[u8]) -> Option<ClusterOrder>
+    ensures { option_map moves_seen result ≡ option_and_then (bare_line tape.ClusterOrder.Sum) (strip (codes "sum") line.now) }
+{
+    let rest = strip(b"sum", line)?;
+    if !rest.is_empty() {
+        return None;
+    }
+    Some(ClusterOrder::Sum)
 }
 
 fn widen_to(alloc: Global, rest: &[u8]) -> Result<Option<ClusterOrder>, AllocError>
@@ -172,6 +195,12 @@ pub(crate) fn cluster_order(alloc: Global, line: &[u8]) -> Result<Option<Cluster
         return Ok(Some(order));
     }
     if let Some(order) = pushes(line) {
+        return Ok(Some(order));
+    }
+    if let Some(order) = ticks(line) {
+        return Ok(Some(order));
+    }
+    if let Some(order) = sums(line) {
         return Ok(Some(order));
     }
     widens(alloc, line)

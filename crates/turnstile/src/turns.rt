@@ -1,5 +1,5 @@
 //! Turns.
-ghost use Rattle.std.specs.Prelude.{◌≡◌, ◌+◌, ◌<◌, ◌^◌, ◌++◌, [], ◌∷◌, length};
+ghost use Rattle.std.specs.Prelude.{◌≡◌, ◌+◌, ◌<◌, [], ◌∷◌};
 ghost use Rattle.turnstile.specs.Passes.{first_value, IsSeatOf, IsIdle, IsPassOf, IsInside, IsWorked, IsFilled, IsOut, IsTurn};
 
 use crate::counted::{Counted, Work};

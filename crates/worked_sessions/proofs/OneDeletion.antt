@@ -4,6 +4,7 @@ use Rattle.std.proofs.lemmas.Option.{none-some}
 use Rattle.mail_model.specs.Identity.{Id}
 use Rattle.mail_model.specs.Lines.{sent_line}
 use Rattle.mail_model.specs.Maildrop.{wrong_text, entered_text}
+use Rattle.mail_model.specs.Maildrop.Given.{BySecret}
 use Rattle.mail_model.specs.Maildrop.LineOutcome.{Answered, AsksLogin}
 use Rattle.mail_model.specs.PopReplies.{Item, one_line}
 use Rattle.mail_model.specs.Session.Unit.{Line}
@@ -23,13 +24,13 @@ use Rattle.session_model.proofs.Striking.{strikes_at_quit}
 
 -- PASS asks for the login, since the plan has the user
 abbrev pass : Exchange
-pass = record { unit = Line (codes "PASS tanstaaf"); call = Some (Login (codes "alice") (codes "tanstaaf")); answer = Some (Listed small_items); reply = one_line entered_text }
+pass = record { unit = Line (codes "PASS tanstaaf"); call = Some (Login (codes "alice") (BySecret (codes "tanstaaf"))); answer = Some (Listed small_items); reply = one_line entered_text }
 
 abbrev named : TalkState
 named = Entering (Some (codes "alice"))
 
-pass_leads : lead_of small_plan 1 named (Line (codes "PASS tanstaaf")) ≡ Asks (Login (codes "alice") (codes "tanstaaf"))
-pass_leads = ap (λ (b : Bool). line_lead [] (if b then AsksLogin (codes "alice") (codes "tanstaaf") else Answered (one_line wrong_text))) has_alice
+pass_leads : lead_of small_plan 1 named (Line (codes "PASS tanstaaf")) ≡ Asks (Login (codes "alice") (BySecret (codes "tanstaaf")))
+pass_leads = ap (λ (b : Bool). line_lead [] (if b then AsksLogin (codes "alice") (BySecret (codes "tanstaaf")) else Answered (one_line wrong_text))) has_alice
 
 goes : TalkGoes small_plan 1 (Hearing (opening_state Pop)) deleting_octets (before_quit ++ last_quit ∷ []) EndedByQuit []
 goes = (
@@ -49,13 +50,13 @@ goes = (
 -- the one listing has one id
 lists_once : Each ListsOnce (before_quit ++ last_quit ∷ [])
 lists_once = (
-  λ user secret items asks told. absurd (none-some (Login user secret) asks),
+  λ user given items asks told. absurd (none-some (Login user given) asks),
   (
-    λ user secret items asks told. let same : small_items ≡ items = cc in
+    λ user given items asks told. let same : small_items ≡ items = cc in
         subst (λ (l : List Item). AllPairs (λ (a b : Id). a ≡ b → ⊥) (map (λ (item : Item). item.id) l)) same (λ i j d before within. absurd (omega (arith, before, within))),
     (
-      λ user secret items asks told. absurd (none-some (Login user secret) asks),
-      (λ user secret items asks told. absurd (let never : Some (Strike (codes "alice") (nth_id 1 ∷ [])) ≡ Some (Login user secret) = asks in cc), tt),
+      λ user given items asks told. absurd (none-some (Login user given) asks),
+      (λ user given items asks told. absurd (let never : Some (Strike (codes "alice") (nth_id 1 ∷ [])) ≡ Some (Login user given) = asks in cc), tt),
     ),
   ),
 )

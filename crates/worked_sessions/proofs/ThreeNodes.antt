@@ -241,11 +241,11 @@ owes = record {
   deletions = record {
     asks = λ n user id gone. absurd (none_gone n user id gone);
     gone = λ k user ids id among within. absurd (let never = only_delivery k (Strike user ids) _ among in cc);
-    once = λ k user secret items among. absurd (let never = only_delivery k (Login user secret) _ among in cc);
-    named = λ k user secret items among. absurd (let never = only_delivery k (Login user secret) _ among in cc);
+    once = λ k user given items among. absurd (let never = only_delivery k (Login user given) _ among in cc);
+    named = λ k user given items among. absurd (let never = only_delivery k (Login user given) _ among in cc);
   };
   parts = λ told. record {
-    sizes = λ k user secret items among. absurd (let never = only_delivery k (Login user secret) _ among in cc);
+    sizes = λ k user given items among. absurd (let never = only_delivery k (Login user given) _ among in cc);
     parts = λ k user id part among. absurd (let never = only_delivery k (Fetch user id) _ among in cc);
   };
   books = record {

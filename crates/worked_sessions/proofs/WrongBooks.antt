@@ -120,7 +120,7 @@ asked_by_some (one ∷ begun) user id copies is = by (λ e. asked_by_some begun 
         → (k : ℕ) × (name : List ℕ) × (ids : List Id) × Among (record { session = k; call = Strike name ids }) (one ∷ begun)
     by later (Strike name ids) own e = (one.session, name, ids, inl (ap (λ (c : Call). record { session = one.session; call = c }) own))
     by later (Deliver mail) own e = let r = later e in (r.0, r.1, r.2, inr r.3)
-    by later (Login name secret) own e = let r = later e in (r.0, r.1, r.2, inr r.3)
+    by later (Login name given) own e = let r = later e in (r.0, r.1, r.2, inr r.3)
     by later (Fetch name other) own e = let r = later e in (r.0, r.1, r.2, inr r.3)
 
 -- the one session takes mail

@@ -1,16 +1,18 @@
 -- The promises to readers are false of what they must not meet.
-use Rattle.std.proofs.Common.{◌≡◌, ◌⊎◌, inl, inr, ℕ, zero, suc, Bool, true, false, List, [], ◌∷◌, ◌++◌, length, flat_map, Option, Some, None, Ok, refl, sym, ap, ◌∙◌, subst, arith, codes, if◌then◌else◌, append-nil}
+use Rattle.std.proofs.Common.{◌≡◌, ◌⊎◌, inl, inr, ℕ, zero, suc, Bool, true, false, List, [], ◌∷◌, ◌++◌, length, get_or, flat_map, Option, Some, None, Ok, refl, sym, ap, ◌∙◌, subst, arith, codes, if◌then◌else◌, append-nil}
+use Rattle.std.specs.Fmt.{decimal}
 use Rattle.std.proofs.lemmas.Option.{none-some}
 use Rattle.std.proofs.lemmas.List.Elements.{All-nil, All-cons}
 use Rattle.mail_model.specs.Identity.{Id, id_text}
 use Rattle.mail_model.specs.Lines.{HasNoCrlf, sent_line}
 use Rattle.mail_model.specs.Listing.{is_same_id}
-use Rattle.mail_model.specs.Maildrop.{wrong_text, entered_text}
+use Rattle.mail_model.specs.Maildrop.{wrong_text, entered_text, deleted_in}
+use Rattle.mail_model.specs.Maildrop.Given.{BySecret}
 use Rattle.mail_model.specs.Maildrop.LineOutcome.{Answered, AsksLogin}
 use Rattle.mail_model.specs.Pop.{pop_command_of}
 use Rattle.mail_model.specs.Pop.Command.{Quit}
-use Rattle.mail_model.specs.PopReplies.{Item, id_line, one_line, octets_text}
-use Rattle.mail_model.specs.Shown.{HasLine}
+use Rattle.mail_model.specs.PopReplies.{Item, ListingSlot, id_line, one_line, octets_text, top_of}
+use Rattle.mail_model.specs.Shown.{HasLine, ShowsSize, ShowsOctets, ShowsTop}
 use Rattle.mail_model.specs.Session.{Unit}
 use Rattle.mail_model.specs.Session.Unit.{Line}
 use Rattle.mail_model.specs.Site.{nth_id, nth_stamp}
@@ -26,15 +28,15 @@ use Rattle.session_model.specs.Talk.{TalkState, Lead, Exchange, IsLed, TalkGoes,
 use Rattle.session_model.specs.Talk.TalkState.{Entering, Reading}
 use Rattle.session_model.specs.Talk.Lead.{Asks}
 use Rattle.session_model.specs.Talk.Standing.{Hearing}
-use Rattle.session_model.specs.Reading.{line_of}
+use Rattle.session_model.specs.Reading.{line_of, seen_exchange}
 use Rattle.session_model.specs.Readings.{view, views, AreLines}
 use Rattle.session_model.specs.Sessions.{Session, IsSession, AreSessions, session_at}
-use Rattle.session_model.specs.Promises.{ShownAsFiled, ShownOnce}
+use Rattle.session_model.specs.Promises.{AreFiled, ShownOnce}
 use Rattle.session_model.proofs.InOrder.{kind_there}
 use Rattle.session_model.proofs.Readings.{one_reading}
 use Rattle.session_model.proofs.Telling.{quit_was_sent}
 use Rattle.worked_sessions.specs.OneMessage.{small_plan, small_octets, at_once}
-use Rattle.worked_sessions.specs.WrongReaders.{WrongReaders, DeletedNot, reader_lines, reader_entries, gone_records, other_text, small_item, other_reply, filed_small, twice_reply}
+use Rattle.worked_sessions.specs.WrongReaders.{WrongReaders, DeletedNot, ShowsNot, reader_lines, reader_entries, gone_records, other_text, small_item, other_reply, other_top, filed_small, twice_reply}
 use Rattle.worked_sessions.proofs.Lines.{whole_line, has_alice, idle_line}
 use Rattle.worked_sessions.proofs.OneMessage.{size}
 use Rattle.worked_sessions.proofs.Alike.{shown_at}
@@ -116,58 +118,83 @@ found_view (one ∷ xs) front back unit line lines e = by (λ front' e'. found_v
 -- PASS, answered with this listing
 module _ (items : List Item) where
   abbrev pass : Exchange
-  pass = record { unit = Line (codes "PASS tanstaaf"); call = Some (Login (codes "alice") (codes "tanstaaf")); answer = Some (Listed items); reply = one_line entered_text }
+  pass = record { unit = Line (codes "PASS tanstaaf"); call = Some (Login (codes "alice") (BySecret (codes "tanstaaf"))); answer = Some (Listed items); reply = one_line entered_text }
 
   abbrev named : TalkState
   named = Entering (Some (codes "alice"))
 
-  pass_leads : lead_of small_plan 1 named (Line (codes "PASS tanstaaf")) ≡ Asks (Login (codes "alice") (codes "tanstaaf"))
-  pass_leads = ap (λ (b : Bool). line_lead [] (if b then AsksLogin (codes "alice") (codes "tanstaaf") else Answered (one_line wrong_text))) has_alice
+  pass_leads : lead_of small_plan 1 named (Line (codes "PASS tanstaaf")) ≡ Asks (Login (codes "alice") (BySecret (codes "tanstaaf")))
+  pass_leads = ap (λ (b : Bool). line_lead [] (if b then AsksLogin (codes "alice") (BySecret (codes "tanstaaf")) else Answered (one_line wrong_text))) has_alice
 
 -- the worked reader that is shown another text
 abbrev uidl : Exchange
 uidl = at_once (codes "UIDL 1") (codes "+OK " ++ id_line 1 small_item)
 
-abbrev retr : Exchange
-retr = record { unit = Line (codes "RETR 1"); call = Some (Fetch (codes "alice") (nth_id 1)); answer = Some (Part (flat_map sent_line other_text)); reply = other_reply }
+abbrev listed : List ListingSlot
+listed = record { item = small_item; marked = false } ∷ []
 
-abbrev misled : Session
-misled = record {
-  protocol = Pop;
-  node = 1;
-  octets = flat_map sent_line (codes "USER alice" ∷ codes "PASS tanstaaf" ∷ codes "UIDL 1" ∷ codes "RETR 1" ∷ []);
-  whole = at_once (codes "USER alice") (codes "+OK send PASS") ∷ pass (small_item ∷ []) ∷ uidl ∷ retr ∷ [];
-  others = [];
-  standing = Hearing (Reading (codes "alice") (record { item = small_item; marked = false } ∷ []));
-  rest = [];
-}
+abbrev asks : Lead
+asks = Asks (Fetch (codes "alice") (nth_id 1))
 
-shows_part : IsLed (Asks (Fetch (codes "alice") (nth_id 1))) retr
-shows_part = (refl, record { lines = other_text; are = All-cons HasNoCrlf (codes "jello") [] (whole_line (codes "jello") refl) (All-nil HasNoCrlf); whole = refl; says = refl })
+module _ (command : List ℕ) (reply : List (List ℕ)) where
+  abbrev fetched : Exchange
+  fetched = record { unit = Line command; call = Some (Fetch (codes "alice") (nth_id 1)); answer = Some (Part (flat_map sent_line other_text)); reply = reply }
 
-misled_goes : TalkGoes small_plan 1 (Hearing (opening_state Pop)) misled.octets (misled.whole ++ []) misled.standing []
-misled_goes = (
-  flat_map sent_line (codes "PASS tanstaaf" ∷ codes "UIDL 1" ∷ codes "RETR 1" ∷ []),
-  record { is_unit = whole_line (codes "USER alice") refl; whole = refl; led = (refl, refl, refl) },
-  (
-    flat_map sent_line (codes "UIDL 1" ∷ codes "RETR 1" ∷ []),
-    record { is_unit = whole_line (codes "PASS tanstaaf") refl; whole = refl; led = subst (λ (lead : Lead). IsLed lead (pass (small_item ∷ []))) (sym (pass_leads (small_item ∷ []))) (refl, refl) },
-    subst (λ (lead : Lead). TalkGoes small_plan 1 (stands small_plan (named (small_item ∷ [])) (pass (small_item ∷ [])) lead) (flat_map sent_line (codes "UIDL 1" ∷ codes "RETR 1" ∷ [])) (uidl ∷ retr ∷ []) misled.standing []) (sym (pass_leads (small_item ∷ []))) (
-      sent_line (codes "RETR 1"),
-      record { is_unit = whole_line (codes "UIDL 1") refl; whole = refl; led = (refl, refl, refl) },
-      ([], record { is_unit = whole_line (codes "RETR 1") refl; whole = refl; led = shows_part }, (refl, refl)),
+  abbrev misled : Session
+  misled = record {
+    protocol = Pop;
+    node = 1;
+    octets = flat_map sent_line (codes "USER alice" ∷ codes "PASS tanstaaf" ∷ codes "UIDL 1" ∷ command ∷ []);
+    whole = at_once (codes "USER alice") (codes "+OK send PASS") ∷ pass (small_item ∷ []) ∷ uidl ∷ fetched ∷ [];
+    others = [];
+    standing = Hearing (Reading (codes "alice") (deleted_in listed command));
+    rest = [];
+  }
+
+  misled_goes : HasNoCrlf command → lead_of small_plan 1 (Reading (codes "alice") listed) (Line command) ≡ asks → IsLed asks fetched
+      → TalkGoes small_plan 1 (Hearing (opening_state Pop)) misled.octets (misled.whole ++ []) misled.standing []
+  misled_goes whole leads shows = (
+    flat_map sent_line (codes "PASS tanstaaf" ∷ codes "UIDL 1" ∷ command ∷ []),
+    record { is_unit = whole_line (codes "USER alice") refl; whole = refl; led = (refl, refl, refl) },
+    (
+      flat_map sent_line (codes "UIDL 1" ∷ command ∷ []),
+      record { is_unit = whole_line (codes "PASS tanstaaf") refl; whole = refl; led = subst (λ (lead : Lead). IsLed lead (pass (small_item ∷ []))) (sym (pass_leads (small_item ∷ []))) (refl, refl) },
+      subst (λ (lead : Lead). TalkGoes small_plan 1 (stands small_plan (named (small_item ∷ [])) (pass (small_item ∷ [])) lead) (flat_map sent_line (codes "UIDL 1" ∷ command ∷ [])) (uidl ∷ fetched ∷ []) misled.standing []) (sym (pass_leads (small_item ∷ []))) (
+        flat_map sent_line (command ∷ []),
+        record { is_unit = whole_line (codes "UIDL 1") refl; whole = refl; led = (refl, refl, refl) },
+        (
+          [],
+          record { is_unit = whole; whole = refl; led = subst (λ (lead : Lead). IsLed lead fetched) (sym leads) shows },
+          (sym (ap (stands small_plan (Reading (codes "alice") listed) fetched) leads), refl),
+        ),
+      ),
     ),
-  ),
-)
+  )
 
-abbrev misled_lines : List (List ℕ)
-misled_lines = reader_lines (codes "say 2 UIDL 1" ∷ codes "say 2 RETR 1" ∷ [])
+  -- what is said of an exchange with a message whose id is shown
+  abbrev IsAsFiled : Exchange → Type 0
+  IsAsFiled other =
+      ((size : List ℕ) → ShowsSize 1 size (seen_exchange other) → (octets : List ℕ) × AreFiled filed_small (id_text (nth_id 1)) octets × (size ≡ decimal (length octets)))
+      × ((octets : List ℕ) → ShowsOctets 1 octets (seen_exchange other) → AreFiled filed_small (id_text (nth_id 1)) octets)
+      × ((count : ℕ) (octets : List ℕ) → ShowsTop 1 count octets (seen_exchange other) → (whole : List ℕ) × AreFiled filed_small (id_text (nth_id 1)) whole × (octets ≡ top_of count whole))
 
-abbrev misled_entries : List Entry
-misled_entries = reader_entries ((codes "+OK " ++ id_line 1 small_item) ∷ other_reply)
+  abbrev misled_lines : List (List ℕ)
+  misled_lines = reader_lines (codes "say 2 UIDL 1" ∷ (codes "say 2 " ++ command) ∷ [])
 
-misled_is : IsSession small_plan misled_lines misled_entries 2 misled
-misled_is = record { talk = record { before = misled.standing; goes = misled_goes; ends = refl }; fed = refl; gets = record { part = []; missing = []; are = refl; cut = refl } }
+  abbrev misled_entries : List Entry
+  misled_entries = reader_entries ((codes "+OK " ++ id_line 1 small_item) ∷ reply)
+
+  shows_not : IsSession small_plan misled_lines misled_entries 2 misled → (line : List ℕ) (lines : List (List ℕ)) → reply ≡ line ∷ lines
+      → opened misled_lines ≡ (Smtp, 1) ∷ (Pop, 1) ∷ []
+      → ((other : Exchange) → other.unit ≡ Line command → other.reply ≡ reply → IsAsFiled other → ⊥) → ShowsNot command reply
+  shows_not misled_is line lines some kinds refuted sessions are filed =
+      let s = shown_at small_plan misled_lines misled_entries sessions are 1 Pop 1 (ap (λ (l : List (Protocol × ℕ)). kind_at l 2) kinds) in
+      let same = one_reading small_plan misled_lines misled_entries 2 s.session misled s.speaks s.there s.is misled_is in
+      let a = found_view s.session.whole (views (at_once (codes "USER alice") (codes "+OK send PASS") ∷ pass (small_item ∷ []) ∷ [])) (views (fetched ∷ [])) uidl.unit (codes "+OK " ++ id_line 1 small_item) [] same in
+      let there = same ∙ ap (λ (r : List (List ℕ)). views (at_once (codes "USER alice") (codes "+OK send PASS") ∷ pass (small_item ∷ []) ∷ uidl ∷ []) ++ (view (Line command) r ++ [])) some in
+      let b = found_view s.session.whole (views (at_once (codes "USER alice") (codes "+OK send PASS") ∷ pass (small_item ∷ []) ∷ uidl ∷ [])) [] (Line command) line lines there in
+      refuted b.one b.same_unit (b.same_reply ∙ sym some) (filed 2 s.session s.at s.speaks 1 (id_text (nth_id 1)) a.before a.behind a.one (omega arith) a.are
+      (inr (ap (λ (u : Unit). pop_command_of (line_of u)) a.same_unit, a.same_reply)) b.before b.behind b.one b.are)
 
 -- nothing but the message is filed
 filed_is : (id : Id) (octets : List ℕ) → filed_small id ≡ Some octets → small_octets ≡ octets
@@ -177,23 +204,56 @@ filed_is id octets = by (is_same_id (nth_id 1) id)
     by true is = cc
     by false is = absurd (none-some octets is)
 
-shows_another : (sessions : List Session) → AreSessions small_plan misled_lines misled_entries sessions → ShownAsFiled filed_small sessions → ⊥
-shows_another sessions are filed =
-    let s = shown_at small_plan misled_lines misled_entries sessions are 1 Pop 1 refl in
-    let same = one_reading small_plan misled_lines misled_entries 2 s.session misled s.speaks s.there s.is misled_is in
-    let a = found_view s.session.whole (views (at_once (codes "USER alice") (codes "+OK send PASS") ∷ pass (small_item ∷ []) ∷ [])) (views (retr ∷ [])) uidl.unit (codes "+OK " ++ id_line 1 small_item) [] same in
-    let b = found_view s.session.whole (views (at_once (codes "USER alice") (codes "+OK send PASS") ∷ pass (small_item ∷ []) ∷ uidl ∷ [])) [] retr.unit _ _ same in
-    let shows = filed 2 s.session s.at s.speaks 1 (id_text (nth_id 1)) a.before a.behind a.one (omega arith) a.are
-    (inr (ap (λ (u : Unit). pop_command_of (line_of u)) a.same_unit, a.same_reply)) b.before b.behind b.one b.are in
-    let (id, named_so, is) = shows.1 (flat_map sent_line other_text) (record {
-      asked = ap (λ (u : Unit). pop_command_of (line_of u)) b.same_unit;
+-- RETR
+retr_is : IsSession small_plan (misled_lines (codes "RETR 1") other_reply) (misled_entries (codes "RETR 1") other_reply) 2 (misled (codes "RETR 1") other_reply)
+retr_is = record {
+  talk = record {
+    before = (misled (codes "RETR 1") other_reply).standing;
+    goes = misled_goes (codes "RETR 1") other_reply (whole_line (codes "RETR 1") refl) refl
+        (refl, record { lines = other_text; are = All-cons HasNoCrlf (codes "jello") [] (whole_line (codes "jello") refl) (All-nil HasNoCrlf); whole = refl; says = refl });
+    ends = refl;
+  };
+  fed = refl;
+  gets = record { part = []; missing = []; are = refl; cut = refl };
+}
+
+no_retr : (other : Exchange) → other.unit ≡ Line (codes "RETR 1") → other.reply ≡ other_reply → IsAsFiled (codes "RETR 1") other_reply other → ⊥
+no_retr other unit_is reply_is filed =
+    let (id, named_so, is) = filed.1 (flat_map sent_line other_text) (record {
+      asked = ap (λ (u : Unit). pop_command_of (line_of u)) unit_is;
       first = octets_text (length (flat_map sent_line other_text));
       lines = other_text;
       good = refl;
-      reply = b.same_reply;
+      reply = reply_is;
       undots = refl;
     }) in
     absurd (omega (arith, size, ap length (filed_is id (flat_map sent_line other_text) is)))
+
+-- TOP
+top_is : IsSession small_plan (misled_lines (codes "TOP 1 0") other_top) (misled_entries (codes "TOP 1 0") other_top) 2 (misled (codes "TOP 1 0") other_top)
+top_is = record {
+  talk = record {
+    before = (misled (codes "TOP 1 0") other_top).standing;
+    goes = misled_goes (codes "TOP 1 0") other_top (whole_line (codes "TOP 1 0") refl) refl
+        (refl, record { lines = other_text; are = All-cons HasNoCrlf (codes "jello") [] (whole_line (codes "jello") refl) (All-nil HasNoCrlf); whole = refl; says = refl });
+    ends = refl;
+  };
+  fed = refl;
+  gets = record { part = []; missing = []; are = refl; cut = refl };
+}
+
+no_top : (other : Exchange) → other.unit ≡ Line (codes "TOP 1 0") → other.reply ≡ other_top → IsAsFiled (codes "TOP 1 0") other_top other → ⊥
+no_top other unit_is reply_is filed =
+    let (whole, (id, named_so, is), same) = filed.2 0 (flat_map sent_line other_text) (record {
+      asked = ap (λ (u : Unit). pop_command_of (line_of u)) unit_is;
+      first = codes "+OK top";
+      lines = other_text;
+      good = refl;
+      reply = reply_is;
+      undots = refl;
+    }) in
+    let first : 106 ≡ 82 = ap (λ (l : List ℕ). get_or l 0 0) (same ∙ ap (top_of 0) (sym (filed_is id whole is))) in
+    absurd (omega (arith, first))
 
 -- the worked reader that is shown one message twice
 abbrev uidls : Exchange
@@ -246,6 +306,7 @@ wrong_readers = record {
   gone_by_close = deleted_not (codes "say 2 DELE 1" ∷ codes "close 2" ∷ []) refl refl;
   gone_by_crash = deleted_not (codes "say 2 DELE 1" ∷ codes "crash 1" ∷ []) refl refl;
   gone_behind_end = deleted_not (codes "say 2 DELE 1" ∷ []) refl refl;
-  shows_another_text = shows_another;
+  shows_another_text = shows_not (codes "RETR 1") other_reply retr_is _ _ refl refl no_retr;
+  shows_another_top = shows_not (codes "TOP 1 0") other_top top_is _ _ refl refl no_top;
   lists_twice = lists_two;
 }

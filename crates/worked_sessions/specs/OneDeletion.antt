@@ -3,6 +3,7 @@ use Rattle.std.specs.Prelude.{ℕ, List, [], ◌∷◌, ◌++◌, flat_map, Some
 use Rattle.std.specs.Fmt.{decimal}
 use Rattle.mail_model.specs.Lines.{sent_line}
 use Rattle.mail_model.specs.Maildrop.{entered_text, bye_text}
+use Rattle.mail_model.specs.Maildrop.Given.{BySecret}
 use Rattle.mail_model.specs.PopReplies.{Item, one_line}
 use Rattle.mail_model.specs.Session.Unit.{Line}
 use Rattle.mail_model.specs.Site.{nth_id}
@@ -22,7 +23,7 @@ small_items = record { id = nth_id 1; size = 151 } ∷ []
 abbrev pub before_quit : List Exchange
 before_quit =
     at_once (codes "USER alice") (codes "+OK send PASS")
-    ∷ record { unit = Line (codes "PASS tanstaaf"); call = Some (Login (codes "alice") (codes "tanstaaf")); answer = Some (Listed small_items); reply = one_line entered_text }
+    ∷ record { unit = Line (codes "PASS tanstaaf"); call = Some (Login (codes "alice") (BySecret (codes "tanstaaf"))); answer = Some (Listed small_items); reply = one_line entered_text }
     ∷ at_once (codes "DELE 1") (codes "+OK message " ++ decimal 1 ++ codes " deleted") ∷ []
 
 -- QUIT, whose deletion was confirmed

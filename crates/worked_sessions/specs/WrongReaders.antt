@@ -33,7 +33,7 @@ abbrev pub DeletedNot : List (List ℕ) → Type 0
 DeletedNot more = (entries : List Entry) (sessions : List Session) → AreSessions small_plan (reader_lines more) entries sessions
     → DeletedByQuit small_plan entries (gone_records ∷ []) sessions → ⊥
 
--- UIDL shows the id of the message, and RETR another text
+-- UIDL shows the id of the message, and RETR or TOP another text
 abbrev pub other_text : List (List ℕ)
 other_text = codes "jello" ∷ []
 
@@ -43,8 +43,17 @@ small_item = record { id = nth_id 1; size = 151 }
 abbrev pub other_reply : List (List ℕ)
 other_reply = octets_text (length (flat_map sent_line other_text)) ∷ other_text ++ last_line
 
+abbrev pub other_top : List (List ℕ)
+other_top = codes "+OK top" ∷ other_text ++ last_line
+
 abbrev pub filed_small : Id → Option (List ℕ)
 filed_small id = octets_in id small_records
+
+-- whoever chooses the sessions, the promise is false where UIDL of the message is answered, and then this command so
+abbrev pub ShowsNot : List ℕ → List (List ℕ) → Type 0
+ShowsNot command reply = (sessions : List Session)
+    → AreSessions small_plan (reader_lines (codes "say 2 UIDL 1" ∷ (codes "say 2 " ++ command) ∷ [])) (reader_entries ((codes "+OK " ++ id_line 1 small_item) ∷ reply)) sessions
+    → ShownAsFiled filed_small sessions → ⊥
 
 -- UIDL shows it twice
 abbrev pub twice_reply : List (List ℕ)
@@ -55,9 +64,8 @@ pub record WrongReaders : Type 0 where
   pub gone_by_close : DeletedNot (codes "say 2 DELE 1" ∷ codes "close 2" ∷ [])
   pub gone_by_crash : DeletedNot (codes "say 2 DELE 1" ∷ codes "crash 1" ∷ [])
   pub gone_behind_end : DeletedNot (codes "say 2 DELE 1" ∷ [])
-  -- RETR shows another text
-  pub shows_another_text : (sessions : List Session)
-      → AreSessions small_plan (reader_lines (codes "say 2 UIDL 1" ∷ codes "say 2 RETR 1" ∷ [])) (reader_entries ((codes "+OK " ++ id_line 1 small_item) ∷ other_reply)) sessions
-      → ShownAsFiled filed_small sessions → ⊥
+  -- RETR shows another text, and so does TOP
+  pub shows_another_text : ShowsNot (codes "RETR 1") other_reply
+  pub shows_another_top : ShowsNot (codes "TOP 1 0") other_top
   -- one message has two numbers
   pub lists_twice : (sessions : List Session) → AreSessions small_plan (reader_lines (codes "say 2 UIDL" ∷ [])) (reader_entries twice_reply) sessions → ShownOnce sessions → ⊥

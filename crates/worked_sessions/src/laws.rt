@@ -34,8 +34,8 @@ pub fn wrong_stores()
     ensures { WrongStores }
 {}
 
-/// A copy that is gone without a QUIT, a text that is not the one that is filed, and one message listed
-/// twice do not keep the promises to readers.
+/// A copy that is gone without a QUIT, a text that is not the one that is filed, shown by RETR or by TOP,
+/// and one message listed twice do not keep the promises to readers.
 pub fn wrong_readers()
     ensures { WrongReaders }
 {}

@@ -1,5 +1,5 @@
 // A message as it is filed.
-ghost use Rattle.std.specs.Prelude.{◌≡◌, ℕ, List, length, Some, Option, IfOk};
+ghost use Rattle.std.specs.Prelude.{◌≡◌, length, Some, IfOk};
 ghost use Rattle.sha2.specs.Sha256.{sha256};
 ghost use Rattle.mail_model.specs.Mail.{IsStored};
 ghost use Rattle.mail_base.specs.Delivers.{mail_in};

@@ -43,6 +43,8 @@ fn of_move(alloc: Global, order: &ClusterOrder) -> Result<Vec<u8>, AllocError> {
         ClusterOrder::Flow => Vec::from_slice(alloc, b"flow"),
         ClusterOrder::Push { node } => worded(alloc, b"push", *node, b""),
         ClusterOrder::Widen { at, user, id, to } => widening(alloc, *at, user, *id, *to),
+        ClusterOrder::Tick { seconds } => worded(alloc, b"tick", *seconds, b""),
+        ClusterOrder::Sum => Vec::from_slice(alloc, b"sum"),
     }
 }
 
@@ -70,7 +72,7 @@ fn read_as(alloc: Global, line: &[u8]) -> Result<Vec<u8>, AllocError> {
 }
 
 // Run lines, and what each is read as.
-const TAKEN: [(&[u8], &[u8]); 33] = [
+const TAKEN: [(&[u8], &[u8]); 39] = [
     (b"open smtp 2\r", b"smtp 2:"),
     (b"open smtp 0", b"smtp 0:"),
     (b"open pop 2\r", b"pop 2:"),
@@ -122,10 +124,16 @@ const TAKEN: [(&[u8], &[u8]); 33] = [
         b"widen 0:alice 1.1.1 18446744073709551615",
     ),
     (b"widen 01 alice 01.01.01 01", b"widen 1:alice 1.1.1 1"),
+    (b"tick 0", b"tick 0:"),
+    (b"tick 253402300799\r", b"tick 253402300799:"),
+    (b"tick 00000000000000000784", b"tick 784:"),
+    (b"tick 18446744073709551615", b"tick 18446744073709551615:"),
+    (b"sum", b"sum"),
+    (b"sum\r", b"sum"),
 ];
 
 // Lines of no form.
-const REFUSED: [&[u8]; 70] = [
+const REFUSED: [&[u8]; 84] = [
     b"open sm",
     b"open pop",
     b"open pop ",
@@ -196,6 +204,20 @@ const REFUSED: [&[u8]; 70] = [
     b"widen 1 alice 1.4294967296.1 2",
     b"widen 1 alice 1.1.0 2",
     b"widen 1 @lice 1.1.1 2",
+    b"tick",
+    b"tick ",
+    b"tick  1",
+    b"tick 1 ",
+    b"tick 1 2",
+    b"tick -1",
+    b"tick 1.5",
+    b"tick 18446744073709551616",
+    b"tick 000000000000000000001",
+    b"Tick 1",
+    b"sum ",
+    b"sum 1",
+    b"sums",
+    b"SUM",
 ];
 
 #[test]

@@ -2,10 +2,10 @@
 
 use super::store::Journal;
 use super::{PLAN, Script, drive, joined, words, yard_of};
-use crate::server::porcupine;
 use io_edge::faulty::{FaultySink, FaultySource, FaultyYard};
 use io_edge::{Disk, MemoryYard, PlainDisk, SliceSource, VecSink};
 use node_disk::{Image, MemoryDisk};
+use porcupine_server::porcupine;
 use std::alloc::{AllocError, Global};
 use std::process::Abort;
 use std::test::Fail;

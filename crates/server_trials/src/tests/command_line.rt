@@ -1,8 +1,8 @@
 // What the system hands over as words: the program's name, and then those of the command line.
 
-use crate::program::run;
 use io_edge::faulty::FaultySink;
 use io_edge::{SliceSource, VecSink};
+use porcupine_server::run;
 use std::env;
 use std::env::{Env, FillError};
 
@@ -49,7 +49,7 @@ const CASES: [(&[&[u8]], u64, u8, &[u8]); 11] = [
 ];
 
 // Runs the program with these words, of whose writes this one fails.
-fn runs_with(rt: &HostRuntime, words: &[&[u8]], write: u64) -> (u8, Vec<u8>) {
+pub(super) fn runs_with(rt: &HostRuntime, words: &[&[u8]], write: u64) -> (u8, Vec<u8>) {
     let alloc = rt.alloc();
     let mut sink = FaultySink::new(VecSink::new(alloc), write);
     let arguments = env::args(&(HandedOver { words }, alloc));

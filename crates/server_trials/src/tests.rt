@@ -16,10 +16,11 @@ mod replies;
 mod run_lines;
 mod store;
 mod three_nodes;
+mod words;
 
-use crate::server::porcupine;
 use io_edge::{MemoryYard, SliceSource, VecSink};
 use node_disk::MemoryDisk;
+use porcupine_server::porcupine;
 use std::alloc::{AllocError, Global};
 use std::process::Abort;
 use std::test::Fail;

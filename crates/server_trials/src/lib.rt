@@ -1,0 +1,32 @@
+//! server_trials: whole tapes, and what the program writes for them.
+//!
+//! SUMMARY
+//!
+//! Tests of `porcupine_server` by its two calls, over an outside in memory: a tape goes in, and its transcript, its status and
+//! the disks that are given back are held against tables. `src/tests.rt` says how a table is read.
+//!
+//! DESCRIPTION
+//!
+//! | Table | What is tried |
+//! |---|---|
+//! | `tests/examples.rt` | the tapes of the folder `examples`, with their transcripts |
+//! | `tests/plans.rt`, `tests/run_lines.rt` | each line of a tape, and each fault that it may have |
+//! | `tests/replies.rt`, `tests/recipients.rt`, `tests/messages.rt` | sessions that take mail |
+//! | `tests/maildrops.rt`, `tests/deletions.rt` | sessions that show it, and delete it |
+//! | `tests/pieces.rt` | octets in any pieces |
+//! | `tests/clusters.rt`, `tests/three_nodes.rt`, `tests/crashes.rt` | several nodes: letters, stops, starts and losses |
+//! | `tests/faults.rt`, `tests/command_line.rt` | each part of the outside failing in turn, and other words |
+//! | `tests/words.rt` | the words of the command line, and what `check` and `storm` write |
+//! | `tests/driving.rt` | `drive_tape` by its own calls |
+//!
+//! STANDS ON
+//!
+//! `porcupine_server` and `drive_tape`, by their public calls alone, and `node_disk` and `io_edge` for an outside in memory.
+//!
+//! WHAT IT DOES NOT DO
+//!
+//! It is a crate of its own since a crate is proved once more with its tests. Nothing stands on it.
+#![tactic(auto)]
+
+#[cfg(test)]
+mod tests;
