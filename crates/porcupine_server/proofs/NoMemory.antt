@@ -31,10 +31,10 @@ head_unread left = record {
 }
 
 -- the same before and after
-pub unchanged_stores : {D : Type 0} → Option (List (ℕ × ℕ × D)) → Option (List (ℕ × ℕ × D)) → Stores D
+abbrev pub unchanged_stores : {D : Type 0} → Option (List (ℕ × ℕ × D)) → Option (List (ℕ × ℕ × D)) → Stores D
 unchanged_stores handed returned = record { handed0 = handed; handed1 = handed; returned0 = returned; returned1 = returned; }
 
-pub unchanged_ends : Option (List ℕ) → Option (List ℕ) → SourceAndSink
+abbrev pub unchanged_ends : Option (List ℕ) → Option (List ℕ) → SourceAndSink
 unchanged_ends left held = record { left0 = left; left1 = left; held0 = held; held1 = held; }
 
 no_work : {D : Type 0} (on : View D) (is_settled : D → Type 0) (handed returned : Option (List (ℕ × ℕ × D))) (left held : Option (List ℕ))

@@ -1,5 +1,5 @@
 -- What is promised of each task holds where memory ran out before anything was done.
-use Rattle.std.proofs.Common.{inl, inr, ℕ, List, [], ◌∷◌, ◌<◌, length, Option, refl, arith}
+use Rattle.std.proofs.Common.{inl, inr, ℕ, List, [], ◌∷◌, ◌<◌, length, drop, Option, refl, arith}
 use Rattle.io_edge.proofs.Known.{appends_none}
 use Rattle.node_store.specs.Disks.{View}
 use Rattle.storm_maker.specs.Tape.{storm_tape}
@@ -31,12 +31,12 @@ not_empty x xs = omega arith
 
 -- a tape has a plan at least
 some_tape : (number size : ℕ) → 0 < length (storm_tape number size)
-some_tape number size = not_empty _ _
+some_tape number size = not_empty 110 (drop 1 (storm_tape number size))
 
 pub stormed_nothing : {D : Type 0} (handed returned : Option (List (ℕ × ℕ × D))) (left held : Option (List ℕ)) (counts : Counts) (number size : ℕ)
     → Stormed (unchanged_stores handed returned) (unchanged_ends left held) counts 7 number size
 stormed_nothing handed returned left held counts number size = record {
-  storm = inr (inr refl, ([], (storm_tape number size, (some_tape number size, (refl, appends_none held)))));
+  storm = inr (inr refl, ([], storm_tape number size, some_tape number size, refl, appends_none held));
   write_fault = λ e. absurd (omega (arith, e));
   complete = λ write. inr refl;
   untouched = untouched handed returned left held;

@@ -48,3 +48,7 @@ no_storm held0 held1 number size status n storm is zero five seven = ⊎_elim (�
 pub no_check : (status n : ℕ) → (status ≡ 0) ⊎ (status ≡ 2) ⊎ (status ≡ 4) ⊎ (status ≡ 5) ⊎ (status ≡ 7) → status ≡ n → (n ≡ 0 → ⊥) → (n ≡ 2 → ⊥) → (n ≡ 4 → ⊥) → (n ≡ 5 → ⊥) → (n ≡ 7 → ⊥) → ⊥
 no_check status n some is zero two four five seven = ⊎_elim (λ e. zero (sym is ∙ e)) (λ a. ⊎_elim (λ e. two (sym is ∙ e)) (λ b. ⊎_elim (λ e. four (sym is ∙ e))
     (λ d. ⊎_elim (λ e. five (sym is ∙ e)) (λ e. seven (sym is ∙ e)) d) b) a) some
+
+-- that of words of no form is 1
+pub no_refused : (status n : ℕ) → status ≡ 1 → status ≡ n → (n ≡ 1 → ⊥) → ⊥
+no_refused status n one is apart = apart (sym is ∙ one)

@@ -1,5 +1,5 @@
 use Rattle.std.proofs.Common.{inl, inr, arith}
-use Rattle.porcupine_server.proofs.Tasks.{by_none, by_drive, by_storm, by_check, by_cases, no_storm, no_check}
+use Rattle.porcupine_server.proofs.Tasks.{by_none, by_drive, by_storm, by_check, by_cases, no_storm, no_check, no_refused}
 use Rattle.porcupine_server.proofs.server.porcupine.Goals as goal
 
 pub returns-clause-promises : goal.returns-clause-promises
@@ -16,7 +16,7 @@ returns-clause-words_told g c none = (by_none _ _ _ _ _ c.answer_words.ensures n
 
 pub returns-clause-words_taken : goal.returns-clause-words_taken
 returns-clause-words_taken g c is = by_cases _ _ _ _ _ _ c.answer_words.ensures (λ none _. none) (λ _ drive. absurd (drive.not_words is))
-    (λ number size _ storm. absurd (no_storm _ _ _ _ _ 1 storm.storm is (λ e. omega (arith, e)) (λ e. omega (arith, e)) (λ e. omega (arith, e))))
+    (λ number size _ storm. absurd (no_storm _ _ number size _ 1 storm.storm is (λ e. omega (arith, e)) (λ e. omega (arith, e)) (λ e. omega (arith, e))))
     (λ file _ check. absurd (no_check _ 1 check.some_status is (λ e. omega (arith, e)) (λ e. omega (arith, e)) (λ e. omega (arith, e)) (λ e. omega (arith, e)) (λ e. omega (arith, e))))
 
 pub returns-clause-storm : goal.returns-clause-storm
@@ -26,22 +26,22 @@ pub returns-clause-check : goal.returns-clause-check
 returns-clause-check g c file is = let check = by_check _ _ _ _ _ file c.answer_words.ensures is in (check.checks, check.untouched)
 
 pub returns-clause-plan_fault : goal.returns-clause-plan_fault
-returns-clause-plan_fault g c is = by_cases _ _ _ _ _ _ c.answer_words.ensures (λ _ refused. absurd (let one = refused.one in omega (arith, one, is))) (λ _ drive. absurd (drive.not_plan is))
-    (λ number size _ storm. absurd (no_storm _ _ _ _ _ 2 storm.storm is (λ e. omega (arith, e)) (λ e. omega (arith, e)) (λ e. omega (arith, e))))
+returns-clause-plan_fault g c is = by_cases _ _ _ _ _ _ c.answer_words.ensures (λ _ refused. absurd (no_refused _ _ refused.one is (λ e. omega (arith, e)))) (λ _ drive. absurd (drive.not_plan is))
+    (λ number size _ storm. absurd (no_storm _ _ number size _ 2 storm.storm is (λ e. omega (arith, e)) (λ e. omega (arith, e)) (λ e. omega (arith, e))))
     (λ file asks check. (file, asks, check.plan_fault is))
 
 pub returns-clause-read_fault : goal.returns-clause-read_fault
-returns-clause-read_fault g c is = by_cases _ _ _ _ _ _ c.answer_words.ensures (λ _ refused. absurd (let one = refused.one in omega (arith, one, is))) (λ asks drive. inl (asks, drive.read_fault is))
-    (λ number size _ storm. absurd (no_storm _ _ _ _ _ 4 storm.storm is (λ e. omega (arith, e)) (λ e. omega (arith, e)) (λ e. omega (arith, e))))
+returns-clause-read_fault g c is = by_cases _ _ _ _ _ _ c.answer_words.ensures (λ _ refused. absurd (no_refused _ _ refused.one is (λ e. omega (arith, e)))) (λ asks drive. inl (asks, drive.read_fault is))
+    (λ number size _ storm. absurd (no_storm _ _ number size _ 4 storm.storm is (λ e. omega (arith, e)) (λ e. omega (arith, e)) (λ e. omega (arith, e))))
     (λ file asks check. inr (file, asks, check.read_fault is))
 
 pub returns-clause-write_fault : goal.returns-clause-write_fault
-returns-clause-write_fault g c is = by_cases _ _ _ _ _ _ c.answer_words.ensures (λ _ refused. absurd (let one = refused.one in omega (arith, one, is))) (λ _ drive. drive.write_fault is)
+returns-clause-write_fault g c is = by_cases _ _ _ _ _ _ c.answer_words.ensures (λ _ refused. absurd (no_refused _ _ refused.one is (λ e. omega (arith, e)))) (λ _ drive. drive.write_fault is)
     (λ number size _ storm. storm.write_fault is) (λ file _ check. check.write_fault is)
 
 pub returns-clause-store_fault : goal.returns-clause-store_fault
-returns-clause-store_fault g c is = by_cases _ _ _ _ _ _ c.answer_words.ensures (λ _ refused. absurd (let one = refused.one in omega (arith, one, is))) (λ asks drive. (asks, drive.store_fault is))
-    (λ number size _ storm. absurd (no_storm _ _ _ _ _ 6 storm.storm is (λ e. omega (arith, e)) (λ e. omega (arith, e)) (λ e. omega (arith, e))))
+returns-clause-store_fault g c is = by_cases _ _ _ _ _ _ c.answer_words.ensures (λ _ refused. absurd (no_refused _ _ refused.one is (λ e. omega (arith, e)))) (λ asks drive. (asks, drive.store_fault is))
+    (λ number size _ storm. absurd (no_storm _ _ number size _ 6 storm.storm is (λ e. omega (arith, e)) (λ e. omega (arith, e)) (λ e. omega (arith, e))))
     (λ file _ check. absurd (no_check _ 6 check.some_status is (λ e. omega (arith, e)) (λ e. omega (arith, e)) (λ e. omega (arith, e)) (λ e. omega (arith, e)) (λ e. omega (arith, e))))
 
 pub returns-clause-complete : goal.returns-clause-complete
