@@ -1,9 +1,14 @@
 -- What is known by what the words ask for.
-use Rattle.std.proofs.Common.{◌≡◌, ◌⊎◌, ⊎_elim, ℕ, List, Option, Some, None, refl, sym, ◌∙◌, subst}
+use Rattle.std.proofs.Common.{◌≡◌, ◌⊎◌, ⊎_elim, ℕ, List, Option, Some, None, refl, sym, ap, ◌∙◌, subst, arith}
 use Rattle.command_words.specs.Forms.{Task}
+use Rattle.command_words.specs.Seen.{task_seen}
+use Rattle.command_words.specs.declared.task.Task.{Task as CodeTask}
 use Rattle.command_words.specs.Forms.Task.{Drive, Storm, Check}
 use Rattle.word_works.specs.Storms.{WritesStorm}
-use Rattle.porcupine_server.specs.Tasks.{ByTask}
+use Rattle.io_edge.specs.Causes.{Rose}
+use Rattle.node_store.specs.Disks.{View}
+use Rattle.porcupine_server.specs.Works.{Stores, SourceAndSink}
+use Rattle.porcupine_server.specs.Tasks.{ByTask, Counts, Refused, Driven, Stormed, Checked}
 
 -- what is said of a task is said of the words that ask for it
 pub at_task : (words task : Option Task) (refused driven : Type 0) (stormed : ℕ → ℕ → Type 0) (checked : List ℕ → Type 0) → task ≡ words → ByTask task refused driven stormed checked → ByTask words refused driven stormed checked
@@ -52,3 +57,27 @@ no_check status n some is zero two four five seven = ⊎_elim (λ e. zero (sym i
 -- that of words of no form is 1
 pub no_refused : (status n : ℕ) → status ≡ 1 → status ≡ n → (n ≡ 1 → ⊥) → ⊥
 no_refused status n one is apart = apart (sym is ∙ one)
+
+-- a write that failed, whatever was asked for
+pub write_faults : {D : Type 0} (on : View D) (is_settled : D → Type 0) (stores : Stores D) (ends : SourceAndSink) (counts : Counts) (status : ℕ) (told : List ℕ → Option (List ℕ)) (words : Option Task)
+    → ByTask words (Refused stores ends counts status) (Driven on is_settled stores ends counts status) (λ number size. Stormed stores ends counts status number size) (λ file. Checked stores ends counts status (told file))
+    → status ≡ 5 → Rose counts.write0 counts.write1
+write_faults on is_settled stores ends counts status told None said is = absurd (no_refused status 5 said.one is (λ e. omega (arith, e)))
+write_faults on is_settled stores ends counts status told (Some Drive) said is = said.write_fault is
+write_faults on is_settled stores ends counts status told (Some (Storm number size)) said is = said.write_fault is
+write_faults on is_settled stores ends counts status told (Some (Check file)) said is = said.write_fault is
+
+-- what is promised of a storm, and of a check, where that is the task
+pub stormed_by : {D : Type 0} (on : View D) (is_settled : D → Type 0) (stores : Stores D) (ends : SourceAndSink) (counts : Counts) (status : ℕ) (told : List ℕ → Option (List ℕ)) (task shown : CodeTask) (number size : ℕ)
+    → task ≡ shown → task_seen shown ≡ Storm number size → Stormed stores ends counts status number size
+    → ByTask (Some (task_seen task)) (Refused stores ends counts status) (Driven on is_settled stores ends counts status) (λ n s. Stormed stores ends counts status n s) (λ file. Checked stores ends counts status (told file))
+stormed_by on is_settled stores ends counts status told task shown number size is seen storm =
+    at_task (Some (task_seen task)) (Some (Storm number size)) (Refused stores ends counts status) (Driven on is_settled stores ends counts status) (λ n s. Stormed stores ends counts status n s) (λ file. Checked stores ends counts status (told file))
+    (sym (ap (λ (t : CodeTask). Some (task_seen t)) is ∙ ap (λ (t : Task). Some t) seen)) storm
+
+pub checked_by : {D : Type 0} (on : View D) (is_settled : D → Type 0) (stores : Stores D) (ends : SourceAndSink) (counts : Counts) (status : ℕ) (told : List ℕ → Option (List ℕ)) (task shown : CodeTask) (file : List ℕ)
+    → task ≡ shown → task_seen shown ≡ Check file → Checked stores ends counts status (told file)
+    → ByTask (Some (task_seen task)) (Refused stores ends counts status) (Driven on is_settled stores ends counts status) (λ n s. Stormed stores ends counts status n s) (λ name. Checked stores ends counts status (told name))
+checked_by on is_settled stores ends counts status told task shown file is seen check =
+    at_task (Some (task_seen task)) (Some (Check file)) (Refused stores ends counts status) (Driven on is_settled stores ends counts status) (λ n s. Stormed stores ends counts status n s) (λ name. Checked stores ends counts status (told name))
+    (sym (ap (λ (t : CodeTask). Some (task_seen t)) is ∙ ap (λ (t : Task). Some t) seen)) check

@@ -6,6 +6,7 @@ ghost use Rattle.node_store.specs.Disks.{view_of};
 ghost use Rattle.cluster_world.specs.Opens.{AreEmpty};
 ghost use Rattle.drive_tape.specs.Plans.{IsTapePlan};
 ghost use Rattle.command_words.specs.Forms.Task.{Storm, Check};
+ghost use Rattle.command_words.specs.Seen.{task_seen};
 ghost use Rattle.word_works.specs.Checks.{ChecksPlan, KeepsRules, NamesRule};
 ghost use Rattle.word_works.specs.Storms.{WritesStorm};
 ghost use Rattle.porcupine_server.specs.Words.{RefusesWords};
@@ -131,6 +132,39 @@ fn refuse_words<K: Sink>(sink: &mut K) -> u8
     1
 }
 
+// The task.
+fn answer_task<S: Source, K: Sink, Y: Yard>(
+    alloc: Global,
+    task: Task<'_>,
+    source: &mut S,
+    sink: &mut K,
+    yard: &mut Y,
+) -> u8
+    ensures { ByTask (Some (task_seen task.entry))
+        (Refused (record { handed0 = Y.handed yard.old; handed1 = Y.handed yard.new; returned0 = Y.returned yard.old; returned1 = Y.returned yard.new })
+        (record { left0 = S.left source.old; left1 = S.left source.new; held0 = K.contents sink.old; held1 = K.contents sink.new })
+        (record { read0 = S.faults source.old; read1 = S.faults source.new; write0 = K.faults sink.old; write1 = K.faults sink.new;
+        store0 = Y.faults yard.old; store1 = Y.faults yard.new; unread0 = Y.unread yard.old; unread1 = Y.unread yard.new }) result)
+        (Driven (view_of Y.Store.seen Y.Store.faults Y.Store.clock) Y.Store.settled (record { handed0 = Y.handed yard.old; handed1 = Y.handed yard.new; returned0 = Y.returned yard.old; returned1 = Y.returned yard.new })
+        (record { left0 = S.left source.old; left1 = S.left source.new; held0 = K.contents sink.old; held1 = K.contents sink.new })
+        (record { read0 = S.faults source.old; read1 = S.faults source.new; write0 = K.faults sink.old; write1 = K.faults sink.new;
+        store0 = Y.faults yard.old; store1 = Y.faults yard.new; unread0 = Y.unread yard.old; unread1 = Y.unread yard.new }) result)
+        (λ number size. Stormed (record { handed0 = Y.handed yard.old; handed1 = Y.handed yard.new; returned0 = Y.returned yard.old; returned1 = Y.returned yard.new })
+        (record { left0 = S.left source.old; left1 = S.left source.new; held0 = K.contents sink.old; held1 = K.contents sink.new })
+        (record { read0 = S.faults source.old; read1 = S.faults source.new; write0 = K.faults sink.old; write1 = K.faults sink.new;
+        store0 = Y.faults yard.old; store1 = Y.faults yard.new; unread0 = Y.unread yard.old; unread1 = Y.unread yard.new }) result number size)
+        (λ file. Checked (record { handed0 = Y.handed yard.old; handed1 = Y.handed yard.new; returned0 = Y.returned yard.old; returned1 = Y.returned yard.new })
+        (record { left0 = S.left source.old; left1 = S.left source.new; held0 = K.contents sink.old; held1 = K.contents sink.new })
+        (record { read0 = S.faults source.old; read1 = S.faults source.new; write0 = K.faults sink.old; write1 = K.faults sink.new;
+        store0 = Y.faults yard.old; store1 = Y.faults yard.new; unread0 = Y.unread yard.old; unread1 = Y.unread yard.new }) result (Y.files yard.old file)) }
+{
+    match task {
+        Task::Drive => drive_word(alloc, source, sink, yard),
+        Task::Storm { number, size } => write_storm(alloc, sink, number, size),
+        Task::Check { file } => check_plan(alloc, sink, yard, file),
+    }
+}
+
 // What the words ask for.
 fn answer_words<S: Source, K: Sink, Y: Yard>(
     alloc: Global,
@@ -162,9 +196,7 @@ fn answer_words<S: Source, K: Sink, Y: Yard>(
     };
     match task {
         None => refuse_words(sink),
-        Some(Task::Drive) => drive_word(alloc, source, sink, yard),
-        Some(Task::Storm { number, size }) => write_storm(alloc, sink, number, size),
-        Some(Task::Check { file }) => check_plan(alloc, sink, yard, file),
+        Some(task) => answer_task(alloc, task, source, sink, yard),
     }
 }
 

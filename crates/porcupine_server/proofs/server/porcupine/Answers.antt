@@ -1,5 +1,5 @@
 use Rattle.std.proofs.Common.{inl, inr, arith}
-use Rattle.porcupine_server.proofs.Tasks.{by_none, by_drive, by_storm, by_check, by_cases, no_storm, no_check, no_refused}
+use Rattle.porcupine_server.proofs.Tasks.{by_none, by_drive, by_storm, by_check, by_cases, no_storm, no_check, no_refused, write_faults}
 use Rattle.porcupine_server.proofs.server.porcupine.Goals as goal
 
 pub returns-clause-promises : goal.returns-clause-promises
@@ -36,8 +36,7 @@ returns-clause-read_fault g c is = by_cases _ _ _ _ _ _ c.answer_words.ensures (
     (λ file asks check. inr (file, asks, check.read_fault is))
 
 pub returns-clause-write_fault : goal.returns-clause-write_fault
-returns-clause-write_fault g c is = by_cases _ _ _ _ _ _ c.answer_words.ensures (λ _ refused. absurd (no_refused _ _ refused.one is (λ e. omega (arith, e)))) (λ _ drive. drive.write_fault is)
-    (λ number size _ storm. storm.write_fault is) (λ file _ check. check.write_fault is)
+returns-clause-write_fault g c is = write_faults _ _ _ _ _ _ _ _ c.answer_words.ensures is
 
 pub returns-clause-store_fault : goal.returns-clause-store_fault
 returns-clause-store_fault g c is = by_cases _ _ _ _ _ _ c.answer_words.ensures (λ _ refused. absurd (no_refused _ _ refused.one is (λ e. omega (arith, e)))) (λ asks drive. (asks, drive.store_fault is))
