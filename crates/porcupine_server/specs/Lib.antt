@@ -5,5 +5,6 @@ pub mod Works
 pub mod Promises
 pub mod Complete
 pub mod Fresh
+pub mod Tasks
 pub mod SmallTape
 pub mod WrongRuns
