@@ -1,5 +1,6 @@
-// Plan files and storms.
+// Plan files, words and storms.
 
 mod plan_files;
 mod storms;
 mod words;
+mod work;

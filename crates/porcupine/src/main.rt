@@ -2,8 +2,9 @@
 //!
 //! It reads its words and does what they name. `drive` reads a tape from standard input and writes
 //! the transcript to standard output: what a cluster of 1 to 16 nodes, each with a fresh store, says
-//! to the sessions of the tape. `main` makes a source and a sink of what the system gives, and ends
-//! with the status that the call `run` of `porcupine_server` answers. Whatever can be said of the
+//! to the sessions of the tape. `storm` writes a tape that is drawn from a number, and `check` says
+//! whether a plan file keeps its rules. `main` makes a source and a sink of what the system gives, and
+//! ends with the status that the call `run` of `porcupine_server` answers. Whatever can be said of the
 //! program is said there: nothing stands on a program, so there is nothing here but `main`.
 #![tactic(auto)]
 

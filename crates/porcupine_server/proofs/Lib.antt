@@ -5,12 +5,14 @@ mod FewDrafts
 mod Within
 mod Placed
 mod Complete
-pub mod OneWord
 pub mod Serving
 pub mod Promises
 pub mod Named
 pub mod OwnStores
 mod PlanHead
+pub mod Tasks
+pub mod NoMemory
+pub mod Nothing
 mod SmallTape
 mod PostedTape
 mod WrongRuns

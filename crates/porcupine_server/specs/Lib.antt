@@ -5,6 +5,7 @@ pub mod Works
 pub mod Promises
 pub mod Complete
 pub mod Fresh
+pub mod Tasks
 pub mod SmallTape
 pub mod PostedTape
 pub mod WrongRuns

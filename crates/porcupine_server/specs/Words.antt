@@ -1,6 +1,5 @@
 -- The words of the command line, and what is written with others.
-use Rattle.std.specs.Prelude.{◌≡◌, ◌⊎◌, ℕ, List, [], ◌∷◌, ◌++◌, String, map, drop, Option, Result, Ok, Err, codes}
-use Rattle.std.specs.String.{string_bytes}
+use Rattle.std.specs.Prelude.{◌≡◌, ◌⊎◌, ℕ, List, [], ◌∷◌, ◌++◌, drop, Option, Result, Ok, Err, codes}
 use Rattle.std.specs.Io.KnownBytes.{Appends}
 use Rattle.std.specs.Vec.Iter.{into_iter_items}
 use Rattle.std.specs.declared.vec.IntoIter.{IntoIter}
@@ -8,10 +7,6 @@ use Rattle.std.specs.IoError.{error_kind}
 use Rattle.std.specs.declared.io.Error.{Error}
 use Rattle.std.specs.declared.io.ErrorKind.TheVariants.{InvalidData}
 use Rattle.io_edge.specs.Causes.{Rose}
-
--- the one word `drive`
-abbrev pub IsDrive : {Z : Type 0} → List (String Z) → Type 0
-IsDrive words = map string_bytes words ≡ codes "drive" ∷ []
 
 -- what the system hands over has a word that is not text
 abbrev pub IsNotText : {X : Type 0} → Result X Error → Type 0

@@ -9,14 +9,16 @@
 //!
 //! DESCRIPTION
 //!
-//! Every other word is refused, and so is a store that is not empty. `one_tape_is_good` and
+//! `storm NUMBER SIZE` writes a tape that is drawn from a number, and `check FILE` says whether a plan file keeps its
+//! rules. Words of no other form are taken, and no store that is not empty. `one_tape_is_good` and
 //! `empty_store_is_refused` are laws of tapes: they have no body, and say that the clauses of `porcupine` speak
 //! of something and are false of a wrong run.
 //!
 //! STANDS ON
 //!
-//! `drive_tape` for the tape, `yard_stores` for the stores and `io_edge` for the outside. The program `porcupine`
-//! makes a source and a sink of what the system gives, and `server_trials` has the tests.
+//! `command_words` for the words, `drive_tape` for the tape, `word_works` for `storm` and `check`, `yard_stores` for
+//! the stores and `io_edge` for the outside. The program `porcupine` makes a source and a sink of what the system
+//! gives, and `server_trials` has the tests.
 //!
 //! WHAT IT DOES NOT DO
 //!

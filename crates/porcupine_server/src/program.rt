@@ -1,7 +1,8 @@
 // The program over any source and sink: all of `main` but what the system itself gives.
 ghost use Rattle.std.specs.Prelude.{◌≡◌, ◌⊎◌, ℕ, List, Some};
 ghost use Rattle.io_edge.specs.Causes.{Rose};
-ghost use Rattle.porcupine_server.specs.Words.{IsDrive, IsNotText, RefusesWords, words_after_name};
+ghost use Rattle.porcupine_server.specs.Words.{IsNotText, RefusesWords, words_after_name};
+ghost use Rattle.porcupine_server.specs.Tasks.{IsDrive};
 ghost use Rattle.porcupine_server.specs.Complete.{IsGoodTape};
 
 use crate::real_yard::RealYard;

@@ -1,21 +1,11 @@
 // The words of the command line.
-ghost use Rattle.std.specs.Prelude.{◌≡◌, true, ◌↔◌, IfOk, OnErr};
-ghost use Rattle.porcupine_server.specs.Words.{IsDrive, IsNotText, words_after_name};
+ghost use Rattle.std.specs.Prelude.{◌≡◌, IfOk, OnErr};
+ghost use Rattle.porcupine_server.specs.Words.{IsNotText, words_after_name};
 
 use std::alloc::{AllocError, Global};
 use std::env::Args;
 use std::io;
 use std::io::ErrorKind;
-
-/// Whether the words are the one word `drive`.
-pub fn is_drive(words: &[String]) -> bool
-    ensures { (result ≡ true) ↔ IsDrive words.now }
-{
-    match words {
-        [word] => word.as_str() == "drive",
-        _ => false,
-    }
-}
 
 /// The words after the program's name, of those that the system hands over. Where one of them is not text there are none: no
 /// form has such a word, and none has no words.

@@ -16,6 +16,7 @@
 //! | `tests/pieces.rt` | octets in any pieces |
 //! | `tests/clusters.rt`, `tests/three_nodes.rt`, `tests/crashes.rt` | several nodes: letters, stops, starts and losses |
 //! | `tests/faults.rt`, `tests/command_line.rt` | each part of the outside failing in turn, and other words |
+//! | `tests/word_forms.rt` | the words of the command line, and what `check` and `storm` write |
 //! | `tests/driving.rt` | `drive_tape` by its own calls |
 //!
 //! STANDS ON

@@ -17,6 +17,7 @@ mod replies;
 mod run_lines;
 mod store;
 mod three_nodes;
+mod word_forms;
 
 use io_edge::{MemoryYard, Sink, SliceSource, Source, VecSink, Yard};
 use node_disk::MemoryDisk;

@@ -49,7 +49,7 @@ const CASES: [(&[&[u8]], u64, u8, &[u8]); 11] = [
 ];
 
 // Runs the program with these words, of whose writes this one fails.
-fn runs_with(rt: &HostRuntime, words: &[&[u8]], write: u64) -> (u8, Vec<u8>) {
+pub(super) fn runs_with(rt: &HostRuntime, words: &[&[u8]], write: u64) -> (u8, Vec<u8>) {
     let alloc = rt.alloc();
     let mut sink = FaultySink::new(VecSink::new(alloc), write);
     let arguments = env::args(&(HandedOver { words }, alloc));

@@ -1,12 +1,27 @@
-use Rattle.std.proofs.Common.{sym, subst, ◌∙◌}
-use Rattle.porcupine_server.specs.Words.{IsDrive}
+use Rattle.std.proofs.Common.{◌≡◌, refl, sym, subst, ◌∙◌, []}
+use Rattle.std.specs.Prelude.{Result, Ok, Err, None}
+use Rattle.std.specs.declared.vec.IntoIter.{IntoIter}
+use Rattle.std.specs.declared.io.Error.{Error}
+use Rattle.porcupine_server.specs.Words.{IsNotText, words_after_name}
+use Rattle.porcupine_server.specs.Tasks.{asked, IsDrive}
 use Rattle.porcupine_server.proofs.OwnStores.{no_store_fault}
 use Rattle.porcupine_server.proofs.program.run.Goals as goal
+
+-- words that are not text are no words
+no_words : {X Z : Type 0} (arguments : Result (IntoIter X Z) Error) → IsNotText arguments → words_after_name arguments ≡ []
+no_words (Ok words) not_text = absurd not_text
+no_words (Err fault) not_text = refl
+
+pub returns-clause-refused : goal.returns-clause-refused
+returns-clause-refused g c not_text =
+    let none = sym (c.deref.ensures.value ∙ c.in-Ok.ensures.words ∙ no_words _ not_text) in
+    let refused = c.porcupine.ensures.words_refused (subst (λ words. asked words ≡ None) none refl) in
+    (refused.0, refused.1.left)
 
 pub returns-clause-no_store_fault : goal.returns-clause-no_store_fault
 returns-clause-no_store_fault g c is =
     let failed = c.porcupine.ensures.store_fault is in
-    no_store_fault c.new-yard.result.handed.items c.porcupine.new.yard.handed.items _ _ failed.0 c.new-yard.ensures.handed c.porcupine.new.yard.fresh failed.2
+    no_store_fault c.new-yard.result.handed.items c.porcupine.new.yard.handed.items _ _ failed.1.0 c.new-yard.ensures.handed c.porcupine.new.yard.fresh failed.1.2
 
 pub returns-clause-complete : goal.returns-clause-complete
 returns-clause-complete g c drive tape left good read write =

@@ -1,15 +1,53 @@
-use Rattle.porcupine_server.proofs.Promises.{has_kept}
-use Rattle.porcupine_server.proofs.Complete.{complete}
-use Rattle.porcupine_server.proofs.Named.{named}
+use Rattle.std.proofs.Common.{inl, inr, arith}
+use Rattle.porcupine_server.proofs.Tasks.{by_none, by_drive, by_storm, by_check, by_cases, no_storm, no_check, no_refused, write_faults}
 use Rattle.porcupine_server.proofs.server.porcupine.Goals as goal
 
 pub returns-clause-promises : goal.returns-clause-promises
-returns-clause-promises g c is = has_kept _ _ _ _ _ _ _ c.work-ending.ensures.works c.finish.ensures.finished
+returns-clause-promises g c drive = (by_drive _ _ _ _ _ c.answer_words.ensures drive).promises
+
+pub returns-clause-transcript_follows : goal.returns-clause-transcript_follows
+returns-clause-transcript_follows g c drive = (by_drive _ _ _ _ _ c.answer_words.ensures drive).transcript_follows
+
+pub returns-clause-words_refused : goal.returns-clause-words_refused
+returns-clause-words_refused g c none = let refused = by_none _ _ _ _ _ c.answer_words.ensures none in (refused.one, refused.untouched)
+
+pub returns-clause-words_told : goal.returns-clause-words_told
+returns-clause-words_told g c none = (by_none _ _ _ _ _ c.answer_words.ensures none).told
+
+pub returns-clause-words_taken : goal.returns-clause-words_taken
+returns-clause-words_taken g c is = by_cases _ _ _ _ _ _ c.answer_words.ensures (λ none _. none) (λ _ drive. absurd (drive.not_words is))
+    (λ number size _ storm. absurd (no_storm _ _ number size _ 1 storm.storm is (λ e. omega (arith, e)) (λ e. omega (arith, e)) (λ e. omega (arith, e))))
+    (λ file _ check. absurd (no_check _ 1 check.some_status is (λ e. omega (arith, e)) (λ e. omega (arith, e)) (λ e. omega (arith, e)) (λ e. omega (arith, e)) (λ e. omega (arith, e))))
+
+pub returns-clause-storm : goal.returns-clause-storm
+returns-clause-storm g c number size is = let storm = by_storm _ _ _ _ _ number size c.answer_words.ensures is in (storm.storm, storm.untouched)
+
+pub returns-clause-check : goal.returns-clause-check
+returns-clause-check g c file is = let check = by_check _ _ _ _ _ file c.answer_words.ensures is in (check.checks, check.untouched)
+
+pub returns-clause-plan_fault : goal.returns-clause-plan_fault
+returns-clause-plan_fault g c is = by_cases _ _ _ _ _ _ c.answer_words.ensures (λ _ refused. absurd (no_refused _ _ refused.one is (λ e. omega (arith, e)))) (λ _ drive. absurd (drive.not_plan is))
+    (λ number size _ storm. absurd (no_storm _ _ number size _ 2 storm.storm is (λ e. omega (arith, e)) (λ e. omega (arith, e)) (λ e. omega (arith, e))))
+    (λ file asks check. (file, asks, check.plan_fault is))
+
+pub returns-clause-read_fault : goal.returns-clause-read_fault
+returns-clause-read_fault g c is = by_cases _ _ _ _ _ _ c.answer_words.ensures (λ _ refused. absurd (no_refused _ _ refused.one is (λ e. omega (arith, e)))) (λ asks drive. inl (asks, drive.read_fault is))
+    (λ number size _ storm. absurd (no_storm _ _ number size _ 4 storm.storm is (λ e. omega (arith, e)) (λ e. omega (arith, e)) (λ e. omega (arith, e))))
+    (λ file asks check. inr (file, asks, check.read_fault is))
+
+pub returns-clause-write_fault : goal.returns-clause-write_fault
+returns-clause-write_fault g c is = write_faults _ _ _ _ _ _ _ _ c.answer_words.ensures is
 
 pub returns-clause-store_fault : goal.returns-clause-store_fault
-returns-clause-store_fault g c is = named _ _ _ _ _ _ _ _ c.work-ending.ensures.works c.finish.ensures.finished c.work-ending.ensures.store_fault is
+returns-clause-store_fault g c is = by_cases _ _ _ _ _ _ c.answer_words.ensures (λ _ refused. absurd (no_refused _ _ refused.one is (λ e. omega (arith, e)))) (λ asks drive. (asks, drive.store_fault is))
+    (λ number size _ storm. absurd (no_storm _ _ number size _ 6 storm.storm is (λ e. omega (arith, e)) (λ e. omega (arith, e)) (λ e. omega (arith, e))))
+    (λ file _ check. absurd (no_check _ 6 check.some_status is (λ e. omega (arith, e)) (λ e. omega (arith, e)) (λ e. omega (arith, e)) (λ e. omega (arith, e)) (λ e. omega (arith, e))))
 
 pub returns-clause-complete : goal.returns-clause-complete
-returns-clause-complete g c is tape = complete _ _ _ _ _ _ _ _ _ _ _ _ _ _ tape c.work-ending.ensures.works c.finish.ensures.finished
-    c.work-ending.ensures.read_fault c.work-ending.ensures.write_fault c.work-ending.ensures.store_fault
-    c.work-ending.ensures.write_later c.finish.ensures.later c.finish.ensures.failed
+returns-clause-complete g c drive = (by_drive _ _ _ _ _ c.answer_words.ensures drive).complete
+
+pub returns-clause-storm_complete : goal.returns-clause-storm_complete
+returns-clause-storm_complete g c number size is = (by_storm _ _ _ _ _ number size c.answer_words.ensures is).complete
+
+pub returns-clause-check_complete : goal.returns-clause-check_complete
+returns-clause-check_complete g c file octets is = (by_check _ _ _ _ _ file c.answer_words.ensures is).complete octets
