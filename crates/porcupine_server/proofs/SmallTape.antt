@@ -18,7 +18,7 @@ use Rattle.porcupine_server.specs.Complete.{IsGoodTape}
 use Rattle.porcupine_server.specs.SmallTape.{small_head, small_tape}
 use Rattle.porcupine_server.proofs.PlanHead.{one_line, one_each, whole_draft, drafts}
 
-plan_is : planned (whole_draft 1) ≡ Some small_plan
+pub plan_is : planned (whole_draft 1) ≡ Some small_plan
 plan_is = ap (λ (b : Bool). if b then Some small_plan else None) has_alice
 
 -- the run lines

@@ -24,7 +24,8 @@ use Rattle.porcupine_server.specs.Promises.{KeepsOver}
 use Rattle.porcupine_server.specs.SmallTape.{small_head, small_tape}
 use Rattle.porcupine_server.specs.WrongRuns.{EmptyStoreIsRefused, empty_store}
 use Rattle.porcupine_server.proofs.NextLine.{next_line}
-use Rattle.porcupine_server.proofs.SmallTape.{one_line, one_each, whole_draft, drafts, plan_is}
+use Rattle.porcupine_server.proofs.PlanHead.{one_line, one_each, whole_draft, drafts}
+use Rattle.porcupine_server.proofs.SmallTape.{plan_is}
 
 -- lines whose octets are the same
 no_lines : (lines : List (List ℕ)) → flat_map ended lines ≡ [] → lines ≡ []
@@ -122,7 +123,8 @@ empty_store_is_refused left keeps =
     (All-cons HasNoLf (codes "go") (small_lines ++ codes "end" ∷ []) (one_line (codes "go") refl) (All-append HasNoLf small_lines (codes "end" ∷ []) (one_each small_lines refl) (All-cons HasNoLf (codes "end") [] (one_line (codes "end") refl) (All-nil HasNoLf)))) in
     let same = one_text (keeps.tape.head ++ keeps.tape.go ∷ (keeps.lines ++ last.line ∷ [])) (small_head ++ codes "go" ∷ (small_lines ++ codes "end" ∷ [])) each small_each (sym own ∙ small) in
     let cut = at_go keeps.tape.go keeps.tape.goes keeps.tape.head (keeps.lines ++ last.line ∷ []) keeps.tape.draft keeps.tape.drafts same in
-    let draft : keeps.tape.draft ≡ whole_draft = one_draft small_head empty_draft keeps.tape.draft whole_draft (subst (λ (h : List (List ℕ)). DraftsTo empty_draft h keeps.tape.draft) cut.0 keeps.tape.drafts) drafts in
+    let draft : keeps.tape.draft ≡ whole_draft 1 = one_draft small_head empty_draft keeps.tape.draft (whole_draft 1) (subst (λ (h : List (List ℕ)). DraftsTo empty_draft h keeps.tape.draft) cut.0 keeps.tape.drafts)
+    (drafts 1 (codes "nodes 1") (codes "copies 1 1") refl refl) in
     let both : Some keeps.plan ≡ Some small_plan = sym keeps.tape.plan_is ∙ ap planned draft ∙ plan_is in
     let plan : keeps.plan ≡ small_plan = cc both in
     refused_over keeps.plan keeps.lines plan (one_end keeps.lines small_lines last.line (codes "end") cut.1).0 (keeps.promises (inl refl))
