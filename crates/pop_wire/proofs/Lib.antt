@@ -1,2 +1,6 @@
-pub mod Shorts
 pub mod Meanings
+pub mod Shorts
+pub mod Hearing
+pub mod ReadBack
+pub mod OneReply
+pub mod Taking

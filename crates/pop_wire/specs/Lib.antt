@@ -1,2 +1,5 @@
 pub mod Seen
 pub mod Laws
+pub mod Replies
+pub mod Readers
+pub mod ReplyLaws

@@ -1,10 +1,13 @@
-//! pop_wire: reads the command lines of POP3.
+//! pop_wire: reads the command lines of POP3, and reads and writes its replies.
 //!
 //! SUMMARY
 //!
 //! `read_command(line)` reads one line, given without its CRLF, and says which command it is or
 //! which rule it breaks first. What it reads borrows the line: nothing is copied or allocated.
 //! `apop_digest(banner, secret)` is the digest that APOP gives.
+//!
+//! `reply_into(out, reply)` appends the octets of a reply. A `ReplyReader` is fed octets in any pieces, is told by
+//! `expect` whether the next reply has several lines, and `next` gives the replies that they are.
 //!
 //! DESCRIPTION
 //!
@@ -24,17 +27,26 @@
 //!
 //! A number `n` has 1 to 10 digits, leading zeros among them, and is below 2^32.
 //!
+//! A reply's first line is `+OK` or `-ERR`, and then nothing, or one space and a text of at most 1,017 octets of
+//! printable ASCII. A good reply may have further lines, each such a text with one period more before it where it
+//! begins with one; the line that is one period ends it (RFC 1939, section 3). Which replies have them depends on the
+//! command, so a reader has to be told. A message after RETR and TOP may hold any octets: `Undotter` of `dot_text`
+//! reads it.
+//!
 //! DIAGNOSTICS
 //!
 //! `UnknownVerb` where the verb is none of these, and so for an empty line. `BadArgument` where
 //! there are too few or too many words, the name or the digest is none, or the secret is empty. `BadNumber` where as
 //! many words follow as should, and one in the place of a number is none.
 //!
+//! `BadReply` where the next whole line is none of the reply: it has another form, or leads with one period and is
+//! longer. It stays, so that the same is answered again.
+//!
 //! STANDS ON
 //!
 //! `mail_model`, whose `pop_command_of` says what each line means, `mail_base`, which knows names and
-//! digests, `line_words`, which cuts lines into words and reads numbers, and `hex`. The contract of `read_command` is that
-//! definition, both ways.
+//! digests, `line_words`, which cuts lines into words and reads numbers, `dot_text`, which cuts octets into lines, and
+//! `hex`. The contract of `read_command` is that definition, both ways; those of replies are in `specs/Replies.antt`.
 //!
 //! WHAT IT DOES NOT DO
 //!
@@ -47,11 +59,20 @@ mod command;
 mod digest;
 mod laws;
 mod number;
+mod reply;
+mod reply_line;
+mod reply_reader;
+mod reply_state;
 
 pub use command::{PopCommand, PopFault, read_command};
 pub use digest::apop_digest;
 pub use laws::{
-    blanks_at_end_mean_nothing, case_of_verb_means_nothing, larger_numbers_are_bad,
-    more_spaces_mean_nothing, names_are_read, numbers_are_read, other_verbs_are_unknown,
+    answers_are_one, answers_last, begun_replies_are_none, blanks_at_end_mean_nothing,
+    case_of_verb_means_nothing, larger_numbers_are_bad, more_spaces_mean_nothing, names_are_read,
+    numbers_are_read, other_verbs_are_unknown, replies_are_one, replies_are_read_back,
     secrets_are_read, two_arguments_are_too_many,
 };
+pub use reply::{PopReply, reply_into};
+pub use reply_line::{ReplyLine, is_reply_text};
+pub use reply_reader::ReplyFault;
+pub use reply_state::ReplyReader;

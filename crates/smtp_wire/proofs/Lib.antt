@@ -2,3 +2,5 @@ pub mod Routes
 pub mod Meanings
 pub mod Words
 pub mod Hearing
+pub mod ReadBack
+pub mod OneReply

@@ -62,8 +62,9 @@ mod reply_state;
 
 pub use command::{Command, SmtpFault, read_command};
 pub use laws::{
-    blanks_at_end_mean_nothing, case_of_verb_means_nothing, names_are_read, recipients_are_read,
-    routes_are_left_out, senders_are_read,
+    answers_are_one, answers_last, begun_replies_are_none, blanks_at_end_mean_nothing,
+    case_of_verb_means_nothing, names_are_read, recipients_are_read, replies_are_one,
+    replies_are_read_back, routes_are_left_out, senders_are_read,
 };
 pub use reply::{Reply, ReplyLine, is_reply_text, reply_into};
 pub use reply_reader::ReplyFault;

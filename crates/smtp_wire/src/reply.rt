@@ -4,6 +4,7 @@ ghost use Rattle.std.specs.Fmt.{decimal};
 ghost use Rattle.std.specs.List.{list_all};
 ghost use Rattle.mail_model.specs.Lines.{sent_line};
 ghost use Rattle.smtp_wire.specs.Replies.{is_text_octet, is_reply_text, is_code, reply_octets};
+ghost use Rattle.smtp_wire.specs.ReplyLaws.{IsReply};
 
 use std::alloc::{AllocError, Global};
 use std::marker::Model;
@@ -109,7 +110,8 @@ fn mark_of(left: usize) -> u8
 
 // All octets of a reply.
 fn octets_of(alloc: Global, code: u16, lines: &[ReplyLine]) -> Result<Vec<u8>, AllocError>
-    ensures { IfOk result (λ octets. octets.items ≡ reply_octets code lines.now) }
+    ensures octets { IfOk result (λ octets. octets.items ≡ reply_octets code lines.now) }
+    ensures texts { IfOk result (λ _. list_all is_reply_text lines.now ≡ true) }
 {
     let mut octets = Vec::new(alloc);
     for at in 0..lines.len() {
@@ -125,13 +127,15 @@ fn octets_of(alloc: Global, code: u16, lines: &[ReplyLine]) -> Result<Vec<u8>, A
 }
 
 /// Appends the octets of the reply: on each line its code, then a hyphen, and on the last a space, then
-/// the text and CRLF (RFC 5321, section 4.2.1).
+/// the text and CRLF (RFC 5321, section 4.2.1). A `ReplyReader` reads it again, by the law
+/// `replies_are_read_back`.
 ///
 /// # Errors
 ///
 /// Out of memory alone; `out` is then as before.
 pub fn reply_into(out: &mut Vec<u8>, reply: &Reply) -> Result<(), AllocError>
     ensures ok { OnOk result (out.new.items ≡ out.old.items ++ reply_octets reply.now.code reply.now.lines.items) }
+    ensures is { OnOk result (IsReply reply.now.code reply.now.lines.items) }
     ensures err { OnErr result (out.new.items ≡ out.old.items) }
 {
     let octets = octets_of(*out.allocator(), reply.code, &reply.lines)?;

@@ -1,8 +1,7 @@
 // Replies out of octets as they come.
 ghost use Rattle.std.specs.Prelude.{◌≡◌, ◌≤◌, ◌+◌, ◌<◌, ◌∷◌, ◌++◌, [], ℕ, List, length, take, drop, true, OnOk, OnErr, IfOk, Some};
 ghost use Rattle.std.specs.Option.{option_map};
-ghost use Rattle.mail_model.specs.Numbers.{number_of};
-ghost use Rattle.dot_text.specs.Shown.{Shown, IsLine, Finds, line_length};
+ghost use Rattle.dot_text.specs.Shown.{IsLine, Finds, line_length};
 ghost use Rattle.smtp_wire.specs.Replies.{is_code, code_if, code_of, line_says, may_follow, part_of};
 ghost use Rattle.smtp_wire.specs.Readers.{HasHeard, part_seen, IsNext, IsStep, IsTaken, Falls};
 

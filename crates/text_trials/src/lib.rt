@@ -2,7 +2,7 @@
 //!
 //! SUMMARY
 //!
-//! Tests of the lowest crates by their public calls: octets that come in pieces, lines of SMTP, of POP3 and of a tape, names and
+//! Tests of the lowest crates by their public calls: octets that come in pieces, lines and replies of SMTP and of POP3, lines of a tape, names and
 //! ids, and the plain functions that spell what a disk holds.
 //!
 //! DESCRIPTION
@@ -15,8 +15,8 @@
 //! | `tests/edge.rt` | each source, sink, disk and yard of `io_edge`, and those of which one call fails |
 //! | `tests/dots.rt` | lines and texts of `dot_text`, cut at every place |
 //! | `tests/parts.rt` | the words of a line, of `line_words` |
-//! | `tests/smtp.rt` | lines of SMTP, of `smtp_wire` |
-//! | `tests/pop.rt` | lines of POP3, of `pop_wire` |
+//! | `tests/smtp.rt`, `tests/smtp_replies.rt` | lines and replies of SMTP, of `smtp_wire` |
+//! | `tests/pop.rt`, `tests/pop_replies.rt` | lines and replies of POP3, of `pop_wire` |
 //! | `tests/tape.rt` | lines of a tape, of `tape_lines` |
 //!
 //! STANDS ON

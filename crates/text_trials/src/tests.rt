@@ -5,6 +5,8 @@ mod edge;
 mod parts;
 mod plain;
 mod pop;
+mod pop_replies;
 mod smtp;
+mod smtp_replies;
 mod tape;
 mod words;

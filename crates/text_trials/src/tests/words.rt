@@ -1,4 +1,4 @@
-// Values from the specification, and each public call once.
+// Values that were worked by hand, and each public call once.
 use mail_base::{
     MsgId, Name, NameFault, Names, NodeNo, NodeSet, Octets, Plan, Secret, Stamp, Users, bucket_of,
 };

@@ -1,0 +1,5 @@
+use Rattle.pop_wire.proofs.OneReply.{answers_last}
+use Rattle.pop_wire.proofs.laws.answers_last.Goals as goal
+
+pub returns : goal.returns
+returns c = answers_last
