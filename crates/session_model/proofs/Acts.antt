@@ -20,7 +20,8 @@ use Rattle.session_model.specs.Acts.Act.{Opens, Does, Faults, StillWaits, Leaves
 use Rattle.session_model.specs.Acts.Deed.{IsFed, Hears, IsAnswered, IsGivenUp, Falls, Closes}
 use Rattle.session_model.proofs.Moves.{begins}
 use Rattle.session_model.proofs.Events.{event_says_none}
-use Rattle.session_model.proofs.Did.{Speaks, did_speaks, did_kind, did_feed}
+use Rattle.session_model.specs.Spoken.{Speaks}
+use Rattle.session_model.proofs.Did.{did_speaks, did_kind, did_feed}
 
 -- sessions by their numbers
 

@@ -13,16 +13,11 @@ use Rattle.session_model.specs.Moves.{with_answer}
 use Rattle.session_model.specs.Sessions.{Session, Gets, IsCut}
 use Rattle.session_model.specs.Acts.{Deed, Did, WasAnswered, IsParted, fed_by_act}
 use Rattle.session_model.specs.Acts.Act.{Does}
+use Rattle.session_model.specs.Spoken.{Speaks, SpeaksOn}
 use Rattle.mail_model.proofs.Sessions.{fed_there}
 use Rattle.session_model.specs.Acts.Deed.{IsFed, Hears, IsAnswered, IsGivenUp, Falls, Closes}
 use Rattle.session_model.proofs.Chains.{goes_at}
 use Rattle.session_model.proofs.Moves.{is_fed, hears_next, is_answered, falls_down, is_closed}
-
--- A session whose lines, after its greeting, are these.
-pub record Speaks (plan : Plan) (said : List (List ℕ)) (session : Session) : Type 0 where
-  pub talk : IsTalk plan session.node session.protocol session.octets session.whole session.standing session.rest
-  pub none : session.others ≡ []
-  pub lines : said ≡ replies session.whole ++ farewell session.protocol session.node session.standing
 
 -- no unit and no answer ends a session with a farewell
 answered_quiet : (protocol : Protocol) (node : ℕ) (told : TalkState) (call : Call) (answer : Answer) → farewell protocol node (answered told call answer) ≡ []
@@ -116,7 +111,7 @@ answered_speaks plan said lines old new call answer reply speaks (before, one, s
 })
 
 -- whatever a session does
-pub did_speaks : (plan : Plan) (said lines : List (List ℕ)) (old new : Session) (deed : Deed) → Speaks plan said old → Did plan old deed lines new → Speaks plan (said ++ lines) new
+pub did_speaks : SpeaksOn
 did_speaks plan said lines old new (IsFed more) speaks (on, none, is) = as_is plan (said ++ lines) new _ is (record {
   talk = is_fed plan old.node old.protocol old.octets more old.rest old.whole old.standing speaks.talk;
   none = speaks.none;

@@ -36,7 +36,8 @@ use Rattle.session_model.specs.Acts.Deed.{IsFed, Hears, IsAnswered, IsGivenUp, F
 use Rattle.session_model.specs.Logs.{answered_by, answered_in, answers_of}
 use Rattle.session_model.specs.Books.{AtMostOne, acks_by}
 use Rattle.session_model.proofs.Events.{event_says_none, event_stores_none}
-use Rattle.session_model.proofs.Did.{Speaks, did_speaks, did_kind}
+use Rattle.session_model.specs.Spoken.{Speaks}
+use Rattle.session_model.proofs.Did.{did_speaks, did_kind}
 use Rattle.session_model.proofs.Acts.{Kept, Spoken, kind_of, at_first, act_push, acted_keeps, closing_is, does_other}
 use Rattle.session_model.proofs.Logs.{did_grows, own_answered}
 use Rattle.session_model.proofs.Books.{filed_by, filed_all}

@@ -42,6 +42,7 @@ use Rattle.session_model.proofs.Storing.{IsShownMail, told_so, filings_both}
 use Rattle.session_model.proofs.Deleting.{goes_as, reads_mail, deletes, dropped, true_answers_delete}
 use Rattle.session_model.proofs.Filing.{true_answers_show}
 use Rattle.session_model.proofs.Once.{true_listings_show}
+use Rattle.session_model.proofs.MailTalk.{sessions_shown, sessions_take_mail, sessions_read_mail}
 use Rattle.session_model.proofs.Owed.{logged, answer_among, owed_deletions_are_true, owed_listings_are_true, owed_parts_are_true}
 use Rattle.session_model.proofs.Striking.{quit_strikes}
 use Rattle.session_model.proofs.Driven.{IsWritten, driven_written, wrote_shown, shown_last, wrote_acked}
@@ -322,7 +323,9 @@ owed_is_kept plan tells stop handled left acts others made entries ending last s
   unwritten = timed.rest;
   confirmers = owes.confirmers;
   clients = record {
-    are = shows.are;
+    shown = sessions_shown plan lines (entries ++ ending) sessions shows.are;
+    take_mail = sessions_take_mail plan lines (entries ++ ending) sessions shows.are;
+    read_mail = sessions_read_mail plan lines (entries ++ ending) sessions shows.are;
     stored_stands = record {
       lines_of = sessions_untimed timed.front ∙ ap (map (λ (ack : Ack). ack.session)) timed.front_is ∙ acked.lines_of;
       told = λ k session at smtp. let one = told_of plan lines (entries ++ ending) done sessions shows all.0 acked k session at smtp in record {

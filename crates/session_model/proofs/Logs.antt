@@ -19,7 +19,8 @@ use Rattle.session_model.specs.Acts.Act.{Opens, Does, Faults, StillWaits, Leaves
 use Rattle.session_model.specs.Acts.Deed.{IsFed, Hears, IsAnswered, IsGivenUp, Falls, Closes}
 use Rattle.session_model.specs.Logs.{Asked, Answered, IsLogged, call_in, answer_in, calls_of, answers_of, asked_by, answered_by, asked_in, answered_in}
 use Rattle.session_model.proofs.Chains.{goes_at}
-use Rattle.session_model.proofs.Did.{Speaks, never_waits}
+use Rattle.session_model.specs.Spoken.{Speaks}
+use Rattle.session_model.proofs.Did.{never_waits}
 use Rattle.session_model.proofs.Acts.{Kept, Spoken, acted_keeps, act_push, replaced, replaced_other, pushed, pushed_other, none_behind}
 
 -- parts of a log

@@ -1,5 +1,5 @@
 -- The slots of a session that reads mail are as its exchanges left them.
-use Rattle.std.proofs.Common.{◌≡◌, ⊎_elim, ℕ, false, List, [], ◌∷◌, ◌++◌, length, map, Option, Some, None, get_or, refl, sym, ap, ap₂, ◌∙◌, subst, arith}
+use Rattle.std.proofs.Common.{◌≡◌, ◌≢◌, ⊎_elim, ℕ, false, List, [], ◌∷◌, ◌++◌, length, map, Option, Some, None, get_or, refl, sym, ap, ap₂, ◌∙◌, subst, arith}
 use Rattle.std.specs.Prelude.{codes}
 use Rattle.std.specs.Fmt.{decimal}
 use Rattle.std.proofs.lemmas.List.{map-append}
@@ -8,10 +8,11 @@ use Rattle.mail_model.specs.Plan.{Plan}
 use Rattle.mail_model.specs.Session.{Unit}
 use Rattle.mail_model.specs.Session.Unit.{Line, Text}
 use Rattle.mail_model.specs.Pop.{pop_command_of}
-use Rattle.mail_model.specs.PopReplies.{Item, ListingSlot, one_line, listed_slots, shown_text, dotted_line, last_line}
+use Rattle.mail_model.specs.PopReplies.{Item, ListingSlot, one_line, down_text, listed_slots, shown_text, dotted_line, last_line}
 use Rattle.mail_model.specs.Maildrop.{Given, LineOutcome, line_outcome, named_in, deleted_in, wrong_text, entered_text, gone_text, later_text}
 use Rattle.mail_model.specs.Maildrop.Stage.{Authorization, Transaction}
 use Rattle.mail_model.specs.Maildrop.LineOutcome.{Answered, Closed, AsksLogin, AsksMessage, AsksDeletion}
+use Rattle.mail_model.specs.Shown.{is_good}
 use Rattle.mail_model.specs.Told.{IsUnit}
 use Rattle.mail_model.proofs.ShownCuts.{bad_answers}
 use Rattle.mail_model.proofs.ShownReplies.{exchange, fetched_number}
@@ -19,9 +20,9 @@ use Rattle.mail_model.proofs.DeletedNumbers.{says_first}
 use Rattle.mail_model.proofs.DeletedReplies.{Quiet, Tells}
 use Rattle.mail_model.proofs.DeletedOutcomes.{LeadsBefore, LeadsBehind, AsksFor, before, behind, bad, unmarked_tells, fetch_keeps, fetch_tells, gone_tells}
 use Rattle.mail_model.proofs.DeletedSessions.{Unknown, Known, unknown_more, logs_in, known_more}
-use Rattle.session_model.specs.Calls.{Answer, asked_lines}
+use Rattle.session_model.specs.Calls.{Answer, in_use_text, asked_lines}
 use Rattle.session_model.specs.Calls.Call.{Login, Fetch, Strike}
-use Rattle.session_model.specs.Calls.Answer.{Listed, Wrong, Part, GoneAlready, Failed}
+use Rattle.session_model.specs.Calls.Answer.{Listed, Wrong, InUse, NoProfile, Part, GoneAlready, Failed}
 use Rattle.session_model.specs.Talk.{TalkState, Exchange, IsNext, IsLed, Awaits, line_lead, lead_of, stands, stands_by, standing_asked}
 use Rattle.session_model.specs.Talk.TalkState.{Mailing, Entering, Reading}
 use Rattle.session_model.specs.Talk.Standing.{Hearing}
@@ -37,21 +38,29 @@ IsAsSeen (Reading user slots) been = Known slots user (all_seen been)
 pub seen_more : (been : List Exchange) (one : Exchange) → all_seen (been ++ one ∷ []) ≡ all_seen been ++ seen_exchange one ∷ []
 seen_more been one = map-append seen_exchange been (one ∷ [])
 
--- that a node could not answer shows and marks nothing
-pub later_quiet : (line : List ℕ) → Quiet line (one_line later_text)
-later_quiet line = record {
+-- a line of error that does not say that the node is down shows and marks nothing
+error_quiet : (line text : List ℕ) → is_good text ≡ false → get_or text 0 0 ≡ 45 → ((node : ℕ) → text ≢ down_text node) → Quiet line (one_line text)
+error_quiet line text bad_text first up = record {
   answers = record {
-    whole = bad_answers line later_text refl;
+    whole = bad_answers line text bad_text;
     goes_on = record {
-      not_down = λ node e. let letter : 116 ≡ 110 = ap (λ (l : List (List ℕ)). get_or (get_or l 0 []) 16 0) e in omega (arith, letter);
-      not_bye = λ e. let first : 45 ≡ 43 = ap (λ (l : List (List ℕ)). get_or (get_or l 0 []) 0 0) e in omega (arith, first);
+      not_down = λ node e. up node (ap (λ (l : List (List ℕ)). get_or l 0 []) e);
+      not_bye = λ e. let good : get_or text 0 0 ≡ 43 = ap (λ (l : List (List ℕ)). get_or (get_or l 0 []) 0 0) e in omega (arith, first, good);
     };
   };
-  unmarked = λ n marks. let first : 45 ≡ 43 = ap (λ (l : List (List ℕ)). get_or (get_or l 0 []) 0 0) marks.1 in omega (arith, first);
+  unmarked = λ n marks. let good : get_or text 0 0 ≡ 43 = ap (λ (l : List (List ℕ)). get_or (get_or l 0 []) 0 0) marks.1 in omega (arith, first, good);
   unshown = λ n id shows. ⊎_elim
-      (λ all. ⊎_elim (λ e. says_first later_text n id (omega arith) e) (λ none. none) all.1)
-      (λ one. let first : 45 ≡ 43 = ap (λ (l : List (List ℕ)). get_or (get_or l 0 []) 0 0) one.1 in omega (arith, first)) shows;
+      (λ all. ⊎_elim (λ e. says_first text n id (omega (arith, first)) e) (λ none. none) all.1)
+      (λ one. let good : get_or text 0 0 ≡ 43 = ap (λ (l : List (List ℕ)). get_or (get_or l 0 []) 0 0) one.1 in omega (arith, first, good)) shows;
 }
+
+-- so does that a node could not answer
+pub later_quiet : (line : List ℕ) → Quiet line (one_line later_text)
+later_quiet line = error_quiet line later_text refl refl (λ node e. let letter : 116 ≡ 110 = ap (λ (l : List ℕ). get_or l 16 0) e in omega (arith, letter))
+
+-- and that another login has the maildrop
+pub in_use_quiet : (line : List ℕ) → Quiet line (one_line in_use_text)
+in_use_quiet line = error_quiet line in_use_text refl refl (λ node e. let letter : 73 ≡ 83 = ap (λ (l : List ℕ). get_or l 6 0) e in omega (arith, letter))
 
 -- a session before its login
 module _ (plan : Plan) (node : ℕ) (named : Option (List ℕ)) (been : List Exchange) (unknown : Unknown named (all_seen been))
@@ -81,6 +90,12 @@ module _ (plan : Plan) (node : ℕ) (named : Option (List ℕ)) (been : List Exc
   login_seen name given asks call (Some Wrong) there says state e =
       let same : Entering (named_in line) ≡ state = cc in
       subst (λ (s : TalkState). IsAsSeen s (been ++ one ∷ [])) same (quiet_entering (one_line wrong_text) says (bad line wrong_text (refl, refl, refl)))
+  login_seen name given asks call (Some InUse) there says state e =
+      let same : Entering (named_in line) ≡ state = cc in
+      subst (λ (s : TalkState). IsAsSeen s (been ++ one ∷ [])) same (quiet_entering (one_line in_use_text) says (in_use_quiet line))
+  login_seen name given asks call (Some NoProfile) there says state e =
+      let same : Entering (named_in line) ≡ state = cc in
+      subst (λ (s : TalkState). IsAsSeen s (been ++ one ∷ [])) same (quiet_entering (one_line later_text) says (later_quiet line))
   login_seen name given asks call (Some Failed) there says state e =
       let same : Entering (named_in line) ≡ state = cc in
       subst (λ (s : TalkState). IsAsSeen s (been ++ one ∷ [])) same (quiet_entering (one_line later_text) says (later_quiet line))

@@ -8,7 +8,7 @@ use Rattle.mail_model.specs.PopReplies.{shown_text, dotted_line, last_line}
 use Rattle.mail_model.proofs.Units.{one_sent_line, one_unit}
 use Rattle.session_model.specs.Calls.{Call, Answer, RepliesTo, ShowsPart, asked_lines}
 use Rattle.session_model.specs.Calls.Call.{Deliver, Login, Fetch, Strike}
-use Rattle.session_model.specs.Calls.Answer.{Stored, Listed, Wrong, Part, GoneAlready, Dropped, Failed}
+use Rattle.session_model.specs.Calls.Answer.{Stored, Listed, Wrong, InUse, NoProfile, Part, GoneAlready, Dropped, Failed}
 use Rattle.session_model.specs.Talk.{Exchange, Standing, Lead, IsLed, Awaits, IsIdle, TalkGoes, in_text, lead_of, stands_by}
 use Rattle.session_model.specs.Talk.Lead.{Says, Ends, Asks}
 use Rattle.session_model.specs.Talk.Standing.{Hearing}
@@ -44,6 +44,8 @@ one_reply_to unit (Deliver mail) (Stored id) a b is is_too = is ∙ sym is_too
 one_reply_to unit (Deliver mail) Failed a b is is_too = is ∙ sym is_too
 one_reply_to unit (Login user given) (Listed items) a b is is_too = is ∙ sym is_too
 one_reply_to unit (Login user given) Wrong a b is is_too = is ∙ sym is_too
+one_reply_to unit (Login user given) InUse a b is is_too = is ∙ sym is_too
+one_reply_to unit (Login user given) NoProfile a b is is_too = is ∙ sym is_too
 one_reply_to unit (Login user given) Failed a b is is_too = is ∙ sym is_too
 one_reply_to unit (Fetch user id) (Part octets) a b is is_too = one_part (asked_lines unit) octets a b is is_too
 one_reply_to unit (Fetch user id) GoneAlready a b is is_too = is ∙ sym is_too

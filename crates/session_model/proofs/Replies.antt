@@ -8,9 +8,9 @@ use Rattle.mail_model.specs.Smtp.{stored_text}
 use Rattle.mail_model.specs.PopReplies.{one_line, shown_part, shown_text, dotted_line, last_line}
 use Rattle.mail_model.specs.Maildrop.{wrong_text, entered_text, gone_text, later_text, bye_text, remaining_text}
 use Rattle.mail_model.proofs.ShownFiled.{sent_ends}
-use Rattle.session_model.specs.Calls.{EachAnswerHasReply, ShowsPart, asked_lines, unstored_text}
+use Rattle.session_model.specs.Calls.{EachAnswerHasReply, ShowsPart, asked_lines, unstored_text, in_use_text}
 use Rattle.session_model.specs.Calls.Call.{Deliver, Login, Fetch, Strike}
-use Rattle.session_model.specs.Calls.Answer.{Stored, Listed, Wrong, Part, GoneAlready, Dropped, Failed}
+use Rattle.session_model.specs.Calls.Answer.{Stored, Listed, Wrong, InUse, NoProfile, Part, GoneAlready, Dropped, Failed}
 
 -- the octets are whole lines
 record AreLines (octets : List ℕ) : Type 0 where
@@ -100,6 +100,8 @@ each_answer_has_reply unit (Deliver mail) (Stored id) is = ((one_line stored_tex
 each_answer_has_reply unit (Deliver mail) Failed is = ((one_line unstored_text, refl), (one_line unstored_text, refl))
 each_answer_has_reply unit (Login user given) (Listed items) is = ((one_line entered_text, refl), (one_line entered_text, refl))
 each_answer_has_reply unit (Login user given) Wrong is = ((one_line wrong_text, refl), (one_line wrong_text, refl))
+each_answer_has_reply unit (Login user given) InUse is = ((one_line in_use_text, refl), (one_line in_use_text, refl))
+each_answer_has_reply unit (Login user given) NoProfile is = ((one_line later_text, refl), (one_line later_text, refl))
 each_answer_has_reply unit (Login user given) Failed is = ((one_line later_text, refl), (one_line later_text, refl))
 each_answer_has_reply unit (Fetch user id) GoneAlready is = ((one_line gone_text, refl), (one_line gone_text, refl))
 each_answer_has_reply unit (Fetch user id) Failed is = ((one_line later_text, refl), (one_line later_text, refl))

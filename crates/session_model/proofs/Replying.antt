@@ -25,14 +25,14 @@ use Rattle.mail_model.proofs.Replies.{line_fits}
 use Rattle.mail_model.proofs.ShownCuts.{IsBehind, one_reply}
 use Rattle.mail_model.proofs.DeletedReplies.{Answers}
 use Rattle.mail_model.proofs.DeletedOutcomes.{LeadsBefore, LeadsBehind, before, behind, bad, login_quiet, fetch_tells, gone_tells}
-use Rattle.session_model.specs.Calls.{Call, Answer, unstored_text, asked_lines}
+use Rattle.session_model.specs.Calls.{Call, Answer, unstored_text, in_use_text, asked_lines}
 use Rattle.session_model.specs.Calls.Call.{Deliver, Login, Fetch, Strike}
-use Rattle.session_model.specs.Calls.Answer.{Stored, Listed, Wrong, Part, GoneAlready, Dropped, Failed}
+use Rattle.session_model.specs.Calls.Answer.{Stored, Listed, Wrong, InUse, NoProfile, Part, GoneAlready, Dropped, Failed}
 use Rattle.session_model.specs.Talk.{TalkState, Exchange, IsNext, IsLed, Awaits, line_lead, lead_of, closing_line, down_line}
 use Rattle.session_model.specs.Talk.TalkState.{Mailing, Entering, Reading}
 use Rattle.session_model.specs.Talk.Lead.{Says, Ends, Asks}
 use Rattle.session_model.specs.Reading.{line_of}
-use Rattle.session_model.proofs.Marking.{later_quiet}
+use Rattle.session_model.proofs.Marking.{later_quiet, in_use_quiet}
 
 -- lines of which none ends a reply
 abbrev pub AreFront : List (List ℕ) → Type 0
@@ -187,6 +187,8 @@ module _ (node : ℕ) (line : List ℕ) (one : Exchange) (is : one.unit ≡ Line
       by_answer None there says = inl (says, there, (Login name given, led.0))
       by_answer (Some (Listed items)) there says = by_answers (one_line entered_text) says (login_quiet named line name leads).answers
       by_answer (Some Wrong) there says = by_answers (one_line wrong_text) says (bad line wrong_text (refl, refl, refl)).answers
+      by_answer (Some InUse) there says = by_answers (one_line in_use_text) says (in_use_quiet line).answers
+      by_answer (Some NoProfile) there says = by_answers (one_line later_text) says (later_quiet line).answers
       by_answer (Some Failed) there says = by_answers (one_line later_text) says (later_quiet line).answers
       by_answer (Some answer) there says = absurd says
   entering_replied named (AsksMessage number id) leads led = absurd leads

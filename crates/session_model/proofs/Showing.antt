@@ -23,9 +23,9 @@ use Rattle.mail_model.proofs.ShownReplies.{Message, Fits, AsksNothing, fetched_n
 use Rattle.mail_model.proofs.ShownReplies as shown
 use Rattle.mail_model.proofs.ShownOutcomes.{LeadsBefore, LeadsBehind, before, behind, undotted_all}
 use Rattle.mail_model.specs.Tape.Protocol.{Pop}
-use Rattle.session_model.specs.Calls.{Answer, asked_lines}
+use Rattle.session_model.specs.Calls.{Answer, in_use_text, asked_lines}
 use Rattle.session_model.specs.Calls.Call.{Login, Fetch, Strike}
-use Rattle.session_model.specs.Calls.Answer.{Listed, Wrong, Part, GoneAlready, Dropped, Failed}
+use Rattle.session_model.specs.Calls.Answer.{Listed, Wrong, InUse, NoProfile, Part, GoneAlready, Dropped, Failed}
 use Rattle.session_model.specs.Talk.{TalkState, Exchange, Standing, IsNext, IsLed, Awaits, opening_state, line_lead, lead_of, stands, stands_by, standing_asked}
 use Rattle.session_model.specs.Talk.TalkState.{Mailing, Entering, Reading}
 use Rattle.session_model.specs.Talk.Standing.{Hearing, Waiting, EndedByQuit, EndedDown, EndedClosed}
@@ -282,6 +282,12 @@ module _ (plan : Plan) (named : Option (List ℕ)) (been : List Exchange) (so_fa
   login_shown name given nothing call (Some Wrong) there says = λ items.
       each_more (ShowsListed items) been one (so_far items) (quiet_shown items line wrong_text one is nothing says
       (λ others listed. let both : Some Wrong ≡ Some (Listed others) = sym there ∙ listed in cc))
+  login_shown name given nothing call (Some InUse) there says = λ items.
+      each_more (ShowsListed items) been one (so_far items) (quiet_shown items line in_use_text one is nothing says
+      (λ others listed. let both : Some InUse ≡ Some (Listed others) = sym there ∙ listed in cc))
+  login_shown name given nothing call (Some NoProfile) there says = λ items.
+      each_more (ShowsListed items) been one (so_far items) (quiet_shown items line later_text one is nothing says
+      (λ others listed. let both : Some NoProfile ≡ Some (Listed others) = sym there ∙ listed in cc))
   login_shown name given nothing call (Some Failed) there says = λ items.
       each_more (ShowsListed items) been one (so_far items) (quiet_shown items line later_text one is nothing says
       (λ others listed. let both : Some Failed ≡ Some (Listed others) = sym there ∙ listed in cc))

@@ -8,7 +8,8 @@ use Rattle.mail_model.specs.Record.{Record}
 use Rattle.mail_model.specs.Stored.{Ack}
 use Rattle.mail_model.specs.Book.{BookEntry}
 use Rattle.session_model.specs.Copies.{AreDisks, DroppedAreGone, OneContent}
-use Rattle.session_model.specs.Sessions.{Session, AreSessions, AreAnswered}
+use Rattle.session_model.specs.Sessions.{Session, AreAnswered}
+use Rattle.session_model.specs.SessionParts.{AreShown, AreMailTalks, AreReaderTalks}
 use Rattle.session_model.specs.Acts.{Act}
 use Rattle.session_model.specs.Logs.{Asked, AreLogged, asked_by, answered_by}
 use Rattle.session_model.specs.Run.{Stop, Made, IsDriven, IsCutShort}
@@ -20,7 +21,10 @@ use Rattle.session_model.specs.Owes.{Owes}
 -- confirmed each of them, of the records of the nodes, and of what is filed of each message. No book, no log and no step is spoken of.
 pub record KeepsToClients (plan : Plan) (tells : Bool) (lines : List (List ℕ)) (entries : List Entry) (disks : List (List Record)) (filed : Id → Option (List ℕ))
     (sessions : List Session) (acks : List Ack) (confirmers : List (List ℕ)) : Type 0 where
-  pub are : AreSessions plan lines entries sessions
+  -- the sessions are those that the tape fed and the transcript shows; of these some take mail, and the others read it
+  pub shown : AreShown lines entries sessions
+  pub take_mail : AreMailTalks plan sessions
+  pub read_mail : AreReaderTalks plan sessions
   pub stored_stands : StoredStands plan lines entries disks sessions acks confirmers
   pub deleted_by_quit : DeletedByQuit plan entries disks sessions
   pub shown_as_filed : tells ≡ true → ShownAsFiled filed sessions

@@ -1,6 +1,7 @@
 // Laws over the definitions.
 ghost use Rattle.session_model.specs.Calls.{EachAnswerHasReply};
 ghost use Rattle.session_model.specs.Moves.{Begins, IsFed, HearsNext, IsAnswered, FallsDown, IsClosed, OneTalk};
+ghost use Rattle.session_model.specs.Spoken.{SpeaksOn};
 ghost use Rattle.session_model.specs.Mailing.{StoredAsTold, AsksAsTold};
 ghost use Rattle.session_model.specs.Reading.{StrikesAtQuit, QuitStrikes};
 ghost use Rattle.session_model.specs.Showing.{ShownAsListed};
@@ -39,6 +40,11 @@ pub fn falls_down()
 /// The client closes the session.
 pub fn is_closed()
     ensures { IsClosed }
+{}
+
+/// Whatever a session does, its talk stays a talk, and what it says as it does so comes after the lines that it has said.
+pub fn speaks_on()
+    ensures { SpeaksOn }
 {}
 
 /// What a session was fed and was answered fixes what it said.

@@ -12,14 +12,15 @@
 //! The definitions, by subject:
 //!
 //! - One session: `Calls` (what it asks, and what is replied to each answer), `Talk` (its units, and
-//!   what each leads to), `Moves` (what can befall it), `Mailing`, `Reading` and `Showing` (what its
-//!   client was told), `Readings` (that this has one reading).
+//!   what each leads to), `MailTalk` (the same of one that takes mail, by itself), `Moves` (what can
+//!   befall it), `Mailing`, `Reading` and `Showing` (what its client was told), `Readings` (that this
+//!   has one reading).
 //! - The run of a tape: `Acts` (what is done, and what each act writes), `Events` and `Lives` (run
 //!   lines that move the cluster itself, and how its nodes then are), `Turns` (which act comes
 //!   next), `Run` (which lines are refused, which are handled, and where the work stopped), `Logs`
 //!   (what was asked and answered), `Runs` and `Losses` (what tape and transcript tell of a run).
-//! - What is promised: `Sessions` (the sessions as tape and transcript show them), `Copies`,
-//!   `Facts`, `Promises`, `Books` and `Kept`.
+//! - What is promised: `Sessions` (the sessions as tape and transcript show them), `SessionParts` (the
+//!   same, by protocol), `Copies`, `Facts`, `Promises`, `Books` and `Kept`.
 //! - What a cluster owes for that: `Owes`; `SoundMails` has what it may take for granted of a message.
 //!
 //! A cluster has 1 to 16 nodes. They go down, come up in another boot, and are lost for good; as a
@@ -38,8 +39,8 @@
 //! WHAT IT DOES NOT DO
 //!
 //! It has no code. It does not say which letters nodes send, nor what a node does with a call: of
-//! these it asks only what a cluster owes. Mail is read in a plan of one node alone, and the
-//! seconds of every message are 0.
+//! these it asks only what a cluster owes. Mail is read in a plan of one node alone. Of the
+//! seconds of a message it says that they are 0 or those of a `tick` line, and not of which.
 #![tactic(auto)]
 
 pub mod laws;

@@ -6,4 +6,5 @@ pub mod CrashedNode
 pub mod Alike
 pub mod WrongStores
 pub mod WrongReaders
+pub mod WrongReplies
 pub mod WrongBooks

@@ -4,4 +4,5 @@ pub mod ThreeNodes
 pub mod CrashedNode
 pub mod WrongStores
 pub mod WrongReaders
+pub mod WrongReplies
 pub mod WrongBooks

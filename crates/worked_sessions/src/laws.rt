@@ -5,6 +5,7 @@ ghost use Rattle.worked_sessions.specs.ThreeNodes.{ThreeNodesKept};
 ghost use Rattle.worked_sessions.specs.CrashedNode.{CrashedNodeDriven};
 ghost use Rattle.worked_sessions.specs.WrongStores.{WrongStores};
 ghost use Rattle.worked_sessions.specs.WrongReaders.{WrongReaders};
+ghost use Rattle.worked_sessions.specs.WrongReplies.{WrongReplies};
 ghost use Rattle.worked_sessions.specs.WrongBooks.{WrongBooks};
 
 /// All premises of the promises can be met: the tape of one message meets them.
@@ -38,6 +39,12 @@ pub fn wrong_stores()
 /// and one message listed twice do not keep the promises to readers.
 pub fn wrong_readers()
     ensures { WrongReaders }
+{}
+
+/// A reply whose last line is not in the transcript, and `+OK bye` of a copy that is still here, do not
+/// keep the promises on replies and on deletions.
+pub fn wrong_replies()
+    ensures { WrongReplies }
 {}
 
 /// A book that lacks an entry, has one too many, or tells of a deletion that was not, does not keep the

@@ -7,13 +7,19 @@
 //! session meets the premises of a deletion. On one more tape a node stops while a session of it waits,
 //! starts again, and is lost as the sink fails.
 //!
+//! DESCRIPTION
+//!
 //! A promise that nothing breaks promises nothing either. For each promise there is a wrong run here of
 //! which it is false, whoever chooses the sessions, the messages, their ids and the nodes that the
-//! promise speaks of: `wrong_stores`, `wrong_readers`, `wrong_books`.
+//! promise speaks of: `wrong_stores`, `wrong_readers`, `wrong_replies`, `wrong_books`.
 //!
 //! STANDS ON
 //!
-//! `session_model`, for sessions, runs and promises, and `mail_model`. It has laws alone.
+//! `session_model`, for sessions, runs and promises, and `mail_model`.
+//!
+//! WHAT IT DOES NOT DO
+//!
+//! It has no code, but laws alone, and says nothing of tapes that are not worked here.
 #![tactic(auto)]
 
 pub mod laws;
