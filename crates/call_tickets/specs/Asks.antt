@@ -8,7 +8,7 @@ use Rattle.mail_base.specs.declared.filing.Filing.{Filing}
 use Rattle.mail_base.specs.declared.filing.CallKind.{CallKind}
 use Rattle.mail_base.specs.declared.filing.CallKind.TheVariants as kinds
 use Rattle.session_model.specs.Calls as model
-use Rattle.session_model.specs.Calls.Answer.{Stored, Listed, Wrong, Part, GoneAlready, Dropped, Failed}
+use Rattle.session_model.specs.Calls.Answer.{Stored, Listed, Wrong, InUse, NoProfile, Part, GoneAlready, Dropped, Failed}
 use Rattle.call_tickets.specs.Seen.{answer_seen}
 use Rattle.call_tickets.specs.declared.answer.Ask.{Ask}
 use Rattle.call_tickets.specs.declared.answer.Ask.TheVariants.{Pending, Done}
@@ -23,6 +23,8 @@ FitsKind kinds.Deliver (Stored id) = ⊤
 FitsKind kinds.Deliver Failed = ⊤
 FitsKind kinds.Login (Listed items) = ⊤
 FitsKind kinds.Login Wrong = ⊤
+FitsKind kinds.Login InUse = ⊤
+FitsKind kinds.Login NoProfile = ⊤
 FitsKind kinds.Login Failed = ⊤
 FitsKind kinds.Fetch (Part octets) = ⊤
 FitsKind kinds.Fetch GoneAlready = ⊤
@@ -49,6 +51,8 @@ abbrev pub AcksFor : Option Filing → model.Answer → Option (List Acked) → 
 AcksFor filed (Stored id) old new = IsAckedAs filed id old new
 AcksFor filed (Listed items) old new = new ≡ old
 AcksFor filed Wrong old new = new ≡ old
+AcksFor filed InUse old new = new ≡ old
+AcksFor filed NoProfile old new = new ≡ old
 AcksFor filed (Part octets) old new = new ≡ old
 AcksFor filed GoneAlready old new = new ≡ old
 AcksFor filed Dropped old new = new ≡ old

@@ -5,7 +5,7 @@ use Rattle.io_edge.specs.Causes.{Rose}
 use Rattle.mail_model.specs.Identity.{Id}
 use Rattle.mail_model.specs.Book.{BookEntry, Acked, acked_in, struck_in}
 use Rattle.session_model.specs.Calls as model
-use Rattle.session_model.specs.Calls.Answer.{Stored, Listed, Wrong, Part, GoneAlready, Dropped, Failed}
+use Rattle.session_model.specs.Calls.Answer.{Stored, Listed, Wrong, InUse, NoProfile, Part, GoneAlready, Dropped, Failed}
 use Rattle.call_tickets.specs.declared.tally.Tally.{Tally}
 
 -- The copies that its calls acknowledged, and those that they are to delete, where told; and its counts.
@@ -28,6 +28,8 @@ pub record NoneFell (old new : Tally) : Type 0 where
   pub stored : old.stored ≤ new.stored
   pub listed : old.listed ≤ new.listed
   pub wrong : old.wrong ≤ new.wrong
+  pub in_use : old.in_use ≤ new.in_use
+  pub no_profile : old.no_profile ≤ new.no_profile
   pub part : old.part ≤ new.part
   pub gone : old.gone ≤ new.gone
   pub dropped : old.dropped ≤ new.dropped
@@ -51,6 +53,8 @@ abbrev pub AnswerCounted : model.Answer → Tally → Tally → Type 0
 AnswerCounted (Stored id) old new = Rose old.stored new.stored
 AnswerCounted (Listed items) old new = Rose old.listed new.listed
 AnswerCounted Wrong old new = Rose old.wrong new.wrong
+AnswerCounted InUse old new = Rose old.in_use new.in_use
+AnswerCounted NoProfile old new = Rose old.no_profile new.no_profile
 AnswerCounted (Part octets) old new = Rose old.part new.part
 AnswerCounted GoneAlready old new = Rose old.gone new.gone
 AnswerCounted Dropped old new = Rose old.dropped new.dropped

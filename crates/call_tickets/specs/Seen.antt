@@ -9,7 +9,7 @@ use Rattle.session_model.specs.Calls as model
 use Rattle.call_tickets.specs.declared.call.Call.{Call}
 use Rattle.call_tickets.specs.declared.call.Call.TheVariants.{Deliver, Login, Fetch, Strike, Leave}
 use Rattle.call_tickets.specs.declared.answer.Answer.{Answer}
-use Rattle.call_tickets.specs.declared.answer.Answer.TheVariants.{Stored, Listed, Wrong, Part, GoneAlready, Dropped, Failed}
+use Rattle.call_tickets.specs.declared.answer.Answer.TheVariants.{Stored, Listed, Wrong, InUse, NoProfile, Part, GoneAlready, Dropped, Failed}
 
 -- the ids of listed messages
 abbrev pub ids_in : List Item → List Id
@@ -31,6 +31,8 @@ abbrev pub answer_seen : Answer → model.Answer
 answer_seen (Stored id confirmers) = model.Answer.Stored id
 answer_seen (Listed login manager asked items) = model.Answer.Listed (map item_seen items)
 answer_seen (Wrong stamp) = model.Answer.Wrong
+answer_seen (InUse by) = model.Answer.InUse
+answer_seen (NoProfile manager) = model.Answer.NoProfile
 answer_seen (Part octets whole) = model.Answer.Part octets
 answer_seen GoneAlready = model.Answer.GoneAlready
 answer_seen (Dropped confirmers) = model.Answer.Dropped

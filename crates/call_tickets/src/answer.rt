@@ -1,4 +1,4 @@
-//! What became of a call.
+//! What became of a call. `specs/Seen.antt` says what each answer is in the definitions.
 use mail_base::{Items, MsgId, NodeNo, NodeSet, Octets, Stamp, Ticket};
 
 /// Why a call failed: how often each of these mishaps came while it was carried out. A call that failed has
@@ -9,7 +9,7 @@ pub struct Mishaps {
     pub few_members: u64,
     /// The year of the message's date has more than four digits.
     pub year: u64,
-    /// A letter was lost.
+    /// A letter was dropped.
     pub dropped: u64,
     /// A letter was of another epoch than its reader's.
     pub stale: u64,
@@ -46,6 +46,16 @@ pub enum Answer {
     Wrong {
         /// The stamp of the secret that was asked.
         stamp: Stamp,
+    },
+    /// To a Login: another login has the maildrop.
+    InUse {
+        /// The ticket of that login.
+        by: Ticket,
+    },
+    /// To a Login: the manager has no profile of the user.
+    NoProfile {
+        /// The manager.
+        manager: NodeNo,
     },
     /// To a Fetch: a part of the message.
     Part {

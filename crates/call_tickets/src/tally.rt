@@ -9,6 +9,10 @@ pub struct Tally {
     pub listed: u64,
     /// Logins whose proof was wrong.
     pub wrong: u64,
+    /// Logins whose maildrop another login had.
+    pub in_use: u64,
+    /// Logins of users of whom the manager had no profile.
+    pub no_profile: u64,
     /// Parts of messages that were read.
     pub part: u64,
     /// Fetches of messages that were deleted.

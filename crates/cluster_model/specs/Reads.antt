@@ -22,6 +22,10 @@ pub record ListedCopy : Type 0 where
 pub data Found : Type 0 where
   Listed : (items : List ListedCopy) → Found
   WrongSecret : Found
+  -- another login has the maildrop; no node finds that yet
+  InUse : Found
+  -- the manager has no profile of the user; no node finds that yet
+  NoProfile : Found
   -- octets of a message, which has so many in all
   PartOf : (octets : List ℕ) (whole : ℕ) → Found
   -- the copy is gone, or was never here

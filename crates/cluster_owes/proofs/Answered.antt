@@ -21,7 +21,7 @@ use Rattle.session_model.specs.Logs.{Asked, Answered}
 use Rattle.session_model.specs.Books.{acks_by, dropped_by, untimed, AreAcksOf}
 use Rattle.session_model.specs.SoundMails.{IsSoundMail}
 use Rattle.cluster_model.specs.Reads.{Found}
-use Rattle.cluster_model.specs.Reads.Found.{Listed, WrongSecret, PartOf, NotThere}
+use Rattle.cluster_model.specs.Reads.Found.{Listed, WrongSecret, InUse, NoProfile, PartOf, NotThere}
 use Rattle.cluster_model.specs.Cluster.{Want, Ticket, Node, with_slot}
 use Rattle.cluster_model.specs.Cluster.AskedOfNodes.{Copies}
 use Rattle.cluster_model.specs.Rules.{end_ticket}
@@ -178,6 +178,8 @@ module _ (plan : Plan) (tells : Bool) (lines : List (List ℕ)) (asked : List As
   no_drops (Fetch user id) found = refl
   no_drops (Strike user ids) (Listed items) = refl
   no_drops (Strike user ids) WrongSecret = refl
+  no_drops (Strike user ids) InUse = refl
+  no_drops (Strike user ids) NoProfile = refl
   no_drops (Strike user ids) (PartOf octets whole) = refl
   no_drops (Strike user ids) NotThere = refl
 

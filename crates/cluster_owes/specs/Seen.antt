@@ -2,7 +2,7 @@
 use Rattle.std.specs.Prelude.{ℕ, Bool, ◌&&◌, nat_eq, map, Option, Some, None, if◌then◌else◌}
 use Rattle.mail_model.specs.PopReplies.{Item}
 use Rattle.session_model.specs.Calls.{Call, Answer, given_of}
-use Rattle.session_model.specs.Calls.Answer.{Stored, Listed, Wrong, Part, GoneAlready, Dropped, Failed}
+use Rattle.session_model.specs.Calls.Answer.{Stored, Listed, Wrong, InUse, NoProfile, Part, GoneAlready, Dropped, Failed}
 use Rattle.cluster_model.specs.Reads.{ListedCopy, Found}
 use Rattle.cluster_model.specs.Reads.Found.{Listed as ListedFound, WrongSecret, PartOf, NotThere}
 use Rattle.cluster_model.specs.Progress.{NodeAnswer}
@@ -29,6 +29,8 @@ item_listed copy = record { id = copy.id; size = copy.size }
 abbrev pub found_told : Found → Answer
 found_told (ListedFound items) = Listed (map item_listed items)
 found_told WrongSecret = Wrong
+found_told Found.InUse = InUse
+found_told Found.NoProfile = NoProfile
 found_told (PartOf octets whole) = Part octets
 found_told NotThere = GoneAlready
 

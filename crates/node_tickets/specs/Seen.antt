@@ -6,7 +6,7 @@ use Rattle.mail_base.specs.declared.item.Item.{Item}
 use Rattle.mail_base.specs.declared.filing.CallKind.TheVariants as kind
 use Rattle.call_tickets.specs.declared.answer.Mishaps.{Mishaps}
 use Rattle.call_tickets.specs.declared.answer.Answer.{Answer}
-use Rattle.call_tickets.specs.declared.answer.Answer.TheVariants.{Stored, Listed, Wrong, Part, GoneAlready, Dropped, Failed}
+use Rattle.call_tickets.specs.declared.answer.Answer.TheVariants.{Stored, Listed, Wrong, InUse, NoProfile, Part, GoneAlready, Dropped, Failed}
 use Rattle.call_tickets.specs.declared.answer.Ask.{Ask}
 use Rattle.call_tickets.specs.declared.answer.Ask.TheVariants.{Pending, Done}
 use Rattle.object_model.specs.Mishaps as object
@@ -52,6 +52,8 @@ copy_seen item = record { id = item.id; stamp = item.stamp; targets = item.targe
 abbrev pub found_in : Answer → Option Found
 found_in (Listed login manager asked items) = Some (Found.Listed (map copy_seen items))
 found_in (Wrong stamp) = Some WrongSecret
+found_in (InUse by) = Some Found.InUse
+found_in (NoProfile manager) = Some Found.NoProfile
 found_in (Part octets whole) = Some (PartOf octets whole)
 found_in GoneAlready = Some NotThere
 found_in answer = None
@@ -60,6 +62,8 @@ abbrev pub progress_seen : Answer → progress.NodeAnswer
 progress_seen (Stored id confirmers) = progress.NodeAnswer.Stored id confirmers
 progress_seen (Listed login manager asked items) = progress.NodeAnswer.Read (Found.Listed (map copy_seen items))
 progress_seen (Wrong stamp) = progress.NodeAnswer.Read WrongSecret
+progress_seen (InUse by) = progress.NodeAnswer.Read Found.InUse
+progress_seen (NoProfile manager) = progress.NodeAnswer.Read Found.NoProfile
 progress_seen (Part octets whole) = progress.NodeAnswer.Read (PartOf octets whole)
 progress_seen GoneAlready = progress.NodeAnswer.Read NotThere
 progress_seen (Dropped confirmers) = progress.NodeAnswer.Dropped confirmers.items

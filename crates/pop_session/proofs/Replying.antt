@@ -33,7 +33,7 @@ use Rattle.pop_session.specs.declared.stage.Stage.TheVariants.{Authorization, Tr
 use Rattle.pop_session.specs.declared.due.Due.{Due}
 use Rattle.pop_session.specs.declared.due.Due.TheVariants as dues
 use Rattle.pop_session.specs.declared.due.Text.{Text}
-use Rattle.pop_session.specs.declared.due.Text.TheVariants.{Wrong, Later, Gone, Bye, Remaining}
+use Rattle.pop_session.specs.declared.due.Text.TheVariants.{Wrong, InUse, Later, Gone, Bye, Remaining}
 use Rattle.pop_session.specs.Slots.{listed_slot}
 use Rattle.pop_session.specs.Shown.{talk_state_of, login_in}
 use Rattle.pop_session.specs.Dues.{text_of, Says, items_told}
@@ -46,6 +46,7 @@ use Rattle.pop_session.proofs.Units.{session, entered_more, let_none, else_none}
 -- the line has no CRLF
 pub text_none : (line : Text) → HasNoCrlf (text_of line)
 text_none Wrong = text (codes "-ERR name or secret is wrong") refl
+text_none InUse = text (codes "-ERR [IN-USE] maildrop is open elsewhere") refl
 text_none Later = text (codes "-ERR [SYS/TEMP] try again later") refl
 text_none Gone = text (codes "-ERR message was deleted") refl
 text_none Bye = text (codes "+OK bye") refl

@@ -6,7 +6,7 @@ use Rattle.mail_model.specs.PopReplies.{one_line}
 use Rattle.mail_model.specs.Maildrop.{wrong_text, later_text, gone_text, bye_text, remaining_text, Given}
 use Rattle.mail_base.specs.Items.{item_seen}
 use Rattle.session_model.specs.Calls as calls
-use Rattle.session_model.specs.Calls.{RepliesTo, asked_lines}
+use Rattle.session_model.specs.Calls.{RepliesTo, asked_lines, in_use_text}
 use Rattle.session_model.specs.Talk.{TalkState, Standing, answered, let_in}
 use Rattle.session_model.specs.Talk.TalkState.{Entering}
 use Rattle.session_model.specs.Talk.Standing.{Hearing, EndedByQuit}
@@ -17,13 +17,14 @@ use Rattle.pop_session.specs.declared.stage.Login as tickets
 use Rattle.pop_session.specs.declared.due.Asked.{Asked}
 use Rattle.pop_session.specs.declared.due.Asked.TheVariants.{Login, Message, Deletion}
 use Rattle.pop_session.specs.declared.due.Text.{Text}
-use Rattle.pop_session.specs.declared.due.Text.TheVariants.{Wrong, Later, Gone, Bye, Remaining}
+use Rattle.pop_session.specs.declared.due.Text.TheVariants.{Wrong, InUse, Later, Gone, Bye, Remaining}
 use Rattle.pop_session.specs.declared.due.Due.{Due}
 use Rattle.pop_session.specs.declared.due.Due.TheVariants.{Entered, Shown, Said, Last}
 
 -- the line
 abbrev pub text_of : Text → List ℕ
 text_of Wrong = wrong_text
+text_of InUse = in_use_text
 text_of Later = later_text
 text_of Gone = gone_text
 text_of Bye = bye_text

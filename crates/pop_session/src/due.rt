@@ -36,6 +36,8 @@ pub(crate) enum Asked {
 pub(crate) enum Text {
     /// To a login whose secret or digest is wrong (RFC 1939, section 7).
     Wrong,
+    /// To a login while another one has the maildrop (RFC 2449, section 8.1.2).
+    InUse,
     /// To a login, or to RETR or TOP, that the node can't answer now (RFC 3206).
     Later,
     /// To RETR or TOP of a message that was deleted since the login.
@@ -76,6 +78,7 @@ impl Text {
     {
         match self {
             Text::Wrong => line_into(out, b"-ERR name or secret is wrong"),
+            Text::InUse => line_into(out, b"-ERR [IN-USE] maildrop is open elsewhere"),
             Text::Later => line_into(out, b"-ERR [SYS/TEMP] try again later"),
             Text::Gone => line_into(out, b"-ERR message was deleted"),
             Text::Bye => line_into(out, b"+OK bye"),
@@ -107,6 +110,8 @@ fn login_due(user: Name, answer: Option<Answer>) -> Due
             }
         }
         Answer::Wrong { .. } => Due::Said(Text::Wrong),
+        Answer::InUse { .. } => Due::Said(Text::InUse),
+        Answer::NoProfile { .. } => Due::Said(Text::Later),
         Answer::Failed(_) => Due::Said(Text::Later),
         Answer::Stored { .. } => Due::Said(Text::Later),
         Answer::Part { .. } => Due::Said(Text::Later),
@@ -129,6 +134,8 @@ fn message_due(lines: Option<u32>, answer: Option<Answer>) -> Due
         Some(Answer::Stored { .. }) => Due::Said(Text::Later),
         Some(Answer::Listed { .. }) => Due::Said(Text::Later),
         Some(Answer::Wrong { .. }) => Due::Said(Text::Later),
+        Some(Answer::InUse { .. }) => Due::Said(Text::Later),
+        Some(Answer::NoProfile { .. }) => Due::Said(Text::Later),
         Some(Answer::Dropped { .. }) => Due::Said(Text::Later),
     }
 }
@@ -146,6 +153,8 @@ fn deletion_due(answer: &Option<Answer>) -> Due
         Some(Answer::Stored { .. }) => Due::Last(Text::Remaining),
         Some(Answer::Listed { .. }) => Due::Last(Text::Remaining),
         Some(Answer::Wrong { .. }) => Due::Last(Text::Remaining),
+        Some(Answer::InUse { .. }) => Due::Last(Text::Remaining),
+        Some(Answer::NoProfile { .. }) => Due::Last(Text::Remaining),
         Some(Answer::Part { .. }) => Due::Last(Text::Remaining),
         Some(Answer::GoneAlready) => Due::Last(Text::Remaining),
     }

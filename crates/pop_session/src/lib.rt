@@ -51,8 +51,9 @@
 //! Replies that begin with `-ERR`, in the order in which they are tried: a line of more than 1,024 octets with
 //! its CRLF is too long; the verb is unknown; the argument is bad; the command comes out of its order; the name
 //! or the secret is wrong; or there is no message of that number, as where it is marked. What is refused changes
-//! nothing, but that `PASS` may then not come next. `-ERR [SYS/TEMP]` (RFC 3206) says that a call failed, that
-//! some messages may remain, or that the node goes down.
+//! nothing, but that `PASS` may then not come next. `-ERR [IN-USE]` (RFC 2449) says that another login has the
+//! maildrop, and `-ERR [SYS/TEMP]` (RFC 3206) that a call failed, that the manager has no profile of the user,
+//! that some messages may remain, or that the node goes down.
 //!
 //! Out of memory is an `AllocError`. Nothing is then changed, and the call may be made again.
 //!

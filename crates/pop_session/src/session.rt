@@ -297,6 +297,8 @@ fn listing_of(alloc: Global, listed: &Answer) -> Result<Listing, AllocError>
         Answer::Listed { items, .. } => Listing::listed(alloc, items),
         Answer::Stored { .. } => Ok(Listing::new(alloc)),
         Answer::Wrong { .. } => Ok(Listing::new(alloc)),
+        Answer::InUse { .. } => Ok(Listing::new(alloc)),
+        Answer::NoProfile { .. } => Ok(Listing::new(alloc)),
         Answer::Part { .. } => Ok(Listing::new(alloc)),
         Answer::GoneAlready => Ok(Listing::new(alloc)),
         Answer::Dropped { .. } => Ok(Listing::new(alloc)),

@@ -8,7 +8,8 @@
 //! DESCRIPTION
 //!
 //! A table has the lines that the client says and, indented, what they lead to. A line that begins with `!` says what befalls the
-//! client. `tests/smtp` is of sessions that take mail, `tests/pop` of those that show it.
+//! client. `tests/smtp` is of sessions that take mail, `tests/pop` of those that show it; `rows.rt` of each has every row of its
+//! table of replies once.
 //!
 //! STANDS ON
 //!

@@ -1,7 +1,7 @@
 //! Tests of sessions, each kind by tables.
 //!
-//! A table has the lines that a client says and, indented, what they lead to. A line that begins with `!` says what befalls the
-//! client:
+//! A table has the lines that a client says and, indented, what they lead to. A line that begins with `#` says which row of a table
+//! of replies comes next. One that begins with `!` says what befalls the client:
 //!
 //! | Line | What happens |
 //! |---|---|

@@ -54,7 +54,7 @@ pub said : (plan : Plan) (node : ℕ) (told later : Told) (old new : Shown) (und
     → Goes plan (session node before told old undotter text) Said octets (session node now later new undotter text)
     → length new.rest + due_count now < length old.rest + due_count before → length new.rest + due_count now ≤ length old.rest
     → Moved plan (session node before told old undotter text) Said octets (session node now later new undotter text)
-said plan node told later old new undotter text before now octets goes less calm = record { goes = goes; less = λ busy. less; no_more = omega (arith, calm); bounded = λ plain due follows is. cc; few = tt }
+said plan node told later old new undotter text before now octets goes less calm = record { goes = goes; less = λ busy. less; no_more = omega (arith, calm); bounded = λ plain due follows is. cc; own = tt }
 
 -- what was to be said before it hears on
 pub moved_due : (plan : Plan) (node : ℕ) (told : Told) (cutter : Shown) (undotter : Undotter) (text : List ℕ × Bool) (now : Turn) (reply : Reply) → IsDue now reply
@@ -77,7 +77,7 @@ module _ (plan : Plan) (node : ℕ) (told : Told) (undotter : Undotter) (text : 
     less = λ busy. absurd busy;
     no_more = omega (arith, finds.fewer);
     bounded = λ plain due follows is. at_false _ _ told.in_text outside (bound plain due follows);
-    few = tt;
+    own = tt;
   }
     where
       bound : (plain : Session) (due : Due) → Follows (session node turn.Hears told old undotter text) plain due → length new.rest + length text.0 < 1024

@@ -32,7 +32,7 @@ use Rattle.smtp_session.specs.declared.reply.Reply.TheVariants.{TooLarge}
 use Rattle.smtp_session.specs.Replies.{text_of}
 use Rattle.smtp_session.specs.Texts.{IsGivenText, Grows, SettlesText}
 use Rattle.smtp_session.specs.Talks.{talk_of}
-use Rattle.smtp_session.specs.Follows.{Follows, ReadsFed, Goes, Moved, Stands, WaitsFor, EndsText, HasFewUsers, due_count}
+use Rattle.smtp_session.specs.Follows.{Follows, ReadsFed, Goes, Moved, Stands, WaitsFor, EndsText, IsOwnMove, due_count}
 use Rattle.smtp_session.proofs.Lines.{one_line_of}
 use Rattle.smtp_session.proofs.Entered.{still_nobody, mail_nobody}
 use Rattle.smtp_session.proofs.Units.{session, at_nothing, begins, heard_says, heard_asks}
@@ -121,7 +121,7 @@ module _ (plan : Plan) (node : ℕ) (told : Told) (old new : Shown) (undotter be
       less = λ busy. absurd busy;
       no_more = omega (arith, ap (λ (s : Shown). length s.rest) all);
       bounded = λ plain due follows is. at_true _ _ told.in_text inside (omega (arith, settles.short, ap (λ (s : Shown). length s.rest) all));
-      few = tt;
+      own = tt;
     }
 
   -- it ended at an octet of the rest
@@ -210,7 +210,7 @@ module _ (plan : Plan) (node : ℕ) (told : Told) (old new : Shown) (undotter be
     goes_end End octets means = absurd means
 
   pub moved_end : (used : ℕ) → (0 < used) × (used ≤ length old.rest) → ((fed given : List ℕ) → Undots undotter fed given → Feeds (Ended used) behind fed old.rest (given ++ more))
-      → (later : Told) (turned : Turn) (did : Move) (octets : List ℕ) → new ≡ record old { rest = drop used old.rest } → due_count turned ≤ 0 → HasFewUsers did
+      → (later : Told) (turned : Turn) (did : Move) (octets : List ℕ) → new ≡ record old { rest = drop used old.rest } → due_count turned ≤ 0 → IsOwnMove did
       → ((lines : List (List ℕ)) → IsGivenText now (undotted lines) → EndsText plan node (talk_of told) lines did octets (talk_of later) turn.Hears turned)
       → Moved plan before did octets (session node turned later new behind ([], false))
   moved_end used within ends later turned did octets cut quiet few means = record {
@@ -219,7 +219,7 @@ module _ (plan : Plan) (node : ℕ) (told : Told) (old new : Shown) (undotter be
     less = λ busy. omega (arith, within.0, within.1, quiet, ap (λ (s : Shown). length s.rest) cut, length-drop used old.rest);
     no_more = omega (arith, within.0, within.1, quiet, ap (λ (s : Shown). length s.rest) cut, length-drop used old.rest);
     bounded = λ plain due follows is. absurd (not_idle (lines used ends later turned cut plain due follows) did is (means (lines used ends later turned cut plain due follows) (is_read used ends later turned cut plain due follows)));
-    few = few;
+    own = few;
   }
     where
       not_idle : (all : List (List ℕ)) (d : Move) → d ≡ Idle → EndsText plan node (talk_of told) all d octets (talk_of later) turn.Hears turned → ⊥
@@ -232,7 +232,7 @@ module _ (plan : Plan) (node : ℕ) (told : Told) (old new : Shown) (undotter be
   -- the same of a session whose fields are known to be these
   pub ended : (start turned : Turn) (used at : ℕ) (later : Told) (last : Undotter) (empty : List ℕ × Bool) (did : Move) (octets : List ℕ) → start ≡ turn.Hears → at ≡ node → last ≡ behind → empty ≡ ([], false)
       → IsWithin (Ended used) old.rest → ((fed given : List ℕ) → Undots undotter fed given → Feeds (Ended used) behind fed old.rest (given ++ more))
-      → new ≡ record old { rest = drop used old.rest } → due_count turned ≤ due_count start → HasFewUsers did
+      → new ≡ record old { rest = drop used old.rest } → due_count turned ≤ due_count start → IsOwnMove did
       → ((lines : List (List ℕ)) → IsGivenText now (undotted lines) → EndsText plan node (talk_of told) lines did octets (talk_of later) start turned)
       → Moved plan (session node start told old undotter text) did octets (session at turned later new last empty)
   ended start turned used at later last empty did octets starts same_node same_place none within ends cut quiet few means =

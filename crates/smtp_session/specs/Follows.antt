@@ -104,10 +104,11 @@ held session = length session.cutter.rest + length session.text.0
 abbrev pub IsBounded : SmtpSession → Type 0
 IsBounded session = MatchBool session.told.in_text (held session ≤ 16777216) (held session < 1024)
 
--- a Deliver has at most 100 mailboxes
-abbrev pub HasFewUsers : Move → Type 0
-HasFewUsers (Begin (tickets.Deliver deliver)) = length deliver.users ≤ 100
-HasFewUsers move = ⊤
+-- it asks nothing but a Deliver, which has at most 100 mailboxes
+abbrev pub IsOwnMove : Move → Type 0
+IsOwnMove (Begin (tickets.Deliver deliver)) = length deliver.users ≤ 100
+IsOwnMove (Begin call) = ⊥
+IsOwnMove move = ⊤
 
 -- What a move did, with the octets that it said: what the definitions say; after one that another may follow at once less is left, and after none more; and a session that
 -- is idle holds no more than the limits of what its client sends.
@@ -116,7 +117,7 @@ pub record Moved (plan : Plan) (old : SmtpSession) (move : Move) (octets : List 
   pub less : IsBusy move → left new < left old
   pub no_more : left new + due_count old.turn ≤ left old
   pub bounded : (plain : Session) (due : Due) → Follows old plain due → move ≡ Idle → IsBounded new
-  pub few : HasFewUsers move
+  pub own : IsOwnMove move
 
 -- the reply is what is to be said now
 abbrev pub IsDue : Turn → reply.Reply → Type 0

@@ -15,7 +15,7 @@ ghost use Rattle.call_tickets.specs.Seen.{given_answer};
 ghost use Rattle.call_tickets.specs.Moves.{Due, Fed, Fell, HasEnded};
 ghost use Rattle.smtp_session.specs.Replies.{text_of};
 ghost use Rattle.smtp_session.specs.Talks.{talk_of};
-ghost use Rattle.smtp_session.specs.Follows.{Follows, Moved, EndsText, HasFewUsers, IsDue, Turns, due_count, left, held};
+ghost use Rattle.smtp_session.specs.Follows.{Follows, Moved, EndsText, IsOwnMove, IsDue, Turns, due_count, left, held};
 ghost use Rattle.smtp_session.specs.Texts.{IsGivenText};
 
 use crate::told::Heard;
@@ -218,7 +218,7 @@ impl SmtpSession {
         ensures ok { IfOk result (λ did. (octets : List ℕ) × (out.new.items ≡ out.old.items ++ octets)
             × ((plan : Plans) (lines : List (List ℕ)) → IsGivenText self.old.text (undotted lines) → EndsText plan self.old.node (talk_of self.old.told) lines did octets (talk_of self.new.told) self.old.turn self.new.turn)) }
         ensures text { OnOk result (self.new.text ≡ ([], false)) }
-        ensures few { IfOk result HasFewUsers }
+        ensures few { IfOk result IsOwnMove }
         ensures quiet { OnOk result (due_count self.new.turn ≤ due_count self.old.turn) }
         ensures same { (self.new.node ≡ self.old.node) × (self.new.cutter ≡ self.old.cutter) × (self.new.undotter ≡ self.old.undotter) }
         ensures err { OnErr result ((self.new ≡ self.old) × (out.new.items ≡ out.old.items)) }
@@ -295,6 +295,8 @@ fn reply_to(answer: &Option<Answer>) -> Reply
         Some(Answer::Failed(_)) => Reply::NotStored,
         Some(Answer::Listed { .. }) => Reply::NotStored,
         Some(Answer::Wrong { .. }) => Reply::NotStored,
+        Some(Answer::InUse { .. }) => Reply::NotStored,
+        Some(Answer::NoProfile { .. }) => Reply::NotStored,
         Some(Answer::Part { .. }) => Reply::NotStored,
         Some(Answer::GoneAlready) => Reply::NotStored,
         Some(Answer::Dropped { .. }) => Reply::NotStored,

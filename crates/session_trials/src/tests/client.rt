@@ -1,5 +1,5 @@
 // A client, and what it hears.
-use super::desk::{Desk, FIRST_MESSAGE, Manner, Message, failed, note, note_lines};
+use super::desk::{Desk, FIRST_MESSAGE, Manner, Message, failed, in_use, note, note_lines};
 use super::either::Either;
 use super::users::{plan, user};
 use call_tickets::{Answer, Move};
@@ -54,6 +54,17 @@ struct Client {
 // Whether a line of a table is said by the client.
 fn is_said(line: &[u8]) -> bool {
     !line.starts_with(b"  ")
+}
+
+// How many octets the client says of a table, each line with its CRLF.
+pub(super) fn octets_said(table: &[u8]) -> usize {
+    let mut count = 0usize;
+    for line in table.split_inclusive(|octet| *octet == b'\n') {
+        if is_said(line) {
+            count = count.saturating_add(line.len()).saturating_add(1);
+        }
+    }
+    count
 }
 
 // What the client says of a table, each line with its CRLF, and what that leads to.
@@ -134,6 +145,10 @@ impl Client {
         match self.desk.manner {
             Manner::Serves => self.session.answer(served),
             Manner::Fails => self.session.answer(Some(failed())),
+            Manner::IsInUse => self.session.answer(in_use()),
+            Manner::HasNoProfile => self.session.answer(Some(Answer::NoProfile {
+                manager: self.desk.node,
+            })),
             Manner::GivesUp => self.session.answer(None),
             Manner::IsLate => {}
         }
@@ -206,6 +221,8 @@ impl Client {
     fn befalls(&mut self, line: &[u8]) -> Result<(), Fail> {
         match line.get(1) {
             Some(b'f') => self.desk.manner = Manner::Fails,
+            Some(b'u') => self.desk.manner = Manner::IsInUse,
+            Some(b'h') => self.desk.manner = Manner::HasNoProfile,
             Some(b'g') => self.desk.manner = Manner::GivesUp,
             Some(b'i') => self.desk.manner = Manner::IsLate,
             Some(b's') => {
@@ -223,9 +240,12 @@ impl Client {
         Ok(())
     }
 
-    // Says a line, or what befalls the client, which is noted.
+    // Says a line, or what befalls the client, which is noted. A line that begins with `#` is noted and no more.
     fn say(&mut self, line: &[u8]) -> Result<(), Fail> {
         note(&mut self.said, b"", line)?;
+        if line.starts_with(b"#") {
+            return Ok(());
+        }
         if line.starts_with(b"!") {
             return self.befalls(line);
         }

@@ -19,6 +19,10 @@ pub(super) enum Manner {
     Serves,
     // At once: it failed.
     Fails,
+    // A login, at once: another one has the maildrop.
+    IsInUse,
+    // A login, at once: the manager has no profile of the user.
+    HasNoProfile,
     // The call is given up.
     GivesUp,
     // Not before it is asked to.
@@ -66,6 +70,13 @@ pub(super) fn failed() -> Answer {
         down: 1,
         disk: 0,
         crowded: 0,
+    })
+}
+
+// The answer of a login while another one, of node 2, has the maildrop.
+pub(super) fn in_use() -> Option<Answer> {
+    Some(Answer::InUse {
+        by: Ticket::new(NodeNo::new(2)?, 1, 1),
     })
 }
 

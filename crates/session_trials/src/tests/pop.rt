@@ -1,13 +1,15 @@
 // What clients that read mail hear.
+mod rows;
 mod tables;
 
-use super::client::Step::{Endless, Feeds, Heard, Line, Pieces, Says, Shown};
-use super::client::pop;
+use super::client::Step::{Cut, Endless, Feeds, Heard, Line, Pieces, Says, Shown};
+use super::client::{octets_said, pop};
 use super::desk::Message;
+use rows::ROWS;
 use std::test::Fail;
 use tables::{
     DIGESTS, FAILED_LOGIN, LET_IN, LOGIN_GIVEN_UP, LOGINS, MARKS, NO_MESSAGE, NOT_LET_IN,
-    ONE_MESSAGE, ROWS, THREE_MESSAGES,
+    ONE_MESSAGE, OPTIONAL, PIPELINED, THREE_MESSAGES,
 };
 
 // One message, of 151 octets.
@@ -34,6 +36,17 @@ const THREE: [Message; 3] = [
 // What a client says that is let in.
 const LOGIN: &[u8] = b"USER alice\r\nPASS sesame\r\n";
 
+// The greeting is heard before each of these steps.
+#[test]
+fn each_row_is_answered(rt: HostRuntime) -> Result<(), Fail> {
+    for table in ROWS {
+        pop(&rt, rt.alloc(), &TWO, &[Says(table)])?;
+    }
+    // a command line above 1,024 octets
+    let long = Line(b"x", 1_025, b"  -ERR line too long\n");
+    pop(&rt, rt.alloc(), &TWO, &[long])
+}
+
 #[test]
 fn clients_hear_what_the_tables_say(rt: HostRuntime) -> Result<(), Fail> {
     let cases: [(&[Message], &[u8]); 10] = [
@@ -46,7 +59,7 @@ fn clients_hear_what_the_tables_say(rt: HostRuntime) -> Result<(), Fail> {
         (&[], NO_MESSAGE),
         (&THREE, THREE_MESSAGES),
         (&FOUR, MARKS),
-        (&FOUR, ROWS),
+        (&FOUR, OPTIONAL),
     ];
     for (messages, table) in cases {
         pop(&rt, rt.alloc(), messages, &[Says(table)])?;
@@ -64,7 +77,15 @@ fn octets_come_in_any_pieces(rt: HostRuntime) -> Result<(), Fail> {
         pop(&rt, rt.alloc(), &[], &[Pieces(LOGINS, size)])?;
         pop(&rt, rt.alloc(), &TWO, &[Pieces(DIGESTS, size)])?;
         pop(&rt, rt.alloc(), &FOUR, &[Pieces(MARKS, size)])?;
-        pop(&rt, rt.alloc(), &FOUR, &[Pieces(ROWS, size)])?;
+        pop(&rt, rt.alloc(), &FOUR, &[Pieces(OPTIONAL, size)])?;
+    }
+    Ok(())
+}
+
+#[test]
+fn commands_come_in_two_pieces_cut_anywhere(rt: HostRuntime) -> Result<(), Fail> {
+    for at in 0..octets_said(PIPELINED) {
+        pop(&rt, rt.alloc(), &TWO, &[Cut(PIPELINED, at)])?;
     }
     Ok(())
 }

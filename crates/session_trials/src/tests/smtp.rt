@@ -1,18 +1,37 @@
 // What clients that send mail hear, with replies from RFC 5321 and the texts that this service gives them.
+mod rows;
 mod tables;
 
 use super::client::Step::{
     Cut, Ended, Endless, Feeds, Heard, Hundred, Large, Line, Long, Pieces, Says, Sent, Text,
 };
-use super::client::smtp;
+use super::client::{octets_said, smtp};
 use mail_base::NodeNo;
+use rows::{HUNDRED_STAND, ROWS, TRANSACTION};
 use smtp_session::Reply;
 use std::test::Fail;
-use tables::{BEGIN, COMMANDS, IN_TEXT, PIECES, PIPELINED, REFUSED, ROWS, TEXTS, UNASKED};
+use tables::{BEGIN, COMMANDS, IN_TEXT, NOTHING_TOLD, PIECES, PIPELINED, REFUSED, TEXTS, UNASKED};
+
+// The greeting is heard before each of these steps.
+#[test]
+fn each_row_is_answered(rt: HostRuntime) -> Result<(), Fail> {
+    for table in ROWS {
+        smtp(&rt, rt.alloc(), &[Says(table)])?;
+    }
+    let great = [
+        // a command line above 1,024 octets
+        Line(b"x", 1_025, b"  500 line too long\n"),
+        Says(TRANSACTION),
+        Hundred,
+        // RCPT where 100 recipients stand
+        Says(HUNDRED_STAND),
+    ];
+    smtp(&rt, rt.alloc(), &great)
+}
 
 #[test]
 fn clients_hear_what_the_tables_say(rt: HostRuntime) -> Result<(), Fail> {
-    for table in [ROWS, COMMANDS, REFUSED, PIECES, UNASKED] {
+    for table in [NOTHING_TOLD, COMMANDS, REFUSED, PIECES, UNASKED] {
         smtp(&rt, rt.alloc(), &[Says(table)])?;
     }
     for table in IN_TEXT {
@@ -37,7 +56,7 @@ fn octets_come_in_any_pieces(rt: HostRuntime) -> Result<(), Fail> {
 
 #[test]
 fn commands_come_in_two_pieces_cut_anywhere(rt: HostRuntime) -> Result<(), Fail> {
-    for at in 0..PIPELINED.len() {
+    for at in 0..octets_said(PIPELINED) {
         smtp(&rt, rt.alloc(), &[Cut(PIPELINED, at)])?;
     }
     Ok(())
@@ -45,6 +64,7 @@ fn commands_come_in_two_pieces_cut_anywhere(rt: HostRuntime) -> Result<(), Fail>
 
 const STORED: &[u8] = b"  from bob\n  helo c\n  to alice\n  250 stored\n";
 
+// The row of a text that has ended and has more than 16,777,216 octets is among these steps.
 #[test]
 fn texts_have_a_greatest_length(rt: HostRuntime) -> Result<(), Fail> {
     let steps = [

@@ -170,8 +170,8 @@ QUIT
   closed
 ";
 
-// Each row of the table of replies that no other table has: CAPA, NOOP, RSET and TOP.
-pub(super) const ROWS: &[u8] = b"\
+// CAPA, NOOP, RSET and TOP in every order, and with more and fewer arguments.
+pub(super) const OPTIONAL: &[u8] = b"\
 CAPA
   +OK capabilities
   TOP
@@ -294,6 +294,48 @@ DELE 4
   +OK message 4 deleted
 QUIT
   deletes 1.1.4
+  +OK bye
+  closed
+";
+
+// What a client may send at once.
+pub(super) const PIPELINED: &[u8] = b"\
+USER alice
+  +OK send PASS
+PASS sesame
+  asks for alice
+  +OK maildrop open
+STAT
+  +OK 2 179
+UIDL
+  +OK unique ids
+  1 1.1.1
+  2 1.1.2
+  .
+RETR 1
+  asks for 1.1.1
+  +OK 28 octets
+  Subject: x
+  
+  ..
+  ...
+  x.\ry
+  z
+  .
+TOP 1 1
+  asks for 1.1.1
+  +OK top
+  Subject: x
+  
+  ..
+  .
+RETR 2
+  asks for 1.1.2
+  -ERR message was deleted
+DELE 1
+  +OK message 1 deleted
+QUIT
+  deletes 1.1.1
   +OK bye
   closed
 ";

@@ -146,8 +146,8 @@ QUIT
 NO
 ";
 
-// Each row of the table of replies, and that what is refused, RSET and a second MAIL tell nothing.
-pub(super) const ROWS: &[u8] = b"\
+// What is refused, RSET and a second MAIL tell nothing.
+pub(super) const NOTHING_TOLD: &[u8] = b"\
 XYZZY
   500 unknown command
 DATA now
