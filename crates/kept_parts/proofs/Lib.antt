@@ -1,0 +1,4 @@
+pub mod Holding
+pub mod Stepping
+pub mod Whole
+pub mod Both

@@ -1,0 +1,122 @@
+// The laws of a whole world.
+ghost use Rattle.whole_world.specs.Laws.{StepsKeep};
+ghost use Rattle.whole_world.specs.Worked.{OneNodeRegroups};
+ghost use Rattle.whole_world.specs.Epochs.{EpochsBegin, BeginsAnew, PostIsWorn, StaleChangesNothing};
+ghost use Rattle.whole_world.specs.Sweeps.{QuietIsSettled, PushIsAcked, AckClears, StepsChart, OpeningIsCharted, SweepsStay, SweepsSend, SweepIsWorn, FlowsStay, SettleSettles};
+ghost use Rattle.whole_world.specs.Regroup.{RegroupForms};
+ghost use Rattle.whole_world.specs.Settled.{OpeningStands, OneMapPerEpoch, PromisesStand, MapsNameFragments, HoldsHere, MembersAgree};
+
+/// Whatever steps are made, both invariants stay.
+pub fn steps_keep()
+    ensures { StepsKeep }
+{}
+
+/// Both invariants hold before a cluster opens over empty disks.
+pub fn opening_stands()
+    ensures { OpeningStands }
+{}
+
+/// All memberships of one epoch are equal.
+pub fn one_map_per_epoch()
+    ensures { OneMapPerEpoch }
+{}
+
+/// What a node has installed is at most its promise, which is on its disk.
+pub fn promises_stand()
+    ensures { PromisesStand }
+{}
+
+/// In a settled epoch a manager names exactly the members that have a copy of the user here.
+pub fn maps_name_fragments()
+    ensures { MapsNameFragments }
+{}
+
+/// That a disk holds something of a user means that it says Here of some copy.
+pub fn holds_here()
+    ensures { HoldsHere }
+{}
+
+/// In a settled epoch members that are targets of a state say it alike.
+pub fn members_agree()
+    ensures { MembersAgree }
+{}
+
+/// A node that regroups forms an epoch of just the nodes that are up.
+pub fn regroup_forms()
+    ensures { RegroupForms }
+{}
+
+/// Where nothing is due between members, the epoch is settled.
+pub fn quiet_is_settled()
+    ensures { QuietIsSettled }
+{}
+
+/// A push is acknowledged whatever its receiver holds.
+pub fn push_is_acked()
+    ensures { PushIsAcked }
+{}
+
+/// The acknowledgement of a push takes the receiver out of the entry.
+pub fn ack_clears()
+    ensures { AckClears }
+{}
+
+/// Every step keeps it that no row is due at a node that manages the user itself, and that each epoch has a manager for each bucket.
+pub fn steps_chart()
+    ensures { StepsChart }
+{}
+
+/// Before a cluster opens, no row is due at a node that manages the user itself, and each epoch has a manager for each bucket.
+pub fn opening_is_charted()
+    ensures { OpeningIsCharted }
+{}
+
+/// Sweeps leave no letter in flight, and who was live is live.
+pub fn sweeps_stay()
+    ensures { SweepsStay }
+{}
+
+/// A sweep sends letters, or the epoch was settled.
+pub fn sweeps_send()
+    ensures { SweepsSend }
+{}
+
+/// A node has no epoch until it hears an Install that names its boot, or concludes a group of its own.
+pub fn epochs_begin()
+    ensures { EpochsBegin }
+{}
+
+/// Once a cluster is opened its numbers and its book begin anew.
+pub fn begins_anew()
+    ensures { BeginsAnew }
+{}
+
+/// A post of a letter that is in flight is refused as worn, or not at all.
+pub fn post_is_worn()
+    ensures { PostIsWorn }
+{}
+
+/// In an empty flight a push and a report are refused as worn, or not at all.
+pub fn sweep_is_worn()
+    ensures { SweepIsWorn }
+{}
+
+/// A letter of another epoch changes nothing at its receiver, but for the mishap at its ticket.
+pub fn stale_changes_nothing()
+    ensures { StaleChangesNothing }
+{}
+
+/// Once all letters are posted, who was live in an epoch is live, where no Install was of a later one.
+pub fn flows_stay()
+    ensures { FlowsStay }
+{}
+
+/// A settling leaves the epoch settled, with no letter in flight.
+pub fn settle_settles()
+    ensures { SettleSettles }
+{}
+
+/// A worked case: one node starts over an empty disk, and regroups.
+pub fn one_node_regroups()
+    ensures { OneNodeRegroups }
+{}
