@@ -69,8 +69,13 @@ impl MailMap {
         Ok(())
     }
 
-    // Puts the row in place of the one of its user, node and boot.
-    fn set(&mut self, row: &Row) -> Result<(), AllocError>
+    /// Puts the row in place of the one of its user, node and boot, whatever its version: a manager's own row, which is never
+    /// older than what it told before. It takes time logarithmic in the number of users and in that of the user's rows.
+    ///
+    /// # Errors
+    ///
+    /// Only out of memory; the rows are then as before.
+    pub fn set(&mut self, row: &Row) -> Result<(), AllocError>
         ensures ok { OnOk result ((n boot : ℕ) (user : List ℕ) → rows_of self.new n boot user ≡ set_row (rows_of self.old) row.now.node row.now.boot row.now.user row.now n boot user) }
         ensures err { OnErr result (HasSameRows self.old self.new) }
     {

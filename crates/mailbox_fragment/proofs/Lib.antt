@@ -1,1 +1,2 @@
 pub mod OneUser
+pub mod Full

@@ -1,8 +1,8 @@
 -- Which messages of each user are here.
-use Rattle.std.specs.Prelude.{◌≡◌, ◌&&◌, Bool, true, false, not, List, [], ◌∷◌, ℕ, Option, Some, None, if◌then◌else◌}
+use Rattle.std.specs.Prelude.{◌≡◌, ◌&&◌, Bool, true, false, not, List, [], ◌∷◌, map, ℕ, Option, Some, None, if◌then◌else◌}
 use Rattle.std.specs.Ordering.{nat_cmp, eq_by_cmp}
 use Rattle.std.specs.Cmp.Lexicographic.{slice_cmp}
-use Rattle.std.specs.List.{list_any}
+use Rattle.std.specs.List.{list_any, filter}
 use Rattle.std.specs.List.Sorted.{IsStrictlySortedBy}
 use Rattle.std.specs.BTreeMap as tree
 use Rattle.std.specs.BTreeSet.{BTreeSet}
@@ -55,3 +55,11 @@ flips old new user = differ (is_empty old user) (is_empty new user)
 pub record AreIdsOf (ids : List Id) (fragments : Fragments) (user : List ℕ) : Type 0 where
   pub in_order : IsStrictlySortedBy id_cmp ids
   pub those : (id : Id) → has_id ids id ≡ is_here_in fragments user id
+
+-- of the entries of a map those users who have messages
+abbrev pub full_in : List (List ℕ × BTreeSet Id) → List (List ℕ)
+full_in entries = map (λ entry. entry.0) (filter (λ entry. not (is_none entry.1.keys)) entries)
+
+-- these are the users of whom a message is here
+abbrev pub AreUsersOf : List (List ℕ) → Fragments → Type 0
+AreUsersOf users fragments = (user : List ℕ) → list_any (eq_by_cmp (slice_cmp nat_cmp) user) users ≡ not (is_empty fragments user)

@@ -6,9 +6,9 @@ ghost use Rattle.std.specs.List.Sorted.{IsStrictlySortedBy};
 ghost use Rattle.std.specs.BTreeSet as set;
 ghost use Rattle.std.specs.BTreeMap as tree;
 ghost use Rattle.mail_base.specs.Orders.{id_cmp};
-ghost use Rattle.mailbox_fragment.specs.Here.{ids_of, is_none, is_empty, SetsMessage, HasSameMessages, flips, AreIdsOf};
+ghost use Rattle.mailbox_fragment.specs.Here.{ids_of, is_none, is_empty, SetsMessage, HasSameMessages, flips, AreIdsOf, full_in, AreUsersOf};
 
-use mail_base::{Ids, MsgId, Name};
+use mail_base::{Ids, MsgId, Name, Names};
 use std::alloc::{AllocError, Global};
 use std::collections::{BTreeMap, BTreeSet};
 
@@ -45,6 +45,20 @@ fn listed(alloc: Global, ids: &BTreeSet<MsgId>) -> Result<Ids, AllocError>
         listed.push(*id)?;
     }
     Ok(listed)
+}
+
+// The users of whom a message is here.
+fn full_users(alloc: Global, users: &BTreeMap<Name, BTreeSet<MsgId>>) -> Result<Names, AllocError>
+    ensures names { IfOk result (λ names. names ≡ full_in users.now.entries) }
+    ensures ordered { tree.IsOrdered (slice_cmp nat_cmp) users.now }
+{
+    let mut full = Names::new(alloc);
+    for (user, ids) in users.iter() {
+        if !has_none(ids) {
+            full.push(user.copy()?)?;
+        }
+    }
+    Ok(full)
 }
 
 fn has_none(ids: &BTreeSet<MsgId>) -> bool
@@ -147,5 +161,17 @@ impl Fragments {
             Some(ids) => listed(self.alloc, ids),
             None => Ok(Ids::new(self.alloc)),
         }
+    }
+
+    /// The users of whom a message is here, in the order of their names. It takes time in the number of users.
+    ///
+    /// # Errors
+    ///
+    /// Only out of memory.
+    pub fn users(&self) -> Result<Names, AllocError>
+        ensures { IfOk result (λ users. AreUsersOf users self.now) }
+    {
+        let users = full_users(self.alloc, &self.users)?;
+        Ok(users)
     }
 }

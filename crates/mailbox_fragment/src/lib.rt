@@ -11,6 +11,7 @@
 //! the user became full or empty, since that is what the manager of the user is told.
 //! `Fragments::list` gives the ids of a user in the order of node, boot and number, and
 //! `Fragments::is_empty` says whether there are none. None of them looks at other users.
+//! `Fragments::users` gives the users of whom a message is here.
 //!
 //! A contract asks of each user and each id whether it is here (`is_here`).
 //!

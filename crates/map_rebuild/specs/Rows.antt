@@ -45,6 +45,10 @@ pub record HasSameReports (old new : Reports) : Type 0 where
 abbrev pub KeepsVersions : Reports → Reports → Type 0
 KeepsVersions old new = (user : List ℕ) → version_of new user ≡ version_of old user
 
+-- the marks are as they were
+abbrev pub KeepsMarks : Reports → Reports → Type 0
+KeepsMarks old new = (user : List ℕ) → is_marked new user ≡ is_marked old user
+
 -- the user's version is this, and those of others are as they were
 abbrev pub SetsVersion : Reports → Reports → List ℕ → ℕ → Type 0
 SetsVersion old new user version = (other : List ℕ) → version_of new other ≡ set_at (version_of old) user version other

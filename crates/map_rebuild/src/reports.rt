@@ -4,7 +4,7 @@ ghost use Rattle.std.specs.Ordering.{nat_cmp};
 ghost use Rattle.std.specs.Cmp.Lexicographic.{slice_cmp};
 ghost use Rattle.std.specs.List.Sorted.{IsStrictlySortedBy};
 ghost use Rattle.mail_model.specs.Identity.{no_epoch};
-ghost use Rattle.map_rebuild.specs.Rows.{version_of, is_marked, marked_users, install_epoch, marks_of_install, HasSameReports, KeepsVersions, SetsVersion, SetsMark, ClearsMark, MarksUsers, is_due_at, KeepsCount, counted_before, counted_after, due_users};
+ghost use Rattle.map_rebuild.specs.Rows.{version_of, is_marked, marked_users, install_epoch, marks_of_install, HasSameReports, KeepsVersions, KeepsMarks, SetsVersion, SetsMark, ClearsMark, MarksUsers, is_due_at, KeepsCount, counted_before, counted_after, due_users};
 
 use crate::marks::{due_in, has, put, put_all, take_out};
 use crate::versions::{set_version, version_in};
@@ -64,6 +64,25 @@ impl Reports {
                 Err(refused)
             }
         }
+    }
+
+    /// Notes a change of the row of a user whom the node manages itself: its version rises by one, and marks stay. The node
+    /// tells its own map that version in the same step. It answers the version.
+    ///
+    /// # Errors
+    ///
+    /// Only out of memory; all is then as before.
+    pub fn raise(&mut self, user: &Name) -> Result<u64, AllocError>
+        requires { version_of self.old user.now + 1 < 2 ^ 64 }
+        ensures answer { IfOk result (λ version. version ≡ version_of self.old user.now + 1) }
+        ensures versions { OnOk result (SetsVersion self.old self.new user.now (version_of self.old user.now + 1)) }
+        ensures marks { KeepsMarks self.old self.new }
+        ensures count { KeepsCount self.old self.new }
+        ensures err { OnErr result (HasSameReports self.old self.new) }
+    {
+        let version = version_in(&self.versions, user) + 1;
+        set_version(&mut self.versions, user, version)?;
+        Ok(version)
     }
 
     /// Takes the user's mark away, where one stands: the node manages the user itself and has told its row. Versions stay.
@@ -145,6 +164,13 @@ impl Reports {
         ensures { result ≡ marks_of_install self.now }
     {
         self.at_install
+    }
+
+    /// How many users are marked. It takes no memory.
+    pub fn len(&self) -> usize
+        ensures { result ≡ length (marked_users self.now) }
+    {
+        self.marked.len()
     }
 
     /// Whether no user is marked. It takes no memory.

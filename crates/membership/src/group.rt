@@ -155,6 +155,20 @@ impl Group {
         }
     }
 
+    /// The node whose group this is. It takes no memory.
+    pub fn own(&self) -> NodeNo
+        ensures { result ≡ self.now.own }
+    {
+        self.own
+    }
+
+    /// The boot in which it started. It takes no memory.
+    pub fn boot(&self) -> u32
+        ensures { result ≡ self.now.boot }
+    {
+        self.boot
+    }
+
     /// The greatest epoch that it has promised. It takes no memory.
     pub fn promise(&self) -> EpochId
         ensures { result ≡ self.now.promise }

@@ -1,0 +1,4 @@
+//! Tests of membership and mail maps.
+mod cluster;
+mod rounds;
+mod rows;

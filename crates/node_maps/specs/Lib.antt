@@ -1,0 +1,5 @@
+pub mod Nodes
+pub mod Hearing
+pub mod Rounds
+pub mod Entering
+pub mod Laws
