@@ -162,6 +162,8 @@ fn told_answer(answer: &Answer) -> [u8; 2] {
         Answer::Failed(_) => *b"F.",
         Answer::Listed { .. }
         | Answer::Wrong { .. }
+        | Answer::InUse { .. }
+        | Answer::NoProfile { .. }
         | Answer::Part { .. }
         | Answer::GoneAlready
         | Answer::Dropped { .. } => *b"??",

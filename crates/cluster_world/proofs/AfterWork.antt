@@ -21,7 +21,7 @@ use Rattle.node_core.specs.Nodes.{node_seen, IsAsBefore, IsNodeOf, CanWork}
 use Rattle.node_core.specs.Works.{Rule, NodeDid, NodeStopped}
 use Rattle.node_core.specs.declared.node.Node.{Node}
 use Rattle.world_book.specs.declared.book.Book.{Book}
-use Rattle.cluster_world.specs.Books.{booked_by}
+use Rattle.cluster_world.specs.Books.{booked_by, IsLongerBook}
 use Rattle.cluster_world.specs.Flights.{InFlight, PutDown, put_down, flights_without, taken_out}
 use Rattle.cluster_world.specs.Lives.{life_seen, of_node, with_node_at, falls_left, all_falls_left, CanWorkOn}
 use Rattle.cluster_world.specs.Stands.{SlotStands, SlotsStand}
@@ -157,9 +157,10 @@ module _ {D : Type 0} (on : View D) (n : ℕ) (P : Life → D → Life → D →
     pub work_did : (result : Result Said StepFault) (step : Step) → seconds ≡ seconds_after_step step result seconds → IsRefusedRight result (node_refusal old.plan (life_among old) step) → IfOk result (SaysSo step)
         → FallsSo result old.plan.nodes step (life_among old) → ((m : ℕ) → life_among new m ≡ life_after_step result step m (life_among old m))
         → IsToldAlike (on.seen ch.disk) (on.seen ch.disk') → on.faults ch.disk ≤ on.faults ch.disk'
-        → ((boot : ℕ) → life_seen ch.life' ≡ life.Up boot → on.faults ch.disk' ≡ on.faults ch.disk) → IsLighter result step before behind → ChangesNothing on result step before behind
+        → ((boot : ℕ) → life_seen ch.life' ≡ life.Up boot → on.faults ch.disk' ≡ on.faults ch.disk) → IsLighter result step before behind → IsLongerBook (booked_by book) (booked_by book')
+        → ChangesNothing on result step before behind
         → ((w : machine.World) → StateStandsFor on before w → LeadsTo on result step before behind w) → FaultHasCause on result step before behind → StepDid on result step before behind
-    work_did result step clock refused kind falls lives told later same lighter kept leads cause = record {
+    work_did result step clock refused kind falls lives told later same lighter books kept leads cause = record {
       plan = work_plan;
       handed = work_handed;
       refused = refused;
@@ -170,6 +171,7 @@ module _ {D : Type 0} (on : View D) (n : ℕ) (P : Life → D → Life → D →
       quiet = work_quiet on.faults later same;
       clock = clock;
       lighter = lighter;
+      books = books;
       kept = kept;
       leads = λ known ended w st. leads w st;
       cause = λ w st. cause;

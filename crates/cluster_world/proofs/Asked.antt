@@ -57,6 +57,7 @@ use Rattle.cluster_world.proofs.Falling.{falls_kept, entries_more}
 use Rattle.cluster_world.proofs.Unchanged.{unchanged_by}
 use Rattle.cluster_world.specs.Sure.{is_done_in}
 use Rattle.cluster_world.specs.Telling.{standing_on}
+use Rattle.cluster_world.proofs.Longer.{as_long}
 
 when_done : (b : Bool) (X Y : Type 0) → b ≡ true → MatchBool b X Y → X
 when_done true X Y e m = m
@@ -234,6 +235,7 @@ module _ {D : Type 0} (on : View D) (ticket : Number) (left_of : Node → plain.
             quiet = retold_quiet;
             clock = refl;
             lighter = tt;
+            books = as_long (booked_by book) (booked_by book') wrote;
             kept = unchanged_by ticket.node (IsRetoldOn left_of) old new ch flying flying seconds seconds book book' on (step.Ask ticket)
                 (ap (λ (l : Life). node_of_life (Some l)) a.is ∙ ap Some (a.tickets.seen ∙ ap (λ (l : plain.Tickets). record (node_seen a.old) { tickets = l }) left_is) ∙ sym (ap (λ (l : Life). node_of_life (Some l)) a.was))
                 (λ _. ch.does.1) (λ _. (nothing_read on ch.disk ch.disk' ch.does.1, ap on.faults ch.does.1)) refl refl wrote;
@@ -302,6 +304,7 @@ module _ {D : Type 0} (on : View D) (ticket : Number) (left_of : Node → plain.
           quiet = retold_quiet;
           clock = refl;
           lighter = tt;
+          books = (entries_seen (if confirms (ask_seen ask) then items else []), booked);
           kept = tt;
           leads = λ known ended w st. ask_leads (ask_seen ask) refl w st;
           cause = λ w st. tt;
@@ -339,6 +342,7 @@ module _ {D : Type 0} (on : View D) (ticket : Number) (left_of : Node → plain.
         quiet = retold_quiet;
         clock = refl;
         lighter = tt;
+        books = as_long (booked_by book) (booked_by book') same;
         kept = tt;
         leads = λ known ended w st. give_up_leads w st;
         cause = λ w st. tt;

@@ -52,6 +52,7 @@ use Rattle.cluster_world.proofs.BeginSteps.{begun_step}
 use Rattle.cluster_world.proofs.BeginFalls.{unsent_step, stopped_step, failed_step}
 use Rattle.cluster_world.proofs.BeginParts.{begin_ready, begin_settles, begin_falls, begin_up, not_up, Began, begin_named, begin_life, begin_did, read_none}
 use Rattle.cluster_world.proofs.Unchanged.{unchanged_by, node_kept, changes_none}
+use Rattle.cluster_world.proofs.Longer.{same_book, longer_by}
 
 -- where the numbers of letters are used up
 module _ {D : Type 0} (on : View D) (n : ℕ) (call : Call) (seconds : ℕ) (old : Nodes D) (fit : node_refusal old.plan (life_among old) (step.Begin n call) ≡ None) (flying : InFlight) (book : Book)
@@ -72,6 +73,7 @@ module _ {D : Type 0} (on : View D) (n : ℕ) (call : Call) (seconds : ℕ) (old
     quiet = same_quiet on (state_with old flying seconds book);
     clock = refl;
     lighter = tt;
+    books = same_book (booked_by book);
     kept = same_unchanged on (state_with old flying seconds book) (step.Begin n call);
     leads = λ known ended w st.
         let (node, up) = here_up (of_node old.lives.items n) (fit_of (list_all (is_node old.plan) (n ∷ [])) (Rattle.cluster_world.specs.Turns.life_refusal (step.Begin n call) (life_among old n)) fit).1 in
@@ -128,6 +130,7 @@ module _ {D : Type 0} (on : View D) (is_settled : D → Type 0) (n : ℕ) (call 
         quiet = work_quiet on n B old mid mid ch (λ slots. slots) (nothing_else on mid) flying flying seconds book book' on.faults (omega (arith, quiet)) (λ boot now. quiet);
         clock = refl;
         lighter = tt;
+        books = longer_by book book' [] wrote;
         kept = changes_none on why (step.Begin n call) start final (unchanged_by n B old mid ch flying flying seconds seconds book book' on (step.Begin n call)
             (node_kept ch.life ch.life' a b ch.does.0.was is same) (λ away. absurd (away refl)) (λ _. (read, quiet)) refl refl (ap entries_seen (wrote ∙ append-nil (entries_of book))));
         leads = λ known ended w st. record {

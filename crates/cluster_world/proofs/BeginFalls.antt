@@ -56,6 +56,7 @@ use Rattle.cluster_world.proofs.AfterWork.{AreThese, nothing_else, turned_after,
 use Rattle.cluster_world.proofs.Beginning.{struck_world, with_struck_is, filed_in, begun_in, filed_kind, fault_so, begin_goes}
 use Rattle.cluster_world.proofs.BeginIdle.{read_fell}
 use Rattle.cluster_world.proofs.BeginParts.{Began, begin_named, begin_life, begin_did, StaysUp, begin_stays, begin_worked}
+use Rattle.cluster_world.proofs.Longer.{longer_by}
 
 amiss : (call : Call) (user : List ℕ) (id : _) (from most : ℕ) → call_seen call ≡ Fetch user id from most → MayReadAmiss call
 amiss (kind.Deliver deliver) user id from most e = let never : Deliver (Rattle.mail_base.specs.Delivers.mail_in deliver) ≡ Fetch user id from most = e in cc
@@ -153,6 +154,7 @@ module _ {D : Type 0} (on : View D) (n : ℕ) (call : Call) (seconds : ℕ) (old
     quiet = quiet_by n P old new ch flying flying seconds seconds book book' on.faults later (λ boot now. absurd (let never : life.Down ≡ life.Up boot = sym (ap life_seen down) ∙ now in cc));
     clock = refl;
     lighter = lighter;
+    books = longer_by book book' (entries ++ written.Down n ∷ []) wrote;
     kept = kept;
     leads = λ known ended w st. leads w st;
     cause = cause;

@@ -47,6 +47,7 @@ use Rattle.cluster_world.proofs.AfterWork.{work_handed, work_goes_on, work_told,
 use Rattle.cluster_world.proofs.Beginning.{struck_world, with_struck_is, filed_in, begun_in, filed_kind, begun_so, noted_so, begin_goes, begin_is_worn}
 use Rattle.cluster_world.proofs.BeginIdle.{read_stands, read_stops}
 use Rattle.cluster_world.proofs.BeginParts.{Began, begin_named, begin_did, StaysUp, begin_stays, begin_seen, read_none}
+use Rattle.cluster_world.proofs.Longer.{longer_by}
 
 -- where there is one disk alone, it is the node's
 one_tells : {D : Type 0} (seen : D → Option (List ℕ)) (disks : List D) (n : ℕ) (disk : D) → length disks ≡ 1 → of_node disks n ≡ Some disk → is_some (seen disk) ≡ list_all (λ d. is_some (seen d)) disks
@@ -246,6 +247,7 @@ module _ {D : Type 0} (on : View D) (is_settled : D → Type 0) (n : ℕ) (call 
             quiet = work_quiet on n B old mid new ch _ only flying flying' seconds book book' on.faults (omega (arith, s.quiet)) (λ boot now. s.quiet);
             clock = refl;
             lighter = tt;
+            books = longer_by book book' entries wrote;
             kept = tt;
             leads = λ known ended w st. did_leads begun.0 begun.1.letters s.is did.fresh w st (subst (λ x. CallDid on old.plan n x c a ch.disk b ch.disk' begun.0 begun.1.letters) st.seconds did.did) off;
             cause = λ w st. said_causes on begun.0 n call start final;

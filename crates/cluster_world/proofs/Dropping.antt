@@ -21,9 +21,11 @@ use Rattle.cluster_world.specs.declared.nodes.Nodes.{Nodes}
 use Rattle.cluster_world.specs.declared.step.Step.TheVariants as step
 use Rattle.cluster_world.specs.declared.step.Said.TheVariants.{Done}
 use Rattle.cluster_world.specs.declared.fault.StepFault.TheVariants as fault
+use Rattle.cluster_world.specs.Books.{booked_by}
 use Rattle.cluster_world.proofs.Same.{same_stops, same_told, same_quiet, same_unchanged}
 use Rattle.cluster_world.proofs.Kept.{missed_kept, stops_on, only_told, only_quiet}
 use Rattle.cluster_world.proofs.Posted.{flies_so}
+use Rattle.cluster_world.proofs.Longer.{same_book}
 
 module _ (plan : Plan) (w : machine.World) (number : ℕ) where
   fault_is : (o : Option Letter) → letter_at number w.flying ≡ o
@@ -43,6 +45,7 @@ module _ {D : Type 0} (on : View D) (nodes : Nodes D) (flying : InFlight) (secon
     handed = refl;
     clock = refl;
     lighter = tt;
+    books = same_book (booked_by book);
     kept = same_unchanged on (state_with nodes flying seconds book) (step.Drop number);
     refused = refl;
     kind = tt;
@@ -67,6 +70,7 @@ module _ {D : Type 0} (on : View D) (nodes : Nodes D) (flying : InFlight) (secon
       handed = refl;
       clock = refl;
       lighter = tt;
+      books = same_book (booked_by book);
       kept = same_unchanged on (state_with nodes flying seconds book) (step.Drop number);
       refused = refl;
       kind = tt;
@@ -95,6 +99,7 @@ module _ {D : Type 0} (on : View D) (nodes : Nodes D) (flying : InFlight) (secon
       handed = ap length noted.only.disks;
       clock = refl;
       lighter = tt;
+      books = same_book (booked_by book);
       kept = tt;
       refused = refl;
       kind = tt;

@@ -31,6 +31,7 @@ use Rattle.cluster_world.proofs.Still.{some_same}
 use Rattle.cluster_world.proofs.Turned.{slot_of, lives_turned, as_many, told_by, quiet_by, settled_by, still_ready, falls_now}
 use Rattle.cluster_world.proofs.Refusing.{fit_of, crash_goes}
 use Rattle.cluster_world.proofs.Falling.{crash_up, lose_here, fallen, fall_told, fall_leads}
+use Rattle.cluster_world.proofs.Longer.{longer_by}
 
 -- a node that is up is not lost
 up_alive : (slot : Slot) (seen : plain.Node) → slot.life ≡ plain.Life.Up seen → slot.life ≢ plain.Life.Lost
@@ -107,6 +108,7 @@ module _ {D : Type 0} (on : View D) (n : ℕ) (old new : Nodes D) (book book' : 
             (λ boot up. absurd (let never : life.Down ≡ life.Up boot = sym (ap life_seen ch.does.0) ∙ up in cc));
         clock = refl;
         lighter = tt;
+        books = longer_by book book' (written.Down n ∷ []) wrote;
         kept = tt;
         leads = λ known ended w st. crash_leads wrote w st;
         cause = λ w st. tt;

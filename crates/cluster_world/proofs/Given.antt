@@ -28,11 +28,13 @@ use Rattle.cluster_world.specs.declared.nodes.Nodes.{Nodes}
 use Rattle.cluster_world.specs.declared.step.Step.TheVariants as step
 use Rattle.cluster_world.specs.declared.step.Said.TheVariants.{Done}
 use Rattle.cluster_world.specs.declared.fault.StepFault.TheVariants as fault
+use Rattle.cluster_world.specs.Books.{booked_by}
 use Rattle.cluster_world.proofs.Still.{some_same}
 use Rattle.cluster_world.proofs.Same.{same_told, same_quiet, same_stops, same_unchanged}
 use Rattle.cluster_world.proofs.Turned.{slot_of, falls_now}
 use Rattle.cluster_world.proofs.Refusing.{fit_of, no_ticket_given_up, give_up_is_worn}
 use Rattle.cluster_world.proofs.Asked.{ready_of, disk_of, give_up_done, retold_ready, retold_settled}
+use Rattle.cluster_world.proofs.Longer.{same_book}
 
 -- a ticket that has a kind stands
 pub kind_tells : (kind : Option CallKind) (st : Option plain.Ticket) → call_kind_seen kind ≡ kind_of_ticket st → is_some kind ≡ is_some st
@@ -98,6 +100,7 @@ module _ {D : Type 0} (on : View D) (ticket : Number) (nodes : Nodes D) (fit : n
       quiet = same_quiet on (state_with nodes flying seconds book);
       clock = refl;
       lighter = tt;
+      books = same_book (booked_by book);
       kept = same_unchanged on (state_with nodes flying seconds book) (step.GiveUp ticket);
       leads = λ known ended w st. let f = finds w st in record {
         next = w;
@@ -121,6 +124,7 @@ module _ {D : Type 0} (on : View D) (ticket : Number) (nodes : Nodes D) (fit : n
       quiet = same_quiet on (state_with nodes flying seconds book);
       clock = refl;
       lighter = tt;
+      books = same_book (booked_by book);
       kept = same_unchanged on (state_with nodes flying seconds book) (step.GiveUp ticket);
       leads = λ known ended w st. let f = finds w st in record {
         next = w;

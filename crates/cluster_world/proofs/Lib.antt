@@ -27,6 +27,7 @@ pub mod Holding
 pub mod InTurn
 pub mod Kept
 pub mod Lasting
+pub mod Longer
 pub mod Losing
 pub mod Mirroring
 pub mod Mirrors

@@ -35,6 +35,7 @@ use Rattle.cluster_world.proofs.Still.{if_some, images_stop}
 use Rattle.cluster_world.proofs.Turned.{slot_of, lives_turned, as_many, told_by, quiet_by, stops_kept, stands_now}
 use Rattle.cluster_world.proofs.Refusing.{fit_of, lose_goes}
 use Rattle.cluster_world.proofs.Falling.{lose_here, entries_more}
+use Rattle.cluster_world.proofs.Longer.{longer_by}
 
 module _ {D : Type 0} (on : View D) (own : ℕ) (disk : D) (slot : Slot) where
   abbrev lost_with : List Record → Slot
@@ -147,6 +148,7 @@ module _ {D : Type 0} (on : View D) (n : ℕ) (old new : Nodes D) (book book' : 
         (λ boot up. absurd (let never : life.Lost ≡ life.Up boot = sym (ap life_seen ch.does.0) ∙ up in cc));
     clock = refl;
     lighter = tt;
+    books = longer_by book book' (written.Lost n ∷ []) wrote;
     kept = tt;
     leads = λ known ended w st. lose_leads wrote w st;
     cause = λ w st. tt;

@@ -52,6 +52,7 @@ use Rattle.cluster_world.proofs.Falling.{entries_more}
 use Rattle.cluster_world.proofs.Posted.{Standing, standing, some_weight, weight_taken, weight_put}
 use Rattle.cluster_world.proofs.AfterWork.{nothing_else, work_did, work_goes_on, work_lives, up_slot, up_is, WorkSent, work_sent, CutSlot, cut_stands, cut_stops, idle_stands, idle_stops}
 use Rattle.cluster_world.proofs.Unchanged.{unchanged_by, node_kept}
+use Rattle.cluster_world.proofs.Longer.{same_book, longer_by}
 
 -- what makes the machine refuse a post
 module _ (plan : Plan) (w : machine.World) (number : ℕ) (keep : Bool) where
@@ -98,6 +99,7 @@ module _ {D : Type 0} (on : View D) (old : Nodes D) (flying : InFlight) (seconds
     handed = refl;
     clock = refl;
     lighter = tt;
+    books = same_book (booked_by book);
     kept = same_unchanged on before (step.Post number keep);
     refused = refl;
     kind = tt;
@@ -124,6 +126,7 @@ module _ {D : Type 0} (on : View D) (old : Nodes D) (flying : InFlight) (seconds
       handed = refl;
       clock = refl;
       lighter = tt;
+      books = same_book (booked_by book);
       kept = same_unchanged on before (step.Post number keep);
       refused = refl;
       kind = tt;
@@ -180,6 +183,7 @@ module _ {D : Type 0} (on : View D) (old : Nodes D) (flying : InFlight) (seconds
         handed = ap length noted.only.disks;
         clock = refl;
         lighter = lighter_left keep (said.Thrown why.Down) new flying' book left;
+        books = same_book (booked_by book);
         kept = tt;
         refused = refl;
         kind = tt;
@@ -226,6 +230,7 @@ module _ {D : Type 0} (on : View D) (old : Nodes D) (flying : InFlight) (seconds
               (subst (λ d. on.faults ch.disk ≤ on.faults d) (sym untold) (omega arith))
               (λ boot _. ap on.faults untold)
               (lighter_left keep (said.Thrown what) new flying' book left)
+              (same_book (booked_by book))
               tt
               (λ w st.
               let s = standing w.flying number letter (there w st) in
@@ -274,6 +279,7 @@ module _ {D : Type 0} (on : View D) (old : Nodes D) (flying : InFlight) (seconds
             (subst (λ d. on.faults ch.disk ≤ on.faults d) (sym untold) (omega arith))
             (λ boot _. ap on.faults untold)
             tt
+            (same_book (booked_by book))
             (unchanged_by letter.to P old mid ch flying flying seconds seconds book book on (step.Post number keep) (node_kept ch.life ch.life' a b was is alike)
             (λ _. untold) (λ _. (nothing_read on ch.disk ch.disk' untold, ap on.faults untold)) refl refl refl)
             (λ w st. record {
@@ -294,6 +300,7 @@ module _ {D : Type 0} (on : View D) (old : Nodes D) (flying : InFlight) (seconds
             (subst (λ f. on.faults ch.disk ≤ f) (sym did.appends.quiet) (omega arith))
             (λ boot _. did.appends.quiet)
             (lighter_sent keep said.Heard new flying' book letters less off.flies)
+            (same_book (booked_by book))
             tt
             (λ w st.
             let s = standing w.flying number letter (there w st) in
@@ -330,6 +337,7 @@ module _ {D : Type 0} (on : View D) (old : Nodes D) (flying : InFlight) (seconds
           faulted_posted rose noted left = work_did on letter.to P old mid new ch (λ slots. missed mishap.Disk slots letter) noted.only flying flying' seconds book book' (Ok (said.Faulted letter.to)) (step.Post number keep) refl
               refl tt was_to_work (lives_down (λ slots. missed mishap.Disk slots letter) noted.only) told later (λ boot up. absurd (not_up boot up))
               (lighter_left keep (said.Faulted letter.to) new flying' book' left)
+              (longer_by book book' (written.Down letter.to ∷ []) entered.wrote)
               tt
               (λ w st.
               let s = standing w.flying number letter (there w st) in
@@ -360,7 +368,7 @@ module _ {D : Type 0} (on : View D) (old : Nodes D) (flying : InFlight) (seconds
           fallen_posted same_nodes left =
               let only : OnlyTickets on (λ slots. slots) mid new = subst (λ (m : Nodes D). OnlyTickets on (λ slots. slots) mid m) (sym same_nodes) (nothing_else on mid) in
               work_did on letter.to P old mid new ch (λ slots. slots) only flying flying' seconds book book' (Err (fault.NoMemory (Some letter.to))) (step.Post number keep) refl
-              tt tt was_to_work (lives_down (λ slots. slots) only) told later (λ boot up. absurd (not_up boot up)) tt tt
+              tt tt was_to_work (lives_down (λ slots. slots) only) told later (λ boot up. absurd (not_up boot up)) tt (longer_by book book' (written.Down letter.to ∷ []) entered.wrote) tt
               (λ w st.
               let s = standing w.flying number letter (there w st) in
               let flies : Flies w number = flies_of w number letter s in

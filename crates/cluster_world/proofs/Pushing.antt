@@ -29,7 +29,7 @@ use Rattle.node_core.specs.declared.node.Node.{Node}
 use Rattle.world_book.specs.Books.{entries_of}
 use Rattle.world_book.specs.declared.book.Book.{Book}
 use Rattle.world_book.specs.declared.entry.Entry.TheVariants as written
-use Rattle.cluster_world.specs.Books.{entries_seen}
+use Rattle.cluster_world.specs.Books.{entries_seen, booked_by}
 use Rattle.cluster_world.specs.Flights.{InFlight, put_down, taken_out}
 use Rattle.cluster_world.specs.Lives.{life_seen, of_node, all_falls_left, CanWorkOn}
 use Rattle.cluster_world.specs.Stands.{SlotsStand}
@@ -62,6 +62,7 @@ use Rattle.cluster_world.proofs.Asked.{ready_of, disk_of, slot_same}
 use Rattle.cluster_world.proofs.AfterWidening.{StaysUp, FallsDown, read_stays, stays_lives, stays_ready, stays_falls, stays_told, stays_quiet, stays_settled, down_lives, down_ready, down_falls, down_told, down_quiet, down_settled, found_up, read_there, read_down, within_first, within_second, told_there, when_told, caused, up_of}
 use Rattle.cluster_world.proofs.PushRoom.{keys_same, push_goes, push_is_crowded, push_is_worn, alone, none_long}
 use Rattle.cluster_world.proofs.Unchanged.{unchanged_by, node_kept}
+use Rattle.cluster_world.proofs.Longer.{same_book, as_long, longer_by}
 
 module _ {D : Type 0} (on : View D) (n to : ℕ) (old : Nodes D) (fit : node_refusal old.plan (life_among old) (step.Push n to) ≡ None) (ready : CanWorkOn on.seen old.plan old.lives.items old.disks.items) where
   named : list_all (is_node old.plan) (n ∷ to ∷ []) ≡ true
@@ -123,6 +124,7 @@ module _ {D : Type 0} (on : View D) (n to : ℕ) (old : Nodes D) (fit : node_ref
       quiet = same_quiet on before;
       clock = refl;
       lighter = tt;
+      books = same_book (booked_by book);
       kept = same_unchanged on before (step.Push n to);
       leads = λ known ended w st.
           let (node, up) = push_up in
@@ -149,6 +151,7 @@ module _ {D : Type 0} (on : View D) (n to : ℕ) (old : Nodes D) (fit : node_ref
       quiet = same_quiet on before;
       clock = refl;
       lighter = tt;
+      books = same_book (booked_by book);
       kept = same_unchanged on before (step.Push n to);
       leads = λ known ended w st.
           let (node, up) = push_up in
@@ -286,6 +289,7 @@ module _ {D : Type 0} (on : View D) (n to : ℕ) (old : Nodes D) (fit : node_ref
         quiet = stays_quiet on n P old mid ch ready a was b (stays r) flying flying seconds seconds book book';
         clock = refl;
         lighter = tt;
+        books = as_long (booked_by book) (booked_by book') (ap entries_seen wrote);
         kept = unchanged_by n P old mid ch flying flying seconds seconds book book' on (step.Push n to) (node_kept ch.life ch.life' a b was r.is r.as_before)
             (λ away. absurd (away refl)) (λ _. (r.read, r.quiet)) refl refl (ap entries_seen wrote);
         leads = λ known ended w st.
@@ -328,6 +332,7 @@ module _ {D : Type 0} (on : View D) (n to : ℕ) (old : Nodes D) (fit : node_ref
           quiet = down_quiet on n P old mid ch ready a was (falls_so c) flying flying seconds seconds book book';
           clock = refl;
           lighter = tt;
+          books = longer_by book book' (written.Down n ∷ []) wrote;
           kept = tt;
           leads = λ known ended w st.
               let f = found_up on n P old mid ch ready a was w.slots st.slots in
@@ -441,6 +446,7 @@ module _ {D : Type 0} (on : View D) (n to : ℕ) (old : Nodes D) (fit : node_ref
                 };
                 clock = refl;
                 lighter = tt;
+                books = as_long (booked_by book) (booked_by book') (ap entries_seen wrote);
                 kept = tt;
                 leads = λ known ended w st. sent_leads known w st;
                 cause = λ w st. tt;

@@ -19,6 +19,7 @@ use Rattle.cluster_world.specs.declared.fault.StepFault.TheVariants as fault
 use Rattle.cluster_world.proofs.Clocks.{unticked}
 use Rattle.cluster_world.proofs.Same.{same_stops, same_told, same_quiet, same_unchanged}
 use Rattle.cluster_world.proofs.Refusals.{named_fault}
+use Rattle.cluster_world.proofs.Longer.{same_book}
 
 -- it is a fault for the sake of a node
 abbrev pub IsOfNode : StepFault → Type 0
@@ -80,6 +81,7 @@ module _ {D : Type 0} (on : View D) (state : WorldState D) (even : length state.
     handed = refl;
     clock = unticked step fault.NoSuchNode state.seconds;
     lighter = tt;
+    books = same_book state.book;
     kept = same_unchanged on state step;
     refused = sym e;
     kind = tt;
@@ -95,6 +97,7 @@ module _ {D : Type 0} (on : View D) (state : WorldState D) (even : length state.
     handed = refl;
     clock = unticked step fault.NodeLost state.seconds;
     lighter = tt;
+    books = same_book state.book;
     kept = same_unchanged on state step;
     refused = sym e;
     kind = tt;
@@ -110,6 +113,7 @@ module _ {D : Type 0} (on : View D) (state : WorldState D) (even : length state.
     handed = refl;
     clock = unticked step fault.NodeDown state.seconds;
     lighter = tt;
+    books = same_book state.book;
     kept = same_unchanged on state step;
     refused = sym e;
     kind = tt;
@@ -125,6 +129,7 @@ module _ {D : Type 0} (on : View D) (state : WorldState D) (even : length state.
     handed = refl;
     clock = unticked step fault.NodeUp state.seconds;
     lighter = tt;
+    books = same_book state.book;
     kept = same_unchanged on state step;
     refused = sym e;
     kind = tt;

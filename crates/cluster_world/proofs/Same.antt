@@ -10,6 +10,7 @@ use Rattle.cluster_world.proofs.Still.{some_same, nothing_read, all_untouched}
 use Rattle.cluster_world.specs.Moments.{StopsKeep}
 use Rattle.cluster_world.specs.declared.step.Step.{Step}
 use Rattle.cluster_world.specs.declared.fault.StepFault.TheVariants as fault
+use Rattle.cluster_world.proofs.Longer.{same_book}
 
 module _ {D : Type 0} (on : View D) (state : WorldState D) where
   same_disk : (n : ℕ) (disk disk' : D) → disk_in state n ≡ Some disk → disk_in state n ≡ Some disk' → disk' ≡ disk
@@ -48,6 +49,7 @@ module _ {D : Type 0} (on : View D) (state : WorldState D) where
     handed = refl;
     clock = unticked step (fault.NoMemory None) state.seconds;
     lighter = tt;
+    books = same_book state.book;
     kept = same_unchanged step;
     refused = tt;
     kind = tt;

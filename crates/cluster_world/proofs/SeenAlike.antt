@@ -5,7 +5,7 @@ use Rattle.call_tickets.specs.Seen.{call_seen, answer_seen}
 use Rattle.call_tickets.specs.declared.call.Call.{Call}
 use Rattle.call_tickets.specs.declared.call.Call.TheVariants.{Deliver, Login, Fetch, Strike, Leave}
 use Rattle.call_tickets.specs.declared.answer.Answer.{Answer}
-use Rattle.call_tickets.specs.declared.answer.Answer.TheVariants.{Stored, Listed, Wrong, Part, GoneAlready, Dropped, Failed}
+use Rattle.call_tickets.specs.declared.answer.Answer.TheVariants.{Stored, Listed, Wrong, InUse, NoProfile, Part, GoneAlready, Dropped, Failed}
 use Rattle.session_model.specs.Calls as model
 use Rattle.node_core.specs.Beginning.{call_seen as machine_call}
 use Rattle.node_tickets.specs.Seen.{copy_seen, progress_seen}
@@ -26,6 +26,8 @@ pub told_alike : (answer : Answer) → answer_seen answer ≡ answer_told (progr
 told_alike (Stored id confirmers) = refl
 told_alike (Listed login manager asked items) = ap model.Answer.Listed (sym (map_map item_listed copy_seen _ items (λ item. refl)))
 told_alike (Wrong stamp) = refl
+told_alike (InUse by) = refl
+told_alike (NoProfile manager) = refl
 told_alike (Part octets whole) = refl
 told_alike GoneAlready = refl
 told_alike (Dropped confirmers) = refl

@@ -56,6 +56,7 @@ use Rattle.cluster_world.proofs.Refusing.{fit_of, start_goes, start_is_worn}
 use Rattle.cluster_world.proofs.Falling.{entries_more}
 use Rattle.cluster_world.proofs.Asked.{turned_same, slot_same}
 use Rattle.cluster_world.proofs.Unchanged.{unchanged_by}
+use Rattle.cluster_world.proofs.Longer.{same_book, longer_by}
 
 -- a disk of those that all tell tells
 told_at : {D : Type 0} (seen : D → Option (List ℕ)) (disks : List D) (n : ℕ) (disk : D) → list_all (λ d. is_some (seen d)) disks ≡ true → of_node disks n ≡ Some disk → is_some (seen disk) ≡ true
@@ -231,6 +232,7 @@ module _ {D : Type 0} (on : View D) (is_settled : D → Type 0) (only : (disk : 
       quiet = quiet_by n P old new ch flying flying seconds seconds book book' on.faults ch.does.faults (λ boot up. absurd (let never : life.Down ≡ life.Up boot = sym (ap life_seen down) ∙ up in cc));
       clock = refl;
       lighter = lighter_by why;
+      books = longer_by book book' (entries_of_start n started) wrote;
       kept = kept;
       leads = λ known ended w st. leads known w st;
       cause = cause;
@@ -331,6 +333,7 @@ module _ {D : Type 0} (on : View D) (is_settled : D → Type 0) (only : (disk : 
       quiet = quiet_by n P old new ch flying flying seconds seconds book book' on.faults ch.does.faults (λ boot _. st.quiet);
       clock = refl;
       lighter = tt;
+      books = longer_by book book' (entries_of_start n started) wrote;
       kept = tt;
       leads = λ known ended w stands.
           let f = found w stands in
@@ -379,6 +382,7 @@ module _ {D : Type 0} (on : View D) (n : ℕ) (old : Nodes D) (fit : node_refusa
     quiet = same_quiet on (state_with old flying seconds book);
     clock = refl;
     lighter = tt;
+    books = same_book (booked_by book);
     kept = same_unchanged on (state_with old flying seconds book) (step.Start n);
     leads = λ known ended w st.
         let down : of_node old.lives.items n ≡ Some Down =

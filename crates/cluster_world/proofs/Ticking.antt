@@ -12,7 +12,9 @@ use Rattle.cluster_world.specs.declared.step.Step.{Step}
 use Rattle.cluster_world.specs.declared.step.Step.TheVariants as step
 use Rattle.cluster_world.specs.declared.step.Said.TheVariants.{Done}
 use Rattle.cluster_world.specs.declared.fault.StepFault.{StepFault}
+use Rattle.cluster_world.specs.Books.{booked_by}
 use Rattle.cluster_world.proofs.Same.{same_stops, same_told, same_quiet}
+use Rattle.cluster_world.proofs.Longer.{same_book}
 
 module _ {D : Type 0} (on : View D) (nodes : Nodes D) (flying : InFlight) (book : Book) (was seconds : ℕ) where
   leads : (w : machine.World) → StateStandsFor on (state_with nodes flying was book) w
@@ -30,6 +32,7 @@ module _ {D : Type 0} (on : View D) (nodes : Nodes D) (flying : InFlight) (book 
     handed = refl;
     clock = refl;
     lighter = tt;
+    books = same_book (booked_by book);
     kept = tt;
     refused = refl;
     kind = tt;

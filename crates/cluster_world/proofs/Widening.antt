@@ -47,6 +47,7 @@ use Rattle.cluster_world.proofs.Falling.{entries_more}
 use Rattle.cluster_world.proofs.Asked.{slot_same}
 use Rattle.cluster_world.proofs.AfterWidening.{StaysUp, FallsDown, did_stay, read_stays, stopped_falls, stays_lives, stays_ready, stays_falls, stays_told, stays_quiet, stays_settled, down_lives, down_ready, down_falls, down_told, down_quiet, down_settled, FoundUp, found_up, did_there, CutThere, cut_there, read_there, within_first, caused, up_of, slot_up_of}
 use Rattle.cluster_world.proofs.Unchanged.{unchanged_by, node_kept}
+use Rattle.cluster_world.proofs.Longer.{same_book, longer_by}
 
 -- The machine refuses it only once no letters are sent any more.
 module _ (plan : Plan) (w : machine.World) (n to : ℕ) (user : List ℕ) (id : Id) (slot : Slot) (node : plain.Node)
@@ -167,6 +168,7 @@ module _ {D : Type 0} (on : View D) (n to : ℕ) (user : List ℕ) (id : Id) (ol
           quiet = stays_quiet on n P old new ch ready a was b s flying flying seconds seconds book book';
           clock = refl;
           lighter = tt;
+          books = longer_by book book' (entries_of_widening n done) wrote;
           kept = tt;
           leads = λ known ended w st.
               let f = found_up on n P old new ch ready a was w.slots st.slots in
@@ -210,6 +212,7 @@ module _ {D : Type 0} (on : View D) (n to : ℕ) (user : List ℕ) (id : Id) (ol
           quiet = down_quiet on n P old new ch ready a was s flying flying seconds seconds book book';
           clock = refl;
           lighter = tt;
+          books = longer_by book book' (entries_of_widening n done) wrote;
           kept = tt;
           leads = λ known ended w st.
               let f = found_up on n P old new ch ready a was w.slots st.slots in
@@ -235,6 +238,7 @@ module _ {D : Type 0} (on : View D) (n to : ℕ) (user : List ℕ) (id : Id) (ol
           quiet = down_quiet on n P old new ch ready a was s flying flying seconds seconds book book';
           clock = refl;
           lighter = tt;
+          books = longer_by book book' (entries_of_widening n done) wrote;
           kept = tt;
           leads = λ known ended w st.
               let f = found_up on n P old new ch ready a was w.slots st.slots in
@@ -261,6 +265,7 @@ module _ {D : Type 0} (on : View D) (n to : ℕ) (user : List ℕ) (id : Id) (ol
           quiet = stays_quiet on n P old new ch ready a was b s flying flying seconds seconds book book';
           clock = refl;
           lighter = tt;
+          books = longer_by book book' (entries_of_widening n done) wrote;
           kept = unchanged_by n P old new ch flying flying seconds seconds book book' on (step.Widen n user id to) (node_kept ch.life ch.life' a b was c.1 c.0.0)
               (λ _. c.0.1) (λ _. (nothing_read on ch.disk ch.disk' c.0.1, ap on.faults c.0.1)) refl refl (booked (Err (NoMemory false)) e ∙ append-nil (booked_by book));
           leads = λ known ended w st.
@@ -303,6 +308,7 @@ module _ {D : Type 0} (on : View D) (n to : ℕ) (user : List ℕ) (id : Id) (ol
       quiet = same_quiet on (state_with old flying seconds book);
       clock = refl;
       lighter = tt;
+      books = same_book (booked_by book);
       kept = same_unchanged on (state_with old flying seconds book) (step.Widen n user id to);
       leads = λ known ended w st.
           let (node, here) = up_of (step.Widen n user id to) (of_node old.lives.items n) tt (fit_of (list_all (is_node old.plan) (n ∷ to ∷ [])) (life_refusal (step.Widen n user id to) (life_among old n)) fit).1 in

@@ -1,5 +1,5 @@
 -- The entries of the program's book as those of the definitions.
-use Rattle.std.specs.Prelude.{ℕ, List, [], ◌∷◌, flat_map}
+use Rattle.std.specs.Prelude.{◌≡◌, ℕ, List, [], ◌∷◌, ◌++◌, flat_map}
 use Rattle.mail_model.specs.Book.{BookEntry}
 use Rattle.mail_model.specs.Book.{BookEntry as plain}
 use Rattle.cluster_model.specs.Cluster.{NodeFiling}
@@ -24,6 +24,10 @@ entries_seen entries = flat_map entry_seen entries
 
 abbrev pub booked_by : Book → List BookEntry
 booked_by book = entries_seen (entries_of book)
+
+-- The book has what it had, and after that what was added.
+abbrev pub IsLongerBook : List BookEntry → List BookEntry → Type 0
+IsLongerBook old new = (added : List BookEntry) × (new ≡ old ++ added)
 
 -- the entry of one user's copy of a message that is confirmed
 abbrev pub acked_entry : NodeFiling → ℕ → List ℕ → BookEntry

@@ -12,6 +12,7 @@ use Rattle.call_tickets.specs.declared.call.Call.{Call}
 use Rattle.call_tickets.specs.declared.call.Call.TheVariants.{Fetch, Leave}
 use Rattle.session_model.specs.Events.{NodeLife}
 use Rattle.session_model.specs.Events.NodeLife.{Up}
+use Rattle.cluster_world.specs.Books.{IsLongerBook}
 use Rattle.cluster_world.specs.Flights.{weight_of_flights}
 use Rattle.cluster_world.specs.Worlds.{WorldState, state_of, life_in, node_in, disk_in, tells_in, steps_of, one_more, StateStandsFor}
 use Rattle.cluster_world.specs.Seen.{step_seen, outcome_seen}
@@ -172,6 +173,7 @@ pub record StepDid {D : Type 0} (on : View D) (result : Result Said StepFault) (
   pub told : AreToldAlike on.seen old new
   pub quiet : IsQuiet on.faults old new
   pub lighter : IsLighter result step old new
+  pub books : IsLongerBook old.book new.book
   pub kept : ChangesNothing on result step old new
   pub leads : StepIsKnown on.seen old step → IsEnded step → (w : machine.World) → StateStandsFor on old w → LeadsTo on result step old new w
   pub cause : (w : machine.World) → StateStandsFor on old w → FaultHasCause on result step old new

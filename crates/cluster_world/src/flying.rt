@@ -225,7 +225,8 @@ impl Flying {
         ensures ok { IfOk result (λ left. put_down letters.items (taken_out posted self.old) ≡ record { flying = self.new; left = left.items }) }
         ensures err { OnErr result (self.new ≡ self.old) }
     {
-        // No machine has memory for so many letters that their numbers would be used up.
+        // A step that sends is refused as worn from 2 ^ 64 - 2 ^ 32 letters on, so the sum has no place only where this list has
+        // 2 ^ 32 letters and more. Below, room is asked for all of them, and no machine has memory for so many.
         let Some(_) = self.sent.checked_add(letters.len() as u64) else {
             return Err(AllocError);
         };

@@ -12,7 +12,7 @@ use Rattle.mail_model.specs.Mail.{IsStored, trace_lines}
 use Rattle.mail_model.proofs.ShownFiled.{ends_front, trace_ends}
 use Rattle.object_model.specs.Sets.{nodes_in}
 use Rattle.object_model.specs.Letters.{Number}
-use Rattle.object_model.specs.Mishaps.{Mishaps}
+use Rattle.object_model.specs.Mishaps.{Mishaps, mishaps_of}
 use Rattle.cluster_model.specs.Cluster.{CallKind, members_of}
 use Rattle.cluster_model.specs.Rules.{begin_deliver, refuse, new_number}
 use Rattle.cluster_model.specs.Targets.{deliver_targets}
@@ -42,6 +42,15 @@ delivery_mishaps plan own seconds old members m p are is mail =
     is ∙ ap (λ (l : List ℕ). late_seen (nat_le end_of_dates seconds) (nat_lt (length l) old.shape.confirm)) are
     ∙ ap (λ (n : ℕ). late_seen (nat_le end_of_dates seconds) (nat_lt (length (nodes_in (members_of (node_seen old)) n)) old.shape.confirm)) p.nodes
     ∙ ap (λ (f : ℕ). late_seen (nat_le end_of_dates seconds) (nat_lt (length (nodes_in (members_of (node_seen old)) plan.nodes)) f)) p.confirm
+
+-- a delivery that nothing befalls comes before the end of dates
+none_is_late : (late few : Bool) → nat_lt 0 (mishaps_of (late_seen late few)) ≡ false → late ≡ false
+none_is_late false few none = refl
+none_is_late true false none = absurd (cc none)
+none_is_late true true none = absurd (cc none)
+
+pub comes_in_time : (late few : Bool) (m : Mishaps) → m ≡ late_seen late few → nat_lt 0 (mishaps_of m) ≡ false → late ≡ false
+comes_in_time late few m is none = none_is_late late few (sym (ap (λ (x : Mishaps). nat_lt 0 (mishaps_of x)) is) ∙ none)
 
 -- when a call is worn that fails at once, or one that does not
 worn_failing : (a b c f : Bool) → f ≡ true → (a || b || (not f && c)) ≡ (a || b)

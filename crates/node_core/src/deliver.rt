@@ -1,5 +1,5 @@
 //! A message that is to be stored.
-ghost use Rattle.std.specs.Prelude.{◌≡◌, ◌<◌, ◌≤◌, ◌+◌, ℕ, false, length, Some, IfOk, OnOk};
+ghost use Rattle.std.specs.Prelude.{◌≡◌, ◌<◌, ◌≤◌, ◌+◌, ℕ, nat_le, false, length, Some, IfOk, OnOk};
 ghost use Rattle.sha2.specs.Sha256.{sha256};
 ghost use Rattle.mail_model.specs.Plan.{Plan as PlainPlan};
 ghost use Rattle.mail_model.specs.Mail.{IsStored};
@@ -9,7 +9,7 @@ ghost use Rattle.object_model.specs.Letters.Body.{File};
 ghost use Rattle.mail_base.specs.Delivers.{mail_in, IsMessageWithinLimits};
 ghost use Rattle.cluster_model.specs.Cluster.{members_of, epoch_of};
 ghost use Rattle.cluster_model.specs.Rules.{letters_to, receivers, new_number};
-ghost use Rattle.cluster_model.specs.Steps.{greatest};
+ghost use Rattle.cluster_model.specs.Steps.{greatest, end_of_dates};
 ghost use Rattle.cluster_model.specs.Steps.NodeCall.{Deliver as Delivers};
 ghost use Rattle.node_store.specs.Disks.{view_of};
 ghost use Rattle.node_store.specs.Keeps.{CanGoOn};
@@ -39,7 +39,7 @@ use mail_base::{
 use node_store::{KeepFault, NodeStore};
 use sha2::{Digest, Sha256};
 use std::alloc::{AllocError, Global};
-use trace_lines::{Trace, trace_into};
+use trace_lines::{Trace, TraceFault, trace_into};
 
 // The octets of the message as it is stored: its trace lines, and its text. Its date is that of a year with four digits, so that
 // only memory can run out.
@@ -50,6 +50,7 @@ fn stored_octets(
     seconds: u64,
 ) -> Result<Octets, AllocError>
     requires small { IsMessageWithinLimits deliver.now }
+    requires dated { nat_le end_of_dates seconds ≡ false }
     ensures stored { IfOk result (λ octets. IsStored (mail_in deliver.now) id seconds octets) }
     ensures short { IfOk result (λ octets. IsShort octets) }
 {
@@ -62,9 +63,11 @@ fn stored_octets(
         seconds,
     };
     let mut octets = Vec::new(alloc);
-    let Ok(()) = trace_into(alloc, &mut octets, &trace) else {
-        return Err(AllocError);
-    };
+    match trace_into(alloc, &mut octets, &trace) {
+        Ok(()) => (),
+        Err(TraceFault::NoMemory) => return Err(AllocError),
+        Err(TraceFault::YearTooLarge) => unreachable!(),
+    }
     octets.extend_from_slice(deliver.text.as_slice())?;
     Ok(Octets::from_vec(octets))
 }
@@ -176,6 +179,7 @@ impl Node {
         requires members { members.now ≡ nodes_in (members_of (node_seen self.old)) self.old.shape.nodes }
         requires some { 0 < length members.now }
         requires small { IsMessageWithinLimits deliver.now }
+        requires dated { nat_le end_of_dates seconds ≡ false }
         ensures begins { BeginsDelivery (view_of D.seen D.faults D.clock) (mail_in deliver.now) seconds self.old disk.old self.new disk.new result }
         ensures settled { LeavesUp result → D.settled disk.old → D.settled disk.new }
     {

@@ -23,9 +23,9 @@
 //! | `mishap` | the driver's mishap is counted in a ticket |
 //!
 //! `hear` throws a letter that carries another epoch than the installed one, and one that answers a ticket that is not there;
-//! the outbox tells why, and nothing was changed.
+//! the outbox says why, and nothing was changed.
 //!
-//! A letter is heard by reference: where it is refused for want of memory it can be heard again. Octets are moved into the
+//! A letter is heard by reference: where it is refused since memory ran out it can be heard again. Octets are moved into the
 //! journal's write, and are not copied for each user.
 //!
 //! `state`, `ids`, `is_settled`, `kind`, `wants`, `waiting`, `filing`, `is_done`, `own`, `boot`, `epoch` and `store` tell what
@@ -34,7 +34,7 @@
 //! DIAGNOSTICS
 //!
 //! `Disk` comes only where the disk's count of faults rose in the call, or where its octets are not those that the node wrote.
-//! The node then has to go down. `NoMemory` tells with `down` whether it has to: where it need not, nothing was changed.
+//! The node then has to go down. `NoMemory` says by `down` whether it has to: where it need not, nothing was changed.
 //! `Worn` comes where a number is at its greatest, and then nothing was changed.
 //!
 //! After a fault that takes the node down, the first of the records that the rule adds stand on the disk, and one more may.

@@ -143,7 +143,8 @@ impl Node {
     }
 
     /// Pushes to the member what is due to it: of the first 64 due entries, in order of keys, at most `most`, ended before the
-    /// first with which the octets of their letters together would pass `room`. The disk is read once for each letter that carries octets.
+    /// first with which the octets of their letters together would pass `room`. The disk is read for each letter that carries
+    /// octets: the head of the record, and the octets.
     ///
     /// # Errors
     ///

@@ -1,4 +1,5 @@
-//! What the types of names and ids say of their values.
+//! What the types of names and ids say of their values. But for `stamp_of`, each of these looks at a value once, so that a
+//! clause may use what its type says of it. They do nothing.
 ghost use Rattle.std.specs.Prelude.{◌≡◌, All};
 ghost use Rattle.mail_model.specs.Names.{IsLowerName};
 ghost use Rattle.mail_model.specs.Grammar.{IsId, IsStamp};

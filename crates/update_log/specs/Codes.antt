@@ -1,4 +1,4 @@
--- How a log is told from another.
+-- Logs as codes, by which the tool compares two values of a model: that of `UpdateLog` needs them (`Coded`).
 use Rattle.std.specs.Prelude.{ℕ, refl}
 use Rattle.std.specs.Coded.{Coded, code_by, coded×, coded_ℕ}
 use Rattle.std.specs.FinMap as fin

@@ -77,6 +77,8 @@ fn confirms(ask: &Ask) -> bool
         Answer::Stored { .. } | Answer::Dropped { .. } => true,
         Answer::Listed { .. }
         | Answer::Wrong { .. }
+        | Answer::InUse { .. }
+        | Answer::NoProfile { .. }
         | Answer::Part { .. }
         | Answer::GoneAlready
         | Answer::Failed(_) => false,

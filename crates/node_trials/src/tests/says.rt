@@ -165,6 +165,8 @@ pub(super) fn say_ask(out: &mut Vec<u8>, ask: &Option<Ask>) -> Result<(), AllocE
             }
             Answer::Listed { items, .. } => say_items(out, items),
             Answer::Wrong { .. } => out.extend_from_slice(b" wrong"),
+            Answer::InUse { .. } => out.extend_from_slice(b" in-use"),
+            Answer::NoProfile { .. } => out.extend_from_slice(b" no-profile"),
             Answer::Part { octets, whole } => say_part(out, octets, *whole),
             Answer::GoneAlready => out.extend_from_slice(b" gone"),
             Answer::Failed(_) => out.extend_from_slice(b" failed"),

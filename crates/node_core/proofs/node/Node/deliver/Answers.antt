@@ -7,7 +7,7 @@ use Rattle.cluster_model.specs.Steps.{fails_at_once}
 use Rattle.node_store.specs.Disks.{view_of}
 use Rattle.node_tickets.specs.Seen.{mishaps_seen}
 use Rattle.node_core.specs.Nodes.{node_seen}
-use Rattle.node_core.proofs.Begun.{delivery_mishaps, refuses, delivers}
+use Rattle.node_core.proofs.Begun.{delivery_mishaps, comes_in_time, refuses, delivers}
 use Rattle.node_core.proofs.node.Node.deliver.Goals as goal
 
 pub returns-then-has_any-clause-begins : goal.returns-then-has_any-clause-begins
@@ -20,6 +20,10 @@ returns-then-has_any-clause-begins g c =
     c.few_members_or_late-mishaps.ensures mail in
     let fails : fails_at_once plan c.args.seconds (node_seen old) (Deliver mail) ≡ true = ap (λ (x : Mishaps). nat_lt 0 (mishaps_of x)) (sym m) ∙ sym c.has_any.ensures ∙ c.if-has_any.true in
     refuses on plan own c.args.seconds old c.args.disk.now p c.requires.works (Deliver mail) Delivering (mishaps_seen c.few_members_or_late-mishaps.result) 1 refl refl refl m fails c.refuse.new.self c.refuse.result c.refuse.ensures
+
+pub file_and_send-requires-clause-dated : goal.file_and_send-requires-clause-dated
+file_and_send-requires-clause-dated g c =
+    comes_in_time _ _ _ c.few_members_or_late-mishaps.ensures (sym c.has_any.ensures ∙ c.if-has_any.false)
 
 pub returns-clause-begins : goal.returns-clause-begins
 returns-clause-begins g c =
