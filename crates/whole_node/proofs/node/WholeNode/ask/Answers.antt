@@ -1,0 +1,12 @@
+use Rattle.std.proofs.Common.{refl, ap}
+use Rattle.cluster_model.specs.Cluster.{Node}
+use Rattle.whole_node.specs.declared.node.WholeNode.{WholeNode}
+use Rattle.whole_node.proofs.Called.{works_same}
+use Rattle.whole_node.proofs.node.WholeNode.ask.Goals as goal
+
+pub returns-clause-works : goal.returns-clause-works
+returns-clause-works c =
+    let old = c.args.self.now in
+    let new : WholeNode = record { mail = c.ask.new.self; maps = old.maps } in
+    let t = c.ask.ensures.tickets in
+    λ seen w. works_same old w.maps new seen t.same (ap (λ (n : Node). n.boot) t.seen) t.keeps refl (t.works seen w.mail)

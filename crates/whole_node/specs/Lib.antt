@@ -1,0 +1,4 @@
+pub mod Nodes
+pub mod Noting
+pub mod Following
+pub mod Starting

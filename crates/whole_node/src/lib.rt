@@ -1,0 +1,52 @@
+//! whole_node: one node of a cluster, with what it has for messages and what it has for membership and mail maps.
+//!
+//! SUMMARY
+//!
+//! A `WholeNode` is a `Node` of `node_core` and the `NodeMaps` of `node_maps`, over one disk. Its calls are those of the
+//! `Node`; its maps follow the records that a call appends.
+//!
+//! DESCRIPTION
+//!
+//! | Call | What is done beside the work of `node_core` |
+//! |---|---|
+//! | `first` | the node has the maps of an empty disk |
+//! | `over` | a node that has started gets its maps, with each message that is here |
+//! | `begin` | the copies that the node files or deletes itself are noted in its maps |
+//! | `hear` | so are the copies that a File, a Strike or a Push speaks of |
+//! | `widen`, `push`, `ask`, `give_up`, `mishap` | nothing: they change of no message whether it is here |
+//!
+//! `mail` and `maps` show both halves, and what each of them tells is read there.
+//!
+//! A call is the work of the `Node` first, and then the maps are told what its disk now says of each copy. So a message is
+//! never named in a map before its record is synced.
+//!
+//! Contracts say of the half for messages what `node_core` says. Beside that the maps are what `follows` of `whole_model`
+//! makes of them by the records that were appended. `WholeWorks` is what holds of a node between its calls: the `Node` can work,
+//! and its maps know of each message whether its disk says that it is here.
+//!
+//! DIAGNOSTICS
+//!
+//! The faults are those of `node_core`. Where memory runs out as a copy is noted, the records stand already: the node has to go
+//! down, as after each fault in work that has begun. A version of a row that is at its greatest counts as memory that ran out:
+//! each rise of it goes with a record, and no disk has so many.
+//!
+//! COSTS
+//!
+//! For each copy that a call may have changed: a look at the object's state, and one at the messages of its user.
+//!
+//! STANDS ON
+//!
+//! `node_core` and `node_maps`; the rules are those of `whole_model`.
+//!
+//! WHAT IT DOES NOT DO
+//!
+//! Letters of membership and maps do nothing yet, and the members are all nodes of the plan: the maps know of messages, and of
+//! no epoch. Nothing stands on this crate yet.
+#![tactic(auto)]
+
+mod calls;
+mod node;
+mod noting;
+mod starting;
+
+pub use node::WholeNode;
