@@ -13,7 +13,7 @@ use Rattle.mail_base.specs.declared.filing.CallKind.TheVariants as kinds
 use Rattle.session_model.specs.Calls as model
 use Rattle.session_model.specs.Calls.{IsAnswerTo}
 use Rattle.session_model.specs.Calls.Call.{Deliver, Login, Fetch, Strike}
-use Rattle.session_model.specs.Calls.Answer.{Stored, Listed, Wrong, Part, GoneAlready, Dropped, Failed}
+use Rattle.session_model.specs.Calls.Answer.{Stored, Listed, Wrong, InUse, NoProfile, Part, GoneAlready, Dropped, Failed}
 use Rattle.call_tickets.specs.Seen.{answer_seen}
 use Rattle.call_tickets.specs.Passes.{PassKnows, IsQuiet, with_more}
 use Rattle.call_tickets.specs.Begins.{HasBegun, IsBegunFor, IsFilingOf, FilingFits}
@@ -35,6 +35,8 @@ answers (Deliver mail) begun answer is kind = by_answer answer (subst (λ (k : C
     by_answer (Stored id) k = tt
     by_answer (Listed items) k = absurd k
     by_answer Wrong k = absurd k
+    by_answer InUse k = absurd k
+    by_answer NoProfile k = absurd k
     by_answer (Part octets) k = absurd k
     by_answer GoneAlready k = absurd k
     by_answer Dropped k = absurd k
@@ -45,6 +47,8 @@ answers (Login user given) begun answer is kind = by_answer answer (subst (λ (k
     by_answer (Stored id) k = absurd k
     by_answer (Listed items) k = tt
     by_answer Wrong k = tt
+    by_answer InUse k = tt
+    by_answer NoProfile k = tt
     by_answer (Part octets) k = absurd k
     by_answer GoneAlready k = absurd k
     by_answer Dropped k = absurd k
@@ -55,6 +59,8 @@ answers (Fetch user id) begun answer is kind = by_answer answer (subst (λ (k : 
     by_answer (Stored i) k = absurd k
     by_answer (Listed items) k = absurd k
     by_answer Wrong k = absurd k
+    by_answer InUse k = absurd k
+    by_answer NoProfile k = absurd k
     by_answer (Part octets) k = tt
     by_answer GoneAlready k = tt
     by_answer Dropped k = absurd k
@@ -65,6 +71,8 @@ answers (Strike user ids) begun answer is kind = by_answer answer (subst (λ (k 
     by_answer (Stored i) k = absurd k
     by_answer (Listed items) k = absurd k
     by_answer Wrong k = absurd k
+    by_answer InUse k = absurd k
+    by_answer NoProfile k = absurd k
     by_answer (Part octets) k = absurd k
     by_answer GoneAlready k = absurd k
     by_answer Dropped k = tt
@@ -99,6 +107,8 @@ acks (Deliver mail) begun (Stored id) old new is to acked = (filed_copies acked.
 acks (Deliver mail) begun Failed old new is to acked = ([], refl, acked ∙ sym (more_none old))
 acks (Login user given) begun (Listed items) old new is to acked = ([], refl, acked ∙ sym (more_none old))
 acks (Login user given) begun Wrong old new is to acked = ([], refl, acked ∙ sym (more_none old))
+acks (Login user given) begun InUse old new is to acked = ([], refl, acked ∙ sym (more_none old))
+acks (Login user given) begun NoProfile old new is to acked = ([], refl, acked ∙ sym (more_none old))
 acks (Login user given) begun Failed old new is to acked = ([], refl, acked ∙ sym (more_none old))
 acks (Fetch user id) begun (Part octets) old new is to acked = ([], refl, acked ∙ sym (more_none old))
 acks (Fetch user id) begun GoneAlready old new is to acked = ([], refl, acked ∙ sym (more_none old))
@@ -107,6 +117,8 @@ acks (Strike user ids) begun Dropped old new is to acked = ([], refl, acked ∙ 
 acks (Strike user ids) begun Failed old new is to acked = ([], refl, acked ∙ sym (more_none old))
 acks (Deliver mail) begun (Listed items) old new is to acked = absurd to
 acks (Deliver mail) begun Wrong old new is to acked = absurd to
+acks (Deliver mail) begun InUse old new is to acked = absurd to
+acks (Deliver mail) begun NoProfile old new is to acked = absurd to
 acks (Deliver mail) begun (Part octets) old new is to acked = absurd to
 acks (Deliver mail) begun GoneAlready old new is to acked = absurd to
 acks (Deliver mail) begun Dropped old new is to acked = absurd to
@@ -117,10 +129,14 @@ acks (Login user given) begun Dropped old new is to acked = absurd to
 acks (Fetch user id) begun (Stored i) old new is to acked = absurd to
 acks (Fetch user id) begun (Listed items) old new is to acked = absurd to
 acks (Fetch user id) begun Wrong old new is to acked = absurd to
+acks (Fetch user id) begun InUse old new is to acked = absurd to
+acks (Fetch user id) begun NoProfile old new is to acked = absurd to
 acks (Fetch user id) begun Dropped old new is to acked = absurd to
 acks (Strike user ids) begun (Stored i) old new is to acked = absurd to
 acks (Strike user ids) begun (Listed items) old new is to acked = absurd to
 acks (Strike user ids) begun Wrong old new is to acked = absurd to
+acks (Strike user ids) begun InUse old new is to acked = absurd to
+acks (Strike user ids) begun NoProfile old new is to acked = absurd to
 acks (Strike user ids) begun (Part octets) old new is to acked = absurd to
 acks (Strike user ids) begun GoneAlready old new is to acked = absurd to
 

@@ -3,7 +3,7 @@ use Rattle.std.proofs.Common.{inl, inr, ◌≡◌, ◌≢◌, ◌≤◌, ℕ, Li
 use Rattle.std.proofs.lemmas.List.{append-nil}
 use Rattle.io_edge.specs.Causes.{Rose}
 use Rattle.session_model.specs.Calls as model
-use Rattle.session_model.specs.Calls.Answer.{Stored, Listed, Wrong, Part, GoneAlready, Dropped, Failed}
+use Rattle.session_model.specs.Calls.Answer.{Stored, Listed, Wrong, InUse, NoProfile, Part, GoneAlready, Dropped, Failed}
 use Rattle.session_model.specs.Talk.{Exchange}
 use Rattle.call_tickets.specs.declared.tally.Tally.{Tally}
 use Rattle.call_tickets.specs.Passes.{PassKnows, IsQuiet, NoneFell, with_more, AnswerCounted}
@@ -14,13 +14,15 @@ more_none None = refl
 more_none (Some xs) = ap Some (append-nil xs)
 
 pub fell_none : (t : Tally) → NoneFell t t
-fell_none t = record { stored = omega arith; listed = omega arith; wrong = omega arith; part = omega arith; gone = omega arith; dropped = omega arith; failed = omega arith; down = omega arith; worn = omega arith; leaves = refl }
+fell_none t = record { stored = omega arith; listed = omega arith; wrong = omega arith; in_use = omega arith; no_profile = omega arith; part = omega arith; gone = omega arith; dropped = omega arith; failed = omega arith; down = omega arith; worn = omega arith; leaves = refl }
 
 pub fell_on : (a b c : Tally) → NoneFell a b → NoneFell b c → NoneFell a c
 fell_on a b c x y = record {
   stored = omega (arith, x.stored, y.stored);
   listed = omega (arith, x.listed, y.listed);
   wrong = omega (arith, x.wrong, y.wrong);
+  in_use = omega (arith, x.in_use, y.in_use);
+  no_profile = omega (arith, x.no_profile, y.no_profile);
   part = omega (arith, x.part, y.part);
   gone = omega (arith, x.gone, y.gone);
   dropped = omega (arith, x.dropped, y.dropped);
@@ -40,6 +42,8 @@ pub count_before : (answer : model.Answer) (a b c : Tally) → NoneFell a b → 
 count_before (Stored id) a b c f r = rose_before _ _ _ f.stored r
 count_before (Listed items) a b c f r = rose_before _ _ _ f.listed r
 count_before Wrong a b c f r = rose_before _ _ _ f.wrong r
+count_before InUse a b c f r = rose_before _ _ _ f.in_use r
+count_before NoProfile a b c f r = rose_before _ _ _ f.no_profile r
 count_before (Part octets) a b c f r = rose_before _ _ _ f.part r
 count_before GoneAlready a b c f r = rose_before _ _ _ f.gone r
 count_before Dropped a b c f r = rose_before _ _ _ f.dropped r
@@ -50,6 +54,8 @@ pub count_later : (answer : model.Answer) (a b c : Tally) → AnswerCounted answ
 count_later (Stored id) a b c r f = rose_later _ _ _ r f.stored
 count_later (Listed items) a b c r f = rose_later _ _ _ r f.listed
 count_later Wrong a b c r f = rose_later _ _ _ r f.wrong
+count_later InUse a b c r f = rose_later _ _ _ r f.in_use
+count_later NoProfile a b c r f = rose_later _ _ _ r f.no_profile
 count_later (Part octets) a b c r f = rose_later _ _ _ r f.part
 count_later GoneAlready a b c r f = rose_later _ _ _ r f.gone
 count_later Dropped a b c r f = rose_later _ _ _ r f.dropped

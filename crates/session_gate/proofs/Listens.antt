@@ -8,7 +8,8 @@ use Rattle.session_model.specs.Talk.{Standing, IsOn}
 use Rattle.session_model.specs.Talk.Standing.{Hearing, Waiting, EndedByQuit, EndedDown, EndedClosed}
 use Rattle.session_model.specs.Sessions.{Session}
 use Rattle.session_model.specs.Acts.Deed.{IsFed}
-use Rattle.session_model.proofs.Did.{Speaks, did_speaks}
+use Rattle.session_model.specs.Spoken.{Speaks}
+use Rattle.session_model.proofs.Did.{did_speaks}
 use Rattle.call_tickets.specs.Moves.{Due, Fed, HasEnded, HearsNothing}
 use Rattle.call_tickets.specs.Moves.Due.{Nothing}
 use Rattle.call_tickets.specs.Passes.{PassKnows}

@@ -19,7 +19,8 @@ use Rattle.session_model.specs.Moves.{with_answer}
 use Rattle.session_model.specs.Sessions.{Session}
 use Rattle.session_model.specs.Acts.{Deed, Did}
 use Rattle.session_model.specs.Acts.Deed.{Hears, IsAnswered, Falls}
-use Rattle.session_model.proofs.Did.{Speaks, did_speaks}
+use Rattle.session_model.specs.Spoken.{Speaks}
+use Rattle.session_model.proofs.Did.{did_speaks}
 use Rattle.call_tickets.specs.Moves.{Due, HeardUnit, Replied, Fell, HasEnded, HearsNothing, IsWaiting}
 use Rattle.call_tickets.specs.Moves.Due.{Nothing}
 use Rattle.call_tickets.specs.Passes.{PassKnows}
@@ -120,6 +121,8 @@ answered_up state (model.Call.Deliver mail) answer is = cc
 answered_up state (model.Call.Login user given) (model.Answer.Stored id) is = cc
 answered_up state (model.Call.Login user given) (model.Answer.Listed items) is = cc
 answered_up state (model.Call.Login user given) model.Answer.Wrong is = cc
+answered_up state (model.Call.Login user given) model.Answer.InUse is = cc
+answered_up state (model.Call.Login user given) model.Answer.NoProfile is = cc
 answered_up state (model.Call.Login user given) (model.Answer.Part octets) is = cc
 answered_up state (model.Call.Login user given) model.Answer.GoneAlready is = cc
 answered_up state (model.Call.Login user given) model.Answer.Dropped is = cc
@@ -239,6 +242,8 @@ answered_settled state (model.Call.Deliver mail) answer = tt
 answered_settled state (model.Call.Login user given) (model.Answer.Stored id) = tt
 answered_settled state (model.Call.Login user given) (model.Answer.Listed items) = tt
 answered_settled state (model.Call.Login user given) model.Answer.Wrong = tt
+answered_settled state (model.Call.Login user given) model.Answer.InUse = tt
+answered_settled state (model.Call.Login user given) model.Answer.NoProfile = tt
 answered_settled state (model.Call.Login user given) (model.Answer.Part octets) = tt
 answered_settled state (model.Call.Login user given) model.Answer.GoneAlready = tt
 answered_settled state (model.Call.Login user given) model.Answer.Dropped = tt

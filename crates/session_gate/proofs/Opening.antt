@@ -11,21 +11,30 @@ use Rattle.session_model.specs.Talk.{TalkState, opening_state}
 use Rattle.session_model.specs.Sessions.{Session}
 use Rattle.session_model.specs.Acts.{opened_session}
 use Rattle.session_model.proofs.Moves.{begins}
-use Rattle.call_tickets.specs.Moves.{Due, Greeted}
+use Rattle.call_tickets.specs.Moves.{Due, Moves, Greeted}
 use Rattle.call_tickets.specs.Moves.Due.{Greeting}
 use Rattle.call_tickets.specs.Passes.{PassKnows}
 use Rattle.call_tickets.specs.declared.step.Move.{Move}
+use Rattle.call_tickets.specs.declared.step.Move.TheVariants.{Said, Begin, Wait, Idle, End}
 use Rattle.smtp_session.specs.Follows as mail
 use Rattle.smtp_session.specs.declared.session.SmtpSession.{SmtpSession}
 use Rattle.pop_session.specs.Follows as reader
 use Rattle.pop_session.specs.declared.session.PopSession.{PopSession}
-use Rattle.session_speaker.proofs.Replying.{greets_only}
 use Rattle.session_gate.specs.Connections.{Connection, HasCome, Talks, Anyhow, IsServed, ClosesSo, ClosedWith, ServedAs, EndsAs, smtp_connection, pop_connection}
 use Rattle.session_gate.specs.declared.stop.Close.{Close}
 use Rattle.session_gate.specs.declared.stop.Close.TheVariants as closes
 use Rattle.session_gate.specs.declared.stop.Served.{Served}
 use Rattle.session_gate.proofs.Knows.{quiet_none}
 use Rattle.session_gate.proofs.Moves.{at_same}
+
+-- a session that has its greeting to say says it with its next move
+greets_first : (follows : Session → Due → Type 0) (plan : Plan) (plain : Session) (greeting : List ℕ) (did : Move) (octets : List ℕ) → Moves follows greeting plan plain Greeting did octets
+    → Greeted follows greeting plain octets
+greets_first follows plan plain greeting Said octets is = is
+greets_first follows plan plain greeting (Begin call) octets is = absurd is
+greets_first follows plan plain greeting Wait octets is = absurd is
+greets_first follows plan plain greeting Idle octets is = absurd is
+greets_first follows plan plain greeting End octets is = absurd is
 
 -- one that was opened hears, and its node is up
 hearing_up : (state : TalkState) → Hearing state ≡ EndedDown → ⊥
@@ -55,7 +64,7 @@ pub smtp_opens : (plan : Plan) (node : ℕ) (start : PassKnows) (session new : S
 smtp_opens plan node start session new did out octets follows is moved =
     opens (smtp_connection plan node start) (mail.Follows new) out (subst (Greeted (mail.Follows new) (greeting_text node) (opened_session Smtp node)) (sym is)
     (subst (λ (n : ℕ). Greeted (mail.Follows new) (greeting_text n) (opened_session Smtp node) octets) (sym follows.node)
-    (greets_only (mail.Follows new) plan (opened_session Smtp node) (greeting_text session.node) did octets (moved.goes (opened_session Smtp node) Greeting follows))))
+    (greets_first (mail.Follows new) plan (opened_session Smtp node) (greeting_text session.node) did octets (moved.goes (opened_session Smtp node) Greeting follows))))
 
 pub pop_opens : (plan : Plan) (node boot number seconds : ℕ) (start : PassKnows) (session new : PopSession) (did : Move) (out octets : List ℕ) → reader.Follows session (opened_session Pop node) Greeting
     → reader.opening_line session ≡ ready_text node boot number seconds → out ≡ octets → reader.Moved plan session did octets new
@@ -63,7 +72,7 @@ pub pop_opens : (plan : Plan) (node boot number seconds : ℕ) (start : PassKnow
 pop_opens plan node boot number seconds start session new did out octets follows shows is moved =
     opens (pop_connection plan node boot number seconds start) (reader.Follows new) out (subst (Greeted (reader.Follows new) (ready_text node boot number seconds) (opened_session Pop node)) (sym is)
     (subst (λ (l : List ℕ). Greeted (reader.Follows new) l (opened_session Pop node) octets) shows
-    (greets_only (reader.Follows new) plan (opened_session Pop node) (reader.opening_line session) did octets (moved.goes (opened_session Pop node) Greeting follows))))
+    (greets_first (reader.Follows new) plan (opened_session Pop node) (reader.opening_line session) did octets (moved.goes (opened_session Pop node) Greeting follows))))
 
 served_same : (close : Close) (one other : Served) → ServedAs close one → ServedAs close other → one ≡ other
 served_same closes.Fell one other a b = a ∙ sym b

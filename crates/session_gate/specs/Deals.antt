@@ -9,7 +9,7 @@ use Rattle.mail_base.specs.declared.filing.Begun.{Begun}
 use Rattle.session_model.specs.Calls as model
 use Rattle.session_model.specs.Calls.{IsAnswerTo}
 use Rattle.session_model.specs.Calls.Call.{Deliver, Login, Fetch, Strike}
-use Rattle.session_model.specs.Calls.Answer.{Stored, Listed, Wrong, Part, GoneAlready, Dropped, Failed}
+use Rattle.session_model.specs.Calls.Answer.{Stored, Listed, Wrong, InUse, NoProfile, Part, GoneAlready, Dropped, Failed}
 use Rattle.session_model.specs.Books.{struck_by}
 use Rattle.session_model.specs.Talk.{Exchange}
 use Rattle.call_tickets.specs.Seen.{answer_seen}
@@ -34,6 +34,8 @@ abbrev pub DeliverAcks : Mail → model.Answer → List Acked → Type 0
 DeliverAcks mail (Stored id) copies = AreMessageCopies mail id copies
 DeliverAcks mail (Listed items) copies = copies ≡ []
 DeliverAcks mail Wrong copies = copies ≡ []
+DeliverAcks mail InUse copies = copies ≡ []
+DeliverAcks mail NoProfile copies = copies ≡ []
 DeliverAcks mail (Part octets) copies = copies ≡ []
 DeliverAcks mail GoneAlready copies = copies ≡ []
 DeliverAcks mail Dropped copies = copies ≡ []
