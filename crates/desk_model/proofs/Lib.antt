@@ -1,0 +1,4 @@
+pub mod Tickets
+pub mod Begun
+pub mod Answered
+pub mod Knowing

@@ -1,0 +1,5 @@
+pub mod Tickets
+pub mod Added
+pub mod Entries
+pub mod Tallies
+pub mod Laws

@@ -1,0 +1,17 @@
+use Rattle.std.proofs.Common.{inr}
+use Rattle.node_store.specs.Disks.{view_of}
+use Rattle.std.proofs.Common.{false}
+use Rattle.cluster_world.specs.declared.step.Step.TheVariants.{Post}
+use Rattle.solo_desk.proofs.Stepping.{steps_serve}
+use Rattle.solo_desk.proofs.Posting.{post_adds}
+use Rattle.solo_desk.proofs.post.post_first.Goals as goal
+
+pub returns-clause-serves : goal.returns-clause-serves
+returns-clause-serves g c =
+    let on = view_of g.D.Disk.seen g.D.Disk.faults g.D.Disk.clock in
+    steps_serve on c.step-said.result (Post c.in-Some.letter false) c.args.world.now c.step-said.new.self c.step-said.ensures.is (inr tt) tt c.step-said.ensures.ready c.requires
+
+pub returns-clause-adds : goal.returns-clause-adds
+returns-clause-adds g c =
+    let on = view_of g.D.Disk.seen g.D.Disk.faults g.D.Disk.clock in
+    post_adds on c.args.world.now c.step-said.new.self c.requires c.step-said.result c.in-Some.letter c.step-said.ensures.is

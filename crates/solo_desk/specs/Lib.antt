@@ -1,0 +1,11 @@
+pub mod Serving
+pub mod Kinds
+pub mod Standing
+pub mod Steps
+pub mod Beginning
+pub mod Asking
+pub mod Leaving
+pub mod GivingUp
+pub mod Posting
+pub mod Passes
+pub mod Laws
