@@ -1,0 +1,134 @@
+-- What stays of a world over its steps.
+use Rattle.std.proofs.Common.{◌≡◌, inl, inr, ⊎_elim, ℕ, suc, Bool, true, false, List, [], ◌∷◌, ◌++◌, refl, sym, ap, ◌∙◌, subst, append-nil, append_assoc, ◌≤◌, arith}
+use Rattle.std.specs.Prelude.{MatchBool, Result, Option, is_some}
+use Rattle.std.specs.List.{list_all}
+use Rattle.mail_model.specs.Plan.{Plan}
+use Rattle.cluster_model.specs.World as machine
+use Rattle.cluster_model.specs.World.{cluster_of}
+use Rattle.cluster_model.specs.WorldLaws.{InPlan, opening_world}
+use Rattle.cluster_model.specs.Parts.{Sound}
+use Rattle.cluster_model.proofs.Opening.{opening_sound}
+use Rattle.cluster_model.proofs.Running.{steps_sound}
+use Rattle.desk_model.specs.Tickets.{TicketsAskOneThing}
+use Rattle.desk_model.proofs.Tickets.{steps_ask_one_thing, opening_asks_one_thing}
+use Rattle.node_store.specs.Disks.{View}
+use Rattle.cluster_world.specs.Books.{IsLongerBook}
+use Rattle.cluster_world.specs.Worlds.{state_of, plan_of, book_of, disks_of, disks_tell, CanMakeSteps, StandsFor}
+use Rattle.cluster_world.specs.Steps.{IsStep, IsBlind, StepIsKnown}
+use Rattle.cluster_world.specs.Ended.{IsEnded}
+use Rattle.cluster_world.specs.Seen.{step_seen, outcome_seen}
+use Rattle.cluster_world.specs.Outcomes.{StepMade, MakesSteps, PostsAll, has_failed}
+use Rattle.cluster_world.specs.declared.world.World.{World}
+use Rattle.cluster_world.specs.declared.step.Step.{Step}
+use Rattle.cluster_world.specs.declared.step.Said.{Said}
+use Rattle.cluster_world.specs.declared.fault.StepFault.{StepFault}
+use Rattle.cluster_world.proofs.Chained.{tells_alike}
+use Rattle.shard_board.specs.Orders.{AlwaysKnown}
+use Rattle.shard_board.specs.Worlds.{KeepsWorld, AllKnown, StepsKeepWorld, FlowsKeepWorld, OpenedIsSound}
+
+-- disks of which each tells what it holds
+pub all_tell : {D : Type 0} (seen : D → Option (List ℕ)) → ((disk : D) → is_some (seen disk) ≡ true) → (disks : List D) → list_all (λ disk. is_some (seen disk)) disks ≡ true
+all_tell seen each [] = refl
+all_tell seen each (disk ∷ disks) = rw (each disk) (all_tell seen each disks)
+
+module _ {D : Type 0} (on : View D) where
+  -- a sound world of the machine for which it stands
+  record IsSound (world : World D) : Type 0 where
+    w : machine.World
+    stands : StandsFor on world w
+    in_plan : InPlan (plan_of world).nodes w.slots
+    sound : Sound (plan_of world).confirm (cluster_of w)
+    tickets : TicketsAskOneThing w.slots
+
+  -- what stays, but that the world can make steps
+  record Stays (old new : World D) : Type 0 where
+    plan : plan_of new ≡ plan_of old
+    told : disks_tell on.seen new ≡ disks_tell on.seen old
+    longer : IsLongerBook (book_of old) (book_of new)
+    sound : IsSound old → IsSound new
+
+  stays_same : (old new : World D) → new ≡ old → Stays old new
+  stays_same old new same = subst (Stays old) (sym same) (record { plan = refl; told = refl; longer = ([], sym (append-nil (book_of old))); sound = λ s. s })
+
+  longer_both : (a b c : World D) → IsLongerBook (book_of a) (book_of b) → IsLongerBook (book_of b) (book_of c) → IsLongerBook (book_of a) (book_of c)
+  longer_both a b c (first, p) (second, q) = (first ++ second, q ∙ ap (λ xs. xs ++ second) p ∙ append_assoc (book_of a) first second)
+
+  stays_both : (a b c : World D) → Stays a b → Stays b c → Stays a c
+  stays_both a b c p q = record {
+    plan = q.plan ∙ p.plan;
+    told = q.told ∙ p.told;
+    longer = longer_both a b c p.longer q.longer;
+    sound = λ s. q.sound (p.sound s);
+  }
+
+  step_stays : (result : Result Said StepFault) (step : Step) (old new : World D) → StepIsKnown on.seen (state_of old) step → IsEnded step → IsStep on result step old new → Stays old new
+  step_stays result step old new known ended is = record {
+    plan = is.did.plan;
+    told = tells_alike on.seen (disks_of old) (disks_of new) is.did.handed (λ k x y. is.did.told.each (suc k) x y);
+    longer = is.did.books;
+    sound = λ s.
+        let l = is.did.leads known ended s.w s.stands in
+        let both = steps_sound (plan_of old) (disks_tell on.seen old) s.w l.next (record { step = step_seen step; outcome = outcome_seen result } ∷ []) (l.next, l.made, refl) s.in_plan s.sound in
+        record {
+          w = l.next;
+          stands = l.stands;
+          in_plan = subst (λ (p : Plan). InPlan p.nodes l.next.slots) (sym is.did.plan) both.0;
+          sound = subst (λ (p : Plan). Sound p.confirm (cluster_of l.next)) (sym is.did.plan) both.1;
+          tickets = steps_ask_one_thing (plan_of old) (disks_tell on.seen old) s.w l.next (step_seen step) (outcome_seen result) l.made s.sound s.tickets;
+        };
+  }
+
+  steps_stay : (steps : List StepMade) (old new : World D) → AllKnown (disks_tell on.seen old) (plan_of old).nodes steps → MakesSteps on steps old new → Stays old new
+  steps_stay [] old new known same = stays_same old new same
+  steps_stay (one ∷ more) old new known (mid, is, makes) =
+      let here = step_stays one.result one.step old mid known.0 known.1 is in
+      let rest : AllKnown (disks_tell on.seen mid) (plan_of mid).nodes more = subst (λ t. AllKnown t (plan_of mid).nodes more) (sym here.told)
+      (subst (λ (p : Plan). AllKnown (disks_tell on.seen old) p.nodes more) (sym here.plan) known.2) in
+      stays_both old mid new here (steps_stay more mid new rest makes)
+
+  posts_stay : (steps : List StepMade) (old new : World D) → PostsAll on steps old new → Stays old new
+  posts_stay [] old new (none, same) = stays_same old new same
+  posts_stay (one ∷ more) old new (letter, mid, first, posts, is, rest) =
+      let here = step_stays one.result one.step old mid (inr (subst (IsBlind (plan_of old).nodes) (sym posts) tt)) (subst IsEnded (sym posts) tt) is in
+      by (has_failed one.result) here (λ goes. posts_stay more mid new goes) rest
+    where
+      by : (failed : Bool) → Stays old mid → (PostsAll on more mid new → Stays mid new) → MatchBool failed ((more ≡ []) × (new ≡ mid)) (PostsAll on more mid new) → Stays old new
+      by true here go stops = stays_both old mid new here (stays_same mid new stops.1)
+      by false here go goes = stays_both old mid new here (go goes)
+
+  kept : (old new : World D) → CanMakeSteps on.seen new → Stays old new → KeepsWorld on old new
+  kept old new ready s = record {
+    plan = s.plan;
+    longer = s.longer;
+    sound = λ c.
+        let sound = s.sound (record { w = c.plain; stands = c.stands; in_plan = c.in_plan; sound = c.sound; tickets = c.tickets }) in
+        record { ready = ready; plain = sound.w; stands = sound.stands; in_plan = sound.in_plan; sound = sound.sound; tickets = sound.tickets };
+  }
+
+  pub keeps_step : (result : Result Said StepFault) (step : Step) (old new : World D) → StepIsKnown on.seen (state_of old) step → IsEnded step → CanMakeSteps on.seen new
+      → IsStep on result step old new → KeepsWorld on old new
+  keeps_step result step old new known ended ready is = kept old new ready (step_stays result step old new known ended is)
+
+  pub steps_keep_world : StepsKeepWorld on
+  steps_keep_world steps old new known ready makes = kept old new ready (steps_stay steps old new known makes)
+
+  pub flows_keep_world : FlowsKeepWorld on
+  flows_keep_world steps old new ready posts = kept old new ready (posts_stay steps old new posts)
+
+  pub opened_is_sound : OpenedIsSound on
+  opened_is_sound plan world begins =
+      let few : plan.nodes ≤ 64 = omega (arith, world.nodes.few, ap (λ (p : Plan). p.nodes) begins.plan_is) in
+      let opens = opening_sound plan.nodes plan.confirm few in
+      record {
+        ready = begins.ready;
+        plain = opening_world plan.nodes;
+        stands = begins.stands;
+        in_plan = subst (λ (p : Plan). InPlan p.nodes (opening_world plan.nodes).slots) (sym begins.plan_is) opens.0;
+        sound = subst (λ (p : Plan). Sound p.confirm (cluster_of (opening_world plan.nodes))) (sym begins.plan_is) opens.1;
+        tickets = opening_asks_one_thing plan.nodes;
+      }
+
+  -- what the machine does is known at any turn of a board, where it always is
+  pub known_there : (first now : World D) (step : Step) → plan_of now ≡ plan_of first → AlwaysKnown on.seen (plan_of first).nodes step → StepIsKnown on.seen (state_of now) step
+  known_there first now step same known =
+      ⊎_elim (λ tell. inl (all_tell on.seen tell (disks_of now))) (λ blind. inr (subst (λ (p : Plan). IsBlind p.nodes step) (sym same) blind)) known

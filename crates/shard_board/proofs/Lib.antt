@@ -1,0 +1,5 @@
+pub mod Keeping
+pub mod Spread
+pub mod Paged
+pub mod Showing
+pub mod Turning

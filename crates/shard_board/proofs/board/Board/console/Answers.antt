@@ -1,0 +1,23 @@
+use Rattle.std.proofs.Common.{ap}
+use Rattle.node_store.specs.Disks.{view_of}
+use Rattle.shard_board.specs.Orders.{step_ordered}
+use Rattle.shard_board.proofs.Turning.{obeyed, counted}
+use Rattle.shard_board.proofs.board.Board.console.Goals as goal
+
+pub returns-in-Crash-clause-turn : goal.returns-in-Crash-clause-turn
+returns-in-Crash-clause-turn g c = obeyed (view_of g.D.Disk.seen g.D.Disk.faults g.D.Disk.clock) (step_ordered c.args.order) _ c.args.self.now c.args.pass.now _ _ _ (ap step_ordered c.in-Crash.is) c.told.ensures c.step.ensures.turn
+
+pub returns-in-Start-clause-turn : goal.returns-in-Start-clause-turn
+returns-in-Start-clause-turn g c = obeyed (view_of g.D.Disk.seen g.D.Disk.faults g.D.Disk.clock) (step_ordered c.args.order) _ c.args.self.now c.args.pass.now _ _ _ (ap step_ordered c.in-Start.is) c.told-in-Start.ensures c.step-in-Start.ensures.turn
+
+pub returns-in-Lose-clause-turn : goal.returns-in-Lose-clause-turn
+returns-in-Lose-clause-turn g c = obeyed (view_of g.D.Disk.seen g.D.Disk.faults g.D.Disk.clock) (step_ordered c.args.order) _ c.args.self.now c.args.pass.now _ _ _ (ap step_ordered c.in-Lose.is) c.told-in-Lose.ensures c.step-in-Lose.ensures.turn
+
+pub returns-in-Push-clause-turn : goal.returns-in-Push-clause-turn
+returns-in-Push-clause-turn g c = obeyed (view_of g.D.Disk.seen g.D.Disk.faults g.D.Disk.clock) (step_ordered c.args.order) _ c.args.self.now c.args.pass.now _ _ _ (ap step_ordered c.in-Push.is) c.told-in-Push.ensures c.step-in-Push.ensures.turn
+
+pub returns-in-Widen-clause-turn : goal.returns-in-Widen-clause-turn
+returns-in-Widen-clause-turn g c = obeyed (view_of g.D.Disk.seen g.D.Disk.faults g.D.Disk.clock) (step_ordered c.args.order) _ c.args.self.now c.args.pass.now _ _ _ (ap step_ordered c.in-Widen.is) c.told-in-Widen.ensures c.step-in-Widen.ensures.turn
+
+pub returns-in-Sum-clause-turn : goal.returns-in-Sum-clause-turn
+returns-in-Sum-clause-turn g c = counted (view_of g.D.Disk.seen g.D.Disk.faults g.D.Disk.clock) (step_ordered c.args.order) c.args.self.now c.args.pass.now _ _ (ap step_ordered c.in-Sum.is) c.sum.ensures.turn

@@ -1,0 +1,10 @@
+pub mod Worlds
+pub mod Pages
+pub mod Parts
+pub mod Deeds
+pub mod Tallies
+pub mod Boards
+pub mod Orders
+pub mod Posts
+pub mod Entries
+pub mod Reads

@@ -1,0 +1,21 @@
+//! What stays of a world, whatever is done with it: functions that do nothing, whose contracts hold of the definitions alone.
+ghost use Rattle.node_store.specs.Disks.{view_of};
+ghost use Rattle.shard_board.specs.Worlds.{StepsKeepWorld, FlowsKeepWorld, OpenedIsSound};
+
+use io_edge::Disk;
+
+/// Over steps of which the machine's are known, whatever comes of them, a world keeps its plan, its book only grows, and a sound
+/// world stays sound.
+pub fn steps_keep_world<D: Disk>()
+    ensures { StepsKeepWorld (view_of D.seen D.faults D.clock) }
+{}
+
+/// So it is where all letters in flight are posted.
+pub fn flows_keep_world<D: Disk>()
+    ensures { FlowsKeepWorld (view_of D.seen D.faults D.clock) }
+{}
+
+/// A world that was opened is sound.
+pub fn opened_is_sound<D: Disk>()
+    ensures { OpenedIsSound (view_of D.seen D.faults D.clock) }
+{}

@@ -1,0 +1,70 @@
+//! shard_board: a cluster behind a lock that has a history.
+//!
+//! SUMMARY
+//!
+//! A `Board` is a world with its fate and its clock behind a turnstile, for several threads, each with a `BoardPass`. Each call
+//! of a board is one turn: it finds the world as the turns before left it, makes one whole step or a few, and nobody else works
+//! on it meanwhile.
+//!
+//! DESCRIPTION
+//!
+//! `Board::new` takes a world, a fate and a clock, and gives the board and its first pass. `split` gives a pass for another
+//! thread, and `join` takes it in again. `close` gives the world to the pass that has the whole quota.
+//!
+//! | Call | Steps of the world |
+//! |---|---|
+//! | `begin`, `ask`, `give_up` | one of that kind |
+//! | `console` | the one that an operator orders; none to count the entries of the book |
+//! | `post_one` | the clock is set, and then the letter of the lowest number is handed over, lost or handed over twice, as fate decides |
+//! | `is_up`, `entry`, `sum` | none |
+//! | `act` | those of the deed that it is handed |
+//!
+//! HOW IT STANDS
+//!
+//! The history of the lock has a page for each deed, mostly a step, with what it added to the book. A page takes no room. So the book is
+//! what it was as the board was made, and after that what the pages have; what a pass has seen of it is what its pages have, and
+//! its own entries are those on the pages of its own turns.
+//!
+//! PROMISES
+//!
+//! - Each call says by `IsTurnOf` in `specs/Boards.antt` what its turn did: there are an old and a new world with the step
+//!   between them; the book of the old begins with all that the pass had seen; what was added is the pass's own.
+//! - What `close` gives has in its book the entries of the opening, of the pass and of each pass that was joined, each once, in
+//!   their order, and no other (`ClosesWith`).
+//! - `specs/Worlds.antt` has what stays whatever is done: the plan, and that the world is sound, which says that it can make
+//!   steps and stands for a sound world of the machine. The law is `steps_keep_world`.
+//!
+//! DIAGNOSTICS
+//!
+//! A call is refused as `cluster_world` refuses its step. Over disks that tell nothing of what they hold, no node is started, and
+//! among several nodes none pushes: `console` requires that the machine's part in the step is known.
+//!
+//! STANDS ON
+//!
+//! `turnstile` for the lock, `cluster_world` for the world and its steps, `cluster_model` for what a sound cluster is, and
+//! `desk_model` for what its tickets ask.
+//!
+//! WHAT IT DOES NOT DO
+//!
+//! Who comes first and how long a turn waits are not said. A step whose page finds no memory is not made, and says so as one
+//! that is out of memory. A pass that is dropped keeps its quota for ever, so that `close` can no longer be called.
+#![tactic(auto)]
+
+mod board;
+mod deed;
+mod entries;
+mod fate;
+mod laws;
+mod order;
+mod page;
+mod part;
+mod passes;
+mod tallies;
+mod turns;
+mod works;
+
+pub use board::{Board, BoardPass};
+pub use deed::Deed;
+pub use fate::{CarryAll, Clock, Fate, Luck, SetClock};
+pub use laws::{flows_keep_world, opened_is_sound, steps_keep_world};
+pub use order::{Order, Told};

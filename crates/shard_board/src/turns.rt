@@ -1,0 +1,247 @@
+//! The calls of a board. Each is one turn.
+ghost use Rattle.std.specs.Prelude.{◌≡◌, ◌<◌, IfOk, length, slice_get};
+ghost use Rattle.node_store.specs.Disks.{view_of};
+ghost use Rattle.cluster_world.specs.Worlds.{plan_of};
+ghost use Rattle.cluster_world.specs.Ended.{IsEnded};
+ghost use Rattle.cluster_world.specs.declared.world.World.{World as AWorld};
+ghost use Rattle.cluster_world.specs.declared.step.Step.TheVariants as step;
+ghost use Rattle.shard_board.specs.Parts.{KeepsPart};
+ghost use Rattle.shard_board.specs.Deeds.{MakesOne};
+ghost use Rattle.shard_board.specs.Boards.{first_part, plan_of_board, own_entries, seen_book, IsPassOf, IsTurnOf};
+ghost use Rattle.shard_board.specs.Orders.{step_ordered, AlwaysKnown, OrderIsKnown, Obeys, TellsOf};
+ghost use Rattle.shard_board.specs.Posts.{PostsOne};
+ghost use Rattle.shard_board.specs.Reads.{TellsLife, TellsSum, TellsEntry};
+ghost use Rattle.shard_board.specs.Entries.{entry_shown};
+
+use crate::board::{Board, BoardPass};
+use crate::deed::{Deed, Stepping};
+use crate::fate::{Clock, Fate};
+use crate::order::{Order, Told};
+use crate::part::Part;
+use crate::works::{Doing, Looking, Posting, Reading, Summing};
+use call_tickets::{Call, DeskFault, Life, Posted, Tally};
+use cluster_world::{BookSum, Said, Step, StepFault};
+use io_edge::Disk;
+use mail_base::{NodeNo, Ticket};
+use std::alloc::{AllocError, Global};
+use std::sync::Wait;
+use turnstile::Work;
+use world_book::Entry;
+
+// What the step said is what is told of its order.
+fn told(said: Result<Said, StepFault>) -> Result<Told, StepFault>
+    ensures { TellsOf said result }
+{
+    Ok(Told::Said(said?))
+}
+
+impl<D: Disk, F, C> Board<D, F, C> {
+    // One turn.
+    fn take<W: Work<Part<D, F, C>>, R: Wait>(
+        &self,
+        rt: &R,
+        pass: &mut BoardPass<D, F, C>,
+        work: W,
+    ) -> W::Out
+        requires pass { IsPassOf (view_of D.seen D.faults D.clock) self.now pass.old }
+        requires work { (part : Part D F C) → KeepsPart (view_of D.seen D.faults D.clock) (first_part self.now) part → W.asks work part }
+        ensures pass { IsPassOf (view_of D.seen D.faults D.clock) self.now pass.new }
+        ensures turn { IsTurnOf (view_of D.seen D.faults D.clock) (W.did work) self.now pass.old pass.new result }
+    {
+        self.turnstile.turn(rt, &mut pass.lower, work)
+    }
+
+    /// Does the deed with the world, in one turn. Where there is no memory for its page, it is not done.
+    pub fn act<T: Deed<D>, R: Wait>(
+        &self,
+        rt: &R,
+        alloc: Global,
+        pass: &mut BoardPass<D, F, C>,
+        deed: T,
+    ) -> T::Out
+        requires pass { IsPassOf (view_of D.seen D.faults D.clock) self.now pass.old }
+        requires asks { (world : AWorld D) → plan_of world ≡ plan_of_board self.now → T.asks deed world }
+        ensures pass { IsPassOf (view_of D.seen D.faults D.clock) self.now pass.new }
+        ensures turn { IsTurnOf (view_of D.seen D.faults D.clock) (λ old out new. T.did deed old.world out new.world) self.now pass.old pass.new result }
+    {
+        self.take(rt, pass, Doing { alloc, deed })
+    }
+
+    // One step.
+    fn step<R: Wait>(
+        &self,
+        rt: &R,
+        alloc: Global,
+        pass: &mut BoardPass<D, F, C>,
+        step: Step,
+    ) -> Result<Said, StepFault>
+        requires pass { IsPassOf (view_of D.seen D.faults D.clock) self.now pass.old }
+        requires known { AlwaysKnown D.seen (plan_of_board self.now).nodes step }
+        requires ended { IsEnded step }
+        ensures pass { IsPassOf (view_of D.seen D.faults D.clock) self.now pass.new }
+        ensures turn { IsTurnOf (view_of D.seen D.faults D.clock) (λ old said new. MakesOne (view_of D.seen D.faults D.clock) said step old.world new.world) self.now pass.old pass.new result }
+    {
+        self.act(rt, alloc, pass, Stepping { step })
+    }
+
+    /// Begins a call at a node: one step, and no other. The message of a delivery is empty or ends in CRLF.
+    ///
+    /// # Errors
+    ///
+    /// Why the step was refused.
+    pub fn begin<R: Wait>(
+        &self,
+        rt: &R,
+        alloc: Global,
+        pass: &mut BoardPass<D, F, C>,
+        node: NodeNo,
+        call: Call,
+    ) -> Result<Said, StepFault>
+        requires pass { IsPassOf (view_of D.seen D.faults D.clock) self.now pass.old }
+        requires ended { IsEnded (step.Begin node call) }
+        ensures pass { IsPassOf (view_of D.seen D.faults D.clock) self.now pass.new }
+        ensures turn { IsTurnOf (view_of D.seen D.faults D.clock) (λ old said new. MakesOne (view_of D.seen D.faults D.clock) said (step.Begin node call) old.world new.world) self.now pass.old pass.new result }
+    {
+        self.step(rt, alloc, pass, Step::Begin { node, call })
+    }
+
+    /// Asks what became of a call: one step, and no other. A call that is done waits no more.
+    ///
+    /// # Errors
+    ///
+    /// Why the step was refused.
+    pub fn ask<R: Wait>(
+        &self,
+        rt: &R,
+        alloc: Global,
+        pass: &mut BoardPass<D, F, C>,
+        ticket: Ticket,
+    ) -> Result<Said, StepFault>
+        requires pass { IsPassOf (view_of D.seen D.faults D.clock) self.now pass.old }
+        ensures pass { IsPassOf (view_of D.seen D.faults D.clock) self.now pass.new }
+        ensures turn { IsTurnOf (view_of D.seen D.faults D.clock) (λ old said new. MakesOne (view_of D.seen D.faults D.clock) said (step.Ask ticket) old.world new.world) self.now pass.old pass.new result }
+    {
+        self.step(rt, alloc, pass, Step::Ask { ticket })
+    }
+
+    /// Gives a call up: one step, and no other.
+    ///
+    /// # Errors
+    ///
+    /// Why the step was refused.
+    pub fn give_up<R: Wait>(
+        &self,
+        rt: &R,
+        alloc: Global,
+        pass: &mut BoardPass<D, F, C>,
+        ticket: Ticket,
+    ) -> Result<Said, StepFault>
+        requires pass { IsPassOf (view_of D.seen D.faults D.clock) self.now pass.old }
+        ensures pass { IsPassOf (view_of D.seen D.faults D.clock) self.now pass.new }
+        ensures turn { IsTurnOf (view_of D.seen D.faults D.clock) (λ old said new. MakesOne (view_of D.seen D.faults D.clock) said (step.GiveUp ticket) old.world new.world) self.now pass.old pass.new result }
+    {
+        self.step(rt, alloc, pass, Step::GiveUp { ticket })
+    }
+
+    /// How many entries of each kind the book has. It makes no step, and takes no memory.
+    pub fn sum<R: Wait>(&self, rt: &R, pass: &mut BoardPass<D, F, C>) -> BookSum
+        requires pass { IsPassOf (view_of D.seen D.faults D.clock) self.now pass.old }
+        ensures pass { IsPassOf (view_of D.seen D.faults D.clock) self.now pass.new }
+        ensures turn { IsTurnOf (view_of D.seen D.faults D.clock) TellsSum self.now pass.old pass.new result }
+    {
+        self.take(rt, pass, Summing)
+    }
+
+    /// What an operator orders: the step that is ordered, and no other, or a count of the entries of the book. A start, and a push
+    /// among several nodes, read from a disk what has to be known of the world, so the disks have to tell what they hold.
+    ///
+    /// # Errors
+    ///
+    /// Why the step was refused.
+    pub fn console<R: Wait>(
+        &self,
+        rt: &R,
+        alloc: Global,
+        pass: &mut BoardPass<D, F, C>,
+        order: Order,
+    ) -> Result<Told, StepFault>
+        requires pass { IsPassOf (view_of D.seen D.faults D.clock) self.now pass.old }
+        requires known { OrderIsKnown D.seen (plan_of_board self.now).nodes (step_ordered order) }
+        ensures pass { IsPassOf (view_of D.seen D.faults D.clock) self.now pass.new }
+        ensures turn { IsTurnOf (view_of D.seen D.faults D.clock) (Obeys (view_of D.seen D.faults D.clock) (step_ordered order)) self.now pass.old pass.new result }
+    {
+        match order {
+            Order::Crash(node) => told(self.step(rt, alloc, pass, Step::Crash { node })),
+            Order::Start(node) => told(self.step(rt, alloc, pass, Step::Start { node })),
+            Order::Lose(node) => told(self.step(rt, alloc, pass, Step::Lose { node })),
+            Order::Push { from, to } => told(self.step(rt, alloc, pass, Step::Push { from, to })),
+            Order::Widen { at, user, id, to } => {
+                told(self.step(rt, alloc, pass, Step::Widen { at, user, id, to }))
+            }
+            Order::Sum => Ok(Told::Sum(self.sum(rt, pass))),
+        }
+    }
+
+    /// The life of a node: its boot, and the seconds of the clock; nothing where it is not up. It makes no step, and takes no
+    /// memory.
+    pub fn is_up<R: Wait>(
+        &self,
+        rt: &R,
+        pass: &mut BoardPass<D, F, C>,
+        node: NodeNo,
+    ) -> Option<Life>
+        requires pass { IsPassOf (view_of D.seen D.faults D.clock) self.now pass.old }
+        ensures pass { IsPassOf (view_of D.seen D.faults D.clock) self.now pass.new }
+        ensures turn { IsTurnOf (view_of D.seen D.faults D.clock) (TellsLife node) self.now pass.old pass.new result }
+    {
+        self.take(rt, pass, Looking { node })
+    }
+
+    /// The entry of the book at this place, counted from 0; none where the book has not so many. Where the pass has seen the
+    /// place, it is the entry that it saw. It makes no step.
+    ///
+    /// # Errors
+    ///
+    /// Out of memory alone.
+    pub fn entry<R: Wait>(
+        &self,
+        rt: &R,
+        pass: &mut BoardPass<D, F, C>,
+        place: usize,
+    ) -> Result<Option<Entry>, AllocError>
+        requires pass { IsPassOf (view_of D.seen D.faults D.clock) self.now pass.old }
+        ensures pass { IsPassOf (view_of D.seen D.faults D.clock) self.now pass.new }
+        ensures turn { IsTurnOf (view_of D.seen D.faults D.clock) (TellsEntry place) self.now pass.old pass.new result }
+        ensures own { own_entries pass.new ≡ own_entries pass.old }
+        ensures seen { place < length (seen_book self.now pass.old) → IfOk result (λ found. entry_shown found ≡ slice_get (seen_book self.now pass.old) place) }
+    {
+        self.take(rt, pass, Reading { place })
+    }
+
+    /// What the pass counted. It takes no memory.
+    pub fn tally(pass: &BoardPass<D, F, C>) -> Tally
+        ensures { result ≡ pass.now.tally }
+    {
+        pass.tally
+    }
+}
+
+impl<D: Disk, F: Fate, C: Clock> Board<D, F, C> {
+    /// Sets the clock, and then looks at the letter of the lowest number, if one is in flight: what fate decides of it is done.
+    ///
+    /// # Errors
+    ///
+    /// `Worn`, where a number is used up, and out of memory.
+    pub fn post_one<R: Wait>(
+        &self,
+        rt: &R,
+        alloc: Global,
+        pass: &mut BoardPass<D, F, C>,
+    ) -> Result<Posted, DeskFault>
+        requires pass { IsPassOf (view_of D.seen D.faults D.clock) self.now pass.old }
+        ensures pass { IsPassOf (view_of D.seen D.faults D.clock) self.now pass.new }
+        ensures turn { IsTurnOf (view_of D.seen D.faults D.clock) (PostsOne (view_of D.seen D.faults D.clock) F.decides) self.now pass.old pass.new result }
+    {
+        self.take(rt, pass, Posting { alloc })
+    }
+}
