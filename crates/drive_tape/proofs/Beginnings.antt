@@ -1,4 +1,4 @@
--- What a beginning may say of a call that is no leave.
+-- What a beginning may say of a call that is no leave, and of a leave.
 use Rattle.std.proofs.Common.{◌≡◌, ℕ, Option, Some, None, Result, Ok, Err}
 use Rattle.std.specs.Prelude.{IfOk}
 use Rattle.session_model.specs.Calls as calls
@@ -10,7 +10,8 @@ use Rattle.cluster_world.specs.declared.step.Said.{Said}
 use Rattle.cluster_world.specs.declared.step.Said.TheVariants.{Begun, Noted, Asked, Heard, Thrown, Sent, Widened, NodeUp, Done, Faulted}
 use Rattle.cluster_world.specs.declared.fault.StepFault.{StepFault}
 use Rattle.drive_tape.specs.Kinds.{IsNoLeave}
-use Rattle.drive_tape.specs.Worlds.{IsSaidOfBeginning}
+use Rattle.drive_tape.specs.Leaving.{IsALeave}
+use Rattle.drive_tape.specs.Worlds.{IsSaidOfBeginning, IsSaidOfLeave}
 
 -- a ticket of the node, or that the node failed
 abbrev pub HasTicketSo : ℕ → Said → Type 0
@@ -80,3 +81,16 @@ said_so (Leave user login manager) node what asks says = absurd asks
 pub said_of_beginning : (call : Call) (node : ℕ) (result : Result Said StepFault) → IsNoLeave call → IfOk result (BeginsSo call node) → IsSaidOfBeginning result
 said_of_beginning call node (Err why) asks says = tt
 said_of_beginning call node (Ok what) asks says = said_so call node what asks says
+
+-- a leave is noted, and nothing else is said of it
+noted_so : (call : Call) (node : ℕ) (what : Said) → IsALeave call → BeginsSo call node what → IsSaidOfLeave (Ok what)
+noted_so (Leave user login manager) node Noted leaves says = tt
+noted_so (Leave user login manager) node what leaves says = absurd says
+noted_so (Deliver deliver) node what leaves says = absurd leaves
+noted_so (Login user proof) node what leaves says = absurd leaves
+noted_so (Fetch user id holders from most) node what leaves says = absurd leaves
+noted_so (Strike user items) node what leaves says = absurd leaves
+
+pub said_of_leave : (call : Call) (node : ℕ) (result : Result Said StepFault) → IsALeave call → IfOk result (BeginsSo call node) → IsSaidOfLeave result
+said_of_leave call node (Err why) leaves says = tt
+said_of_leave call node (Ok what) leaves says = noted_so call node what leaves says

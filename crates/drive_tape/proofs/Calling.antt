@@ -24,7 +24,7 @@ use Rattle.drive_tape.specs.declared.drove.Stop.{Stop}
 use Rattle.drive_tape.specs.declared.open_call.OpenCall.{OpenCall}
 use Rattle.drive_tape.specs.Denials.{stop_by, IsDoneOr}
 use Rattle.drive_tape.specs.Kinds.{fits_kind, IsKindOf}
-use Rattle.drive_tape.specs.Worlds.{IsWholeCall, HandsOn, HasFailed, WorldIsAt, HasGone, BeganSo, AskedSo, GaveUpSo, LeftSo}
+use Rattle.drive_tape.specs.Worlds.{IsWholeCall, HandsOn, IsNoted, HasFailed, WorldIsAt, HasGone, BeganSo, AskedSo, GaveUpSo, LeftSo}
 use Rattle.drive_tape.proofs.Beginnings.{begins_so}
 use Rattle.drive_tape.proofs.Done.{given_up, refused_life}
 use Rattle.drive_tape.proofs.Chains.{carried, stands_at, went_more, has_failed}
@@ -137,12 +137,20 @@ module _ {D : Type 0} (on : View D) (start old new : World D) (outcomes : List O
   gave_up_so {T} asked ticket (Err why) (Err stop) done among is = call_kept_up T asked ticket why stop done among is
 
   -- a leave
-  pub user_left : (T E : Type 0) (node : ℕ) (call : Call) (user : List ℕ) (t : T) → IsLeave user call → IsStep on (Ok said.Noted) (step.Begin node call) old new
+  user_left : (T E : Type 0) (node : ℕ) (call : Call) (user : List ℕ) (t : T) → IsLeave user call → IsStep on (Ok said.Noted) (step.Begin node call) old new
       → LeftSo {E = E} on start outcomes awaited k node user (Ok t) old new
   user_left T E node call user t leave is = (λ n. is.did.lives n, went_more on start outcomes awaited old at (Left k node user) awaited new (call, Ok said.Noted, leave, is, refl) tt)
 
-  pub user_stays : (node : ℕ) (call : Call) (user : List ℕ) (result : Result Said StepFault) → IsLeave user call → IsStep on result (step.Begin node call) old new
+  user_stays : (node : ℕ) (call : Call) (user : List ℕ) (result : Result Said StepFault) → IsLeave user call → IsStep on result (step.Begin node call) old new
       → HasGone on start old (outcomes ++ Left k node user ∷ []) new
   user_stays node call user result leave is =
       let left = left_after (fallen_in (step.Begin node call) result) awaited in
       (left, went_more on start outcomes awaited old at (Left k node user) left new (call, result, leave, is, refl) tt)
+
+  -- whichever of both
+  pub left_so : {T E : Type 0} (node : ℕ) (call : Call) (user : List ℕ) (result : Result Said StepFault) (handed : Result T E) → IsNoted result handed → IsLeave user call
+      → IsStep on result (step.Begin node call) old new → LeftSo on start outcomes awaited k node user handed old new
+  left_so {T} {E} node call user (Ok what) (Ok t) noted leave is = user_left T E node call user t leave (subst (λ (w : Said). IsStep on (Ok w) (step.Begin node call) old new) noted is)
+  left_so node call user (Ok what) (Err e) noted leave is = absurd noted
+  left_so node call user (Err why) (Ok t) noted leave is = absurd noted
+  left_so node call user (Err why) (Err e) noted leave is = user_stays node call user (Err why) leave is

@@ -3,11 +3,10 @@ use Rattle.std.proofs.Common.{◌≡◌, ℕ, List, sym, subst}
 use Rattle.mail_model.specs.Plan.{Plan}
 use Rattle.mail_model.specs.Smtp.{greeting_text}
 use Rattle.mail_model.specs.Tape.Protocol.{Smtp, Pop}
-use Rattle.session_model.specs.Calls as calls
 use Rattle.session_model.specs.Sessions.{Session}
 use Rattle.session_model.specs.Acts.{opened_session}
-use Rattle.call_tickets.specs.Moves.{Due, Moves, Replied, Greeted}
-use Rattle.call_tickets.specs.Moves.Due.{Greeting, Reply}
+use Rattle.call_tickets.specs.Moves.{Due, Moves, Greeted}
+use Rattle.call_tickets.specs.Moves.Due.{Greeting}
 use Rattle.call_tickets.specs.declared.step.Move.{Move}
 use Rattle.call_tickets.specs.declared.step.Move.TheVariants.{Said, Begin, Wait, Idle, End}
 use Rattle.smtp_session.specs.Follows as mail
@@ -23,14 +22,6 @@ module _ (follows : Session → Due → Type 0) (plan : Plan) (plain : Session) 
   greets_only greeting Wait octets is = absurd is
   greets_only greeting Idle octets is = absurd is
   greets_only greeting End octets is = absurd is
-
-  pub replies_only : (greeting : List ℕ) (answer : calls.Answer) (did : Move) (octets : List ℕ) → Moves follows greeting plan plain (Reply answer) did octets
-      → Replied follows plan plain answer octets
-  replies_only greeting answer Said octets is = is
-  replies_only greeting answer (Begin call) octets is = absurd is
-  replies_only greeting answer Wait octets is = absurd is
-  replies_only greeting answer Idle octets is = absurd is
-  replies_only greeting answer End octets is = absurd is
 
 -- the greeting of one that takes mail
 pub mail_greets : (plan : Plan) (node : ℕ) (session new : SmtpSession) (did : Move) (octets : List ℕ) → mail.Follows session (opened_session Smtp node) Greeting

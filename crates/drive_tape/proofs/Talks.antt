@@ -10,7 +10,7 @@ use Rattle.mail_model.specs.Site.TapeFault.{NoSuchSession}
 use Rattle.call_tickets.specs.Moves.{HasEnded}
 use Rattle.session_model.specs.Calls.{Call, Answer}
 use Rattle.session_model.specs.Calls.Call.{Deliver, Login, Fetch, Strike}
-use Rattle.session_model.specs.Calls.Answer.{Stored, Listed, Wrong, Part, GoneAlready, Dropped, Failed}
+use Rattle.session_model.specs.Calls.Answer.{Stored, Listed, Wrong, InUse, NoProfile, Part, GoneAlready, Dropped, Failed}
 use Rattle.session_model.specs.Sessions.{Session, session_at}
 use Rattle.session_model.specs.Acts.{Did, Deed}
 use Rattle.session_model.specs.Acts.Deed.{IsFed, Hears, IsAnswered, IsGivenUp, Falls, Closes}
@@ -190,6 +190,8 @@ answered_on state (Deliver mail) answer s c waits = absurd cc
 answered_on state (Login user given) (Stored id) s c waits = absurd cc
 answered_on state (Login user given) (Listed items) s c waits = absurd cc
 answered_on state (Login user given) Wrong s c waits = absurd cc
+answered_on state (Login user given) InUse s c waits = absurd cc
+answered_on state (Login user given) NoProfile s c waits = absurd cc
 answered_on state (Login user given) (Part octets) s c waits = absurd cc
 answered_on state (Login user given) GoneAlready s c waits = absurd cc
 answered_on state (Login user given) Dropped s c waits = absurd cc
@@ -243,6 +245,8 @@ answered_ended state (Deliver mail) answer ended = absurd ended
 answered_ended state (Login user given) (Stored id) ended = absurd ended
 answered_ended state (Login user given) (Listed items) ended = absurd ended
 answered_ended state (Login user given) Wrong ended = absurd ended
+answered_ended state (Login user given) InUse ended = absurd ended
+answered_ended state (Login user given) NoProfile ended = absurd ended
 answered_ended state (Login user given) (Part octets) ended = absurd ended
 answered_ended state (Login user given) GoneAlready ended = absurd ended
 answered_ended state (Login user given) Dropped ended = absurd ended

@@ -7,6 +7,8 @@ use Rattle.mail_base.specs.declared.filing.CallKind.TheVariants.{Deliver, Login,
 use Rattle.call_tickets.specs.Seen.{answer_seen}
 use Rattle.call_tickets.specs.declared.call.Call.{Call}
 use Rattle.call_tickets.specs.declared.call.Call.TheVariants.{Leave}
+use Rattle.call_tickets.specs.declared.step.Move.{Move}
+use Rattle.call_tickets.specs.declared.step.Move.TheVariants.{Begin}
 use Rattle.call_tickets.specs.declared.answer.Answer.{Answer}
 use Rattle.call_tickets.specs.declared.answer.Answer.TheVariants as answer
 
@@ -24,6 +26,8 @@ fits_kind kind (answer.Failed mishaps) = true
 fits_kind kind (answer.Stored id confirmers) = same_kind kind Deliver
 fits_kind kind (answer.Listed login manager asked items) = same_kind kind Login
 fits_kind kind (answer.Wrong stamp) = same_kind kind Login
+fits_kind kind (answer.InUse by) = same_kind kind Login
+fits_kind kind (answer.NoProfile manager) = same_kind kind Login
 fits_kind kind (answer.Part octets whole) = same_kind kind Fetch
 fits_kind kind answer.GoneAlready = same_kind kind Fetch
 fits_kind kind (answer.Dropped confirmers) = same_kind kind Strike
@@ -37,3 +41,8 @@ pub record IsKindOf (kind : CallKind) (asked : calls.Call) : Type 0 where
 abbrev pub IsNoLeave : Call → Type 0
 IsNoLeave (Leave user login manager) = ⊥
 IsNoLeave call = ⊤
+
+-- so it is of each that a move begins
+abbrev pub AsksNoLeave : Move → Type 0
+AsksNoLeave (Begin call) = IsNoLeave call
+AsksNoLeave move = ⊤

@@ -107,6 +107,19 @@ IsSaidOfBeginning (Ok (said.Faulted node)) = ⊤
 IsSaidOfBeginning (Ok what) = ⊥
 IsSaidOfBeginning (Err why) = ⊤
 
+-- what a step may say that begins a leave: that it is noted; or it was refused
+abbrev pub IsSaidOfLeave : Result Said StepFault → Type 0
+IsSaidOfLeave (Ok said.Noted) = ⊤
+IsSaidOfLeave (Ok what) = ⊥
+IsSaidOfLeave (Err why) = ⊤
+
+-- which of both it was
+abbrev pub IsNoted : {T E : Type 0} → Result Said StepFault → Result T E → Type 0
+IsNoted (Ok what) (Ok _) = what ≡ said.Noted
+IsNoted (Ok what) (Err _) = ⊥
+IsNoted (Err why) (Ok _) = ⊥
+IsNoted (Err why) (Err _) = ⊤
+
 -- what is handed on of what a step said that began a call of this kind
 abbrev pub HandsOn : {E : Type 0} → CallKind → Result Said StepFault → Result (Option OpenCall) E → Type 0
 HandsOn kind (Ok (said.Begun ticket stirs)) (Ok (Some given)) = (given.ticket ≡ ticket) × (given.kind ≡ kind)

@@ -7,8 +7,9 @@ ghost use Rattle.cluster_world.specs.Outcomes.{Outcome, Awaited, IsLeave};
 ghost use Rattle.cluster_world.specs.Worlds.{plan_of};
 ghost use Rattle.cluster_world.specs.declared.world.World.{World as AWorld};
 ghost use Rattle.object_model.specs.Lists.{Among};
-ghost use Rattle.drive_tape.specs.Kinds.{IsKindOf};
-ghost use Rattle.drive_tape.specs.Worlds.{IsWholeCall, IsSaidOfBeginning, HandsOn, WorldIsAt, WorldIsReady, BeganSo, AskedSo, GaveUpSo, LeftSo};
+ghost use Rattle.drive_tape.specs.Kinds.{IsKindOf, IsNoLeave};
+ghost use Rattle.drive_tape.specs.Leaving.{IsALeave};
+ghost use Rattle.drive_tape.specs.Worlds.{IsWholeCall, IsSaidOfBeginning, IsSaidOfLeave, HandsOn, IsNoted, WorldIsAt, WorldIsReady, BeganSo, AskedSo, GaveUpSo, LeftSo};
 
 use crate::Stop;
 use crate::denial::done;
@@ -48,14 +49,13 @@ pub(crate) fn begin<D: Disk>(
     call: Call,
 ) -> Result<Option<OpenCall>, AllocError>
     requires ready { WorldIsReady D.seen D.settled world.old }
+    requires asks { IsNoLeave call }
     ensures ready { WorldIsReady D.seen D.settled world.new }
     ensures plan { plan_of world.new ≡ plan_of world.old }
     ensures began { (start : AWorld D) (outcomes : List Outcome) (awaited : List Awaited) (k : ℕ) (asked : calls.Call) → call_seen call ≡ Some asked → IsWholeCall asked
         → WorldIsAt (view_of D.seen D.faults D.clock) start outcomes awaited world.old → BeganSo (view_of D.seen D.faults D.clock) start outcomes awaited k node asked result world.old world.new }
 {
-    let Some(kind) = kind_of(&call) else {
-        return Err(AllocError);
-    };
+    let kind = kind_of(&call);
     let said = world.step(alloc, Step::Begin { node, call });
     hand_on(&said, kind)
 }
@@ -128,6 +128,19 @@ pub(crate) fn give_up<D: Disk>(
     done(&said)
 }
 
+// The leave was noted.
+fn noted(said: &Result<Said, StepFault>) -> Result<(), AllocError>
+    requires fits { IsSaidOfLeave said.now }
+    ensures { IsNoted said.now result }
+{
+    match said {
+        Ok(Said::Noted) => Ok(()),
+        // Nothing else is said of a leave.
+        Ok(_) => unreachable!(),
+        Err(_) => Err(AllocError),
+    }
+}
+
 /// Tells this node that a session leaves.
 ///
 /// # Errors
@@ -140,16 +153,13 @@ pub(crate) fn leave<D: Disk>(
     call: Call,
 ) -> Result<(), AllocError>
     requires ready { WorldIsReady D.seen D.settled world.old }
+    requires leaves { IsALeave call }
     ensures ready { WorldIsReady D.seen D.settled world.new }
     ensures plan { plan_of world.new ≡ plan_of world.old }
     ensures left { (start : AWorld D) (outcomes : List Outcome) (awaited : List Awaited) (k : ℕ) (user : List ℕ) → IsLeave user call
         → WorldIsAt (view_of D.seen D.faults D.clock) start outcomes awaited world.old
         → LeftSo (view_of D.seen D.faults D.clock) start outcomes awaited k node user result world.old world.new }
 {
-    match world.step(alloc, Step::Begin { node, call }) {
-        Ok(Said::Noted) => Ok(()),
-        // Memory alone can run out for a leave.
-        Ok(_) => Err(AllocError),
-        Err(_) => Err(AllocError),
-    }
+    let said = world.step(alloc, Step::Begin { node, call });
+    noted(&said)
 }

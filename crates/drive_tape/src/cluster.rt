@@ -11,6 +11,8 @@ ghost use Rattle.drive_tape.specs.Lines.{NothingIsUnderWay};
 ghost use Rattle.drive_tape.specs.Fed.{IsTelling, TellsSo};
 ghost use Rattle.drive_tape.specs.Worlds.{WorldIsReady};
 ghost use Rattle.drive_tape.specs.Moving.{left_at, work_at, AreEven};
+ghost use Rattle.drive_tape.specs.Kinds.{IsNoLeave};
+ghost use Rattle.drive_tape.specs.Leaving.{AsksALeave, EndsInLeave};
 ghost use Rattle.drive_tape.specs.Clusters.{SessionHears, RestsAt, MovedTo, IsSaying, SessionEndsAt, IsBeginning, FaultsAt, IsToFall, IsFalling, FellOn, AsksFrom, CallHasAnswer, HeardSo, IsLess};
 
 use crate::Stop;
@@ -238,6 +240,7 @@ impl<D: Disk> Cluster<D> {
         requires ready { WorldIsReady D.seen D.settled self.old.world }
         requires within { place < length self.old.sessions.talkers.items }
         requires even { AreEven self.old.sessions }
+        requires leaves { EndsInLeave after }
         ensures ready { WorldIsReady D.seen D.settled self.new.world }
         ensures plan { plan_of self.new.world ≡ plan_of self.old.world }
         ensures said { (start : AWorld D) (p q : Point) (onward : ℕ) → IsSaying (view_of D.seen D.faults D.clock) start (plan_of self.old.world) p q place onward after out.now self.old → p.held ≡ K.contents sink.old
@@ -266,6 +269,7 @@ impl<D: Disk> Cluster<D> {
         requires ready { WorldIsReady D.seen D.settled self.old.world }
         requires within { place < length self.old.sessions.talkers.items }
         requires even { AreEven self.old.sessions }
+        requires leaves { AsksALeave call }
         ensures ready { WorldIsReady D.seen D.settled self.new.world }
         ensures plan { plan_of self.new.world ≡ plan_of self.old.world }
         ensures left { (start : AWorld D) (p : Point) (onward : ℕ) → IsAtPoint (view_of D.seen D.faults D.clock) start (plan_of self.old.world) self.old p → SessionEndsAt place onward call p
@@ -293,6 +297,7 @@ impl<D: Disk> Cluster<D> {
         requires ready { WorldIsReady D.seen D.settled self.old.world }
         requires within { place < length self.old.sessions.talkers.items }
         requires even { AreEven self.old.sessions }
+        requires asks { IsNoLeave call }
         ensures ready { WorldIsReady D.seen D.settled self.new.world }
         ensures plan { plan_of self.new.world ≡ plan_of self.old.world }
         ensures began { (start : AWorld D) (p : Point) (onward : ℕ) → IsBeginning (view_of D.seen D.faults D.clock) start (plan_of self.old.world) p place onward call self.old → p.held ≡ K.contents sink.old

@@ -113,7 +113,7 @@ fn handle<D: Disk, K: Sink>(
     }
 }
 
-// One turn: a line is read and handled.
+// A line is read and handled.
 fn turn<S: Source, K: Sink, D: Disk>(
     alloc: Global,
     source: &mut S,

@@ -57,7 +57,7 @@ impl TapeFault {
     }
 }
 
-/// Why a turn handled no line.
+/// Why no line was handled.
 #[derive(Clone, Copy, Debug, PartialEq, Eq)]
 pub enum Stop {
     /// The line is `end`.

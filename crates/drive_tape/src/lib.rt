@@ -22,10 +22,11 @@
 //! - `feed k HEX` feeds it these octets and no more.
 //! - `close k` ends the session as its client goes away. Nothing is written. A call for whose answer it waits is
 //!   given up first.
-//! - `giveup k` gives up the call for whose answer session k waits. The session is told that it failed, and
+//! - `giveup k` gives up the call for whose answer session k waits. The session is answered that it failed, and
 //!   hears on.
 //!
-//! And these move the cluster itself. Each writes one line, but for `drop`, which writes none:
+//! And these move the cluster itself, set its clock or count its book. Each writes one line, but for `drop` and
+//! `tick`, which write none:
 //!
 //! - `crash n` stops node n, which forgets all but its disk: `* node n down`.
 //! - `start n` starts node n again, in its next boot b: `* node n up b`.
@@ -38,12 +39,14 @@
 //!   `* sent c`, where c letters were put in flight. A node that is not up sends nothing.
 //! - `widen n NAME ID m` makes node m a target of the copy that node n has of message ID of user NAME:
 //!   `* widened`, or `* not widened` where there is no such copy here or m is a target of it.
+//! - `tick s` sets the clock to s seconds since 1970, forward or back.
+//! - `sum` counts the entries of the book: `* sum acked a struck s dropped d lost l`.
 //!
 //! `end` ends the tape; nothing after it is looked at.
 //!
 //! Where a node goes down, by `crash`, by `lose` or since its disk failed, each open session of that node, in
 //! rising order of number, writes its last line and that it is closed. Where the disk of node n fails,
-//! `* fault n` stands in place of the line that the work would have written. The tape goes on.
+//! `* fault n` stands instead of the line that the work would have written. The tape goes on.
 //!
 //! A session that was fed makes its moves until it is at rest, waits, or has ended by QUIT, after whose
 //! reply it is written that it is closed. What a move gives is written before the next. A move may begin a
@@ -53,10 +56,10 @@
 //! line. With one node each answer is there at once.
 //!
 //! - a whole message is delivered: once so many nodes as the plan asks for have it on their disks and have said
-//!   so, the ask enters it in the book. Then its session is told `250 stored`.
-//! - `PASS` after a good USER is a login, and `RETR` of a message of the listing is a fetch of it.
+//!   so, the ask enters it in the book. Then its session is answered `250 stored`.
+//! - `PASS` after a good USER, and `APOP`, is a login; `RETR` or `TOP` of a message of the listing is a fetch of it.
 //! - `QUIT` of a session that marked messages by `DELE` is a deletion of these: as the step begins it, they are
-//!   gone from the disk of its node; by the ask the book says that each is dropped. Then the session is told
+//!   gone from the disk of its node; by the ask the book says that each is deleted. Then the session is answered
 //!   `+OK bye`, has ended, and leaves. A session that ends in another way, as by `close` or because its node
 //!   goes down, deletes nothing.
 //! - the end of a session that was let in, by QUIT or `close`, is a leave, after its last line was written.

@@ -1,5 +1,5 @@
 // A call in progress, as the session that waits for its answer keeps it.
-ghost use Rattle.std.specs.Prelude.{◌≡◌, IfSome, None, Some};
+ghost use Rattle.std.specs.Prelude.{◌≡◌, Some};
 ghost use Rattle.session_model.specs.Calls as calls;
 ghost use Rattle.call_tickets.specs.Seen.{call_seen};
 ghost use Rattle.drive_tape.specs.Kinds.{fits_kind, IsKindOf, IsNoLeave};
@@ -16,18 +16,17 @@ pub(crate) struct OpenCall {
     pub kind: CallKind,
 }
 
-/// The kind of the call; a leave, which has no answer, has none.
-pub(crate) fn kind_of(call: &Call) -> Option<CallKind>
-    ensures some { IfSome result (λ kind. (asked : calls.Call) → call_seen call.now ≡ Some asked → IsKindOf kind asked) }
-    ensures none { result ≡ None → call_seen call.now ≡ None }
-    ensures asks { IfSome result (λ _. IsNoLeave call.now) }
+/// The kind of the call. A leave, which has no answer, has none.
+pub(crate) fn kind_of(call: &Call) -> CallKind
+    requires asks { IsNoLeave call.now }
+    ensures { (asked : calls.Call) → call_seen call.now ≡ Some asked → IsKindOf result asked }
 {
     match call {
-        Call::Deliver(_) => Some(CallKind::Deliver),
-        Call::Login { .. } => Some(CallKind::Login),
-        Call::Fetch { .. } => Some(CallKind::Fetch),
-        Call::Strike { .. } => Some(CallKind::Strike),
-        Call::Leave { .. } => None,
+        Call::Deliver(_) => CallKind::Deliver,
+        Call::Login { .. } => CallKind::Login,
+        Call::Fetch { .. } => CallKind::Fetch,
+        Call::Strike { .. } => CallKind::Strike,
+        Call::Leave { .. } => unreachable!(),
     }
 }
 
@@ -40,6 +39,8 @@ pub(crate) fn fits(kind: CallKind, answer: &Answer) -> bool
         Answer::Stored { .. } => kind == CallKind::Deliver,
         Answer::Listed { .. } => kind == CallKind::Login,
         Answer::Wrong { .. } => kind == CallKind::Login,
+        Answer::InUse { .. } => kind == CallKind::Login,
+        Answer::NoProfile { .. } => kind == CallKind::Login,
         Answer::Part { .. } => kind == CallKind::Fetch,
         Answer::GoneAlready => kind == CallKind::Fetch,
         Answer::Dropped { .. } => kind == CallKind::Strike,

@@ -10,7 +10,8 @@ ghost use Rattle.session_model.specs.Acts.{opened_session, greeting_of};
 ghost use Rattle.call_tickets.specs.Moves.{Due, HasEnded, IsBusy};
 ghost use Rattle.call_tickets.specs.Seen.{given_answer};
 ghost use Rattle.tape_lines.specs.Orders.{protocol_seen};
-ghost use Rattle.drive_tape.specs.Leaving.{IsLeaveOf};
+ghost use Rattle.drive_tape.specs.Kinds.{AsksNoLeave};
+ghost use Rattle.drive_tape.specs.Leaving.{IsLeaveOf, AsksALeave, EndsInLeave};
 ghost use Rattle.drive_tape.specs.Talks.{Converse, SessionIsFound};
 ghost use Rattle.drive_tape.specs.Speakers.{Matches};
 ghost use Rattle.drive_tape.specs.Moving.{MovesTo, RepliesTo, FallsTo, GoesOn, left_at, AreOver};
@@ -165,6 +166,7 @@ impl Sessions {
         ensures length { length self.new.talkers.items ≡ length self.old.talkers.items }
         ensures over { AreOver self.old.over self.old.talkers.items → AreOver self.new.over self.new.talkers.items }
         ensures less { left_at place self.new ≤ left_at place self.old }
+        ensures leaves { EndsInLeave result }
     {
         if self.is_on(place) {
             return After::Stays;
@@ -197,6 +199,7 @@ impl Sessions {
         ensures length { length self.new.talkers.items ≡ length self.old.talkers.items }
         ensures over { AreOver self.old.over self.old.talkers.items → AreOver self.new.over self.new.talkers.items }
         ensures less { IfOk result (λ move. (IsBusy move.0 → left_at place self.new < left_at place self.old) × (left_at place self.new ≤ left_at place self.old)) }
+        ensures asks { IfOk result (λ move. AsksNoLeave move.0 × EndsInLeave move.1) }
     {
         let did = match &mut self.talkers[place] {
             Some(talker) => talker.next(alloc, plan, out)?,
@@ -235,6 +238,7 @@ impl Sessions {
         ensures length { length self.new.talkers.items ≡ length self.old.talkers.items }
         ensures over { AreOver self.old.over self.old.talkers.items → AreOver self.new.over self.new.talkers.items }
         ensures less { OnOk result (left_at place self.new ≤ left_at place self.old) }
+        ensures leaves { IfOk result EndsInLeave }
     {
         match &mut self.talkers[place] {
             Some(talker) => talker.reply(alloc, plan, answer, out)?,
@@ -303,6 +307,7 @@ impl Sessions {
         ensures count { self.new.standing ≡ self.old.standing - 1 }
         ensures length { length self.new.talkers.items ≡ length self.old.talkers.items }
         ensures over { AreOver self.old.over self.old.talkers.items → AreOver self.new.over self.new.talkers.items }
+        ensures leaves { AsksALeave result }
     {
         self.standing = self.standing.saturating_sub(1);
         match self.talkers[place].take() {

@@ -10,14 +10,14 @@ ghost use Rattle.session_model.specs.Acts.{opened_session, greeting_of};
 ghost use Rattle.call_tickets.specs.Moves.{Due, Moves, Replied, Fed, HasEnded, IsBusy};
 ghost use Rattle.call_tickets.specs.Seen.{given_answer};
 ghost use Rattle.tape_lines.specs.Orders.{protocol_seen};
-ghost use Rattle.drive_tape.specs.Leaving.{IsLeaveOf};
-ghost use Rattle.smtp_session.specs.Follows as mail;
-ghost use Rattle.pop_session.specs.Follows as reader;
+ghost use Rattle.drive_tape.specs.Kinds.{AsksNoLeave};
+ghost use Rattle.drive_tape.specs.Leaving.{IsLeaveOf, AsksALeave};
 ghost use Rattle.drive_tape.specs.Speakers.{Matches, Fell, talker_left};
 
 use call_tickets::{Answer, Call, Move};
 use mail_base::{NodeNo, Plan};
 use pop_session::PopSession;
+use session_speaker::Speaker;
 use smtp_session::SmtpSession;
 use std::alloc::{AllocError, Global};
 use tape_lines::Protocol;
@@ -93,6 +93,7 @@ impl Talker {
         ensures moved { IfOk result (λ move. (octets : List ℕ) × (out.new.items ≡ out.old.items ++ octets)
             × ((plain : Session) → Matches self.old plain Due.Nothing → Moves (Matches self.new) [] plan.now plain Due.Nothing move octets)) }
         ensures less { IfOk result (λ move. (IsBusy move → talker_left self.new < talker_left self.old) × (talker_left self.new ≤ talker_left self.old)) }
+        ensures asks { IfOk result AsksNoLeave }
     {
         match self {
             Talker::Smtp(session) => session.next(alloc, plan, out),
@@ -118,8 +119,8 @@ impl Talker {
         ensures less { OnOk result (talker_left self.new ≤ talker_left self.old) }
     {
         match self {
-            Talker::Smtp(session) => reply_to_mail(session, alloc, plan, answer, out),
-            Talker::Pop(session) => reply_to_reader(session, alloc, plan, answer, out),
+            Talker::Smtp(session) => session.reply(alloc, plan, answer, out),
+            Talker::Pop(session) => session.reply(alloc, plan, answer, out),
         }
     }
 
@@ -150,47 +151,12 @@ impl Talker {
 
     /// It ends: the leave of a session that was let in. It takes no memory.
     pub fn leave(self) -> Option<Call>
-        ensures { (plain : Session) → Matches self plain Due.Nothing → IsLeaveOf result (entered_as (exchanges_of plain)) }
+        ensures own { (plain : Session) → Matches self plain Due.Nothing → IsLeaveOf result (entered_as (exchanges_of plain)) }
+        ensures leaves { AsksALeave result }
     {
         match self {
             Talker::Smtp(_) => None,
             Talker::Pop(session) => session.leave(),
         }
     }
-}
-
-// A session that takes mail is answered, and replies.
-fn reply_to_mail(
-    session: &mut SmtpSession,
-    alloc: Global,
-    plan: &Plan,
-    answer: Option<Answer>,
-    out: &mut Vec<u8>,
-) -> Result<(), AllocError>
-    ensures replied { OnOk result ((octets : List ℕ) × (out.new.items ≡ out.old.items ++ octets)
-        × ((plain : Session) (state : TalkState) (call : calls.Call) (reply : List (List ℕ)) → mail.Follows session.old plain Due.Nothing → plain.standing ≡ Waiting state call
-        → IsReply call (given_answer answer) reply → Replied (mail.Follows session.new) plan.now plain (given_answer answer) octets)) }
-    ensures less { OnOk result (mail.left session.new ≤ mail.left session.old) }
-{
-    session.answer(answer);
-    session.next(alloc, plan, out)?;
-    Ok(())
-}
-
-// And so is one that reads mail.
-fn reply_to_reader(
-    session: &mut PopSession,
-    alloc: Global,
-    plan: &Plan,
-    answer: Option<Answer>,
-    out: &mut Vec<u8>,
-) -> Result<(), AllocError>
-    ensures replied { OnOk result ((octets : List ℕ) × (out.new.items ≡ out.old.items ++ octets)
-        × ((plain : Session) (state : TalkState) (call : calls.Call) (reply : List (List ℕ)) → reader.Follows session.old plain Due.Nothing → plain.standing ≡ Waiting state call
-        → IsReply call (given_answer answer) reply → Replied (reader.Follows session.new) plan.now plain (given_answer answer) octets)) }
-    ensures less { OnOk result (reader.left session.new ≤ reader.left session.old) }
-{
-    session.answer(answer);
-    session.next(alloc, plan, out)?;
-    Ok(())
 }

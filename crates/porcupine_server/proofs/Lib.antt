@@ -6,6 +6,7 @@ mod Within
 mod Placed
 mod Complete
 pub mod Serving
+mod LeftOut
 pub mod Promises
 pub mod Named
 pub mod OwnStores
@@ -16,6 +17,7 @@ pub mod Nothing
 mod SmallTape
 mod PostedTape
 mod WrongRuns
+mod NotLeftOut
 mod MachineOrders
 mod Followed
 mod Granted

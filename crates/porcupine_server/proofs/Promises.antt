@@ -1,7 +1,6 @@
 -- All promises are kept, over the octets that the program read and wrote and the stores that it gave back.
 use Rattle.std.proofs.Common.{◌≡◌, ◌≢◌, ◌⊎◌, inl, inr, ⊎_elim, ◌<◌, ℕ, true, List, [], ◌∷◌, ◌++◌, length, drop, map, flat_map, All, Option, Some, Result, Ok, Err, refl, sym, ap, ◌∙◌, subst, arith, append_assoc, length-append, codes}
 use Rattle.std.specs.List.{slice_index}
-use Rattle.std.proofs.lemmas.Option.{none-some}
 use Rattle.std.specs.Fmt.{decimal}
 use Rattle.std.specs.Io.KnownBytes.{Appends}
 use Rattle.std.proofs.lemmas.List.{append-nil, map-append}
@@ -21,23 +20,25 @@ use Rattle.mail_model.specs.Tape.Order.{Open, Say, Feed, Close, GiveUp, Moves, E
 use Rattle.session_model.specs.Sessions.{Session}
 use Rattle.session_model.specs.Acts.{Act}
 use Rattle.session_model.specs.Kept.{IsEnding}
-use Rattle.session_model.specs.Run.{Stop, Made, FirstStep, IsLeftOff, MayMiss, IsCutShort, refusal}
+use Rattle.session_model.specs.Run.{Stop, Made, FirstStep, IsLeftOff, MayMiss, IsCutShort}
 use Rattle.session_model.specs.Run.Stop.{Denied}
 use Rattle.node_store.specs.Disks.{View}
+use Rattle.cluster_world.specs.Outcomes.{made_of}
 use Rattle.cluster_world.specs.Worlds.{plan_of, disks_tell}
 use Rattle.cluster_world.proofs.Chained.{plan_stays}
 use Rattle.drive_tape.specs.declared.drove.Drove.{Drove}
 use Rattle.drive_tape.specs.declared.drove.Drove.TheVariants as drove
 use Rattle.drive_tape.specs.Faults.{tape_fault_seen}
 use Rattle.drive_tape.specs.Parts.{IsCutEntry, IsPartOfLine}
-use Rattle.drive_tape.specs.Drive.{Stops, IsNoOrder, stop_of}
+use Rattle.drive_tape.specs.Drive.{Stops, stop_of}
 use Rattle.drive_tape.specs.Plans.{ReadsHead, PlanStops}
 use Rattle.drive_tape.specs.Kept.{AreBlindLines}
 use Rattle.porcupine_server.specs.declared.ending.Ending.{Ending}
 use Rattle.porcupine_server.specs.declared.ending.Ending.TheVariants.{Done, Line, Read, Write, Store, NoMemory}
 use Rattle.porcupine_server.specs.Endings.{ending_of, status_of, last_entries, Finishes}
 use Rattle.porcupine_server.specs.Works.{SourceAndSink, Stores, Works, NoPlan, NoStores, ServedStores, NotOpened, Ran, IsBeforeRun}
-use Rattle.porcupine_server.specs.Promises.{HasKept, KeepsOver, IsStatusOf, IsLeft, IsRefused, IsDeniable, IsCut, all_tell}
+use Rattle.porcupine_server.specs.Promises.{HasKept, KeepsOver, IsStatusOf, IsLeft, IsRefused, HasFaultBehind, IsDeniable, IsCut, all_tell}
+use Rattle.porcupine_server.proofs.LeftOut.{fault_in_line, has_fault_behind}
 
 abbrev IsNoLf : ℕ → Type 0
 IsNoLf x = x ≢ 10
@@ -272,7 +273,7 @@ module _ {D : Type 0} (on : View D) (is_settled : D → Type 0) (stores : Stores
   -- what was taken and is none of the lines
   left_over : (answer : Drove) → ending ≡ ending_of answer
       → Stops (stop_of answer) ran.drives.stop (plan_of ran.start) (flat_map (λ a. a) ran.drives.acts) ran.drives.sessions ran.drives.midst ends.left1 ran.drives.others ran.drives.room ran.drives.outcomes
-      → IsLeft status lines ran.drives.others ends.left1
+      → IsLeft status (plan_of ran.start) lines (ran.drives.entries ++ last.front) ran.drives.others ends.left1
   left_over drove.Ended is why =
       let says : (status ≡ 0) ⊎ ((status ≡ 5) ⊎ (status ≡ 7)) = ⊎_elim (λ e. inl (e ∙ ap status_of is)) (λ cut. inr cut) last.says in
       record {
@@ -317,35 +318,20 @@ module _ {D : Type 0} (on : View D) (is_settled : D → Type 0) (stores : Stores
         ended_so = λ at. absurd (not_it status 3 0 says at (λ e. absurd (omega (arith, e))) (λ e. absurd (omega (arith, e))) (λ e. absurd (omega (arith, e))));
         refused = λ at. fault_so;
         in_line = λ at. absurd (not_it status 3 4 says at (λ e. absurd (omega (arith, e))) (λ e. absurd (omega (arith, e))) (λ e. absurd (omega (arith, e))));
-        at_most_one = ⊎_elim (λ short. inl short.0) (λ more. ⊎_elim (λ (line, is, one, other). inr (line, is, one)) (λ none. inl (subst HasNoLf (sym none.0) (All-nil IsNoLf))) more) fault_so;
+        at_most_one = ⊎_elim (λ (behind : HasFaultBehind (plan_of ran.start) lines (ran.drives.entries ++ last.front) ran.drives.others ends.left1).
+            fault_in_line behind.fault (plan_of ran.start) (flat_map (λ a. a) behind.acts) behind.sessions ends.left1 ran.drives.others behind.room behind.why)
+            (λ none. inl (subst HasNoLf (sym none.0) (All-nil IsNoLf))) fault_so;
       }
     where
-      no_end : (line : List ℕ) (order : Order) (found : _) → tape_order line ≡ Some order
-          → refusal (plan_of ran.start) (flat_map (λ a. a) ran.drives.acts) ran.drives.sessions order ≡ Some found → tape_order line ≡ Some End → ⊥
-      no_end line order found spelled refused ends =
-          let same : order ≡ End = (let e : Some order ≡ Some End = sym spelled ∙ ends in cc e) in
-          none-some found (ap (refusal (plan_of ran.start) (flat_map (λ a. a) ran.drives.acts) ran.drives.sessions) (sym same) ∙ refused)
-
       refused_so : (fault : _) → Stops (stop_of (drove.BadTape n fault)) ran.drives.stop (plan_of ran.start) (flat_map (λ a. a) ran.drives.acts) ran.drives.sessions ran.drives.midst ends.left1
-          ran.drives.others ran.drives.room ran.drives.outcomes → IsRefused lines ran.drives.others ends.left1
+          ran.drives.others ran.drives.room ran.drives.outcomes → IsRefused (plan_of ran.start) lines (ran.drives.entries ++ last.front) ran.drives.others ends.left1
       refused_so fault why = ⊎_elim
-          (λ bad. ⊎_elim
-          (λ ended. inl (ended.1, inl ended.2))
-          (λ a. ⊎_elim
-          (λ long. inl (long.1, inr (inl long.2)))
-          (λ b. ⊎_elim
-          (λ (none : (fault ≡ _) × IsNoOrder ran.drives.others). inr (inl (none.1.line, none.1.whole, none.1.one, λ ends. none-some End (sym none.1.spelled ∙ ends))))
-          (λ c. ⊎_elim
-          (λ full. inl (full.1, inr (inr (ap length (sym ran.drives.tape) ∙ omega (arith, ran.drives.limit, full.2)))))
-          (λ (order, is, refused). inr (inl (is.line, is.whole, is.one, no_end is.line order _ is.spelled refused)))
-          c)
-          b)
-          a)
-          bad.2)
+          (λ bad. inl (has_fault_behind (plan_of ran.start) ran.drives.stop ran.drives.handled ran.drives.midst ran.drives.acts ran.drives.behind (map made_of ran.drives.outcomes) ran.drives.entries last.front
+          ran.drives.sessions ends.left1 ran.drives.read ran.drives.others ran.drives.room fault ran.drives.driven ran.drives.tape ran.drives.limit last.ends bad.1 bad.2))
           (λ denied.
           let found = denied_line (plan_of ran.start) (flat_map (λ a. a) ran.drives.acts) ran.drives.stop ran.drives.driven.mid ran.drives.midst ran.drives.behind ran.drives.driven.tail ran.drives.driven.extra
           ran.drives.sessions denied.0 ran.drives.driven.off in
-          inr (inr (denied.1, (ran.drives.handled, found.0, found.2, ap (λ (l : List (List ℕ)). ran.drives.handled ++ l) found.1, found.3, found.4))))
+          inr (denied.1, (ran.drives.handled, found.0, found.2, ap (λ (l : List (List ℕ)). ran.drives.handled ++ l) found.1, found.3, found.4)))
           why
 
   -- the promises, with this last line

@@ -16,6 +16,7 @@ use Rattle.session_model.specs.Copies.{AreDisks}
 use Rattle.session_model.specs.Sessions.{Session, AreSessions}
 use Rattle.session_model.specs.Promises.{StoredStands}
 use Rattle.session_model.proofs.Cuts.{one_end}
+use Rattle.session_model.proofs.MailTalk.{are_sessions}
 use Rattle.worked_sessions.specs.OneMessage.{small_plan, small_lines, small_entries}
 use Rattle.worked_sessions.specs.WrongStores.{empty_records}
 use Rattle.worked_sessions.proofs.WrongStores.{wrong_stores}
@@ -98,7 +99,8 @@ refused_over : (plan : Plan) (lines : List (List ℕ)) → plan ≡ small_plan �
 refused_over plan lines same_plan same_lines keeps =
     let now : KeepsOver small_plan true 0 small_lines small_entries (Some empty_store ∷ []) =
     subst (λ (l : List (List ℕ)). KeepsOver small_plan true 0 l small_entries (Some empty_store ∷ [])) same_lines (subst (λ (p : Plan). KeepsOver p true 0 lines small_entries (Some empty_store ∷ [])) same_plan keeps) in
-    by now.records now.holds now.sessions now.acks now.confirmers now.clients.are now.clients.stored_stands
+    by now.records now.holds now.sessions now.acks now.confirmers
+    (are_sessions small_plan small_lines small_entries now.sessions now.clients.shown now.clients.take_mail now.clients.read_mail) now.clients.stored_stands
   where
     by : (records : List (List Record)) → AreDisks 1 (Some empty_store ∷ []) records → (sessions : List Session) (acks : List Ack) (confirmers : List (List ℕ))
         → AreSessions small_plan small_lines small_entries sessions → StoredStands small_plan small_lines small_entries records sessions acks confirmers → ⊥

@@ -1,7 +1,7 @@
 -- The promises to clients, over the octets that the program read and wrote and the stores that it gave back.
-use Rattle.std.specs.Prelude.{◌≡◌, ◌⊎◌, ◌<◌, ◌^◌, ℕ, Bool, true, List, [], ◌∷◌, ◌++◌, length, flat_map, map, All, ⊤, Option, Some, Result, Ok, Err, is_some}
+use Rattle.std.specs.Prelude.{◌≡◌, ◌⊎◌, ◌+◌, ◌^◌, ℕ, Bool, true, List, [], ◌∷◌, ◌++◌, length, flat_map, map, All, ⊤, Option, Some, Result, Ok, Err, is_some}
 use Rattle.std.specs.List.{list_all}
-use Rattle.std.specs.Io.KnownBytes.{Consumes, Appends, IsAtEnd}
+use Rattle.std.specs.Io.KnownBytes.{Consumes, Appends}
 use Rattle.yard_stores.specs.Taken.{numbered_stores, TellsAll}
 use Rattle.mail_model.specs.Lines.{HasNoLf, ended}
 use Rattle.mail_model.specs.Plan.{Plan}
@@ -9,15 +9,18 @@ use Rattle.mail_model.specs.Stored.{Ack}
 use Rattle.mail_model.specs.Tape.{Draft, Order, empty_draft, planned, tape_plan_line, tape_order}
 use Rattle.mail_model.specs.Tape.Order.{Close, GiveUp, Moves, End}
 use Rattle.mail_model.specs.Tape.PlanLine.{Go}
-use Rattle.mail_model.specs.Transcript.{Entry, entry_line, written_of}
+use Rattle.mail_model.specs.Transcript.{Entry, entry_line, written_of, all_of}
 use Rattle.mail_model.specs.Record.{Record}
 use Rattle.mail_model.specs.Shown.{lines_to}
 use Rattle.session_model.specs.Copies.{AreDisks}
 use Rattle.session_model.specs.Sessions.{Session, AreAnswered}
-use Rattle.session_model.specs.Kept.{KeepsToClients}
+use Rattle.session_model.specs.Acts.{Act}
+use Rattle.session_model.specs.Run.{AreHandled}
+use Rattle.session_model.specs.Kept.{KeepsToClients, IsEnding}
 use Rattle.cluster_owes.specs.Held.{filed_on}
 use Rattle.drive_tape.specs.declared.drove.Drove.{Drove}
-use Rattle.drive_tape.specs.Drive.{IsOrder, IsLineAtMost}
+use Rattle.drive_tape.specs.declared.drove.TapeFault.{TapeFault}
+use Rattle.drive_tape.specs.Drive.{IsOrder, IsLineAtMost, StopsAt}
 use Rattle.drive_tape.specs.Plans.{DraftsTo, ReadsHead}
 use Rattle.drive_tape.specs.Kept.{AreBlindLines}
 use Rattle.porcupine_server.specs.Endings.{ending_of, status_of}
@@ -47,20 +50,31 @@ IsDeniable order = ⊥
 abbrev pub LastIsDeniable : List (List ℕ) → Type 0
 LastIsDeniable lines = (before : List (List ℕ)) × (line : List ℕ) × (order : Order) × (lines ≡ before ++ line ∷ []) × (tape_order line ≡ Some order) × IsDeniable order
 
--- Why these octets behind the lines have a fault of the tape: they are no whole line, since the tape ends, or the line or the tape is too long; they are a line, and not
--- `end`; or there are none, and the cluster refused the last line.
-abbrev pub IsRefused : List (List ℕ) → List ℕ → Option (List ℕ) → Type 0
-IsRefused lines others left =
-    (HasNoLf others × (IsAtEnd left ⊎ (65535 < length others) ⊎ (length (flat_map ended lines ++ others) ≡ 2 ^ 40)))
-    ⊎ ((line : List ℕ) × (others ≡ ended line) × HasNoLf line × (tape_order line ≡ Some End → ⊥))
-    ⊎ ((others ≡ []) × LastIsDeniable lines)
+-- These lines were handled, one after another, and wrote these entries but for a last line that says why the program ended; and what was taken behind them has a fault of
+-- the tape, found before anything of it was done. A line that was handled is so none of what was taken behind.
+pub record HasFaultBehind (plan : Plan) (lines : List (List ℕ)) (entries : List Entry) (others : List ℕ) (left : Option (List ℕ)) : Type 0 where
+  pub acts : List (List Act)
+  pub outputs : List (List (List Entry))
+  pub sessions : List Session
+  pub handled : AreHandled plan [] [] lines acts outputs sessions
+  pub ending : List Entry
+  pub ends : IsEnding ending
+  pub wrote : entries ≡ flat_map all_of outputs ++ ending
+  pub room : ℕ
+  pub limit : length (flat_map ended lines ++ others) + room ≡ 2 ^ 40
+  pub fault : TapeFault
+  pub why : StopsAt fault plan (flat_map (λ a. a) acts) sessions left others room
+
+-- Why the tape is refused: for what was taken behind the lines; or there is nothing, and the cluster refused the last line.
+abbrev pub IsRefused : Plan → List (List ℕ) → List Entry → List ℕ → Option (List ℕ) → Type 0
+IsRefused plan lines entries others left = HasFaultBehind plan lines entries others left ⊎ ((others ≡ []) × LastIsDeniable lines)
 
 -- Which octets that were taken are none of the lines, by the status: at 0 the line `end`, at 3 the line that is refused, at 4 the beginning of a line, and never more than
 -- one line.
-pub record IsLeft (status : ℕ) (lines : List (List ℕ)) (others : List ℕ) (left : Option (List ℕ)) : Type 0 where
+pub record IsLeft (status : ℕ) (plan : Plan) (lines : List (List ℕ)) (entries : List Entry) (others : List ℕ) (left : Option (List ℕ)) : Type 0 where
   pub some_status : (status ≡ 0) ⊎ (status ≡ 3) ⊎ (status ≡ 4) ⊎ (status ≡ 5) ⊎ (status ≡ 7)
   pub ended_so : status ≡ 0 → IsOrder others End
-  pub refused : status ≡ 3 → IsRefused lines others left
+  pub refused : status ≡ 3 → IsRefused plan lines entries others left
   pub in_line : status ≡ 4 → HasNoLf others
   pub at_most_one : IsLineAtMost others
 
@@ -97,7 +111,7 @@ pub record KeepsAll {D : Type 0} (seen : D → Option (List ℕ)) (given : List 
   pub lines : List (List ℕ)
   pub others : List ℕ
   pub tape : IsTape read plan lines others
-  pub behind : IsLeft status lines others left
+  pub behind : IsLeft status plan lines entries others left
   pub promises : (all_tell seen given ≡ true) ⊎ AreBlindLines plan.nodes lines → KeepsOver plan (all_tell seen given) status lines entries (map seen given)
 
 -- the status where no run line was read: that of the fault of the plan lines, or that the stores were not there

@@ -10,9 +10,9 @@
 //! DESCRIPTION
 //!
 //! `storm NUMBER SIZE` writes a tape that is drawn from a number, and `check FILE` says whether a plan file keeps its
-//! rules. Words of no other form are taken, and no store that is not empty. `one_tape_is_good` and
-//! `empty_store_is_refused` are laws of tapes: they have no body, and say that the clauses of `porcupine` speak
-//! of something and are false of a wrong run.
+//! rules. Other words are refused, and so is a store that is not empty. `one_tape_is_good`, `posted_tape_is_good`,
+//! `empty_store_is_refused` and `first_line_is_handled` are laws of tapes: they have no body, and say that the clauses
+//! of `porcupine` speak of something and are false of a wrong run.
 //!
 //! STANDS ON
 //!
@@ -32,6 +32,8 @@ mod real_yard;
 mod server;
 mod words;
 
-pub use laws::{empty_store_is_refused, one_tape_is_good, posted_tape_is_good};
+pub use laws::{
+    empty_store_is_refused, first_line_is_handled, one_tape_is_good, posted_tape_is_good,
+};
 pub use program::run;
 pub use server::porcupine;

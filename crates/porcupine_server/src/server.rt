@@ -132,7 +132,7 @@ fn refuse_words<K: Sink>(sink: &mut K) -> u8
     1
 }
 
-// The task.
+// Does what the words ask for.
 fn answer_task<S: Source, K: Sink, Y: Yard>(
     alloc: Global,
     task: Task<'_>,

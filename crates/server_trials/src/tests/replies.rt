@@ -215,6 +215,63 @@ const LIMITS: [(&[u8], &[u8], usize, &[u8], &[u8]); 7] = [
     (b"RCPT TO:<@", b":alice>", 1005, b"250 recipient ok", LONG),
 ];
 
+// The greatest size that MAIL may name, and one more.
+const SIZES: &[u8] = b"\
+open smtp 1
+  1 220 node1 Porcupine ready
+say 1 HELO c.example
+  1 250 node1
+say 1 MAIL FROM:<> SIZE=16777216
+  1 250 sender ok
+say 1 RSET
+  1 250 reset
+say 1 MAIL FROM:<> SIZE=16777217
+  1 552 message too large
+";
+
+// A source route is left out of what is stored, and a parameter of RCPT and EXPN change nothing.
+const ROUTED: &[u8] = b"\
+open smtp 1
+  1 220 node1 Porcupine ready
+say 1 HELO c.example
+  1 250 node1
+say 1 MAIL FROM:<@x.example:bob@b.example> BODY=8bitmime
+  1 250 sender ok
+say 1 RCPT TO:<POSTMASTER>
+  1 250 recipient ok
+say 1 RCPT TO:<alice> NOTIFY=NEVER
+  1 555 parameter not known
+say 1 EXPN
+  1 502 not done here
+say 1 DATA
+  1 354 end with a line that is a single period
+say 1 Subject: hi
+say 1
+say 1 hello
+say 1 .
+  1 250 stored
+say 1 QUIT
+  1 221 node1 closing
+  * 1 closed
+open pop 1
+  2 +OK node1 ready <1.2.0@node1>
+say 2 USER alice
+  2 +OK send PASS
+say 2 PASS tanstaaf
+  2 +OK maildrop open
+say 2 RETR 1
+  2 +OK 151 octets
+  2 Return-Path: <bob@b.example>
+  2 Received: from c.example
+  2  by node1 with SMTP id <1.1.1@node1>;
+  2  Thu, 01 Jan 1970 00:00:00 +0000
+  2 Subject: hi
+  2 
+  2 hello
+  2 .
+end
+";
+
 const UNKNOWN: &[u8] = b"500 unknown command";
 
 const BAD: &[u8] = b"501 bad argument";
@@ -258,6 +315,34 @@ fn command_lines_have_greatest_lengths(rt: HostRuntime) -> Result<(), Fail> {
     say_limits(&mut script)?;
     script.run(&rt, 0)?;
     Ok(())
+}
+
+fn say_sizes(script: &mut Script) -> Result<(), AllocError> {
+    script.add(SIZES)?;
+    say(script, b"NOOP ", 1017, b"", b"250 ok")?;
+    say(script, b"NOOP ", 1018, b"", LONG)?;
+    script.add(b"end\n")
+}
+
+#[test]
+fn sizes_and_lines_are_taken_to_their_limit(rt: HostRuntime) -> Result<(), Fail> {
+    let mut script = Script::new(rt.alloc(), &[PLAN])?;
+    say_sizes(&mut script)?;
+    script.run(&rt, 0)?;
+    Ok(())
+}
+
+// The journal of the message with a source route.
+fn routed(alloc: Global) -> Result<Journal, Fail> {
+    let mut journal = Journal::new(alloc)?;
+    let text: &[u8] = b"Subject: hi\r\n\r\nhello\r\n";
+    journal.message(b"bob@b.example", b"c.example", &[b"alice"], text)?;
+    Ok(journal)
+}
+
+#[test]
+fn a_source_route_is_not_stored(rt: HostRuntime) -> Result<(), Fail> {
+    leaves(&rt, rt.alloc(), &[PLAN, ROUTED], 0, &routed(rt.alloc())?)
 }
 
 // The journal of the messages of all spellings.

@@ -24,7 +24,7 @@ returns-in-Some-clause-goes_on c sessions plain talker there matches all =
     (c.is_on.ensures (slice_set sessions c.args.place plain) plain all (set_here_with _ sessions c.args.place plain all c.requires.within)) in (
       subst (λ (l : List Session). Converse (slice_set c.args.self.now.talkers.items c.args.place c.take.new.self) l) (set_twice sessions c.args.place plain plain)
           (converse_set _ (slice_set sessions c.args.place plain) c.args.place c.take.new.self plain all (subst (λ (t : Option Talker). Sits t plain) (sym c.take.ensures.after) ended)),
-      (ended, c.leave.ensures plain (subst (λ (t : Talker). Matches t plain Nothing) same matches), c.saturating_sub-self.ensures),
+      (ended, c.leave.ensures.own plain (subst (λ (t : Talker). Matches t plain Nothing) same matches), c.saturating_sub-self.ensures),
     )
 
 pub returns-in-Some-clause-less : goal.returns-in-Some-clause-less

@@ -9,7 +9,7 @@ use Rattle.drive_tape.proofs.sessions.Sessions.close.Goals as goal
 pub returns-in-Some-clause-closed : goal.returns-in-Some-clause-closed
 returns-in-Some-clause-closed c sessions plain all here on =
     let was = slice_get_read _ _ _ _ refl c.requires.within c.index_mut.ensures.value ∙ ap Some (sym c.take.ensures.value ∙ c.in-Some.is) in (
-      c.leave.ensures plain (matches_at _ sessions c.args.place _ plain all was here),
+      c.leave.ensures.own plain (matches_at _ sessions c.args.place _ plain all was here),
       converse_set _ sessions c.args.place c.take.new.self (record plain { standing = EndedClosed }) all (subst (λ (t : Option Talker). Sits t (record plain { standing = EndedClosed })) (sym c.take.ensures.after) tt),
     )
 
