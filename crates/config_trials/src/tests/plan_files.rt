@@ -257,20 +257,39 @@ fn reads_whole_files(rt: HostRuntime) -> Result<(), Fail> {
     Ok(())
 }
 
-// A file of so many octets, the last of them a comment.
-fn padded(alloc: Global, size: usize) -> Result<Vec<u8>, AllocError> {
+// A file with a line that is none of TOML breaks rule 1, whatever rule another line breaks.
+#[test]
+fn names_rule_1_before_all_others(rt: HostRuntime) -> Result<(), Fail> {
+    let alloc = rt.alloc();
+    let good = rows_of(alloc, GOOD)?;
+    for row in rows_of(alloc, BAD)? {
+        let mut file = file_with(alloc, &good, &[row])?;
+        add_lines(&mut file, b"nodes")?;
+        assert_eq!(rt; broken_by(alloc, &file), 1);
+    }
+    Ok(())
+}
+
+// The good file with this line, and so many octets, the last of them a comment.
+fn padded(alloc: Global, line: &[u8], size: usize) -> Result<Vec<u8>, AllocError> {
     let good = rows_of(alloc, GOOD)?;
     let mut file = file_with(alloc, &good, &[])?;
+    add_lines(&mut file, line)?;
     file.push(b'#')?;
     file.resize(size, b'x')?;
     Ok(file)
 }
 
+// One octet more breaks rule 1, also where a key that is not known breaks rule 2.
 #[test]
 fn takes_a_file_of_the_greatest_size(rt: HostRuntime) -> Result<(), Fail> {
     let alloc = rt.alloc();
-    assert_eq!(rt; broken_by(alloc, &padded(alloc, 1_048_576)?), 0);
-    assert_eq!(rt; broken_by(alloc, &padded(alloc, 1_048_577)?), 1);
+    assert_eq!(rt; broken_by(alloc, &padded(alloc, b"", 1_048_576)?), 0);
+    assert_eq!(rt; broken_by(alloc, &padded(alloc, b"", 1_048_577)?), 1);
+    assert_eq!(rt;
+        broken_by(alloc, &padded(alloc, b"port = 25", 1_048_577)?),
+        1
+    );
     Ok(())
 }
 
