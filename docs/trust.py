@@ -16,13 +16,17 @@ import sys
 
 CALLS = [('porcupine_server', 'porcupine'), ('drive_tape', 'drive')]
 # The records that have each promise as a field, and the fields that give its sessions and its records their meaning: a promise is
-# counted together with these.
+# counted together with these. Of the sessions that take mail and of those that read it, it is counted with what it speaks of.
 KEPT = 'Rattle.session_model.specs.Kept'
+SHOWN = [('KeepsPromises', 'holds'), ('KeepsToClients', 'shown')]
+TAKE, READ, LOGGED = ('KeepsToClients', 'take_mail'), ('KeepsToClients', 'read_mail'), ('KeepsPromises', 'logged')
 PROMISES = [
-    ('Promises to clients, the fields of `KeepsToClients`', 'KeepsToClients', [('KeepsPromises', 'holds'), ('KeepsToClients', 'are')], {'are'}),
-    ('Promises on the book, fields of `KeepsPromises`', 'KeepsPromises', [('KeepsPromises', 'holds'), ('KeepsToClients', 'are'), ('KeepsPromises', 'logged')],
-     {'holds', 'sessions', 'acks', 'unwritten', 'confirmers', 'clients', 'answered', 'logged'}),
+    ('Promises on mail that is taken in, fields of `KeepsToClients`', 'KeepsToClients', SHOWN + [TAKE], ['stored_stands']),
+    ('Promises on mail that is read, fields of `KeepsToClients`', 'KeepsToClients', SHOWN + [READ], ['deleted_by_quit', 'shown_as_filed', 'shown_once', 'one_content']),
+    ('Promises on the book, fields of `KeepsPromises`', 'KeepsPromises', SHOWN + [TAKE, READ, LOGGED],
+     ['acknowledged_as_told', 'acknowledged_stand', 'struck_as_marked', 'dropped_are_gone']),
 ]
+OTHERS = {'holds', 'sessions', 'acks', 'unwritten', 'confirmers', 'clients', 'answered', 'logged', 'shown', 'take_mail', 'read_mail'}
 BEGIN, END = '<!-- made by docs/trust.py -->', '<!-- end -->'
 WORD = re.compile(r"[A-Za-z_][A-Za-z0-9_\-']*(?:\.[A-Za-z_][A-Za-z0-9_\-']*)*")
 USE = re.compile(r'(?:ghost |pub )*use (Rattle\.[A-Za-z0-9_.]+?)(?:\.\{([^}]*)\})?(?: as (\w+))?;?\s*$')
@@ -159,11 +163,13 @@ def tables(definitions, listed):
         out.append(f'Clauses of `{call}`, in crate `{crate}`:\n')
         out.extend(rows(definitions, clauses, names, modules, None, listed))
     names, modules = definitions.imports[KEPT]
-    for title, record, meaning, others in PROMISES:
-        if (KEPT, record) not in definitions.found:
-            continue
+    listed_here = {name for _, _, _, promises in PROMISES for name in promises}
+    for record in sorted({record for _, record, _, _ in PROMISES}):
+        for name, _ in fields_of(definitions, (KEPT, record)):
+            assert name in listed_here | OTHERS, f'{record}.{name} is in no table'
+    for title, record, meaning, promises in PROMISES:
         shared = '\n'.join(dict(fields_of(definitions, (KEPT, kept)))[field] for kept, field in meaning)
-        parts = [(name, text + '\n' + shared) for name, text in fields_of(definitions, (KEPT, record)) if name not in others]
+        parts = [(name, text + '\n' + shared) for name, text in fields_of(definitions, (KEPT, record)) if name in promises]
         out.append(f'{title}, each together with what gives its sessions and records their meaning ({", ".join(f"`{field}`" for _, field in meaning)}):\n')
         out.extend(rows(definitions, parts, names, modules, KEPT, listed))
     return '\n'.join(out)
