@@ -1,4 +1,5 @@
 pub mod Causes
+pub mod Doors
 pub mod Faulty
 pub mod Files
 pub mod Moments

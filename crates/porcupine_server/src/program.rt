@@ -11,19 +11,20 @@ use crate::words::words_of;
 use io_edge::{Sink, Source};
 use std::env::Args;
 use std::io;
+use std::net::{Net, TcpListener, TcpStream};
 use std::rt::Files;
+use std::time::Clock;
 
 /// Does what the words that the system hands over name, with stores in memory and the files of the system, and answers the exit
 /// status.
 ///
 /// The call `porcupine` says which status comes where. A word that is not text is of no form. A store in memory does not fail,
 /// so no run ends for the sake of one.
-pub fn run<R: Files + AllocGlobal, S: Source, K: Sink>(
-    system: &R,
-    arguments: io::Result<Args>,
-    source: &mut S,
-    sink: &mut K,
-) -> u8
+pub fn run<
+    R: Files + AllocGlobal + Net<Listener = TcpListener, Stream = TcpStream> + Clock + Sync,
+    S: Source,
+    K: Sink,
+>(system: &R, arguments: io::Result<Args>, source: &mut S, sink: &mut K) -> u8
     ensures refused { IsNotText arguments → (result ≡ 1) × (S.left source.new ≡ S.left source.old) }
     ensures told { IsNotText arguments → RefusesWords (K.contents sink.old) (K.contents sink.new) (K.faults sink.old) (K.faults sink.new) }
     ensures no_store_fault { result ≡ 6 → ⊥ }

@@ -76,6 +76,9 @@ fn work<S: Source, K: Sink, Y: Yard>(
     ensures write_fault { result ≡ endings.Write → Rose (K.faults sink.old) (K.faults sink.new) }
     ensures store_fault { (node : ℕ) → result ≡ endings.Store node → StoreFailed Y.Store.seen Y.Store.faults (Y.handed yard.old) (Y.handed yard.new)
         (Y.returned yard.old) (Y.returned yard.new) (Y.faults yard.old) (Y.faults yard.new) node }
+    ensures opened { Y.opened yard.new ≡ Y.opened yard.old }
+    ensures closed { Y.closed yard.new ≡ Y.closed yard.old }
+    ensures unopened { Y.unopened yard.new ≡ Y.unopened yard.old }
 {
     let (plan, lines) = match read_drive_head(alloc, source) {
         Ok(head) => head,
@@ -118,6 +121,9 @@ fn drive_word<S: Source, K: Sink, Y: Yard>(
         → ((node : ℕ) → StoreFailed Y.Store.seen Y.Store.faults (Y.handed yard.old) (Y.handed yard.new)
         (Y.returned yard.old) (Y.returned yard.new) (Y.faults yard.old) (Y.faults yard.new) node → ⊥)
         → (result ≡ 0) ⊎ (result ≡ 7) }
+    ensures opened { Y.opened yard.new ≡ Y.opened yard.old }
+    ensures closed { Y.closed yard.new ≡ Y.closed yard.old }
+    ensures unopened { Y.unopened yard.new ≡ Y.unopened yard.old }
 {
     let ending = work(alloc, source, sink, yard);
     finish(alloc, sink, ending)
@@ -140,7 +146,7 @@ fn answer_task<S: Source, K: Sink, Y: Yard>(
     sink: &mut K,
     yard: &mut Y,
 ) -> u8
-    ensures { ByTask (Some (task_seen task.entry))
+    ensures by_task { ByTask (Some (task_seen task.entry))
         (Refused (record { handed0 = Y.handed yard.old; handed1 = Y.handed yard.new; returned0 = Y.returned yard.old; returned1 = Y.returned yard.new })
         (record { left0 = S.left source.old; left1 = S.left source.new; held0 = K.contents sink.old; held1 = K.contents sink.new })
         (record {
@@ -189,6 +195,9 @@ fn answer_task<S: Source, K: Sink, Y: Yard>(
           unread0 = Y.unread yard.old;
           unread1 = Y.unread yard.new;
         }) result (Y.files yard.old file)) }
+    ensures opened { Y.opened yard.new ≡ Y.opened yard.old }
+    ensures closed { Y.closed yard.new ≡ Y.closed yard.old }
+    ensures unopened { Y.unopened yard.new ≡ Y.unopened yard.old }
 {
     match task {
         Task::Drive => drive_word(alloc, source, sink, yard),
@@ -205,7 +214,7 @@ fn answer_words<S: Source, K: Sink, Y: Yard>(
     sink: &mut K,
     yard: &mut Y,
 ) -> u8
-    ensures { ByTask (asked words.now)
+    ensures by_task { ByTask (asked words.now)
         (Refused (record { handed0 = Y.handed yard.old; handed1 = Y.handed yard.new; returned0 = Y.returned yard.old; returned1 = Y.returned yard.new })
         (record { left0 = S.left source.old; left1 = S.left source.new; held0 = K.contents sink.old; held1 = K.contents sink.new })
         (record {
@@ -254,6 +263,9 @@ fn answer_words<S: Source, K: Sink, Y: Yard>(
           unread0 = Y.unread yard.old;
           unread1 = Y.unread yard.new;
         }) result (Y.files yard.old file)) }
+    ensures opened { Y.opened yard.new ≡ Y.opened yard.old }
+    ensures closed { Y.closed yard.new ≡ Y.closed yard.old }
+    ensures unopened { Y.unopened yard.new ≡ Y.unopened yard.old }
 {
     match read_words(alloc, words) {
         Ok(Some(task)) => answer_task(alloc, task, source, sink, yard),
@@ -325,6 +337,9 @@ pub fn porcupine<S: Source, K: Sink, Y: Yard>(
         → (Rose (K.faults sink.old) (K.faults sink.new) → ⊥) → (result ≡ 0) ⊎ (result ≡ 7) }
     ensures check_complete { (file octets : List ℕ) → asked words.now ≡ Some (Check file) → Y.files yard.old file ≡ Some octets → KeepsRules octets
         → (Rose (Y.unread yard.old) (Y.unread yard.new) → ⊥) → (Rose (K.faults sink.old) (K.faults sink.new) → ⊥) → (result ≡ 0) ⊎ (result ≡ 7) }
+    ensures opened { Y.opened yard.new ≡ Y.opened yard.old }
+    ensures closed { Y.closed yard.new ≡ Y.closed yard.old }
+    ensures unopened { Y.unopened yard.new ≡ Y.unopened yard.old }
 {
     answer_words(alloc, words, source, sink, yard)
 }

@@ -12,8 +12,8 @@ use Rattle.call_tickets.specs.declared.desk.Posted.{Posted}
 use Rattle.call_tickets.specs.declared.desk.Posted.TheVariants.{Did, Quiet}
 use Rattle.call_tickets.specs.declared.desk.DeskFault.{DeskFault}
 use Rattle.call_tickets.specs.declared.desk.DeskFault.TheVariants as refused
-use Rattle.shard_board.specs.declared.fate.Luck.{Luck}
-use Rattle.shard_board.specs.declared.fate.Luck.TheVariants as luck
+use Rattle.io_edge.specs.declared.fate.Luck.{Luck}
+use Rattle.io_edge.specs.declared.fate.Luck.TheVariants as luck
 use Rattle.shard_board.specs.declared.part.Part.{Part}
 use Rattle.shard_board.specs.Deeds.{MakesOne}
 use Rattle.shard_board.specs.Worlds.{IsSoundWorld}

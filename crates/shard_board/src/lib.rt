@@ -53,7 +53,6 @@
 mod board;
 mod deed;
 mod entries;
-mod fate;
 mod laws;
 mod order;
 mod page;
@@ -65,6 +64,5 @@ mod works;
 
 pub use board::{Board, BoardPass};
 pub use deed::Deed;
-pub use fate::{CarryAll, Clock, Fate, Luck, SetClock};
 pub use laws::{flows_keep_world, opened_is_sound, steps_keep_world};
 pub use order::{Order, Told};

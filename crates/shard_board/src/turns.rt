@@ -15,13 +15,12 @@ ghost use Rattle.shard_board.specs.Entries.{entry_shown};
 
 use crate::board::{Board, BoardPass};
 use crate::deed::{Deed, Stepping};
-use crate::fate::{Clock, Fate};
 use crate::order::{Order, Told};
 use crate::part::Part;
 use crate::works::{Doing, Looking, Posting, Reading, Summing};
 use call_tickets::{Call, DeskFault, Life, Posted, Tally};
 use cluster_world::{BookSum, Said, Step, StepFault};
-use io_edge::Disk;
+use io_edge::{Clock, Disk, Fate};
 use mail_base::{NodeNo, Ticket};
 use std::alloc::{AllocError, Global};
 use std::sync::Wait;

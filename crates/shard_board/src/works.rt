@@ -10,11 +10,10 @@ ghost use Rattle.shard_board.specs.Reads.{TellsLife, TellsSum, TellsEntry};
 
 use crate::deed::{Deed, Stepping};
 use crate::entries::{copied, entry_at};
-use crate::fate::{Clock, Fate, Luck};
 use crate::part::Part;
 use call_tickets::{DeskFault, Life, Posted};
 use cluster_world::{BookSum, Said, Step, StepFault};
-use io_edge::Disk;
+use io_edge::{Clock, Disk, Fate, Luck};
 use mail_base::NodeNo;
 use std::alloc::{AllocError, Global};
 use turnstile::Work;

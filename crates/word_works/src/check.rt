@@ -14,6 +14,9 @@ fn look<Y: Yard>(alloc: Global, yard: &mut Y, file: &str) -> Found
     ensures handed { Y.handed yard.new ≡ Y.handed yard.old }
     ensures returned { Y.returned yard.new ≡ Y.returned yard.old }
     ensures faults { Y.faults yard.new ≡ Y.faults yard.old }
+    ensures opened { Y.opened yard.new ≡ Y.opened yard.old }
+    ensures closed { Y.closed yard.new ≡ Y.closed yard.old }
+    ensures unopened { Y.unopened yard.new ≡ Y.unopened yard.old }
 {
     match yard.file(file) {
         Ok(octets) => Found::of(alloc, &octets),
@@ -58,6 +61,9 @@ pub fn check_plan<K: Sink, Y: Yard>(alloc: Global, sink: &mut K, yard: &mut Y, f
     ensures handed { Y.handed yard.new ≡ Y.handed yard.old }
     ensures returned { Y.returned yard.new ≡ Y.returned yard.old }
     ensures faults { Y.faults yard.new ≡ Y.faults yard.old }
+    ensures opened { Y.opened yard.new ≡ Y.opened yard.old }
+    ensures closed { Y.closed yard.new ≡ Y.closed yard.old }
+    ensures unopened { Y.unopened yard.new ≡ Y.unopened yard.old }
 {
     let found = look(alloc, yard, file);
     tell(alloc, sink, found)

@@ -31,6 +31,9 @@ fn take_one<Y: Yard>(yard: &mut Y, node: u8, disks: &mut Vec<Y::Store>) -> Resul
     ensures taken { TakesOne Y.Store.seen Y.Store.faults node (Y.faults yard.old) (Y.faults yard.new) (Y.handed yard.old) (Y.handed yard.new) disks.old.items disks.new.items result }
     ensures returned { Y.returned yard.new ≡ Y.returned yard.old }
     ensures capacity { vec_capacity disks.new ≡ vec_capacity disks.old }
+    ensures opened { Y.opened yard.new ≡ Y.opened yard.old }
+    ensures closed { Y.closed yard.new ≡ Y.closed yard.old }
+    ensures unopened { Y.unopened yard.new ≡ Y.unopened yard.old }
     ensures later { Y.faults yard.old ≤ Y.faults yard.new }
 {
     let mut disk = match yard.store(0, node, "") {
@@ -60,6 +63,9 @@ pub fn take_stores<Y: Yard>(
         × TakesSo Y.Store.seen Y.Store.faults nodes (Y.faults yard.old) (Y.faults yard.new) taken disks.new.items result }
     ensures returned { Y.returned yard.new ≡ Y.returned yard.old }
     ensures few { length disks.new.items ≤ nodes }
+    ensures opened { Y.opened yard.new ≡ Y.opened yard.old }
+    ensures closed { Y.closed yard.new ≡ Y.closed yard.old }
+    ensures unopened { Y.unopened yard.new ≡ Y.unopened yard.old }
     ensures later { Y.faults yard.old ≤ Y.faults yard.new }
 {
     let mut node: u8 = 1;
@@ -76,6 +82,9 @@ pub fn give_back_all<Y: Yard>(yard: &mut Y, disks: Vec<Y::Store>)
     ensures returned { TellsAll (Y.returned yard.old) (Y.returned yard.new) (numbered_stores 1 disks.items) }
     ensures handed { Y.handed yard.new ≡ Y.handed yard.old }
     ensures faults { Y.faults yard.new ≡ Y.faults yard.old }
+    ensures opened { Y.opened yard.new ≡ Y.opened yard.old }
+    ensures closed { Y.closed yard.new ≡ Y.closed yard.old }
+    ensures unopened { Y.unopened yard.new ≡ Y.unopened yard.old }
 {
     let mut node: u8 = 1;
     for disk in disks {

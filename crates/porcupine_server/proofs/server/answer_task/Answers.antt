@@ -2,8 +2,8 @@ use Rattle.std.proofs.Common.{refl}
 use Rattle.porcupine_server.proofs.Tasks.{driven_by, stormed_by, checked_by}
 use Rattle.porcupine_server.proofs.server.answer_task.Goals as goal
 
-pub returns-in-Drive : goal.returns-in-Drive
-returns-in-Drive g c = driven_by _ _ _ _ _ _ _ _ _ c.in-Drive.is refl (record {
+pub returns-in-Drive-clause-by_task : goal.returns-in-Drive-clause-by_task
+returns-in-Drive-clause-by_task g c = driven_by _ _ _ _ _ _ _ _ _ c.in-Drive.is refl (record {
   promises = c.drive_word.ensures.promises;
   transcript_follows = c.drive_word.ensures.transcript_follows;
   not_words = c.drive_word.ensures.not_words;
@@ -14,16 +14,16 @@ returns-in-Drive g c = driven_by _ _ _ _ _ _ _ _ _ c.in-Drive.is refl (record {
   complete = c.drive_word.ensures.complete;
 })
 
-pub returns-in-Storm : goal.returns-in-Storm
-returns-in-Storm g c = stormed_by _ _ _ _ _ _ _ _ _ _ _ c.in-Storm.is refl (record {
+pub returns-in-Storm-clause-by_task : goal.returns-in-Storm-clause-by_task
+returns-in-Storm-clause-by_task g c = stormed_by _ _ _ _ _ _ _ _ _ _ _ c.in-Storm.is refl (record {
   storm = c.write_storm.ensures.storm;
   write_fault = c.write_storm.ensures.write_fault;
   complete = c.write_storm.ensures.complete;
   untouched = record { left = refl; handed = refl; returned = refl };
 })
 
-pub returns-in-Check : goal.returns-in-Check
-returns-in-Check g c = checked_by _ _ _ _ _ _ _ _ _ _ c.in-Check.is refl (record {
+pub returns-in-Check-clause-by_task : goal.returns-in-Check-clause-by_task
+returns-in-Check-clause-by_task g c = checked_by _ _ _ _ _ _ _ _ _ _ c.in-Check.is refl (record {
   checks = c.check_plan.ensures.checks;
   some_status = c.check_plan.ensures.some_status;
   plan_fault = c.check_plan.ensures.plan_fault;

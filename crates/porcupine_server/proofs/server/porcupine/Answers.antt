@@ -3,51 +3,51 @@ use Rattle.porcupine_server.proofs.Tasks.{by_none, by_drive, by_storm, by_check,
 use Rattle.porcupine_server.proofs.server.porcupine.Goals as goal
 
 pub returns-clause-promises : goal.returns-clause-promises
-returns-clause-promises g c drive = (by_drive _ _ _ _ _ c.answer_words.ensures drive).promises
+returns-clause-promises g c drive = (by_drive _ _ _ _ _ c.answer_words.ensures.by_task drive).promises
 
 pub returns-clause-transcript_follows : goal.returns-clause-transcript_follows
-returns-clause-transcript_follows g c drive = (by_drive _ _ _ _ _ c.answer_words.ensures drive).transcript_follows
+returns-clause-transcript_follows g c drive = (by_drive _ _ _ _ _ c.answer_words.ensures.by_task drive).transcript_follows
 
 pub returns-clause-words_refused : goal.returns-clause-words_refused
-returns-clause-words_refused g c none = let refused = by_none _ _ _ _ _ c.answer_words.ensures none in (refused.one, refused.untouched)
+returns-clause-words_refused g c none = let refused = by_none _ _ _ _ _ c.answer_words.ensures.by_task none in (refused.one, refused.untouched)
 
 pub returns-clause-words_told : goal.returns-clause-words_told
-returns-clause-words_told g c none = (by_none _ _ _ _ _ c.answer_words.ensures none).told
+returns-clause-words_told g c none = (by_none _ _ _ _ _ c.answer_words.ensures.by_task none).told
 
 pub returns-clause-words_taken : goal.returns-clause-words_taken
-returns-clause-words_taken g c is = by_cases _ _ _ _ _ _ c.answer_words.ensures (λ none _. none) (λ _ drive. absurd (drive.not_words is))
+returns-clause-words_taken g c is = by_cases _ _ _ _ _ _ c.answer_words.ensures.by_task (λ none _. none) (λ _ drive. absurd (drive.not_words is))
     (λ number size _ storm. absurd (no_storm _ _ number size _ 1 storm.storm is (λ e. omega (arith, e)) (λ e. omega (arith, e)) (λ e. omega (arith, e))))
     (λ file _ check. absurd (no_check _ 1 check.some_status is (λ e. omega (arith, e)) (λ e. omega (arith, e)) (λ e. omega (arith, e)) (λ e. omega (arith, e)) (λ e. omega (arith, e))))
 
 pub returns-clause-storm : goal.returns-clause-storm
-returns-clause-storm g c number size is = let storm = by_storm _ _ _ _ _ number size c.answer_words.ensures is in (storm.storm, storm.untouched)
+returns-clause-storm g c number size is = let storm = by_storm _ _ _ _ _ number size c.answer_words.ensures.by_task is in (storm.storm, storm.untouched)
 
 pub returns-clause-check : goal.returns-clause-check
-returns-clause-check g c file is = let check = by_check _ _ _ _ _ file c.answer_words.ensures is in (check.checks, check.untouched)
+returns-clause-check g c file is = let check = by_check _ _ _ _ _ file c.answer_words.ensures.by_task is in (check.checks, check.untouched)
 
 pub returns-clause-plan_fault : goal.returns-clause-plan_fault
-returns-clause-plan_fault g c is = by_cases _ _ _ _ _ _ c.answer_words.ensures (λ _ refused. absurd (no_refused _ _ refused.one is (λ e. omega (arith, e)))) (λ _ drive. absurd (drive.not_plan is))
+returns-clause-plan_fault g c is = by_cases _ _ _ _ _ _ c.answer_words.ensures.by_task (λ _ refused. absurd (no_refused _ _ refused.one is (λ e. omega (arith, e)))) (λ _ drive. absurd (drive.not_plan is))
     (λ number size _ storm. absurd (no_storm _ _ number size _ 2 storm.storm is (λ e. omega (arith, e)) (λ e. omega (arith, e)) (λ e. omega (arith, e))))
     (λ file asks check. (file, asks, check.plan_fault is))
 
 pub returns-clause-read_fault : goal.returns-clause-read_fault
-returns-clause-read_fault g c is = by_cases _ _ _ _ _ _ c.answer_words.ensures (λ _ refused. absurd (no_refused _ _ refused.one is (λ e. omega (arith, e)))) (λ asks drive. inl (asks, drive.read_fault is))
+returns-clause-read_fault g c is = by_cases _ _ _ _ _ _ c.answer_words.ensures.by_task (λ _ refused. absurd (no_refused _ _ refused.one is (λ e. omega (arith, e)))) (λ asks drive. inl (asks, drive.read_fault is))
     (λ number size _ storm. absurd (no_storm _ _ number size _ 4 storm.storm is (λ e. omega (arith, e)) (λ e. omega (arith, e)) (λ e. omega (arith, e))))
     (λ file asks check. inr (file, asks, check.read_fault is))
 
 pub returns-clause-write_fault : goal.returns-clause-write_fault
-returns-clause-write_fault g c is = write_faults _ _ _ _ _ _ _ _ c.answer_words.ensures is
+returns-clause-write_fault g c is = write_faults _ _ _ _ _ _ _ _ c.answer_words.ensures.by_task is
 
 pub returns-clause-store_fault : goal.returns-clause-store_fault
-returns-clause-store_fault g c is = by_cases _ _ _ _ _ _ c.answer_words.ensures (λ _ refused. absurd (no_refused _ _ refused.one is (λ e. omega (arith, e)))) (λ asks drive. (asks, drive.store_fault is))
+returns-clause-store_fault g c is = by_cases _ _ _ _ _ _ c.answer_words.ensures.by_task (λ _ refused. absurd (no_refused _ _ refused.one is (λ e. omega (arith, e)))) (λ asks drive. (asks, drive.store_fault is))
     (λ number size _ storm. absurd (no_storm _ _ number size _ 6 storm.storm is (λ e. omega (arith, e)) (λ e. omega (arith, e)) (λ e. omega (arith, e))))
     (λ file _ check. absurd (no_check _ 6 check.some_status is (λ e. omega (arith, e)) (λ e. omega (arith, e)) (λ e. omega (arith, e)) (λ e. omega (arith, e)) (λ e. omega (arith, e))))
 
 pub returns-clause-complete : goal.returns-clause-complete
-returns-clause-complete g c drive = (by_drive _ _ _ _ _ c.answer_words.ensures drive).complete
+returns-clause-complete g c drive = (by_drive _ _ _ _ _ c.answer_words.ensures.by_task drive).complete
 
 pub returns-clause-storm_complete : goal.returns-clause-storm_complete
-returns-clause-storm_complete g c number size is = (by_storm _ _ _ _ _ number size c.answer_words.ensures is).complete
+returns-clause-storm_complete g c number size is = (by_storm _ _ _ _ _ number size c.answer_words.ensures.by_task is).complete
 
 pub returns-clause-check_complete : goal.returns-clause-check_complete
-returns-clause-check_complete g c file octets is = (by_check _ _ _ _ _ file c.answer_words.ensures is).complete octets
+returns-clause-check_complete g c file octets is = (by_check _ _ _ _ _ file c.answer_words.ensures.by_task is).complete octets

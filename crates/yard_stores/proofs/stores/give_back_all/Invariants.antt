@@ -12,4 +12,7 @@ invariant-loop-disk g l = record {
   returned : TellsAll (g.Y.Yard.returned l.fn.yard) (g.Y.Yard.returned l.yard) (numbered_stores 1 l.yielded);
   handed : g.Y.Yard.handed l.yard ≡ g.Y.Yard.handed l.fn.yard;
   faults : g.Y.Yard.faults l.yard ≡ g.Y.Yard.faults l.fn.yard;
+  opened : g.Y.Yard.opened l.yard ≡ g.Y.Yard.opened l.fn.yard;
+  closed : g.Y.Yard.closed l.yard ≡ g.Y.Yard.closed l.fn.yard;
+  unopened : g.Y.Yard.unopened l.yard ≡ g.Y.Yard.unopened l.fn.yard;
 }

@@ -9,6 +9,9 @@ pub loop-node-preserved : goal.loop-node-preserved
 loop-node-preserved g c = let t = c.in_ok-take_one.ensures.taken in let i = c.loop-node.invariant in record {
   taken = taken_push _ _ _ _ _ _ _ c.loop-node.node t.0 t.1 i.taken i.count t.2 t.3 t.4;
   returned = c.take_one.ensures.returned ∙ i.returned;
+  opened = c.take_one.ensures.opened ∙ i.opened;
+  closed = c.take_one.ensures.closed ∙ i.closed;
+  unopened = c.take_one.ensures.unopened ∙ i.unopened;
   later = le_trans i.later c.take_one.ensures.later;
   capacity = c.take_one.ensures.capacity ∙ i.capacity;
   count = ap (λ n. n + 1) (ap length t.3 ∙ length_push _ _ ∙ i.count);

@@ -1,8 +1,8 @@
-//! What lies outside a board: what becomes of its letters, and what time it is.
+// What becomes of letters, and what time it is.
 ghost use Rattle.std.specs.Prelude.{◌≡◌, ◌≤◌, ℕ};
 ghost use Rattle.io_edge.specs.Causes.{Rose};
-ghost use Rattle.shard_board.specs.declared.fate.Luck.{Luck as ALuck};
-ghost use Rattle.shard_board.specs.declared.fate.Luck.TheVariants.{Drop as Dropped};
+ghost use Rattle.io_edge.specs.declared.fate.Luck.{Luck as ALuck};
+ghost use Rattle.io_edge.specs.declared.fate.Luck.TheVariants.{Drop as Dropped};
 
 /// What becomes of a letter.
 #[derive(Clone, Copy, Debug, PartialEq, Eq)]
@@ -41,7 +41,7 @@ pub trait Clock {
 pub struct CarryAll;
 
 impl Fate for CarryAll {
-    ghost use Rattle.shard_board.specs.declared.fate.Luck.TheVariants.{Carry};
+    ghost use Rattle.io_edge.specs.declared.fate.Luck.TheVariants.{Carry};
 
     ghost decides = { λ old letter luck new. luck ≡ Carry };
 
