@@ -3,7 +3,7 @@ use Rattle.std.proofs.Common.{◌≡◌, ℕ, List, [], Bool, true, false, Optio
 use Rattle.std.specs.Prelude.{Result, Ok, Err}
 use Rattle.std.specs.FinMap as fin
 use Rattle.mail_model.specs.Plan.{Plan, Users}
-use Rattle.mail_model.specs.Identity.{Key}
+use Rattle.mail_model.specs.Identity.{EpochId, Key}
 use Rattle.object_model.specs.Letters.{Number, Letter}
 use Rattle.cluster_model.specs.Steps.{NodeCall}
 use Rattle.node_store.specs.Disks.{View}
@@ -12,6 +12,7 @@ use Rattle.node_core.specs.Works.{LeavesUp}
 use Rattle.node_core.specs.Hearing.{HeardOrThrown, HearsLetter}
 use Rattle.node_core.specs.Beginning.{CallDid, NodeBegins, IsTextEnded}
 use Rattle.node_core.specs.Pushing.{PushesOut, WidensCopy}
+use Rattle.node_core.specs.Promising.{PromisesEpoch}
 use Rattle.node_core.specs.declared.fault.NodeFault.{NodeFault}
 use Rattle.node_core.specs.declared.fault.NodeFault.TheVariants.{Disk, Worn, NoMemory}
 use Rattle.node_core.specs.declared.outbox.Why.{Why}
@@ -91,3 +92,10 @@ module _ {D : Type 0} (on : View D) (old : Node) (before : D) (new : Node) (afte
       by (Err Worn) up w = absurd w
       by (Err (NoMemory true)) up w = absurd up
       by (Err (NoMemory false)) up w = same_disk w.0 w.1
+
+  pub promising_goes_on : {T : Type 0} (epoch : EpochId) (result : Result T NodeFault) → PromisesEpoch on epoch result old before new after → LeavesUp result → CanWork (on.seen after) new
+  promising_goes_on epoch (Ok did) p up = p.works
+  promising_goes_on epoch (Err Disk) p up = absurd up
+  promising_goes_on epoch (Err Worn) p up = absurd p
+  promising_goes_on epoch (Err (NoMemory true)) p up = absurd up
+  promising_goes_on epoch (Err (NoMemory false)) p up = same_disk p.0 p.1

@@ -10,6 +10,7 @@ pub mod Heard
 pub mod Listing
 pub mod Lists
 pub mod Parts
+pub mod Promising
 pub mod PushRead
 pub mod Pushed
 pub mod Restarting

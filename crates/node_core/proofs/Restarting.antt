@@ -6,6 +6,7 @@ use Rattle.std.proofs.lemmas.List.Elements.{All-nil, All-cons, All-append, All-h
 use Rattle.io_edge.specs.Causes.{Rose}
 use Rattle.io_edge.specs.Moments.{Passed, Keeps as KeepsImages, Restarts, IsOnly}
 use Rattle.io_edge.proofs.Passing.{weaker, passes}
+use Rattle.mail_model.specs.Identity.{EpochId}
 use Rattle.mail_model.specs.Record.{Record, IsJournal, payload_of, payloads_of}
 use Rattle.mail_model.specs.Record.Record.{Boot, Promise, Octets, Stated, Retired}
 use Rattle.mail_model.specs.Grammar.{IsRecord, IsCount}
@@ -15,6 +16,7 @@ use Rattle.object_model.specs.UpdateLog.{Log, retired}
 use Rattle.cluster_model.specs.Claims.{boot_of}
 use Rattle.cluster_model.specs.Rules.{greatest_named}
 use Rattle.cluster_model.specs.Starts.{drawn_on, greatest_count_on, log_after, owed_state, recovered}
+use Rattle.whole_model.proofs.Following.{promise_both}
 use Rattle.disk_journal.specs.Journal.{EndsAt, TellsJournal}
 use Rattle.disk_journal.specs.Images.{Extends, Adds}
 use Rattle.node_store.specs.Disks.{View}
@@ -28,7 +30,7 @@ use Rattle.cluster_model.specs.Starts.{started, first_membership}
 use Rattle.cluster_model.specs.Steps.{greatest_boot}
 use Rattle.disk_journal.specs.Journal.{end_of}
 use Rattle.node_store.specs.Appends.{IsEither, Fails}
-use Rattle.node_store.specs.Recovers.{boot_found, count_found, drawn_found}
+use Rattle.node_store.specs.Recovers.{boot_found, promise_found, count_found, drawn_found}
 use Rattle.node_store.specs.declared.fault.KeepFault.{KeepFault}
 use Rattle.node_store.specs.declared.fault.KeepFault.TheVariants as keep
 use Rattle.node_tickets.specs.Standing.{IsOf, tickets_in}
@@ -37,7 +39,7 @@ use Rattle.node_store.specs.Keeps.{KeepsRecords}
 use Rattle.node_store.specs.Changes.{with_boot}
 use Rattle.node_store.specs.Writes.{Done, WorkIsCutShort}
 use Rattle.node_core.specs.Nodes.{node_seen, end_in}
-use Rattle.node_core.specs.Starting.{MayHold, WhereItHolds, IsStartStop, StartKeeps, StartedOver, StoppedOver, WornOver, NodeStarts, NodeStarted, HasReopened, HoldsNoJournal, ReopensStore}
+use Rattle.node_core.specs.Starting.{MayHold, WhereItHolds, IsStartStop, StartKeeps, StartedOver, StoppedOver, WornOver, NodeStarts, NodeStarted, PromisedOver, NodeStartedWith, HasReopened, HoldsNoJournal, ReopensStore}
 use Rattle.node_core.specs.Works.{fault_of}
 use Rattle.node_core.specs.declared.shape.Shape.{Shape}
 use Rattle.node_core.specs.declared.fault.NodeFault.{NodeFault}
@@ -268,6 +270,13 @@ module _ {D : Type 0} (on : View D) (plan : Plan) (own : ℕ) (before : D) (reco
             stops_keep = starts_keep d.added (r.records ++ Boot boot ∷ []) (inr (sym added)) refl d.appends.moments;
           }
 
+      -- and its last promise is the one that was found
+      pub boot_promised : (new : NodeStore) (d : Done on (with_boot boot) store mid new after) → (node : Node) → node.store ≡ new → node_seen node ≡ started own plan.nodes boot (r.records ++ Boot boot ∷ [])
+          → (promise : EpochId) → promise ≡ promise_found found → PromisedOver on plan own before after node promise records pending
+      unfolding boot_done
+      boot_promised new d node store_is seen_is promise is =
+          record { over = boot_done new d node store_is seen_is; promise_is = is ∙ r.names.promise ∙ sym (promise_both _ r.records (Boot boot ∷ [])) }
+
 -- for whatever it may hold
 module _ {D : Type 0} (on : View D) (plan : Plan) (own : ℕ) (before : D) where
   pub still_stopped : (after : D) → KeepsImages on.clock before after → WhereItHolds on before own (StoppedOver on plan own before after)
@@ -378,6 +387,17 @@ module _ {D : Type 0} (on : View D) (plan : Plan) (own : ℕ) (before mid : D) (
               boot_done on plan own before records pending holds mid held seen was kept alone store found r.reopened boot boot_next boot_fits after new d node refl (seen_is d nodes none drawn_is count_is));
           some = (r.reopened.records ++ d.added, d.keeps r.reopened.records r.reopened.keeps);
         }
+
+    pub has_promised : Done on (with_boot boot) store mid new after → shape.nodes ≡ plan.nodes → shape.copies ≡ plan.copies → shape.confirm ≡ plan.confirm
+        → IsOf own boot shape.confirm tickets → tickets_in tickets ≡ fin.empty → drawn ≡ drawn_found found boot → count ≡ count_found found
+        → 1 ≤ own → own ≤ plan.nodes → plan.nodes ≤ 16 → 1 ≤ plan.copies → (promise : EpochId) → promise ≡ promise_found found → NodeStartedWith on plan own before after node promise
+    has_promised d nodes copies confirm whose none drawn_is count_is low within few some_copies promise promise_is = record {
+      started = has_started d nodes copies confirm whose none drawn_is count_is low within few some_copies;
+      over = after_reading on plan own before mid store found r only (PromisedOver on plan own before after node promise)
+          (λ records pending holds held seen was alone.
+          boot_promised on plan own before records pending holds mid held seen was kept alone store found r.reopened boot boot_next boot_fits after new d node refl (seen_is d nodes none drawn_is count_is)
+          promise promise_is);
+    }
 
 -- a new journal has no records, and each stop of the machine leaves it
 pub new_holds : {D : Type 0} (on : View D) (own : ℕ) (after : D) (end : ℕ) → IfSome (on.seen after) (λ held. IsOnly on.clock after held) → TellsJournal (on.seen after) own [] end

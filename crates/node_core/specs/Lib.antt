@@ -10,6 +10,7 @@ pub mod Naming
 pub mod Nodes
 pub mod PushReads
 pub mod Pushing
+pub mod Promising
 pub mod Reading
 pub mod Spelling
 pub mod Standing

@@ -2,12 +2,14 @@
 use Rattle.std.specs.Prelude.{◌≡◌, ◌⊎◌, ◌≤◌, ℕ, List, [], ◌++◌, All, true, false, IfSome, ⊤, Result, Ok, Err}
 use Rattle.io_edge.specs.Causes.{Rose}
 use Rattle.io_edge.specs.Moments.{Passed, Restarts}
+use Rattle.mail_model.specs.Identity.{EpochId}
 use Rattle.mail_model.specs.Plan.{Plan}
 use Rattle.mail_model.specs.Record.{Record, IsJournal, payloads_of}
 use Rattle.mail_model.specs.Grammar.{IsRecord}
 use Rattle.cluster_model.specs.Claims.{boot_of}
 use Rattle.cluster_model.specs.Starts.{StartsNode, StopsStart}
 use Rattle.cluster_model.specs.Steps.{greatest_boot}
+use Rattle.whole_model.specs.Whole.{promise_of}
 use Rattle.disk_journal.specs.Journal.{TellsJournal}
 use Rattle.node_store.specs.Disks.{View}
 use Rattle.node_store.specs.Reopens.{IsReopened, KeepsNoRecords}
@@ -83,6 +85,20 @@ module _ {D : Type 0} (on : View D) (plan : Plan) (own : ℕ) (before after : D)
   NodeStarts (Err Worn) = WhereItHolds on before own WornOver
   NodeStarts (Err (NoMemory true)) = WhereItHolds on before own StoppedOver
   NodeStarts (Err (NoMemory false)) = WhereItHolds on before own (λ records pending. MayHold on after own records pending × StartKeeps records pending (records ++ pending))
+
+  -- these records stand now, the node is what the machine starts over them, and this is the last promise among them
+  pub record PromisedOver (node : Node) (promise : EpochId) (records pending : List Record) : Type 0 where
+    pub over : StartedOver node records pending
+    pub promise_is : promise ≡ promise_of over.new
+
+  pub record NodeStartedWith (node : Node) (promise : EpochId) : Type 0 where
+    pub started : NodeStarted node
+    pub over : WhereItHolds on before own (PromisedOver node promise)
+
+  -- what a start leaves that also tells the promise
+  abbrev pub StartsWithPromise : Result (Node × EpochId) NodeFault → Type 0
+  StartsWithPromise (Ok started) = NodeStartedWith started.0 started.1
+  StartsWithPromise (Err fault) = NodeStarts (Err fault)
 
 -- the disk was started again, and a store stands over the journal that it then held
 pub record HasReopened {D : Type 0} (on : View D) (own : ℕ) (before after : D) (store : NodeStore) (found : Recovered) : Type 0 where

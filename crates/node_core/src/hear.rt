@@ -35,8 +35,8 @@ use std::alloc::{AllocError, Global};
 use update_log::Acked;
 
 impl Node {
-    // Knows the stamps of the letter.
-    fn learn(&mut self, body: &Body)
+    /// Knows the stamps of a letter, so that what it writes later has a later one. `hear` does so before anything else.
+    pub fn learn(&mut self, body: &Body)
         ensures { HasLearned (body_seen body.now) self.old self.new }
     {
         self.numbers.learn(body);

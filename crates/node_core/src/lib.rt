@@ -14,6 +14,8 @@
 //! | `create` | the journal is made on an empty disk |
 //! | `first` | the journal is made on an empty disk, and the record of the first boot is appended |
 //! | `start` | the disk is started again, the journal is read, and the record of the next boot is appended |
+//! | `start_with_promise` | so it is, and the last epoch that was promised is told |
+//! | `promise` | the record of a promise is appended |
 //! | `begin` | a call gets its ticket; what it files or marks is recorded, and its letters are answered; what it reads is found |
 //! | `hear` | the stamps are learned, and the letter does its work: File, Filed, Strike, StrikeTold, Push, PushAck, Retired |
 //! | `ask` | an answer of a ticket is taken, as far as it is told |
@@ -28,7 +30,7 @@
 //! A letter is heard by reference: where it is refused since memory ran out it can be heard again. Octets are moved into the
 //! journal's write, and are not copied for each user.
 //!
-//! `state`, `ids`, `is_settled`, `kind`, `wants`, `waiting`, `filing`, `is_done`, `own`, `boot`, `epoch` and `store` tell what
+//! `state`, `users`, `ids`, `is_settled`, `kind`, `wants`, `waiting`, `filing`, `is_done`, `own`, `boot`, `epoch` and `store` tell what
 //! the node has, and change nothing.
 //!
 //! DIAGNOSTICS
@@ -72,6 +74,7 @@ mod node;
 mod nodes;
 mod numbers;
 mod outbox;
+mod promise;
 mod push;
 mod pushes;
 mod reading;
@@ -85,3 +88,4 @@ mod throwing;
 pub use fault::NodeFault;
 pub use node::Node;
 pub use outbox::{Outbox, Why};
+pub use throwing::has_epoch;

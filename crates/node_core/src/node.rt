@@ -3,13 +3,13 @@ ghost use Rattle.std.specs.Prelude.{◌≡◌, ◌≤◌, [], IfSome, OnOk};
 ghost use Rattle.io_edge.specs.Moments.{Keeps, Tears};
 ghost use Rattle.io_edge.specs.Octets.{IsToldAlike};
 ghost use Rattle.node_store.specs.Disks.{view_of};
-ghost use Rattle.node_core.specs.Starting.{NodeCreated, NodeStarts, ReopensStore};
+ghost use Rattle.node_core.specs.Starting.{NodeCreated, NodeStarts, ReopensStore, StartsWithPromise};
 
 use crate::fault::NodeFault;
 use crate::numbers::Numbers;
 use crate::shape::Shape;
 use io_edge::Disk;
-use mail_base::{NodeNo, Plan};
+use mail_base::{EpochId, NodeNo, Plan};
 use node_store::{KeepFault, NodeStore, ReadFault, Recovered};
 use node_tickets::Tickets;
 use std::alloc::Global;
@@ -98,6 +98,30 @@ impl Node {
         ensures faults { D.faults disk.old ≤ D.faults disk.new }
         ensures settled { OnOk result (D.settled disk.new) }
     {
+        let (node, _) = Node::start_with_promise(alloc, disk, plan, number)?;
+        Ok(node)
+    }
+
+    /// Starts a node over its disk, as `start`, and tells the last epoch that the node promised: the one of the last Promise
+    /// record, or that of no epoch.
+    ///
+    /// # Errors
+    ///
+    /// Those of `start`.
+    pub fn start_with_promise<D: Disk>(
+        alloc: Global,
+        disk: &mut D,
+        plan: &Plan,
+        number: NodeNo,
+    ) -> Result<(Node, EpochId), NodeFault>
+        requires within { number ≤ plan.now.nodes }
+        requires few { plan.now.nodes ≤ 16 }
+        requires copies { 1 ≤ plan.now.copies }
+        ensures starts { StartsWithPromise (view_of D.seen D.faults D.clock) plan.now number disk.old disk.new result }
+        ensures told { IsToldAlike (D.seen disk.old) (D.seen disk.new) }
+        ensures faults { D.faults disk.old ≤ D.faults disk.new }
+        ensures settled { OnOk result (D.settled disk.new) }
+    {
         let (mut store, found) = reopened(alloc, disk, number)?;
         let last = found.boot();
         if last == u32::MAX {
@@ -113,11 +137,12 @@ impl Node {
             count: found.count(),
             calls: 0,
         };
-        Ok(Node {
+        let node = Node {
             shape,
             numbers,
             store,
             tickets,
-        })
+        };
+        Ok((node, found.promise()))
     }
 }

@@ -8,12 +8,12 @@ ghost use Rattle.object_model.specs.Sets.{has, nodes_in};
 ghost use Rattle.object_model.specs.UpdateLog.{owes};
 ghost use Rattle.mail_base.specs.Seen.{key_seen};
 ghost use Rattle.cluster_model.specs.Cluster.{epoch_of, members_of};
-ghost use Rattle.node_store.specs.Mailboxes.{AreIdsHere};
+ghost use Rattle.node_store.specs.Mailboxes.{AreIdsHere, AreUsersSaid};
 ghost use Rattle.node_core.specs.Nodes.{node_seen, NodeKeeps, IsWhole};
 
 use crate::node::Node;
 use crate::nodes::node_of;
-use mail_base::{EpochId, Ids, Key, Name, NodeNo, NodeSet, ObjState};
+use mail_base::{EpochId, Ids, Key, Name, Names, NodeNo, NodeSet, ObjState};
 use node_store::NodeStore;
 use std::alloc::{AllocError, Global};
 
@@ -63,6 +63,18 @@ impl Node {
         ensures { IfOk result (λ ids. (records : List Record) → NodeKeeps records self.now → AreIdsHere user.now records ids) }
     {
         self.store.ids(alloc, user)
+    }
+
+    /// The users of whom the disk says something, each once, in the order of their names. It asks nothing of the disk, and takes
+    /// time in their number alone.
+    ///
+    /// # Errors
+    ///
+    /// Only out of memory.
+    pub fn users(&self, alloc: Global) -> Result<Names, AllocError>
+        ensures { IfOk result (λ names. (records : List Record) → NodeKeeps records self.now → AreUsersSaid records names) }
+    {
+        self.store.users(alloc)
     }
 
     // Whether nothing is due to the node, if the set has it.

@@ -18,8 +18,8 @@ fn is_same_epoch(a: &EpochId, b: &EpochId) -> bool
     a.count == b.count && a.node == b.node
 }
 
-// Whether a letter of this kind carries the epoch of its sender.
-fn has_epoch(body: &Body) -> bool
+/// Whether a letter of this kind carries the epoch of its sender. The letters that form a group carry none.
+pub fn has_epoch(body: &Body) -> bool
     ensures { result ≡ has_epoch (body_seen body.now) }
 {
     match body {

@@ -3,10 +3,10 @@ use Rattle.std.proofs.Common.{Bool, true, false, ◌≡◌, ℕ, List, [], ◌�
 use Rattle.std.specs.Prelude.{All, option_map}
 use Rattle.std.specs.FinMap as fin
 use Rattle.std.proofs.lemmas.List.Elements.{All-nil, All-cons, All-append}
-use Rattle.mail_model.specs.Identity.{Id, Key, State}
-use Rattle.mail_model.specs.Grammar.{IsRecord, IsObject, IsCount}
+use Rattle.mail_model.specs.Identity.{Id, EpochId, Key, State}
+use Rattle.mail_model.specs.Grammar.{IsRecord, IsObject, IsCount, IsEpoch}
 use Rattle.mail_model.specs.Record.{Record, journal_of, payloads_of}
-use Rattle.mail_model.specs.Record.Record.{Boot, Retired}
+use Rattle.mail_model.specs.Record.Record.{Boot, Promise, Retired}
 use Rattle.object_model.specs.Said.{held_after, said}
 use Rattle.object_model.specs.Keys.{key_cmp}
 use Rattle.object_model.proofs.SaidLaws.{held_both}
@@ -20,7 +20,7 @@ use Rattle.node_store.specs.Disks.{View}
 use Rattle.node_store.specs.Appends.{AppendsRecords, StopsWithin}
 use Rattle.node_store.specs.Places.{span_of}
 use Rattle.node_store.specs.Keeps.{KeepsRecords, seen_with, HoldsObjects, HoldsLogged, CanGoOn}
-use Rattle.node_store.specs.Changes.{IsNew, with_boot, retired_where, is_emptied, acked_by}
+use Rattle.node_store.specs.Changes.{IsNew, with_boot, with_promise, retired_where, is_emptied, acked_by}
 use Rattle.update_log.specs.Answers.{answer_at}
 use Rattle.update_log.specs.declared.logged.Acked.{Acked}
 use Rattle.update_log.specs.declared.logged.Acked.TheVariants.{Cleared, Emptied, Other}
@@ -92,6 +92,18 @@ boot_done on boot old new before after fits sound own messages objects log appen
 
 pub boot_stopped : {D : Type 0} (on : View D) (boot : ℕ) (old : NodeStore) (before after : D) → StopsWithin on before after (end_of old.journal) (Boot boot ∷ []) → WorkIsCutShort on (with_boot boot) old before after
 boot_stopped on boot old before after s = silent_stopped on (with_boot boot) (Boot boot ∷ []) old before after (λ records k. refl) s
+
+-- the record of a promise
+pub promise_done : {D : Type 0} (on : View D) (epoch : EpochId) (old new : NodeStore) (before after : D) → IsEpoch epoch → CanGoOn (on.seen before) old
+    → new.own ≡ old.own → new.messages ≡ old.messages → new.objects ≡ old.objects → new.log ≡ old.log
+    → AppendsRecords on before after (end_of old.journal) (end_of new.journal) (Promise epoch ∷ []) → Done on (with_promise epoch) old before new after
+promise_done on epoch old new before after fits sound own messages objects log appends =
+    silent_done on (with_promise epoch) (Promise epoch ∷ []) old before after new (λ records k. refl) (λ records k. sym log) (λ key held. refl) (λ id at. refl)
+    (All-cons IsRecord (Promise epoch) [] fits (All-nil IsRecord)) (subst HoldsLogged (sym log) sound.logged) sound own messages objects appends
+
+pub promise_stopped : {D : Type 0} (on : View D) (epoch : EpochId) (old : NodeStore) (before after : D) → StopsWithin on before after (end_of old.journal) (Promise epoch ∷ [])
+    → WorkIsCutShort on (with_promise epoch) old before after
+promise_stopped on epoch old before after s = silent_stopped on (with_promise epoch) (Promise epoch ∷ []) old before after (λ records k. refl) s
 
 -- a store with an empty table, an empty log and no places
 pub new_store : (own : ℕ) (store : NodeStore) (seen : Option (List ℕ)) → store.own ≡ own → end_of store.journal ≡ 16 → store.objects ≡ fin.empty → store.log ≡ fin.empty

@@ -2,6 +2,7 @@
 use Rattle.std.proofs.Common.{◌≡◌, ℕ, ◌∷◌, List, [], ◌++◌, refl, sym, ap, ◌∙◌, append_assoc, append-nil}
 use Rattle.std.specs.Prelude.{max, nat_eq, ◌&&◌, if◌then◌else◌}
 use Rattle.std.proofs.Math.Nat.{max-zero}
+use Rattle.mail_model.specs.Identity.{EpochId}
 use Rattle.mail_model.specs.Identity.Key.{Profile, Message}
 use Rattle.mail_model.specs.Record.{Record}
 use Rattle.mail_model.specs.Record.Record.{Boot, Promise, Octets, Stated, Retired}
@@ -13,7 +14,9 @@ use Rattle.cluster_model.specs.Claims.{boot_after}
 use Rattle.cluster_model.specs.Rules.{greatest_named}
 use Rattle.cluster_model.specs.Starts.{greatest_count_on, drawn_on, log_after, owed_state, recovered}
 use Rattle.cluster_model.proofs.StoreSteps.{boot_both}
-use Rattle.node_store.specs.Recovers.{id_named, number_for, boot_found, count_found, drawn_found, Recovers, BootsChangeNothing}
+use Rattle.whole_model.specs.Whole.{promise_after}
+use Rattle.whole_model.proofs.Following.{promise_both}
+use Rattle.node_store.specs.Recovers.{id_named, number_for, boot_found, promise_found, count_found, drawn_found, Recovers, BootsChangeNothing, PromisesChangeNothing}
 use Rattle.node_store.specs.declared.recovered.Recovered.{Recovered}
 
 count_both : (count : ℕ) (records more : List Record) → greatest_count_on count (records ++ more) ≡ greatest_count_on (greatest_count_on count records) more
@@ -42,11 +45,13 @@ drawn_one own boot drawn (Stated (Message user id) state) = refl
 drawn_one own boot drawn (Retired (Profile user) state) = refl
 drawn_one own boot drawn (Retired (Message user id) state) = refl
 
-pub recovers_more : (own : ℕ) (old new : Recovered) (one : Record) → boot_found new ≡ boot_after (boot_found old) (one ∷ []) → count_found new ≡ greatest_count_on (count_found old) (one ∷ [])
+pub recovers_more : (own : ℕ) (old new : Recovered) (one : Record) → boot_found new ≡ boot_after (boot_found old) (one ∷ []) → promise_found new ≡ promise_after (promise_found old) (one ∷ [])
+    → count_found new ≡ greatest_count_on (count_found old) (one ∷ [])
     → ((boot : ℕ) → drawn_found new boot ≡ max (drawn_found old boot) (number_for own boot (id_named one)))
     → (records : List Record) → Recovers own records old → Recovers own (records ++ one ∷ []) new
-recovers_more own old new one boot count drawn records r = record {
+recovers_more own old new one boot promise count drawn records r = record {
   boot = boot ∙ ap (λ (b : ℕ). boot_after b (one ∷ [])) r.boot ∙ sym (boot_both 0 records (one ∷ []));
+  promise = promise ∙ ap (λ (e : EpochId). promise_after e (one ∷ [])) r.promise ∙ sym (promise_both _ records (one ∷ []));
   count = count ∙ ap (λ (n : ℕ). greatest_count_on n (one ∷ [])) r.count ∙ sym (count_both 0 records (one ∷ []));
   drawn = λ b. drawn b ∙ drawn_one own b (drawn_found old b) one ∙ ap (λ (n : ℕ). drawn_on own b n (one ∷ [])) (r.drawn b) ∙ sym (drawn_both own b 0 records (one ∷ []));
 }
@@ -80,4 +85,14 @@ boots_change_nothing own boot records = (
   boot_both 0 records (Boot boot ∷ []),
   count_both 0 records (Boot boot ∷ []),
   λ other. drawn_both own other 0 records (Boot boot ∷ []),
+  promise_both _ records (Boot boot ∷ []),
+)
+
+pub promises_change_nothing : PromisesChangeNothing
+promises_change_nothing own epoch records = (
+  log_more own records (Promise epoch),
+  boot_both 0 records (Promise epoch ∷ []),
+  promise_both _ records (Promise epoch ∷ []),
+  count_both 0 records (Promise epoch ∷ []),
+  λ other. drawn_both own other 0 records (Promise epoch ∷ []),
 )

@@ -2,9 +2,9 @@
 use Rattle.std.specs.Prelude.{◌≡◌, ℕ, Bool, true, false, if◌then◌else◌, None, Some, List, [], ◌∷◌, ◌++◌, Option, Result, Ok, Err}
 use Rattle.std.specs.FinMap as fin
 use Rattle.io_edge.specs.Causes.{Rose}
-use Rattle.mail_model.specs.Identity.{Id, Key, State}
+use Rattle.mail_model.specs.Identity.{Id, EpochId, Key, State}
 use Rattle.mail_model.specs.Record.{Record}
-use Rattle.mail_model.specs.Record.Record.{Boot, Retired}
+use Rattle.mail_model.specs.Record.Record.{Boot, Promise, Retired}
 use Rattle.object_model.specs.Said.{said}
 use Rattle.object_model.specs.UpdateLog.{retired, is_of}
 use Rattle.update_log.specs.Answers.{answer_at}
@@ -42,6 +42,10 @@ StoreCreated (Err NoMemory) own old new before now = (new ≡ old) × (now ≡ b
 -- a boot is recorded
 abbrev pub with_boot : ℕ → Store → Store
 with_boot boot store = record { log = store.log; disk = store.disk ++ Boot boot ∷ [] }
+
+-- a promise is recorded
+abbrev pub with_promise : EpochId → Store → Store
+with_promise epoch store = record { log = store.log; disk = store.disk ++ Promise epoch ∷ [] }
 
 -- octets are stored where they are wanted
 abbrev pub with_stored : Id → List (List ℕ) → List ℕ → Store → Store

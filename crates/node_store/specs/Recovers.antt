@@ -2,12 +2,13 @@
 use Rattle.std.specs.Prelude.{◌≡◌, ℕ, ◌&&◌, nat_eq, List, [], ◌∷◌, ◌++◌, Option, Some, None, if◌then◌else◌}
 use Rattle.std.specs.Ordering.{nat_cmp}
 use Rattle.std.specs.BTreeMap as tree
-use Rattle.mail_model.specs.Identity.{Id, Key}
+use Rattle.mail_model.specs.Identity.{Id, EpochId, Key}
 use Rattle.mail_model.specs.Identity.Key.{Profile, Message}
 use Rattle.mail_model.specs.Record.{Record}
 use Rattle.mail_model.specs.Record.Record.{Boot, Promise, Octets, Stated, Retired}
 use Rattle.cluster_model.specs.Claims.{boot_of}
 use Rattle.cluster_model.specs.Starts.{greatest_count_on, drawn_on, recovered}
+use Rattle.whole_model.specs.Whole.{promise_of}
 use Rattle.node_store.specs.declared.recovered.Recovered.{Recovered}
 
 abbrev pub boot_found : Recovered → ℕ
@@ -15,6 +16,10 @@ boot_found found = found.boot
 
 abbrev pub count_found : Recovered → ℕ
 count_found found = found.count
+
+-- the epoch of the last promise
+abbrev pub promise_found : Recovered → EpochId
+promise_found found = found.promise
 
 abbrev pub or_zero : Option ℕ → ℕ
 or_zero None = 0
@@ -24,9 +29,10 @@ or_zero (Some number) = number
 abbrev pub drawn_found : Recovered → ℕ → ℕ
 drawn_found found boot = or_zero (tree.get nat_cmp found.numbers boot)
 
--- it has what these records name: the last boot, the greatest count of a stamp, and for each boot the greatest number that a message of the own node has
+-- it has what these records name: the last boot, the last promise, the greatest count of a stamp, and for each boot the greatest number that a message of the own node has
 pub record Recovers (own : ℕ) (records : List Record) (found : Recovered) : Type 0 where
   pub boot : boot_found found ≡ boot_of records
+  pub promise : promise_found found ≡ promise_of records
   pub count : count_found found ≡ greatest_count_on 0 records
   pub drawn : (boot : ℕ) → drawn_found found boot ≡ drawn_on own boot 0 records
 
@@ -53,3 +59,12 @@ BootsChangeNothing = (own boot : ℕ) (records : List Record) → (recovered own
     × (boot_of (records ++ Boot boot ∷ []) ≡ boot)
     × (greatest_count_on 0 (records ++ Boot boot ∷ []) ≡ greatest_count_on 0 records)
     × ((other : ℕ) → drawn_on own other 0 (records ++ Boot boot ∷ []) ≡ drawn_on own other 0 records)
+    × (promise_of (records ++ Boot boot ∷ []) ≡ promise_of records)
+
+-- the record of a promise changes nothing of what a start finds, but that this is the last promise
+abbrev pub PromisesChangeNothing : Type 0
+PromisesChangeNothing = (own : ℕ) (epoch : EpochId) (records : List Record) → (recovered own (records ++ Promise epoch ∷ []) ≡ recovered own records)
+    × (boot_of (records ++ Promise epoch ∷ []) ≡ boot_of records)
+    × (promise_of (records ++ Promise epoch ∷ []) ≡ epoch)
+    × (greatest_count_on 0 (records ++ Promise epoch ∷ []) ≡ greatest_count_on 0 records)
+    × ((other : ℕ) → drawn_on own other 0 (records ++ Promise epoch ∷ []) ≡ drawn_on own other 0 records)

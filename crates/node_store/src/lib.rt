@@ -13,6 +13,7 @@
 //! | Call | What is done |
 //! |---|---|
 //! | `boot` | the boot is recorded |
+//! | `promise` | the promise of an epoch is recorded |
 //! | `store_octets` | the octets are recorded, where some user's copy is not gone and none are stored yet |
 //! | `take` | a state is joined to what stands; where the join is news it is recorded, and noted for its other targets |
 //! | `take_here`, `take_gone` | so is a copy that is here for each user, or a deletion for each mark, in order |
@@ -28,11 +29,11 @@
 //!
 //! `open` reads a journal that is there, record by record. The store that it gives keeps exactly these records, and its log is
 //! the one that a start over them finds: each state is owed to all its other targets again, unless it is recorded as retired
-//! after it. `Recovered` has what else a start needs: the last boot, the greatest count of a stamp, and for each boot the
-//! greatest number that a record names for a message of this node. Of a disk that tells nothing it is known that the store
+//! after it. `Recovered` has what else a start needs: the last boot, the last promise, the greatest count of a stamp, and for
+//! each boot the greatest number that a record names for a message of this node. Of a disk that tells nothing it is known that the store
 //! keeps some records.
 //!
-//! `state`, `ids`, `entry`, `due`, `owes` and `length` tell what the records say, and ask nothing of the disk. `fetch` reads
+//! `state`, `users`, `ids`, `entry`, `due`, `owes` and `length` tell what the records say, and ask nothing of the disk. `fetch` reads
 //! octets of a message into a slice; `octets` and `octets_part` give them as a vector.
 //!
 //! DIAGNOSTICS
@@ -83,6 +84,6 @@ mod store;
 mod wider;
 
 pub use fault::{KeepFault, ReadFault};
-pub use laws::boots_change_nothing;
+pub use laws::{boots_change_nothing, promises_change_nothing};
 pub use recovered::Recovered;
 pub use store::NodeStore;

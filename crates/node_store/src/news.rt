@@ -1,8 +1,8 @@
 //! States that are taken, and recorded.
 ghost use Rattle.std.specs.Prelude.{◌≡◌, ◌<◌, ◌∷◌, [], nat_eq, Some, IfOk, IfSome, OnOk};
 ghost use Rattle.std.specs.FinMap as fin;
-ghost use Rattle.mail_model.specs.Grammar.{IsObject};
-ghost use Rattle.mail_model.specs.Record.Record.{Boot, Stated, Retired};
+ghost use Rattle.mail_model.specs.Grammar.{IsNodeNumber, IsObject};
+ghost use Rattle.mail_model.specs.Record.Record.{Boot, Promise, Stated, Retired};
 ghost use Rattle.object_model.specs.Sets.{without_node};
 ghost use Rattle.mail_base.specs.Seen.{key_seen};
 ghost use Rattle.disk_journal.specs.Journal.{HasGate, end_of};
@@ -15,10 +15,10 @@ ghost use Rattle.node_store.specs.Keeps.{HoldsObjects};
 
 use crate::append::append_record;
 use crate::fault::KeepFault;
-use crate::payload::{boot_payload, retired_payload, state_payload};
+use crate::payload::{boot_payload, promise_payload, retired_payload, state_payload};
 use disk_journal::Journal;
 use io_edge::Disk;
-use mail_base::{Key, NodeNo, NodeSet, ObjState};
+use mail_base::{EpochId, Key, NodeNo, NodeSet, ObjState};
 use object_table::ObjectTable;
 use replica_push::hear_push;
 use std::alloc::{AllocError, Global};
@@ -78,6 +78,23 @@ pub(crate) fn record_boot<D: Disk>(
     ensures settled { OnOk result (D.settled disk.new) }
 {
     let payload = boot_payload(alloc, boot)?;
+    append_record(alloc, journal, disk, &payload, &[])?;
+    Ok(())
+}
+
+/// Records that the node promised the epoch.
+pub(crate) fn record_promise<D: Disk>(
+    alloc: Global,
+    journal: &mut Journal,
+    disk: &mut D,
+    epoch: EpochId,
+) -> Result<(), KeepFault>
+    requires node { IsNodeNumber epoch.node }
+    requires gate { HasGate (D.seen disk.old) (end_of journal.old) }
+    ensures written { Written (view_of D.seen D.faults D.clock) result disk.old disk.new (end_of journal.old) (end_of journal.new) (Promise epoch ∷ []) }
+    ensures settled { OnOk result (D.settled disk.new) }
+{
+    let payload = promise_payload(alloc, epoch)?;
     append_record(alloc, journal, disk, &payload, &[])?;
     Ok(())
 }

@@ -1,11 +1,11 @@
-//! The payloads of records of states and boots.
+//! The payloads of records of states, boots and promises.
 ghost use Rattle.std.specs.Prelude.{◌≡◌, ◌≤◌, ◌<◌, length, IfOk};
-ghost use Rattle.mail_model.specs.Grammar.{IsObject};
+ghost use Rattle.mail_model.specs.Grammar.{IsNodeNumber, IsObject};
 ghost use Rattle.mail_model.specs.Record.{payload_of};
-ghost use Rattle.mail_model.specs.Record.Record.{Boot, Stated, Retired};
+ghost use Rattle.mail_model.specs.Record.Record.{Boot, Promise, Stated, Retired};
 ghost use Rattle.mail_base.specs.Seen.{key_seen};
 
-use mail_base::{Key, ObjState};
+use mail_base::{EpochId, Key, ObjState};
 use record_form::{DiskEntry, record_into};
 use std::alloc::{AllocError, Global};
 
@@ -17,6 +17,17 @@ pub(crate) fn boot_payload(alloc: Global, boot: u32) -> Result<Vec<u8>, AllocErr
 {
     let mut payload = Vec::new(alloc);
     record_into(alloc, &mut payload, &DiskEntry::Boot { boot })?;
+    Ok(payload)
+}
+
+/// The payload of the record that the node promised the epoch.
+pub(crate) fn promise_payload(alloc: Global, epoch: EpochId) -> Result<Vec<u8>, AllocError>
+    requires { IsNodeNumber epoch.node }
+    ensures spelt { IfOk result (λ payload. payload.items ≡ payload_of (Promise epoch)) }
+    ensures short { IfOk result (λ payload. length payload.items ≤ 256) }
+{
+    let mut payload = Vec::new(alloc);
+    record_into(alloc, &mut payload, &DiskEntry::Promise { epoch })?;
     Ok(payload)
 }
 

@@ -7,17 +7,19 @@ ghost use Rattle.mail_base.specs.Seen.{key_seen};
 ghost use Rattle.record_form.specs.Entries.{IsEntryOf};
 ghost use Rattle.cluster_model.specs.Claims.{boot_after};
 ghost use Rattle.cluster_model.specs.Starts.{greatest_count_on};
-ghost use Rattle.node_store.specs.Recovers.{boot_found, count_found, drawn_found, or_zero, id_of_key, id_named, number_for, Recovers};
+ghost use Rattle.whole_model.specs.Whole.{promise_after};
+ghost use Rattle.node_store.specs.Recovers.{boot_found, count_found, drawn_found, or_zero, id_of_key, id_named, number_for, promise_found, Recovers};
 
-use mail_base::{Key, MsgId, NodeNo};
+use mail_base::{EpochId, Key, MsgId, NodeNo};
 use record_form::DiskEntry;
 use std::alloc::{AllocError, Global};
 use std::collections::BTreeMap;
 
-/// Which boots, counts of stamps and numbers of messages the records of a journal name.
+/// Which boots, promises, counts of stamps and numbers of messages the records of a journal name.
 #[derive(Drop)]
 pub struct Recovered {
     boot: u32,
+    promise: EpochId,
     count: u64,
     numbers: BTreeMap<u32, u64>,
 }
@@ -32,6 +34,19 @@ fn boot_with(boot: u32, entry: &DiskEntry) -> u32
         DiskEntry::Octets { .. } => boot,
         DiskEntry::State { .. } => boot,
         DiskEntry::Retired { .. } => boot,
+    }
+}
+
+// The promise, or that of the record.
+fn promise_with(promise: EpochId, entry: &DiskEntry) -> EpochId
+    ensures { (one : Record) → IsEntryOf entry.now one → result ≡ promise_after promise (one ∷ []) }
+{
+    match entry {
+        DiskEntry::Promise { epoch } => *epoch,
+        DiskEntry::Boot { .. } => promise,
+        DiskEntry::Octets { .. } => promise,
+        DiskEntry::State { .. } => promise,
+        DiskEntry::Retired { .. } => promise,
     }
 }
 
@@ -105,6 +120,7 @@ impl Recovered {
     {
         Recovered {
             boot: 0,
+            promise: EpochId::none(),
             count: 0,
             numbers: BTreeMap::new(alloc),
         }
@@ -116,6 +132,7 @@ impl Recovered {
     {
         raise_own(&mut self.numbers, own, id_named(entry))?;
         self.boot = boot_with(self.boot, entry);
+        self.promise = promise_with(self.promise, entry);
         self.count = count_with(self.count, entry);
         Ok(())
     }
@@ -125,6 +142,13 @@ impl Recovered {
         ensures { result ≡ boot_found self.now }
     {
         self.boot
+    }
+
+    /// The last epoch that a record promises; that of no epoch where none does.
+    pub fn promise(&self) -> EpochId
+        ensures { result ≡ promise_found self.now }
+    {
+        self.promise
     }
 
     /// The greatest count of a stamp in a state that is recorded; 0 where none is.

@@ -2,19 +2,19 @@
 ghost use Rattle.std.specs.Prelude.{◌≡◌, ◌<◌, ◌≤◌, [], IfSome, OnOk};
 ghost use Rattle.io_edge.specs.Octets.{IsToldAlike};
 ghost use Rattle.io_edge.specs.Moments.{Tears};
-ghost use Rattle.mail_model.specs.Grammar.{IsObject};
+ghost use Rattle.mail_model.specs.Grammar.{IsNodeNumber, IsObject};
 ghost use Rattle.cluster_model.specs.Store.{take_one};
 ghost use Rattle.mail_base.specs.Seen.{key_seen};
 ghost use Rattle.node_store.specs.Disks.{view_of};
 ghost use Rattle.node_store.specs.Keeps.{CanGoOn};
 ghost use Rattle.node_store.specs.Writes.{WroteChange};
-ghost use Rattle.node_store.specs.Changes.{StoreCreated, HasJournal, with_boot};
+ghost use Rattle.node_store.specs.Changes.{StoreCreated, HasJournal, with_boot, with_promise};
 
 use crate::fault::KeepFault;
-use crate::news::{record_boot, record_news, take_news};
+use crate::news::{record_boot, record_news, record_promise, take_news};
 use disk_journal::{Journal, JournalFault};
 use io_edge::Disk;
-use mail_base::{Key, NodeNo, ObjState};
+use mail_base::{EpochId, Key, NodeNo, ObjState};
 use message_store::MessageStore;
 use object_table::ObjectTable;
 use std::alloc::Global;
@@ -77,6 +77,22 @@ impl NodeStore {
         ensures settled { OnOk result (D.settled disk.new) }
     {
         record_boot(alloc, &mut self.journal, disk, boot)?;
+        Ok(())
+    }
+
+    /// Records that the node promised the epoch. A node does it before it speaks of its promise.
+    pub fn promise<D: Disk>(
+        &mut self,
+        alloc: Global,
+        disk: &mut D,
+        epoch: EpochId,
+    ) -> Result<(), KeepFault>
+        requires sound { CanGoOn (D.seen disk.old) self.old }
+        requires node { IsNodeNumber epoch.node }
+        ensures wrote { WroteChange (view_of D.seen D.faults D.clock) (with_promise epoch) result self.old disk.old self.new disk.new }
+        ensures settled { OnOk result (D.settled disk.new) }
+    {
+        record_promise(alloc, &mut self.journal, disk, epoch)?;
         Ok(())
     }
 

@@ -13,6 +13,7 @@
 //! | `tests/letters.rt` | letters that carry copies, and those that carry states |
 //! | `tests/logins.rt` | a mailbox as its reader finds it, and the parts of a message |
 //! | `tests/starts.rt` | a first boot, a start over a disk, and disks that are none of the node's |
+//! | `tests/promises.rt` | epochs that are promised, and whom a node knows |
 //! | `tests/falls.rt` | each call of the disk failing in turn |
 //! | `tests/store.rt` | what a store records and tells, of `node_store` |
 //! | `tests/opening.rt` | stores over journals that are there |

@@ -23,6 +23,7 @@ mod letters;
 mod lines;
 mod logins;
 mod opening;
+mod promises;
 mod says;
 mod starts;
 mod store;
@@ -40,11 +41,11 @@ use lines::{
     at, deletion_at, deliver_at, digit, fetch_at, id_at, letter_at, lines_of, login_at, named,
     node_at, room_at, secret_of, ticket_at,
 };
-use mail_base::{Letter, MsgId, Name, NodeNo, Plan, Users};
+use mail_base::{EpochId, Letter, MsgId, Name, NodeNo, Plan, Users};
 use node_core::{Node, NodeFault};
 use node_disk::MemoryDisk;
 use node_tickets::MishapKind;
-use says::{one, say_ask, say_ids, say_outbox, say_state, say_ticket, say_whether};
+use says::{one, say_ask, say_ids, say_outbox, say_state, say_ticket, say_users, say_whether};
 use std::alloc::{AllocError, Global};
 use std::process::Abort;
 use std::test::Fail;
@@ -136,6 +137,40 @@ fn restarts<D: Disk>(
     }
 }
 
+/// So it does, and the epoch is told too that it promised last.
+fn restarts_promised<D: Disk>(
+    alloc: Global,
+    disk: &mut D,
+    node: &mut Node,
+    out: &mut Vec<u8>,
+) -> Result<(), NodeFault>
+    ensures { LeavesUp result → CanWork (D.seen disk.new) node.new }
+{
+    match started_promised(alloc, disk, node.own()) {
+        Ok((again, promise)) => {
+            *node = again;
+            out.extend_from_slice(&[b' ', one(u64::from(node.boot()))])?;
+            out.extend_from_slice(&[b' ', one(promise.count), one(u64::from(promise.node))])?;
+            Ok(())
+        }
+        Err(_) => Err(NodeFault::Disk),
+    }
+}
+
+/// The node promises an epoch of this count and node.
+fn promises_epoch<D: Disk>(
+    alloc: Global,
+    disk: &mut D,
+    node: &mut Node,
+    count: u64,
+    by: NodeNo,
+) -> Result<(), NodeFault>
+    requires works { CanWork (D.seen disk.old) node.old }
+    ensures { LeavesUp result → CanWork (D.seen disk.new) node.new }
+{
+    node.promise(alloc, disk, EpochId::new(count, by.number()))
+}
+
 /// What is asked of the tickets alone.
 fn tells(alloc: Global, node: &mut Node, line: &[u8], out: &mut Vec<u8>) -> Result<(), AllocError>
     requires whole { IsWhole node.old }
@@ -151,6 +186,7 @@ fn tells(alloc: Global, node: &mut Node, line: &[u8], out: &mut Vec<u8>) -> Resu
         b'o' => say_whether(out, node.is_due(node_at(line, 2))),
         b'i' => say_ticket(node, ticket_at(line), out),
         b'l' => say_ids(alloc, node, out),
+        b'u' => say_users(alloc, node, out),
         b'q' => say_whether(out, node.is_settled()),
         b'c' => {
             let (most, room) = room_at(line);
@@ -237,6 +273,14 @@ fn acts<D: Disk>(
             widens(alloc, disk, node, &ann, id_at(line), node_at(line, 2), out)
         }
         b'r' => restarts(alloc, disk, node, out),
+        b'V' => restarts_promised(alloc, disk, node, out),
+        b'v' => promises_epoch(
+            alloc,
+            disk,
+            node,
+            u64::from(digit(line, 8)),
+            node_at(line, 9),
+        ),
         b'F' | b'f' | b'S' | b's' | b'P' | b'A' | b'R' | b'U' => {
             let letter = letter_at(alloc, line, node.own())?;
             hears(alloc, disk, node, &letter, out)
@@ -272,6 +316,21 @@ fn started<D: Disk>(alloc: Global, disk: &mut D, number: NodeNo) -> Result<Node,
     }
     let plan = plan_of(alloc)?;
     Node::start(alloc, disk, &plan, number)
+}
+
+/// So does this one, and the epoch is told too that it promised last.
+fn started_promised<D: Disk>(
+    alloc: Global,
+    disk: &mut D,
+    number: NodeNo,
+) -> Result<(Node, EpochId), NodeFault>
+    ensures works { IfOk result (λ started. CanWork (D.seen disk.new) started.0) }
+{
+    if number.number() > 3 {
+        return Err(NodeFault::Disk);
+    }
+    let plan = plan_of(alloc)?;
+    Node::start_with_promise(alloc, disk, &plan, number)
 }
 
 /// What the line says that the node is to do.

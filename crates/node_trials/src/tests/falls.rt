@@ -86,7 +86,7 @@ fn falls_everywhere(rt: &impl Abort, alloc: Global, case: &Case) -> Result<(), F
 }
 
 // What each kind of work takes of its disk.
-const CASES: [Case<'static>; 9] = [
+const CASES: [Case<'static>; 10] = [
     Case {
         number: b'2',
         before: b"? - 111 -- - - - - > --- -- - - -",
@@ -168,6 +168,16 @@ f 2 111 -- - - 1 1 > late",
         after: b"\
 d - --- -- - 1 - - > F 2 121 21 3 1 1 1
 a - --- -- - - 2 - > none",
+        calls: 4,
+    },
+    Case {
+        number: b'1',
+        before: b"d - --- -- - 1 - - > F 2 111 11 3 1 1 1",
+        line: b"v - --- 72 - - - -",
+        after: b"\
+? - 111 -- - - - - > 111 11 3 h o2
+v - --- 83 - - - - >
+V - --- -- - - - - > 3 83",
         calls: 4,
     },
 ];

@@ -3,7 +3,7 @@ ghost use Rattle.std.specs.Prelude.{◌≡◌, ◌+◌, ◌≤◌, [], length, I
 ghost use Rattle.disk_journal.specs.Journal.{largest};
 
 use io_edge::{Disk, PlainDisk};
-use mail_base::{Key, MsgId, Name, NodeNo, NodeSet, ObjState, Stamp, Value};
+use mail_base::{EpochId, Key, MsgId, Name, NodeNo, NodeSet, ObjState, Stamp, Value};
 use node_disk::MemoryDisk;
 use node_store::{KeepFault, NodeStore, ReadFault};
 use std::alloc::{AllocError, Global};
@@ -24,8 +24,9 @@ fn payload(letter: u8) -> &'static [u8]
         // Boots 3 and 2.
         b'B' => b"\x01\x00\x00\x00\x03",
         b'b' => b"\x01\x00\x00\x00\x02",
-        // The promise of epoch 7 of node 2.
+        // The promises of epoch 7 of node 2, and of epoch 8 of node 1.
         b'P' => b"\x02\x00\x00\x00\x00\x00\x00\x00\x07\x02",
+        b'p' => b"\x02\x00\x00\x00\x00\x00\x00\x00\x08\x01",
         // The octets of message 1.3.5, and others of it.
         b'O' => b"\x03\x01\x00\x00\x00\x03\x00\x00\x00\x00\x00\x00\x00\x05hello",
         b'o' => b"\x03\x01\x00\x00\x00\x03\x00\x00\x00\x00\x00\x00\x00\x05others",
@@ -87,6 +88,32 @@ fn found(octets: Vec<u8>) -> Result<(u32, u64, u64, Option<u64>, bool), ReadFaul
         length,
         store.owes(two),
     ))
+}
+
+/// The last promise that a start finds over these octets.
+fn promised(octets: Vec<u8>) -> Result<EpochId, ReadFault> {
+    let alloc = *octets.allocator();
+    let mut disk = PlainDisk { octets };
+    let Some(one) = NodeNo::new(1) else {
+        return Err(ReadFault::NoMemory);
+    };
+    let (_, found) = NodeStore::open(alloc, &mut disk, one)?;
+    Ok(found.promise())
+}
+
+#[test]
+fn what_was_promised_is_found(rt: HostRuntime) -> Result<(), Fail> {
+    let alloc = rt.alloc();
+    let none = journal_of(alloc, b"bBOS")?;
+    assert!(rt; promised(none) == Ok(EpochId::none()));
+    let one = journal_of(alloc, b"bBPOSR")?;
+    assert!(rt; promised(one) == Ok(EpochId::new(7, 2)));
+    // The last one counts, whatever stands between them.
+    let two = journal_of(alloc, b"BPOpS")?;
+    assert!(rt; promised(two) == Ok(EpochId::new(8, 1)));
+    let back = journal_of(alloc, b"BpBP")?;
+    assert!(rt; promised(back) == Ok(EpochId::new(7, 2)));
+    Ok(())
 }
 
 #[test]

@@ -234,6 +234,16 @@ pub(super) fn say_state(
     Ok(())
 }
 
+/// Writes the users of whom the node knows something.
+pub(super) fn say_users(alloc: Global, node: &Node, out: &mut Vec<u8>) -> Result<(), AllocError> {
+    let users = node.users(alloc)?;
+    for user in users.as_slice() {
+        out.push(b' ')?;
+        out.extend_from_slice(user.octets())?;
+    }
+    Ok(())
+}
+
 /// Writes the ids of ann's messages.
 pub(super) fn say_ids(alloc: Global, node: &Node, out: &mut Vec<u8>) -> Result<(), AllocError> {
     let ids = node.ids(alloc, &named(alloc, b"ann")?)?;

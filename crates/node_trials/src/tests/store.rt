@@ -1,7 +1,7 @@
 // A store over a disk in memory: what each call records and tells.
 
 use io_edge::PlainDisk;
-use mail_base::{Key, MsgId, Name, NodeNo, NodeSet, ObjState, Stamp, StrikeMark, Value};
+use mail_base::{EpochId, Key, MsgId, Name, NodeNo, NodeSet, ObjState, Stamp, StrikeMark, Value};
 use node_store::NodeStore;
 use std::test::Fail;
 use update_log::Acked;
@@ -41,6 +41,36 @@ fn records_and_tells(rt: HostRuntime) -> Result<(), Fail> {
     let here = ObjState::new(Value::Here, stamp, both);
     assert!(rt; store.acknowledged(alloc, &mut disk, &key, &here, two) == Ok(Acked::Emptied));
     assert!(rt; disk.octets.len() == 131 && !store.owes(two));
+    Ok(())
+}
+
+#[test]
+fn records_promises(rt: HostRuntime) -> Result<(), Fail> {
+    let alloc = rt.alloc();
+    let (Some(one), Some(ann)) = (NodeNo::new(1), Name::spelt(alloc, b"ann")?) else {
+        panic!(rt; "no node");
+    };
+    let mut disk = PlainDisk::new(alloc);
+    let Ok(mut store) = NodeStore::create(alloc, &mut disk, one) else {
+        panic!(rt; "no store");
+    };
+    assert!(rt; store.users(alloc)?.is_empty());
+    // The kind, eight octets of the count and one of the node, after a gate and a length.
+    let epoch = EpochId::new(7, one.number());
+    let Ok(()) = store.promise(alloc, &mut disk, epoch) else {
+        panic!(rt; "no promise");
+    };
+    assert!(rt; disk.octets.len() == 32);
+    assert_eq!(rt;
+        &disk.octets[17..31],
+        b"\x00\x00\x00\x0A\x02\x00\x00\x00\x00\x00\x00\x00\x07\x01".as_slice()
+    );
+    let gone = [StrikeMark::new(MsgId::new(one, 1, 1).unwrap(), Stamp::new(2, 1, 1))];
+    let Ok(()) = store.take_gone(alloc, &mut disk, &ann, NodeSet::from_mask(1), &gone) else {
+        panic!(rt; "no deletion");
+    };
+    let users = store.users(alloc)?;
+    assert!(rt; users.len() == 1);
     Ok(())
 }
 

@@ -2,8 +2,8 @@ use Rattle.std.proofs.Common.{◌+◌, refl, arith}
 use Rattle.std.proofs.lemmas.Result.{err_from_is_err_and}
 use Rattle.node_store.specs.Disks.{view_of}
 use Rattle.node_core.specs.Starting.{WornOver}
-use Rattle.node_core.proofs.Restarting.{reopen_failed, after_reading, worn_over, boot_failed, has_started}
-use Rattle.node_core.proofs.node.Node.start.Goals as goal
+use Rattle.node_core.proofs.Restarting.{reopen_failed, after_reading, worn_over, boot_failed, has_promised}
+use Rattle.node_core.proofs.node.Node.start_with_promise.Goals as goal
 
 pub returns-in_err-store-clause-starts : goal.returns-in_err-store-clause-starts
 returns-in_err-store-clause-starts g c =
@@ -41,7 +41,7 @@ returns-clause-starts g c =
     let mid = c.reopened.new.disk in
     let made = c.in_ok-store.ensures in
     let shape = c.shape_of-shape in
-    has_started on c.args.plan.now c.args.number c.args.disk.now mid c.in_ok-store.store c.in_ok-store.found made.reopens made.images (g.met.D.Disk.settled_is_only mid made.settled)
+    has_promised on c.args.plan.now c.args.number c.args.disk.now mid c.in_ok-store.store c.in_ok-store.found made.reopens made.images (g.met.D.Disk.settled_is_only mid made.settled)
     (c.boot-last.result + 1) (c.boot-last.result) c.boot-last.ensures refl (omega (arith, c.if-last.false, c.boot-last.type_inv)) c.boot.new.disk c.boot.new.self shape.result c.new-tickets.result c.drawn.result c.count.result
     c.in_ok-boot.ensures.wrote shape.ensures.nodes shape.ensures.copies shape.ensures.confirm c.new-tickets.ensures.whose c.new-tickets.ensures.none c.drawn.ensures c.count.ensures
-    (omega (arith, c.well_formed)) c.requires.within c.requires.few c.requires.copies
+    (omega (arith, c.well_formed)) c.requires.within c.requires.few c.requires.copies c.promise.result c.promise.ensures
