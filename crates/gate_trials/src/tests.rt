@@ -45,6 +45,18 @@ fn serve<S: Source, K: Sink, R: Wait>(
     })
 }
 
+// How often calls that are played so are pending.
+fn pending(script: &[u8]) -> u64 {
+    let mut count = 0u64;
+    for play in script {
+        if *play == b'l' {
+            count = count.saturating_add(2);
+        }
+    }
+    count
+}
+
+// A letter is posted each time that a call is pending.
 #[test]
 fn connections_are_served_as_the_tables_say(rt: HostRuntime) -> Result<(), Fail> {
     let plan = users::plan(rt.alloc())?;
@@ -69,7 +81,7 @@ fn connections_are_served_as_the_tables_say(rt: HostRuntime) -> Result<(), Fail>
             );
             assert!(rt; served == Some(case.served));
             assert!(rt; sink.held.as_slice() == case.hears);
-            assert!(rt; pass.tally.leaves == case.leaves);
+            assert!(rt; pass.tally.leaves == case.leaves && pass.posts == pending(case.script));
         }
     }
     Ok(())

@@ -35,9 +35,6 @@ fell_on a b c x y = record {
 pub rose_before : (x y z : ℕ) → x ≤ y → Rose y z → Rose x z
 rose_before x y z le rose = omega (arith, le, rose)
 
-pub rose_later : (x y z : ℕ) → Rose x y → y ≤ z → Rose x z
-rose_later x y z rose le = omega (arith, rose, le)
-
 pub count_before : (answer : model.Answer) (a b c : Tally) → NoneFell a b → AnswerCounted answer b c → AnswerCounted answer a c
 count_before (Stored id) a b c f r = rose_before _ _ _ f.stored r
 count_before (Listed items) a b c f r = rose_before _ _ _ f.listed r
@@ -50,25 +47,9 @@ count_before Dropped a b c f r = rose_before _ _ _ f.dropped r
 count_before Failed a b c f (inl r) = inl (rose_before _ _ _ f.failed r)
 count_before Failed a b c f (inr r) = inr (rose_before _ _ _ f.worn r)
 
-pub count_later : (answer : model.Answer) (a b c : Tally) → AnswerCounted answer a b → NoneFell b c → AnswerCounted answer a c
-count_later (Stored id) a b c r f = rose_later _ _ _ r f.stored
-count_later (Listed items) a b c r f = rose_later _ _ _ r f.listed
-count_later Wrong a b c r f = rose_later _ _ _ r f.wrong
-count_later InUse a b c r f = rose_later _ _ _ r f.in_use
-count_later NoProfile a b c r f = rose_later _ _ _ r f.no_profile
-count_later (Part octets) a b c r f = rose_later _ _ _ r f.part
-count_later GoneAlready a b c r f = rose_later _ _ _ r f.gone
-count_later Dropped a b c r f = rose_later _ _ _ r f.dropped
-count_later Failed a b c (inl r) f = inl (rose_later _ _ _ r f.failed)
-count_later Failed a b c (inr r) f = inr (rose_later _ _ _ r f.worn)
-
 counted_before : (answer : Option model.Answer) (a b c : Tally) → NoneFell a b → ExchangeCounted answer b c → ExchangeCounted answer a c
 counted_before None a b c f r = tt
 counted_before (Some answer) a b c f r = count_before answer a b c f r
-
-counted_later : (answer : Option model.Answer) (a b c : Tally) → ExchangeCounted answer a b → NoneFell b c → ExchangeCounted answer a c
-counted_later None a b c r f = tt
-counted_later (Some answer) a b c r f = count_later answer a b c r f
 
 pub quiet_none : (k : PassKnows) → IsQuiet k k
 quiet_none k = record { acked = refl; struck = refl; fell = fell_none k.counts }
@@ -86,18 +67,6 @@ dealt_before a b c call answer q d = record {
   struck = d.struck ∙ ap (λ o. with_more o d.strikes) q.struck;
   fell = fell_on _ _ _ q.fell d.fell;
   rose = counted_before answer _ _ _ q.fell d.rose;
-}
-
-pub dealt_later : (a b c : PassKnows) (call : Option model.Call) (answer : Option model.Answer) → Dealt a call answer b → IsQuiet b c → Dealt a call answer c
-dealt_later a b c call answer d q = record {
-  copies = d.copies;
-  are = d.are;
-  acked = q.acked ∙ d.acked;
-  strikes = d.strikes;
-  asked = d.asked;
-  struck = q.struck ∙ d.struck;
-  fell = fell_on _ _ _ d.fell q.fell;
-  rose = counted_later answer _ _ _ d.rose q.fell;
 }
 
 -- a unit that asks nothing

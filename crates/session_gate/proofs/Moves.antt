@@ -10,7 +10,7 @@ use Rattle.mail_model.specs.Lines.{sent_line}
 use Rattle.mail_model.specs.Plan.{Plan}
 use Rattle.mail_model.specs.Session.{Unit}
 use Rattle.session_model.specs.Calls as model
-use Rattle.session_model.specs.Calls.{IsReply, IsAnswerTo, RepliesTo, EachAnswerHasReply}
+use Rattle.session_model.specs.Calls.{IsAnswerTo, RepliesTo, EachAnswerHasReply}
 use Rattle.session_model.specs.Calls.Answer.{Failed}
 use Rattle.session_model.specs.Talk.{TalkState, Exchange, Standing, Lead, IsLed, lead_of, standing_asked, heard, stands, answered, down_line, farewell}
 use Rattle.session_model.specs.Talk.Lead.{Says, Ends, Asks}
@@ -198,10 +198,6 @@ at_same line speaks next fed said other now at follows same = record {
   deals = at.deals;
   down = at.down;
 }
-
-pub at_on : (line : Connection) (speaks next : Session → Type 0) (fed said other : List ℕ) (now : PassKnows) → ((plain : Session) → speaks plain → next plain) → said ≡ other
-    → HasSaid line speaks fed said now → HasSaid line next fed other now
-at_on line speaks next fed said other now follows same at = at_same line speaks next fed said other now at (follows at.plain at.follows) same
 
 -- It has come so far, where what was written was so in time.
 pub comes : (line : Connection) (speaks : Session → Type 0) (fed wrote out said : List ℕ) (now : PassKnows) (whole : List Exchange) → HasSaid line (λ plain. speaks plain × (plain.whole ≡ whole)) fed said now

@@ -1,5 +1,5 @@
 //! The moves of a session, with the calls that it asks, until it rests.
-ghost use Rattle.std.specs.Prelude.{◌≡◌, ◌≢◌, ◌≤◌, ◌<◌, [], ℕ, List, OnOk, IfOk, IfSome, IsErrOf};
+ghost use Rattle.std.specs.Prelude.{◌≡◌, ◌≤◌, ◌<◌, [], ℕ, List, OnOk, IfOk, IfSome, IsErrOf};
 ghost use Rattle.io_edge.specs.Causes.{Rose, HasCause};
 ghost use Rattle.io_edge.specs.Octets.{Writes};
 ghost use Rattle.call_tickets.specs.Passes.{known_to};
@@ -8,7 +8,7 @@ ghost use Rattle.session_gate.specs.Closes.{IsSinkFault, IsSourceFault, MayMove}
 
 use crate::calls::{Dealing, settle};
 use crate::stop::{Close, Stop, left_off};
-use call_tickets::{Call, Desk, Move};
+use call_tickets::{Desk, Move};
 use io_edge::{Failed, Gate, Sink, write_all};
 use mail_base::{NodeNo, Plan};
 use session_speaker::Speaker;

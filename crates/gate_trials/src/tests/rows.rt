@@ -91,6 +91,18 @@ PASS sesame
   +OK maildrop open
 USER alice
   -ERR bad order
+PASS sesame
+  -ERR bad order
+APOP alice 1c9053e391e7f9bbf5501b773c9dbbfc
+  -ERR bad order
+CAPA
+  +OK capabilities
+  TOP
+  USER
+  UIDL
+  PIPELINING
+  RESP-CODES
+  .
 STAT
   +OK 2 34
 LIST
@@ -127,6 +139,12 @@ DELE 2
 DELE 2
   -ERR no such message
 RETR 2
+  -ERR no such message
+TOP 2 1
+  -ERR no such message
+UIDL 2
+  -ERR no such message
+LIST 2
   -ERR no such message
 STAT
   +OK 1 17

@@ -17,8 +17,9 @@ use std::alloc::{AllocError, Global};
 pub(super) const MESSAGE: &[u8] = b"Subject: x\r\n\r\n.\r\n";
 
 // A desk whose node is up or not. Call n is played as letter n of the script: `l` it is pending twice, `f` it fails, `x` its
-// proof is wrong, or its message was deleted; `w` and `d` its beginning finds a number used up, or its node down; `W` and `D`
-// its asking does; `n` and `N` memory runs out there. Else it serves.
+// proof is wrong, or its message was deleted; `u` another login has the maildrop, and `p` its manager has no profile; `w` and `d`
+// its beginning finds a number used up, or its node down; `W` and `D` its asking does; `n` and `N` memory runs out there. Else it
+// serves.
 #[derive(Drop)]
 pub(super) struct StagedDesk<'a> {
     pub(super) up: bool,
@@ -156,22 +157,35 @@ fn listed(alloc: Global, node: NodeNo) -> Result<Answer, AllocError>
     })
 }
 
-// What a call of this kind is answered that is served, or whose proof is wrong or message deleted.
-fn served(alloc: Global, node: NodeNo, right: bool, begun: &Begun) -> Result<Answer, AllocError>
+// What a login is answered that is played so.
+fn let_in(alloc: Global, node: NodeNo, play: u8) -> Result<Answer, AllocError>
+    ensures { IfOk result (λ answer. FitsKind CallKind.Login (answer_seen answer) × AcksFor None (answer_seen answer) None None) }
+{
+    match play {
+        b'x' => Ok(Answer::Wrong {
+            stamp: Stamp::new(0, 0, 0),
+        }),
+        b'u' => Ok(Answer::InUse {
+            by: Ticket::new(node, 3, 6),
+        }),
+        b'p' => Ok(Answer::NoProfile { manager: node }),
+        _ => listed(alloc, node),
+    }
+}
+
+// What a call of this kind is answered that does not fail, and is played so.
+fn served(alloc: Global, node: NodeNo, play: u8, begun: &Begun) -> Result<Answer, AllocError>
     ensures kind { IfOk result (λ answer. FitsKind begun.now.kind (answer_seen answer)) }
     ensures acks { IfOk result (λ answer. AcksFor begun.now.filing (answer_seen answer) None None) }
 {
     match begun.kind {
         CallKind::Deliver => Ok(stored(&begun.filing)),
-        CallKind::Login if right => listed(alloc, node),
-        CallKind::Login => Ok(Answer::Wrong {
-            stamp: Stamp::new(0, 0, 0),
-        }),
-        CallKind::Fetch if right => Ok(Answer::Part {
+        CallKind::Login => let_in(alloc, node, play),
+        CallKind::Fetch if play == b'x' => Ok(Answer::GoneAlready),
+        CallKind::Fetch => Ok(Answer::Part {
             octets: Octets::from_vec(MESSAGE.to_vec(alloc)?),
             whole: MESSAGE.len() as u64,
         }),
-        CallKind::Fetch => Ok(Answer::GoneAlready),
         CallKind::Strike => Ok(Answer::Dropped {
             confirmers: Vec::new(alloc),
         }),
@@ -186,7 +200,7 @@ fn played(alloc: Global, node: NodeNo, play: u8, begun: &Begun) -> Result<Answer
     if play == b'f' {
         Ok(failed())
     } else {
-        served(alloc, node, play != b'x', begun)
+        served(alloc, node, play, begun)
     }
 }
 
@@ -271,6 +285,9 @@ impl<'a> Desk for StagedDesk<'a> {
         if pass.play == b'W' {
             count_worn(&mut pass.tally);
             return Err(DeskFault::Worn);
+        }
+        if pass.play == b'N' {
+            return Err(DeskFault::NoMemory);
         }
         if pass.play == b'l' && pass.late > 0 {
             pass.late -= 1;

@@ -25,7 +25,7 @@ const MAIL_DOWN: &[u8] =
 const MAIL_CUT: &[u8] =
     b"220 node1 Porcupine ready\r\n250 node1\r\n250 sender ok\r\n250 recipient ok\r\n354 end with a line that is a single period\r\n";
 
-pub(super) const SMTP: [Case<'static>; 9] = [
+pub(super) const SMTP: [Case<'static>; 10] = [
     Case {
         script: b"s",
         says: MAIL,
@@ -83,6 +83,13 @@ pub(super) const SMTP: [Case<'static>; 9] = [
         leaves: 0,
     },
     Case {
+        script: b"N",
+        says: MAIL,
+        hears: MAIL_CUT,
+        served: Served::NoMemory,
+        leaves: 0,
+    },
+    Case {
         script: b"",
         says: b"HELO c\r\nNO",
         hears: b"220 node1 Porcupine ready\r\n250 node1\r\n",
@@ -106,7 +113,21 @@ const READ_DOWN: &[u8] =
 const READ_WORN: &[u8] =
     b"+OK node1 ready <3.12.1000000000@node1>\r\n+OK send PASS\r\n+OK maildrop open\r\n-ERR [SYS/TEMP] try again later\r\n+OK message 2 deleted\r\n-ERR [SYS/TEMP] some messages may remain\r\n";
 
-pub(super) const POP: [Case<'static>; 9] = [
+// A client that logs in and quits.
+const ENTER: &[u8] = b"USER alice\r\nPASS sesame\r\nQUIT\r\n";
+
+const LATER: &[u8] =
+    b"+OK node1 ready <3.12.1000000000@node1>\r\n+OK send PASS\r\n-ERR [SYS/TEMP] try again later\r\n+OK bye\r\n";
+
+const IN_USE: &[u8] =
+    b"+OK node1 ready <3.12.1000000000@node1>\r\n+OK send PASS\r\n-ERR [IN-USE] maildrop is open elsewhere\r\n+OK bye\r\n";
+
+const ENTER_DOWN: &[u8] =
+    b"+OK node1 ready <3.12.1000000000@node1>\r\n+OK send PASS\r\n-ERR [SYS/TEMP] node1 down\r\n";
+
+const ENTER_CUT: &[u8] = b"+OK node1 ready <3.12.1000000000@node1>\r\n+OK send PASS\r\n";
+
+pub(super) const POP: [Case<'static>; 16] = [
     Case {
         script: b"sss",
         says: READ,
@@ -147,6 +168,55 @@ pub(super) const POP: [Case<'static>; 9] = [
         says: READ,
         hears: READ_DOWN,
         served: Served::Ended,
+        leaves: 0,
+    },
+    Case {
+        script: b"sD",
+        says: READ,
+        hears: READ_DOWN,
+        served: Served::Ended,
+        leaves: 0,
+    },
+    Case {
+        script: b"u",
+        says: ENTER,
+        hears: IN_USE,
+        served: Served::Ended,
+        leaves: 0,
+    },
+    Case {
+        script: b"p",
+        says: ENTER,
+        hears: LATER,
+        served: Served::Ended,
+        leaves: 0,
+    },
+    Case {
+        script: b"w",
+        says: ENTER,
+        hears: LATER,
+        served: Served::Ended,
+        leaves: 0,
+    },
+    Case {
+        script: b"W",
+        says: ENTER,
+        hears: LATER,
+        served: Served::Ended,
+        leaves: 0,
+    },
+    Case {
+        script: b"d",
+        says: ENTER,
+        hears: ENTER_DOWN,
+        served: Served::Ended,
+        leaves: 0,
+    },
+    Case {
+        script: b"n",
+        says: ENTER,
+        hears: ENTER_CUT,
+        served: Served::NoMemory,
         leaves: 0,
     },
     Case {
