@@ -8,7 +8,7 @@ use Rattle.object_model.specs.Letters.{Number}
 use Rattle.mail_base.specs.declared.filing.Begun.{Begun}
 use Rattle.mail_base.specs.declared.filing.CallKind.{CallKind}
 use Rattle.cluster_model.specs.Cluster as plain
-use Rattle.cluster_model.specs.Cluster.{AskedOfNodes, NodeFiling, Slot, Ticket, Want, slot_at}
+use Rattle.cluster_model.specs.Cluster.{AskedOfNodes, Slot, Ticket, Want, slot_at}
 use Rattle.cluster_model.specs.Cluster.AskedOfNodes.{Copies, Deletion}
 use Rattle.cluster_model.specs.Deeds.{slot_up}
 use Rattle.cluster_model.specs.World as machine
@@ -16,7 +16,7 @@ use Rattle.node_store.specs.Disks.{View}
 use Rattle.node_core.specs.Nodes.{node_seen}
 use Rattle.node_core.specs.declared.node.Node.{Node}
 use Rattle.node_tickets.specs.Standing as tickets
-use Rattle.node_tickets.specs.Standing.{kind_of_ticket, filing_at, filing_wanted}
+use Rattle.node_tickets.specs.Standing.{filing_wanted}
 use Rattle.cluster_world.specs.Lives.{of_node}
 use Rattle.cluster_world.specs.Stands.{SlotsStand}
 use Rattle.cluster_world.specs.Telling.{standing_on, standing_in}

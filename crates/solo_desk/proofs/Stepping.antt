@@ -78,9 +78,6 @@ module _ {D : Type 0} (on : View D) where
 pub same_adds : {D : Type 0} (old new : World D) → book_of new ≡ book_of old → AddsTo AreQuiet old new
 same_adds old new same = record { added = []; book = same ∙ sym (append-nil (book_of old)); is = record { acked = refl; struck = refl } }
 
-pub same_world_adds : {D : Type 0} (old new : World D) → new ≡ old → AddsTo AreQuiet old new
-same_world_adds old new same = same_adds old new (ap book_of same)
-
 -- what a refused step adds
 pub refused_adds : {D : Type 0} (on : View D) (why : StepFault) (step : Step) (old new : World D) → IsRefusal why → IsStep on (Err why) step old new → AddsTo AreQuiet old new
 refused_adds on fault.NoSuchNode step old new refusal is = same_adds old new is.did.kept.book

@@ -4,7 +4,7 @@ ghost use Rattle.std.specs.Option.{option_copied};
 ghost use Rattle.session_model.specs.Calls as calls;
 ghost use Rattle.call_tickets.specs.Seen.{call_seen};
 ghost use Rattle.node_store.specs.Disks.{view_of};
-ghost use Rattle.node_tickets.specs.Standing.{filed_seen, filing_at};
+ghost use Rattle.node_tickets.specs.Standing.{filing_at};
 ghost use Rattle.cluster_world.specs.Telling.{standing_in};
 ghost use Rattle.cluster_world.specs.Books.{IsLongerBook};
 ghost use Rattle.cluster_world.specs.Worlds.{plan_of, book_of};

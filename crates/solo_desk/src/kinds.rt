@@ -1,8 +1,6 @@
 // Kinds of calls.
-ghost use Rattle.std.specs.Prelude.{◌≡◌, Some, None, IfSome, IsTrue, [], ◌⊎◌, true};
+ghost use Rattle.std.specs.Prelude.{◌≡◌, IsTrue, [], ◌⊎◌, true};
 ghost use Rattle.mail_model.specs.Lines.{ends_in_crlf};
-ghost use Rattle.session_model.specs.Calls as calls;
-ghost use Rattle.call_tickets.specs.Seen.{call_seen, answer_seen};
 ghost use Rattle.node_core.specs.Beginning.{IsTextEnded, call_seen as machine_call};
 ghost use Rattle.solo_desk.specs.Standing.{fits_kind};
 ghost use Rattle.solo_desk.specs.Kinds.{IsOfKind};
