@@ -1,0 +1,4 @@
+pub mod Sound
+pub mod Turned
+pub mod Posted
+pub mod Patterns

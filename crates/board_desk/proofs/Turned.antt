@@ -1,0 +1,75 @@
+-- What a pass knows after a turn, of which it is known what it added to the book, and after it was counted.
+use Rattle.std.proofs.Common.{◌≡◌, List, ◌++◌, Option, Some, sym, ap, ◌∙◌, subst}
+use Rattle.std.specs.Prelude.{Result, IfNone}
+use Rattle.std.proofs.lemmas.List.{append_cancel_left}
+use Rattle.io_edge.specs.Causes.{Rose}
+use Rattle.mail_model.specs.Book.{BookEntry}
+use Rattle.mail_base.specs.declared.filing.Begun.{Begun}
+use Rattle.session_model.specs.Calls as model
+use Rattle.call_tickets.specs.Passes.{known_to, with_more, IsQuiet, NoneFell}
+use Rattle.call_tickets.specs.Begins.{DeskBegins, DeskLeaves}
+use Rattle.call_tickets.specs.Asks.{DeskAsks, OnlyRefuses}
+use Rattle.call_tickets.specs.declared.answer.Ask.{Ask}
+use Rattle.call_tickets.specs.declared.desk.DeskFault.{DeskFault}
+use Rattle.call_tickets.specs.declared.desk.DeskTicket.{DeskTicket}
+use Rattle.call_tickets.specs.declared.desk.Life.{Life}
+use Rattle.call_tickets.specs.declared.tally.Tally.{Tally}
+use Rattle.node_store.specs.Disks.{View}
+use Rattle.cluster_world.specs.Worlds.{book_of}
+use Rattle.desk_model.specs.Added.{AreQuiet}
+use Rattle.desk_model.specs.Entries.{BeginsWith, AsksWith}
+use Rattle.desk_model.specs.Tallies.{IsNeverDown, RefusalCounts, AskCounts, LeaveCounts}
+use Rattle.desk_model.proofs.Knowing.{quiet_knows, begins_known, asks_known, leaves_known, refuses_known}
+use Rattle.solo_desk.specs.Serving.{AddsTo}
+use Rattle.board_desk.proofs.Sound.{same_world_adds}
+use Rattle.shard_board.specs.declared.part.Part.{Part}
+use Rattle.shard_board.specs.declared.board.Board.{Board}
+use Rattle.shard_board.specs.declared.board.BoardPass.{BoardPass}
+use Rattle.shard_board.specs.Boards.{own_entries, IsPassOf, IsTurnOf}
+use Rattle.board_desk.specs.Desks.{IsDeskPass}
+
+module _ {D F C A : Type 0} (on : View D) (did : Part D F C → A → Part D F C → Type 0) (board : Board D F C) (before after : BoardPass D F C) (answer : A)
+    (t : IsTurnOf on did board before after answer) (tally : Tally) where
+  -- the pass, once its counts are these
+  abbrev counted_pass : BoardPass D F C
+  counted_pass = record { lower = after.lower; tally = tally }
+
+  pub still_desk : (pattern : BoardPass D F C) → IsDeskPass on board pattern before → IsPassOf on board after → IsDeskPass on board pattern counted_pass
+  still_desk pattern was belongs = record { belongs = belongs; quota_is = t.quota_is ∙ was.quota_is; joined_is = t.joined_is ∙ was.joined_is }
+
+  module _ (P : List BookEntry → Type 0) (adds : AddsTo P t.old.world t.new.world) where
+    pub own_grew : Some (own_entries after) ≡ with_more (Some (own_entries before)) adds.added
+    own_grew = ap Some (t.own_is ∙ ap (λ l. own_entries before ++ l) (append_cancel_left (book_of t.old.world) t.added adds.added (sym t.grows ∙ adds.book)))
+
+  -- the counts before it are those before the turn
+  fell_from : NoneFell after.tally tally → NoneFell before.tally tally
+  fell_from fell = subst (λ (x : Tally). NoneFell x tally) t.tally_is fell
+
+  pub begins_turned : (asked : model.Call) (result : Result DeskTicket DeskFault) → AddsTo (BeginsWith asked result) t.old.world t.new.world → NoneFell after.tally tally → RefusalCounts result after.tally tally
+      → DeskBegins asked result (known_to (Some (own_entries before)) before.tally) (known_to (Some (own_entries after)) tally)
+  begins_turned asked result adds fell rose = begins_known (Some (own_entries before)) (Some (own_entries after)) adds.added (own_grew (BeginsWith asked result) adds) before.tally tally asked result adds.is
+      (fell_from fell) (subst (λ (x : Tally). RefusalCounts result x tally) t.tally_is rose)
+
+  pub leaves_turned : (result : Result (Unit {0}) DeskFault) → AddsTo AreQuiet t.old.world t.new.world → LeaveCounts result after.tally tally
+      → DeskLeaves result (known_to (Some (own_entries before)) before.tally) (known_to (Some (own_entries after)) tally)
+  leaves_turned result adds counted = leaves_known (Some (own_entries before)) (Some (own_entries after)) adds.added (own_grew AreQuiet adds) before.tally tally result adds.is
+      (subst (λ (x : Tally). LeaveCounts result x tally) t.tally_is counted)
+
+  pub asks_turned : (begun : Begun) (result : Result Ask DeskFault) → AddsTo (AsksWith begun result) t.old.world t.new.world → NoneFell after.tally tally → AskCounts result after.tally tally
+      → DeskAsks begun result (known_to (Some (own_entries before)) before.tally) (known_to (Some (own_entries after)) tally)
+  asks_turned begun result adds fell rose = asks_known (Some (own_entries before)) (Some (own_entries after)) adds.added (own_grew (AsksWith begun result) adds) before.tally tally begun result adds.is
+      (fell_from fell) (subst (λ (x : Tally). AskCounts result x tally) t.tally_is rose)
+
+  pub refuses_turned : {B : Type 0} (result : Result B DeskFault) → IsNeverDown result → AddsTo AreQuiet t.old.world t.new.world → NoneFell after.tally tally → RefusalCounts result after.tally tally
+      → OnlyRefuses result (known_to (Some (own_entries before)) before.tally) (known_to (Some (own_entries after)) tally)
+  refuses_turned result never adds fell rose = refuses_known (Some (own_entries before)) (Some (own_entries after)) adds.added (own_grew AreQuiet adds) before.tally tally result never adds.is
+      (fell_from fell) (subst (λ (x : Tally). RefusalCounts result x tally) t.tally_is rose)
+
+  -- a look at the world
+  pub looks_turned : t.new ≡ t.old → NoneFell after.tally tally → IsQuiet (known_to (Some (own_entries before)) before.tally) (known_to (Some (own_entries after)) tally)
+  looks_turned same fell =
+      let adds = same_world_adds t.old.world t.new.world (ap (λ (p : Part D F C). p.world) same) in
+      quiet_knows (Some (own_entries before)) (Some (own_entries after)) adds.added (own_grew AreQuiet adds) before.tally tally adds.is (fell_from fell)
+
+  pub down_turned : (life : Option Life) → IfNone life (Rose (after.tally).down tally.down) → IfNone life (Rose (before.tally).down tally.down)
+  down_turned life rose = subst (λ (x : Tally). IfNone life (Rose x.down tally.down)) t.tally_is rose

@@ -1,0 +1,6 @@
+use Rattle.std.proofs.Common.{refl}
+use Rattle.board_desk.proofs.Sound.{same_world_adds}
+use Rattle.board_desk.proofs.deeds.LeavingDeed.short.Goals as goal
+
+pub returns : goal.returns
+returns g c = λ world. record { made = tt; adds = same_world_adds world world refl }
