@@ -8,3 +8,10 @@ pub mod Called
 pub mod Heard
 pub mod Begun
 pub mod Found
+pub mod Restarted
+mod Refused
+mod Said
+mod Looked
+mod Opened
+mod Outlasted
+mod Settled

@@ -56,12 +56,8 @@ impl WholeNode {
         Ok(begun)
     }
 
-    /// Hears a letter that is for this node, or throws it, as `Node::hear`, and notes the copies that it speaks of.
-    ///
-    /// # Errors
-    ///
-    /// It is never `Worn`.
-    pub fn hear<D: Disk>(
+    /// Hears a letter of messages that is for this node, or throws it, as `Node::hear`, and notes the copies that it speaks of.
+    pub(crate) fn hear_mail<D: Disk>(
         &mut self,
         alloc: Global,
         disk: &mut D,

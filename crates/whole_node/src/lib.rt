@@ -11,14 +11,20 @@
 //! |---|---|
 //! | `first` | the node has the maps of an empty disk |
 //! | `over` | a node that has started gets its maps, with each message that is here |
+//! | `start` | the node starts over its disk, and so it gets its maps: it has the last promise, and no epoch |
 //! | `begin` | the copies that the node files or deletes itself are noted in its maps |
-//! | `hear` | so are the copies that a File, a Strike or a Push speaks of |
+//! | `hear` | so are the copies that a File, a Strike or a Push speaks of; a letter of membership or maps goes to `hear_maps` |
+//! | `hear_maps` | a Group, Join, Install, Report or ReportAck is heard, once the promise that it makes due is on the disk |
+//! | `open_group` | the node promises the epoch of a group of its own, and asks the other nodes to join it |
+//! | `conclude` | the open group is concluded: those who joined are its members |
+//! | `report` | the Reports of the first rows that are due to a node |
 //! | `widen`, `push`, `ask`, `give_up`, `mishap` | nothing: they change of no message whether it is here |
 //!
 //! `mail` and `maps` show both halves, and what each of them tells is read there.
 //!
 //! A call is the work of the `Node` first, and then the maps are told what its disk now says of each copy. So a message is
-//! never named in a map before its record is synced.
+//! never named in a map before its record is synced. Nor is a promise spoken before its record is: the record comes first, and
+//! then the letter that speaks of it.
 //!
 //! Contracts say of the half for messages what `node_core` says. Beside that the maps are what `follows` of `whole_model`
 //! makes of them by the records that were appended. `WholeWorks` is what holds of a node between its calls: the `Node` can work,
@@ -40,13 +46,20 @@
 //!
 //! WHAT IT DOES NOT DO
 //!
-//! Letters of membership and maps do nothing yet, and the members are all nodes of the plan: the maps know of messages, and of
-//! no epoch. Nothing stands on this crate yet.
+//! The half for messages still has all nodes of the plan as members: an epoch is known to the maps alone. Nothing stands on this
+//! crate yet.
 #![tactic(auto)]
 
 mod calls;
+mod grouping;
+mod hear;
+mod hearing;
 mod node;
 mod noting;
+mod reporting;
+mod restart;
 mod starting;
 
+pub use grouping::Grouped;
+pub use hearing::{fits_maps, is_of_maps};
 pub use node::WholeNode;

@@ -8,7 +8,7 @@ use Rattle.whole_node.specs.Noting.{NotesCopies, copies_named}
 use Rattle.whole_node.specs.declared.node.WholeNode.{WholeNode}
 use Rattle.whole_node.proofs.Called.{on_ok, some_of, none_of}
 use Rattle.whole_node.proofs.Heard.{heard_follows, heard_has, heard_stops, thrown_follows, thrown_has, failed_follows, failed_has}
-use Rattle.whole_node.proofs.node.WholeNode.hear.Goals as goal
+use Rattle.whole_node.proofs.node.WholeNode.hear_mail.Goals as goal
 
 pub returns-in_err-outbox-clause-hears : goal.returns-in_err-outbox-clause-hears
 returns-in_err-outbox-clause-hears g c =
