@@ -1,0 +1,4 @@
+pub mod Receivers
+pub mod Stages
+pub mod Changes
+pub mod Lifts

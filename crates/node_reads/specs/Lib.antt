@@ -1,0 +1,7 @@
+pub mod Named
+pub mod LoginStages
+pub mod FetchStages
+pub mod Seen
+pub mod Readings
+pub mod Tickets
+pub mod Tables

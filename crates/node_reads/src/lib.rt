@@ -1,0 +1,59 @@
+//! node_reads: the standing tickets of the calls that read, at one node.
+//!
+//! SUMMARY
+//!
+//! A login asks the manager of its user, and then exactly the nodes that this names. A fetch asks one holder
+//! after another. Each has a ticket at its node, the *proxy*, which says how far it has come. `NodeReads` has
+//! these tickets, under the numbers that the caller hands in: one count of numbers serves all calls of a node.
+//!
+//! DESCRIPTION
+//!
+//! As proxy: `begin_login` asks a manager, `begin_own_login` takes the node's own word at once where it manages
+//! the user itself, `begin_fetch` asks the lowest holder, and `begin_own_fetch` takes the node's own part.
+//! `hear_word`, `hear_list` and `hear_part` take what LoginTold, ListTold and FetchTold say; `mishap` notes that
+//! a letter was lost; `give_up` takes a ticket out. `stands` says whether one does, and `user` whose login it is.
+//!
+//! As manager and holder: `judge` gives the word of a manager by the plan's secret, and `answer_login`,
+//! `answer_list` and `answer_fetch` are the letters that answer. `leave` gives a lock back at the end of a
+//! session; it has no ticket.
+//!
+//! Contracts see the node of the machine in `login_model` (`node_with`), and each call is that machine's rule:
+//! the node that is left, and the letters in the machine's order. What the node names of a user, its own list
+//! and its own part are handed in.
+//!
+//! Message octets and lists are moved, and never copied. No call walks all tickets.
+//!
+//! REFUSES
+//!
+//! It lets go, with nothing changed: a word of a node that is not asked, or a second one; a list of a node that
+//! is not waited for, so also a second one; a part for a fetch that has one; and whatever answers a ticket that
+//! does not stand, or is that of another kind of call.
+//!
+//! Each call that takes memory leaves the tickets as before where there is none.
+//!
+//! STANDS ON
+//!
+//! `login_model` for the rules, `mail_base` for letters and sets of nodes, `call_tickets` for the mishaps that are
+//! counted, `node_tickets` for their kinds.
+//!
+//! WHAT IT DOES NOT DO
+//!
+//! It answers no call yet: how far one has come, and its listing or part, is kept and not given. It sends nothing,
+//! and knows no disk and no maps. It takes no locks of maildrops: the letters that give one
+//! back are sent all the same. A manager judges by the secrets of the plan, and not by profiles. No line of the
+//! program uses it yet.
+#![tactic(auto)]
+
+mod answering;
+mod fetch;
+mod letters;
+mod lists;
+mod login;
+mod mishaps;
+mod nodes;
+mod progress;
+mod reads;
+mod under;
+
+pub use answering::{answer_fetch, answer_list, answer_login, judge, leave};
+pub use reads::NodeReads;

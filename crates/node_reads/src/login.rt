@@ -1,0 +1,258 @@
+//! How far a login has come.
+ghost use Rattle.std.specs.Prelude.{◌≡◌, [], List, IfOk, OnOk, OnErr};
+ghost use Rattle.mail_base.specs.Bodies.{word_seen};
+ghost use Rattle.object_model.specs.Letters as plain;
+ghost use Rattle.object_model.specs.Letters.LoginWord.{Named as NamedNodes};
+ghost use Rattle.login_model.specs.Readings.LoginStage.{AsksManager};
+ghost use Rattle.login_model.specs.Rules as rules;
+ghost use Rattle.login_model.specs.Rules.{take_word, word_at, list_at, fail, login_befell, given_up};
+ghost use Rattle.node_reads.specs.Readings.{listed, login_did, asks_manager, login_waits, may_hold_lock};
+ghost use Rattle.node_reads.specs.LoginStages.{denial_seen, login_stage_seen};
+
+use crate::letters::{ask_lists, no_letters, unlock};
+use crate::lists::NamedLists;
+use crate::nodes::others;
+use crate::under::Under;
+use mail_base::{
+    EpochId, Letter, LoginWord, Name, NodeNo, NodeSet, Sequence, Stamp, Ticket, ToldItem,
+};
+use std::alloc::{AllocError, Global};
+use std::marker::Model;
+
+/// Why a manager did not let a login in.
+#[derive(Clone, Copy, Debug)]
+pub(crate) enum Denial {
+    /// The proof is not right by the profile of this stamp.
+    Wrong(Stamp),
+    /// Another login has the maildrop.
+    InUse(Ticket),
+    /// The manager has no profile of the user.
+    NoProfile,
+}
+
+/// How far a login has come. It asks the manager, which names nodes or does not let it in; then it asks these nodes. Where one
+/// that it waits for fails, it has failed.
+#[derive(Drop)]
+pub(crate) enum LoginStage {
+    AsksManager,
+    IsDenied(Denial),
+    AsksNodes(NamedLists),
+    HasFailed,
+}
+
+/// A login: its user, the user's manager, and how far it has come.
+#[derive(Drop)]
+pub(crate) struct Login {
+    user: Name,
+    manager: NodeNo,
+    stage: LoginStage,
+}
+
+impl Model for Login {
+    ghost use Rattle.login_model.specs.Readings.{Login as Seen};
+    ghost use Rattle.node_reads.specs.LoginStages.{login_stage_seen};
+
+    ghost Value = { Seen };
+
+    ghost view = { λ l. record { user = l.user; manager = l.manager; stage = login_stage_seen l.stage } };
+}
+
+impl Login {
+    /// A login that asks the manager.
+    pub(crate) fn new(user: Name, manager: NodeNo) -> Login
+        ensures { result ≡ record { user = user; manager = manager; stage = AsksManager } }
+    {
+        Login {
+            user,
+            manager,
+            stage: LoginStage::AsksManager,
+        }
+    }
+
+    /// Its user.
+    pub(crate) fn user(&self) -> &Name
+        ensures { result.now ≡ self.now.user }
+    {
+        &self.user
+    }
+
+    /// The user's manager.
+    pub(crate) fn manager(&self) -> NodeNo
+        ensures { result ≡ self.now.manager }
+    {
+        self.manager
+    }
+
+    /// How far it has come.
+    pub(crate) fn stage(&self) -> &LoginStage
+        ensures { login_stage_seen result.now ≡ self.now.stage }
+    {
+        &self.stage
+    }
+
+    // The manager lets it in: the nodes that it names are asked, and the own node tells its list at once.
+    fn let_in(
+        &mut self,
+        alloc: Global,
+        u: &Under,
+        named: NodeSet,
+        mine: Sequence<ToldItem>,
+    ) -> Result<Sequence<Letter>, AllocError>
+        ensures ok { IfOk result (λ letters. login_did self.new letters ≡ take_word u.now self.old mine (NamedNodes named)) }
+        ensures err { OnErr result (self.new ≡ self.old) }
+    {
+        let to = others(alloc, u.own, named)?;
+        let letters = ask_lists(alloc, u, &to, &self.user)?;
+        let lists = NamedLists::of(alloc, u.own, named, mine)?;
+        self.stage = LoginStage::AsksNodes(lists);
+        Ok(letters)
+    }
+
+    // The manager does not let it in.
+    fn deny(&mut self, denial: Denial)
+        ensures { (u : rules.Under) (mine : List plain.ToldItem) → login_did self.new [] ≡ take_word u self.old mine (denial_seen denial) }
+    {
+        self.stage = LoginStage::IsDenied(denial);
+    }
+
+    /// What its manager told is taken.
+    ///
+    /// # Errors
+    ///
+    /// Out of memory alone; all is then as before.
+    pub(crate) fn take_word(
+        &mut self,
+        alloc: Global,
+        u: &Under,
+        word: LoginWord,
+        mine: Sequence<ToldItem>,
+    ) -> Result<Sequence<Letter>, AllocError>
+        ensures ok { IfOk result (λ letters. login_did self.new letters ≡ take_word u.now self.old mine (word_seen word)) }
+        ensures err { OnErr result (self.new ≡ self.old) }
+    {
+        match word {
+            LoginWord::Named(named) => return self.let_in(alloc, u, named, mine),
+            LoginWord::Wrong(stamp) => self.deny(Denial::Wrong(stamp)),
+            LoginWord::InUse(by) => self.deny(Denial::InUse(by)),
+            LoginWord::NoProfile => self.deny(Denial::NoProfile),
+        }
+        Ok(no_letters(alloc))
+    }
+
+    // Whether it asks this manager.
+    fn asks_manager(&self, from: NodeNo) -> bool
+        ensures { result ≡ asks_manager from self.now self.now.stage }
+    {
+        match &self.stage {
+            LoginStage::AsksManager => from == self.manager,
+            LoginStage::IsDenied(_) => false,
+            LoginStage::AsksNodes(_) => false,
+            LoginStage::HasFailed => false,
+        }
+    }
+
+    /// The word of a manager is heard while that one is asked; the first counts.
+    ///
+    /// # Errors
+    ///
+    /// Out of memory alone; all is then as before.
+    #[tactic(auto, using(crate::proofs::Stages::word_is))]
+    pub(crate) fn hear_word(
+        &mut self,
+        alloc: Global,
+        u: &Under,
+        from: NodeNo,
+        word: LoginWord,
+        mine: Sequence<ToldItem>,
+    ) -> Result<Sequence<Letter>, AllocError>
+        ensures ok { IfOk result (λ letters. login_did self.new letters ≡ word_at u.now from self.old mine (word_seen word) self.old.stage) }
+        ensures err { OnErr result (self.new ≡ self.old) }
+    {
+        if !self.asks_manager(from) {
+            return Ok(no_letters(alloc));
+        }
+        self.take_word(alloc, u, word, mine)
+    }
+
+    /// A list is heard from a node that is waited for; the first of each node counts. It is moved.
+    ///
+    /// # Errors
+    ///
+    /// Out of memory alone; all is then as before.
+    pub(crate) fn hear_list(
+        &mut self,
+        from: NodeNo,
+        items: Sequence<ToldItem>,
+    ) -> Result<(), AllocError>
+        ensures ok { OnOk result (login_did self.new [] ≡ list_at from self.old items self.old.stage) }
+        ensures err { OnErr result (self.new ≡ self.old) }
+    {
+        match &mut self.stage {
+            LoginStage::AsksManager => Ok(()),
+            LoginStage::IsDenied(_) => Ok(()),
+            LoginStage::AsksNodes(lists) => lists.tell(from, items),
+            LoginStage::HasFailed => Ok(()),
+        }
+    }
+
+    // Whether it waits for the node.
+    fn waits_for(&self, at: NodeNo) -> bool
+        ensures { result ≡ login_waits at self.now self.now.stage }
+    {
+        match &self.stage {
+            LoginStage::AsksManager => at == self.manager,
+            LoginStage::IsDenied(_) => false,
+            LoginStage::AsksNodes(lists) => lists.waiting().has(at),
+            LoginStage::HasFailed => false,
+        }
+    }
+
+    // It fails, and its manager gets the lock back.
+    fn fail(&mut self, u: &Under) -> Result<Option<Letter>, AllocError>
+        ensures ok { IfOk result (λ letter. login_did self.new (listed letter) ≡ fail u.now self.old) }
+        ensures err { OnErr result (self.new ≡ self.old) }
+    {
+        let user = self.user.copy()?;
+        self.stage = LoginStage::HasFailed;
+        Ok(unlock(u, user, self.manager))
+    }
+
+    /// A mishap at a node: the login fails, where it waits for the node.
+    ///
+    /// # Errors
+    ///
+    /// Out of memory alone; all is then as before.
+    #[tactic(auto, using(crate::proofs::Stages::login_befell_is))]
+    pub(crate) fn befell(&mut self, u: &Under, at: NodeNo) -> Result<Option<Letter>, AllocError>
+        ensures ok { IfOk result (λ letter. login_did self.new (listed letter) ≡ login_befell u.now at self.old self.old.stage) }
+        ensures err { OnErr result (self.new ≡ self.old) }
+    {
+        if !self.waits_for(at) {
+            return Ok(None);
+        }
+        self.fail(u)
+    }
+
+    // Whether its manager may have given it a lock.
+    fn may_hold_lock(&self) -> bool
+        ensures { result ≡ may_hold_lock self.now.stage }
+    {
+        match &self.stage {
+            LoginStage::AsksManager => true,
+            LoginStage::IsDenied(_) => false,
+            LoginStage::AsksNodes(_) => true,
+            LoginStage::HasFailed => false,
+        }
+    }
+
+    /// It is given up: its manager gets the lock back, unless that was told so already or let nobody in. It takes no memory.
+    #[tactic(auto, using(crate::proofs::Stages::given_up_is))]
+    pub(crate) fn give_up(self, u: &Under) -> Option<Letter>
+        ensures { listed result ≡ given_up u.now self self.stage }
+    {
+        if !self.may_hold_lock() {
+            return None;
+        }
+        unlock(u, self.user, self.manager)
+    }
+}
