@@ -19,11 +19,6 @@ abbrev pub first_in : List ℕ → Option ℕ
 first_in [] = None
 first_in (n ∷ others) = Some n
 
--- whether a list has no node
-abbrev pub is_nobody : List ℕ → Bool
-is_nobody [] = true
-is_nobody (n ∷ others) = false
-
 -- a login and a fetch once a rule was done, with the letters
 abbrev pub login_did : Login → List Letter → ReadDid
 login_did login letters = record { reading = LogsIn login; out = letters }

@@ -55,20 +55,6 @@ impl Fetch {
         }
     }
 
-    /// How far it has come.
-    pub(crate) fn stage(&self) -> &FetchStage
-        ensures { fetch_stage_seen result.now ≡ self.now.stage }
-    {
-        &self.stage
-    }
-
-    /// How far it has come, by value.
-    pub(crate) fn into_stage(self) -> FetchStage
-        ensures { fetch_stage_seen result ≡ self.stage }
-    {
-        self.stage
-    }
-
     // The letter that asks this holder.
     fn ask_for(&self, u: &Under, holder: NodeNo) -> Result<Letter, AllocError>
         ensures { IfOk result (λ letter. letter ≡ ask u.now holder (FetchAsk self.now.user self.now.id self.now.at self.now.most)) }

@@ -1,10 +1,8 @@
 //! The lists that a login asks nodes for.
-ghost use Rattle.std.specs.Prelude.{◌≡◌, ◌∷◌, ◌++◌, [], length, IfOk, OnOk, OnErr, if◌then◌else◌};
-ghost use Rattle.object_model.specs.Sets.{has, without_node, nodes_in, count_in};
+ghost use Rattle.std.specs.Prelude.{◌≡◌, ◌∷◌, ◌++◌, [], IfOk, OnOk, OnErr, if◌then◌else◌};
+ghost use Rattle.object_model.specs.Sets.{has, without_node};
 ghost use Rattle.login_model.specs.Rules.{own_told};
-ghost use Rattle.node_reads.specs.Readings.{is_nobody};
 
-use crate::nodes::is_none;
 use mail_base::{NodeNo, NodeSet, Sequence, ToldItem};
 use std::alloc::{AllocError, Global};
 use std::marker::Model;
@@ -77,46 +75,11 @@ impl NamedLists {
         })
     }
 
-    /// The nodes that were named.
-    pub(crate) fn named(&self) -> NodeSet
-        ensures { result ≡ self.now.named }
-    {
-        self.named
-    }
-
-    /// What was told.
-    pub(crate) fn told(&self) -> &[ToldList]
-        ensures { result.now ≡ self.now.told }
-    {
-        self.told.as_slice()
-    }
-
     /// The nodes that have not told yet.
     pub(crate) fn waiting(&self) -> NodeSet
         ensures { result ≡ self.now.waiting }
     {
         self.waiting
-    }
-
-    /// Whether each of them has told. It takes no memory.
-    pub(crate) fn are_whole(&self) -> bool
-        ensures { result ≡ is_nobody (nodes_in self.now.waiting 64) }
-    {
-        is_none(self.waiting)
-    }
-
-    /// How many have told.
-    pub(crate) fn got(&self) -> u64
-        ensures { result ≡ length self.now.told }
-    {
-        self.told.len() as u64
-    }
-
-    /// How many were named.
-    pub(crate) fn wanted(&self) -> u64
-        ensures { result ≡ count_in self.now.named }
-    {
-        u64::from(self.named.count())
     }
 
     // The list of this node is kept.

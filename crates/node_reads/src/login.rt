@@ -76,20 +76,6 @@ impl Login {
         &self.user
     }
 
-    /// The user's manager.
-    pub(crate) fn manager(&self) -> NodeNo
-        ensures { result ≡ self.now.manager }
-    {
-        self.manager
-    }
-
-    /// How far it has come.
-    pub(crate) fn stage(&self) -> &LoginStage
-        ensures { login_stage_seen result.now ≡ self.now.stage }
-    {
-        &self.stage
-    }
-
     // The manager lets it in: the nodes that it names are asked, and the own node tells its list at once.
     fn let_in(
         &mut self,

@@ -1,8 +1,8 @@
 //! Sets of nodes, and the nodes that are asked.
 ghost use Rattle.std.specs.Prelude.{◌≡◌, ◌≤◌, ◌<◌, ◌^◌, ◌&&◌, not, nat_eq, Some, None, IfOk, if◌then◌else◌};
-ghost use Rattle.object_model.specs.Sets.{has, nodes_in};
+ghost use Rattle.object_model.specs.Sets.{has};
 ghost use Rattle.cluster_model.specs.Rules.{receivers};
-ghost use Rattle.node_reads.specs.Readings.{first_in, is_nobody};
+ghost use Rattle.node_reads.specs.Readings.{first_in};
 
 use mail_base::{NodeNo, NodeSet};
 use std::alloc::{AllocError, Global};
@@ -72,12 +72,4 @@ pub(crate) fn lowest_other(own: NodeNo, set: NodeSet) -> Option<NodeNo>
 {
     let _mask = set.mask();
     first_receiver(own, set, 16)
-}
-
-/// Whether the set has no node. It takes no memory.
-#[tactic(auto, using(crate::proofs::Receivers::none_counted))]
-pub(crate) fn is_none(set: NodeSet) -> bool
-    ensures { result ≡ is_nobody (nodes_in set 64) }
-{
-    set.count() == 0
 }

@@ -2,25 +2,18 @@
 use Rattle.std.specs.Prelude.{◌≡◌, ℕ, List, ◌++◌, Result, Ok, Err}
 use Rattle.mail_model.specs.Plan.{Plan}
 use Rattle.mail_model.specs.Record.{Record}
-use Rattle.whole_model.specs.Whole as whole
 use Rattle.whole_world.specs.Makes.{started}
 use Rattle.node_store.specs.Disks.{View}
-use Rattle.node_core.specs.Nodes.{node_seen}
 use Rattle.node_core.specs.Starting.{WhereItHolds, StartedOver, NodeStarted, NodeStarts}
 use Rattle.node_core.specs.declared.fault.NodeFault.{NodeFault}
-use Rattle.node_maps.specs.Nodes.{node_of}
-use Rattle.whole_node.specs.Nodes.{WholeWorks}
+use Rattle.whole_node.specs.Nodes.{joint_seen, WholeWorks}
 use Rattle.whole_node.specs.declared.node.WholeNode.{WholeNode}
-
--- The node in the words of the machines, where messages are in the epoch that its maps have installed.
-abbrev pub in_its_epoch : WholeNode → whole.Node
-in_its_epoch node = record { mail = record (node_seen node.mail) { installed = (node_of node.maps).installed }; maps = node_of node.maps }
 
 module _ {D : Type 0} (on : View D) (plan : Plan) (own : ℕ) (before after : D) where
   -- these records stand now, and the node is what the whole machine starts over those that it found before it recorded its boot
   pub record WholeStartedOver (node : WholeNode) (records pending : List Record) : Type 0 where
     pub mail : StartedOver on plan own before after node.mail records pending
-    pub starts : in_its_epoch node ≡ started own plan.nodes (records ++ mail.starts.kept) mail.new
+    pub starts : joint_seen node ≡ started own plan.nodes (records ++ mail.starts.kept) mail.new
 
   pub record WholeNodeStarted (node : WholeNode) : Type 0 where
     pub mail : NodeStarted on plan own before after node.mail

@@ -1,6 +1,5 @@
 //! Letters of membership and maps.
 ghost use Rattle.std.specs.Prelude.{◌≡◌, ◌↔◌, ◌<◌, ◌||◌, [], Some, IfOk, IsTrue, option_map};
-ghost use Rattle.std.specs.Option.{option_copied};
 ghost use Rattle.object_model.specs.Keys.{is_same_epoch};
 ghost use Rattle.mail_base.specs.Bodies.{body_seen};
 ghost use Rattle.cluster_model.specs.Thrown.{is_stale};
