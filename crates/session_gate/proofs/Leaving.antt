@@ -4,6 +4,8 @@ use Rattle.std.specs.Prelude.{◌⊎◌}
 use Rattle.io_edge.specs.Causes.{Rose}
 use Rattle.session_model.specs.Talk.{Exchange, Standing, entered_as}
 use Rattle.session_model.specs.Talk.Standing.{EndedDown}
+use Rattle.session_model.specs.Sessions.{Session, exchanges_of}
+use Rattle.call_tickets.specs.Moves.{Due}
 use Rattle.call_tickets.specs.declared.call.Call.{Call}
 use Rattle.call_tickets.specs.Passes.{PassKnows, IsQuiet}
 use Rattle.call_tickets.specs.Begins.{HasLeft, RefusalCounted}
@@ -11,7 +13,7 @@ use Rattle.call_tickets.specs.declared.desk.DeskFault.{DeskFault}
 use Rattle.call_tickets.specs.declared.desk.DeskFault.TheVariants as faults
 use Rattle.pop_session.specs.declared.stage.Login.{Login}
 use Rattle.pop_session.specs.Follows.{leave_of_login, user_of_login}
-use Rattle.session_gate.specs.Connections.{LeavesOnce}
+use Rattle.session_gate.specs.Connections.{LeavesOnce, LeavesOrSays, HasFallen}
 use Rattle.session_gate.specs.declared.stop.Served.{Served}
 use Rattle.session_gate.specs.declared.stop.Served.TheVariants as served
 use Rattle.session_gate.proofs.Knows.{quiet_none}
@@ -43,35 +45,39 @@ nobody_leaves None exchanges standing result now none is = record {
 }
 nobody_leaves (Some login) exchanges standing result now none is = absurd (some_none _ none)
 
--- somebody was, and a Leave was begun
-pub leaves_once : (login : Option Login) (call : Call) (exchanges : List Exchange) (standing : Standing) (result : Served) (before now : PassKnows) → Some call ≡ leave_of_login login
-    → user_of_login login ≡ entered_as exchanges → standing ≢ EndedDown → HasLeft before now → LeavesOnce exchanges standing result before now
-leaves_once None call exchanges standing result before now some is up left = absurd (some_none call (sym some))
-leaves_once (Some login) call exchanges standing result before now some is up left = record {
+-- somebody was, and a Leave was begun or refused
+pub lets_leave : (login : Option Login) (call : Call) (exchanges : List Exchange) (standing : Standing) (result : Served) (before now : PassKnows) → Some call ≡ leave_of_login login
+    → user_of_login login ≡ entered_as exchanges → standing ≢ EndedDown → LeavesOrSays result before now → LeavesOnce exchanges standing result before now
+lets_leave None call exchanges standing result before now some is up left = absurd (some_none call (sym some))
+lets_leave (Some login) call exchanges standing result before now some is up (inl left) = record {
   once = inl left;
   nobody = λ none. absurd (some_none _ (sym (is ∙ none)));
   fallen = λ down. absurd (up down);
   leaves = λ user entered _ memory. inl left;
 }
-
-pub down_no_memory : (why : DeskFault) → why ≡ faults.Down → why ≡ faults.NoMemory → ⊥
-down_no_memory why is none = cc
-
-pub worn_no_memory : (why : DeskFault) → why ≡ faults.Worn → why ≡ faults.NoMemory → ⊥
-worn_no_memory why is none = cc
-
--- or was refused
-pub leaves_not : (login : Option Login) (exchanges : List Exchange) (standing : Standing) (result : Served) (before now : PassKnows) (why : DeskFault) → (why ≡ faults.NoMemory → result ≡ served.NoMemory)
-    → IsQuiet before now → RefusalCounted why before now → LeavesOnce exchanges standing result before now
-leaves_not login exchanges standing result before now why memory quiet counted = record {
+lets_leave (Some login) call exchanges standing result before now some is up (inr (quiet, why)) = record {
   once = inr quiet;
   nobody = λ _. quiet;
   fallen = λ _. quiet;
-  leaves = λ user entered up some. by_why why counted memory some;
+  leaves = λ user entered _ memory. by_why why memory;
 }
   where
-    by_why : (w : DeskFault) → RefusalCounted w before now → (w ≡ faults.NoMemory → result ≡ served.NoMemory) → result ≢ served.NoMemory
+    by_why : Rose before.counts.down now.counts.down ⊎ Rose before.counts.worn now.counts.worn ⊎ (result ≡ served.NoMemory) → result ≢ served.NoMemory
         → HasLeft before now ⊎ Rose before.counts.down now.counts.down ⊎ Rose before.counts.worn now.counts.worn
-    by_why faults.Down counted memory some = inr (inl counted)
-    by_why faults.Worn counted memory some = inr (inr counted)
-    by_why faults.NoMemory counted memory some = absurd (some (memory refl))
+    by_why (inl down) memory = inr (inl down)
+    by_why (inr (inl worn)) memory = inr (inr worn)
+    by_why (inr (inr none)) memory = absurd (memory none)
+
+-- no Leave was begun, for this reason
+pub refused_leave : (why : DeskFault) (result : Served) (before now : PassKnows) → IsQuiet before now → RefusalCounted why before now → (why ≡ faults.NoMemory → result ≡ served.NoMemory) → LeavesOrSays result before now
+refused_leave faults.Down result before now quiet counted memory = inr (quiet, inl counted)
+refused_leave faults.Worn result before now quiet counted memory = inr (quiet, inr (inl counted))
+refused_leave faults.NoMemory result before now quiet counted memory = inr (quiet, inr (inr (memory refl)))
+
+-- the node went down
+pub fallen_leaves : (follows : Session → Due → Type 0) (plain : Session) (result : Served) (now : PassKnows) → HasFallen follows plain → LeavesOnce (exchanges_of plain) plain.standing result now now
+fallen_leaves follows plain result now fell = quiet_leaves (exchanges_of plain) plain.standing result now (inl fell.1)
+
+-- memory ran out
+pub spent_leaves : (plain : Session) (now : PassKnows) → LeavesOnce (exchanges_of plain) plain.standing served.NoMemory now now
+spent_leaves plain now = quiet_leaves (exchanges_of plain) plain.standing served.NoMemory now (inr refl)

@@ -1,4 +1,5 @@
 pub mod Knows
+pub mod Turns
 pub mod Deals
 pub mod InTime
 pub mod Moves

@@ -1,5 +1,5 @@
 -- What one move of a session comes to.
-use Rattle.std.proofs.Common.{◌≡◌, ◌≢◌, ◌<◌, ◌++◌, ◌∷◌, ℕ, List, [], Option, Some, None, refl, sym, ap, ap₂, ◌∙◌, subst, append_assoc, length}
+use Rattle.std.proofs.Common.{◌≡◌, ◌≢◌, ◌<◌, ◌++◌, ◌∷◌, ℕ, List, [], Option, Some, None, Err, refl, sym, ap, ap₂, ◌∙◌, subst, append_assoc, length}
 use Rattle.std.specs.Prelude.{◌⊎◌, flat_map}
 use Rattle.std.proofs.lemmas.List.{append-nil}
 use Rattle.std.proofs.lemmas.List.Concat.{flat_map-append}
@@ -25,6 +25,7 @@ use Rattle.call_tickets.specs.Moves.{Due, HeardUnit, Replied, Fell, HasEnded, He
 use Rattle.call_tickets.specs.Moves.Due.{Nothing}
 use Rattle.call_tickets.specs.Passes.{PassKnows}
 use Rattle.session_gate.specs.Deals.{Deals, Dealt}
+use Rattle.session_gate.specs.Turns.{WritesFirst}
 use Rattle.session_gate.specs.InTime.{WritesInTime}
 use Rattle.session_gate.specs.Connections.{Connection, HasSaid, HasCome, Anyhow, GoesOn, BreaksOff, Rests, Talks, IsSettled, IsUp, HasFallen, LeftWith}
 use Rattle.session_gate.specs.declared.stop.Stop.{Stop}
@@ -247,7 +248,8 @@ answered_settled state (model.Call.Login user given) Failed = tt
 answered_settled state (model.Call.Fetch user id) answer = tt
 answered_settled state (model.Call.Strike user ids) answer = tt
 
-waits_none : (standing : Standing) → IsWaiting standing → IsSettled standing → ⊥
+-- a session that is settled does not wait
+pub waits_none : (standing : Standing) → IsWaiting standing → IsSettled standing → ⊥
 waits_none (Hearing state) is none = is
 waits_none (Waiting state call) is none = none
 waits_none EndedByQuit is none = is
@@ -261,12 +263,6 @@ settled_up (Waiting state call) settled is = settled
 settled_up EndedByQuit settled is = cc
 settled_up EndedDown settled is = settled
 settled_up EndedClosed settled is = cc
-
--- where no write failed
-pub left_any : (why : Stop) (line : Connection) (follows : Session → Due → Type 0) (fed wrote : List ℕ) (held0 held1 : Option (List ℕ)) (now : PassKnows) → (why ≡ stops.WriteFault → ⊥)
-    → BreaksOff line Anyhow fed wrote held0 held1 now → BreaksOff line (LeftWith why follows) fed wrote held0 held1 now
-left_any stops.WriteFault line follows fed wrote held0 held1 now never cut = absurd (never refl)
-left_any stops.NoMemory line follows fed wrote held0 held1 now never cut = cut
 
 reply_told : EachAnswerHasReply → (unit : Unit) (call : model.Call) (answer : model.Answer) → IsAnswerTo call answer → (reply : List (List ℕ)) × RepliesTo unit call answer reply
 reply_told each unit call answer to = (each unit call answer to).1
@@ -305,9 +301,6 @@ module _ (follows0 follows1 : Session → Due → Type 0) (line : Connection) (f
         (sym (append-nil out0) ∙ ap (λ (l : List ℕ). out0 ++ l) (sym none) ∙ sym outs);
   }
 
-  pub waits_never : IsWaiting come.at.plain.standing → ⊥
-  waits_never is = waits_none come.at.plain.standing is come.at.follows.1
-
   module _ (asked : model.Call) (u : HeardUnit follows1 line.plan come.at.plain (Some asked) octets) (held1 : Option (List ℕ)) where
     -- it waits for what comes of its call
     waiting_at : (next : Session → Type 0) (new : PassKnows) → next u.after → Dealt now (Some asked) None new
@@ -319,13 +312,14 @@ module _ (follows0 follows1 : Session → Due → Type 0) (line : Connection) (f
     heard_time more = heard_in_time line.greeting (wrote ++ more) come.at.plain.whole u.one (more_in_time line.greeting wrote more come.at.plain.whole come.in_time) u.did.6
 
     -- what it had to say is not written
-    pub flush_cut : (front : List ℕ) × (missing : List ℕ) × (0 < length missing) × (out1 ≡ front ++ missing) × Appends held held1 front → BreaksOff line (IsUp follows1) fed wrote held held1 now
-    flush_cut w = record {
+    flush_cut : (new : PassKnows) → (front : List ℕ) × (missing : List ℕ) × (0 < length missing) × (out1 ≡ front ++ missing) × Appends held held1 front → Dealt now (Some asked) None new
+        → BreaksOff line (IsUp follows1) fed wrote held held1 new
+    flush_cut new w dealt = record {
       more = w.0;
       missing = w.1;
       appends = w.4;
-      come = comes line (IsUp follows1) fed (wrote ++ w.0) w.1 ((wrote ++ out0) ++ octets) now (heard_whole u.one)
-          (waiting_at (IsUp follows1) now (u.goes_on, hears_up line.plan come.at.plain u.after u.one u.one.reply u.did) (dealt_asked now asked)) (joined w.0 w.1 w.3) (heard_time w.0);
+      come = comes line (IsUp follows1) fed (wrote ++ w.0) w.1 ((wrote ++ out0) ++ octets) new (heard_whole u.one)
+          (waiting_at (IsUp follows1) new (u.goes_on, hears_up line.plan come.at.plain u.after u.one u.one.reply u.did) dealt) (joined w.0 w.1 w.3) (heard_time w.0);
     }
 
     all_out : (wrote ++ out0) ++ octets ≡ (wrote ++ out1) ++ []
@@ -339,6 +333,11 @@ module _ (follows0 follows1 : Session → Due → Type 0) (line : Connection) (f
       appends = w;
       come = comes line Anyhow fed (wrote ++ out1) [] ((wrote ++ out0) ++ octets) new (heard_whole u.one) (waiting_at Anyhow new tt dealt) all_out (heard_time out1);
     }
+
+    -- one or the other
+    pub stopped_cut : (why : Stop) (out2 : List ℕ) (new : PassKnows) → WritesFirst (Err why) held held1 out1 out2 → Dealt now (Some asked) None new → BreaksOff line (LeftWith why follows1) fed wrote held held1 new
+    stopped_cut stops.WriteFault out2 new w dealt = flush_cut new w dealt
+    stopped_cut stops.NoMemory out2 new w dealt = unanswered_cut new w dealt
 
     waiting : (state : TalkState) × (u.after.standing ≡ Waiting state asked)
     waiting = asks_waits line.plan come.at.plain u.one u.one.reply u.after asked u.did u.asks

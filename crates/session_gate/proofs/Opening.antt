@@ -74,7 +74,8 @@ pop_opens plan node boot number seconds start session new did out octets follows
     (subst (λ (l : List ℕ). Greeted (reader.Follows new) l (opened_session Pop node) octets) shows
     (greets_first (reader.Follows new) plan (opened_session Pop node) (reader.opening_line session) did octets (moved.goes (opened_session Pop node) Greeting follows))))
 
-served_same : (close : Close) (one other : Served) → ServedAs close one → ServedAs close other → one ≡ other
+-- how it was closed says how it was served
+pub served_same : (close : Close) (one other : Served) → ServedAs close one → ServedAs close other → one ≡ other
 served_same closes.Fell one other a b = a ∙ sym b
 served_same closes.FellUnwritten one other a b = a ∙ sym b
 served_same closes.Ended one other a b = a ∙ sym b

@@ -216,6 +216,11 @@ pub record LeavesOnce (exchanges : List Exchange) (standing : Standing) (result 
   pub leaves : (user : List ℕ) → entered_as exchanges ≡ Some user → standing ≢ EndedDown → result ≢ served.NoMemory
       → HasLeft before now ⊎ Rose before.counts.down now.counts.down ⊎ Rose before.counts.worn now.counts.worn
 
+-- a Leave was begun, once; or none was, since the node was down, a number was used up, or memory ran out and that is said
+abbrev pub LeavesOrSays : Served → PassKnows → PassKnows → Type 0
+LeavesOrSays result before now =
+    HasLeft before now ⊎ (IsQuiet before now × (Rose before.counts.down now.counts.down ⊎ Rose before.counts.worn now.counts.worn ⊎ (result ≡ served.NoMemory)))
+
 -- What serving a POP3 connection came to. The greeting shows the boot and the seconds that the desk told.
 pub record IsServedPop (plan : Plan) (node number : ℕ) (result : Served) (left0 left1 held0 held1 : Option (List ℕ)) (start now : PassKnows) : Type 0 where
   pub boot : ℕ

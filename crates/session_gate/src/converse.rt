@@ -7,7 +7,8 @@ ghost use Rattle.session_gate.specs.Connections.{Connection, HasCome, ClosesSo, 
 ghost use Rattle.session_gate.specs.Closes.{IsSinkFault, IsSourceFault};
 
 use crate::stop::Close;
-use crate::talk::{Visit, hear};
+use crate::talk::hear;
+use crate::turn::Visit;
 use call_tickets::Desk;
 use io_edge::{Failed, Gate, Sink, Source};
 use mail_base::Plan;

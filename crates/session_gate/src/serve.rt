@@ -4,12 +4,12 @@ ghost use Rattle.io_edge.specs.Causes.{Rose};
 ghost use Rattle.session_model.specs.Sessions.{Session, exchanges_of};
 ghost use Rattle.call_tickets.specs.Passes.{known_to};
 ghost use Rattle.pop_session.specs.Follows as reader;
-ghost use Rattle.session_gate.specs.Connections.{IsUp, LeavesOnce, ServesSmtp, ServesPop};
+ghost use Rattle.session_gate.specs.Connections.{IsUp, ClosedWith, ServedAs, LeavesOnce, LeavesOrSays, ServesSmtp, ServesPop};
 
 use crate::converse::converse;
 use crate::stop::{Close, Served};
-use crate::talk::Visit;
-use call_tickets::{Desk, DeskFault, Life};
+use crate::turn::Visit;
+use call_tickets::{Call, Desk, DeskFault, Life};
 use io_edge::{Gate, Sink, Source};
 use mail_base::{NodeNo, Plan};
 use pop_session::PopSession;
@@ -113,6 +113,25 @@ pub fn serve_pop<G: Gate, E: Desk, S: Source, K: Sink, R: Wait>(
         source,
         sink,
     );
+    end_pop(alloc, desk, pass, node, session, close)
+}
+
+// How a connection of POP3 is over. A session that was let in leaves its node, but where the node went down.
+#[tactic(auto, using(crate::proofs::Leaving::fallen_leaves, crate::proofs::Leaving::spent_leaves))]
+fn end_pop<E: Desk>(
+    alloc: Global,
+    desk: &E,
+    pass: &mut E::Pass,
+    node: NodeNo,
+    session: PopSession,
+    close: Close,
+) -> Served
+    requires belongs { E.belongs desk.now pass.old }
+    ensures belongs { E.belongs desk.now pass.new }
+    ensures left { (plain : Session) → ClosedWith close (reader.Follows session) plain
+        → LeavesOnce (exchanges_of plain) plain.standing result (known_to (E.own pass.old) (E.counts pass.old)) (known_to (E.own pass.new) (E.counts pass.new)) }
+    ensures served { ServedAs close result ⊎ (result ≡ Served.NoMemory) }
+{
     match close {
         Close::Fell => Served::Ended,
         Close::FellUnwritten => Served::WriteFault,
@@ -125,7 +144,6 @@ pub fn serve_pop<G: Gate, E: Desk, S: Source, K: Sink, R: Wait>(
 }
 
 // A session whose node is up leaves it, if it was let in.
-#[tactic(auto, using(crate::proofs::Leaving::nobody_leaves, crate::proofs::Leaving::leaves_once, crate::proofs::Leaving::leaves_not))]
 fn leave<E: Desk>(
     alloc: Global,
     desk: &E,
@@ -143,6 +161,24 @@ fn leave<E: Desk>(
     let Some(call) = session.leave() else {
         return served;
     };
+    begin_leave(alloc, desk, pass, node, call, served)
+}
+
+// Begins the Leave of a login, once. Where memory runs out, that is how the connection was served.
+#[tactic(auto, using(crate::proofs::Leaving::refused_leave))]
+fn begin_leave<E: Desk>(
+    alloc: Global,
+    desk: &E,
+    pass: &mut E::Pass,
+    node: NodeNo,
+    call: Call,
+    served: Served,
+) -> Served
+    requires belongs { E.belongs desk.now pass.old }
+    ensures belongs { E.belongs desk.now pass.new }
+    ensures left { LeavesOrSays result (known_to (E.own pass.old) (E.counts pass.old)) (known_to (E.own pass.new) (E.counts pass.new)) }
+    ensures served { (result ≡ served) ⊎ (result ≡ Served.NoMemory) }
+{
     match desk.leave(alloc, pass, node, call) {
         Ok(()) => served,
         Err(DeskFault::Down) => served,

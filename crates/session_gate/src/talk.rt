@@ -1,18 +1,18 @@
 //! The moves of a session, with the calls that it asks, until it rests.
-ghost use Rattle.std.specs.Prelude.{◌≡◌, ◌≤◌, ◌<◌, [], ℕ, List, OnOk, IfOk, IfSome, IsErrOf};
-ghost use Rattle.io_edge.specs.Causes.{Rose, HasCause};
-ghost use Rattle.io_edge.specs.Octets.{Writes};
+ghost use Rattle.std.specs.Prelude.{◌≡◌, ◌≤◌, ◌<◌, [], ℕ, List, IfOk, IfSome, IsErrOf};
+ghost use Rattle.io_edge.specs.Causes.{Rose};
 ghost use Rattle.call_tickets.specs.Passes.{known_to};
 ghost use Rattle.session_gate.specs.Connections.{Connection, HasCome, MovesOn, HearsOut, Talks};
 ghost use Rattle.session_gate.specs.Closes.{IsSinkFault, IsSourceFault, MayMove};
 
-use crate::calls::{Dealing, settle};
+use crate::calls::Dealing;
+use crate::step::{Step, take_step};
 use crate::stop::{Close, Stop, left_off};
-use call_tickets::{Desk, Move};
-use io_edge::{Failed, Gate, Sink, write_all};
-use mail_base::{NodeNo, Plan};
+use crate::turn::{Visit, flush, take_turn};
+use call_tickets::Desk;
+use io_edge::{Gate, Sink};
+use mail_base::Plan;
 use session_speaker::Speaker;
-use std::alloc::Global;
 use std::sync::Wait;
 
 /// What a move of a session was.
@@ -26,48 +26,6 @@ pub(crate) enum Next {
     Rests,
     /// Its node went down, and it said so.
     Fell,
-}
-
-/// Which connection it is, and how many turns it has had.
-#[derive(Clone, Copy, Debug, PartialEq, Eq)]
-pub(crate) struct Visit {
-    alloc: Global,
-    node: NodeNo,
-    // the number of the session, as the gate is told it
-    session: u64,
-    // the turns that were begun; a count at its greatest stays there
-    turns: u64,
-}
-
-impl Visit {
-    pub fn new(alloc: Global, node: NodeNo, session: u64) -> Visit {
-        Visit {
-            alloc,
-            node,
-            session,
-            turns: 0,
-        }
-    }
-
-    fn begin_turn<G: Gate>(&mut self, gate: &G) {
-        self.turns = self.turns.saturating_add(1);
-        gate.before(self.session, self.turns);
-    }
-
-    fn end_turn<G: Gate>(&self, gate: &G) {
-        gate.after(self.session, self.turns);
-    }
-}
-
-// Writes what was said, and holds none of it any more.
-fn flush<K: Sink>(sink: &mut K, out: &mut Vec<u8>) -> Result<(), Failed>
-    ensures octets { Writes (K.contents sink.old) (K.contents sink.new) result out.old.items }
-    ensures empty { OnOk result (out.new.items ≡ []) }
-    ensures cause { HasCause (K.faults sink.old) (K.faults sink.new) result }
-{
-    write_all(sink, out)?;
-    out.clear();
-    Ok(())
 }
 
 // The session's next move, with the call that it asks. All that was said before is written before a call is begun.
@@ -91,16 +49,12 @@ fn make_move<T: Speaker, E: Desk, G: Gate, K: Sink, R: Wait>(
     ensures later { K.faults sink.old ≤ K.faults sink.new }
     ensures failed { IsErrOf result Stop.WriteFault → Rose (K.faults sink.old) (K.faults sink.new) }
 {
-    let call = match talker.next(visit.alloc, plan, out)? {
-        Move::Said => return Ok(Next::Said),
-        Move::Begin(call) => call,
-        Move::Wait => return Ok(Next::Rests),
-        Move::Idle => return Ok(Next::Rests),
-        Move::End => return Ok(Next::Rests),
+    let call = match take_step(talker, visit.alloc, plan, out)? {
+        Step::Says => return Ok(Next::Said),
+        Step::Asks(call) => call,
+        Step::Rests => return Ok(Next::Rests),
     };
-    flush(sink, out)?;
-    visit.begin_turn(gate);
-    match settle(rt, visit.alloc, desk, pass, visit.node, call)? {
+    match take_turn(rt, gate, desk, pass, visit, call, out, sink)? {
         Dealing::Answered(answer) => {
             talker.reply(visit.alloc, plan, Some(answer), out)?;
             Ok(Next::Answered)
