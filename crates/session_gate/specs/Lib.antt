@@ -4,4 +4,4 @@ pub mod InTime
 pub mod Late
 pub mod Closes
 pub mod Connections
-pub mod Steps
+pub mod Intents

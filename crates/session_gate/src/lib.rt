@@ -9,7 +9,7 @@
 //!
 //! - `calls`: a call is begun, asked for until it has its answer, and given up where a number is used up. A letter is posted
 //!   between two askings.
-//! - `step`: what a session does next: it says something, it asks a call, or it rests.
+//! - `intent`: what a session is about to do: it says something, it asks a call, or it rests.
 //! - `turn`: what was said is written, and then the call is begun. Where the sink fails, the desk is asked for nothing.
 //! - `talk`: the moves of a session until it rests. What it says is written before it begins a call, once a call was answered,
 //!   and before more is read.
@@ -43,9 +43,9 @@
 
 mod calls;
 mod converse;
+mod intent;
 mod laws;
 mod serve;
-mod step;
 mod stop;
 mod talk;
 mod turn;

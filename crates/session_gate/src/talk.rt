@@ -6,7 +6,7 @@ ghost use Rattle.session_gate.specs.Connections.{Connection, HasCome, MovesOn, H
 ghost use Rattle.session_gate.specs.Closes.{IsSinkFault, IsSourceFault, MayMove};
 
 use crate::calls::Dealing;
-use crate::step::{Step, take_step};
+use crate::intent::{Intent, next_intent};
 use crate::stop::{Close, Stop, left_off};
 use crate::turn::{Visit, flush, take_turn};
 use call_tickets::Desk;
@@ -49,10 +49,10 @@ fn make_move<T: Speaker, E: Desk, G: Gate, K: Sink, R: Wait>(
     ensures later { K.faults sink.old ≤ K.faults sink.new }
     ensures failed { IsErrOf result Stop.WriteFault → Rose (K.faults sink.old) (K.faults sink.new) }
 {
-    let call = match take_step(talker, visit.alloc, plan, out)? {
-        Step::Says => return Ok(Next::Said),
-        Step::Asks(call) => call,
-        Step::Rests => return Ok(Next::Rests),
+    let call = match next_intent(talker, visit.alloc, plan, out)? {
+        Intent::Says => return Ok(Next::Said),
+        Intent::Asks(call) => call,
+        Intent::Rests => return Ok(Next::Rests),
     };
     match take_turn(rt, gate, desk, pass, visit, call, out, sink)? {
         Dealing::Answered(answer) => {
