@@ -1,15 +1,16 @@
 -- What reading a line of a tape takes of a source.
-use Rattle.std.specs.Prelude.{◌≡◌, ℕ, ◌<◌, ◌≤◌, List, [], ◌∷◌, Option, Some, None, Result, Ok, Err, length}
-use Rattle.std.specs.Io.KnownBytes.{Consumes, IsAtEnd}
+use Rattle.std.specs.Prelude.{◌≡◌, ℕ, ◌<◌, ◌≤◌, List, Option, Result, Ok, Err, length}
+use Rattle.std.specs.Io.KnownBytes.{IsAtEnd}
 use Rattle.mail_model.specs.Lines.{HasNoLf, ended}
+use Rattle.line_source.specs.declared.source.PartFault.{PartFault}
+use Rattle.line_source.specs.declared.source.PartFault.TheVariants.{Failed, NoMemory as PartNoMemory}
 use Rattle.drive_tape.specs.declared.reader.LineStop.{LineStop}
 use Rattle.drive_tape.specs.declared.reader.LineStop.TheVariants.{ReadFault, EndedEarly, LongLine, TooLong, NoMemory}
 
--- one octet was taken, or none: at the end, or at a fault
-abbrev pub TakesOctet : {E : Type 0} → Option (List ℕ) → Option (List ℕ) → Result (Option ℕ) E → Type 0
-TakesOctet left0 left1 (Ok (Some octet)) = Consumes left0 left1 (octet ∷ [])
-TakesOctet left0 left1 (Ok None) = Consumes left0 left1 [] × IsAtEnd left1
-TakesOctet left0 left1 (Err _) = Consumes left0 left1 []
+-- a line is not read where no part of it is taken
+abbrev pub stop_of : PartFault → LineStop
+stop_of Failed = ReadFault
+stop_of PartNoMemory = NoMemory
 
 -- these octets were taken: a line with its LF; or no line, and why
 abbrev pub ReadsLine : Result (List ℕ) LineStop → Option (List ℕ) → List ℕ → ℕ → Type 0

@@ -19,7 +19,8 @@ use crate::reader::next_line;
 use crate::sessions::Sessions;
 use crate::{Drove, LineStop, Stop, TapeFault, WriteStop};
 use cluster_world::World;
-use io_edge::{Disk, Sink, Source};
+use io_edge::{Disk, Sink};
+use line_source::LineSource;
 use std::alloc::{AllocError, Global};
 use tape_lines::{Order, read_order};
 
@@ -114,7 +115,7 @@ fn handle<D: Disk, K: Sink>(
 }
 
 // A line is read and handled.
-fn turn<S: Source, K: Sink, D: Disk>(
+fn turn<S: LineSource, K: Sink, D: Disk>(
     alloc: Global,
     source: &mut S,
     sink: &mut K,
@@ -145,7 +146,7 @@ fn turn<S: Source, K: Sink, D: Disk>(
 /// The answer is `Ended` after the line `end`. `BadTape(n, fault)` comes where line n is refused, and nothing is done for
 /// it; `ReadFault` where the source failed before a line was whole; `WriteFault(n)` where the sink failed at what line n
 /// gives, of which a prefix was written; `NoMemory(n)` where memory ran out at line n, which may be done in part.
-pub fn drive<S: Source, K: Sink, D: Disk>(
+pub fn drive<S: LineSource, K: Sink, D: Disk>(
     alloc: Global,
     source: &mut S,
     sink: &mut K,

@@ -6,7 +6,7 @@ ghost use Rattle.drive_tape.specs.Plans.{PlanTurned, ReadsHead, HeadEnds, IsTape
 use crate::driver::{TAPE_OCTETS, at_line};
 use crate::reader::next_line;
 use crate::{Drove, Stop, TapeFault};
-use io_edge::Source;
+use line_source::LineSource;
 use mail_base::Plan;
 use std::alloc::Global;
 use tape_lines::{Draft, PlanLine, read_plan_line};
@@ -21,7 +21,7 @@ enum PlanTurn {
 }
 
 // One line is read, and the draft takes it.
-fn plan_turn<S: Source>(
+fn plan_turn<S: LineSource>(
     alloc: Global,
     source: &mut S,
     room: &mut u64,
@@ -63,7 +63,7 @@ fn finish(draft: Draft, number: u64) -> Result<(Plan, u64), Drove>
 /// `BadTape(n, BadPlan)` with the number of the line that is no plan line, or that of `go` where the plan does not fit
 /// together; `BadTape(n, BadLine)` where line n has more than 65,536 octets with its LF, or
 /// the source ended before it was whole; `ReadFault` where the source failed; `NoMemory`.
-pub fn read_drive_head<S: Source>(alloc: Global, source: &mut S) -> Result<(Plan, u64), Drove>
+pub fn read_drive_head<S: LineSource>(alloc: Global, source: &mut S) -> Result<(Plan, u64), Drove>
     ensures plan { ReadsHead (S.left source.old) (S.left source.new) result }
     ensures fits { IfOk result (λ head. IsTapePlan head.0) }
     ensures few { IfOk result (λ head. head.1 ≤ 2 ^ 40) }

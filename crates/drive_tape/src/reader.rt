@@ -1,11 +1,11 @@
 // Lines from a source.
-ghost use Rattle.std.specs.Prelude.{◌≡◌, ◌+◌, ◌≤◌, List, ℕ, length, Option, IsErrOf};
+ghost use Rattle.std.specs.Prelude.{◌≡◌, ◌+◌, ◌≤◌, List, ℕ, length, IsErrOf};
 ghost use Rattle.std.specs.Io.KnownBytes.{Consumes};
-ghost use Rattle.io_edge.specs.Causes.{Rose, HasCause};
-ghost use Rattle.drive_tape.specs.Reads.{TakesOctet, ReadsLine};
+ghost use Rattle.io_edge.specs.Causes.{Rose};
+ghost use Rattle.drive_tape.specs.Reads.{ReadsLine};
 
-use io_edge::{Failed, Source};
-use std::alloc::{AllocError, Global};
+use line_source::{LineSource, Part, PartFault};
+use std::alloc::Global;
 use std::marker::Model;
 
 /// How many octets a line of a tape may have, its LF among them.
@@ -26,25 +26,16 @@ pub enum LineStop {
     NoMemory,
 }
 
-impl From<Failed> for LineStop {
-    ghost use Rattle.std.specs.Prelude.{◌≡◌};
-    ghost use Rattle.drive_tape.specs.declared.reader.LineStop.TheVariants.{ReadFault};
+impl From<PartFault> for LineStop {
+    ghost use Rattle.drive_tape.specs.Reads.{stop_of};
 
-    ghost from_gives = { λ _ e. e ≡ ReadFault };
+    ghost from_gives = { λ fault stop. stop ≡ stop_of fault };
 
-    fn from(_: Failed) -> LineStop {
-        LineStop::ReadFault
-    }
-}
-
-impl From<AllocError> for LineStop {
-    ghost use Rattle.std.specs.Prelude.{◌≡◌};
-    ghost use Rattle.drive_tape.specs.declared.reader.LineStop.TheVariants.{NoMemory};
-
-    ghost from_gives = { λ _ e. e ≡ NoMemory };
-
-    fn from(_: AllocError) -> LineStop {
-        LineStop::NoMemory
+    fn from(fault: PartFault) -> LineStop {
+        match fault {
+            PartFault::Failed => LineStop::ReadFault,
+            PartFault::NoMemory => LineStop::NoMemory,
+        }
     }
 }
 
@@ -71,19 +62,6 @@ impl Line {
     }
 }
 
-// The next octet; none at the end.
-fn next_octet<S: Source>(source: &mut S) -> Result<Option<u8>, Failed>
-    ensures took { TakesOctet (S.left source.old) (S.left source.new) result }
-    ensures cause { HasCause (S.faults source.old) (S.faults source.new) result }
-{
-    let mut octet = [0u8];
-    let count = source.read(&mut octet)?;
-    if count == 0 {
-        return Ok(None);
-    }
-    Ok(Some(octet[0]))
-}
-
 /// The next line: its octets are taken through its LF, and none after it. `room` is how many octets may
 /// still be taken, and falls by one for each.
 ///
@@ -91,7 +69,7 @@ fn next_octet<S: Source>(source: &mut S) -> Result<Option<u8>, Failed>
 ///
 /// `LongLine` where 65,536 octets were taken without an LF, `TooLong` where no more may be taken,
 /// `EndedEarly` where the source has ended, `ReadFault` where it failed, and `NoMemory`.
-pub(crate) fn next_line<S: Source>(
+pub(crate) fn next_line<S: LineSource>(
     alloc: Global,
     source: &mut S,
     room: &mut u64,
@@ -106,15 +84,17 @@ pub(crate) fn next_line<S: Source>(
         if *room == 0 {
             return Err(LineStop::TooLong);
         }
-        let Some(octet) = next_octet(source)? else {
-            return Err(LineStop::EndedEarly);
-        };
-        *room -= 1;
-        if octet == b'\n' {
-            return Ok(Line { octets });
-        }
-        if octets.push(octet).is_err() {
-            return Err(LineStop::NoMemory);
+        let before = octets.len();
+        let most = (LONGEST - before).min(usize::try_from(*room).unwrap_or(LONGEST));
+        let part = source.take_part(most, &mut octets)?;
+        *room -= (octets.len() - before) as u64;
+        match part {
+            Part::Open => {}
+            Part::End => return Err(LineStop::EndedEarly),
+            Part::Whole => {
+                *room -= 1;
+                return Ok(Line { octets });
+            }
         }
     }
     Err(LineStop::LongLine)

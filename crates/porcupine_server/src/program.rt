@@ -8,7 +8,8 @@ ghost use Rattle.porcupine_server.specs.Complete.{IsGoodTape};
 use crate::real_yard::RealYard;
 use crate::server::porcupine;
 use crate::words::words_of;
-use io_edge::{Sink, Source};
+use io_edge::Sink;
+use line_source::LineSource;
 use std::env::Args;
 use std::io;
 use std::net::{Net, TcpListener, TcpStream};
@@ -22,7 +23,7 @@ use std::time::Clock;
 /// so no run ends for the sake of one.
 pub fn run<
     R: Files + AllocGlobal + Net<Listener = TcpListener, Stream = TcpStream> + Clock + Sync,
-    S: Source,
+    S: LineSource,
     K: Sink,
 >(system: &R, arguments: io::Result<Args>, source: &mut S, sink: &mut K) -> u8
     ensures refused { IsNotText arguments → (result ≡ 1) × (S.left source.new ≡ S.left source.old) }

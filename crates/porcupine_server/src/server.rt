@@ -21,14 +21,15 @@ use crate::ending::{Ending, finish};
 use cluster_world::World;
 use command_words::{Task, read_words};
 use drive_tape::{drive, read_drive_head};
-use io_edge::{Disk, Sink, Source, Yard, write_all};
+use io_edge::{Disk, Sink, Yard, write_all};
+use line_source::LineSource;
 use mail_base::Plan;
 use std::alloc::Global;
 use word_works::{check_plan, write_storm};
 use yard_stores::{give_back_all, take_stores};
 
 // Opens the cluster and handles the run lines. The disks come back in whatever state they are.
-fn serve<S: Source, K: Sink, D: Disk + Drop>(
+fn serve<S: LineSource, K: Sink, D: Disk + Drop>(
     alloc: Global,
     plan: Plan,
     lines: u64,
@@ -61,7 +62,7 @@ fn serve<S: Source, K: Sink, D: Disk + Drop>(
 
 // The work of `drive`: the plan is read, a store for each of its nodes is taken from the yard, they are served, and given
 // back.
-fn work<S: Source, K: Sink, Y: Yard>(
+fn work<S: LineSource, K: Sink, Y: Yard>(
     alloc: Global,
     source: &mut S,
     sink: &mut K,
@@ -98,7 +99,7 @@ fn work<S: Source, K: Sink, Y: Yard>(
 }
 
 // The word `drive`: the work on the tape, and the last line.
-fn drive_word<S: Source, K: Sink, Y: Yard>(
+fn drive_word<S: LineSource, K: Sink, Y: Yard>(
     alloc: Global,
     source: &mut S,
     sink: &mut K,
@@ -139,7 +140,7 @@ fn refuse_words<K: Sink>(sink: &mut K) -> u8
 }
 
 // Does what the words ask for.
-fn answer_task<S: Source, K: Sink, Y: Yard>(
+fn answer_task<S: LineSource, K: Sink, Y: Yard>(
     alloc: Global,
     task: Task<'_>,
     source: &mut S,
@@ -207,7 +208,7 @@ fn answer_task<S: Source, K: Sink, Y: Yard>(
 }
 
 // What the words ask for.
-fn answer_words<S: Source, K: Sink, Y: Yard>(
+fn answer_words<S: LineSource, K: Sink, Y: Yard>(
     alloc: Global,
     words: &[String],
     source: &mut S,
@@ -298,7 +299,7 @@ fn answer_words<S: Source, K: Sink, Y: Yard>(
 ///
 /// What was written before a fault stays. With other words than `drive` nothing is read from the source and no store is taken.
 /// With words of no form the status is 1 even where the line cannot be written.
-pub fn porcupine<S: Source, K: Sink, Y: Yard>(
+pub fn porcupine<S: LineSource, K: Sink, Y: Yard>(
     alloc: Global,
     words: &[String],
     source: &mut S,

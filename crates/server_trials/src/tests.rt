@@ -19,7 +19,8 @@ mod store;
 mod three_nodes;
 mod word_forms;
 
-use io_edge::{MemoryYard, Sink, SliceSource, Source, VecSink, Yard};
+use io_edge::{MemoryYard, Sink, SliceSource, VecSink, Yard};
+use line_source::LineSource;
 use node_disk::MemoryDisk;
 use porcupine_server::porcupine;
 use std::alloc::{AllocError, Global};
@@ -89,7 +90,7 @@ fn yard_of(alloc: Global, failing: u64) -> Result<MemoryYard<MemoryDisk>, AllocE
 
 // What the program answers to the word `drive`. Whoever calls this sees none of the clauses of the top call, which are long, and
 // of which no test needs one.
-fn answered<S: Source, K: Sink, Y: Yard>(
+fn answered<S: LineSource, K: Sink, Y: Yard>(
     alloc: Global,
     source: &mut S,
     sink: &mut K,

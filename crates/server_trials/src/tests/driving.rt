@@ -6,7 +6,8 @@ ghost use Rattle.cluster_world.specs.Opens.{AreEmpty};
 use super::Script;
 use cluster_world::World;
 use drive_tape::{Drove, Entry, Row, TapeFault, drive, read_drive_head, write_entries};
-use io_edge::{Disk, PlainDisk, Sink, SliceSource, Source, VecSink};
+use io_edge::{Disk, PlainDisk, Sink, SliceSource, VecSink};
+use line_source::LineSource;
 use mail_base::Octets;
 use node_disk::MemoryDisk;
 use std::alloc::{AllocError, Global};
@@ -105,7 +106,7 @@ fn three<D: Disk + Drop>(alloc: Global, first: D, second: D, third: D) -> Result
 }
 
 // What the tape leads to on those disks, and the counts of the book.
-fn run<S: Source, K: Sink, D: Disk + Drop>(
+fn run<S: LineSource, K: Sink, D: Disk + Drop>(
     alloc: Global,
     source: &mut S,
     sink: &mut K,
