@@ -55,5 +55,6 @@ concludes old new g buckets membership before letters some h copied entered sent
           };
       epoch = (h.group, h.opened, ap (λ (m : Membership). m.epoch) h.is);
       own = ap (λ (k : Kept). k.own) e.1;
+      boot = ap (λ (k : Kept). k.boot) e.1;
       held = e.2;
     }

@@ -23,11 +23,12 @@ abbrev pub StartsAs : {E : Type 0} → ℕ → Result (List Letter) E → NodeMa
 StartsAs nodes (Ok letters) old new = OpensGroup nodes letters old new
 StartsAs nodes (Err refused) old new = KeepsNode old new
 
--- The open group is concluded, by a node whose own join stands in it.
+-- The open group is concluded. Where the node's own join stands in it, that is done by the machine's rule.
 pub record ConcludesGroup (buckets : ℕ) (done : Concluded) (old new : NodeMaps) : Type 0 where
   pub did : (disk : Disk) → IsDisk old disk → NodeInOrder (own_of old) (node_of old) disk → rules.Concludes (own_of old) buckets (node_of old) disk (left_by new None disk done.letters)
   pub epoch : (group : OpenGroup) × (old.group.opened ≡ Some group) × (done.epoch ≡ group.epoch)
   pub own : own_of new ≡ own_of old
+  pub boot : (node_of new).boot ≡ (node_of old).boot
   pub held : new.fragments ≡ old.fragments
 
 abbrev pub ConcludesOrNot : ℕ → Option Concluded → NodeMaps → NodeMaps → Type 0

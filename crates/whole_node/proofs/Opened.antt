@@ -35,7 +35,7 @@ use Rattle.node_core.specs.declared.node.Node.{Node}
 use Rattle.node_core.proofs.Sending.{none_fit}
 use Rattle.whole_node.specs.Nodes.{joint_seen, KnowsHere, HasMaps, WholeWorks}
 use Rattle.whole_node.specs.Hearing.{FitsMaps, appends_promise}
-use Rattle.whole_node.specs.Grouping.{next_of, GroupOpened, Unopened, StopsOpening, OpensGroup, ConcludedBy, HasJoined, GroupConcluded, ConcludesOrNot, ConcludesGroup}
+use Rattle.whole_node.specs.Grouping.{next_of, GroupOpened, Unopened, StopsOpening, OpensGroup, ConcludedBy, GroupConcluded, ConcludesOrNot, ConcludesGroup}
 use Rattle.whole_node.specs.Reporting.{users_first, ReportedBy, ReportsTo}
 use Rattle.whole_node.specs.declared.grouping.Grouped.{Grouped}
 use Rattle.whole_node.specs.declared.node.WholeNode.{WholeNode}
@@ -166,10 +166,10 @@ module _ (buckets : ℕ) (done : Concluded) (old new : WholeNode) (has : HasMaps
     mail = mail;
   }
 
-  pub concluded_has : HasJoined old → HasMaps new
-  concluded_has joined = record {
+  pub concluded_has : HasMaps new
+  concluded_has = record {
     own = c.own ∙ has.own ∙ ap (λ (n : Node). n.store.own) (sym mail);
-    boot = ap (λ (r : rules.Reaction). r.node.boot) (concludes joined.records joined.keeps joined.order).is ∙ has.boot ∙ ap (λ (n : Node). (node_seen n).boot) (sym mail);
+    boot = c.boot ∙ has.boot ∙ ap (λ (n : Node). (node_seen n).boot) (sym mail);
     records = has.records;
     keeps = subst (NodeKeeps has.records) (sym mail) has.keeps;
     knows = λ user id. ap (λ (f : Fragments). is_here_in f user id) c.held ∙ has.knows user id;

@@ -64,13 +64,7 @@ pub record ConcludedBy (buckets : ℕ) (done : Concluded) (old new : WholeNode) 
   pub concludes : rules.Concludes old.mail.store.own buckets (node_of old.maps) (maps_disk_of records) did
   pub left : record { node = joint_seen new; disk = records ++ promise_records None; out = done.letters } ≡ done_for_maps (joint_seen old) records did None did.out
 
--- The node is in order: its own join stands in its open group.
-pub record HasJoined (node : WholeNode) : Type 0 where
-  pub records : List Record
-  pub keeps : NodeKeeps records node.mail
-  pub order : NodeInOrder node.mail.store.own (node_of node.maps) (maps_disk_of records)
-
--- The group is concluded. Its letters are in rising order of receiver.
+-- The group is concluded. Its letters are in rising order of receiver. Where the node is in order, its own join stands in its open group, and that is done by the machine's rule.
 pub record GroupConcluded (buckets : ℕ) (done : Concluded) (old new : WholeNode) : Type 0 where
   pub rule : (records : List Record) → NodeKeeps records old.mail → NodeInOrder old.mail.store.own (node_of old.maps) (maps_disk_of records) → ConcludedBy buckets done old new records
   pub epoch : (group : OpenGroup) × ((node_of old.maps).group ≡ Some group) × (done.epoch ≡ group.epoch)

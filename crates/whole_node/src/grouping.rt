@@ -3,7 +3,7 @@ ghost use Rattle.std.specs.Prelude.{◌≡◌, ◌≤◌, ◌<◌, ℕ, List, Op
 ghost use Rattle.node_store.specs.Disks.{view_of};
 ghost use Rattle.node_core.specs.Works.{LeavesUp};
 ghost use Rattle.whole_node.specs.Nodes.{WholeWorks};
-ghost use Rattle.whole_node.specs.Grouping.{OpensGroup, ConcludesGroup, HasJoined};
+ghost use Rattle.whole_node.specs.Grouping.{OpensGroup, ConcludesGroup};
 
 use crate::node::WholeNode;
 use io_edge::Disk;
@@ -72,7 +72,7 @@ impl WholeNode {
     pub fn conclude(&mut self, alloc: Global, buckets: u32) -> Result<Option<Concluded>, NodeFault>
         requires some { 0 < buckets }
         ensures concludes { (seen : Option (List ℕ)) → WholeWorks seen self.old → ConcludesGroup buckets result self.old self.new }
-        ensures works { (seen : Option (List ℕ)) → WholeWorks seen self.old → HasJoined self.old → LeavesUp result → WholeWorks seen self.new }
+        ensures works { (seen : Option (List ℕ)) → WholeWorks seen self.old → LeavesUp result → WholeWorks seen self.new }
     {
         match self.maps.conclude(alloc, buckets) {
             Ok(done) => Ok(done),

@@ -399,7 +399,8 @@ module _ (plan : Plan) (old : World) (stands : Stands plan old) where
   short_stand tells step n new (Starting disk pending next records is here stops new_world) = stops_stand tells n disk pending next records new here stops new_world
   short_stand tells step n new (Promising node disk promise up why g) = cut_stands n node disk up promise (⊎_elim
       (λ (is, p). λ epoch e. next_above n node disk up epoch (sym p ∙ e))
-      (λ (number, keep, flies, is, at, p). λ epoch e. promised_above node.maps flies.letter.body epoch (sym p ∙ e))
+      (⊎_elim (λ (is, p). λ epoch e. absurd (cc (sym p ∙ e)))
+      (λ (number, keep, flies, is, at, p). λ epoch e. promised_above node.maps flies.letter.body epoch (sym p ∙ e)))
       why) new g
 
   pub makes_stand : (tells : Bool) (step : Step) (outcome : StepOutcome) (new : World) → MakesStep plan tells old step outcome new → Stands plan new

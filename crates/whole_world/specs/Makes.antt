@@ -139,7 +139,7 @@ pub data DoesStep (plan : Plan) (tells : Bool) (old : World) (step : Step) (said
   ConcludesGroup : (n : ℕ) → step ≡ ConcludeGroup n → Forms plan old n said new → DoesStep plan tells old step said new
   SendsReports : (from to : ℕ) → step ≡ ReportTo from to → Reports plan old from to said new → DoesStep plan tells old step said new
 
--- Memory ran out in a step that had begun its work on a disk: some records are written, and the node is down. A letter that was posted stays in flight.
+-- Memory ran out in a step that had begun its work: some records are written, and the node is down. A conclusion writes none. A letter that was posted stays in flight.
 pub data RunsShort (plan : Plan) (old : World) (step : Step) (n : ℕ) (new : World) : Type 0 where
   InMessages : (one : mail_steps.Step) → step ≡ OfMessages one → IsForMessages old one → mail_makes.RunsShort plan (mail_world_of old) one n (mail_world_of new) → FollowsAlong old new
       → RunsShort plan old step n new
@@ -149,6 +149,7 @@ pub data RunsShort (plan : Plan) (old : World) (step : Step) (n : ℕ) (new : Wo
       → RunsShort plan old step n new
   Promising : (node : Node) (disk : List Record) (promise : Option EpochId) → IsUp old n node disk
       → ((step ≡ OpenGroup n) × (promise ≡ Some (maps_rules.next_epoch n node.maps)))
+      ⊎ ((step ≡ ConcludeGroup n) × (promise ≡ None))
       ⊎ ((number : ℕ) × (keep : Bool) × (flies : mail.Flies (mail_world_of old) number) × (step ≡ OfMessages (Post number keep)) × (flies.letter.to ≡ n) × (promise ≡ promise_by node.maps flies.letter.body))
       → NodeGoesDown old n disk (promise_records promise) new
       → RunsShort plan old step n new

@@ -7,5 +7,5 @@ returns-in-Ok-clause-concludes c = λ seen w.
     concluded_or_not c.args.buckets c.in-Ok.done c.args.self.now (record { mail = c.args.self.now.mail; maps = c.conclude.new.self }) w.maps c.in-Ok.ensures refl
 
 pub returns-in-Ok-clause-works : goal.returns-in-Ok-clause-works
-returns-in-Ok-clause-works c = λ seen w joined up.
-    concluded_works c.args.buckets c.in-Ok.done c.args.self.now (record { mail = c.args.self.now.mail; maps = c.conclude.new.self }) seen w c.in-Ok.ensures refl joined
+returns-in-Ok-clause-works c = λ seen w up.
+    concluded_works c.args.buckets c.in-Ok.done c.args.self.now (record { mail = c.args.self.now.mail; maps = c.conclude.new.self }) seen w c.in-Ok.ensures refl
