@@ -1,0 +1,30 @@
+//! Three whole nodes by hand: what each answers, and which letters it sends.
+//!
+//! A table is a text. Each line begins with what is done, in six columns, and goes on behind ` >` with what comes of it. All
+//! nodes are up in their first boots as a table begins. A letter is named by its kind, its sender and its receiver, as `G12`; of
+//! several that are named alike the first in flight is meant. The kinds are Group, Join, Install, Report and A for its
+//! acknowledgement, File and f for Filed.
+//!
+//! ```text
+//! s 3    > 2 1.1           node 3 starts: its boot, and the last promise on its disk
+//! h 3    >                 it stops
+//! x 3 2  >                 the second disk call that it makes from now on fails
+//! w 3    >                 its next start finds all that was written, and not only what was synced
+//! o 1    > 1.1 G12 G13     node 1 opens a group: its epoch, and the letters that are sent
+//! c 1    > 1.1 I12 I13     it concludes it; `none` where it has none
+//! p G12  > J21             the letter is posted; why it was thrown comes first
+//! a G12  > J21             it is posted, and stays in flight
+//! d G12  >                 it is dropped
+//! m 3    > F31             a message to ann begins at node 3
+//! r 3 1  > R31             node 3 reports to node 1
+//! n 1    > 3               whom node 1 names as having mail of ann; `none` where it names nobody
+//! l 1    > 1.1 1.1 11 21   its promise, the epoch that it is in, and the members with their boots; `none` where it is in none
+//! ```
+mod cluster;
+mod lines;
+mod orders;
+mod rounds;
+mod rows;
+mod says;
+mod site;
+mod stops;
