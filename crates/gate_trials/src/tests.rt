@@ -167,6 +167,44 @@ fn a_long_line_has_its_reply(rt: HostRuntime) -> Result<(), Fail> {
     Ok(())
 }
 
+// A message to 100 recipients; one more is not taken.
+#[test]
+fn a_hundred_recipients_are_taken(rt: HostRuntime) -> Result<(), Fail> {
+    let alloc = rt.alloc();
+    let mut says = b"HELO c\r\nMAIL FROM:<a>\r\n".to_vec(alloc)?;
+    let mut hears = b"220 node1 Porcupine ready\r\n250 node1\r\n250 sender ok\r\n".to_vec(alloc)?;
+    for number in 1..102u16 {
+        says.extend_from_slice(b"RCPT TO:<")?;
+        says.extend_from_slice(&users::numbered(number))?;
+        says.extend_from_slice(b">\r\n")?;
+        hears.extend_from_slice(if number > 100 {
+            b"452 too many recipients\r\n"
+        } else {
+            b"250 recipient ok\r\n"
+        })?;
+    }
+    says.extend_from_slice(b"DATA\r\nx\r\n.\r\nQUIT\r\n")?;
+    hears.extend_from_slice(tables::TAKEN)?;
+    let written = heard(&rt, alloc, false, b"", &says)?;
+    assert!(rt; written.as_slice() == hears.as_slice());
+    Ok(())
+}
+
+// A text of 16,777,217 octets, told in lines of 65 and one of 2.
+#[test]
+fn a_text_has_a_greatest_length(rt: HostRuntime) -> Result<(), Fail> {
+    let alloc = rt.alloc();
+    let mut says = tables::BEGINS.to_vec(alloc)?;
+    for _ in 0..258_111u32 {
+        says.extend_from_slice(&[b'x'; 63])?;
+        says.extend_from_slice(b"\r\n")?;
+    }
+    says.extend_from_slice(b"\r\n.\r\nQUIT\r\n")?;
+    let written = heard(&rt, alloc, false, b"", &says)?;
+    assert!(rt; written.as_slice() == tables::TOO_LARGE);
+    Ok(())
+}
+
 // Whichever write fails, a prefix was written; and no call is begun once one has failed.
 #[test]
 fn any_write_may_fail(rt: HostRuntime) -> Result<(), Fail> {

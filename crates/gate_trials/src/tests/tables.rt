@@ -19,6 +19,16 @@ const STORED: &[u8] =
 const NOT_STORED: &[u8] =
     b"220 node1 Porcupine ready\r\n250 node1\r\n250 sender ok\r\n250 recipient ok\r\n354 end with a line that is a single period\r\n451 not stored, try again\r\n221 node1 closing\r\n";
 
+// What is heard once a hundred recipients were taken.
+pub(super) const TAKEN: &[u8] =
+    b"354 end with a line that is a single period\r\n250 stored\r\n221 node1 closing\r\n";
+
+// A message as far as its text, and what is heard of one whose text is too large.
+pub(super) const BEGINS: &[u8] = b"HELO c\r\nMAIL FROM:<a>\r\nRCPT TO:<alice>\r\nDATA\r\n";
+
+pub(super) const TOO_LARGE: &[u8] =
+    b"220 node1 Porcupine ready\r\n250 node1\r\n250 sender ok\r\n250 recipient ok\r\n354 end with a line that is a single period\r\n552 message too large\r\n221 node1 closing\r\n";
+
 const MAIL_DOWN: &[u8] =
     b"220 node1 Porcupine ready\r\n250 node1\r\n250 sender ok\r\n250 recipient ok\r\n354 end with a line that is a single period\r\n421 node1 down\r\n";
 
