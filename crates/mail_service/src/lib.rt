@@ -17,11 +17,15 @@
 //! - `console`: `listen` reads lines until `stop`, has each obeyed, and writes what is said of it. A line of more than 65,535
 //!   octets without its LF is passed over, and answered `! line N BadLine`. One CR at the end of a line is dropped.
 //! - `yards`: `open_doors` takes the doors from a yard, and `shut_all` gives them back.
+//! - `service`: `run_service` does all of it, from beginning to end: opens a door at each port, calls them, serves, carries and
+//!   listens side by side, and ends in order once the console has ended. Where no thread can be made, one does its work after
+//!   another: the console first, then the doors, then those who serve, and the courier last.
 //!
 //! DIAGNOSTICS
 //!
 //! `DoorEnd::Quiet` is said only where each door has found nobody while it was out: its number of quiet calls rose, and where it
-//! tells which connections are left, none is. `Failed` is said only where the count of some door rose. `ConsoleEnd::ReadFault` and
+//! tells which connections are left, none is. `Failed` is said only where the count of some door rose. A door that was handed out
+//! is given back however a service ends. `ConsoleEnd::ReadFault` and
 //! `WriteFault` come only where the count of the source or the sink rose.
 //!
 //! COSTS
@@ -40,11 +44,13 @@
 mod backend;
 mod console;
 mod doors;
+mod service;
 mod workers;
 mod yards;
 
 pub use backend::{Backend, Line};
 pub use console::{ConsoleEnd, listen};
 pub use doors::{Conn, DoorEnd, Entrance, Watch, attend_all};
+pub use service::{ServiceEnd, run_service};
 pub use workers::{serve_all, work_all};
 pub use yards::{Port, open_doors, shut_all};

@@ -173,8 +173,14 @@ pub fn serve_all<
     let served = AtomicBool::new(false);
     let ended = &served;
     let courier = backend.split(&mut pass, 1);
-    let (mut pass, courier) = join(
+    // Where no thread can be made the second is called first: there is an end of carrying only once all were served.
+    let (courier, mut pass) = join(
         rt,
+        || -> B::Pass
+            requires belongs { B.belongs backend.now courier }
+            ensures belongs { B.belongs backend.entry.now result }
+            ensures quota { B.quota result ≡ B.quota courier }
+        { carry_all(rt, alloc, backend, courier, ended) },
         || -> B::Pass
             requires sync { IsSync R.row × IsSync B.row }
             requires belongs { B.belongs backend.now pass }
@@ -182,11 +188,6 @@ pub fn serve_all<
             ensures belongs { B.belongs backend.entry.now result }
             ensures quota { B.quota result ≡ B.quota pass }
         { work_out(rt, alloc, backend, pass, count, conns, ended) },
-        || -> B::Pass
-            requires belongs { B.belongs backend.now courier }
-            ensures belongs { B.belongs backend.entry.now result }
-            ensures quota { B.quota result ≡ B.quota courier }
-        { carry_all(rt, alloc, backend, courier, ended) },
     );
     backend.join(&mut pass, courier);
     pass

@@ -1,8 +1,9 @@
 //! Doors that a yard hands out and takes back.
-ghost use Rattle.std.specs.Prelude.{◌≡◌, ◌≤◌, [], length, map, vec_capacity, IsErrOf};
+ghost use Rattle.std.specs.Prelude.{◌≡◌, ◌≤◌, [], length, map, vec_capacity, IsErrOf, OnOk};
 ghost use Rattle.io_edge.specs.Causes.{Rose};
 ghost use Rattle.yard_stores.specs.Taken.{with_all, TellsAll};
 ghost use Rattle.mail_service.specs.Entrances.{marked};
+ghost use Rattle.mail_service.specs.Services.{place_of, place_at};
 
 use crate::doors::Entrance;
 use io_edge::{Protocol, Yard, YardRefusal};
@@ -26,6 +27,7 @@ pub fn open_doors<Y: Yard>(
 ) -> Result<(), YardRefusal>
     requires none { entrances.old.items ≡ [] }
     requires room { length ports.now ≤ vec_capacity entrances.old }
+    ensures each { OnOk result (map place_of entrances.new.items ≡ map place_at ports.now) }
     ensures opened { Y.opened yard.new ≡ with_all (Y.opened yard.old) (map marked entrances.new.items) }
     ensures closed { Y.closed yard.new ≡ Y.closed yard.old }
     ensures handed { Y.handed yard.new ≡ Y.handed yard.old }
