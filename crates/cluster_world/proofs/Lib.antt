@@ -53,3 +53,4 @@ pub mod Unchanged
 pub mod Whole
 pub mod Widening
 pub mod Worked
+mod Stationed

@@ -1,6 +1,7 @@
 pub mod Flights
 pub mod Books
 pub mod Lives
+pub mod Stations
 pub mod Stands
 pub mod Seen
 pub mod Sums

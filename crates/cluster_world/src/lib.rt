@@ -77,21 +77,23 @@
 //!
 //! STANDS ON
 //!
-//! `node_core` for what a node does, `node_tickets` and `call_tickets` for tickets and answers, `world_book` for the book,
-//! `io_edge` for disks, `mail_base` for plans, letters and ids; the machine is that of `cluster_model`, and what a cluster owes
-//! is said in `cluster_owes` and `session_model`.
+//! `node_core` for what a node does and `whole_node` for the node that does it, with its maps, `node_tickets` and `call_tickets`
+//! for tickets and answers, `world_book` for the book, `io_edge` for disks, `mail_base` for plans, letters and ids; the machine is
+//! that of `cluster_model`, and what a cluster owes is said in `cluster_owes` and `session_model`.
 //!
 //! WHAT IT DOES NOT DO
 //!
 //! Its clock stands still between two ticks, and shows 0 before the first. It sends nothing by itself, tries nothing again, and
 //! starts no node that is down. All nodes of the plan are the members, in the one epoch of a plan. In a plan of several nodes the calls of a
-//! POP3 session are not begun yet.
+//! POP3 session are not begun yet. Each node that is up has its mail maps, which follow what its disk says is here; no letter of
+//! membership or maps is sent yet, and no clause speaks of them.
 #![tactic(auto)]
 
 mod entries;
 mod fault;
 mod flight;
 mod flying;
+mod held;
 mod laws;
 mod life;
 mod limits;
@@ -101,6 +103,7 @@ mod opening;
 mod refusal;
 mod running;
 mod sending;
+mod station;
 mod step;
 mod steps;
 mod sum;

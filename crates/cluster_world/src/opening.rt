@@ -6,12 +6,13 @@ ghost use Rattle.world_book.specs.Books.{entries_of, spare_of};
 ghost use Rattle.cluster_world.specs.Opens.{AreEmpty, OpensSo, OpensNext, AllOpen};
 
 use crate::fault::OpenFault;
-use crate::life::Life;
 use crate::nodes::node_at;
+use crate::station::Station;
 use io_edge::Disk;
 use mail_base::{NodeNo, Plan};
-use node_core::{Node, NodeFault};
+use node_core::NodeFault;
 use std::alloc::{AllocError, Global};
+use whole_node::WholeNode;
 use world_book::Book;
 
 /// Starts a node in its first boot on its disk, which is empty.
@@ -20,7 +21,7 @@ fn open_node<D: Disk>(
     disk: &mut D,
     plan: &Plan,
     node: NodeNo,
-) -> Result<Life, OpenFault>
+) -> Result<Station, OpenFault>
     requires empty { IfSome (D.seen disk.old) (λ held. held ≡ []) }
     requires within { node ≤ plan.now.nodes }
     requires few { plan.now.nodes ≤ 16 }
@@ -29,8 +30,8 @@ fn open_node<D: Disk>(
     ensures told { IsToldAlike (D.seen disk.old) (D.seen disk.new) }
     ensures later { D.faults disk.old ≤ D.faults disk.new }
 {
-    match Node::first(alloc, disk, plan, node) {
-        Ok(up) => Ok(Life::Up(up)),
+    match WholeNode::first(alloc, disk, plan, node) {
+        Ok(up) => Ok(Station::up(up)),
         Err(NodeFault::Disk) => Err(OpenFault::DiskFault(node)),
         Err(NodeFault::Worn) => unreachable!(),
         Err(NodeFault::NoMemory { .. }) => Err(OpenFault::NoMemory),
@@ -42,7 +43,7 @@ fn open_next<D: Disk>(
     alloc: Global,
     plan: &Plan,
     disks: &mut Vec<D>,
-    lives: &mut Vec<Life>,
+    lives: &mut Vec<Station>,
 ) -> Result<(), OpenFault>
     requires next { length lives.old.items < length disks.old.items }
     requires each { length disks.old.items ≤ plan.now.nodes }
@@ -64,7 +65,7 @@ pub(crate) fn open_all<D: Disk>(
     alloc: Global,
     plan: &Plan,
     disks: &mut Vec<D>,
-    lives: &mut Vec<Life>,
+    lives: &mut Vec<Station>,
 ) -> Result<(), OpenFault>
     requires none { lives.old.items ≡ [] }
     requires each { length disks.old.items ≡ plan.now.nodes }

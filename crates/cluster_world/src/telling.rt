@@ -13,8 +13,8 @@ ghost use Rattle.cluster_world.specs.Worlds.{state_of, plan_of, life_of, book_of
 ghost use Rattle.cluster_world.specs.Telling.{standing_on, standing_in};
 ghost use Rattle.cluster_world.specs.declared.life.Life.TheVariants as lives;
 
-use crate::life::Life;
 use crate::nodes::numbered;
+use crate::station::Station;
 use crate::steps::ask::{node_of, ticket_of};
 use crate::sum::{BookSum, sum};
 use crate::world::World;
@@ -33,26 +33,24 @@ fn first_nodes(nodes: u8) -> NodeSet
 }
 
 /// The kind of the call of the ticket at a node, if it stands there.
-fn kind_at(life: &Life, ticket: &Ticket) -> Option<CallKind>
+fn kind_at(life: &Station, ticket: &Ticket) -> Option<CallKind>
     requires whole { (node : ANode) → life.now ≡ lives.Up node → IsWhole node }
     ensures { call_kind_seen result ≡ kind_of_ticket (standing_on (Some life.now) ticket.now) }
 {
-    match life {
-        Life::Up(node) => node.kind(ticket_of(ticket)),
-        Life::Down => None,
-        Life::Lost => None,
+    match life.mail() {
+        Some(node) => node.kind(ticket_of(ticket)),
+        None => None,
     }
 }
 
 /// What the delivery of the ticket filed at a node, if it stands there.
-fn filing_in<'a>(life: &'a Life, ticket: &Ticket) -> Option<&'a Filing>
+fn filing_in<'a>(life: &'a Station, ticket: &Ticket) -> Option<&'a Filing>
     requires whole { (node : ANode) → life.now ≡ lives.Up node → IsWhole node }
     ensures { filed_seen (option_copied result) ≡ filing_at (standing_on (Some life.now) ticket.now) }
 {
-    match life {
-        Life::Up(node) => node.filing(ticket_of(ticket)),
-        Life::Down => None,
-        Life::Lost => None,
+    match life.mail() {
+        Some(node) => node.filing(ticket_of(ticket)),
+        None => None,
     }
 }
 

@@ -5,9 +5,9 @@ ghost use Rattle.cluster_world.specs.Lives.{all_falls_left};
 
 use crate::fault::{OpenFault, StepFault};
 use crate::flying::Flying;
-use crate::life::Life;
 use crate::nodes::Nodes;
 use crate::opening::{open_all, roomy_book};
+use crate::station::Station;
 use crate::step::{Said, Step};
 use crate::steps::ask::ask_for;
 use crate::steps::begin::begin_call;
@@ -41,7 +41,7 @@ pub struct World<D> {
 
 #[tactic(auto, using(crate::proofs::Turned::most_falls))]
 /// A world of these nodes, in which nothing has been done.
-fn opened<D>(alloc: Global, plan: Plan, lives: Vec<Life>, disks: Vec<D>, book: Book) -> World<D>
+fn opened<D>(alloc: Global, plan: Plan, lives: Vec<Station>, disks: Vec<D>, book: Book) -> World<D>
     requires few { plan.nodes ≤ 16 }
     requires copied { 1 ≤ plan.copies }
     requires all { length lives.items ≡ plan.nodes }

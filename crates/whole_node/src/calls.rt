@@ -57,7 +57,7 @@ impl WholeNode {
     }
 
     /// Hears a letter of messages that is for this node, or throws it, as `Node::hear`, and notes the copies that it speaks of.
-    pub(crate) fn hear_mail<D: Disk>(
+    pub fn hear_mail<D: Disk>(
         &mut self,
         alloc: Global,
         disk: &mut D,

@@ -46,8 +46,8 @@
 //!
 //! WHAT IT DOES NOT DO
 //!
-//! The half for messages still has all nodes of the plan as members: an epoch is known to the maps alone. Nothing stands on this
-//! crate yet.
+//! The half for messages still has all nodes of the plan as members: an epoch is known to the maps alone. A world has its nodes
+//! hear letters of messages alone (`hear_mail`), and forms no groups yet.
 #![tactic(auto)]
 
 mod calls;

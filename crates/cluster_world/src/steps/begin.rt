@@ -20,9 +20,9 @@ ghost use Rattle.cluster_world.specs.declared.step.Step.TheVariants.{Begin};
 
 use crate::fault::StepFault;
 use crate::flying::{Flying, is_worn};
-use crate::life::Life;
 use crate::nodes::{Nodes, place_of};
 use crate::sending::send;
+use crate::station::Station;
 use crate::step::Said;
 use crate::steps::fault::{enter_fall, said_of, takes_down};
 use crate::working::begin_at;
@@ -216,7 +216,7 @@ fn go_on<D: Disk>(
     ensures spare { spare_of book.old ≤ spare_of book.new + length entries.items + 1 }
 {
     if send_some(alloc, nodes, flying, letters).is_err() {
-        nodes.turn(node, Life::Down);
+        nodes.turn(node, Station::down());
         enter_failure(book, node, entries);
         return Err(StepFault::NoMemory { down: Some(node) });
     }

@@ -16,10 +16,10 @@ ghost use Rattle.cluster_world.specs.declared.fault.StepFault.TheVariants as fau
 
 use crate::fault::StepFault;
 use crate::flying::{Flying, is_worn};
-use crate::life::Life;
 use crate::mishaps::note_in;
 use crate::nodes::{Nodes, place_of};
 use crate::sending::send;
+use crate::station::Station;
 use crate::step::Said;
 use crate::steps::fault::{enter_fall, note_fall, said_of};
 use crate::working::hear_at;
@@ -117,7 +117,7 @@ fn fall_short<D>(nodes: &mut Nodes<D>, book: &mut Book, node: NodeNo) -> StepFau
     ensures turned { ChangesNode node (IsTurnedTo lives.Down) nodes.old nodes.new }
     ensures entered { IsEntered node book.old book.new }
 {
-    nodes.turn(node, Life::Down);
+    nodes.turn(node, Station::down());
     enter_fall(book, node);
     StepFault::NoMemory { down: Some(node) }
 }

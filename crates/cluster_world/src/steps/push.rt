@@ -17,10 +17,10 @@ ghost use Rattle.cluster_world.specs.declared.fault.StepFault.TheVariants.{NoMem
 
 use crate::fault::StepFault;
 use crate::flying::{Flying, is_worn};
-use crate::life::Life;
 use crate::limits::{MOST_LETTERS, MOST_OCTETS};
 use crate::nodes::{Nodes, place_of};
 use crate::sending::send;
+use crate::station::Station;
 use crate::step::Said;
 use crate::steps::fault::tell_fault;
 use crate::working::push_at;
@@ -50,7 +50,7 @@ fn octets_left(flying: &Flying) -> u64
 /// Whether something is due to the other node, and not even the first letter finds room.
 fn is_crowded_at(
     alloc: Global,
-    life: &Life,
+    life: &Station,
     to: NodeNo,
     most: usize,
     room: u64,
@@ -58,9 +58,9 @@ fn is_crowded_at(
     requires up { IsUpWhole life.now }
     ensures { IfOk result (λ crowded. IsCrowdedAt to most room crowded life.now) }
 {
-    match life {
-        Life::Up(node) => node.is_crowded(alloc, to, most, room),
-        Life::Down | Life::Lost => unreachable!(),
+    match life.mail() {
+        Some(node) => node.is_crowded(alloc, to, most, room),
+        None => unreachable!(),
     }
 }
 

@@ -12,20 +12,21 @@ ghost use Rattle.cluster_world.specs.declared.life.Life.TheVariants as lives;
 
 use crate::fault::StepFault;
 use crate::flying::{Flying, is_worn};
-use crate::life::Life;
 use crate::nodes::{Nodes, put_life};
+use crate::station::Station;
 use crate::step::Said;
 use crate::steps::fault::tell_fault;
 use io_edge::Disk;
 use mail_base::{NodeNo, Plan};
-use node_core::{Node, NodeFault};
+use node_core::NodeFault;
 use std::alloc::Global;
+use whole_node::WholeNode;
 use world_book::{Book, Entry};
 
 /// Starts a node that is down over its disk. It answers its boot.
 pub(crate) fn start_at<D: Disk>(
     alloc: Global,
-    life: &mut Life,
+    life: &mut Station,
     disk: &mut D,
     plan: &Plan,
     node: NodeNo,
@@ -36,9 +37,9 @@ pub(crate) fn start_at<D: Disk>(
     requires copies { 1 ≤ plan.now.copies }
     ensures { HasStarted (view_of D.seen D.faults D.clock) plan.now node D.settled result life.old disk.old life.new disk.new }
 {
-    let up = Node::start(alloc, disk, plan, node)?;
-    let boot = up.boot();
-    put_life(life, Life::Up(up));
+    let up = WholeNode::start(alloc, disk, plan, node)?;
+    let boot = up.mail().boot();
+    put_life(life, Station::up(up));
     Ok(boot)
 }
 

@@ -1,11 +1,12 @@
-use Rattle.std.proofs.Common.{refl}
+use Rattle.std.proofs.Common.{◌∙◌}
+use Rattle.cluster_world.proofs.Stationed.{whole_of, turned_station}
 use Rattle.cluster_world.proofs.working.hear_at.Goals as goal
 
+pub hear_held-requires-clause-up : goal.hear_held-requires-clause-up
+hear_held-requires-clause-up g c = let (node, is, works) = c.requires.up in whole_of c.life.inside.held node _ (c.life.view_is ∙ is) c.life.invariant works
+
 pub returns-clause-turns : goal.returns-clause-turns
-returns-clause-turns g c = record {
-  old = c.in-Up.node;
-  new = c.hear-done.new.self;
-  was = c.in-Up.is;
-  did = c.hear-done.ensures.hears;
-  is = c.settle.ensures _ refl;
-}
+returns-clause-turns g c = turned_station c.life.view_is c.hear_held.ensures.turns
+
+pub invariant_of-life : goal.invariant_of-life
+invariant_of-life g c = c.hear_held.ensures.maps

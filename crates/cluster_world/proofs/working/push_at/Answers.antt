@@ -1,11 +1,12 @@
-use Rattle.std.proofs.Common.{refl}
+use Rattle.std.proofs.Common.{◌∙◌}
+use Rattle.cluster_world.proofs.Stationed.{whole_of, turned_station}
 use Rattle.cluster_world.proofs.working.push_at.Goals as goal
 
+pub push_held-requires : goal.push_held-requires
+push_held-requires g c = let (node, is, works) = c.requires.up in record { up = whole_of c.life.inside.held node _ (c.life.view_is ∙ is) c.life.invariant works }
+
 pub returns-clause-turns : goal.returns-clause-turns
-returns-clause-turns g c = record {
-  old = c.in-Up.node;
-  new = c.push-done.new.self;
-  was = c.in-Up.is;
-  did = c.push-done.ensures.pushes;
-  is = c.settle.ensures _ refl;
-}
+returns-clause-turns g c = turned_station c.life.view_is c.push_held.ensures.turns
+
+pub invariant_of-life : goal.invariant_of-life
+invariant_of-life g c = c.push_held.ensures.maps

@@ -8,6 +8,7 @@ begin_at-requires g c =
     record {
       up = begin_place (view_of g.D.Disk.seen g.D.Disk.faults g.D.Disk.clock) c.args.node c.args.call _ c.args.nodes.now c.nodes.view_is c.requires.fit c.requires.works c.place_of-place.result c.place_of-place.ensures
           _ _ _ _ c.index_mut.ensures.value c.index_mut-2.ensures.value;
+      ended = c.requires.ended;
     }
 
 pub returns : goal.returns
