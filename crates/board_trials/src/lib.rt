@@ -1,0 +1,34 @@
+//! board_trials: calls, clients and letters at a board.
+//!
+//! SUMMARY
+//!
+//! Tests of `shard_board` and `board_desk` by their public calls, over worlds of one node and of three. `Lots` is a fate that is
+//! written down. `open_plain` opens a world of one node over a disk that never fails.
+//!
+//! DESCRIPTION
+//!
+//! | File | What is tried |
+//! |---|---|
+//! | `tests/orders.rt` | a table of calls in the name of two passes: calls of sessions, letters, what an operator orders, entries of the book |
+//! | `tests/letters.rt` | a table of fates: letters that are dropped, and letters that are handed over twice; and what a message comes to |
+//! | `tests/joins.rt` | a pass that has made no call takes another in, and reads the entry that this one made; a call is given up; what both counted |
+//! | `tests/work.rt` | four passes with 1,000 rounds each, of a message, a deletion and an order; then the book, the store and what the passes counted are held against what was told in the name of each |
+//! | `tests/clients.rt` | a client who sends and one who reads; and clients at a cluster whose letters are lost or come twice |
+//!
+//! STANDS ON
+//!
+//! `shard_board`, `board_desk` and `session_gate`, by their public calls alone; `cluster_trials` for clusters over disks in memory.
+//!
+//! WHAT IT DOES NOT DO
+//!
+//! It is a crate of its own since a crate is proved once more with its tests. Nothing stands on it. All passes are used by one
+//! thread. No number is used up, and memory does not run out.
+#![tactic(auto)]
+
+mod fresh;
+mod lots;
+#[cfg(test)]
+mod tests;
+
+pub use fresh::{message, name, open_plain, plan};
+pub use lots::Lots;
