@@ -4,7 +4,7 @@ ghost use Rattle.std.specs.Io.KnownBytes.{Consumes};
 ghost use Rattle.io_edge.specs.Causes.{Rose};
 ghost use Rattle.drive_tape.specs.Reads.{ReadsLine};
 
-use line_source::{LineSource, Part, PartFault};
+use line_source::{LinePart, LineSource, PartFault};
 use std::alloc::Global;
 use std::marker::Model;
 
@@ -89,9 +89,9 @@ pub(crate) fn next_line<S: LineSource>(
         let part = source.take_part(most, &mut octets)?;
         *room -= (octets.len() - before) as u64;
         match part {
-            Part::Open => {}
-            Part::End => return Err(LineStop::EndedEarly),
-            Part::Whole => {
+            LinePart::Open => {}
+            LinePart::End => return Err(LineStop::EndedEarly),
+            LinePart::Whole => {
                 *room -= 1;
                 return Ok(Line { octets });
             }

@@ -5,8 +5,8 @@ use Rattle.std.proofs.Math.Seq.{drop-cons}
 use Rattle.memchr.specs.Find.{Nowhere, NoneBefore, Passes, is_byte}
 use Rattle.mail_model.specs.Lines.{HasNoLf}
 use Rattle.line_source.specs.Parts.{IsCut, IsPart, lf_of}
-use Rattle.line_source.specs.declared.source.Part.{Part}
-use Rattle.line_source.specs.declared.source.Part.TheVariants.{Whole, Open, End}
+use Rattle.line_source.specs.declared.source.LinePart.{LinePart}
+use Rattle.line_source.specs.declared.source.LinePart.TheVariants.{Whole, Open, End}
 use Rattle.line_source.specs.declared.source.PartFault.{PartFault}
 
 -- no LF at the first places is no LF among the first octets
@@ -29,7 +29,7 @@ pub cut_open : (held : List ℕ) → Nowhere (Passes (is_byte 10) held) 0 (lengt
 cut_open held none some = (subst HasNoLf (take_all (length held) held (omega arith)) (none_among held (length held) (omega arith) none), some, refl)
 
 -- what a cut of the first octets takes of all
-pub taken_cut : (shown here : List ℕ) (m most count lf : ℕ) (part : Part) → m ≡ min (length shown) most → here ≡ take m shown → IsCut here count part → lf ≡ lf_of part
+pub taken_cut : (shown here : List ℕ) (m most count lf : ℕ) (part : LinePart) → m ≡ min (length shown) most → here ≡ take m shown → IsCut here count part → lf ≡ lf_of part
     → (count + lf ≤ length shown) × IsPart most (take (count + lf) shown) (take count here) (Ok part)
 taken_cut shown here m most count lf Whole is_m is_here c is_lf =
     let size : length here ≡ m = ap length is_here ∙ length-take-le m shown (omega (arith, is_m)) in
@@ -60,7 +60,7 @@ taken_cut shown here m most count lf End is_m is_here c is_lf =
     (omega (arith, none), (ap (λ n. take n shown) none, ap (λ n. take n here) c.1))
 
 -- a part of at most one octet is one of at most so many
-pub part_widens : (most : ℕ) (taken more : List ℕ) (result : Result Part PartFault) → 0 < most → IsPart 1 taken more result → IsPart most taken more result
+pub part_widens : (most : ℕ) (taken more : List ℕ) (result : Result LinePart PartFault) → 0 < most → IsPart 1 taken more result → IsPart most taken more result
 part_widens most taken more (Ok Whole) some p = (p.0, p.1, omega (arith, some, p.2))
 part_widens most taken more (Ok Open) some p = (p.0, p.1, p.2, omega (arith, some, p.3))
 part_widens most taken more (Ok End) some p = p

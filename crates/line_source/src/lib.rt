@@ -31,4 +31,4 @@
 mod readers;
 mod source;
 
-pub use source::{LineSource, Part, PartFault};
+pub use source::{LinePart, LineSource, PartFault};

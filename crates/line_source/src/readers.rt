@@ -5,37 +5,41 @@ ghost use Rattle.io_edge.specs.Causes.{Rose};
 ghost use Rattle.line_source.specs.Parts.{IsCut, IsPart, lf_of};
 ghost use Rattle.line_source.specs.declared.source.PartFault.TheVariants.{Failed as SourceFailed};
 
-use crate::{LineSource, Part, PartFault};
+use crate::{LinePart, LineSource, PartFault};
 use io_edge::faulty::FaultySource;
 use io_edge::{ReadSource, SliceSource, Source};
 use memchr::memchr;
 use std::io::BufRead;
 
-impl Part {
+impl LinePart {
     // How many octets it takes beside those of the line.
     fn lf(self) -> usize
         ensures { result ≡ lf_of self }
     {
         match self {
-            Part::Whole => 1,
-            Part::Open | Part::End => 0,
+            LinePart::Whole => 1,
+            LinePart::Open | LinePart::End => 0,
         }
     }
 }
 
 // How many of these octets come before the first LF, or all.
-fn cut(held: &[u8]) -> (usize, Part)
+fn cut(held: &[u8]) -> (usize, LinePart)
     ensures { IsCut held.now result.0 result.1 }
 {
     match memchr(b'\n', held) {
-        Some(at) => (at, Part::Whole),
-        None if held.is_empty() => (0, Part::End),
-        None => (held.len(), Part::Open),
+        Some(at) => (at, LinePart::Whole),
+        None if held.is_empty() => (0, LinePart::End),
+        None => (held.len(), LinePart::Open),
     }
 }
 
 // Takes a part of what the reader holds. It is empty where nothing is held.
-fn take_held<B: BufRead>(reader: &mut B, most: usize, line: &mut Vec<u8>) -> Result<Part, PartFault>
+fn take_held<B: BufRead>(
+    reader: &mut B,
+    most: usize,
+    line: &mut Vec<u8>,
+) -> Result<LinePart, PartFault>
     requires some { 0 < most }
     ensures took { (taken more : List ℕ) × Consumes (B.remaining reader.old) (B.remaining reader.new) taken
         × (line.new.items ≡ line.old.items ++ more) × IsPart most taken more result }
@@ -52,23 +56,23 @@ fn take_held<B: BufRead>(reader: &mut B, most: usize, line: &mut Vec<u8>) -> Res
 }
 
 // Takes one octet.
-fn take_octet<S: Source>(source: &mut S, line: &mut Vec<u8>) -> Result<Part, PartFault>
+fn take_octet<S: Source>(source: &mut S, line: &mut Vec<u8>) -> Result<LinePart, PartFault>
     ensures took { (taken more : List ℕ) × Consumes (S.left source.old) (S.left source.new) taken
         × (line.new.items ≡ line.old.items ++ more) × IsPart 1 taken more result }
-    ensures end { result ≡ Ok Part.End → IsAtEnd (S.left source.new) }
+    ensures end { result ≡ Ok LinePart.End → IsAtEnd (S.left source.new) }
     ensures later { S.faults source.old ≤ S.faults source.new }
     ensures failed { IsErrOf result SourceFailed → Rose (S.faults source.old) (S.faults source.new) }
 {
     line.reserve(1)?;
     let mut octet = [0u8];
     if source.read(&mut octet)? == 0 {
-        return Ok(Part::End);
+        return Ok(LinePart::End);
     }
     if octet[0] == b'\n' {
-        return Ok(Part::Whole);
+        return Ok(LinePart::Whole);
     }
     line.push_reserved(octet[0]);
-    Ok(Part::Open)
+    Ok(LinePart::Open)
 }
 
 // One fault more.
@@ -80,10 +84,10 @@ fn count_fault(faults: &mut u64)
 }
 
 impl<R: BufRead> LineSource for ReadSource<R> {
-    fn take_part(&mut self, most: usize, line: &mut Vec<u8>) -> Result<Part, PartFault> {
+    fn take_part(&mut self, most: usize, line: &mut Vec<u8>) -> Result<LinePart, PartFault> {
         match take_held(&mut self.inner, most, line) {
             // What a reader does at its end is said of a read alone.
-            Ok(Part::End) => take_octet(self, line),
+            Ok(LinePart::End) => take_octet(self, line),
             Err(PartFault::Failed) => {
                 count_fault(&mut self.faults);
                 Err(PartFault::Failed)
@@ -94,7 +98,7 @@ impl<R: BufRead> LineSource for ReadSource<R> {
 }
 
 impl<'a> LineSource for SliceSource<'a> {
-    fn take_part(&mut self, most: usize, line: &mut Vec<u8>) -> Result<Part, PartFault> {
+    fn take_part(&mut self, most: usize, line: &mut Vec<u8>) -> Result<LinePart, PartFault> {
         let here = &self.rest[..self.rest.len().min(most)];
         let (count, part) = cut(here);
         line.extend_from_slice(&here[..count])?;
@@ -105,7 +109,7 @@ impl<'a> LineSource for SliceSource<'a> {
 
 // Octet by octet, so that the read of each can be the one that fails.
 impl<S: Source> LineSource for FaultySource<S> {
-    fn take_part(&mut self, _: usize, line: &mut Vec<u8>) -> Result<Part, PartFault> {
+    fn take_part(&mut self, _: usize, line: &mut Vec<u8>) -> Result<LinePart, PartFault> {
         take_octet(self, line)
     }
 }

@@ -10,7 +10,7 @@ use std::alloc::AllocError;
 
 /// How far a part goes.
 #[derive(Clone, Copy, Debug, PartialEq, Eq)]
-pub enum Part {
+pub enum LinePart {
     /// Through the line's LF.
     Whole,
     /// Not as far as the line's LF. It has an octet at least.
@@ -58,11 +58,11 @@ pub trait LineSource: Source {
     /// # Errors
     ///
     /// `Failed` and `NoMemory`. No octet was taken then.
-    fn take_part(&mut self, most: usize, line: &mut Vec<u8>) -> Result<Part, PartFault>
+    fn take_part(&mut self, most: usize, line: &mut Vec<u8>) -> Result<LinePart, PartFault>
         requires some { 0 < most }
         ensures took { (taken more : List ℕ) × Consumes (Self.left self.old) (Self.left self.new) taken
             × (line.new.items ≡ line.old.items ++ more) × IsPart most taken more result }
-        ensures end { result ≡ Ok Part.End → IsAtEnd (Self.left self.new) }
+        ensures end { result ≡ Ok LinePart.End → IsAtEnd (Self.left self.new) }
         ensures later { Self.faults self.old ≤ Self.faults self.new }
         ensures failed { IsErrOf result SourceFailed → Rose (Self.faults self.old) (Self.faults self.new) };
 }

@@ -1,7 +1,7 @@
 use Rattle.std.proofs.Common.{◌≡◌, ◌++◌, List, [], ℕ, Ok, sym, ap, subst, ◌∙◌, append-nil}
 use Rattle.io_edge.proofs.Known.{consumes_more}
 use Rattle.line_source.specs.Parts.{IsPart}
-use Rattle.line_source.specs.declared.source.Part.{Part}
+use Rattle.line_source.specs.declared.source.LinePart.{LinePart}
 use Rattle.line_source.proofs.Cuts.{part_widens}
 use Rattle.line_source.proofs.readers.ReadSourceLineSource.take_part.Goals as goal
 
@@ -9,7 +9,7 @@ pub returns-in-Ok-End-clause-took : goal.returns-in-Ok-End-clause-took
 returns-in-Ok-End-clause-took g c =
     let held = c.in-Ok-End.ensures.took in
     let octet = c.take_octet.ensures.took in
-    let none : (held.0 ≡ []) × (held.1 ≡ []) = subst (λ (p : Part). IsPart c.args.most held.0 held.1 (Ok p)) c.in-Ok-End.field-0-is held.4 in (
+    let none : (held.0 ≡ []) × (held.1 ≡ []) = subst (λ (p : LinePart). IsPart c.args.most held.0 held.1 (Ok p)) c.in-Ok-End.field-0-is held.4 in (
       held.0 ++ octet.0,
       octet.1,
       consumes_more _ _ _ held.0 octet.0 held.2 octet.2,
