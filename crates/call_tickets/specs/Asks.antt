@@ -1,5 +1,5 @@
 -- What a desk answers to one who asks, as its pass knows it.
-use Rattle.std.specs.Prelude.{◌≡◌, ℕ, List, map, ⊤, Option, Some, Result, Ok, Err}
+use Rattle.std.specs.Prelude.{◌≡◌, ℕ, List, [], map, ⊤, Option, Some, IfSome, Result, Ok, Err}
 use Rattle.io_edge.specs.Causes.{Rose}
 use Rattle.mail_model.specs.Identity.{Id}
 use Rattle.mail_model.specs.Book.{Acked}
@@ -12,7 +12,8 @@ use Rattle.session_model.specs.Calls.Answer.{Stored, Listed, Wrong, InUse, NoPro
 use Rattle.call_tickets.specs.Seen.{answer_seen}
 use Rattle.call_tickets.specs.declared.answer.Ask.{Ask}
 use Rattle.call_tickets.specs.declared.answer.Ask.TheVariants.{Pending, Done}
-use Rattle.call_tickets.specs.Passes.{PassKnows, IsQuiet, NoneFell, with_more, AnswerCounted}
+use Rattle.call_tickets.specs.Tells.{TellsMore}
+use Rattle.call_tickets.specs.Passes.{PassKnows, IsQuiet, NoneFell, AnswerCounted}
 use Rattle.call_tickets.specs.Begins.{RefusalCounted}
 use Rattle.call_tickets.specs.declared.desk.DeskFault.{DeskFault}
 use Rattle.call_tickets.specs.declared.desk.DeskFault.TheVariants.{Down, Worn, NoMemory}
@@ -38,31 +39,31 @@ abbrev pub filed_copies : Filing → ℕ → List Acked
 filed_copies filing confirmers =
     map (λ user. record { user = user; id = filing.id; seconds = filing.seconds; size = filing.length; digest = filing.digest; confirmers = confirmers }) filing.users
 
--- a message that is stored was filed, and its copies are acknowledged
-pub record IsAckedAs (filed : Option Filing) (id : Id) (old new : Option (List Acked)) : Type 0 where
+-- A message that is stored was filed, and its copies are acknowledged, as is told.
+pub record IsAckedAs (filed : Option Filing) (id : Id) (old : Option (List Acked)) (told : List Acked) : Type 0 where
   pub filing : Filing
   pub was : filed ≡ Some filing
   pub is : filing.id ≡ id
   pub confirmers : ℕ
-  pub acked : new ≡ with_more old (filed_copies filing confirmers)
+  pub acked : TellsMore old (filed_copies filing confirmers) (Some told)
 
--- no other answer acknowledges any
+-- What an answer acknowledges, where the pass tells still: that of a message that is stored its copies, and no other answer any.
 abbrev pub AcksFor : Option Filing → model.Answer → Option (List Acked) → Option (List Acked) → Type 0
-AcksFor filed (Stored id) old new = IsAckedAs filed id old new
-AcksFor filed (Listed items) old new = new ≡ old
-AcksFor filed Wrong old new = new ≡ old
-AcksFor filed InUse old new = new ≡ old
-AcksFor filed NoProfile old new = new ≡ old
-AcksFor filed (Part octets) old new = new ≡ old
-AcksFor filed GoneAlready old new = new ≡ old
-AcksFor filed Dropped old new = new ≡ old
-AcksFor filed Failed old new = new ≡ old
+AcksFor filed (Stored id) old new = IfSome new (λ told. IsAckedAs filed id old told)
+AcksFor filed (Listed items) old new = TellsMore old [] new
+AcksFor filed Wrong old new = TellsMore old [] new
+AcksFor filed InUse old new = TellsMore old [] new
+AcksFor filed NoProfile old new = TellsMore old [] new
+AcksFor filed (Part octets) old new = TellsMore old [] new
+AcksFor filed GoneAlready old new = TellsMore old [] new
+AcksFor filed Dropped old new = TellsMore old [] new
+AcksFor filed Failed old new = TellsMore old [] new
 
 -- the answer came, and was counted
 pub record HasAnswered (begun : Begun) (answer : model.Answer) (old new : PassKnows) : Type 0 where
   pub kind : FitsKind begun.kind answer
   pub acked : AcksFor begun.filing answer old.acked new.acked
-  pub struck : new.struck ≡ old.struck
+  pub struck : TellsMore old.struck [] new.struck
   pub fell : NoneFell old.counts new.counts
   pub rose : AnswerCounted answer old.counts new.counts
 

@@ -1,5 +1,5 @@
 -- What a pass knows of its own calls.
-use Rattle.std.specs.Prelude.{◌≡◌, ℕ, ◌+◌, ◌-◌, ◌^◌, ◌≤◌, min, List, ◌++◌, ◌⊎◌, Option, Some, None}
+use Rattle.std.specs.Prelude.{◌≡◌, ℕ, ◌+◌, ◌-◌, ◌^◌, ◌≤◌, min, List, [], ◌⊎◌, Option}
 use Rattle.std.specs.Option.{option_map}
 use Rattle.io_edge.specs.Causes.{Rose}
 use Rattle.mail_model.specs.Identity.{Id}
@@ -7,6 +7,7 @@ use Rattle.mail_model.specs.Book.{BookEntry, Acked, acked_in, struck_in}
 use Rattle.session_model.specs.Calls as model
 use Rattle.session_model.specs.Calls.Answer.{Stored, Listed, Wrong, InUse, NoProfile, Part, GoneAlready, Dropped, Failed}
 use Rattle.call_tickets.specs.declared.tally.Tally.{Tally}
+use Rattle.call_tickets.specs.Tells.{TellsMore}
 
 -- The copies that its calls acknowledged, and those that they are to delete, where told; and its counts.
 pub record PassKnows : Type 0 where
@@ -17,11 +18,6 @@ pub record PassKnows : Type 0 where
 -- what is known of a pass with these own entries and counts
 abbrev pub known_to : Option (List BookEntry) → Tally → PassKnows
 known_to own counts = record { acked = option_map acked_in own; struck = option_map struck_in own; counts = counts }
-
--- a told list, with more after it
-abbrev pub with_more : {X : Type 0} → Option (List X) → List X → Option (List X)
-with_more None more = None
-with_more (Some xs) more = Some (xs ++ more)
 
 -- no count fell, and no Leave was begun
 pub record NoneFell (old new : Tally) : Type 0 where
@@ -42,10 +38,10 @@ pub record NoneFell (old new : Tally) : Type 0 where
 abbrev pub with_leave : Tally → Tally
 with_leave counts = record counts { leaves = min (counts.leaves + 1) (2 ^ 64 - 1) }
 
--- nothing was acknowledged or struck
+-- Nothing was acknowledged or struck, by what is told still.
 pub record IsQuiet (old new : PassKnows) : Type 0 where
-  pub acked : new.acked ≡ old.acked
-  pub struck : new.struck ≡ old.struck
+  pub acked : TellsMore old.acked [] new.acked
+  pub struck : TellsMore old.struck [] new.struck
   pub fell : NoneFell old.counts new.counts
 
 -- The count of this answer rose. A call that failed was answered so, or was given up as a number was used up.

@@ -52,7 +52,8 @@ pub struct DeskTicket {
 }
 
 /// What sessions use of a cluster. Each caller has a pass, which every call is lent. A pass knows which entries of the book
-/// its own calls added, where that is told, and counts what came of them.
+/// its own calls added, where that is told, and counts what came of them. A pass may cease to tell within any call, as where
+/// another caller makes a step of which nothing is known; one that told nothing never tells again.
 pub trait Desk {
     /// What a caller holds.
     type Pass;

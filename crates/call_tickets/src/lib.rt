@@ -17,7 +17,8 @@
 //!
 //! Whoever calls a desk holds a pass of it. A pass knows which entries of the book its own calls added, where that
 //! is told, and has a `Tally` of what came of them; `specs/Passes`, `specs/Begins` and `specs/Asks` say by both what each
-//! call of a desk did. So a session can be served over any desk, and what was acknowledged in its name is known.
+//! call of a desk did. So a session can be served over any desk, and what was acknowledged in its name is known, as long as its
+//! pass tells. A pass may cease to tell within a call (`specs/Tells`): where a later call tells, each earlier one told.
 //!
 //! The message of a `Deliver` and the octets of a `Part` are moved from hand to hand, and never copied.
 //!

@@ -2,3 +2,4 @@ pub mod Tickets
 pub mod Begun
 pub mod Answered
 pub mod Knowing
+pub mod Growing
