@@ -1,5 +1,5 @@
 -- What came of the calls of a session, one after another, as its pass knows it.
-use Rattle.std.specs.Prelude.{◌≡◌, ◌≢◌, ◌⊎◌, ℕ, List, [], ◌∷◌, ⊤, Option, Some, None, Result, Ok, Err}
+use Rattle.std.specs.Prelude.{◌≡◌, ◌≢◌, ◌⊎◌, ℕ, List, [], ◌∷◌, ⊤, Option, Some, None, IfSome, Result, Ok, Err}
 use Rattle.io_edge.specs.Causes.{Rose}
 use Rattle.mail_model.specs.Identity.{Id}
 use Rattle.mail_model.specs.Mail.{IsStored}
@@ -13,7 +13,8 @@ use Rattle.session_model.specs.Calls.Answer.{Stored, Listed, Wrong, InUse, NoPro
 use Rattle.session_model.specs.Books.{struck_by}
 use Rattle.session_model.specs.Talk.{Exchange}
 use Rattle.call_tickets.specs.Seen.{answer_seen}
-use Rattle.call_tickets.specs.Passes.{PassKnows, IsQuiet, NoneFell, with_more, AnswerCounted}
+use Rattle.call_tickets.specs.Tells.{TellsMore}
+use Rattle.call_tickets.specs.Passes.{PassKnows, IsQuiet, NoneFell, AnswerCounted}
 use Rattle.call_tickets.specs.Asks.{HasAnswered}
 use Rattle.call_tickets.specs.declared.tally.Tally.{Tally}
 use Rattle.session_gate.specs.declared.calls.Dealing.{Dealing}
@@ -64,14 +65,18 @@ abbrev pub ExchangeCounted : Option model.Answer → Tally → Tally → Type 0
 ExchangeCounted None old new = ⊤
 ExchangeCounted (Some answer) old new = AnswerCounted answer old new
 
--- what came of one call, so far
-pub record Dealt (old : PassKnows) (call : Option model.Call) (answer : Option model.Answer) (new : PassKnows) : Type 0 where
+-- what one call acknowledged, as is told after it
+pub record HasAcked (old : Option (List Acked)) (call : Option model.Call) (answer : Option model.Answer) (told : List Acked) : Type 0 where
   pub copies : List Acked
   pub are : ExchangeAcks call answer copies
-  pub acked : new.acked ≡ with_more old.acked copies
+  pub acked : TellsMore old copies (Some told)
+
+-- what came of one call, so far
+pub record Dealt (old : PassKnows) (call : Option model.Call) (answer : Option model.Answer) (new : PassKnows) : Type 0 where
+  pub acked : IfSome new.acked (λ told. HasAcked old.acked call answer told)
   pub strikes : List (List ℕ × Id)
   pub asked : ExchangeStrikes call answer strikes
-  pub struck : new.struck ≡ with_more old.struck strikes
+  pub struck : TellsMore old.struck strikes new.struck
   pub fell : NoneFell old.counts new.counts
   pub rose : ExchangeCounted answer old.counts new.counts
 

@@ -24,6 +24,9 @@
 //! other exchange has any; a deletion has its ids struck; and the count of its answer rose. Each reply was written before a later
 //! call was answered (`specs/InTime`). A connection that ended by itself misses nothing.
 //!
+//! What the pass knows of copies and ids is said where it tells them to the end. A pass that ceases to tell within a call says
+//! nothing more of the book; its counts, and all that is said of octets, stay.
+//!
 //! DIAGNOSTICS
 //!
 //! `ReadFault` and `WriteFault` come only where the count of the source or of the sink rose. A node that is not up at the
