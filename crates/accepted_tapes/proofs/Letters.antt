@@ -46,6 +46,8 @@ well_said (Says Said.Heard) well = (Said.Heard, refl, λ n e. let clash : Said.H
 well_said (Says (Said.Thrown why)) well = (Said.Thrown why, refl, λ n e. let clash : Said.Thrown why ≡ Faulted n = e in cc)
 well_said (Says (Said.Sent letters)) well = (Said.Sent letters, refl, λ n e. let clash : Said.Sent letters ≡ Faulted n = e in cc)
 well_said (Says (Said.Widened did)) well = (Said.Widened did, refl, λ n e. let clash : Said.Widened did ≡ Faulted n = e in cc)
+well_said (Says (Said.Grouped epoch)) well = (Said.Grouped epoch, refl, λ n e. let clash : Said.Grouped epoch ≡ Faulted n = e in cc)
+well_said (Says (Said.Concluded epoch members)) well = (Said.Concluded epoch members, refl, λ n e. let clash : Said.Concluded epoch members ≡ Faulted n = e in cc)
 well_said (Says (Said.NodeUp boot)) well = (Said.NodeUp boot, refl, λ n e. let clash : Said.NodeUp boot ≡ Faulted n = e in cc)
 well_said (Says Said.Finished) well = (Said.Finished, refl, λ n e. let clash : Said.Finished ≡ Faulted n = e in cc)
 well_said (Refused fault) well = absurd (let clash : true ≡ false = well in cc)
@@ -88,7 +90,10 @@ module _ (plan : Plan) (all : List (List ℕ)) (line : List ℕ) (order : Cluste
       let refused : MakesStep plan true w (Post number keep) (Refused why) next =
       subst (λ (o : StepOutcome). MakesStep plan true w (Post number keep) o next) (sym (ap (λ (m : MadeStep). m.outcome) same) ∙ is) made in
       let fits = post_fits plan (flying octets) sent w h number keep (letter octets) (there octets) few in
-      ⊎_elim (λ (fault : step_fault plan (Post number keep) w ≡ Some why). none-some why (sym fits ∙ fault)) (λ worn. absurd worn.2) refused.0
+      ⊎_elim
+      (λ seen. ⊎_elim (λ (fault : step_fault plan (Post number keep) w ≡ Some why). none-some why (sym fits ∙ fault)) (λ worn. absurd worn.2) seen)
+      (λ unseen. absurd unseen)
+      refused.0
 
   was_made : (octets : List ℕ) (w next : World) (steps : List MadeStep) → length octets ≤ 4096 → Holds plan.nodes (flying octets) sent w → MakesOrder plan order steps w next → WentWell steps → Holds plan.nodes (flies octets) sends next
   was_made octets w next steps short h makes went =

@@ -8,6 +8,7 @@ use Rattle.mail_model.specs.Record.{Record}
 use Rattle.object_model.specs.Letters.{Number, Letter}
 use Rattle.cluster_model.specs.Cluster.{Node, Slot, Ticket, with_slot}
 use Rattle.cluster_model.specs.Starts.{first_membership}
+use Rattle.cluster_model.specs.Forms.{IsMapsBody}
 use Rattle.cluster_model.specs.Thrown.{is_stale, is_late, answers_ticket, thrown_by, with_stamps}
 use Rattle.cluster_model.specs.Thrown.Why.{Stale, Late}
 use Rattle.cluster_model.specs.Deeds.{slot_up, hear}
@@ -19,7 +20,7 @@ use Rattle.cluster_model.specs.Steps.{Said, letter_at, letters_end, step_fault}
 use Rattle.cluster_model.specs.Steps.Step.{Post}
 use Rattle.cluster_model.specs.Steps.Said.{Faulted}
 use Rattle.cluster_model.specs.Makes.{IsUp, Posts, after}
-use Rattle.cluster_model.specs.Makes.Posts.{NobodyUp, OfOtherEpoch, TooLate, IsHeard, FailsHearing}
+use Rattle.cluster_model.specs.Makes.Posts.{NobodyUp, OfOtherEpoch, TooLate, IsHeard, FailsHearing, IsForMaps, FailsForMaps}
 use Rattle.cluster_model.specs.Plain.{kept}
 use Rattle.accepted_tapes.proofs.Flown.{IsFirstUp, Holds, are_distinct, flies_so, stay_up, sends_none, sends_one, installed_in, file_of, filed_of}
 
@@ -44,7 +45,7 @@ not_stale false is = none-some Stale is
 
 module _ (plan : Plan) (flying : List Flight) (sent : ℕ) (old : World) (h : Holds plan.nodes flying sent old) (distinct : are_distinct flying ≡ true)
     (number : ℕ) (keep : Bool) (letter : Letter) (here : letter_at number flying ≡ Some letter) (above : 1 ≤ letter.to) (within : letter.to ≤ plan.nodes)
-    (fresh : is_stale letter (Some (first_membership plan.nodes)) ≡ false) where
+    (fresh : is_stale letter (Some (first_membership plan.nodes)) ≡ false) (of_mail : IsMapsBody letter.body → ⊥) where
   so : (f : Flies old number) → (f.letter ≡ letter) × (flies_on old number f keep ≡ kept number keep old.flying)
   so f = let is = flies_so old number f keep (subst (λ (l : List Flight). are_distinct l ≡ true) (sym h.flying_is) distinct) in
       (same_Some f.letter letter (sym is.0 ∙ ap (letter_at number) h.flying_is ∙ here), is.1)
@@ -76,6 +77,8 @@ module _ (plan : Plan) (flying : List Flight) (sent : ℕ) (old : World) (h : Ho
         (is ∙ ap (λ (l : List Flight). after (record old { flying = l }) f.letter.to (hear f.letter.to plan.nodes node disk f.letter)) (so f).1);
   })
   post_comes said new (FailsHearing f node disk up thrown says down falls is) well = absurd (well f.letter.to says)
+  post_comes said new (IsForMaps f node disk up of its says did forms is) well = absurd (of_mail (subst (λ (l : Letter). IsMapsBody l.body) (so f).0 of))
+  post_comes said new (FailsForMaps f node disk promise up of its says down falls is) well = absurd (well f.letter.to says)
 
 -- a letter that carries a message is answered
 pub file_posted : (plan : Plan) (flying : List Flight) (sent : ℕ) (old : World) → Holds plan.nodes flying sent old → are_distinct flying ≡ true → (number : ℕ) (keep : Bool)
@@ -86,7 +89,7 @@ pub file_posted : (plan : Plan) (flying : List Flight) (sent : ℕ) (old : World
 file_posted plan flying sent old h distinct number keep from to ticket id stamp targets users octets here above within room said new posts well = ⊎_elim
     (λ (late : IsLate number keep (file_of from to ticket id stamp targets users octets) old new). absurd (let clash : false ≡ true = late.0 in cc))
     (λ (heard : WasHeard plan number keep (file_of from to ticket id stamp targets users octets) old new). was heard)
-    (post_comes plan flying sent old h distinct number keep (file_of from to ticket id stamp targets users octets) here above within refl said new posts well)
+    (post_comes plan flying sent old h distinct number keep (file_of from to ticket id stamp targets users octets) here above within refl (λ of. of) said new posts well)
   where
     was : WasHeard plan number keep (file_of from to ticket id stamp targets users octets) old new
         → Holds plan.nodes (kept number keep flying ++ record { number = sent + 1; letter = filed_of to from ticket id } ∷ []) (sent + 1) new
@@ -112,7 +115,7 @@ told_posted plan flying sent old h distinct number keep from to ticket id here a
     (λ (late : IsLate number keep (filed_of from to ticket id) old new). subst (Holds plan.nodes (kept number keep flying) sent) (sym late.1)
     (record { flying_is = ap (kept number keep) h.flying_is; sent_is = h.sent_is; up = h.up }))
     (λ (heard : WasHeard plan number keep (filed_of from to ticket id) old new). was heard (ticket_at to (with_stamps (Filed id) heard.node) ticket) refl)
-    (post_comes plan flying sent old h distinct number keep (filed_of from to ticket id) here above within refl said new posts well)
+    (post_comes plan flying sent old h distinct number keep (filed_of from to ticket id) here above within refl (λ of. of) said new posts well)
   where
     holds : (node : Node) (disk : List Record) (did : Reaction) → IsUp old to node disk → did.out ≡ [] → did.node.installed ≡ node.installed → new ≡ after (record old { flying = kept number keep old.flying }) to did
         → Holds plan.nodes (kept number keep flying) sent new

@@ -19,16 +19,17 @@ use Rattle.cluster_model.specs.World.{World, missed, put, flies_on}
 use Rattle.cluster_model.specs.Progress.{entries_with}
 use Rattle.cluster_model.specs.Steps.{Struck, NodeCall, Step, Said, StepOutcome, mishaps_of_call, ids_drawn}
 use Rattle.cluster_model.specs.Steps.NodeCall.{Deliver, Login, Fetch, Strike, Leave}
-use Rattle.cluster_model.specs.Steps.Step.{Begin, AskFor, GiveUp, Post, DropLetter, PushTo, Widen, Crash, Start, Lose, Tick}
+use Rattle.cluster_model.specs.Steps.Step.{Begin, AskFor, GiveUp, Post, DropLetter, PushTo, Widen, Form, Crash, Start, Lose, Tick}
 use Rattle.cluster_model.specs.Steps.StepOutcome.{Says, Refused, NoMemory}
-use Rattle.cluster_model.specs.Makes.{after, struck_entries, with_struck, cut_world, begun_by, BeginsCall, AnswersAsk, Posts, Pushes, Widens, StartsUp, RunsShort, DoesStep, MakesStep}
+use Rattle.cluster_model.specs.Makes.{after, struck_entries, with_struck, cut_world, begun_by, BeginsCall, AnswersAsk, Posts, Pushes, Widens, FormsAt, StartsUp, RunsShort, DoesStep, MakesStep}
 use Rattle.cluster_model.specs.Makes.BeginsCall.{FailsAtOnce, Goes, FailsInIt, Reads, FailsReading, Leaves}
 use Rattle.cluster_model.specs.Makes.AnswersAsk.{Waits, Ends}
-use Rattle.cluster_model.specs.Makes.Posts.{NobodyUp, OfOtherEpoch, TooLate, IsHeard, FailsHearing}
+use Rattle.cluster_model.specs.Makes.Posts.{NobodyUp, OfOtherEpoch, TooLate, IsHeard, FailsHearing, IsForMaps, FailsForMaps}
 use Rattle.cluster_model.specs.Makes.Pushes.{Sends, FailsPushing}
 use Rattle.cluster_model.specs.Makes.Widens.{Adds, FailsWidening}
+use Rattle.cluster_model.specs.Makes.FormsAt.{Does, HasNone, FailsForming}
 use Rattle.cluster_model.specs.Makes.StartsUp.{Comes, FailsStarting}
-use Rattle.cluster_model.specs.Makes.RunsShort.{Beginning, Hearing, Widening, Starting}
+use Rattle.cluster_model.specs.Makes.RunsShort.{Beginning, Hearing, Widening, Forming, Starting}
 use Rattle.cluster_model.proofs.Slots.{read_after}
 
 -- the entry says that something is confirmed
@@ -135,6 +136,13 @@ module _ (old new : World) where
   posts_enter plan number keep said (TooLate flies node disk up thrown is e) = same_book (ap (λ (w : World). w.book) e)
   posts_enter plan number keep said (IsHeard flies node disk up thrown is e) = same_book (ap (λ (w : World). w.book) e ∙ after_book (record old { flying = flies_on old number flies keep }) flies.letter.to (hear flies.letter.to plan.nodes node disk flies.letter))
   posts_enter plan number keep said (FailsHearing flies node disk up thrown is down g e) = down_enters flies.letter.to (ap (λ (w : World). w.book) e ∙ ap (λ (w : World). w.book) g.is)
+  posts_enter plan number keep said (IsForMaps flies node disk up of fresh is did f e) = same_book (ap (λ (w : World). w.book) e ∙ after_book (record old { flying = flies_on old number flies keep }) flies.letter.to did)
+  posts_enter plan number keep said (FailsForMaps flies node disk promise up of fresh is down g e) = down_enters flies.letter.to (ap (λ (w : World). w.book) e ∙ ap (λ (w : World). w.book) g.is)
+
+  forms_enter : (own : ℕ) (said : Said) → FormsAt old own said new → Enters old new
+  forms_enter own said (Does node disk up is did f e) = same_book (ap (λ (w : World). w.book) e ∙ after_book old own did)
+  forms_enter own said (HasNone is e) = same_book (ap (λ (w : World). w.book) e)
+  forms_enter own said (FailsForming node disk promise up is g) = cut_enters own disk g.front g.pending g.is
 
   pushes_enter : (own to : ℕ) (said : Said) → Pushes old own to said new → Enters old new
   pushes_enter own to said (Sends node disk up is e) = same_book (ap (λ (w : World). w.book) e ∙ after_book old own (push own to (keys_pushed old.flying own to node disk) node disk))
@@ -156,6 +164,7 @@ module _ (old new : World) where
   does_enter plan tells (DropLetter letter) said d = same_book (ap (λ (w : World). w.book) d.new_world)
   does_enter plan tells (PushTo from to) said d = pushes_enter from to said d
   does_enter plan tells (Widen at user id to) said d = widens_enter at to (Message user id) said d
+  does_enter plan tells (Form node) said d = forms_enter node said d
   does_enter plan tells (Crash node) said d = down_enters node (ap (λ (w : World). w.book) d.new_world)
   does_enter plan tells (Start node) said d = starts_enter plan node said d
   does_enter plan tells (Lose node) said d = with_entries (WasLost node ∷ []) (ap (λ (w : World). w.book) d.new_world) (one_entry (WasLost node) (λ no. no))
@@ -165,6 +174,7 @@ module _ (old new : World) where
   short_enters plan step n (Beginning call node disk octets is up filed g) = call_cut_enters call n disk g.front g.pending g.is
   short_enters plan step n (Hearing number keep flies node disk is at up g) = cut_enters n disk g.front g.pending g.is
   short_enters plan step n (Widening user id to node disk is up g) = cut_enters n disk g.front g.pending g.is
+  short_enters plan step n (Forming node disk promise up forms g) = cut_enters n disk g.front g.pending g.is
   short_enters plan step n (Starting disk pending next records is here stops e) = down_enters n (ap (λ (w : World). w.book) e)
 
   pub enters : (plan : Plan) (tells : Bool) (step : Step) (outcome : StepOutcome) → MakesStep plan tells old step outcome new → Enters old new

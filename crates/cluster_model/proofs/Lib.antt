@@ -30,6 +30,7 @@ pub mod Leading
 pub mod Missing
 pub mod Aims
 pub mod Stepping
+pub mod Forming
 pub mod Asking
 pub mod Calling
 pub mod Posting

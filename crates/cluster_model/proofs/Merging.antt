@@ -3,7 +3,7 @@ use Rattle.std.proofs.Common.{◌≡◌, ◌≢◌, ⊎_elim, ℕ, zero, suc, �
 use Rattle.std.specs.Prelude.{not, ◌&&◌}
 use Rattle.std.specs.FinMap as fin
 use Rattle.std.proofs.lemmas.Bool.{cases_eq}
-use Rattle.mail_model.specs.Identity.{Id, Stamp, Key, State}
+use Rattle.mail_model.specs.Identity.{Id, EpochId, Stamp, Key, State}
 use Rattle.mail_model.specs.Identity.Key.{Message, Profile}
 use Rattle.mail_model.specs.Plan.{Plan}
 use Rattle.mail_model.specs.Record.{Record}
@@ -23,24 +23,27 @@ use Rattle.cluster_model.specs.Cluster.{Ticket, Node, Life, Slot, slot_at, with_
 use Rattle.cluster_model.specs.Cluster.Life.{Up, Down, Lost}
 use Rattle.cluster_model.specs.Store.{Update, take_all, here_updates, gone_updates, is_wanted, with_octets, updates_of}
 use Rattle.cluster_model.specs.Rules.{Reaction, store_of, mishap, failed_at, with_pushed, told_at, ticket_at, acked_at, shrunk, retired_at, idle, letters_to, receivers, with_updates, push, widened, begin_read, dated, marks_for, end_ticket, refuse}
+use Rattle.cluster_model.specs.Forms.{promise_records}
 use Rattle.cluster_model.specs.Thrown.{with_stamps}
 use Rattle.cluster_model.specs.Deeds.{slot_up, hear, hear_body}
 use Rattle.cluster_model.specs.Room.{Flight, has_room, keys_pushed}
 use Rattle.cluster_model.specs.World.{World, flies_on, other_end, missed_by, missed_at, missed_under, missed, put}
 use Rattle.cluster_model.specs.Steps.{NodeCall, Step, Said, mishaps_of_call, ids_drawn}
 use Rattle.cluster_model.specs.Steps.NodeCall.{Deliver, Login, Fetch, Strike, Leave}
-use Rattle.cluster_model.specs.Steps.Step.{Begin, AskFor, GiveUp, Post, DropLetter, PushTo, Widen, Crash, Start, Lose, Tick}
+use Rattle.cluster_model.specs.Steps.Step.{Begin, AskFor, GiveUp, Post, DropLetter, PushTo, Widen, Form, Crash, Start, Lose, Tick}
 use Rattle.cluster_model.specs.Steps.Said.{Faulted}
-use Rattle.cluster_model.specs.Makes.{after, with_struck, begun_by, targets_for, asked_for, IsFiled, BeginsCall, AnswersAsk, Posts, Pushes, Widens, DoesStep}
+use Rattle.cluster_model.specs.Makes.{after, with_struck, begun_by, targets_for, asked_for, IsFiled, BeginsCall, AnswersAsk, Posts, Pushes, Widens, FormsAt, DoesStep}
 use Rattle.cluster_model.specs.Makes.BeginsCall.{FailsAtOnce, Goes, FailsInIt, Reads, FailsReading, Leaves}
 use Rattle.cluster_model.specs.Makes.AnswersAsk.{Waits, Ends}
-use Rattle.cluster_model.specs.Makes.Posts.{NobodyUp, OfOtherEpoch, TooLate, IsHeard, FailsHearing}
+use Rattle.cluster_model.specs.Makes.Posts.{NobodyUp, OfOtherEpoch, TooLate, IsHeard, FailsHearing, IsForMaps, FailsForMaps}
 use Rattle.cluster_model.specs.Makes.Pushes.{Sends, FailsPushing}
 use Rattle.cluster_model.specs.Makes.Widens.{Adds, FailsWidening}
+use Rattle.cluster_model.specs.Makes.FormsAt.{Does, HasNone, FailsForming}
 use Rattle.cluster_model.specs.StepMerges.{disk_at, taken_by_letter, StepTakes, SaysMerge, IsDoneWhole}
 use Rattle.cluster_model.specs.StepMerges.StepTakes.{TakesNone, OfLetter, OfDelivery, OfDeletion, OfWidening}
 use Rattle.cluster_model.proofs.Slots.{at_same}
 use Rattle.cluster_model.proofs.Merged.{says_merge}
+use Rattle.cluster_model.proofs.Forming.{said_with_promise}
 
 slot_other : (slots : List Slot) (n m : ℕ) (y : Slot) → m ≢ n → slot_at (with_slot slots n y) m ≡ slot_at slots m
 slot_other slots zero m y h = refl
@@ -151,6 +154,10 @@ heard_merges own nodes node disk letter (PushAck other state) key = acked_says o
 heard_merges own nodes node disk letter (Retire other state) key = retired_says node disk other state (fin.get node.log other) key
 heard_merges own nodes node disk letter body key = refl
 
+-- a promise is appended, or nothing
+promise_merges : (disk disk' : List Record) (promise : Option EpochId) → disk' ≡ disk ++ promise_records promise → Merges disk disk' []
+promise_merges disk disk' promise is key = ap (said key) is ∙ said_with_promise key disk promise
+
 -- a step in which one node did this
 module _ (old new w : World) (same : w.slots ≡ old.slots) (own : ℕ) (node : Node) (disk : List Record) (up : slot_at old.slots own ≡ Some (slot_up node disk)) (did : Reaction) (is : new ≡ after w own did)
     (updates : List Update) (merges : Merges disk did.disk updates) where
@@ -203,6 +210,7 @@ not_faulted (Post letter keep) said n e whole a b = subst (IsDoneWhole (Post let
 not_faulted (DropLetter letter) said n e whole a b = subst (IsDoneWhole (DropLetter letter)) e whole
 not_faulted (PushTo from to) said n e whole a b = subst (IsDoneWhole (PushTo from to)) e whole
 not_faulted (Widen at user id to) said n e whole a b = subst (IsDoneWhole (Widen at user id to)) e whole
+not_faulted (Form node) said n e whole a b = subst (IsDoneWhole (Form node)) e whole
 not_faulted (Crash node) said n e whole a b = subst (IsDoneWhole (Crash node)) e whole
 not_faulted (Start node) said n e whole a b = a node refl
 not_faulted (Lose node) said n e whole a b = b node refl
@@ -279,6 +287,18 @@ module _ (plan : Plan) (tells : Bool) (old new : World) where
         (heard_merges flies.letter.to plan.nodes (with_stamps flies.letter.body node) disk flies.letter flies.letter.body),
   )
   posts_take number keep said (FailsHearing flies node disk up thrown is down g e) whole = absurd (not_faulted (Post number keep) said flies.letter.to is whole (λ n s. cc s) (λ n s. cc s))
+  posts_take number keep said (IsForMaps flies node disk up of fresh is did f e) whole = (
+    flies.letter.to,
+    [],
+    TakesNone refl,
+    did_merge old new (record old { flying = flies_on old number flies keep }) refl flies.letter.to node disk up did e [] (promise_merges disk did.disk f.promise f.disk_is),
+  )
+  posts_take number keep said (FailsForMaps flies node disk promise up of fresh is down g e) whole = absurd (not_faulted (Post number keep) said flies.letter.to is whole (λ n s. cc s) (λ n s. cc s))
+
+  forms_take : (own : ℕ) (said : Said) → FormsAt old own said new → IsDoneWhole (Form own) said → Takes plan old (Form own) new
+  forms_take own said (Does node disk up is did f e) whole = (own, [], TakesNone refl, did_merge old new old refl own node disk up did e [] (promise_merges disk did.disk f.promise f.disk_is))
+  forms_take own said (HasNone is e) whole = same_takes plan old new (Form own) e
+  forms_take own said (FailsForming node disk promise up is g) whole = absurd (not_faulted (Form own) said own is whole (λ n s. cc s) (λ n s. cc s))
 
   pushes_take : (own to : ℕ) (said : Said) → Pushes old own to said new → IsDoneWhole (PushTo own to) said → Takes plan old (PushTo own to) new
   pushes_take own to said (Sends node disk up is e) whole = (own, [], TakesNone refl, did_merge old new old refl own node disk up (push own to (keys_pushed old.flying own to node disk) node disk) e [] (λ key. refl))
@@ -311,6 +331,7 @@ module _ (plan : Plan) (tells : Bool) (old new : World) where
   step_merges (DropLetter letter) said d whole = slots_take plan old new (DropLetter letter) (missed Dropped old.slots d.flies.letter) (ap (λ (w : World). w.slots) d.new_world) (missed_disks Dropped old.slots d.flies.letter)
   step_merges (PushTo from to) said d whole = pushes_take from to said d whole
   step_merges (Widen at user id to) said d whole = widens_take at to user id said d whole
+  step_merges (Form node) said d whole = forms_take node said d whole
   step_merges (Crash node) said d whole = slots_take plan old new (Crash node) (with_slot old.slots node (record d.slot { life = Down [] })) (ap (λ (w : World). w.slots) d.new_world)
       (write_same old.slots node d.slot (record d.slot { life = Down [] }) d.here refl)
   step_merges (Start node) said d whole = absurd whole

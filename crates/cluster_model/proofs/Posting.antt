@@ -3,7 +3,7 @@ use Rattle.std.proofs.Common.{◌≡◌, ⊎_elim, ℕ, Bool, true, false, not, 
 use Rattle.std.specs.Prelude.{is_some}
 use Rattle.std.specs.FinMap as fin
 use Rattle.std.proofs.lemmas.Bool.{and_parts}
-use Rattle.mail_model.specs.Identity.{Id}
+use Rattle.mail_model.specs.Identity.{Id, EpochId}
 use Rattle.mail_model.specs.Plan.{Plan}
 use Rattle.mail_model.specs.Record.{Record}
 use Rattle.mail_model.specs.Book.BookEntry.{WentDown}
@@ -17,6 +17,7 @@ use Rattle.cluster_model.specs.Claims.{NodesWait, Covers, Asks}
 use Rattle.cluster_model.specs.Moves.{IsReady, IsCallDone}
 use Rattle.cluster_model.specs.Parts.{Sound}
 use Rattle.cluster_model.specs.Rules.{Reaction, idle, ticket_at}
+use Rattle.cluster_model.specs.Forms.{IsMapsBody, promise_records, FormsEpoch}
 use Rattle.cluster_model.specs.Thrown.{is_stale, is_late, answers_ticket, thrown_by, with_stamps, stamps_in, count_through}
 use Rattle.cluster_model.specs.Thrown.Why.{Stale, Late}
 use Rattle.cluster_model.specs.Deeds.{slot_up, act_of, IsOfPlan, hear}
@@ -24,14 +25,15 @@ use Rattle.cluster_model.specs.Room.{Flight, has_room}
 use Rattle.cluster_model.specs.World.{World, Leads, letters_of, cluster_of, missed, put, Flies, flies_on}
 use Rattle.cluster_model.specs.Steps.{Said}
 use Rattle.cluster_model.specs.Makes.{IsUp, after, NodeGoesDown, Posts}
-use Rattle.cluster_model.specs.Makes.Posts.{NobodyUp, OfOtherEpoch, TooLate, IsHeard, FailsHearing}
+use Rattle.cluster_model.specs.Makes.Posts.{NobodyUp, OfOtherEpoch, TooLate, IsHeard, FailsHearing, IsForMaps, FailsForMaps}
 use Rattle.object_model.proofs.Lists.{same_some}
 use Rattle.cluster_model.proofs.Slots.{at_same}
 use Rattle.cluster_model.proofs.Hears.{hears}
 use Rattle.cluster_model.proofs.Learning.{learns}
 use Rattle.cluster_model.proofs.HearTold.{stands_at}
 use Rattle.cluster_model.proofs.Leading.{led_on}
-use Rattle.cluster_model.proofs.Stepping.{flew, slot_again, quiet_leads, letter_lost, letter_idle, heard_leads, down_leads}
+use Rattle.cluster_model.proofs.Stepping.{flew, slot_again, unheard_leads, quiet_leads, letter_lost, letter_idle, heard_leads, down_leads}
+use Rattle.cluster_model.proofs.Forming.{none_covered, forms_acts, cut_forming}
 
 -- a late letter answers a ticket that does not stand
 late_is : (own : ℕ) (node : Node) (letter : Letter) → thrown_by own node letter ≡ Some Late → is_late own node letter ≡ true
@@ -141,6 +143,39 @@ module _ (plan : Plan) (May : Id → List ℕ → Type 0) (old : World) (in_plan
       same : (one : Letter) → Some flies.letter ≡ Some one → flies.letter ≡ one
       same one e = cc
 
+  -- a letter of membership or maps is heard
+  pub maps_lead : (keep : Bool) → IsMapsBody flies.letter.body → (did : Reaction) → FormsEpoch known disk did
+      → Leads plan.confirm May (cluster_of old) (cluster_of (after (record old { flying = flies_on old number flies keep }) flies.letter.to did))
+  maps_lead keep of did f = led_on plan.confirm May (cluster_of old) (cluster_of learnt) _ learns_lead
+      (subst (λ (s : List Slot). Leads plan.confirm May (cluster_of learnt) (cluster_of (put has_room did.out (record old { slots = s; flying = flies_on old number flies keep }))))
+      (slot_again old.slots flies.letter.to (slot_up known disk) (slot_up did.node did.disk))
+      (subst (λ (l : List Flight). Leads plan.confirm May (cluster_of learnt) (cluster_of (put has_room did.out (record old { slots = with_slot learnt.slots flies.letter.to (slot_up did.node did.disk); flying = l }))))
+      (same_flying keep)
+      (led_on plan.confirm May (cluster_of learnt) (cluster_of left) _
+      (letter_idle plan.confirm May learnt number flies_on_then keep (λ n m asked c wait. none_covered flies.letter of n m asked c))
+      (unheard_leads plan.confirm May left flies.letter.to known disk did None [] now_up (λ r. forms_acts flies.letter.to known disk did f r) (λ user id m. absurd m) (λ content e. absurd (cc e))))))
+    where
+      left : World
+      left = record learnt { flying = flies_on learnt number flies_on_then keep }
+
+  -- its disk fails as it promises, and the letter is taken out or kept
+  pub maps_fail : (keep : Bool) → IsMapsBody flies.letter.body → (promise : Option EpochId) (down : World) → NodeGoesDown old flies.letter.to disk (disk ++ promise_records promise) down
+      → Leads plan.confirm May (cluster_of old) (cluster_of (record down { flying = flies_on old number flies keep }))
+  maps_fail keep of promise down g = led_on plan.confirm May (cluster_of old) (cluster_of down) _
+      (cut_forming plan.confirm May old flies.letter.to node disk up promise down g)
+      (subst (λ (f : List Flight). Leads plan.confirm May (cluster_of down) (cluster_of (record down { flying = f }))) (on_same keep)
+      (letter_idle plan.confirm May down number there keep (λ n m asked c wait. none_covered flies.letter of n m asked c)))
+    where
+      flying_same : down.flying ≡ old.flying
+      flying_same = ap (λ (w : World). w.flying) g.is
+
+      there : Flies down number
+      there = record { front = flies.front; letter = flies.letter; back = flies.back; is = flying_same ∙ flies.is }
+
+      on_same : (keep : Bool) → flies_on down number there keep ≡ flies_on old number flies keep
+      on_same true = flying_same
+      on_same false = refl
+
   pub late_leads : (keep : Bool) → thrown_by flies.letter.to node flies.letter ≡ Some Late → Leads plan.confirm May (cluster_of old) (cluster_of (record old { flying = flies_on old number flies keep }))
   late_leads keep thrown = letter_idle plan.confirm May old number flies keep (nobody_waits thrown)
 
@@ -173,3 +208,7 @@ posts_lead plan May old new in_plan sound number keep said (FailsHearing flies n
         on_same : (keep : Bool) → flies_on down number there keep ≡ flies_on old number flies keep
         on_same true = flying_same down g
         on_same false = refl
+posts_lead plan May old new in_plan sound number keep said (IsForMaps flies node disk up of fresh is did f new_world) = subst (λ (w : World). Leads plan.confirm May (cluster_of old) (cluster_of w)) (sym new_world)
+    (maps_lead plan May old in_plan sound number flies node disk up keep of did f)
+posts_lead plan May old new in_plan sound number keep said (FailsForMaps flies node disk promise up of fresh is down g new_world) = subst (λ (w : World). Leads plan.confirm May (cluster_of old) (cluster_of w)) (sym new_world)
+    (maps_fail plan May old in_plan sound number flies node disk up keep of promise down g)

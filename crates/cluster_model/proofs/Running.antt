@@ -21,7 +21,7 @@ use Rattle.cluster_model.specs.Deeds.{slot_up, hear, drop_act, start_act, stop_a
 use Rattle.cluster_model.specs.Room.{keys_pushed}
 use Rattle.cluster_model.specs.World.{World, Leads, letters_of, cluster_of}
 use Rattle.cluster_model.specs.Steps.{Step, Said, StepOutcome}
-use Rattle.cluster_model.specs.Steps.Step.{Begin, AskFor, GiveUp, Post, DropLetter, PushTo, Widen, Crash, Start, Lose, Tick}
+use Rattle.cluster_model.specs.Steps.Step.{Begin, AskFor, GiveUp, Post, DropLetter, PushTo, Widen, Form, Crash, Start, Lose, Tick}
 use Rattle.cluster_model.specs.Steps.StepOutcome.{Says, Refused, NoMemory}
 use Rattle.cluster_model.specs.Makes.{IsUp, NodeGoesDown, BeginsCall, AnswersAsk, Pushes, Widens, StartsUp, NodeFalls, LosesNode, DoesStep, RunsShort, MadeStep, MakesStep, MakesAll}
 use Rattle.cluster_model.specs.Makes.BeginsCall.{FailsAtOnce, Goes, FailsInIt, Reads, FailsReading, Leaves}
@@ -29,7 +29,7 @@ use Rattle.cluster_model.specs.Makes.AnswersAsk.{Waits, Ends}
 use Rattle.cluster_model.specs.Makes.Pushes.{Sends, FailsPushing}
 use Rattle.cluster_model.specs.Makes.Widens.{Adds, FailsWidening}
 use Rattle.cluster_model.specs.Makes.StartsUp.{Comes, FailsStarting}
-use Rattle.cluster_model.specs.Makes.RunsShort.{Beginning, Hearing, Widening, Starting}
+use Rattle.cluster_model.specs.Makes.RunsShort.{Beginning, Hearing, Widening, Forming, Starting}
 use Rattle.cluster_model.specs.WorldLaws.{InPlan, MayBring}
 use Rattle.cluster_model.proofs.Slots.{at_same, read_after}
 use Rattle.cluster_model.proofs.Kept.{all_kept}
@@ -39,6 +39,7 @@ use Rattle.cluster_model.proofs.Lives.{drop_acts}
 use Rattle.cluster_model.proofs.Starting.{start_acts, stop_acts}
 use Rattle.cluster_model.proofs.Leading.{no_move, led_on}
 use Rattle.cluster_model.proofs.Stepping.{slot_again, unheard_leads, quiet_leads, books_one, cut_nothing, letter_lost, down_leads}
+use Rattle.cluster_model.proofs.Forming.{cut_forming, forms_lead}
 use Rattle.cluster_model.proofs.Asking.{ends_lead}
 use Rattle.cluster_model.proofs.Calling.{begins_lead, fails_lead}
 use Rattle.cluster_model.proofs.Posting.{posts_lead, failing_leads}
@@ -156,6 +157,7 @@ module _ (plan : Plan) (tells : Bool) (old new : World) (p : InPlan plan.nodes o
   does_lead (DropLetter letter) said d = subst (λ (w : World). Leads plan.confirm (λ id o. ⊥) (cluster_of old) (cluster_of w)) (sym d.new_world) (letter_lost plan.confirm (λ id o. ⊥) old Dropped letter d.flies false)
   does_lead (PushTo from to) said d = pushes_lead plan.confirm (λ id o. ⊥) old from to said new d
   does_lead (Widen at user id to) said d = widens_lead plan.confirm (λ id o. ⊥) old at to (Message user id) said new d
+  does_lead (Form node) said d = forms_lead plan.confirm (λ id o. ⊥) old node said new d
   does_lead (Crash node) said d = falls_lead plan.confirm (λ id o. ⊥) old node (Down []) (WentDown node) said new (λ slots. tt) (inl refl) d
   does_lead (Start node) said d = starts_lead plan.confirm (λ id o. ⊥) old plan node said new d
   does_lead (Lose node) said d = loses_lead plan.confirm (λ id o. ⊥) old node said new d
@@ -169,6 +171,7 @@ module _ (plan : Plan) (tells : Bool) (old new : World) (p : InPlan plan.nodes o
       (failing_leads plan (λ id o. ⊥) old p s number flies node disk (subst (λ k. IsUp old k node disk) (sym at) up) new (subst (λ k. NodeGoesDown old k disk (hear k plan.nodes node disk flies.letter).disk new) (sym at) g))
   short_leads step n (Widening user id to node disk is up g) = subst (λ (st : Step). Leads plan.confirm (MayBring old st) (cluster_of old) (cluster_of new)) (sym is)
       (widening_leads plan.confirm (λ id o. ⊥) old n to (Message user id) node disk new up g)
+  short_leads step n (Forming node disk promise up forms g) = cut_forming plan.confirm (MayBring old step) old n node disk up promise new g
   short_leads step n (Starting disk pending next records is here stops new_world) = subst (λ (st : Step). Leads plan.confirm (MayBring old st) (cluster_of old) (cluster_of new)) (sym is)
       (stops_lead plan.confirm (λ id o. ⊥) old n disk pending next records new here stops new_world)
 

@@ -6,6 +6,7 @@ pub mod Moves
 pub mod Parts
 pub mod Laws
 pub mod Rules
+pub mod Forms
 pub mod Targets
 pub mod Thrown
 pub mod Starts

@@ -1,6 +1,6 @@
 -- What each step makes of a world, by what it answers.
 use Rattle.std.specs.Prelude.{◌≡◌, ◌≢◌, ◌⊎◌, ◌≤◌, ℕ, ◌+◌, Bool, true, false, List, [], ◌∷◌, ◌++◌, length, map, Option, Some, None}
-use Rattle.mail_model.specs.Identity.{Id, Key}
+use Rattle.mail_model.specs.Identity.{Id, EpochId, Key}
 use Rattle.mail_model.specs.Identity.Key.{Message}
 use Rattle.mail_model.specs.Lines.{ends_in_crlf}
 use Rattle.mail_model.specs.Plan.{Plan, proves}
@@ -22,7 +22,8 @@ use Rattle.cluster_model.specs.Claims.{boot_of}
 use Rattle.cluster_model.specs.Rules.{Reaction, idle, ticket_at, push, can_widen, widen, begin_deliver, begin_strike, begin_read, end_ticket, refuse, new_number}
 use Rattle.cluster_model.specs.Targets.{deliver_targets, strike_asks}
 use Rattle.cluster_model.specs.Starts.{StartsNode, StopsStart}
-use Rattle.cluster_model.specs.Thrown.{thrown_by}
+use Rattle.cluster_model.specs.Forms.{IsMapsBody, promise_records, FormsEpoch}
+use Rattle.cluster_model.specs.Thrown.{Why, is_stale, thrown_by, with_stamps}
 use Rattle.cluster_model.specs.Thrown.Why.{WhileDown, Stale, Late}
 use Rattle.cluster_model.specs.Progress.{NodeAnswer, ask_of, entries_with}
 use Rattle.cluster_model.specs.Progress.Ask.{Pending, Done}
@@ -31,8 +32,8 @@ use Rattle.cluster_model.specs.Room.{has_room, keys_pushed}
 use Rattle.cluster_model.specs.World.{World, missed, put, Flies, flies_on}
 use Rattle.cluster_model.specs.Steps.{Struck, NodeCall, Step, Said, StepOutcome, mishaps_of_call, fails_at_once, ids_drawn, greatest_boot, step_fault}
 use Rattle.cluster_model.specs.Steps.NodeCall.{Deliver, Login, Fetch, Strike, Leave}
-use Rattle.cluster_model.specs.Steps.Step.{Begin, AskFor, GiveUp, Post, DropLetter, PushTo, Widen, Crash, Start, Lose, Tick}
-use Rattle.cluster_model.specs.Steps.Said.{Begun, Noted, Asked, Heard, Thrown, Sent, Widened, NodeUp, Finished, Faulted}
+use Rattle.cluster_model.specs.Steps.Step.{Begin, AskFor, GiveUp, Post, DropLetter, PushTo, Widen, Form, Crash, Start, Lose, Tick}
+use Rattle.cluster_model.specs.Steps.Said.{Begun, Noted, Asked, Heard, Thrown, Sent, Widened, Grouped, Concluded, NodeUp, Finished, Faulted}
 use Rattle.cluster_model.specs.Steps.StepFault.{Worn}
 use Rattle.cluster_model.specs.Steps.StepOutcome.{Says, Refused, NoMemory}
 
@@ -156,6 +157,12 @@ pub record IsGivenUp (old : World) (number : Number) (said : Said) (new : World)
 abbrev pub lost_letter : MishapKind → (w : World) (number : ℕ) → Flies w number → Bool → World
 lost_letter kind w number flies keep = record w { slots = missed kind w.slots flies.letter; flying = flies_on w number flies keep }
 
+-- A letter of membership or maps is heard, also one that its receiver then refuses.
+abbrev pub IsHeardOrThrown : Said → Type 0
+IsHeardOrThrown Heard = Unit {0}
+IsHeardOrThrown (Thrown why) = Unit {0}
+IsHeardOrThrown said = ⊥
+
 -- A letter is handed to its receiver.
 pub data Posts (plan : Plan) (old : World) (number : ℕ) (keep : Bool) (said : Said) (new : World) : Type 0 where
   NobodyUp : (flies : Flies old number) → ((node : Node) (disk : List Record) → IsUp old flies.letter.to node disk → ⊥)
@@ -176,6 +183,17 @@ pub data Posts (plan : Plan) (old : World) (number : ℕ) (keep : Bool) (said : 
       → (down : World) → NodeGoesDown old flies.letter.to disk (hear flies.letter.to plan.nodes node disk flies.letter).disk down
       → new ≡ record down { slots = missed Disk down.slots flies.letter; flying = flies_on old number flies keep }
       → Posts plan old number keep said new
+  -- It is of membership or maps. What its receiver does for these is not seen here.
+  IsForMaps : (flies : Flies old number) (node : Node) (disk : List Record) → IsUp old flies.letter.to node disk → IsMapsBody flies.letter.body → is_stale flies.letter node.installed ≡ false
+      → IsHeardOrThrown said → (did : Reaction) → FormsEpoch (with_stamps flies.letter.body node) disk did
+      → new ≡ after (record old { flying = flies_on old number flies keep }) flies.letter.to did
+      → Posts plan old number keep said new
+  -- its disk fails as it promises
+  FailsForMaps : (flies : Flies old number) (node : Node) (disk : List Record) (promise : Option EpochId) → IsUp old flies.letter.to node disk → IsMapsBody flies.letter.body
+      → is_stale flies.letter node.installed ≡ false → said ≡ Faulted flies.letter.to
+      → (down : World) → NodeGoesDown old flies.letter.to disk (disk ++ promise_records promise) down
+      → new ≡ record down { flying = flies_on old number flies keep }
+      → Posts plan old number keep said new
 
 -- A letter is dropped.
 pub record Drops (old : World) (number : ℕ) (said : Said) (new : World) : Type 0 where
@@ -195,6 +213,20 @@ pub data Pushes (old : World) (own to : ℕ) (said : Said) (new : World) : Type 
 pub data Widens (old : World) (own to : ℕ) (key : Key) (said : Said) (new : World) : Type 0 where
   Adds : (node : Node) (disk : List Record) → IsUp old own node disk → said ≡ Widened (can_widen to (said_of key disk)) → new ≡ after old own (widen own to key node disk) → Widens old own to key said new
   FailsWidening : (node : Node) (disk : List Record) → IsUp old own node disk → said ≡ Faulted own → NodeGoesDown old own disk (widen own to key node disk).disk new → Widens old own to key said new
+
+-- what is said of a node that opens or concludes a group, or reports
+abbrev pub IsSaidOfForming : Said → Type 0
+IsSaidOfForming (Grouped epoch) = Unit {0}
+IsSaidOfForming (Concluded epoch members) = Unit {0}
+IsSaidOfForming (Sent letters) = Unit {0}
+IsSaidOfForming said = ⊥
+
+-- A node opens or concludes a group, or reports. What it does for membership and maps is not seen here.
+pub data FormsAt (old : World) (own : ℕ) (said : Said) (new : World) : Type 0 where
+  Does : (node : Node) (disk : List Record) → IsUp old own node disk → IsSaidOfForming said → (did : Reaction) → FormsEpoch node disk did → new ≡ after old own did → FormsAt old own said new
+  HasNone : IsSaidOfForming said → new ≡ old → FormsAt old own said new
+  FailsForming : (node : Node) (disk : List Record) (promise : Option EpochId) → IsUp old own node disk → said ≡ Faulted own → NodeGoesDown old own disk (disk ++ promise_records promise) new
+      → FormsAt old own said new
 
 -- A node that is down starts, and the book has it. Where its disk fails it stays down.
 pub data StartsUp (plan : Plan) (old : World) (n : ℕ) (said : Said) (new : World) : Type 0 where
@@ -234,10 +266,17 @@ DoesStep plan tells old (Post letter keep) said new = Posts plan old letter keep
 DoesStep plan tells old (DropLetter letter) said new = Drops old letter said new
 DoesStep plan tells old (PushTo from to) said new = Pushes old from to said new
 DoesStep plan tells old (Widen at user id to) said new = Widens old at to (Message user id) said new
+DoesStep plan tells old (Form node) said new = FormsAt old node said new
 DoesStep plan tells old (Crash node) said new = NodeFalls old node (Down []) (WentDown node) said new
 DoesStep plan tells old (Start node) said new = StartsUp plan old node said new
 DoesStep plan tells old (Lose node) said new = LosesNode old node said new
 DoesStep plan tells old (Tick seconds) said new = (said ≡ Finished) × (new ≡ record old { seconds = seconds })
+
+-- Node n does something for membership or maps in the step: it forms an epoch, or hears such a letter.
+abbrev pub FormsIn : World → Node → ℕ → Step → Type 0
+FormsIn old node n (Form own) = own ≡ n
+FormsIn old node n (Post number keep) = (flies : Flies old number) × (flies.letter.to ≡ n) × IsMapsBody flies.letter.body × (is_stale flies.letter node.installed ≡ false)
+FormsIn old node n step = ⊥
 
 -- Memory ran out in a step that had begun its work on a disk: some records are written, and the node is down. A letter that was posted stays in flight.
 pub data RunsShort (plan : Plan) (old : World) (step : Step) (n : ℕ) (new : World) : Type 0 where
@@ -249,6 +288,8 @@ pub data RunsShort (plan : Plan) (old : World) (step : Step) (n : ℕ) (new : Wo
       → RunsShort plan old step n new
   Widening : (user : List ℕ) (id : Id) (to : ℕ) (node : Node) (disk : List Record) → step ≡ Widen n user id to → IsUp old n node disk
       → NodeGoesDown old n disk (widen n to (Message user id) node disk).disk new
+      → RunsShort plan old step n new
+  Forming : (node : Node) (disk : List Record) (promise : Option EpochId) → IsUp old n node disk → FormsIn old node n step → NodeGoesDown old n disk (disk ++ promise_records promise) new
       → RunsShort plan old step n new
   Starting : (disk pending next records : List Record) → step ≡ Start n → slot_at old.slots n ≡ Some (record { life = Down pending; disk = disk })
       → StopsStart disk pending next records
@@ -268,11 +309,16 @@ abbrev pub StartIsWorn : World → Step → Type 0
 StartIsWorn old (Start n) = IsLastBoot old n
 StartIsWorn old step = ⊥
 
+-- A Form is refused for the sake of membership and maps, too, which are not seen here.
+abbrev pub IsUnseen : Step → Type 0
+IsUnseen (Form node) = Unit {0}
+IsUnseen step = ⊥
+
 -- A step is refused where it has a fault, and where a start is worn, and then changes nothing. Out of memory has no cause that is told.
 abbrev pub MakesStep : Plan → Bool → World → Step → StepOutcome → World → Type 0
 MakesStep plan tells old step (Says said) new = (step_fault plan step old ≡ None) × DoesStep plan tells old step said new
 MakesStep plan tells old step (Refused fault) new =
-    ((step_fault plan step old ≡ Some fault) ⊎ ((step_fault plan step old ≡ None) × (fault ≡ Worn) × StartIsWorn old step)) × (new ≡ old)
+    (((step_fault plan step old ≡ Some fault) ⊎ ((step_fault plan step old ≡ None) × (fault ≡ Worn) × StartIsWorn old step)) ⊎ IsUnseen step) × (new ≡ old)
 MakesStep plan tells old step (NoMemory None) new = new ≡ old
 MakesStep plan tells old step (NoMemory (Some n)) new = RunsShort plan old step n new
 

@@ -1,5 +1,5 @@
 -- What a node finds on its disk as it starts.
-use Rattle.std.specs.Prelude.{◌≡◌, ◌≢◌, ◌⊎◌, ℕ, zero, suc, ◌+◌, max, true, false, ◌&&◌, nat_eq, List, [], ◌∷◌, ◌++◌, Some, if◌then◌else◌}
+use Rattle.std.specs.Prelude.{◌≡◌, ◌≢◌, ◌⊎◌, ℕ, zero, suc, ◌+◌, max, true, false, ◌&&◌, nat_eq, List, [], ◌∷◌, ◌++◌, Option, Some, None, if◌then◌else◌}
 use Rattle.std.specs.FinMap as fin
 use Rattle.mail_model.specs.Identity.{EpochId, Key, State, no_epoch}
 use Rattle.mail_model.specs.Record.{Record}
@@ -14,7 +14,7 @@ use Rattle.cluster_model.specs.Cluster.{Node}
 use Rattle.cluster_model.specs.Claims.{boot_of}
 use Rattle.cluster_model.specs.Rules.{greatest_named}
 
--- The first epoch has all nodes of the plan as members. As yet there is no other, and each node that is up has it.
+-- The first epoch has all nodes of the plan as members. It is what a node has where no epoch was formed yet and the first is built in.
 abbrev pub first_epoch : EpochId
 first_epoch = record { count = 1; node = 1 }
 
@@ -67,24 +67,26 @@ pub record IsRecovered (own : ℕ) (log : Log) (disk : List Record) : Type 0 whe
   pub whole : (key : Key) (state : State) (m : ℕ) → said key disk ≡ Some state → has state.targets m ≡ true → m ≢ own
       → ((entry : Logged) → fin.get log key ≡ Some entry → has entry.remaining m ≡ false) → Among (Retired key state) disk
 
--- the node that starts over these records, in a plan of so many nodes
-abbrev pub started : ℕ → ℕ → ℕ → List Record → Node
-started own nodes boot records = record {
+-- the node that starts over these records, with this epoch installed
+abbrev pub started : ℕ → Option Membership → ℕ → List Record → Node
+started own installed boot records = record {
   boot = boot;
   drawn = drawn_on own boot 0 records;
   count = greatest_count_on 0 records;
   calls = 0;
-  installed = Some (first_membership nodes);
+  installed = installed;
   log = recovered own records;
   tickets = fin.empty;
 }
 
--- A start keeps or loses what was pending, and records the next boot before all else.
+-- A start keeps or loses what was pending, and records the next boot before all else. It has no epoch, or the first, where that is built in.
 pub record StartsNode (own nodes : ℕ) (disk pending : List Record) (node : Node) (new : List Record) : Type 0 where
   pub kept : List Record
   pub pending_is : (kept ≡ []) ⊎ (kept ≡ pending)
   pub records : new ≡ (disk ++ kept) ++ Boot (boot_of (disk ++ kept) + 1) ∷ []
-  pub is : node ≡ started own nodes (boot_of (disk ++ kept) + 1) new
+  pub installed : Option Membership
+  pub begins : (installed ≡ None) ⊎ (installed ≡ Some (first_membership nodes))
+  pub is : node ≡ started own installed (boot_of (disk ++ kept) + 1) new
 
 -- A start that its disk cuts: what was pending is kept or lost, and the record of the boot may be pending, or nothing. Where not even the disk started, all is as it was.
 pub record StopsStart (disk pending : List Record) (next new : List Record) : Type 0 where

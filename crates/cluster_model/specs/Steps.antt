@@ -1,7 +1,7 @@
 -- What can be done with a world, what it answers, and what is refused.
 use Rattle.std.specs.Prelude.{ℕ, ◌+◌, ◌-◌, ◌^◌, Bool, true, false, not, ◌&&◌, ◌||◌, nat_eq, nat_lt, nat_le, List, [], ◌∷◌, length, Option, Some, None, is_some, if◌then◌else◌}
 use Rattle.std.specs.List.{list_all}
-use Rattle.mail_model.specs.Identity.{Id}
+use Rattle.mail_model.specs.Identity.{Id, EpochId}
 use Rattle.mail_model.specs.Plan.{Plan, Proof}
 use Rattle.mail_model.specs.Told.{Mail}
 use Rattle.object_model.specs.Letters.{Number, Letter}
@@ -39,6 +39,8 @@ pub data Step : Type 0 where
   DropLetter : (letter : ℕ) → Step
   PushTo : (from to : ℕ) → Step
   Widen : (at : ℕ) (user : List ℕ) (id : Id) (to : ℕ) → Step
+  -- a node opens or concludes a group, or reports what it has of users
+  Form : (node : ℕ) → Step
   Crash : (node : ℕ) → Step
   Start : (node : ℕ) → Step
   Lose : (node : ℕ) → Step
@@ -54,6 +56,9 @@ pub data Said : Type 0 where
   Thrown : (why : Why) → Said
   Sent : (letters : ℕ) → Said
   Widened : (did : Bool) → Said
+  -- a group was opened, and one was concluded with these members
+  Grouped : (epoch : EpochId) → Said
+  Concluded : (epoch : EpochId) (members : ℕ) → Said
   NodeUp : (boot : ℕ) → Said
   Finished : Said
   -- the disk of the node failed, and the node is down
@@ -69,6 +74,8 @@ pub data StepFault : Type 0 where
   NoSuchTicket : StepFault
   Worn : StepFault
   NoRoom : StepFault
+  -- the node has no group open
+  NotAGroup : StepFault
 
 -- What comes of a step: what it says, its refusal, or that memory ran out, which may have taken a node down.
 pub data StepOutcome : Type 0 where
@@ -85,6 +92,7 @@ nodes_named (Post letter keep) = []
 nodes_named (DropLetter letter) = []
 nodes_named (PushTo from to) = from ∷ to ∷ []
 nodes_named (Widen at user id to) = at ∷ to ∷ []
+nodes_named (Form node) = node ∷ []
 nodes_named (Crash node) = node ∷ []
 nodes_named (Start node) = node ∷ []
 nodes_named (Lose node) = node ∷ []
@@ -99,6 +107,7 @@ actor_of (Post letter keep) = None
 actor_of (DropLetter letter) = None
 actor_of (PushTo from to) = Some from
 actor_of (Widen at user id to) = Some at
+actor_of (Form node) = Some node
 actor_of (Crash node) = Some node
 actor_of (Start node) = Some node
 actor_of (Lose node) = Some node

@@ -20,7 +20,7 @@ use Rattle.cluster_model.specs.Steps.Step.{Begin}
 use Rattle.cluster_model.specs.Steps.StepOutcome.{Says}
 use Rattle.cluster_model.specs.Makes.{IsUp, struck_entries, with_struck, NodeGoesDown, BeginsCall, RunsShort, MakesStep}
 use Rattle.cluster_model.specs.Makes.BeginsCall.{FailsAtOnce, Goes, FailsInIt, Reads, FailsReading, Leaves}
-use Rattle.cluster_model.specs.Makes.RunsShort.{Beginning, Hearing, Widening, Starting}
+use Rattle.cluster_model.specs.Makes.RunsShort.{Beginning, Hearing, Widening, Forming, Starting}
 use Rattle.cluster_model.proofs.Running.{steps_bring}
 use Rattle.cluster_owes.specs.Seen.{is_whole, call_made}
 use Rattle.cluster_owes.specs.Outcomes.{BegunCall, IsFall}
@@ -172,4 +172,5 @@ module _ (plan : Plan) (tells : Bool) (lines : List (List ℕ)) (asked : List As
       same_call e = cc
   short_fell n (Hearing number keep flies node disk is at up g) = absurd (cc is)
   short_fell n (Widening user id to node disk is up g) = absurd (cc is)
+  short_fell n (Forming node disk promise up forms g) = absurd forms
   short_fell n (Starting disk pending next records is here stops new_world) = absurd (cc is)

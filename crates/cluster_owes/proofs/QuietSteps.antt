@@ -15,7 +15,7 @@ use Rattle.cluster_model.specs.World.{World, letters_of, cluster_of}
 use Rattle.cluster_model.specs.WorldLaws.{InPlan, MayBring}
 use Rattle.cluster_model.specs.Steps.{Step, Said, StepOutcome}
 use Rattle.cluster_model.specs.Steps.NodeCall.{Leave, Deliver as DeliverCall, Login as LoginCall, Fetch as FetchCall, Strike as StrikeCall}
-use Rattle.cluster_model.specs.Steps.Step.{Begin, AskFor, GiveUp, Post, DropLetter, PushTo, Widen, Crash, Start, Lose, Tick}
+use Rattle.cluster_model.specs.Steps.Step.{Begin, AskFor, GiveUp, Post, DropLetter, PushTo, Widen, Form, Crash, Start, Lose, Tick}
 use Rattle.cluster_model.specs.Steps.Said.{Finished}
 use Rattle.cluster_model.specs.Steps.StepOutcome.{Says, Refused, NoMemory}
 use Rattle.cluster_model.specs.Makes.{MakesStep}
@@ -81,6 +81,7 @@ other_brings old (Post letter keep) said other id octets m = m
 other_brings old (DropLetter letter) said other id octets m = m
 other_brings old (PushTo from to) said other id octets m = m
 other_brings old (Widen at user one to) said other id octets m = m
+other_brings old (Form node) said other id octets m = m
 other_brings old (Crash node) said other id octets m = m
 other_brings old (Start node) said other id octets m = m
 other_brings old (Lose node) said other id octets m = m
@@ -98,6 +99,7 @@ short_brings old (Post letter keep) n other id octets m = m
 short_brings old (DropLetter letter) n other id octets m = m
 short_brings old (PushTo from to) n other id octets m = m
 short_brings old (Widen at user one to) n other id octets m = m
+short_brings old (Form node) n other id octets m = m
 short_brings old (Crash node) n other id octets m = m
 short_brings old (Start node) n other id octets m = m
 short_brings old (Lose node) n other id octets m = m

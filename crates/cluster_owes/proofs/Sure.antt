@@ -27,7 +27,7 @@ use Rattle.cluster_model.specs.Steps.StepOutcome.{Says, NoMemory}
 use Rattle.cluster_model.specs.Makes.{IsUp, after, with_struck, IsFiled, begun_by, BeginsCall, AnswersAsk, NodeGoesDown, RunsShort, MakesStep}
 use Rattle.cluster_model.specs.Makes.BeginsCall.{FailsAtOnce, Goes, FailsInIt, Reads, FailsReading, Leaves}
 use Rattle.cluster_model.specs.Makes.AnswersAsk.{Waits, Ends}
-use Rattle.cluster_model.specs.Makes.RunsShort.{Beginning, Hearing, Widening, Starting}
+use Rattle.cluster_model.specs.Makes.RunsShort.{Beginning, Hearing, Widening, Forming, Starting}
 use Rattle.cluster_model.proofs.Counting.{count_le}
 use Rattle.cluster_model.proofs.Opening.{opening_sound}
 use Rattle.cluster_owes.specs.Outcomes.{Outcome, BegunCall, Came, Makes, IsFall, begun_by_outcome}
@@ -132,6 +132,7 @@ module _ (plan : Plan) (tells : Bool) (one : plan.nodes ≡ 1) (sure_of : plan.c
     short_sure own call n (Beginning other node disk octets is up filed g) = down_sure n other node disk _ up g
     short_sure own call n (Hearing number keep flies node disk is at up g) = absurd (cc is)
     short_sure own call n (Widening user id to node disk is up g) = absurd (cc is)
+    short_sure own call n (Forming node disk promise up forms g) = absurd forms
     short_sure own call n (Starting disk pending next records is here stops new_world) = absurd (cc is)
 
     fell_sure : (own : ℕ) (call : NodeCall) (outcome : StepOutcome) → IsFall outcome → MakesStep plan tells old (Begin own call) outcome new → AreSure new.slots

@@ -8,29 +8,32 @@ use Rattle.mail_model.specs.Plan.{Plan}
 use Rattle.mail_model.specs.Record.{Record}
 use Rattle.mail_model.specs.Book.{BookEntry, acked_in, struck_in, dropped_in}
 use Rattle.mail_model.specs.Book.BookEntry.{WentDown, CameUp, WasLost}
-use Rattle.object_model.specs.Letters.{Number}
+use Rattle.object_model.specs.Letters.{Number, Body}
 use Rattle.object_model.specs.Mishaps.MishapKind.{Dropped, Stale as StaleKind, Down as DownKind, Disk}
 use Rattle.cluster_model.specs.Cluster.{Ticket, Node, Life, Slot, slot_at, with_slot}
 use Rattle.cluster_model.specs.Cluster.Life.{Up, Down, Lost}
 use Rattle.cluster_model.specs.Claims.{boot_of, IsIdDrawn, DrawnIn}
 use Rattle.cluster_model.specs.Parts.{Sound}
 use Rattle.cluster_model.specs.Rules.{Reaction, push, widen, end_ticket}
+use Rattle.cluster_model.specs.Forms.{FormsEpoch}
+use Rattle.cluster_model.specs.Thrown.{with_stamps}
 use Rattle.cluster_model.specs.Starts.{StartsNode}
 use Rattle.cluster_model.specs.Deeds.{slot_up, hear}
 use Rattle.cluster_model.specs.Room.{has_room, keys_pushed}
 use Rattle.cluster_model.specs.World.{World, cluster_of, flies_on}
 use Rattle.cluster_model.specs.Steps.{NodeCall, Step, Said, StepOutcome}
 use Rattle.cluster_model.specs.Steps.NodeCall.{Deliver, Login, Fetch, Strike, Leave}
-use Rattle.cluster_model.specs.Steps.Step.{Begin, AskFor, GiveUp, Post, DropLetter, PushTo, Widen, Crash, Start, Lose, Tick}
+use Rattle.cluster_model.specs.Steps.Step.{Begin, AskFor, GiveUp, Post, DropLetter, PushTo, Widen, Form, Crash, Start, Lose, Tick}
 use Rattle.cluster_model.specs.Steps.StepOutcome.{Says, Refused, NoMemory}
-use Rattle.cluster_model.specs.Makes.{IsUp, after, IsFiled, cut_world, BeginsCall, AnswersAsk, Posts, Pushes, Widens, StartsUp, NodeFalls, LosesNode, RunsShort, DoesStep, MakesStep}
+use Rattle.cluster_model.specs.Makes.{IsUp, after, IsFiled, cut_world, BeginsCall, AnswersAsk, Posts, Pushes, Widens, FormsAt, StartsUp, NodeFalls, LosesNode, RunsShort, DoesStep, MakesStep}
 use Rattle.cluster_model.specs.Makes.BeginsCall.{FailsAtOnce, Goes, FailsInIt, Reads, FailsReading, Leaves}
 use Rattle.cluster_model.specs.Makes.AnswersAsk.{Waits, Ends}
-use Rattle.cluster_model.specs.Makes.Posts.{NobodyUp, OfOtherEpoch, TooLate, IsHeard, FailsHearing}
+use Rattle.cluster_model.specs.Makes.Posts.{NobodyUp, OfOtherEpoch, TooLate, IsHeard, FailsHearing, IsForMaps, FailsForMaps}
 use Rattle.cluster_model.specs.Makes.Pushes.{Sends, FailsPushing}
 use Rattle.cluster_model.specs.Makes.Widens.{Adds, FailsWidening}
+use Rattle.cluster_model.specs.Makes.FormsAt.{Does, HasNone, FailsForming}
 use Rattle.cluster_model.specs.Makes.StartsUp.{Comes, FailsStarting}
-use Rattle.cluster_model.specs.Makes.RunsShort.{Beginning, Hearing, Widening, Starting}
+use Rattle.cluster_model.specs.Makes.RunsShort.{Beginning, Hearing, Widening, Forming, Starting}
 use Rattle.cluster_model.proofs.Slots.{read_after}
 use Rattle.cluster_model.proofs.Lives.{nothing_behind}
 use Rattle.cluster_owes.specs.Outcomes.{IsIdleStep}
@@ -129,6 +132,13 @@ both_go a b c p tickets seconds book = record {
   };
 }
 
+-- what a node does for membership and maps leaves its tickets alone
+forms_quietly : (body : Body) (node : Node) (disk : List Record) (did : Reaction) → FormsEpoch (with_stamps body node) disk did → NodeGoes node did.node NoneNew
+forms_quietly body node disk did f = subst (λ (x : Node). NodeGoes node x NoneNew) (sym f.node_is) (quiet_node node (record (with_stamps body node) { installed = f.installed }) refl refl refl)
+
+forms_still : (node : Node) (disk : List Record) (did : Reaction) → FormsEpoch node disk did → NodeGoes node did.node NoneNew
+forms_still node disk did f = subst (λ (x : Node). NodeGoes node x NoneNew) (sym f.node_is) (quiet_node node (record node { installed = f.installed }) refl refl refl)
+
 posts_go : (plan : Plan) (old new : World) (number : ℕ) (keep : Bool) (said : Said) → Posts plan old number keep said new → OtherGoes old new
 posts_go plan old new number keep said (NobodyUp flies nobody is new_world) = subst (λ (w : World). OtherGoes old w) (sym new_world) (slots_go old _ refl refl (missed_goes DownKind old.slots flies.letter))
 posts_go plan old new number keep said (OfOtherEpoch flies node disk up thrown is new_world) = subst (λ (w : World). OtherGoes old w) (sym new_world) (slots_go old _ refl refl (missed_goes StaleKind old.slots flies.letter))
@@ -138,6 +148,12 @@ posts_go plan old new number keep said (IsHeard flies node disk up thrown is new
     record { entries = g.entries; lives = g.lives; goes = record { seconds = g.goes.seconds; book = g.goes.book; tickets = g.goes.tickets } })
 posts_go plan old new number keep said (FailsHearing flies node disk up thrown is down g new_world) = subst (λ (w : World). OtherGoes old w) (sym new_world)
     (both_go old down _ (cut_goes old down flies.letter.to node disk g.front g.pending up g.is) (missed_goes Disk down.slots flies.letter) refl refl)
+posts_go plan old new number keep said (IsForMaps flies node disk up of fresh is did forms new_world) = subst (λ (w : World). OtherGoes old w) (sym new_world)
+    (let g = node_goes (record old { flying = flies_on old number flies keep }) flies.letter.to node disk did up (forms_quietly flies.letter.body node disk did forms) in
+    record { entries = g.entries; lives = g.lives; goes = record { seconds = g.goes.seconds; book = g.goes.book; tickets = g.goes.tickets } })
+posts_go plan old new number keep said (FailsForMaps flies node disk promise up of fresh is down g new_world) = subst (λ (w : World). OtherGoes old w) (sym new_world)
+    (let k = cut_goes old down flies.letter.to node disk g.front g.pending up g.is in
+    record { entries = k.entries; lives = k.lives; goes = record { seconds = k.goes.seconds; book = k.goes.book; tickets = k.goes.tickets } })
 
 -- a node starts
 module _ (old : World) (n : ℕ) (disk pending : List Record) (node : Node) (records : List Record) (here : slot_at old.slots n ≡ Some (record { life = Down pending; disk = disk }))
@@ -224,6 +240,11 @@ module _ (plan : Plan) (tells : Bool) (old new : World) (sound : Sound plan.conf
   widens_go own to key said (Adds node disk up is new_world) = subst (λ (w : World). OtherGoes old w) (sym new_world) (node_goes old own node disk (widen own to key node disk) up (widen_goes own to key node disk))
   widens_go own to key said (FailsWidening node disk up is g) = cut_goes old new own node disk g.front g.pending up g.is
 
+  forms_go : (own : ℕ) (said : Said) → FormsAt old own said new → OtherGoes old new
+  forms_go own said (Does node disk up is did forms new_world) = subst (λ (w : World). OtherGoes old w) (sym new_world) (node_goes old own node disk did up (forms_still node disk did forms))
+  forms_go own said (HasNone is new_world) = same_world old new new_world
+  forms_go own said (FailsForming node disk promise up is g) = cut_goes old new own node disk g.front g.pending up g.is
+
   starts_go : (n : ℕ) (said : Said) → StartsUp plan old n said new → OtherGoes old new
   starts_go n said (Comes disk pending node records here starts below is new_world) = subst (λ (w : World). OtherGoes old w) (sym new_world)
       (comes_goes old n disk pending node records here (sound.order.each n (record { life = Down pending; disk = disk }) here).rises plan.nodes starts)
@@ -241,6 +262,7 @@ module _ (plan : Plan) (tells : Bool) (old new : World) (sound : Sound plan.conf
   does_go (DropLetter letter) said other d = subst (λ (w : World). OtherGoes old w) (sym d.new_world) (slots_go old _ refl refl (missed_goes Dropped old.slots d.flies.letter))
   does_go (PushTo from to) said other d = pushes_go from to said d
   does_go (Widen at user id to) said other d = widens_go at to (Message user id) said d
+  does_go (Form node) said other d = forms_go node said d
   does_go (Crash node) said other d = falls_go node (Down []) (WentDown node) said (λ n e. cc e) (went_down node) d
   does_go (Start node) said other d = starts_go node said d
   does_go (Lose node) said other d = loses_go node said d
@@ -257,6 +279,7 @@ module _ (plan : Plan) (tells : Bool) (old new : World) (sound : Sound plan.conf
   short_goes step n other (Beginning call node disk octets is up filed g) = begins_short n call node disk octets (subst (λ s. IsIdleStep s (NoMemory (Some n))) is other) filed
   short_goes step n other (Hearing number keep flies node disk is at up g) = cut_goes old new n node disk g.front g.pending up g.is
   short_goes step n other (Widening user id to node disk is up g) = cut_goes old new n node disk g.front g.pending up g.is
+  short_goes step n other (Forming node disk promise up forms g) = cut_goes old new n node disk g.front g.pending up g.is
   short_goes step n other (Starting disk pending next records is here stops new_world) = stops_go n disk pending next records here new_world
 
   pub other_goes : (step : Step) (outcome : StepOutcome) → IsIdleStep step outcome → MakesStep plan tells old step outcome new → OtherGoes old new

@@ -243,7 +243,7 @@ module _ {D : Type 0} (on : View D) (ticket : Number) (left_of : Node → plain.
                 let (slot, here, stood) = slot_of on old.lives.items old.disks.items w.slots ticket.node ch.life ch.disk st.slots ch.was ch.held in
                 let is = seen_there slot stood in
                 leads_so (step.Ask ticket) (Err fault.NoSuchTicket) [] (wrote ∙ sym (append-nil (booked_by book))) w st slot here stood (
-                  inl (no_ticket_asked old.plan w ticket slot (node_seen a.old) named here (ap (λ (s : Slot). s.life) is) (stands_here w slot here is ∙ ap (λ (o : Option plain.Ticket). is_some o) st_none)),
+                  inl (inl (no_ticket_asked old.plan w ticket slot (node_seen a.old) named here (ap (λ (s : Slot). s.life) is) (stands_here w slot here is ∙ ap (λ (o : Option plain.Ticket). is_some o) st_none))),
                   unchanged w slot here (same_slot slot is left_is),
                 );
             cause = λ w st. tt;

@@ -83,7 +83,7 @@ module _ {D : Type 0} (on : View D) (n : ℕ) (call : Call) (seconds : ℕ) (old
         record {
           next = w;
           stands = st;
-          made = (inl (begin_is_late old.plan w n (call_seen call) slot seen (begin_named n call old fit) here is (ap (nat_le letters_end) (sym st.sent) ∙ late)), refl);
+          made = (inl (inl (begin_is_late old.plan w n (call_seen call) slot seen (begin_named n call old fit) here is (ap (nat_le letters_end) (sym st.sent) ∙ late))), refl);
           stops = same_stops on (state_with old flying seconds book) w st;
         };
     cause = λ w st. tt;
@@ -147,8 +147,8 @@ module _ {D : Type 0} (on : View D) (is_settled : D → Type 0) (n : ℕ) (call 
       worn_made worn w st =
           let (slot, here, stood) = up_slot on n B old mid mid ch (λ x d. idle x d) a ch.does.0.was flying flying seconds book book w st in
           let (seen, is, s) = stood in (
-            inl (begin_is_worn old.plan w n (call_seen call) slot (node_seen a) (begin_named n call old fit) here (is ∙ ap plain.Life.Up (sym s.seen_is)) (ap (nat_le letters_end) (sym st.sent) ∙ early)
-                (ap (λ x. is_worn_for old.plan x (node_seen a) (call_seen call)) (sym st.seconds) ∙ worn)),
+            inl (inl (begin_is_worn old.plan w n (call_seen call) slot (node_seen a) (begin_named n call old fit) here (is ∙ ap plain.Life.Up (sym s.seen_is)) (ap (nat_le letters_end) (sym st.sent) ∙ early)
+                (ap (λ x. is_worn_for old.plan x (node_seen a) (call_seen call)) (sym st.seconds) ∙ worn))),
             refl,
           )
 

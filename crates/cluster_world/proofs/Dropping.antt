@@ -56,7 +56,7 @@ module _ {D : Type 0} (on : View D) (nodes : Nodes D) (flying : InFlight) (secon
     leads = λ known ended w s. record {
       next = w;
       stands = s;
-      made = (inl (fault_is nodes.plan w number None (ap (letter_at number) (sym s.flying) ∙ e)), refl);
+      made = (inl (inl (fault_is nodes.plan w number None (ap (letter_at number) (sym s.flying) ∙ e))), refl);
       stops = same_stops on (state_with nodes flying seconds book) w s;
     };
     cause = λ w s. tt;
@@ -82,8 +82,8 @@ module _ {D : Type 0} (on : View D) (nodes : Nodes D) (flying : InFlight) (secon
         next = w;
         stands = s;
         made = (
-          inl (worn_is nodes.plan w number letter true (ap (letter_at number) (sym s.flying) ∙ here)
-              (ap (λ n. has_ticket (Some letter) && nat_le letters_end n) (sym s.sent) ∙ late)),
+          inl (inl (worn_is nodes.plan w number letter true (ap (letter_at number) (sym s.flying) ∙ here)
+              (ap (λ n. has_ticket (Some letter) && nat_le letters_end n) (sym s.sent) ∙ late))),
           refl,
         );
         stops = same_stops on (state_with nodes flying seconds book) w s;

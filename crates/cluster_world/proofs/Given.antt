@@ -105,7 +105,7 @@ module _ {D : Type 0} (on : View D) (ticket : Number) (nodes : Nodes D) (fit : n
       leads = λ known ended w st. let f = finds w st in record {
         next = w;
         stands = st;
-        made = (inl (no_ticket_given_up nodes.plan w ticket f.slot (node_seen node) named f.here f.is (f.stands ∙ none)), refl);
+        made = (inl (inl (no_ticket_given_up nodes.plan w ticket f.slot (node_seen node) named f.here f.is (f.stands ∙ none))), refl);
         stops = same_stops on (state_with nodes flying seconds book) w st;
       };
       cause = λ w st. tt;
@@ -129,7 +129,7 @@ module _ {D : Type 0} (on : View D) (ticket : Number) (nodes : Nodes D) (fit : n
       leads = λ known ended w st. let f = finds w st in record {
         next = w;
         stands = st;
-        made = (inl (give_up_is_worn nodes.plan w ticket f.slot (node_seen node) named f.here f.is (f.stands ∙ there) (ap (nat_le letters_end) (sym st.sent) ∙ late)), refl);
+        made = (inl (inl (give_up_is_worn nodes.plan w ticket f.slot (node_seen node) named f.here f.is (f.stands ∙ there) (ap (nat_le letters_end) (sym st.sent) ∙ late))), refl);
         stops = same_stops on (state_with nodes flying seconds book) w st;
       };
       cause = λ w st. tt;

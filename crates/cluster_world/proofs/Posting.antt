@@ -110,7 +110,7 @@ module _ {D : Type 0} (on : View D) (old : Nodes D) (flying : InFlight) (seconds
     leads = λ known ended w st. record {
       next = w;
       stands = st;
-      made = (inl (post_fault old.plan w number keep None (nat_le letters_end w.sent) (ap (letter_at number) (sym st.flying) ∙ none) refl), refl);
+      made = (inl (inl (post_fault old.plan w number keep None (nat_le letters_end w.sent) (ap (letter_at number) (sym st.flying) ∙ none) refl)), refl);
       stops = same_stops on before w st;
     };
     cause = λ w st. tt;
@@ -137,7 +137,7 @@ module _ {D : Type 0} (on : View D) (old : Nodes D) (flying : InFlight) (seconds
       leads = λ known ended w st. record {
         next = w;
         stands = st;
-        made = (inl (post_fault old.plan w number keep (Some letter) true (there w st) (ap (nat_le letters_end) (sym st.sent) ∙ late)), refl);
+        made = (inl (inl (post_fault old.plan w number keep (Some letter) true (there w st) (ap (nat_le letters_end) (sym st.sent) ∙ late))), refl);
         stops = same_stops on before w st;
       };
       cause = λ w st. tt;

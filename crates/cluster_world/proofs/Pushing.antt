@@ -132,7 +132,7 @@ module _ {D : Type 0} (on : View D) (n to : ℕ) (old : Nodes D) (fit : node_ref
           record {
             next = w;
             stands = st;
-            made = (inl (push_is_worn old.plan w n to (node_seen node) h.disk named h.at _ (ap (nat_le letters_end) (sym st.sent) ∙ late) refl), refl);
+            made = (inl (inl (push_is_worn old.plan w n to (node_seen node) h.disk named h.at _ (ap (nat_le letters_end) (sym st.sent) ∙ late) refl)), refl);
             stops = same_stops on before w st;
           };
       cause = λ w st. tt;
@@ -160,8 +160,8 @@ module _ {D : Type 0} (on : View D) (n to : ℕ) (old : Nodes D) (fit : node_ref
             next = w;
             stands = st;
             made = (
-              inl (push_is_crowded old.plan w n to (node_seen node) h.disk named h.at (ap (nat_le letters_end) (sym st.sent) ∙ early)
-                  (ap (λ fs. is_crowded_slot fs n to (slot_up (node_seen node) h.disk) (plain.Life.Up (node_seen node))) (sym st.flying) ∙ crowds node up flying.flights true life there crowded h.disk h.keeps h.own)),
+              inl (inl (push_is_crowded old.plan w n to (node_seen node) h.disk named h.at (ap (nat_le letters_end) (sym st.sent) ∙ early)
+                  (ap (λ fs. is_crowded_slot fs n to (slot_up (node_seen node) h.disk) (plain.Life.Up (node_seen node))) (sym st.flying) ∙ crowds node up flying.flights true life there crowded h.disk h.keeps h.own))),
               refl,
             );
             stops = same_stops on before w st;

@@ -73,7 +73,7 @@ module _ {D : Type 0} (on : View D) (state : WorldState D) (even : length state.
   made_refused : (f : StepFault) (w : machine.World) → StateStandsFor on state w → node_refusal state.plan (life_in state) step ≡ Some f → MakesStep state.plan (tells_in on.seen state) w (step_seen step) (fault_seen f) w
   made_refused f w s e =
       let (g, is, first) = named_fault on state.plan state w even s within step _ f e in
-      subst (λ o. MakesStep state.plan (tells_in on.seen state) w (step_seen step) o w) (sym is) (inl first, refl)
+      subst (λ o. MakesStep state.plan (tells_in on.seen state) w (step_seen step) o w) (sym is) (inl (inl first), refl)
 
   did_so : (f : StepFault) → IsOfNode f → node_refusal state.plan (life_in state) step ≡ Some f → StepDid on (Err f) step state state
   did_so fault.NoSuchNode of e = record {

@@ -300,7 +300,7 @@ module _ {D : Type 0} (on : View D) (is_settled : D → Type 0) (only : (disk : 
         let so = over (WornOver on old.plan n ch.disk ch.disk') known w f st in
         leads_so (Err fault.Worn) [] (booked ∙ ap (λ r. booked_by book ++ entries_seen (entries_of_start n r)) e) w stands f
         f.slot (still_down w f so.holds down) (keeps_so w f f.slot (f.slot.disk ++ f.pending) (all_there w f) so.stops_keep)
-        (inr (start_goes_now w stands f, refl, record { disk = f.slot.disk; pending = f.pending; here = f.here ∙ ap Some f.whole; kept = so.kept; pending_is = so.pending_is; last = so.last }), unchanged w f))
+        (inl (inr (start_goes_now w stands f, refl, record { disk = f.slot.disk; pending = f.pending; here = f.here ∙ ap Some f.whole; kept = so.kept; pending_is = so.pending_is; last = so.last })), unchanged w f))
         (λ w stands. tt)
         (left_down down (booked ∙ ap (λ r. booked_by book ++ entries_seen (entries_of_start n r)) e ∙ append-nil (booked_by book)))
     did_fail (NoMemory true) e down st = down_did (NoMemory true) down tt tt falls_here (λ m. refl)
@@ -393,7 +393,7 @@ module _ {D : Type 0} (on : View D) (n : ℕ) (old : Nodes D) (fit : node_refusa
         record {
           next = w;
           stands = st;
-          made = (inl (start_is_worn old.plan w n slot (named_of old.plan (life_among old) n fit) here pending is (ap (nat_le letters_end) (sym st.sent) ∙ late)), refl);
+          made = (inl (inl (start_is_worn old.plan w n slot (named_of old.plan (life_among old) n fit) here pending is (ap (nat_le letters_end) (sym st.sent) ∙ late))), refl);
           stops = same_stops on (state_with old flying seconds book) w st;
         };
     cause = λ w st. tt;

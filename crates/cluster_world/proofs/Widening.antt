@@ -316,7 +316,7 @@ module _ {D : Type 0} (on : View D) (n to : ℕ) (user : List ℕ) (id : Id) (ol
           record {
             next = w;
             stands = st;
-            made = (inl (widen_is_worn old.plan w n to user id slot seen named found up (ap (nat_le letters_end) (sym st.sent) ∙ late)), refl);
+            made = (inl (inl (widen_is_worn old.plan w n to user id slot seen named found up (ap (nat_le letters_end) (sym st.sent) ∙ late))), refl);
             stops = same_stops on (state_with old flying seconds book) w st;
           };
       cause = λ w st. tt;

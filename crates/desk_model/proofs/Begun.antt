@@ -25,7 +25,7 @@ use Rattle.cluster_model.specs.Steps.Said.{Begun, Faulted, Noted}
 use Rattle.cluster_model.specs.Steps.StepOutcome.{Says, NoMemory, Refused}
 use Rattle.cluster_model.specs.Makes.{after, with_struck, targets_for, begun_by, IsFound, BeginsCall, RunsShort, MakesStep}
 use Rattle.cluster_model.specs.Makes.BeginsCall.{FailsAtOnce, Goes, FailsInIt, Reads, FailsReading, Leaves}
-use Rattle.cluster_model.specs.Makes.RunsShort.{Beginning, Hearing, Widening, Starting}
+use Rattle.cluster_model.specs.Makes.RunsShort.{Beginning, Hearing, Widening, Forming, Starting}
 use Rattle.cluster_owes.specs.Seen.{call_made}
 use Rattle.cluster_owes.specs.Outcomes.{IsIdleStep, IsFall}
 use Rattle.cluster_owes.proofs.Standing.{StandsAs, SameWants, put_keeps}
@@ -103,6 +103,7 @@ module _ (plan : Plan) (tells : Bool) (old new : World) (own : ℕ) (call : Node
       struck_falls (ap (λ (w : World). w.book) g.is ∙ ap (λ c. (with_struck old c).book ++ WentDown n ∷ []) (sym same.0) ∙ ap (λ k. (with_struck old call).book ++ WentDown k ∷ []) (sym same.1))
   short_so n (Hearing number keep flies node disk is at up g) = absurd (let never : Begin own call ≡ Post number keep = is in cc)
   short_so n (Widening user id to node disk is up g) = absurd (let never : Begin own call ≡ Widen n user id to = is in cc)
+  short_so n (Forming node disk promise up forms g) = absurd forms
   short_so n (Starting disk pending next records is here stops new_world) = absurd (let never : Begin own call ≡ Start n = is in cc)
 
   falls_so : (outcome : StepOutcome) → IsFall outcome → MakesStep plan tells old (Begin own call) outcome new → Goal

@@ -17,12 +17,12 @@ use Rattle.cluster_model.specs.World.{World, cluster_of}
 use Rattle.cluster_model.specs.WorldLaws.{fresh_slot, fresh_slots, opening_world}
 use Rattle.cluster_model.specs.Steps.{NodeCall, Step, Said, StepOutcome, mishaps_of_call, ids_drawn}
 use Rattle.cluster_model.specs.Steps.NodeCall.{Deliver, Login, Fetch, Strike, Leave}
-use Rattle.cluster_model.specs.Steps.Step.{Begin, AskFor, GiveUp, Post, DropLetter, PushTo, Widen, Crash, Start, Lose, Tick}
+use Rattle.cluster_model.specs.Steps.Step.{Begin, AskFor, GiveUp, Post, DropLetter, PushTo, Widen, Form, Crash, Start, Lose, Tick}
 use Rattle.cluster_model.specs.Steps.StepOutcome.{Says, Refused, NoMemory}
 use Rattle.cluster_model.specs.Makes.{IsUp, after, with_struck, targets_for, asked_for, begun_by, IsFiled, BeginsCall, AnswersAsk, RunsShort, MakesStep}
 use Rattle.cluster_model.specs.Makes.BeginsCall.{FailsAtOnce, Goes, FailsInIt, Reads, FailsReading, Leaves}
 use Rattle.cluster_model.specs.Makes.AnswersAsk.{Waits, Ends}
-use Rattle.cluster_model.specs.Makes.RunsShort.{Beginning, Hearing, Widening, Starting}
+use Rattle.cluster_model.specs.Makes.RunsShort.{Beginning, Hearing, Widening, Forming, Starting}
 use Rattle.cluster_owes.proofs.Standing.{StandsAs, SameWants, NoneNew, slot_quiet, same_up}
 use Rattle.cluster_owes.proofs.NodeSteps.{end_goes}
 use Rattle.cluster_owes.proofs.WorldSteps.{TicketsStep, OtherGoes, steps_so, cut_goes, other_goes}
@@ -139,6 +139,7 @@ module _ (plan : Plan) (tells : Bool) (old new : World) where
       falls_keeps n other node disk g.front g.pending up (cut_goes (with_struck old other) new n node disk g.front g.pending (up_with n other node disk up) g.is) all
   begins_short own call n (Hearing number keep flies node disk is at up g) all = absurd (let never : Begin own call ≡ Post number keep = is in cc)
   begins_short own call n (Widening user id to node disk is up g) all = absurd (let never : Begin own call ≡ Widen n user id to = is in cc)
+  begins_short own call n (Forming node disk promise up forms g) all = absurd forms
   begins_short own call n (Starting disk pending next records is here stops new_world) all = absurd (let never : Begin own call ≡ Start n = is in cc)
 
   answers_keep : (number : Number) (said : Said) → AnswersAsk plan old number said new → TicketsAskOneThing old.slots → TicketsAskOneThing new.slots
@@ -169,6 +170,7 @@ module _ (plan : Plan) (tells : Bool) (old new : World) where
   steps_ask_one_thing (DropLetter letter) outcome made sound all = quiet_keeps old new (other_goes plan tells old new sound (DropLetter letter) outcome tt made) all
   steps_ask_one_thing (PushTo from to) outcome made sound all = quiet_keeps old new (other_goes plan tells old new sound (PushTo from to) outcome tt made) all
   steps_ask_one_thing (Widen at user id to) outcome made sound all = quiet_keeps old new (other_goes plan tells old new sound (Widen at user id to) outcome tt made) all
+  steps_ask_one_thing (Form n) outcome made sound all = quiet_keeps old new (other_goes plan tells old new sound (Form n) outcome tt made) all
   steps_ask_one_thing (Crash n) outcome made sound all = quiet_keeps old new (other_goes plan tells old new sound (Crash n) outcome tt made) all
   steps_ask_one_thing (Start n) outcome made sound all = quiet_keeps old new (other_goes plan tells old new sound (Start n) outcome tt made) all
   steps_ask_one_thing (Lose n) outcome made sound all = quiet_keeps old new (other_goes plan tells old new sound (Lose n) outcome tt made) all

@@ -1,6 +1,6 @@
 -- A part over disks and letters: each step for messages keeps it.
-use Rattle.std.proofs.Common.{◌≡◌, ◌⊎◌, ⊎_elim, ℕ, ◌+◌, arith, Bool, false, List, [], ◌∷◌, ◌++◌, append-nil, Some, None, refl, sym, ap, ◌∙◌, subst}
-use Rattle.mail_model.specs.Identity.{Key, State}
+use Rattle.std.proofs.Common.{◌≡◌, ◌⊎◌, ⊎_elim, ℕ, ◌+◌, arith, Bool, false, List, [], ◌∷◌, ◌++◌, append-nil, Option, Some, None, refl, sym, ap, ◌∙◌, subst}
+use Rattle.mail_model.specs.Identity.{EpochId, Key, State}
 use Rattle.mail_model.specs.Identity.Key.{Message}
 use Rattle.mail_model.specs.Plan.{Plan}
 use Rattle.mail_model.specs.Book.BookEntry.{WentDown}
@@ -14,23 +14,26 @@ use Rattle.cluster_model.specs.Cluster.Life.{Down, Lost}
 use Rattle.cluster_model.specs.Claims.{boot_of}
 use Rattle.cluster_model.specs.Moves.{IsReady}
 use Rattle.cluster_model.specs.Parts.{Sound}
-use Rattle.cluster_model.specs.Rules.{push, widen, refuse, begin_read, end_ticket}
+use Rattle.cluster_model.specs.Rules.{Reaction, push, widen, refuse, begin_read, end_ticket}
+use Rattle.cluster_model.specs.Thrown.{with_stamps}
+use Rattle.cluster_model.specs.Forms.{promise_records, FormsEpoch}
 use Rattle.cluster_model.specs.Deeds.{slot_up, hear}
 use Rattle.cluster_model.specs.Room.{Flight, keys_pushed}
 use Rattle.cluster_model.specs.Starts.{StopsStart}
 use Rattle.cluster_model.specs.World.{World, cluster_of, letters_of, missed, flies_on}
 use Rattle.cluster_model.specs.Steps.{NodeCall, Step, Said, StepOutcome, mishaps_of_call, ids_drawn}
 use Rattle.cluster_model.specs.Steps.NodeCall.{Deliver, Login, Fetch, Strike, Leave}
-use Rattle.cluster_model.specs.Steps.Step.{Begin, AskFor, GiveUp, Post, DropLetter, PushTo, Widen, Crash, Start, Lose, Tick}
+use Rattle.cluster_model.specs.Steps.Step.{Begin, AskFor, GiveUp, Post, DropLetter, PushTo, Widen, Form, Crash, Start, Lose, Tick}
 use Rattle.cluster_model.specs.Steps.StepOutcome.{Says, Refused, NoMemory}
-use Rattle.cluster_model.specs.Makes.{IsUp, with_struck, begun_by, cut_world, BeginsCall, AnswersAsk, Posts, DoesStep, RunsShort, MakesStep}
+use Rattle.cluster_model.specs.Makes.{IsUp, with_struck, begun_by, cut_world, BeginsCall, AnswersAsk, Posts, FormsAt, DoesStep, RunsShort, MakesStep}
 use Rattle.cluster_model.specs.Makes.BeginsCall.{FailsAtOnce, Goes, FailsInIt, Reads, FailsReading, Leaves}
 use Rattle.cluster_model.specs.Makes.AnswersAsk.{Waits, Ends}
-use Rattle.cluster_model.specs.Makes.Posts.{NobodyUp, OfOtherEpoch, TooLate, IsHeard, FailsHearing}
+use Rattle.cluster_model.specs.Makes.Posts.{NobodyUp, OfOtherEpoch, TooLate, IsHeard, FailsHearing, IsForMaps, FailsForMaps}
 use Rattle.cluster_model.specs.Makes.Pushes.{Sends, FailsPushing}
 use Rattle.cluster_model.specs.Makes.Widens.{Adds, FailsWidening}
+use Rattle.cluster_model.specs.Makes.FormsAt.{Does, HasNone, FailsForming}
 use Rattle.cluster_model.specs.Makes.StartsUp.{Comes, FailsStarting}
-use Rattle.cluster_model.specs.Makes.RunsShort.{Beginning, Hearing, Widening, Starting}
+use Rattle.cluster_model.specs.Makes.RunsShort.{Beginning, Hearing, Widening, Forming, Starting}
 use Rattle.cluster_model.proofs.Stepping.{flew}
 use Rattle.whole_world.proofs.Plain.{soft_missed}
 use Rattle.whole_world.proofs.Stepwise.{flew_on}
@@ -43,6 +46,11 @@ struck_slots w (Login user proof) = (refl, refl)
 struck_slots w (Fetch user id from most) = (refl, refl)
 struck_slots w (Leave user) = (refl, refl)
 
+-- what is appended for membership says nothing of states
+no_promised : (promise : Option EpochId) (key : Key) (state : State) → Among (Stated key state) (promise_records promise) → ⊥
+no_promised None key state m = m
+no_promised (Some epoch) key state m = ⊎_elim (λ e. cc e) (λ none. none) m
+
 pub no_state : (boot : ℕ) (key : Key) (state : State) → Among (Stated key state) (Boot boot ∷ []) → ⊥
 no_state boot key state m = ⊎_elim (λ e. cc e) (λ none. none) m
 
@@ -53,6 +61,12 @@ module _ (P : List Record → Type 0) (B : Body → Type 0) (s : Stays P B) wher
     pub begins : (w : World) (own : ℕ) (node : Node) (disk : List Record) (call : NodeCall) (octets : List ℕ) → Keeps P B disk (begun_by plan w own node disk call octets)
     pub pushes : (own to : ℕ) (keys : List Key) (node : Node) (disk : List Record) → IsReady own (slot_up node disk) None → Keeps P B disk (push own to keys node disk)
     pub widens : (own to : ℕ) (key : Key) (node : Node) (disk : List Record) → Keeps P B disk (widen own to key node disk)
+
+  promised : (disk : List Record) (promise : Option EpochId) → P disk → P (disk ++ promise_records promise)
+  promised disk promise p = s.plain disk (promise_records promise) (no_promised promise) p
+
+  forms_keep : (node : Node) (disk : List Record) (did : Reaction) → FormsEpoch node disk did → Keeps P B disk did
+  forms_keep node disk did f = λ p. (subst P (sym f.disk_is) (promised disk f.promise p), λ one m. s.maps one.body (f.sends one m).body)
 
   -- what a start finds of what was pending
   pub image : (disk pending kept : List Record) → (kept ≡ []) ⊎ (kept ≡ pending) → P (disk ++ pending) → P (disk ++ kept)
@@ -117,6 +131,18 @@ module _ (P : List Record → Type 0) (B : Body → Type 0) (s : Stays P B) wher
         (soft_hold P B down (record down { slots = missed Disk down.slots f.letter; flying = flies_on old number f keep }) (soft_missed Disk down.slots f.letter)
         (λ letter m. subst (λ (v : World). Among letter (letters_of v.flying)) (sym g.is) (flew_on old number f keep letter m))
         (cut_hold P B s old h f.letter.to node disk up (hear f.letter.to plan.nodes node disk f.letter).disk (λ p. (r.hears f.letter.to node disk f.letter (h.letters f.letter (flew old number f)) p).0) down g))
+    posts_hold number keep said new (IsForMaps f node disk up of fresh is did forms new_world) = to_new _ new new_world
+        (after_hold P B (record old { flying = flies_on old number f keep }) (same_hold P B old _ refl (λ letter m. flew_on old number f keep letter m) h) f.letter.to node disk up did
+        (forms_keep (with_stamps f.letter.body node) disk did forms))
+    posts_hold number keep said new (FailsForMaps f node disk promise up of fresh is down g new_world) = to_new _ new new_world
+        (same_hold P B down (record down { flying = flies_on old number f keep }) refl
+        (λ letter m. subst (λ (v : World). Among letter (letters_of v.flying)) (sym g.is) (flew_on old number f keep letter m))
+        (cut_hold P B s old h f.letter.to node disk up (disk ++ promise_records promise) (λ p. promised disk promise p) down g))
+
+    forms_hold : (own : ℕ) (said : Said) (new : World) → FormsAt old own said new → Holds P B new
+    forms_hold own said new (Does node disk up is did forms new_world) = to_new _ new new_world (after_hold P B old h own node disk up did (forms_keep node disk did forms))
+    forms_hold own said new (HasNone is new_world) = to_new old new new_world h
+    forms_hold own said new (FailsForming node disk promise up is g) = cut_hold P B s old h own node disk up (disk ++ promise_records promise) (λ p. promised disk promise p) new g
 
     stopped_hold : (n : ℕ) (disk pending next records : List Record) (new : World) → slot_at old.slots n ≡ Some (record { life = Down pending; disk = disk }) → StopsStart disk pending next records
         → new ≡ record old { slots = with_slot old.slots n (record { life = Down next; disk = records }); book = old.book ++ WentDown n ∷ [] } → Holds P B new
@@ -137,6 +163,7 @@ module _ (P : List Record → Type 0) (B : Body → Type 0) (s : Stays P B) wher
     steps_hold tells (PushTo from to) said new (FailsPushing node disk up is new_world) = stops new from node disk up new_world
     steps_hold tells (Widen at user id to) said new (Adds node disk up is new_world) = to_new _ new new_world (after_hold P B old h at node disk up (widen at to (Message user id) node disk) (r.widens at to (Message user id) node disk))
     steps_hold tells (Widen at user id to) said new (FailsWidening node disk up is g) = cut_hold P B s old h at node disk up (widen at to (Message user id) node disk).disk (λ p. (r.widens at to (Message user id) node disk p).0) new g
+    steps_hold tells (Form n) said new d = forms_hold n said new d
     steps_hold tells (Crash n) said new d = to_new _ new d.new_world
         (write_hold P B old _ n d.slot (record d.slot { life = Down [] }) d.here (subst P (sym (append-nil d.slot.disk)) (s.prefix d.slot.disk (pending_of d.slot.life) (h.disks n d.slot d.here))) refl (λ letter m. m) h)
     steps_hold tells (Start n) said new (Comes disk pending node records here starts fits is new_world) = to_new _ new new_world
@@ -156,6 +183,7 @@ module _ (P : List Record → Type 0) (B : Body → Type 0) (s : Stays P B) wher
     short_hold step n new (Hearing number keep f node disk is at up g) =
         cut_hold P B s old h n node disk up (hear n plan.nodes node disk f.letter).disk (λ p. (r.hears n node disk f.letter (h.letters f.letter (flew old number f)) p).0) new g
     short_hold step n new (Widening user id to node disk is up g) = cut_hold P B s old h n node disk up (widen n to (Message user id) node disk).disk (λ p. (r.widens n to (Message user id) node disk p).0) new g
+    short_hold step n new (Forming node disk promise up forms g) = cut_hold P B s old h n node disk up (disk ++ promise_records promise) (λ p. promised disk promise p) new g
     short_hold step n new (Starting disk pending next records is here stops_ new_world) = stopped_hold n disk pending next records new here stops_ new_world
 
     -- whatever comes of a step
@@ -164,9 +192,3 @@ module _ (P : List Record → Type 0) (B : Body → Type 0) (s : Stays P B) wher
     one_hold tells step (Refused fault) new made = to_new old new made.1 h
     one_hold tells step (NoMemory None) new made = to_new old new made h
     one_hold tells step (NoMemory (Some n)) new made = short_hold step n new made
-
-    pub does_hold : (tells : Bool) (step : Step) (said : Said) (new : World) → DoesStep plan tells old step said new → Holds P B new
-    does_hold tells step said new d = steps_hold tells step said new d
-
-    pub runs_hold : (step : Step) (n : ℕ) (new : World) → RunsShort plan old step n new → Holds P B new
-    runs_hold step n new short = short_hold step n new short

@@ -251,7 +251,7 @@ module _ {D : Type 0} (on : View D) (plan : Plan) (own : ℕ) (before : D) (reco
               cases
 
       -- it was recorded
-      pub boot_done : (new : NodeStore) → Done on (with_boot boot) store mid new after → (node : Node) → node.store ≡ new → node_seen node ≡ started own plan.nodes boot (r.records ++ Boot boot ∷ [])
+      pub boot_done : (new : NodeStore) → Done on (with_boot boot) store mid new after → (node : Node) → node.store ≡ new → node_seen node ≡ started own (Some (first_membership plan.nodes)) boot (r.records ++ Boot boot ∷ [])
           → StartedOver on plan own before after node records pending
       boot_done new d node store_is seen_is =
           let whole = d.whole r.records r.keeps in
@@ -262,7 +262,9 @@ module _ {D : Type 0} (on : View D) (plan : Plan) (own : ℕ) (before : D) (reco
               kept = found_kept.some;
               pending_is = found_kept.pending_is;
               records = ap (λ (l : List Record). l ++ Boot boot ∷ []) (sym found_kept.is) ∙ ap (λ (n : ℕ). (records ++ found_kept.some) ++ Boot n ∷ []) next_boot;
-              is = seen_is ∙ ap (λ (n : ℕ). started own plan.nodes n (r.records ++ Boot boot ∷ [])) next_boot;
+              installed = Some (first_membership plan.nodes);
+              begins = inr refl;
+              is = seen_is ∙ ap (λ (n : ℕ). started own (Some (first_membership plan.nodes)) n (r.records ++ Boot boot ∷ [])) next_boot;
             };
             keeps = subst (λ (l : List Record). KeepsRecords l node.store) (sym whole) (subst (KeepsRecords (r.records ++ d.added)) (sym store_is) (d.keeps r.records r.keeps));
             tells = subst (λ (l : List Record). TellsJournal (on.seen after) own (payloads_of l) (end_in node)) (sym whole)
@@ -271,7 +273,7 @@ module _ {D : Type 0} (on : View D) (plan : Plan) (own : ℕ) (before : D) (reco
           }
 
       -- and its last promise is the one that was found
-      pub boot_promised : (new : NodeStore) (d : Done on (with_boot boot) store mid new after) → (node : Node) → node.store ≡ new → node_seen node ≡ started own plan.nodes boot (r.records ++ Boot boot ∷ [])
+      pub boot_promised : (new : NodeStore) (d : Done on (with_boot boot) store mid new after) → (node : Node) → node.store ≡ new → node_seen node ≡ started own (Some (first_membership plan.nodes)) boot (r.records ++ Boot boot ∷ [])
           → (promise : EpochId) → promise ≡ promise_found found → PromisedOver on plan own before after node promise records pending
       unfolding boot_done
       boot_promised new d node store_is seen_is promise is =
@@ -348,7 +350,7 @@ module _ {D : Type 0} (on : View D) (plan : Plan) (own : ℕ) (before mid : D) (
     node_of nodes named stamped log seen = record { boot = boot; drawn = named; count = stamped; calls = 0; installed = Some (first_membership nodes); log = log; tickets = seen }
 
     seen_is : Done on (with_boot boot) store mid new after → shape.nodes ≡ plan.nodes → tickets_in tickets ≡ fin.empty → drawn ≡ drawn_found found boot → count ≡ count_found found
-        → node_seen node ≡ started own plan.nodes boot (r.reopened.records ++ Boot boot ∷ [])
+        → node_seen node ≡ started own (Some (first_membership plan.nodes)) boot (r.reopened.records ++ Boot boot ∷ [])
     seen_is d nodes none drawn_is count_is =
         let records = r.reopened.records in
         let log_is : new.log ≡ recovered own (records ++ Boot boot ∷ []) =

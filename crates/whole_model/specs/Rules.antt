@@ -1,5 +1,5 @@
 -- How what a node does for messages changes what it says in mail maps, and what membership appends to its disk.
-use Rattle.std.specs.Prelude.{◌≡◌, ◌≢◌, ℕ, Bool, true, false, not, List, [], ◌∷◌, ◌++◌, Option, Some, None, if◌then◌else◌}
+use Rattle.std.specs.Prelude.{◌≡◌, ◌≢◌, ℕ, Bool, true, false, not, List, [], ◌∷◌, ◌++◌, Option, if◌then◌else◌}
 use Rattle.mail_model.specs.Identity.{EpochId}
 use Rattle.mail_model.specs.Identity.Key.{Message}
 use Rattle.mail_model.specs.Record.{Record}
@@ -7,6 +7,7 @@ use Rattle.mail_model.specs.Record.Record.{Boot, Promise, Stated}
 use Rattle.object_model.specs.Lists.{Among}
 use Rattle.object_model.specs.Letters.{Body, Letter}
 use Rattle.object_model.specs.Letters.Body.{Group, Join, Install, Report, ReportAck}
+use Rattle.cluster_model.specs.Forms as forms
 use Rattle.maps_model.specs.Cluster as maps
 use Rattle.maps_model.specs.Rules.{change}
 use Rattle.whole_model.specs.Whole.{maps_disk_of, holds_of}
@@ -55,14 +56,8 @@ pub record IsMail (own : ℕ) (letter : Letter) : Type 0 where
 
 -- letters that speak of membership and maps, and not of messages
 abbrev pub IsMapsBody : Body → Type 0
-IsMapsBody (Group epoch) = Unit {0}
-IsMapsBody (Join epoch promise boot was claims) = Unit {0}
-IsMapsBody (Install membership) = Unit {0}
-IsMapsBody (Report row) = Unit {0}
-IsMapsBody (ReportAck user version) = Unit {0}
-IsMapsBody body = ⊥
+IsMapsBody body = forms.IsMapsBody body
 
 -- what a rule of membership appends: the record of a promise, or nothing
 abbrev pub promise_records : Option EpochId → List Record
-promise_records None = []
-promise_records (Some epoch) = Promise epoch ∷ []
+promise_records promise = forms.promise_records promise

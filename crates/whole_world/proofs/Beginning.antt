@@ -37,7 +37,7 @@ use Rattle.whole_world.specs.Laws.{Stands}
 use Rattle.whole_world.proofs.Plain.{Turns, IsPlain}
 use Rattle.whole_world.proofs.Stepwise.{steps_plain, short_plain}
 use Rattle.whole_world.proofs.Along.{mail_here, unseen_at}
-use Rattle.whole_world.proofs.Keeping.{follows_epoch, apart}
+use Rattle.whole_world.proofs.Keeping.{follows_epoch, apart, of_mail}
 use Rattle.whole_world.proofs.Seeing.{put_slots}
 use Rattle.whole_world.proofs.Viewing.{slot_here, slot_other}
 use Rattle.std.proofs.Common.{◌≡◌, ◌≢◌, ◌⊎◌, inl, inr, ⊎_elim, ℕ, ◌+◌, Bool, true, false, ◌&&◌, ◌||◌, List, [], ◌∷◌, ◌++◌, map, length, drop, reverse, Option, Some, None, is_some, refl, sym, ap, ◌∙◌, subst, nat_eq, nat_le, true≢false, eq-eqb, if◌then◌else◌}
@@ -56,7 +56,7 @@ use Rattle.object_model.proofs.Lists.{among_front, among_behind}
 use Rattle.object_model.specs.Mishaps.MishapKind.{Stale as StaleKind}
 use Rattle.cluster_model.specs.Deeds as mail_deeds
 use Rattle.cluster_model.specs.Makes as mail_makes
-use Rattle.cluster_model.specs.Makes.Posts.{NobodyUp, OfOtherEpoch, TooLate, IsHeard, FailsHearing as MailFails}
+use Rattle.cluster_model.specs.Makes.Posts.{NobodyUp, OfOtherEpoch, TooLate, IsHeard, FailsHearing as MailFails, IsForMaps, FailsForMaps}
 use Rattle.cluster_model.specs.Thrown as mail_thrown
 use Rattle.cluster_model.specs.Thrown.{is_stale}
 use Rattle.cluster_model.specs.Thrown.Why.{Stale, Late as LateWhy}
@@ -192,7 +192,7 @@ module _ (plan : Plan) (old : World) (stands : Stands plan old) where
 
   does_begin : (tells : Bool) (step : Step) (said : Said) (new : World) → DoesStep plan tells old step said new → Begins new step
   does_begin tells step said new (ForMessages one is answer says for_mail does follow) = plain_begins new step
-      (steps_plain (mail_world_of old) (mail_world_of new) (apart plan old stands) plan tells one answer (λ n e. starts_not n (subst (IsForMessages old) e for_mail)) does) follow
+      (steps_plain (mail_world_of old) (mail_world_of new) (apart plan old stands) plan tells one answer (λ n e. starts_not n (subst (IsForMessages old) e for_mail)) (of_mail old one for_mail) does) follow
     where
       starts_not : (n : ℕ) → IsForMessages old (Start n) → ⊥
       starts_not n p = p
@@ -220,7 +220,7 @@ module _ (plan : Plan) (old : World) (stands : Stands plan old) where
   does_begin tells step said new (SendsReports from to is (HasNone node disk up none says new_world)) = same_begins new step new_world
 
   short_begins : (step : Step) (n : ℕ) (new : World) → RunsShort plan old step n new → Begins new step
-  short_begins step n new (InMessages one is for_mail short follow) = plain_begins new step (short_plain (mail_world_of old) (mail_world_of new) (apart plan old stands) plan one n short) follow
+  short_begins step n new (InMessages one is for_mail short follow) = plain_begins new step (short_plain (mail_world_of old) (mail_world_of new) (apart plan old stands) plan one n (of_mail old one for_mail) short) follow
   short_begins step n new (Starting disk pending next records is here stops new_world) = down_begins new step n (record { life = Down pending; disk = disk }) next records here (ap (λ (w : World). w.slots) new_world)
   short_begins step n new (Promising node disk promise up why g) = cut_begins step n node disk _ up new g
 
@@ -329,8 +329,11 @@ module _ (plan : Plan) (tells : Bool) (old new : World) (number : ℕ) (flies : 
       up_is x y p = cc
 
   -- its receiver throws it as stale
+  stale_is : (b : mail_cluster.Node) (l : Letter) → flies.letter ≡ l → b ≡ node.mail → is_stale l b.installed ≡ true
+  stale_is b l is same = subst (λ (k : Letter). is_stale k b.installed ≡ true) is (subst (λ (x : mail_cluster.Node). is_stale flies.letter x.installed ≡ true) (sym same) stale)
+
   thrown_is : (b : mail_cluster.Node) (l : Letter) → flies.letter ≡ l → b ≡ node.mail → mail_thrown.thrown_by l.to b l ≡ Some Stale
-  thrown_is b l is same = ap (λ (s : Bool). if s then Some Stale else (if mail_thrown.is_late l.to b l then Some LateWhy else None)) (subst (λ (k : Letter). is_stale k b.installed ≡ true) is (subst (λ (x : mail_cluster.Node). is_stale flies.letter x.installed ≡ true) (sym same) stale))
+  thrown_is b l is same = ap (λ (s : Bool). if s then Some Stale else (if mail_thrown.is_late l.to b l then Some LateWhy else None)) (stale_is b l is same)
 
   posts_stale : (answer : mail_steps.Said) → mail_makes.Posts plan (mail_world_of old) number keep answer (mail_world_of new)
       → (answer ≡ Thrown Stale) × (mail_world_of new ≡ mail_makes.lost_letter StaleKind (mail_world_of old) number flies keep)
@@ -351,6 +354,8 @@ module _ (plan : Plan) (tells : Bool) (old new : World) (number : ℕ) (flies : 
     where
       clash : Some Stale ≡ None → ⊥
       clash h = cc
+  posts_stale answer (IsForMaps f b e there of fresh told did forms is) = absurd (true≢false (sym (stale_is b f.letter (same_letter f).0 (mail_same node.mail b disk e f.letter (same_letter f).0 there)) ∙ fresh))
+  posts_stale answer (FailsForMaps f b e promise there of fresh told down g is) = absurd (true≢false (sym (stale_is b f.letter (same_letter f).0 (mail_same node.mail b disk e f.letter (same_letter f).0 there)) ∙ fresh))
   posts_stale answer (MailFails f b e there thrown told down g is) = absurd (clash (sym (thrown_is b f.letter (same_letter f).0 (mail_same node.mail b disk e f.letter (same_letter f).0 there)) ∙ thrown))
     where
       clash : Some Stale ≡ None → ⊥

@@ -45,7 +45,7 @@ use Rattle.whole_world.specs.Sweeps.{IsCharted}
 use Rattle.whole_world.proofs.Plain.{Turns, IsPlain, IsMailOf}
 use Rattle.whole_world.proofs.Stepwise.{flew_on, steps_plain, short_plain}
 use Rattle.whole_world.proofs.Along.{mail_here, unseen_at}
-use Rattle.whole_world.proofs.Keeping.{follows_epoch, apart}
+use Rattle.whole_world.proofs.Keeping.{follows_epoch, apart, of_mail}
 use Rattle.whole_world.proofs.Seeing.{among_reverse, put_slots, put_among}
 use Rattle.whole_world.proofs.Stepping.{makes_stand}
 use Rattle.whole_world.proofs.Viewing.{slot_here, slot_other}
@@ -308,7 +308,7 @@ module _ (plan : Plan) (old : World) (stands : Stands plan old) (charted : IsCha
 
   does_chart : (tells : Bool) (step : Step) (said : Said) (new : World) → DoesStep plan tells old step said new → IsCharted plan new
   does_chart tells step said new (ForMessages one is answer says for_mail does follow) = plain_chart new
-      (steps_plain (mail_world_of old) (mail_world_of new) (apart plan old stands) plan tells one answer (λ n e. starts_not n (subst (IsForMessages old) e for_mail)) does) follow
+      (steps_plain (mail_world_of old) (mail_world_of new) (apart plan old stands) plan tells one answer (λ n e. starts_not n (subst (IsForMessages old) e for_mail)) (of_mail old one for_mail) does) follow
     where
       starts_not : (n : ℕ) → IsForMessages old (Start n) → ⊥
       starts_not n p = p
@@ -382,7 +382,7 @@ module _ (plan : Plan) (old : World) (stands : Stands plan old) (charted : IsCha
   does_chart tells step said new (SendsReports from to is (HasNone node disk up none says new_world)) = subst (IsCharted plan) (sym new_world) charted
 
   short_chart : (tells : Bool) (step : Step) (n : ℕ) (new : World) → RunsShort plan old step n new → IsCharted plan new
-  short_chart tells step n new (InMessages one is for_mail short follow) = plain_chart new (short_plain (mail_world_of old) (mail_world_of new) (apart plan old stands) plan one n short) follow
+  short_chart tells step n new (InMessages one is for_mail short follow) = plain_chart new (short_plain (mail_world_of old) (mail_world_of new) (apart plan old stands) plan one n (of_mail old one for_mail) short) follow
   short_chart tells step n new (Starting disk pending next records is here stops new_world) = down_chart new n (record { life = Down pending; disk = disk }) next records here
       (ap (λ (w : World). w.slots) new_world) (λ letter m. subst (λ (w : World). Among letter (letters_of w.flying)) new_world m)
   short_chart tells step n new (Promising node disk promise up why g) = cut_chart n node disk _ up new g

@@ -23,13 +23,13 @@ use Rattle.whole_model.specs.Rules.{IsMapsBody, IsMailBody}
 use Rattle.whole_world.specs.World.{World, mail_world_of, slot_up, IsUp, Reaction, after}
 use Rattle.whole_world.specs.Steps.{Said}
 use Rattle.whole_world.specs.Steps.StepOutcome.{Says}
-use Rattle.whole_world.specs.Makes.{done_for_maps, learnt, promise_by, MakesStep}
+use Rattle.whole_world.specs.Makes.{done_for_maps, learnt, promise_by, MakesStep, IsForMessages}
 use Rattle.whole_world.specs.Makes.HearsMaps.{Hears, FailsHearing}
 use Rattle.whole_world.specs.Makes.DoesStep.{ForMessages, PostsMaps, Starts, OpensGroup, ConcludesGroup, SendsReports}
 use Rattle.whole_world.specs.Laws.{Stands}
 use Rattle.whole_world.proofs.Plain.{IsMailOf}
 use Rattle.whole_world.proofs.Stepwise.{flew_on, steps_plain}
-use Rattle.whole_world.proofs.Keeping.{apart}
+use Rattle.whole_world.proofs.Keeping.{apart, of_mail}
 use Rattle.whole_world.proofs.Seeing.{put_slots, put_among}
 use Rattle.whole_world.proofs.Stepping.{makes_stand}
 use Rattle.whole_world.proofs.Viewing.{slot_here, slot_other}
@@ -156,7 +156,7 @@ module _ (plan : Plan) (tells : Bool) (g : Membership) (old new : World) (stands
   post_within : (number : ℕ) (said : Said) → MakesStep plan tells old (OfMessages (Post number false)) (Says said) new → IsFine said → Within g old new
   post_within number said (fits, ForMessages one step answer says for_mail does follow) fine =
       let posts : mail_makes.DoesStep plan tells (mail_world_of old) (Post number false) answer (mail_world_of new) = subst (λ (k : mail_steps.Step). mail_makes.DoesStep plan tells (mail_world_of old) k answer (mail_world_of new)) (inside one step) does in
-      let plain = steps_plain (mail_world_of old) (mail_world_of new) (apart plan old stands) plan tells (Post number false) answer (λ n e. not_start n e) posts in
+      let plain = steps_plain (mail_world_of old) (mail_world_of new) (apart plan old stands) plan tells (Post number false) answer (λ n e. not_start n e) (of_mail old (Post number false) (subst (IsForMessages old) (inside one step) for_mail)) posts in
       let s = plain_stays old new plain follow (posts_up (mail_world_of old) (mail_world_of new) plan number false answer (λ n e. fine n (says ∙ ap Told e)) posts) in
       record {
         ups = λ n node disk up i. let k = s.ups n node disk up in (k.0, k.1, k.2, k.3, k.4 ∙ i);

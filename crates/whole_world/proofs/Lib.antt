@@ -6,6 +6,7 @@ pub mod Seeing
 pub mod Turning
 pub mod Keeping
 pub mod Stepping
+pub mod Projecting
 pub mod Settling
 pub mod Opening
 pub mod Viewing

@@ -10,6 +10,7 @@ use Rattle.object_model.specs.Mishaps.MishapKind.{Crowded}
 use Rattle.object_model.proofs.Lists.{among_either, among_last}
 use Rattle.cluster_model.specs.Cluster as mail_cluster
 use Rattle.cluster_model.specs.Rules as mail_rules
+use Rattle.cluster_model.specs.Forms as mail_forms
 use Rattle.cluster_model.specs.Room.{has_room}
 use Rattle.cluster_model.specs.World as mail
 use Rattle.cluster_model.specs.World.{letters_of}
@@ -31,9 +32,8 @@ use Rattle.whole_world.specs.World.{World, mail_world_of, slot_up, Reaction, put
 use Rattle.whole_world.specs.Makes.{done_for_maps}
 
 -- a letter of membership or maps, which has no ticket
-pub record IsPlainMaps (letter : Letter) : Type 0 where
-  pub body : IsMapsBody letter.body
-  pub ticket : letter.ticket ≡ None
+abbrev pub IsPlainMaps : Letter → Type 0
+IsPlainMaps letter = mail_forms.IsPlainMaps letter
 
 pub mail_set : (slots : List Slot) (n : ℕ) (slot : Slot) → map mail_slot (with_slot slots n slot) ≡ mail_cluster.with_slot (map mail_slot slots) n (mail_slot slot)
 mail_set slots zero slot = refl

@@ -32,7 +32,7 @@ use Rattle.cluster_model.specs.Deeds as mail_deeds
 use Rattle.cluster_model.specs.Rules as mail_rules
 use Rattle.cluster_model.specs.Room.{has_room}
 use Rattle.cluster_model.specs.Makes as mail_makes
-use Rattle.cluster_model.specs.Makes.Posts.{NobodyUp, OfOtherEpoch, TooLate, IsHeard, FailsHearing as MailFails}
+use Rattle.cluster_model.specs.Makes.Posts.{NobodyUp, OfOtherEpoch, TooLate, IsHeard, FailsHearing as MailFails, IsForMaps, FailsForMaps}
 use Rattle.cluster_model.specs.Makes.Pushes.{Sends as MailSends, FailsPushing}
 use Rattle.cluster_model.specs.Steps.Step.{PushTo}
 use Rattle.whole_world.specs.Steps.Step.{OfMessages, ReportTo}
@@ -394,6 +394,8 @@ module _ (plan : Plan) (tells : Bool) (w new : World) (stands : Stands plan w) w
       by (OfOtherEpoch f node disk up thrown told is) = le_same w.sent new.sent (ap (λ (v : mail.World). v.sent) is)
       by (TooLate f node disk up thrown told is) = le_same w.sent new.sent (ap (λ (v : mail.World). v.sent) is)
       by (IsHeard f node disk up thrown told is) = subst (λ k. w.sent ≤ k) (sym (ap (λ (v : mail.World). v.sent) is)) (mail_sent (mail_deeds.hear f.letter.to plan.nodes node disk f.letter).out _)
+      by (IsForMaps f node disk up of fresh told did forms is) = subst (λ k. w.sent ≤ k) (sym (ap (λ (v : mail.World). v.sent) is)) (mail_sent did.out _)
+      by (FailsForMaps f node disk promise up of fresh told down g is) = absurd (fine f.letter.to (says ∙ ap Told told))
       by (MailFails f node disk up thrown told down g is) = absurd (fine f.letter.to (says ∙ ap Told told))
   post_sent number said (fits, PostsMaps other keep step (Hears f node disk up of fresh did h says is)) fine = subst (λ k. w.sent ≤ k) (sym (ap (λ (v : World). v.sent) is)) (whole_sent did.out _)
   post_sent number said (fits, PostsMaps other keep step (FailsHearing f node disk up of fresh says down g is)) fine = absurd (fine f.letter.to says)

@@ -32,7 +32,7 @@ use Rattle.whole_model.specs.Rules.{differ, turned_for, followed, follows, IsMap
 use Rattle.whole_world.specs.World.{World, mail_world_of, slot_up, IsUp, FollowsAlong, Reaction, after}
 use Rattle.whole_world.specs.Steps.{Said, users_reported}
 use Rattle.whole_world.specs.Steps.StepOutcome.{Says}
-use Rattle.whole_world.specs.Makes.{done_for_maps, learnt, promise_by, MakesStep}
+use Rattle.whole_world.specs.Makes.{done_for_maps, learnt, promise_by, MakesStep, IsForMessages}
 use Rattle.whole_world.specs.Makes.Reports.{Sends, HasNone}
 use Rattle.whole_world.specs.Makes.HearsMaps.{Hears, FailsHearing}
 use Rattle.whole_world.specs.Makes.DoesStep.{ForMessages, PostsMaps, Starts, OpensGroup, ConcludesGroup, SendsReports}
@@ -40,7 +40,7 @@ use Rattle.whole_world.specs.Laws.{Stands}
 use Rattle.whole_world.proofs.Plain.{IsPlain, IsMailOf}
 use Rattle.whole_world.proofs.Stepwise.{flew_on, steps_plain}
 use Rattle.whole_world.proofs.Along.{mail_here}
-use Rattle.whole_world.proofs.Keeping.{follows_epoch, apart}
+use Rattle.whole_world.proofs.Keeping.{follows_epoch, apart, of_mail}
 use Rattle.whole_world.proofs.Seeing.{put_slots, put_among}
 use Rattle.whole_world.proofs.Stepping.{makes_stand}
 use Rattle.whole_world.proofs.Viewing.{slot_here, slot_other}
@@ -50,7 +50,7 @@ use Rattle.cluster_model.specs.Deeds as mail_deeds
 use Rattle.cluster_model.specs.Rules as mail_rules
 use Rattle.cluster_model.specs.Room.{has_room}
 use Rattle.cluster_model.specs.Makes as mail_makes
-use Rattle.cluster_model.specs.Makes.Posts.{NobodyUp, OfOtherEpoch, TooLate, IsHeard, FailsHearing as MailFails}
+use Rattle.cluster_model.specs.Makes.Posts.{NobodyUp, OfOtherEpoch, TooLate, IsHeard, FailsHearing as MailFails, IsForMaps, FailsForMaps}
 use Rattle.cluster_model.specs.Makes.Pushes.{Sends as MailSends, FailsPushing}
 use Rattle.cluster_model.specs.Steps.Said.{Faulted}
 use Rattle.cluster_model.specs.Steps.Step.{PushTo}
@@ -143,6 +143,9 @@ module _ (old new : mail.World) where
   posts_up plan number keep said fine (TooLate f node disk up thrown says is) = subst (λ (w : mail.World). KeepsUp old.slots w.slots) (sym is) (λ n a d e. (a, d, e))
   posts_up plan number keep said fine (IsHeard f node disk up thrown says is) = subst (λ (w : mail.World). KeepsUp old.slots w.slots) (sym is)
       (after_up old (record old { flying = mail.flies_on old number f keep }) f.letter.to node disk (mail_deeds.hear f.letter.to plan.nodes node disk f.letter) refl up)
+  posts_up plan number keep said fine (IsForMaps f node disk up of fresh says did forms is) = subst (λ (w : mail.World). KeepsUp old.slots w.slots) (sym is)
+      (after_up old (record old { flying = mail.flies_on old number f keep }) f.letter.to node disk did refl up)
+  posts_up plan number keep said fine (FailsForMaps f node disk promise up of fresh says down g is) = absurd (fine f.letter.to says)
   posts_up plan number keep said fine (MailFails f node disk up thrown says down g is) = absurd (fine f.letter.to says)
 
 -- records of messages leave the boot
@@ -282,7 +285,7 @@ module _ (plan : Plan) (tells : Bool) (old new : World) (stands : Stands plan ol
   push_stays from to said (fits, ForMessages one step answer says for_mail does follow) fine =
       let same : one ≡ PushTo from to = inside one step in
       let pushes : mail_makes.DoesStep plan tells (mail_world_of old) (PushTo from to) answer (mail_world_of new) = subst (λ (k : mail_steps.Step). mail_makes.DoesStep plan tells (mail_world_of old) k answer (mail_world_of new)) same does in
-      plain_stays old new (steps_plain (mail_world_of old) (mail_world_of new) (apart plan old stands) plan tells (PushTo from to) answer (λ n e. not_start n e) pushes) follow
+      plain_stays old new (steps_plain (mail_world_of old) (mail_world_of new) (apart plan old stands) plan tells (PushTo from to) answer (λ n e. not_start n e) tt pushes) follow
       (pushes_up (mail_world_of old) (mail_world_of new) from to answer (told_fine said answer says fine) pushes)
     where
       inside : (k : mail_steps.Step) → OfMessages (PushTo from to) ≡ OfMessages k → k ≡ PushTo from to
@@ -306,7 +309,7 @@ module _ (plan : Plan) (tells : Bool) (old new : World) (stands : Stands plan ol
   post_stays number said (fits, ForMessages one step answer says for_mail does follow) fine =
       let same : one ≡ Post number false = inside one step in
       let posts : mail_makes.DoesStep plan tells (mail_world_of old) (Post number false) answer (mail_world_of new) = subst (λ (k : mail_steps.Step). mail_makes.DoesStep plan tells (mail_world_of old) k answer (mail_world_of new)) same does in
-      plain_stays old new (steps_plain (mail_world_of old) (mail_world_of new) (apart plan old stands) plan tells (Post number false) answer (λ n e. not_start n e) posts) follow
+      plain_stays old new (steps_plain (mail_world_of old) (mail_world_of new) (apart plan old stands) plan tells (Post number false) answer (λ n e. not_start n e) (of_mail old (Post number false) (subst (IsForMessages old) (inside one step) for_mail)) posts) follow
       (posts_up (mail_world_of old) (mail_world_of new) plan number false answer (told_fine said answer says fine) posts)
     where
       inside : (k : mail_steps.Step) → OfMessages (Post number false) ≡ OfMessages k → k ≡ Post number false

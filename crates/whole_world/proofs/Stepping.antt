@@ -63,7 +63,7 @@ use Rattle.whole_world.specs.Makes.RunsShort.{InMessages, Starting, Promising}
 use Rattle.whole_world.specs.Steps.{step_fault}
 use Rattle.whole_world.specs.Steps.StepFault.{Fault}
 use Rattle.std.specs.Option.{option_map}
-use Rattle.whole_world.proofs.Keeping.{one_epoch_write, disks_heard, promised_above, joined, plain_stands, apart}
+use Rattle.whole_world.proofs.Keeping.{one_epoch_write, disks_heard, promised_above, joined, plain_stands, apart, of_mail}
 
 -- no world changes
 module _ (plan : Plan) (old : World) (stands : Stands plan old) where
@@ -247,7 +247,7 @@ module _ (plan : Plan) (old : World) (stands : Stands plan old) where
     now = found ++ Boot boot ∷ []
 
     abbrev first : mail_cluster.Node
-    first = mail_starts.started n plan.nodes boot now
+    first = mail_starts.started n None boot now
 
     abbrev node_now : Node
     node_now = started n plan.nodes found now
@@ -267,32 +267,19 @@ module _ (plan : Plan) (old : World) (stands : Stands plan old) where
     down_seen : mail_cluster.slot_at seen_old.slots n ≡ Some (record { life = mail_cluster.Life.Down pending; disk = disk })
     down_seen = mail_here old.slots n (record { life = Down pending; disk = disk }) here
 
-    -- as messages see it, it starts and then has no epoch
+    -- as messages see it
     abbrev begun_world : mail.World
     begun_world = record seen_old { slots = mail_cluster.with_slot seen_old.slots n (mail_deeds.slot_up first now) }
 
-    abbrev bare : List Record → mail_rules.Reaction
-    bare d = record { node = record first { installed = None }; disk = d; out = [] }
-
     starts_node : mail_starts.StartsNode n plan.nodes disk pending first now
-    starts_node = record { kept = kept; pending_is = pending_is; records = refl; is = refl }
-
-    bares : (d : List Record) → d ≡ now → mail_moves.IsReady n (mail_deeds.slot_up first now) None → mail_moves.IsAct (mail_deeds.act_of n first now (bare d) None None [])
-    bares d e ready = subst (λ x. mail_moves.IsAct (mail_deeds.act_of n first now (bare x) None None [])) (append-nil now ∙ sym e)
-        (membership_acts n first now None None None [] (λ letter h. absurd (cc h)) (λ letter m. absurd m) ready).is
+    starts_node = record { kept = kept; pending_is = pending_is; records = refl; installed = None; begins = inl refl; is = refl }
 
     starts_mail : Leads plan.confirm no_octets (mail.cluster_of seen_old) (mail.cluster_of (mail_world_of new_world))
-    starts_mail = led_on plan.confirm no_octets (mail.cluster_of seen_old) (mail.cluster_of begun_world) (mail.cluster_of (mail_world_of new_world))
+    starts_mail = subst (λ (s : List mail_cluster.Slot). Leads plan.confirm no_octets (mail.cluster_of seen_old) (record { slots = s; flying = letters_of old.flying; book = old.book ++ CameUp n boot ∷ [] }))
+        (sym (mail_set old.slots n (slot_up node_now now)))
+        (led_on plan.confirm no_octets (mail.cluster_of seen_old) (mail.cluster_of begun_world) _
         (quiet_leads plan.confirm no_octets seen_old (mail_deeds.start_act n disk pending first now) refl refl refl refl down_seen (λ ready. start_acts n plan.nodes disk pending now first starts_node ready))
-        (subst (λ (s : List mail_cluster.Slot). Leads plan.confirm no_octets (mail.cluster_of begun_world) (record { slots = s; flying = letters_of old.flying; book = old.book ++ CameUp n boot ∷ [] }))
-        (slot_again seen_old.slots n (mail_deeds.slot_up first now) (mail_deeds.slot_up (bare now).node now) ∙ sym (mail_set old.slots n (slot_up node_now now)))
-        (led_on plan.confirm no_octets (mail.cluster_of begun_world) (mail.cluster_of bare_world) _
-        (quiet_leads plan.confirm no_octets begun_world (mail_deeds.act_of n first now (bare now) None None []) refl refl refl refl
-        (mail_slots.at_same seen_old.slots n (record { life = mail_cluster.Life.Down pending; disk = disk }) (mail_deeds.slot_up first now) down_seen) (λ ready. bares now refl ready))
-        (books_one plan.confirm no_octets (mail.cluster_of bare_world) (CameUp n boot) tt)))
-      where
-        bare_world : mail.World
-        bare_world = record begun_world { slots = mail_cluster.with_slot begun_world.slots n (mail_deeds.slot_up (bare now).node now) }
+        (books_one plan.confirm no_octets (mail.cluster_of begun_world) (CameUp n boot) tt))
 
     -- and as maps see it
     starts_maps : LeadsTo (maps_world_of old) (maps_world_of new_world)
@@ -327,7 +314,7 @@ module _ (plan : Plan) (old : World) (stands : Stands plan old) where
       → mail_starts.StopsStart disk pending next records
       → new ≡ record old { slots = with_slot old.slots n (record { life = Down next; disk = records }); book = old.book ++ WentDown n ∷ [] } → Stands plan new
   stops_stand tells n disk pending next records new here stops is = subst (Stands plan) (sym is)
-      (plain_stands plan old stands tells fallen (Start n) (mail_steps.StepOutcome.NoMemory (Some n)) short (short_plain (mail_world_of old) (mail_world_of fallen) (apart plan old stands) plan (Start n) n short) follow)
+      (plain_stands plan old stands tells fallen (Start n) (mail_steps.StepOutcome.NoMemory (Some n)) short (short_plain (mail_world_of old) (mail_world_of fallen) (apart plan old stands) plan (Start n) n tt short) follow)
     where
       fallen : World
       fallen = record old { slots = with_slot old.slots n (record { life = Down next; disk = records }); book = old.book ++ WentDown n ∷ [] }
@@ -380,7 +367,7 @@ module _ (plan : Plan) (old : World) (stands : Stands plan old) where
   does_stand tells step said new fits (ForMessages one is answer says for_mail does follow) =
       plain_stands plan old stands tells new one (mail_steps.StepOutcome.Says answer)
       (no_fault (mail_steps.step_fault plan one (mail_world_of old)) (subst (λ (s : Step). step_fault plan s old ≡ None) is fits), does)
-      (steps_plain (mail_world_of old) (mail_world_of new) (apart plan old stands) plan tells one answer (λ n e. starts_not n (subst (IsForMessages old) e for_mail)) does) follow
+      (steps_plain (mail_world_of old) (mail_world_of new) (apart plan old stands) plan tells one answer (λ n e. starts_not n (subst (IsForMessages old) e for_mail)) (of_mail old one for_mail) does) follow
     where
       starts_not : (n : ℕ) → IsForMessages old (Start n) → ⊥
       starts_not n p = p
@@ -395,12 +382,12 @@ module _ (plan : Plan) (old : World) (stands : Stands plan old) where
 
   short_stand : (tells : Bool) (step : Step) (n : ℕ) (new : World) → RunsShort plan old step n new → Stands plan new
   short_stand tells step n new (InMessages one is for_mail short follow) = plain_stands plan old stands tells new one (mail_steps.StepOutcome.NoMemory (Some n)) short
-      (short_plain (mail_world_of old) (mail_world_of new) (apart plan old stands) plan one n short) follow
+      (short_plain (mail_world_of old) (mail_world_of new) (apart plan old stands) plan one n (of_mail old one for_mail) short) follow
   short_stand tells step n new (Starting disk pending next records is here stops new_world) = stops_stand tells n disk pending next records new here stops new_world
   short_stand tells step n new (Promising node disk promise up why g) = cut_stands n node disk up promise (⊎_elim
       (λ (is, p). λ epoch e. next_above n node disk up epoch (sym p ∙ e))
       (⊎_elim (λ (is, p). λ epoch e. absurd (cc (sym p ∙ e)))
-      (λ (number, keep, flies, is, at, p). λ epoch e. promised_above node.maps flies.letter.body epoch (sym p ∙ e)))
+      (λ (number, keep, flies, is, at, of, fresh, p). λ epoch e. promised_above node.maps flies.letter.body epoch (sym p ∙ e)))
       why) new g
 
   pub makes_stand : (tells : Bool) (step : Step) (outcome : StepOutcome) (new : World) → MakesStep plan tells old step outcome new → Stands plan new

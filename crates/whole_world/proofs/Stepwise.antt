@@ -24,19 +24,20 @@ use Rattle.cluster_model.specs.Cluster.Life.{Up, Down, Lost}
 use Rattle.cluster_model.specs.Store.{Store, Update, take_all, with_octets, gone_updates, here_updates}
 use Rattle.cluster_model.specs.Rules.{Reaction, StrikeItem, idle, store_of, shrunk, acked_at, retired_at, told_at, with_updates, pushed_octets, ticket_at, push, push_of, widened, widen, begin_deliver, begin_strike, begin_read, end_ticket, dated, marks_for, new_number, receivers, letters_to, strike_to, strikes_to}
 use Rattle.cluster_model.specs.Deeds.{slot_up, hear, hear_body}
-use Rattle.cluster_model.specs.Thrown.{with_stamps}
+use Rattle.cluster_model.specs.Forms.{IsMapsBody}
+use Rattle.cluster_model.specs.Thrown.{with_stamps, is_stale}
 use Rattle.cluster_model.specs.Room.{Flight, has_room, octets_flying, most_pushes, due_to, keys_pushed, fitting}
 use Rattle.cluster_model.specs.World.{World, letters_of, put, Flies, flies_on}
 use Rattle.cluster_model.specs.Steps.{NodeCall, Step, Said}
 use Rattle.cluster_model.specs.Steps.NodeCall.{Deliver, Login, Fetch, Strike as StrikeCall, Leave}
-use Rattle.cluster_model.specs.Steps.Step.{Begin, AskFor, GiveUp, Post, DropLetter, PushTo, Widen, Crash, Start, Lose, Tick}
-use Rattle.cluster_model.specs.Makes.{IsUp, after, with_struck, begun_by, lost_letter, IsWorkCut, NodeGoesDown, cut_world, BeginsCall, AnswersAsk, Posts, DoesStep, RunsShort, targets_for, asked_for}
+use Rattle.cluster_model.specs.Steps.Step.{Begin, AskFor, GiveUp, Post, DropLetter, PushTo, Widen, Form, Crash, Start, Lose, Tick}
+use Rattle.cluster_model.specs.Makes.{IsUp, after, with_struck, begun_by, lost_letter, IsWorkCut, NodeGoesDown, cut_world, BeginsCall, AnswersAsk, Posts, FormsIn, DoesStep, RunsShort, targets_for, asked_for}
 use Rattle.cluster_model.specs.Makes.BeginsCall.{FailsAtOnce, Goes, FailsInIt, Reads, FailsReading, Leaves}
 use Rattle.cluster_model.specs.Makes.AnswersAsk.{Waits, Ends}
-use Rattle.cluster_model.specs.Makes.Posts.{NobodyUp, OfOtherEpoch, TooLate, IsHeard, FailsHearing}
+use Rattle.cluster_model.specs.Makes.Posts.{NobodyUp, OfOtherEpoch, TooLate, IsHeard, FailsHearing, IsForMaps, FailsForMaps}
 use Rattle.cluster_model.specs.Makes.Pushes.{Sends, FailsPushing}
 use Rattle.cluster_model.specs.Makes.Widens.{Adds, FailsWidening}
-use Rattle.cluster_model.specs.Makes.RunsShort.{Beginning, Hearing, Widening, Starting}
+use Rattle.cluster_model.specs.Makes.RunsShort.{Beginning, Hearing, Widening, Forming, Starting}
 use Rattle.cluster_model.proofs.Logs.{receiver_is, sent_to}
 use Rattle.cluster_model.proofs.HearLogs.{among_flat}
 use Rattle.cluster_model.proofs.Stepping.{letters_both, letters_around, flew}
@@ -244,6 +245,12 @@ struck_same w (Login user secret) = (refl, refl)
 struck_same w (Fetch user id from most) = (refl, refl)
 struck_same w (Leave user) = (refl, refl)
 
+-- No epoch forms in the step: it is no Form, and it hands on no letter of membership or maps that its receiver hears.
+abbrev pub IsOfMail : World → Step → Type 0
+IsOfMail old (Form n) = ⊥
+IsOfMail old (Post number keep) = (f : Flies old number) (node : Node) (disk : List Record) → IsUp old f.letter.to node disk → is_stale f.letter node.installed ≡ false → IsMapsBody f.letter.body → ⊥
+IsOfMail old step = Unit {0}
+
 module _ (old new : World) where
   -- over a world with the same slots, of which no more letters fly
   after_plain : (x : World) → x.slots ≡ old.slots → Flew old x → (own : ℕ) (node : Node) (disk : List Record) → IsUp old own node disk → (did : Reaction) → Did own node disk did
@@ -289,31 +296,33 @@ module _ (old new : World) where
     heard_did : (plan : Plan) (number : ℕ) (f : Flies old number) (node : Node) (disk : List Record) → Did f.letter.to node disk (hear f.letter.to plan.nodes node disk f.letter)
     heard_did plan number f node disk = hear_did f.letter.to plan.nodes node disk f.letter refl (apart f.letter (flew old number f))
 
-    posts_plain : (plan : Plan) (number : ℕ) (keep : Bool) (answer : Said) → Posts plan old number keep answer new → IsPlain old new
-    posts_plain plan number keep answer (NobodyUp f nobody is new_world) = subst (IsPlain old) (sym new_world) (lost_plain old DownKind number f keep)
-    posts_plain plan number keep answer (OfOtherEpoch f node disk up thrown is new_world) = subst (IsPlain old) (sym new_world) (lost_plain old StaleKind number f keep)
-    posts_plain plan number keep answer (TooLate f node disk up thrown is new_world) = subst (IsPlain old) (sym new_world) (plain_same old _ refl (λ letter m. flew_on old number f keep letter m))
-    posts_plain plan number keep answer (IsHeard f node disk up thrown is new_world) =
+    posts_plain : (plan : Plan) (number : ℕ) (keep : Bool) (answer : Said) → IsOfMail old (Post number keep) → Posts plan old number keep answer new → IsPlain old new
+    posts_plain plan number keep answer of (NobodyUp f nobody is new_world) = subst (IsPlain old) (sym new_world) (lost_plain old DownKind number f keep)
+    posts_plain plan number keep answer of (OfOtherEpoch f node disk up thrown is new_world) = subst (IsPlain old) (sym new_world) (lost_plain old StaleKind number f keep)
+    posts_plain plan number keep answer of (TooLate f node disk up thrown is new_world) = subst (IsPlain old) (sym new_world) (plain_same old _ refl (λ letter m. flew_on old number f keep letter m))
+    posts_plain plan number keep answer of (IsHeard f node disk up thrown is new_world) =
         after_plain (record old { flying = flies_on old number f keep }) refl (λ letter m. flew_on old number f keep letter m) f.letter.to node disk up
         (hear f.letter.to plan.nodes node disk f.letter) (heard_did plan number f node disk) new_world
-    posts_plain plan number keep answer (FailsHearing f node disk up thrown is down g new_world) = subst (IsPlain old) (sym new_world)
+    posts_plain plan number keep answer of (FailsHearing f node disk up thrown is down g new_world) = subst (IsPlain old) (sym new_world)
         (plain_soft old down _ (subst (IsPlain old) (sym g.is)
         (falls_plain old f.letter.to node disk (hear f.letter.to plan.nodes node disk f.letter).disk up (heard_did plan number f node disk).of.grew g.front g.pending g.cut
         (cut_world old f.letter.to disk g.front g.pending) refl (λ letter m. m)))
         (soft_missed Disk down.slots f.letter)
         (λ letter m. subst (λ (v : World). Among letter (letters_of v.flying)) (sym g.is) (flew_on old number f keep letter m)))
+    posts_plain plan number keep answer of (IsForMaps f node disk up maps fresh is did forms new_world) = absurd (of f node disk up fresh maps)
+    posts_plain plan number keep answer of (FailsForMaps f node disk promise up maps fresh is down g new_world) = absurd (of f node disk up fresh maps)
 
-    pub steps_plain : (plan : Plan) (tells : Bool) (step : Step) (answer : Said) → ((n : ℕ) → step ≡ Start n → ⊥) → DoesStep plan tells old step answer new → IsPlain old new
-    steps_plain plan tells (Begin own call) answer other d = begins_plain plan tells own call answer d
-    steps_plain plan tells (AskFor number) answer other d = asks_plain plan number answer d
-    steps_plain plan tells (GiveUp number) answer other d = after_plain old refl (λ letter m. m) number.node d.node d.disk d.up (end_ticket number.seq d.node d.disk) (still number.node d.node _ d.disk refl) d.new_world
-    steps_plain plan tells (Post number keep) answer other d = posts_plain plan number keep answer d
-    steps_plain plan tells (DropLetter number) answer other d = subst (IsPlain old) (sym d.new_world) (lost_plain old Dropped number d.flies false)
-    steps_plain plan tells (PushTo from to) answer other (Sends node disk up is new_world) = after_plain old refl (λ letter m. m) from node disk up _ (push_did from to old.flying node disk) new_world
-    steps_plain plan tells (PushTo from to) answer other (FailsPushing node disk up is new_world) = stop_plain from node disk up new_world
-    steps_plain plan tells (Widen at user id to) answer other (Adds node disk up is new_world) = after_plain old refl (λ letter m. m) at node disk up _ (widen_did at to (Message user id) node disk) new_world
-    steps_plain plan tells (Widen at user id to) answer other (FailsWidening node disk up is g) = cut_plain old refl (λ letter m. m) at node disk up _ (widen_did at to (Message user id) node disk) g
-    steps_plain plan tells (Crash n) answer other d = subst (IsPlain old) (sym d.new_world) (crashes d.slot.life refl)
+    pub steps_plain : (plan : Plan) (tells : Bool) (step : Step) (answer : Said) → ((n : ℕ) → step ≡ Start n → ⊥) → IsOfMail old step → DoesStep plan tells old step answer new → IsPlain old new
+    steps_plain plan tells (Begin own call) answer other of d = begins_plain plan tells own call answer d
+    steps_plain plan tells (AskFor number) answer other of d = asks_plain plan number answer d
+    steps_plain plan tells (GiveUp number) answer other of d = after_plain old refl (λ letter m. m) number.node d.node d.disk d.up (end_ticket number.seq d.node d.disk) (still number.node d.node _ d.disk refl) d.new_world
+    steps_plain plan tells (Post number keep) answer other of d = posts_plain plan number keep answer of d
+    steps_plain plan tells (DropLetter number) answer other of d = subst (IsPlain old) (sym d.new_world) (lost_plain old Dropped number d.flies false)
+    steps_plain plan tells (PushTo from to) answer other of (Sends node disk up is new_world) = after_plain old refl (λ letter m. m) from node disk up _ (push_did from to old.flying node disk) new_world
+    steps_plain plan tells (PushTo from to) answer other of (FailsPushing node disk up is new_world) = stop_plain from node disk up new_world
+    steps_plain plan tells (Widen at user id to) answer other of (Adds node disk up is new_world) = after_plain old refl (λ letter m. m) at node disk up _ (widen_did at to (Message user id) node disk) new_world
+    steps_plain plan tells (Widen at user id to) answer other of (FailsWidening node disk up is g) = cut_plain old refl (λ letter m. m) at node disk up _ (widen_did at to (Message user id) node disk) g
+    steps_plain plan tells (Crash n) answer other of d = subst (IsPlain old) (sym d.new_world) (crashes d.slot.life refl)
       where
         crashes : (life : Life) → d.slot.life ≡ life → IsPlain old (record old { slots = with_slot old.slots n (record d.slot { life = Down [] }); book = old.book ++ WentDown n ∷ [] })
         crashes (Up node) e = plain_write old _ n (slot_up node d.slot.disk) (record { life = Down []; disk = d.slot.disk }) (d.here ∙ ap (λ (l : Life). Some (record { life = l; disk = d.slot.disk })) e)
@@ -321,18 +330,25 @@ module _ (old new : World) where
         crashes (Down pending) e = plain_write old _ n (record { life = Down pending; disk = d.slot.disk }) (record { life = Down []; disk = d.slot.disk }) (d.here ∙ ap (λ (l : Life). Some (record { life = l; disk = d.slot.disk })) e)
             (Stops d.slot.disk pending [] d.slot.disk refl (record { kept = []; pending_is = inl refl; records = sym (append-nil d.slot.disk); next_is = inl refl }) refl) refl (λ letter m. m)
         crashes Lost e = absurd (d.was e)
-    steps_plain plan tells (Start n) answer other d = absurd (other n refl)
-    steps_plain plan tells (Lose n) answer other d = subst (IsPlain old) (sym d.new_world)
+    steps_plain plan tells (Form n) answer other of d = absurd of
+    steps_plain plan tells (Start n) answer other of d = absurd (other n refl)
+    steps_plain plan tells (Lose n) answer other of d = subst (IsPlain old) (sym d.new_world)
         (plain_write old _ n d.slot (record { life = Lost; disk = d.slot.disk ++ d.kept }) d.here (IsLost d.was d.kept d.pending_is refl) refl (λ letter m. m))
-    steps_plain plan tells (Tick seconds) answer other d = subst (IsPlain old) (sym d.1) (plain_same old _ refl (λ letter m. m))
+    steps_plain plan tells (Tick seconds) answer other of d = subst (IsPlain old) (sym d.1) (plain_same old _ refl (λ letter m. m))
 
     -- memory runs out in the midst of a step
-    pub short_plain : (plan : Plan) (step : Step) (n : ℕ) → RunsShort plan old step n new → IsPlain old new
-    short_plain plan step n (Beginning call node disk octets is up filed g) =
+    pub short_plain : (plan : Plan) (step : Step) (n : ℕ) → IsOfMail old step → RunsShort plan old step n new → IsPlain old new
+    short_plain plan step n of (Beginning call node disk octets is up filed g) =
         cut_plain (with_struck old call) (struck_same old call).0 (λ letter m. subst (λ (f : List Flight). Among letter (letters_of f)) (struck_same old call).1 m) n node disk up
         (begun_by plan old n node disk call octets) (begun_did plan old n node disk call octets) g
-    short_plain plan step n (Hearing number keep f node disk is at up g) = cut_plain old refl (λ letter m. m) n node disk up (hear n plan.nodes node disk f.letter)
+    short_plain plan step n of (Hearing number keep f node disk is at up g) = cut_plain old refl (λ letter m. m) n node disk up (hear n plan.nodes node disk f.letter)
         (hear_did n plan.nodes node disk f.letter at (λ same. apart f.letter (flew old number f) (same ∙ sym at))) g
-    short_plain plan step n (Widening user id to node disk is up g) = cut_plain old refl (λ letter m. m) n node disk up _ (widen_did n to (Message user id) node disk) g
-    short_plain plan step n (Starting disk pending next records is here stops new_world) = subst (IsPlain old) (sym new_world)
+    short_plain plan step n of (Widening user id to node disk is up g) = cut_plain old refl (λ letter m. m) n node disk up _ (widen_did n to (Message user id) node disk) g
+    short_plain plan step n of (Forming node disk promise up forms g) = absurd (never step of forms)
+      where
+        never : (one : Step) → IsOfMail old one → FormsIn old node n one → ⊥
+        never (Form own) none f = none
+        never (Post number keep) none (flies, to, maps, fresh) = none flies node disk (subst (λ k. IsUp old k node disk) (sym to) up) fresh maps
+        never one none f = f
+    short_plain plan step n of (Starting disk pending next records is here stops new_world) = subst (IsPlain old) (sym new_world)
         (plain_write old _ n (record { life = Down pending; disk = disk }) (record { life = Down next; disk = records }) here (Stops disk pending next records refl stops refl) refl (λ letter m. m))

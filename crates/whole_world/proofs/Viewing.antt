@@ -19,7 +19,7 @@ use Rattle.cluster_model.specs.Steps as mail_steps
 use Rattle.cluster_model.specs.Steps.Step.{Post, Start}
 use Rattle.cluster_model.specs.Steps.Said.{Thrown, Faulted}
 use Rattle.cluster_model.specs.Makes as mail_makes
-use Rattle.cluster_model.specs.Makes.Posts.{NobodyUp, OfOtherEpoch, TooLate, IsHeard, FailsHearing as MailFails}
+use Rattle.cluster_model.specs.Makes.Posts.{NobodyUp, OfOtherEpoch, TooLate, IsHeard, FailsHearing as MailFails, IsForMaps, FailsForMaps}
 use Rattle.maps_model.specs.Cluster as maps
 use Rattle.maps_model.specs.Rules as maps_rules
 use Rattle.whole_model.specs.Whole.{Node, Life, Slot, slot_at, with_slot, mail_slot, maps_disk_of}
@@ -36,6 +36,7 @@ use Rattle.whole_world.specs.Makes.HearsMaps.{Hears, FailsHearing}
 use Rattle.whole_world.specs.Makes.DoesStep.{ForMessages, PostsMaps, Starts, OpensGroup, ConcludesGroup, SendsReports}
 use Rattle.whole_world.specs.Regroup.{maps_in, maps_of_slot, maps_at, HasRoomFor}
 use Rattle.whole_world.proofs.Along.{mail_here, unseen_at}
+use Rattle.whole_world.proofs.Keeping.{maps_not_mail}
 use Rattle.whole_world.proofs.Seeing.{put_slots}
 
 -- slots that are written, read
@@ -231,14 +232,6 @@ views_same w new same follow r = by (slot_at w.slots r) (slot_at new.slots r) re
         let e : mail_slot t ≡ mail_slot s = some_same (mail_cluster.slot_at (map mail_slot w.slots) r) (mail_slot t) (mail_slot s) (ap (λ (l : List mail_cluster.Slot). mail_cluster.slot_at l r) (sym same) ∙ mail_here new.slots r t k) (mail_here w.slots r s h) in
         ap maps_of_slot k ∙ lives s t h k e s.life t.life refl refl ∙ sym (ap maps_of_slot h)
 
-maps_not_mail : (body : Body) → IsMapsBody body → IsMailBody body → ⊥
-maps_not_mail (Group epoch) of also = also
-maps_not_mail (Join epoch promise boot was claims) of also = also
-maps_not_mail (Install g) of also = also
-maps_not_mail (Rattle.object_model.specs.Letters.Body.Report row) of also = also
-maps_not_mail (Rattle.object_model.specs.Letters.Body.ReportAck user version) of also = also
-maps_not_mail body of also = of
-
 module _ (plan : Plan) (tells : Bool) (w new : World) (number : ℕ) (letter : Letter) (front back : List Flight) (is : w.flying ≡ front ++ record { number = number; letter = letter } ∷ back)
     (before : (f : Flight) → Among f front → f.number ≢ number) (behind : (f : Flight) → Among f back → f.number ≢ number) (of : IsOfRounds letter) where
   abbrev Seen : mail.World
@@ -281,6 +274,14 @@ module _ (plan : Plan) (tells : Bool) (w new : World) (number : ℕ) (letter : L
   posts_mail answer for_mail (TooLate f node disk up thrown says new_world) follow said e =
       absurd (not_thrown node letter.to Late (subst (λ (k : Letter). mail_thrown.thrown_by k.to node k ≡ Some Late) (sym (same_flight f).0) thrown))
   posts_mail answer for_mail (IsHeard f node disk up thrown says new_world) follow said e =
+      let u = Rattle.whole_world.proofs.Along.up_slot w.slots f.letter.to node disk up in
+      absurd (maps_not_mail letter.body of.body (subst (λ (k : Letter). IsMailBody k.body) (sym (same_flight f).0)
+      (for_mail f u.0 disk u.1 (subst (λ (k : Letter). is_stale k u.0.mail.installed ≡ false) (same_flight f).0 (of.fresh u.0.mail.installed)))))
+  posts_mail answer for_mail (IsForMaps f node disk up maps fresh says did forms new_world) follow said e =
+      let u = Rattle.whole_world.proofs.Along.up_slot w.slots f.letter.to node disk up in
+      absurd (maps_not_mail letter.body of.body (subst (λ (k : Letter). IsMailBody k.body) (sym (same_flight f).0)
+      (for_mail f u.0 disk u.1 (subst (λ (k : Letter). is_stale k u.0.mail.installed ≡ false) (same_flight f).0 (of.fresh u.0.mail.installed)))))
+  posts_mail answer for_mail (FailsForMaps f node disk promise up maps fresh says down g new_world) follow said e =
       let u = Rattle.whole_world.proofs.Along.up_slot w.slots f.letter.to node disk up in
       absurd (maps_not_mail letter.body of.body (subst (λ (k : Letter). IsMailBody k.body) (sym (same_flight f).0)
       (for_mail f u.0 disk u.1 (subst (λ (k : Letter). is_stale k u.0.mail.installed ≡ false) (same_flight f).0 (of.fresh u.0.mail.installed)))))

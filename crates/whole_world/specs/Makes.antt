@@ -13,7 +13,8 @@ use Rattle.cluster_model.specs.Starts as mail_starts
 use Rattle.cluster_model.specs.Thrown.{Why, with_stamps, is_stale}
 use Rattle.cluster_model.specs.World as mail
 use Rattle.cluster_model.specs.Steps as mail_steps
-use Rattle.cluster_model.specs.Steps.Step.{Post, Start}
+use Rattle.cluster_model.specs.Steps.Step.{Post, Form, Start}
+use Rattle.cluster_model.specs.Steps.StepFault.{Worn}
 use Rattle.cluster_model.specs.Steps.Said.{Heard, Thrown, Sent, NodeUp, Faulted}
 use Rattle.cluster_model.specs.Makes as mail_makes
 use Rattle.maps_model.specs.Cluster as maps
@@ -26,6 +27,7 @@ use Rattle.whole_world.specs.Thrown.{is_before, refused_by}
 use Rattle.whole_world.specs.Steps.{Step, Said, StepOutcome, step_fault, users_reported}
 use Rattle.whole_world.specs.Steps.Step.{OfMessages, OpenGroup, ConcludeGroup, ReportTo}
 use Rattle.whole_world.specs.Steps.Said.{Told, Grouped, Concluded}
+use Rattle.whole_world.specs.Steps.StepFault.{Fault}
 use Rattle.whole_world.specs.Steps.StepOutcome.{Says, Refused, NoMemory}
 
 -- A node does something for membership and maps, and messages see at most that it installs. What a rule of maps leaves of the node is `did`, and it may append a promise.
@@ -106,7 +108,7 @@ pub data HearsMaps (old : World) (number : ℕ) (keep : Bool) (said : Said) (new
 -- the node that starts over these records, before its Boot record: it has no epoch
 abbrev pub started : ℕ → ℕ → List Record → List Record → Node
 started own nodes found records = record {
-  mail = record (mail_starts.started own nodes (boot_of found + 1) records) { installed = None };
+  mail = mail_starts.started own None (boot_of found + 1) records;
   maps = maps_rules.started (maps_disk_of found);
 }
 
@@ -127,6 +129,7 @@ abbrev pub IsForMessages : World → mail_steps.Step → Type 0
 IsForMessages w (Post number keep) =
     (flies : mail.Flies (mail_world_of w) number) (node : Node) (disk : List Record) → IsUp w flies.letter.to node disk → is_stale flies.letter node.mail.installed ≡ false → IsMailBody flies.letter.body
 IsForMessages w (Start n) = ⊥
+IsForMessages w (Form n) = ⊥
 IsForMessages w step = Unit {0}
 
 -- what each step does that is not refused, by what it says
@@ -150,7 +153,8 @@ pub data RunsShort (plan : Plan) (old : World) (step : Step) (n : ℕ) (new : Wo
   Promising : (node : Node) (disk : List Record) (promise : Option EpochId) → IsUp old n node disk
       → ((step ≡ OpenGroup n) × (promise ≡ Some (maps_rules.next_epoch n node.maps)))
       ⊎ ((step ≡ ConcludeGroup n) × (promise ≡ None))
-      ⊎ ((number : ℕ) × (keep : Bool) × (flies : mail.Flies (mail_world_of old) number) × (step ≡ OfMessages (Post number keep)) × (flies.letter.to ≡ n) × (promise ≡ promise_by node.maps flies.letter.body))
+      ⊎ ((number : ℕ) × (keep : Bool) × (flies : mail.Flies (mail_world_of old) number) × (step ≡ OfMessages (Post number keep)) × (flies.letter.to ≡ n) × IsMapsBody flies.letter.body
+      × (is_stale flies.letter node.mail.installed ≡ false) × (promise ≡ promise_by node.maps flies.letter.body))
       → NodeGoesDown old n disk (promise_records promise) new
       → RunsShort plan old step n new
 
@@ -161,7 +165,8 @@ StartIsWorn old step = ⊥
 
 abbrev pub MakesStep : Plan → Bool → World → Step → StepOutcome → World → Type 0
 MakesStep plan tells old step (Says said) new = (step_fault plan step old ≡ None) × DoesStep plan tells old step said new
-MakesStep plan tells old step (Refused fault) new = ((step_fault plan step old ≡ Some fault) ⊎ StartIsWorn old step) × (new ≡ old)
+MakesStep plan tells old step (Refused fault) new =
+    ((step_fault plan step old ≡ Some fault) ⊎ ((step_fault plan step old ≡ None) × (fault ≡ Fault Worn) × StartIsWorn old step)) × (new ≡ old)
 MakesStep plan tells old step (NoMemory None) new = new ≡ old
 MakesStep plan tells old step (NoMemory (Some n)) new = RunsShort plan old step n new
 

@@ -1,5 +1,6 @@
 // The laws of a whole world.
 ghost use Rattle.whole_world.specs.Laws.{StepsKeep};
+ghost use Rattle.whole_world.specs.Seen.{MessagesSeeSteps};
 ghost use Rattle.whole_world.specs.Worked.{OneNodeRegroups};
 ghost use Rattle.whole_world.specs.Epochs.{EpochsBegin, BeginsAnew, PostIsWorn, StaleChangesNothing};
 ghost use Rattle.whole_world.specs.Sweeps.{QuietIsSettled, PushIsAcked, AckClears, StepsChart, OpeningIsCharted, SweepsStay, SweepsSend, SweepIsWorn, FlowsStay, SettleSettles};
@@ -9,6 +10,11 @@ ghost use Rattle.whole_world.specs.Settled.{OpeningStands, OneMapPerEpoch, Promi
 /// Whatever steps are made, both invariants stay.
 pub fn steps_keep()
     ensures { StepsKeep }
+{}
+
+/// Whatever steps are made, messages see that steps of theirs are made.
+pub fn messages_see_steps()
+    ensures { MessagesSeeSteps }
 {}
 
 /// Both invariants hold before a cluster opens over empty disks.

@@ -19,6 +19,7 @@
 //! - `Thrown`: why a node throws a letter, in the order in which the causes are tried.
 //! - `Steps`, `Makes`: what can be done, why it is refused, and what each step makes of a world, by what
 //!   it says.
+//! - `Seen`: which step of `cluster_model` messages see each step as.
 //! - `Laws`: what stays, whatever steps are made and whatever comes of them.
 //! - `Epochs`: how an epoch begins at a node, how a cluster is opened, what a post is refused for.
 //! - `Settled`: live members and settled epochs; one map for each epoch; maps name fragments; members
@@ -28,7 +29,8 @@
 //! - `Worked`: one node starts over an empty disk and regroups.
 //!
 //! The laws are functions that do nothing, and their contracts hold of the definitions alone. Three
-//! lead to the others: `steps_keep`, `regroup_forms` and `settle_settles`.
+//! lead to the others: `steps_keep`, `regroup_forms` and `settle_settles`. And `messages_see_steps` says
+//! that a chain of steps is one of `cluster_model`, as messages see it.
 //!
 //! A node has no epoch when it starts: the first one is formed by a regroup like every other.
 //!
@@ -48,7 +50,8 @@ mod laws;
 
 pub use laws::{
     ack_clears, begins_anew, epochs_begin, flows_stay, holds_here, maps_name_fragments,
-    members_agree, one_map_per_epoch, one_node_regroups, opening_is_charted, opening_stands,
-    post_is_worn, promises_stand, push_is_acked, quiet_is_settled, regroup_forms, settle_settles,
-    stale_changes_nothing, steps_chart, steps_keep, sweep_is_worn, sweeps_send, sweeps_stay,
+    members_agree, messages_see_steps, one_map_per_epoch, one_node_regroups, opening_is_charted,
+    opening_stands, post_is_worn, promises_stand, push_is_acked, quiet_is_settled, regroup_forms,
+    settle_settles, stale_changes_nothing, steps_chart, steps_keep, sweep_is_worn, sweeps_send,
+    sweeps_stay,
 };
