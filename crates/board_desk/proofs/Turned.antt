@@ -6,7 +6,8 @@ use Rattle.io_edge.specs.Causes.{Rose}
 use Rattle.mail_model.specs.Book.{BookEntry}
 use Rattle.mail_base.specs.declared.filing.Begun.{Begun}
 use Rattle.session_model.specs.Calls as model
-use Rattle.call_tickets.specs.Passes.{known_to, with_more, IsQuiet, NoneFell}
+use Rattle.call_tickets.specs.Tells.{TellsMore}
+use Rattle.call_tickets.specs.Passes.{known_to, IsQuiet, NoneFell}
 use Rattle.call_tickets.specs.Begins.{DeskBegins, DeskLeaves}
 use Rattle.call_tickets.specs.Asks.{DeskAsks, OnlyRefuses}
 use Rattle.call_tickets.specs.declared.answer.Ask.{Ask}
@@ -38,7 +39,7 @@ module _ {D F C A : Type 0} (on : View D) (did : Part D F C → A → Part D F C
   still_desk pattern was belongs = record { belongs = belongs; quota_is = t.quota_is ∙ was.quota_is; joined_is = t.joined_is ∙ was.joined_is }
 
   module _ (P : List BookEntry → Type 0) (adds : AddsTo P t.old.world t.new.world) where
-    pub own_grew : Some (own_entries after) ≡ with_more (Some (own_entries before)) adds.added
+    pub own_grew : TellsMore (Some (own_entries before)) adds.added (Some (own_entries after))
     own_grew = ap Some (t.own_is ∙ ap (λ l. own_entries before ++ l) (append_cancel_left (book_of t.old.world) t.added adds.added (sym t.grows ∙ adds.book)))
 
   -- the counts before it are those before the turn

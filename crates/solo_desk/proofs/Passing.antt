@@ -1,7 +1,7 @@
 -- What a call leaves of the pass that it was lent.
 use Rattle.std.proofs.Common.{◌≡◌, List, ◌++◌, Some}
 use Rattle.mail_model.specs.Book.{BookEntry}
-use Rattle.call_tickets.specs.Passes.{with_more}
+use Rattle.call_tickets.specs.Tells.{TellsMore}
 use Rattle.call_tickets.specs.declared.tally.Tally.{Tally}
 use Rattle.node_store.specs.Disks.{View}
 use Rattle.cluster_world.specs.Books.{IsLongerBook}
@@ -20,5 +20,5 @@ module _ {D : Type 0} (on : View D) (pass : SoloPass D) (belongs : IsPass on pas
   pub still_belongs : CanServe on world → IsLongerBook (book_of pass.world) (book_of world) → IsPass on then_pass
   still_belongs serves (added, grew) = record { serves = serves; longer = longer_more (book_of (start_of pass)) (book_of pass.world) (book_of world) added belongs.longer grew }
 
-  pub own_grew : (added : List BookEntry) → book_of world ≡ book_of pass.world ++ added → Some (own_entries then_pass) ≡ with_more (Some (own_entries pass)) added
+  pub own_grew : (added : List BookEntry) → book_of world ≡ book_of pass.world ++ added → TellsMore (Some (own_entries pass)) added (Some (own_entries then_pass))
   own_grew added grew = own_more (book_of (start_of pass)) (book_of pass.world) (book_of world) added belongs.longer grew

@@ -87,14 +87,14 @@ begun_for : (begun : Call) (asked : model.Call) (kind : CallKind) (what : Begun)
 begun_for (call.Deliver deliver) asked kind what seen of_kind is files =
     subst (λ a. IsBegunFor a what) (let same : model.Call.Deliver (mail_in deliver) ≡ asked = cc seen in same) (is ∙ (let same : kind ≡ kinds.Deliver = cc of_kind in same), files deliver refl)
 begun_for (call.Login user proof) asked kind what seen of_kind is files =
-    subst (λ a. IsBegunFor a what) (some_same _ asked seen) (is ∙ (let same : kind ≡ kinds.Login = cc of_kind in same))
+    subst (λ a. IsBegunFor a what) (some_same _ asked seen) (is ∙ (let same : kind ≡ kinds.Login = cc of_kind in same), tt)
 begun_for (call.Fetch user id holders from most) asked kind what seen of_kind is files = by (asks_whole from most) seen
   where
     by : (b : Bool) → (if b then Some (model.Call.Fetch user id) else None) ≡ Some asked → IsBegunFor asked what
-    by true e = subst (λ a. IsBegunFor a what) (some_same (model.Call.Fetch user id) asked e) (is ∙ (let same : kind ≡ kinds.Fetch = cc of_kind in same))
+    by true e = subst (λ a. IsBegunFor a what) (some_same (model.Call.Fetch user id) asked e) (is ∙ (let same : kind ≡ kinds.Fetch = cc of_kind in same), tt)
     by false e = absurd (let never : None ≡ Some asked = e in cc)
 begun_for (call.Strike user items) asked kind what seen of_kind is files =
-    subst (λ a. IsBegunFor a what) (some_same _ asked seen) (is ∙ (let same : kind ≡ kinds.Strike = cc of_kind in same))
+    subst (λ a. IsBegunFor a what) (some_same _ asked seen) (is ∙ (let same : kind ≡ kinds.Strike = cc of_kind in same), tt)
 begun_for (call.Leave user login manager) asked kind what seen of_kind is files = absurd (let never : Some kind ≡ None = of_kind in cc)
 
 module _ {D : Type 0} (on : View D) where

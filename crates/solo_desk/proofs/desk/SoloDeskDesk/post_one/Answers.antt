@@ -2,7 +2,7 @@ use Rattle.std.proofs.Common.{Some}
 use Rattle.node_store.specs.Disks.{view_of}
 use Rattle.desk_model.proofs.Knowing.{refuses_known}
 use Rattle.solo_desk.specs.Passes.{own_entries}
-use Rattle.solo_desk.proofs.Passing.{still_belongs, own_grew}
+use Rattle.solo_desk.proofs.Passing.{then_pass, still_belongs, own_grew}
 use Rattle.solo_desk.proofs.desk.SoloDeskDesk.post_one.Goals as goal
 
 pub returns-clause-belongs : goal.returns-clause-belongs
@@ -15,5 +15,5 @@ pub returns-clause-quiet : goal.returns-clause-quiet
 returns-clause-quiet g c =
     let on = view_of g.D.Disk.seen g.D.Disk.faults g.D.Disk.clock in
     let adds = c.post_first-posted.ensures.adds in
-    refuses_known (Some (own_entries c.args.pass.now)) _ adds.added (own_grew on c.args.pass.now c.requires.belongs c.post_first-posted.new.world c.count_if_refused.new.tally adds.added adds.book) c.args.pass.now.tally c.count_if_refused.new.tally
+    refuses_known (Some (own_entries c.args.pass.now)) (Some (own_entries (then_pass on c.args.pass.now c.requires.belongs c.post_first-posted.new.world c.count_if_refused.new.tally))) adds.added (own_grew on c.args.pass.now c.requires.belongs c.post_first-posted.new.world c.count_if_refused.new.tally adds.added adds.book) c.args.pass.now.tally c.count_if_refused.new.tally
     c.post_first-posted.result c.post_first-posted.ensures.never adds.is c.count_if_refused.ensures.fell c.count_if_refused.ensures.rose
