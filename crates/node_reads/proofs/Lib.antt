@@ -2,3 +2,4 @@ pub mod Receivers
 pub mod Stages
 pub mod Changes
 pub mod Lifts
+pub mod Asked

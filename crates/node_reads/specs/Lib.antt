@@ -4,4 +4,5 @@ pub mod FetchStages
 pub mod Seen
 pub mod Readings
 pub mod Tickets
+pub mod Asking
 pub mod Tables

@@ -5,9 +5,15 @@ use Rattle.std.specs.FinMap as fin
 use Rattle.mail_model.specs.Identity.{EpochId}
 use Rattle.object_model.specs.Letters.{Number, ToldItem, Body, Letter}
 use Rattle.object_model.specs.Mishaps.{MishapKind}
+use Rattle.call_tickets.specs.declared.answer.Ask.{Ask}
+use Rattle.call_tickets.specs.declared.answer.Ask.TheVariants as code
+use Rattle.call_tickets.specs.declared.answer.Answer.{Answer}
 use Rattle.login_model.specs.Readings.{ReadTicket, Reads}
+use Rattle.login_model.specs.Progress.{ReadAsk, ask_read}
+use Rattle.login_model.specs.Progress.ReadAsk.{Pending, Done}
 use Rattle.login_model.specs.Cluster.{Node}
-use Rattle.login_model.specs.Rules.{ReadDid, Under, Reaction, idle, under, next_number, begin_read, hear_told, mishap, give_up_read, read_at}
+use Rattle.login_model.specs.Rules.{ReadDid, Under, Reaction, idle, under, next_number, begin_read, hear_told, mishap, end_read, give_up_read, read_at}
+use Rattle.node_reads.specs.Asking.{AnswersAs}
 use Rattle.node_reads.specs.declared.reads.NodeReads.{NodeReads}
 
 -- the finite map of the tickets that stand, by number
@@ -58,3 +64,15 @@ given_up_at own node number (Some ticket) = give_up_read own node number ticket.
 
 pub record GivesUp (epoch : EpochId) (ticket : Number) (letters : List Letter) (old new : NodeReads) : Type 0 where
   pub did : (node : Node) → node.epoch ≡ epoch → given_up_at old.own (node_with old node) ticket (read_at old.own (node_with old node) (Some ticket)) ≡ left_by new node letters
+
+-- A ticket is asked: while it is pending nothing changes, and one that is done is taken out.
+abbrev pub AnswersFrom : Node → Number → ReadAsk → Option Ask → Node → Type 0
+AnswersFrom node number (Pending got wanted) ask new = (ask ≡ Some (code.Pending got wanted)) × (new ≡ node)
+AnswersFrom node number (Done answer) ask new = (given : Answer) × (ask ≡ Some (code.Done given)) × AnswersAs number answer given × (new ≡ (end_read node number.seq).node)
+
+abbrev pub AskedAt : Node → Number → Option ReadTicket → Option Ask → Node → Type 0
+AskedAt node number None ask new = (ask ≡ None) × (new ≡ node)
+AskedAt node number (Some ticket) ask new = AnswersFrom node number (ask_read ticket ticket.reading) ask new
+
+pub record Asks (ticket : Number) (ask : Option Ask) (old new : NodeReads) : Type 0 where
+  pub did : (node : Node) → AskedAt (node_with old node) ticket (read_at old.own (node_with old node) (Some ticket)) ask (node_with new node)

@@ -1,15 +1,22 @@
 //! How far a fetch of a part of a message has come.
-ghost use Rattle.std.specs.Prelude.{◌≡◌, [], Some, IfOk, OnErr};
+ghost use Rattle.std.specs.Prelude.{◌≡◌, [], Some, None, IfOk, OnErr};
 ghost use Rattle.object_model.specs.Letters.Body.{FetchAsk};
 ghost use Rattle.mail_base.specs.Bodies.{part_seen};
 ghost use Rattle.login_model.specs.Readings.FetchStage.{IsAnswered as IsAnsweredBy, NobodyLeft};
 ghost use Rattle.login_model.specs.Rules.{ask, ask_next, part_at, fetch_befell};
+ghost use Rattle.login_model.specs.Progress.{fetch_ask};
+ghost use Rattle.login_model.specs.Progress.ReadAnswer.{Gives};
+ghost use Rattle.object_model.specs.Letters as plain;
+ghost use Rattle.object_model.specs.Mishaps as befell;
+ghost use Rattle.node_tickets.specs.Seen.{mishaps_seen};
+ghost use Rattle.node_reads.specs.Asking.{AnswersAs, DoneAs, pending_of};
 ghost use Rattle.node_reads.specs.Readings.{listed, fetch_did, asks_first, left_after, has_part};
 ghost use Rattle.node_reads.specs.FetchStages.{fetch_stage_seen};
 
 use crate::letters::ask;
 use crate::nodes::lowest_other;
 use crate::under::Under;
+use call_tickets::{Answer, Ask, Mishaps};
 use mail_base::{Body, Letter, MsgId, Name, NodeNo, NodeSet, ToldPart};
 use std::alloc::AllocError;
 use std::marker::Model;
@@ -39,6 +46,16 @@ impl Model for Fetch {
     ghost Value = { Seen };
 
     ghost view = { λ f. record { user = f.user; id = f.id; at = f.from; most = f.most; stage = fetch_stage_seen f.stage } };
+}
+
+// A part as the answer to a fetch. Its octets are moved.
+fn answer_of(part: ToldPart) -> Answer
+    ensures { (number : plain.Number) → AnswersAs number (Gives (part_seen part)) result }
+{
+    match part {
+        ToldPart::Octets { octets, whole } => Answer::Part { octets, whole },
+        ToldPart::Gone { stamp: _ } => Answer::GoneAlready,
+    }
 }
 
 impl Fetch {
@@ -167,6 +184,36 @@ impl Fetch {
         match self.left_after(at) {
             Some(left) => self.ask_next(u, left),
             None => Ok(None),
+        }
+    }
+
+    /// How far it has come; nothing exactly where it is done.
+    pub(crate) fn pending(&self) -> Option<Ask>
+        ensures { (mishaps : befell.Mishaps) → result ≡ pending_of (fetch_ask mishaps self.now.stage) }
+    {
+        match &self.stage {
+            FetchStage::AsksHolder { .. } => Some(Ask::Pending { got: 0, wanted: 1 }),
+            FetchStage::IsAnswered { .. } => None,
+            FetchStage::NobodyLeft => None,
+        }
+    }
+
+    /// The answer to a fetch that is done. Its octets are moved. It takes no memory.
+    pub(crate) fn into_answer(self, mishaps: Mishaps) -> Answer
+        requires { pending_of (fetch_ask (mishaps_seen mishaps) self.stage) ≡ None }
+        ensures { (number : plain.Number) → DoneAs number (fetch_ask (mishaps_seen mishaps) self.stage) result }
+    {
+        let Fetch {
+            user: _user,
+            id: _,
+            from: _,
+            most: _,
+            stage,
+        } = self;
+        match stage {
+            FetchStage::AsksHolder { .. } => unreachable!(),
+            FetchStage::IsAnswered { by: _, part } => answer_of(part),
+            FetchStage::NobodyLeft => Answer::Failed(mishaps),
         }
     }
 }

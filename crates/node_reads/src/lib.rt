@@ -12,6 +12,8 @@
 //! the user itself, `begin_fetch` asks the lowest holder, and `begin_own_fetch` takes the node's own part.
 //! `hear_word`, `hear_list` and `hear_part` take what LoginTold, ListTold and FetchTold say; `mishap` notes that
 //! a letter was lost; `give_up` takes a ticket out. `stands` says whether one does, and `user` whose login it is.
+//! `ask` says how far a call has come. One that is done it answers and takes out: with the listing of what the
+//! named nodes told, joined; with the octets of a part; or with the mishaps for which it failed.
 //!
 //! As manager and holder: `judge` gives the word of a manager by the plan's secret, and `answer_login`,
 //! `answer_list` and `answer_fetch` are the letters that answer. `leave` gives a lock back at the end of a
@@ -21,7 +23,8 @@
 //! the node that is left, and the letters in the machine's order. What the node names of a user, its own list
 //! and its own part are handed in.
 //!
-//! Message octets and lists are moved, and never copied. No call walks all tickets.
+//! Message octets and lists are moved, and never copied; the listing that answers a login is made anew of what was
+//! told. No call walks all tickets.
 //!
 //! REFUSES
 //!
@@ -33,18 +36,19 @@
 //!
 //! STANDS ON
 //!
-//! `login_model` for the rules, `mail_base` for letters and sets of nodes, `call_tickets` for the mishaps that are
-//! counted, `node_tickets` for their kinds.
+//! `login_model` for the rules, `told_lists` for the listing that lists of several nodes make, `mail_base` for
+//! letters and sets of nodes, `call_tickets` for answers and the mishaps that are counted, `node_tickets` for their
+//! kinds.
 //!
 //! WHAT IT DOES NOT DO
 //!
-//! It answers no call yet: how far one has come, and its listing or part, is kept and not given. It sends nothing,
-//! and knows no disk and no maps. It takes no locks of maildrops: the letters that give one
-//! back are sent all the same. A manager judges by the secrets of the plan, and not by profiles. No line of the
-//! program uses it yet.
+//! It sends nothing, and knows no disk and no maps. It takes no locks of maildrops: the letters that give one back are
+//! sent all the same. A manager judges by the secrets of the plan, and not by profiles. No line of the program uses
+//! it yet.
 #![tactic(auto)]
 
 mod answering;
+mod asking;
 mod fetch;
 mod letters;
 mod lists;

@@ -1,26 +1,18 @@
 //! The lists that a login asks nodes for.
-ghost use Rattle.std.specs.Prelude.{◌≡◌, ◌∷◌, ◌++◌, [], IfOk, OnOk, OnErr, if◌then◌else◌};
-ghost use Rattle.object_model.specs.Sets.{has, without_node};
+ghost use Rattle.std.specs.Prelude.{◌≡◌, ◌∷◌, ◌++◌, [], map, IfOk, OnOk, OnErr, if◌then◌else◌};
+ghost use Rattle.object_model.specs.Sets.{has, without_node, nodes_in};
+ghost use Rattle.login_model.specs.Readings.{Login};
 ghost use Rattle.login_model.specs.Rules.{own_told};
+ghost use Rattle.login_model.specs.Progress.{ask_of_nodes};
+ghost use Rattle.login_model.specs.Listing.{IsMergeOfTold};
+ghost use Rattle.told_lists.specs.Joining.{login_item};
+ghost use Rattle.node_reads.specs.Asking.{pending_of, is_empty};
 
-use mail_base::{NodeNo, NodeSet, Sequence, ToldItem};
+use call_tickets::Ask;
+use mail_base::{Items, NodeNo, NodeSet, Sequence, ToldItem};
 use std::alloc::{AllocError, Global};
 use std::marker::Model;
-
-/// The messages that one node told.
-#[derive(Drop)]
-pub(crate) struct ToldList {
-    pub(crate) node: NodeNo,
-    pub(crate) items: Sequence<ToldItem>,
-}
-
-impl Model for ToldList {
-    ghost use Rattle.login_model.specs.Readings.{ToldList as Seen};
-
-    ghost Value = { Seen };
-
-    ghost view = { λ l. record { node = l.node; items = l.items } };
-}
+use told_lists::{ToldList, join_told};
 
 /// The nodes that a manager named, those that have not told yet, and what the others told.
 #[derive(Drop)]
@@ -105,5 +97,45 @@ impl NamedLists {
             return Ok(());
         }
         self.take(from, items)
+    }
+
+    // Whether nobody is waited for.
+    #[tactic(auto, using(crate::proofs::Asked::none_waits))]
+    fn have_all_told(&self) -> bool
+        ensures { result ≡ is_empty (nodes_in self.now.waiting 64) }
+    {
+        self.waiting.count() == 0
+    }
+
+    /// How many nodes have told, of how many; nothing exactly where each node that was named has.
+    #[tactic(auto, using(crate::proofs::Asked::pending_nodes))]
+    pub(crate) fn pending(&self) -> Option<Ask>
+        ensures { (login : Login) → result ≡ pending_of (ask_of_nodes login self.now.named self.now.told (nodes_in self.now.waiting 64)) }
+    {
+        if self.have_all_told() {
+            return None;
+        }
+        Some(Ask::Pending {
+            got: self.told.len() as u64,
+            wanted: u64::from(self.named.count()),
+        })
+    }
+
+    /// The nodes that were named.
+    pub(crate) fn named(&self) -> NodeSet
+        ensures { result ≡ self.now.named }
+    {
+        self.named
+    }
+
+    /// The listing that the lists make.
+    ///
+    /// # Errors
+    ///
+    /// Out of memory alone.
+    pub(crate) fn joined(&self, alloc: Global) -> Result<Items, AllocError>
+        ensures { IfOk result (λ items. IsMergeOfTold self.now.told (map login_item items)) }
+    {
+        join_told(alloc, self.told.as_slice())
     }
 }

@@ -1,11 +1,17 @@
 //! How far a login has come.
-ghost use Rattle.std.specs.Prelude.{◌≡◌, [], List, IfOk, OnOk, OnErr};
+ghost use Rattle.std.specs.Prelude.{◌≡◌, [], List, None, map, IfOk, OnOk, OnErr};
 ghost use Rattle.mail_base.specs.Bodies.{word_seen};
 ghost use Rattle.object_model.specs.Letters as plain;
+ghost use Rattle.object_model.specs.Mishaps as befell;
 ghost use Rattle.object_model.specs.Letters.LoginWord.{Named as NamedNodes};
 ghost use Rattle.login_model.specs.Readings.LoginStage.{AsksManager};
 ghost use Rattle.login_model.specs.Rules as rules;
 ghost use Rattle.login_model.specs.Rules.{take_word, word_at, list_at, fail, login_befell, given_up};
+ghost use Rattle.login_model.specs.Progress.{login_ask};
+ghost use Rattle.login_model.specs.Progress.ReadAnswer.{Denies};
+ghost use Rattle.node_tickets.specs.Seen.{mishaps_seen};
+ghost use Rattle.told_lists.specs.Joining.{login_item};
+ghost use Rattle.node_reads.specs.Asking.{AnswersAs, DoneAs, StageLists, pending_of};
 ghost use Rattle.node_reads.specs.Readings.{listed, login_did, asks_manager, login_waits, may_hold_lock};
 ghost use Rattle.node_reads.specs.LoginStages.{denial_seen, login_stage_seen};
 
@@ -13,8 +19,9 @@ use crate::letters::{ask_lists, no_letters, unlock};
 use crate::lists::NamedLists;
 use crate::nodes::others;
 use crate::under::Under;
+use call_tickets::{Answer, Ask, Mishaps};
 use mail_base::{
-    EpochId, Letter, LoginWord, Name, NodeNo, NodeSet, Sequence, Stamp, Ticket, ToldItem,
+    EpochId, Items, Letter, LoginWord, Name, NodeNo, NodeSet, Sequence, Stamp, Ticket, ToldItem,
 };
 use std::alloc::{AllocError, Global};
 use std::marker::Model;
@@ -55,6 +62,17 @@ impl Model for Login {
     ghost Value = { Seen };
 
     ghost view = { λ l. record { user = l.user; manager = l.manager; stage = login_stage_seen l.stage } };
+}
+
+// Why a login was not let in, as its answer.
+fn denied(denial: &Denial, manager: NodeNo) -> Answer
+    ensures { (number : plain.Number) → AnswersAs number (Denies manager (denial_seen denial.now)) result }
+{
+    match denial {
+        Denial::Wrong(stamp) => Answer::Wrong { stamp: *stamp },
+        Denial::InUse(by) => Answer::InUse { by: *by },
+        Denial::NoProfile => Answer::NoProfile { manager },
+    }
 }
 
 impl Login {
@@ -240,5 +258,52 @@ impl Login {
             return None;
         }
         unlock(u, self.user, self.manager)
+    }
+
+    /// How far it has come; nothing exactly where it is done.
+    pub(crate) fn pending(&self) -> Option<Ask>
+        ensures { (mishaps : befell.Mishaps) → result ≡ pending_of (login_ask self.now mishaps self.now.stage) }
+    {
+        match &self.stage {
+            LoginStage::AsksManager => Some(Ask::Pending { got: 0, wanted: 1 }),
+            LoginStage::IsDenied(_) => None,
+            LoginStage::AsksNodes(lists) => lists.pending(),
+            LoginStage::HasFailed => None,
+        }
+    }
+
+    /// What was told, joined; no messages where no node is asked.
+    ///
+    /// # Errors
+    ///
+    /// Out of memory alone.
+    pub(crate) fn listing(&self, alloc: Global) -> Result<Items, AllocError>
+        ensures { IfOk result (λ items. StageLists self.now.stage (map login_item items)) }
+    {
+        match &self.stage {
+            LoginStage::AsksManager => Ok(Items::new(alloc)),
+            LoginStage::IsDenied(_) => Ok(Items::new(alloc)),
+            LoginStage::AsksNodes(lists) => lists.joined(alloc),
+            LoginStage::HasFailed => Ok(Items::new(alloc)),
+        }
+    }
+
+    /// The answer to a login that is done, with its listing, which is moved. It takes no memory.
+    pub(crate) fn answer(&self, number: Ticket, mishaps: Mishaps, items: Items) -> Answer
+        requires done { pending_of (login_ask self.now (mishaps_seen mishaps) self.now.stage) ≡ None }
+        requires listing { StageLists self.now.stage (map login_item items) }
+        ensures { DoneAs number (login_ask self.now (mishaps_seen mishaps) self.now.stage) result }
+    {
+        match &self.stage {
+            LoginStage::AsksManager => unreachable!(),
+            LoginStage::IsDenied(denial) => denied(denial, self.manager),
+            LoginStage::AsksNodes(lists) => Answer::Listed {
+                login: number,
+                manager: self.manager,
+                asked: lists.named(),
+                items,
+            },
+            LoginStage::HasFailed => Answer::Failed(mishaps),
+        }
     }
 }

@@ -1,5 +1,5 @@
 //! The ticket of a call that reads.
-ghost use Rattle.std.specs.Prelude.{◌≡◌, List, [], Some, None, IfOk, OnOk, OnErr};
+ghost use Rattle.std.specs.Prelude.{◌≡◌, List, [], Some, None, map, IfOk, OnOk, OnErr};
 ghost use Rattle.std.specs.Option.{option_copied};
 ghost use Rattle.mail_base.specs.Bodies.{word_seen, part_seen};
 ghost use Rattle.object_model.specs.Letters as plain;
@@ -7,7 +7,10 @@ ghost use Rattle.object_model.specs.Letters.Body.{LoginTold, ListTold, FetchTold
 ghost use Rattle.object_model.specs.Mishaps.{no_mishaps};
 ghost use Rattle.login_model.specs.Rules as rules;
 ghost use Rattle.login_model.specs.Rules.{befell, give_up};
+ghost use Rattle.login_model.specs.Progress.{ask_read};
+ghost use Rattle.told_lists.specs.Joining.{login_item};
 ghost use Rattle.node_tickets.specs.Seen.{kind_of_mishap};
+ghost use Rattle.node_reads.specs.Asking.{DoneAs, ReadingLists, pending_of};
 ghost use Rattle.node_reads.specs.Seen.{reading_seen};
 ghost use Rattle.node_reads.specs.Readings.{listed, user_of_login};
 ghost use Rattle.node_reads.specs.Tickets.{ticket_did, ticket_told, ticket_befell};
@@ -17,8 +20,8 @@ use crate::letters::no_letters;
 use crate::login::Login;
 use crate::mishaps::{count, none};
 use crate::under::Under;
-use call_tickets::Mishaps;
-use mail_base::{Letter, LoginWord, Name, NodeNo, Sequence, ToldItem, ToldPart};
+use call_tickets::{Answer, Ask, Mishaps};
+use mail_base::{Items, Letter, LoginWord, Name, NodeNo, Sequence, Ticket, ToldItem, ToldPart};
 use node_tickets::MishapKind;
 use std::alloc::{AllocError, Global};
 use std::marker::Model;
@@ -156,6 +159,43 @@ impl ReadProgress {
         match self.reading {
             Reading::LogsIn(login) => login.give_up(u),
             Reading::Fetches(_) => None,
+        }
+    }
+
+    /// How far the call has come; nothing exactly where it is done.
+    pub(crate) fn pending(&self) -> Option<Ask>
+        ensures { result ≡ pending_of (ask_read self.now self.now.reading) }
+    {
+        match &self.reading {
+            Reading::LogsIn(login) => login.pending(),
+            Reading::Fetches(fetch) => fetch.pending(),
+        }
+    }
+
+    /// The listing of a login; no messages where the call is none.
+    ///
+    /// # Errors
+    ///
+    /// Out of memory alone.
+    pub(crate) fn listing(&self, alloc: Global) -> Result<Items, AllocError>
+        ensures { IfOk result (λ items. ReadingLists self.now.reading (map login_item items)) }
+    {
+        match &self.reading {
+            Reading::LogsIn(login) => login.listing(alloc),
+            Reading::Fetches(_) => Ok(Items::new(alloc)),
+        }
+    }
+
+    /// The answer to a call that is done, with its listing, which is moved. It takes no memory.
+    pub(crate) fn into_answer(self, number: Ticket, items: Items) -> Answer
+        requires done { pending_of (ask_read self self.reading) ≡ None }
+        requires listing { ReadingLists self.reading (map login_item items) }
+        ensures { DoneAs number (ask_read self self.reading) result }
+    {
+        let ReadProgress { reading, mishaps } = self;
+        match reading {
+            Reading::LogsIn(login) => login.answer(number, mishaps, items),
+            Reading::Fetches(fetch) => fetch.into_answer(mishaps),
         }
     }
 }

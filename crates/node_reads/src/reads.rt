@@ -16,14 +16,16 @@ ghost use Rattle.login_model.specs.Rules.{begin_login, begin_fetch};
 ghost use Rattle.node_tickets.specs.Seen.{kind_of_mishap};
 ghost use Rattle.node_reads.specs.Seen.{reading_seen};
 ghost use Rattle.node_reads.specs.Readings.{listed, user_at};
-ghost use Rattle.node_reads.specs.Tables.{seen, reads_in, IsOf, is_own, ticket_at, Begins, Hears, Befalls, GivesUp};
+ghost use Rattle.node_reads.specs.Tables.{seen, reads_in, IsOf, is_own, ticket_at, Begins, Hears, Befalls, GivesUp, Asks};
 ghost use Rattle.node_reads.specs.Tickets.{ticket_told, ticket_befell, did_if_stands, taken_if_stands, letters_given_up};
 
+use crate::asking::ask_at;
 use crate::fetch::Fetch;
 use crate::letters::{ask, no_letters};
 use crate::login::Login;
 use crate::progress::{ReadProgress, Reading};
 use crate::under::Under;
+use call_tickets::Ask;
 use mail_base::{
     Body, EpochId, Letter, LoginWord, MsgId, Name, NodeNo, NodeSet, Proof, Sequence, Ticket,
     ToldItem, ToldPart,
@@ -64,14 +66,15 @@ fn put_in(
     put(entries, seq, progress)
 }
 
-fn get_in(entries: &BTreeMap<u64, ReadProgress>, seq: u64) -> Option<&ReadProgress>
+/// What stands under the number. It takes no memory.
+pub(crate) fn get_in(entries: &BTreeMap<u64, ReadProgress>, seq: u64) -> Option<&ReadProgress>
     ensures { option_copied result ≡ fin.get (seen entries.now.entries) seq }
 {
     entries.get(&seq)
 }
 
-// Takes out what stands under the number.
-fn take_out(entries: &mut BTreeMap<u64, ReadProgress>, seq: u64) -> Option<ReadProgress>
+/// Takes out what stands under the number. It takes no memory.
+pub(crate) fn take_out(entries: &mut BTreeMap<u64, ReadProgress>, seq: u64) -> Option<ReadProgress>
     ensures was { result ≡ fin.get (seen entries.old.entries) seq }
     ensures out { seen entries.new.entries ≡ taken_if_stands (seen entries.old.entries) seq (fin.get (seen entries.old.entries) seq) }
 {
@@ -436,5 +439,23 @@ impl NodeReads {
             number: ticket,
         };
         give_up_at(&mut self.entries, ticket.seq, &u)
+    }
+
+    /// How far the call has come, or its answer; nothing exactly where no ticket stands under the number. A ticket that is done is
+    /// taken out. A login is done once each node that was named has told: its answer has what they told, joined, and it takes
+    /// n log n steps for n messages that were told. The octets of a fetch are moved.
+    ///
+    /// # Errors
+    ///
+    /// Out of memory alone; the tickets are then as before.
+    pub fn ask(&mut self, alloc: Global, ticket: Ticket) -> Result<Option<Ask>, AllocError>
+        ensures ok { IfOk result (λ ask. Asks ticket ask self.old self.new) }
+        ensures err { OnErr result (reads_in self.new ≡ reads_in self.old) }
+        ensures whose { IsOf self.old.own self.old.boot self.new }
+    {
+        if !self.is_own(ticket) {
+            return Ok(None);
+        }
+        ask_at(&mut self.entries, alloc, ticket)
     }
 }
