@@ -30,6 +30,12 @@ place_of entrance = (entrance.node, entrance.protocol)
 abbrev pub place_at : Port → ℕ × Protocol
 place_at port = (port.node, port.protocol)
 
+-- There is a door at each port, and none was given back.
+pub record HasOpened {G : Type 0} (ports : List Port) (entrances : List (Entrance G)) (opened0 opened1 closed0 closed1 : Option (List (ℕ × Protocol × G))) : Type 0 where
+  pub places : map place_of entrances ≡ map place_at ports
+  pub opened : opened1 ≡ with_all opened0 (map marked entrances)
+  pub closed : closed1 ≡ closed0
+
 module _ {G X : Type 0} (left : G → Option (List X)) (quiets faults : G → ℕ) where
   -- Doors while a service had them: what became of each, how they ended, and that each was given back.
   pub record AreServed (end : DoorEnd) (before : List (Entrance G)) (closed0 closed1 : Option (List (ℕ × Protocol × G))) : Type 0 where

@@ -1,5 +1,6 @@
 //! What a service stands before.
-ghost use Rattle.std.specs.Prelude.{◌≡◌, ◌+◌, ◌<◌, ℕ};
+ghost use Rattle.std.specs.Prelude.{◌≡◌, ◌+◌, ◌<◌, ◌++◌, ℕ, Bool, List, Option, OnOk};
+ghost use Rattle.mail_service.specs.declared.backend.Line.{Line as ALine};
 
 use io_edge::{Protocol, Sink, Source};
 use std::alloc::{AllocError, Global};
@@ -27,6 +28,16 @@ pub trait Backend {
     /// How many passes can be made of a pass.
     ghost quota: { Self.Pass → ℕ };
 
+    /// What serving a connection comes to: of the pass before, which connection it is, what its source had left before and after,
+    /// what its sink held before and after, where told, and the pass after.
+    ghost serves: { Self → Self.Pass → ALine → Option (List ℕ) → Option (List ℕ) → Option (List ℕ) → Option (List ℕ) → Self.Pass → Type 0 };
+
+    /// What carrying comes to: of the pass before, whether there was anything to do, and the pass after.
+    ghost carries: { Self → Self.Pass → Bool → Self.Pass → Type 0 };
+
+    /// What a line of the console comes to: of the pass before, the line, its number, what is said of it, and the pass after.
+    ghost obeys: { Self → Self.Pass → List ℕ → ℕ → List ℕ → Self.Pass → Type 0 };
+
     /// Splits a pass of this quota off. Takes no memory and waits for nobody.
     fn split(&self, pass: &mut Self::Pass, part: u32) -> Self::Pass
         requires belongs { belongs self.now pass.old }
@@ -51,15 +62,18 @@ pub trait Backend {
     )
         requires belongs { belongs self.now pass.old }
         ensures belongs { belongs self.now pass.new }
-        ensures quota { quota pass.new ≡ quota pass.old };
+        ensures quota { quota pass.new ≡ quota pass.old }
+        ensures serves { serves self.now pass.old line (I.left source.old) (I.left source.new) (O.contents sink.old) (O.contents sink.new) pass.new };
 
     /// Has a letter posted, or what is due sent. Answers whether there was anything to do. May wait.
     fn carry(&self, alloc: Global, pass: &mut Self::Pass) -> bool
         requires belongs { belongs self.now pass.old }
         ensures belongs { belongs self.now pass.new }
-        ensures quota { quota pass.new ≡ quota pass.old };
+        ensures quota { quota pass.new ≡ quota pass.old }
+        ensures carries { carries self.now pass.old result pass.new };
 
-    /// Does what this line of the console orders, and appends what is said of it. `number` is the line's. May wait.
+    /// Does what this line of the console orders, and appends what is said of it. The line is without its LF, and its number is
+    /// `number`. May wait.
     fn obey(
         &self,
         alloc: Global,
@@ -70,5 +84,6 @@ pub trait Backend {
     ) -> Result<(), AllocError>
         requires belongs { belongs self.now pass.old }
         ensures belongs { belongs self.now pass.new }
-        ensures quota { quota pass.new ≡ quota pass.old };
+        ensures quota { quota pass.new ≡ quota pass.old }
+        ensures obeys { OnOk result ((said : List ℕ) × (out.new.items ≡ out.old.items ++ said) × obeys self.now pass.old line.now number said pass.new) };
 }

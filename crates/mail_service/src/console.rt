@@ -132,11 +132,10 @@ fn turn<R: Wait, B: Backend, S: Source, K: Sink>(
     let mut out = Vec::new(alloc);
     let made = match read_line(rt, source, line) {
         Heard::Line => {
-            let text = without_cr(line);
-            if text == b"stop".as_slice() {
+            if without_cr(line) == b"stop".as_slice() {
                 return Some(ConsoleEnd::Stopped);
             }
-            backend.obey(alloc, pass, text, number, &mut out)
+            backend.obey(alloc, pass, line, number, &mut out)
         }
         Heard::Long => refuse_long(alloc, number, &mut out),
         Heard::Ended => return Some(ConsoleEnd::Early { line: number }),

@@ -51,6 +51,6 @@ mod yards;
 pub use backend::{Backend, Line};
 pub use console::{ConsoleEnd, listen};
 pub use doors::{Conn, DoorEnd, Entrance, Watch, attend_all};
-pub use service::{ServiceEnd, run_service};
+pub use service::{ServiceEnd, open_service, run_service, serve_open};
 pub use workers::{serve_all, work_all};
 pub use yards::{Port, open_doors, shut_all};

@@ -1,10 +1,10 @@
 //! A whole service: the doors of a yard, those who serve, the courier and the console, side by side, from beginning to end.
-ghost use Rattle.std.specs.Prelude.{◌≡◌, ◌≤◌, ◌<◌, ◌+◌, IsSome};
+ghost use Rattle.std.specs.Prelude.{◌≡◌, ◌≤◌, ◌<◌, ◌+◌, None, IsSome, IfOk, IfErr, IsErrOf};
 ghost use Rattle.std.specs.Thread.{IsSync};
 ghost use Rattle.io_edge.specs.Causes.{Rose};
 ghost use Rattle.mail_service.specs.Consoles.{IsReadFault, IsWriteFault};
 ghost use Rattle.mail_service.specs.Entrances.{AllMet, IsLater, AllEndSo};
-ghost use Rattle.mail_service.specs.Services.{AreServed, HasRun, console_end, unopened};
+ghost use Rattle.mail_service.specs.Services.{AreServed, HasOpened, HasRun, console_end, unopened};
 ghost use Rattle.mail_service.specs.declared.console.ConsoleEnd.TheVariants as ends;
 ghost use Rattle.mail_service.specs.declared.service.ServiceEnd.TheVariants as service_ends;
 
@@ -287,8 +287,50 @@ fn serve_beside<
     )
 }
 
-// Serves at doors that are open, until the console ends and all connections were served.
-fn serve_open<R: Threads + Wait + Clock + Sync, B: Backend + Sync, Y: Yard, S: Source, K: Sink>(
+/// Opens a door of the yard at each port, in order, and makes the channel by which connections go to those who serve. Where that
+/// cannot be, the doors that were opened are given back, and the end is said: `Unopened`, or `NoMemory`.
+pub fn open_service<Y: Yard>(
+    alloc: Global,
+    ports: &[Port],
+    yard: &mut Y,
+) -> Result<
+    (
+        Vec<Entrance<Y::Door>>,
+        Sender<ConnOf<Y::Door>, Global>,
+        Receiver<ConnOf<Y::Door>, Global>,
+    ),
+    ServiceEnd,
+>
+    ensures doors { IfOk result (λ made. HasOpened ports.now (made.0).items (Y.opened yard.old) (Y.opened yard.new) (Y.closed yard.old) (Y.closed yard.new)) }
+    ensures refused { IfErr result (λ end. HasRun Y.Door.left Y.Door.quiets Y.Door.faults ports.now end (Y.opened yard.old) (Y.opened yard.new) (Y.closed yard.old) (Y.closed yard.new)) }
+    ensures unserved { IfErr result (λ end. console_end end ≡ None) }
+    ensures handed { Y.handed yard.new ≡ Y.handed yard.old }
+    ensures returned { Y.returned yard.new ≡ Y.returned yard.old }
+    ensures faults { Y.faults yard.new ≡ Y.faults yard.old }
+    ensures unread { Y.unread yard.new ≡ Y.unread yard.old }
+    ensures unopened_later { Y.unopened yard.old ≤ Y.unopened yard.new }
+    ensures unopened { IsErrOf result service_ends.Unopened → Rose (Y.unopened yard.old) (Y.unopened yard.new) }
+{
+    let Ok((conns, waiting)) = unbounded(alloc) else {
+        return Err(ServiceEnd::NoMemory);
+    };
+    let Ok(mut entrances) = Vec::with_capacity(alloc, ports.len()) else {
+        return Err(ServiceEnd::NoMemory);
+    };
+    match open_doors(yard, ports, &mut entrances) {
+        Ok(()) => Ok((entrances, conns, waiting)),
+        Err(refusal) => {
+            shut_all(yard, entrances);
+            Err(unopened(refusal))
+        }
+    }
+}
+
+/// Serves at doors that are open, from there on as `run_service` does: until the console has ended and each connection that came
+/// in was served. The doors are given back. May wait.
+///
+/// The pass has a quota of four more than the number of threads that serve, at least, and comes back with its whole quota.
+pub fn serve_open<R: Threads + Wait + Clock + Sync, B: Backend + Sync, Y: Yard, S: Source, K: Sink>(
     rt: &R,
     alloc: Global,
     backend: &B,
@@ -345,6 +387,8 @@ fn serve_open<R: Threads + Wait + Clock + Sync, B: Backend + Sync, Y: Yard, S: S
 /// back to the yard, which ends the reading of connections that are still open; each connection that came in is served to its
 /// end; and letters are carried until there is nothing to carry. The doors are given back in any case.
 ///
+/// Where nobody was served, the pass, the source and the sink are as they were.
+///
 /// The pass has a quota of four more than the number of threads that serve, at least, and comes back with its whole quota.
 pub fn run_service<
     R: Threads + Wait + Clock + Sync,
@@ -368,6 +412,7 @@ pub fn run_service<
     ensures belongs { B.belongs backend.now result.1 }
     ensures quota { B.quota result.1 ≡ B.quota pass }
     ensures ran { HasRun Y.Door.left Y.Door.quiets Y.Door.faults ports.now result.0 (Y.opened yard.old) (Y.opened yard.new) (Y.closed yard.old) (Y.closed yard.new) }
+    ensures unserved { console_end result.0 ≡ None → (result.1 ≡ pass) × (source.new ≡ source.old) × (sink.new ≡ sink.old) }
     ensures handed { Y.handed yard.new ≡ Y.handed yard.old }
     ensures returned { Y.returned yard.new ≡ Y.returned yard.old }
     ensures faults { Y.faults yard.new ≡ Y.faults yard.old }
@@ -379,22 +424,13 @@ pub fn run_service<
     ensures read_fault { IsReadFault (console_end result.0) → Rose (S.faults source.old) (S.faults source.new) }
     ensures write_fault { IsWriteFault (console_end result.0) → Rose (K.faults sink.old) (K.faults sink.new) }
 {
-    let Ok((conns, waiting)) = unbounded(alloc) else {
-        return (ServiceEnd::NoMemory, pass);
-    };
-    let Ok(mut entrances) = Vec::with_capacity(alloc, ports.len()) else {
-        return (ServiceEnd::NoMemory, pass);
-    };
-    match open_doors(yard, ports, &mut entrances) {
-        Ok(()) => {
+    match open_service(alloc, ports, yard) {
+        Ok((entrances, conns, waiting)) => {
             let (doors, console, pass) = serve_open(
                 rt, alloc, backend, pass, workers, entrances, conns, &waiting, yard, source, sink,
             );
             (ServiceEnd::Served { console, doors }, pass)
         }
-        Err(refusal) => {
-            shut_all(yard, entrances);
-            (unopened(refusal), pass)
-        }
+        Err(end) => (end, pass),
     }
 }
