@@ -2,13 +2,13 @@
 //!
 //! SUMMARY
 //!
-//! `take_stores(yard, nodes, disks)` takes the stores of the nodes from 1 on, in order, and looks at
-//! each: it has to be empty. `give_back_all(yard, disks)` gives them back, in order.
+//! `take_stores(yard, folder, nodes, disks)` takes the stores of the nodes from 1 on, in order, and looks
+//! at each: it has to be empty. `give_back_all(yard, disks)` gives them back, in order.
 //!
 //! DESCRIPTION
 //!
-//! All stores are of shard 0 and of no folder. A store is looked at as soon as it is there, by one disk
-//! call. Nothing is written.
+//! All stores are of shard 0. What the folder means is the yard's own: a yard of stores in memory has
+//! none. A store is looked at as soon as it is there, by one disk call. Nothing is written.
 //!
 //! DIAGNOSTICS
 //!

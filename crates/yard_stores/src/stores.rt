@@ -26,17 +26,23 @@ fn is_empty<D: Disk>(disk: &mut D) -> bool
 }
 
 // Takes the store of this node, and looks whether it is empty. It is put with the others where it was handed out.
-fn take_one<Y: Yard>(yard: &mut Y, node: u8, disks: &mut Vec<Y::Store>) -> Result<(), TakeFault>
+fn take_one<Y: Yard>(
+    yard: &mut Y,
+    folder: &str,
+    node: u8,
+    disks: &mut Vec<Y::Store>,
+) -> Result<(), TakeFault>
     requires room { vec_len disks.old < vec_capacity disks.old }
     ensures taken { TakesOne Y.Store.seen Y.Store.faults node (Y.faults yard.old) (Y.faults yard.new) (Y.handed yard.old) (Y.handed yard.new) disks.old.items disks.new.items result }
     ensures returned { Y.returned yard.new ≡ Y.returned yard.old }
     ensures capacity { vec_capacity disks.new ≡ vec_capacity disks.old }
     ensures opened { Y.opened yard.new ≡ Y.opened yard.old }
     ensures closed { Y.closed yard.new ≡ Y.closed yard.old }
+    ensures unread { Y.unread yard.new ≡ Y.unread yard.old }
     ensures unopened { Y.unopened yard.new ≡ Y.unopened yard.old }
     ensures later { Y.faults yard.old ≤ Y.faults yard.new }
 {
-    let mut disk = match yard.store(0, node, "") {
+    let mut disk = match yard.store(0, node, folder) {
         Ok(disk) => disk,
         Err(YardRefusal::Failed) => return Err(TakeFault::Store(node)),
         Err(YardRefusal::NoMemory) => return Err(TakeFault::NoMemory),
@@ -50,9 +56,11 @@ fn take_one<Y: Yard>(yard: &mut Y, node: u8, disks: &mut Vec<Y::Store>) -> Resul
     }
 }
 
-/// Takes a store for each node, in order, and looks whether it is empty. On a refusal those that were taken are there.
+/// Takes the store of each node in the folder, in order, and looks whether it is empty. On a refusal those that were taken are
+/// there.
 pub fn take_stores<Y: Yard>(
     yard: &mut Y,
+    folder: &str,
     nodes: u8,
     disks: &mut Vec<Y::Store>,
 ) -> Result<(), TakeFault>
@@ -65,12 +73,13 @@ pub fn take_stores<Y: Yard>(
     ensures few { length disks.new.items ≤ nodes }
     ensures opened { Y.opened yard.new ≡ Y.opened yard.old }
     ensures closed { Y.closed yard.new ≡ Y.closed yard.old }
+    ensures unread { Y.unread yard.new ≡ Y.unread yard.old }
     ensures unopened { Y.unopened yard.new ≡ Y.unopened yard.old }
     ensures later { Y.faults yard.old ≤ Y.faults yard.new }
 {
     let mut node: u8 = 1;
     while node <= nodes {
-        take_one(yard, node, disks)?;
+        take_one(yard, folder, node, disks)?;
         node += 1;
     }
     Ok(())
@@ -84,6 +93,7 @@ pub fn give_back_all<Y: Yard>(yard: &mut Y, disks: Vec<Y::Store>)
     ensures faults { Y.faults yard.new ≡ Y.faults yard.old }
     ensures opened { Y.opened yard.new ≡ Y.opened yard.old }
     ensures closed { Y.closed yard.new ≡ Y.closed yard.old }
+    ensures unread { Y.unread yard.new ≡ Y.unread yard.old }
     ensures unopened { Y.unopened yard.new ≡ Y.unopened yard.old }
 {
     let mut node: u8 = 1;

@@ -33,7 +33,7 @@ fn takes(
     requires few { nodes ≤ 16 }
 {
     let mut stores = Vec::with_capacity(alloc, 16)?;
-    assert_eq!(rt; take_stores(yard, nodes, &mut stores), wanted);
+    assert_eq!(rt; take_stores(yard, "", nodes, &mut stores), wanted);
     give_back_all(yard, stores);
     assert_eq!(rt; yard.returned.len(), back);
     let mut number: u8 = 0;

@@ -14,6 +14,7 @@ loop-disk-preserved g c = let steps = c.in-Some.ensures.steps in let i = c.loop-
   faults = c.give_back.ensures.faults ∙ i.faults;
   opened = c.give_back.ensures.opened ∙ i.opened;
   closed = c.give_back.ensures.closed ∙ i.closed;
+  unread = c.give_back.ensures.unread ∙ i.unread;
   unopened = c.give_back.ensures.unopened ∙ i.unopened;
 }
 

@@ -14,5 +14,6 @@ invariant-loop-disk g l = record {
   faults : g.Y.Yard.faults l.yard ≡ g.Y.Yard.faults l.fn.yard;
   opened : g.Y.Yard.opened l.yard ≡ g.Y.Yard.opened l.fn.yard;
   closed : g.Y.Yard.closed l.yard ≡ g.Y.Yard.closed l.fn.yard;
+  unread : g.Y.Yard.unread l.yard ≡ g.Y.Yard.unread l.fn.yard;
   unopened : g.Y.Yard.unopened l.yard ≡ g.Y.Yard.unopened l.fn.yard;
 }

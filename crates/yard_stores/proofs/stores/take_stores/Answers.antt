@@ -11,6 +11,7 @@ loop-node-preserved g c = let t = c.in_ok-take_one.ensures.taken in let i = c.lo
   returned = c.take_one.ensures.returned ∙ i.returned;
   opened = c.take_one.ensures.opened ∙ i.opened;
   closed = c.take_one.ensures.closed ∙ i.closed;
+  unread = c.take_one.ensures.unread ∙ i.unread;
   unopened = c.take_one.ensures.unopened ∙ i.unopened;
   later = le_trans i.later c.take_one.ensures.later;
   capacity = c.take_one.ensures.capacity ∙ i.capacity;

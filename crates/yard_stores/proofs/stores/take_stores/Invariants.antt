@@ -10,6 +10,7 @@ invariant-loop-node g l = record {
   returned : g.Y.Yard.returned l.yard ≡ g.Y.Yard.returned l.fn.yard;
   opened : g.Y.Yard.opened l.yard ≡ g.Y.Yard.opened l.fn.yard;
   closed : g.Y.Yard.closed l.yard ≡ g.Y.Yard.closed l.fn.yard;
+  unread : g.Y.Yard.unread l.yard ≡ g.Y.Yard.unread l.fn.yard;
   unopened : g.Y.Yard.unopened l.yard ≡ g.Y.Yard.unopened l.fn.yard;
   later : g.Y.Yard.faults l.fn.yard ≤ g.Y.Yard.faults l.yard;
   capacity : vec_capacity l.disks ≡ vec_capacity l.fn.disks;
