@@ -89,7 +89,7 @@ fn work<S: LineSource, K: Sink, Y: Yard>(
     let Ok(mut disks) = Vec::with_capacity(alloc, usize::from(nodes)) else {
         return Ending::NoMemory;
     };
-    if let Err(fault) = take_stores(yard, nodes, &mut disks) {
+    if let Err(fault) = take_stores(yard, "", nodes, &mut disks) {
         give_back_all(yard, disks);
         return Ending::untaken(fault);
     }
