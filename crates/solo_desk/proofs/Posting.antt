@@ -1,24 +1,29 @@
 -- What comes of a letter that is posted, of a call that is given up, and of a Leave.
-use Rattle.std.proofs.Common.{◌≡◌, inl, inr, ℕ, true, false}
-use Rattle.std.specs.Prelude.{Result, Ok, Err}
+use Rattle.std.proofs.Common.{◌≡◌, inl, inr, ℕ, true, false, sym, subst}
+use Rattle.std.specs.Prelude.{Some, Result, Ok, Err}
 use Rattle.object_model.specs.Letters.{Number}
 use Rattle.call_tickets.specs.declared.call.Call.{Call}
 use Rattle.call_tickets.specs.declared.call.Call.TheVariants as call
 use Rattle.call_tickets.specs.declared.desk.DeskFault.{DeskFault}
+use Rattle.call_tickets.specs.declared.desk.Posted.{Posted}
 use Rattle.call_tickets.specs.declared.desk.DeskTicket.{DeskTicket}
 use Rattle.node_store.specs.Disks.{View}
 use Rattle.node_core.specs.Beginning.{IsTextEnded, call_seen as machine_call}
+use Rattle.cluster_world.specs.Flights.{first_number}
 use Rattle.cluster_world.specs.Steps.{IsStep}
+use Rattle.cluster_world.specs.Worlds.{state_of}
 use Rattle.cluster_world.specs.declared.world.World.{World}
 use Rattle.cluster_world.specs.declared.step.Step.TheVariants as step
 use Rattle.cluster_world.specs.declared.step.Said.{Said}
 use Rattle.cluster_world.specs.declared.step.Said.TheVariants as said
 use Rattle.cluster_world.specs.declared.fault.StepFault.{StepFault}
+use Rattle.cluster_world.specs.declared.fault.StepFault.TheVariants as fault
 use Rattle.desk_model.specs.Added.{AreQuiet}
 use Rattle.solo_desk.specs.GivingUp.{EndsAs}
 use Rattle.solo_desk.specs.Leaving.{IsLeave}
 use Rattle.solo_desk.specs.Serving.{CanServe, AddsTo}
-use Rattle.solo_desk.specs.Steps.{GivesUpBy}
+use Rattle.solo_desk.specs.Posting.{IsPosted}
+use Rattle.solo_desk.specs.Steps.{GivesUpBy, PostsBy}
 use Rattle.solo_desk.proofs.Stepping.{idle_adds}
 
 module _ {D : Type 0} (on : View D) (old new : World D) (serves : CanServe on old) where
@@ -57,3 +62,17 @@ module _ {D : Type 0} (on : View D) (old new : World D) (serves : CanServe on ol
   leave_is_ended (call.Login user proof) leave = tt
   leave_is_ended (call.Fetch user id holders from most) leave = tt
   leave_is_ended (call.Strike user items) leave = tt
+
+-- The letter of the lowest number was posted, as is answered.
+pub posted_by : {D : Type 0} (on : View D) (old new : World D) (letter : ℕ) (came : Result Said StepFault) (result : Result Posted DeskFault)
+    → first_number (state_of old).flying.flights ≡ Some letter → IsStep on came (step.Post letter false) old new → IsPosted came result → PostsBy on result old new
+posted_by on old new letter (Ok what) result first is e = subst (λ r. PostsBy on r old new) (sym e) (letter, what, first, is)
+posted_by on old new letter (Err fault.Worn) result first is e = subst (λ r. PostsBy on r old new) (sym e) (letter, fault.Worn, first, is)
+posted_by on old new letter (Err (fault.NoMemory down)) result first is e = subst (λ r. PostsBy on r old new) (sym e) (letter, fault.NoMemory down, first, is)
+posted_by on old new letter (Err fault.NoSuchNode) result first is e = absurd e
+posted_by on old new letter (Err fault.NodeLost) result first is e = absurd e
+posted_by on old new letter (Err fault.NodeDown) result first is e = absurd e
+posted_by on old new letter (Err fault.NodeUp) result first is e = absurd e
+posted_by on old new letter (Err fault.NoSuchLetter) result first is e = absurd e
+posted_by on old new letter (Err fault.NoSuchTicket) result first is e = absurd e
+posted_by on old new letter (Err fault.NoRoom) result first is e = absurd e

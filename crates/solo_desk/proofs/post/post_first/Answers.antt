@@ -1,9 +1,9 @@
-use Rattle.std.proofs.Common.{inr}
+use Rattle.std.proofs.Common.{inr, sym, ◌∙◌}
 use Rattle.node_store.specs.Disks.{view_of}
 use Rattle.std.proofs.Common.{false}
 use Rattle.cluster_world.specs.declared.step.Step.TheVariants.{Post}
 use Rattle.solo_desk.proofs.Stepping.{steps_serve}
-use Rattle.solo_desk.proofs.Posting.{post_adds}
+use Rattle.solo_desk.proofs.Posting.{post_adds, posted_by}
 use Rattle.solo_desk.proofs.post.post_first.Goals as goal
 
 pub returns-clause-serves : goal.returns-clause-serves
@@ -15,3 +15,8 @@ pub returns-clause-adds : goal.returns-clause-adds
 returns-clause-adds g c =
     let on = view_of g.D.Disk.seen g.D.Disk.faults g.D.Disk.clock in
     post_adds on c.args.world.now c.step-said.new.self c.requires c.step-said.result c.in-Some.letter c.step-said.ensures.is
+
+pub returns-clause-made : goal.returns-clause-made
+returns-clause-made g c =
+    let on = view_of g.D.Disk.seen g.D.Disk.faults g.D.Disk.clock in
+    posted_by on c.args.world.now c.step-said.new.self c.in-Some.letter c.step-said.result c.posted.result (sym c.flying.ensures ∙ c.in-Some.is) c.step-said.ensures.is c.posted.ensures
