@@ -21,6 +21,7 @@
 //! - `Targets`: which nodes a delivery and a deletion ask.
 //! - `Thrown`: which letters are thrown and why, and the stamps that a node learns of a letter.
 //! - `Starts`: what a node finds on its disk as it starts.
+//! - `Forms`: what messages see where a node does something for membership or maps.
 //! - `Progress`: what an ask of a ticket answers, and the entries of the book that go with it.
 //! - `Room`: the limits of letters in flight, and what a push sends.
 //! - `Claims`: who claims what of which node's disk.
@@ -64,8 +65,9 @@
 //! WHAT IT DOES NOT DO
 //!
 //! It has no code of a node. Logins, fetches and leaves have a rule in a plan of one node alone, which
-//! reads its own disk. Membership and mail maps have none here, nor have the letters of logins and
-//! fetches: these are heard and do nothing, and every node that is up has the first epoch.
+//! reads its own disk. Membership and mail maps have none here: of a step that forms an epoch, and of
+//! a letter of theirs, messages see what may change at most, and `whole_world` says the rest. Letters
+//! of logins and fetches are heard and do nothing.
 #![tactic(auto)]
 
 mod laws;
