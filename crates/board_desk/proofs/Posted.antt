@@ -100,7 +100,7 @@ module _ {D F C : Type 0} (on : View D) (decides : F → ℕ → Luck → F → 
 
   pub posts_add : (old : Part D F C) (result : Result Posted DeskFault) (new : Part D F C) → IsSoundWorld on old.world → PostsOne on decides old result new → AddsTo AreQuiet old.world new.world
   posts_add old result new sound posts = quiet_both on old.world posts.mid.world new.world (ticks_add on posts.ticked posts.seconds old.world posts.mid.world (can_serve on old.world sound) posts.tick)
-      (first_adds (first_number (state_of posts.mid.world).flying.flights) posts.mid result new posts.sound posts.first)
+      (first_adds (first_number (state_of posts.mid.world).flying.flights) posts.mid result new (posts.sound sound) posts.first)
 
   pub posts_never : (old : Part D F C) (result : Result Posted DeskFault) (new : Part D F C) → PostsOne on decides old result new → IsNeverDown result
   posts_never old result new posts = first_never (first_number (state_of posts.mid.world).flying.flights) posts.mid result new posts.first

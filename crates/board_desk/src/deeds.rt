@@ -1,4 +1,5 @@
 //! What the calls of a desk do to the world of a board.
+ghost use Rattle.std.specs.Prelude.{true};
 ghost use Rattle.node_store.specs.Disks.{view_of};
 ghost use Rattle.board_desk.specs.Deeds.{Begins, Leaves, Asks, GivesUp};
 
@@ -26,6 +27,13 @@ impl<D: Disk> Deed<D> for Beginning {
 
     ghost did = { λ deed old result new. Begins (view_of D.seen D.faults D.clock) deed.node deed.call result old new };
 
+    ghost blind = { λ deed nodes. true };
+
+    fn is_blind(&self, nodes: u8) -> bool {
+        let _ = nodes;
+        true
+    }
+
     fn act(self, alloc: Global, world: &mut World<D>) -> Result<DeskTicket, DeskFault> {
         begin_call(alloc, world, self.node, self.call)
     }
@@ -51,6 +59,13 @@ impl<D: Disk> Deed<D> for Leaving {
 
     ghost did = { λ deed old result new. Leaves (view_of D.seen D.faults D.clock) deed.node deed.call result old new };
 
+    ghost blind = { λ deed nodes. true };
+
+    fn is_blind(&self, nodes: u8) -> bool {
+        let _ = nodes;
+        true
+    }
+
     fn act(self, alloc: Global, world: &mut World<D>) -> Result<(), DeskFault> {
         leave_login(alloc, world, self.node, self.call)
     }
@@ -74,6 +89,13 @@ impl<'a, D: Disk> Deed<D> for Asking<'a> {
 
     ghost did = { λ deed old result new. Asks (view_of D.seen D.faults D.clock) deed.ticket.now result old new };
 
+    ghost blind = { λ deed nodes. true };
+
+    fn is_blind(&self, nodes: u8) -> bool {
+        let _ = nodes;
+        true
+    }
+
     fn act(self, alloc: Global, world: &mut World<D>) -> Result<Ask, DeskFault> {
         ask_call(alloc, world, self.ticket)
     }
@@ -96,6 +118,13 @@ impl<'a, D: Disk> Deed<D> for GivingUp<'a> {
     ghost asks = { λ deed world. Unit {0} };
 
     ghost did = { λ deed old result new. GivesUp (view_of D.seen D.faults D.clock) deed.ticket.now result old new };
+
+    ghost blind = { λ deed nodes. true };
+
+    fn is_blind(&self, nodes: u8) -> bool {
+        let _ = nodes;
+        true
+    }
 
     fn act(self, alloc: Global, world: &mut World<D>) -> Result<(), DeskFault> {
         give_up_call(alloc, world, self.ticket)

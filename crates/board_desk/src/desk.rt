@@ -45,14 +45,13 @@ impl<'a, R, D: Disk, F, C> BoardDesk<'a, R, D, F, C> {
 }
 
 impl<'a, R: Wait, D: Disk, F: Fate, C: Clock> Desk for BoardDesk<'a, R, D, F, C> {
-    ghost use Rattle.std.specs.Prelude.{Some};
-    ghost use Rattle.shard_board.specs.Boards.{own_entries};
+    ghost use Rattle.board_desk.specs.Desks.{told_entries};
 
     type Pass = BoardPass<D, F, C>;
 
     ghost belongs = { λ desk pass. IsDeskPass (view_of D.seen D.faults D.clock) desk.board.now desk.pattern.value pass };
 
-    ghost own = { λ pass. Some (own_entries pass) };
+    ghost own = { λ pass. told_entries D.seen pass };
 
     ghost counts = { λ pass. pass.tally };
 

@@ -11,11 +11,12 @@
 //!   `Beginning`, `Leaving`, `Asking` and `GivingUp`, which do with the world what a desk of one thread does. They can also be
 //!   handed to `Board::act`, whose clause then says of the turn which step it made.
 //! - Own entries of a pass are those that its own turns added, and no others, whatever the passes of other threads do between
-//!   them.
+//!   them. They are told as long as the pass tells (`told_entries` in `specs/Desks.antt`): over disks that tell what they hold
+//!   always, and over others until it has seen a start, or a push among several nodes. Counts and answers are said in any case.
 //! - A refusal is counted in the pass, after the turn.
 //! - `post_one` sets the clock of the world, and does what fate decides of the letter of the lowest number in flight.
 //! - A pass belongs to the desk where it is a pass of the board, and has the quota and the entries of joined passes of the
-//!   pattern. Each call leaves both as they are. So whoever lends a pass to a session can join it, or close the board by it, afterwards.
+//!   pattern. Each call leaves both as they are, and what the pass made stays known. So whoever lends a pass to a session can join it, or close the board by it, afterwards.
 //!
 //! DIAGNOSTICS
 //!
@@ -32,7 +33,7 @@
 //!
 //! WHAT IT DOES NOT DO
 //!
-//! It starts no node, stops none, and pushes nothing that is owed: that is `Board::console`. Who comes first and how long a call
+//! It starts no node, stops none, and pushes nothing that is owed: that is `Board::console`, over any disk. Who comes first and how long a call
 //! waits are not said.
 #![tactic(auto)]
 

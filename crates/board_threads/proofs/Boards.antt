@@ -14,8 +14,8 @@ use Rattle.shard_board.specs.contracts.board.BoardPass as pass
 use Rattle.board_threads.proofs.Tables.{turnstile_sync, lower_send}
 use Rattle.board_threads.proofs.Worlds.{world_send}
 
-page_send : IsSend page.the_row
-page_send = search (lists.crosses, sendable) depth 20
+page_send : (D : RattleType) → IsSend (page.the_row D)
+page_send D = search (lists.crosses, sendable) depth 20
 
 count_send : IsSend (as_row u64-field)
 count_send = search sendable depth 20
@@ -30,11 +30,11 @@ module _ (D F C : RattleType) where
   pub part_send : IsSend D → IsSend F → IsSend C → IsSend (part.the_row D F C)
   part_send d f c = declared_send (part.the_type D F C) (
     world_send D d,
-    (as_row_send (row_field F) f, (as_row_send (row_field C) c, (search (lists.crosses, sendable) depth 20, (search (page_send, lists.crosses, sendable) depth 20, tt)))),
+    (as_row_send (row_field F) f, (as_row_send (row_field C) c, (search (lists.crosses, sendable) depth 20, (search (page_send D, lists.crosses, sendable) depth 20, tt)))),
   )
 
   pub pass_send : IsSend D → IsSend F → IsSend C → IsSend (pass.the_row D F C)
-  pass_send d f c = declared_send (pass.the_type D F C) (lower_send (part.the_row D F C) page.the_row (part_send d f c), (tally_send, tt))
+  pass_send d f c = declared_send (pass.the_type D F C) (lower_send (part.the_row D F C) (page.the_row D) (part_send d f c), (tally_send, tt))
 
   pub board_sync : (g : disk.Ghosts D.Denot) → IsSend D → IsSend F → IsSend C → IsSync (board.the_row D F C g)
   board_sync g d f c = let s : IsSend (part.the_row D F C) = part_send d f c in declared_sync (board.the_type D F C g) (search (turnstile_sync, sendable) depth 20, tt)

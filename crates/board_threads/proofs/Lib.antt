@@ -5,3 +5,4 @@ pub mod Tickets
 pub mod Maps
 pub mod Worlds
 pub mod Boards
+pub mod Closures

@@ -10,7 +10,7 @@
 //!
 //! What a pass knows of the value behind the lock belongs to its type, so that a pass may go to another thread is a fact of a
 //! whole world, down to the octets of a name. The checker proves it at the call that starts a thread, and finds it there by itself
-//! for small types alone. Here it is said type by type, from the lowest up:
+//! for small types alone, and for closures that capture such. Here it is said type by type, from the lowest up:
 //!
 //! | File | What may cross threads |
 //! |---|---|
@@ -21,6 +21,7 @@
 //! | `proofs/Worlds.antt` | the book, letters in flight, and a world |
 //! | `proofs/Tables.antt` | the table of a lock, a turnstile and its passes, over any value |
 //! | `proofs/Boards.antt` | a board and its passes |
+//! | `proofs/Closures.antt` | a closure, where all that it captures may |
 //!
 //! STANDS ON
 //!

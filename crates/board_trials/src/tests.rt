@@ -6,6 +6,8 @@ ghost use Rattle.shard_board.specs.Worlds.{IsSoundWorld};
 ghost use Rattle.shard_board.specs.Boards.{quota_of, passes_of, IsPassOf};
 
 mod clients;
+mod files;
+mod held;
 mod joins;
 mod letters;
 mod orders;

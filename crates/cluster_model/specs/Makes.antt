@@ -23,7 +23,7 @@ use Rattle.cluster_model.specs.Rules.{Reaction, idle, ticket_at, push, can_widen
 use Rattle.cluster_model.specs.Targets.{deliver_targets, strike_asks}
 use Rattle.cluster_model.specs.Starts.{StartsNode, StopsStart}
 use Rattle.cluster_model.specs.Forms.{IsMapsBody, promise_records, FormsEpoch}
-use Rattle.cluster_model.specs.Thrown.{Why, is_stale, thrown_by, with_stamps}
+use Rattle.cluster_model.specs.Thrown.{is_stale, thrown_by, with_stamps}
 use Rattle.cluster_model.specs.Thrown.Why.{WhileDown, Stale, Late}
 use Rattle.cluster_model.specs.Progress.{NodeAnswer, ask_of, entries_with}
 use Rattle.cluster_model.specs.Progress.Ask.{Pending, Done}

@@ -1,5 +1,5 @@
 -- A ticket that is answered: what is known then.
-use Rattle.std.proofs.Common.{◌≡◌, ◌⊎◌, inl, inr, ⊎_elim, ℕ, Bool, true, false, ◌&&◌, List, [], ◌∷◌, ◌++◌, flat_map, Some, None, refl, sym, ap, ◌∙◌, subst, eqb-true, if◌then◌else◌}
+use Rattle.std.proofs.Common.{◌≡◌, ◌⊎◌, inl, inr, ⊎_elim, ℕ, Bool, true, false, ◌&&◌, List, [], ◌∷◌, ◌++◌, Some, None, refl, sym, ap, ◌∙◌, subst, eqb-true, if◌then◌else◌}
 use Rattle.std.specs.Prelude.{nat_eq}
 use Rattle.std.specs.FinMap as fin
 use Rattle.std.specs.List.{list_all}

@@ -1,8 +1,6 @@
 -- Each kind of call that begins: what is known then.
-use Rattle.std.proofs.Common.{◌≡◌, inl, inr, ⊎_elim, ◌≤◌, ◌+◌, ℕ, Bool, true, false, List, [], ◌∷◌, ◌++◌, length, map, Some, None, refl, sym, ap, ◌∙◌, subst, arith, le_refl, le_trans, true≢false, if◌then◌else◌}
-use Rattle.sha2.specs.Sha256.{sha256}
+use Rattle.std.proofs.Common.{◌≡◌, inl, inr, ⊎_elim, ◌≤◌, ◌+◌, ℕ, Bool, true, false, List, [], ◌∷◌, ◌++◌, map, Some, None, refl, sym, ap, ◌∙◌, subst, arith, le_refl, le_trans, true≢false, if◌then◌else◌}
 use Rattle.mail_model.specs.Identity.{Id}
-use Rattle.mail_model.specs.Mail.{IsStored}
 use Rattle.mail_model.specs.Plan.{Plan}
 use Rattle.mail_model.specs.Record.{Record}
 use Rattle.mail_model.specs.Stored.{opened, kind_at}
@@ -17,7 +15,7 @@ use Rattle.session_model.specs.Calls.Call.{Deliver, Login, Fetch, Strike}
 use Rattle.session_model.specs.Logs.{Asked, Answered}
 use Rattle.session_model.specs.SoundMails.{IsSoundMail}
 use Rattle.cluster_model.specs.Reads.{Found}
-use Rattle.cluster_model.specs.Cluster.{NodeFiling, Ticket, Node, Slot, members_of}
+use Rattle.cluster_model.specs.Cluster.{Ticket, Node, Slot, members_of}
 use Rattle.cluster_model.specs.Cluster.AskedOfNodes.{Copies, Deletion}
 use Rattle.cluster_model.specs.Cluster.CallKind.{Delivering, Striking}
 use Rattle.cluster_model.specs.Claims.{IsIdDrawn}

@@ -1,5 +1,5 @@
 -- Which words of a command line are of a form, and what they ask for.
-use Rattle.std.specs.Prelude.{ℕ, Bool, false, ◌&&◌, not, nat_eq, nat_le, List, [], ◌∷◌, length, Option, Some, None, if◌then◌else◌, codes}
+use Rattle.std.specs.Prelude.{ℕ, Bool, false, ◌&&◌, nat_eq, nat_le, List, [], ◌∷◌, length, Option, Some, None, if◌then◌else◌, codes}
 use Rattle.std.specs.List.{list_any}
 use Rattle.std.specs.Cmp.Lexicographic.{pointwise}
 use Rattle.mail_model.specs.Numbers.{number_of}
@@ -9,6 +9,7 @@ pub data Task : Type 0 where
   Drive : Task
   Storm : ℕ → ℕ → Task
   Check : List ℕ → Task
+  Serve : List ℕ → Task
 
 -- the word is this one
 abbrev pub is_word : List ℕ → List ℕ → Bool
@@ -34,10 +35,14 @@ abbrev pub storm_of : Option ℕ → Option ℕ → Option Task
 storm_of (Some number) (Some size) = Some (Task.Storm number size)
 storm_of _ _ = None
 
+-- what a word before the name of a file asks for
+abbrev pub with_file : List ℕ → List ℕ → Option Task
+with_file verb file = if is_word verb (codes "check") then Some (Task.Check file) else if is_word verb (codes "serve") then Some (Task.Serve file) else None
+
 -- what words without a dash at their head ask for, by how many they are
 abbrev pub form_of : List (List ℕ) → Option Task
 form_of (verb ∷ []) = if is_word verb (codes "drive") then Some Task.Drive else None
-form_of (verb ∷ file ∷ []) = if is_word verb (codes "check") && not (nat_eq (length file) 0) then Some (Task.Check file) else None
+form_of (verb ∷ file ∷ []) = if nat_eq (length file) 0 then None else with_file verb file
 form_of (verb ∷ number ∷ size ∷ []) = if is_word verb (codes "storm") then storm_of (number_of number) (size_of size) else None
 form_of _ = None
 

@@ -7,3 +7,4 @@ abbrev pub task_seen : CodeTask → Task
 task_seen code.Drive = Task.Drive
 task_seen (code.Storm number size) = Task.Storm number size
 task_seen (code.Check file) = Task.Check file.now
+task_seen (code.Serve file) = Task.Serve file.now

@@ -11,6 +11,7 @@
 //! | `drive` | `Task::Drive` |
 //! | `storm NUMBER SIZE` | `Task::Storm` |
 //! | `check FILE` | `Task::Check` |
+//! | `serve FILE` | `Task::Serve` |
 //!
 //! NUMBER has 1 to 20 decimal digits and is below 2^64. SIZE has 1 to 6 and is 1 to 100,000. FILE has at least one octet. A word
 //! that begins with `-` is refused wherever it stands, and so is any other word, one too few and one too many.
@@ -25,10 +26,12 @@
 //!
 //! WHAT IT DOES NOT DO
 //!
-//! It takes no word from the system, prints nothing, and has no help.
+//! It takes no word from the system, and prints nothing: `USAGE` is for whoever tells a user of the forms.
 #![tactic(auto)]
 
 mod given;
 mod task;
+mod usage;
 
 pub use task::{Task, read_words};
+pub use usage::USAGE;

@@ -17,6 +17,8 @@ pub enum Task<'a> {
     Storm { number: u64, size: u32 },
     /// To look at a plan file.
     Check { file: &'a str },
+    /// To serve the cluster of a plan file.
+    Serve { file: &'a str },
 }
 
 fn begins_with_dash(word: &str) -> bool
@@ -50,14 +52,19 @@ fn drive<'a>(verb: &str) -> Option<Task<'a>>
     }
 }
 
-fn check<'a>(verb: &str, file: &'a str) -> Option<Task<'a>>
+fn with_file<'a>(verb: &str, file: &'a str) -> Option<Task<'a>>
     ensures { option_map task_seen result ≡ form_of (verb.now ∷ file.now ∷ []) }
 {
-    if verb == "check" && !file.is_empty() {
-        Some(Task::Check { file })
-    } else {
-        None
+    if file.is_empty() {
+        return None;
     }
+    if verb == "check" {
+        return Some(Task::Check { file });
+    }
+    if verb == "serve" {
+        return Some(Task::Serve { file });
+    }
+    None
 }
 
 fn size_of(word: &str) -> Option<u32>
@@ -89,7 +96,7 @@ fn form<'a>(
 {
     match (first, second, third) {
         (Some(verb), None, None) => drive(verb),
-        (Some(verb), Some(file), None) => check(verb, file),
+        (Some(verb), Some(file), None) => with_file(verb, file),
         (Some(verb), Some(number), Some(size)) => storm(verb, number, size),
         _ => None,
     }

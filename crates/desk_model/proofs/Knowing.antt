@@ -1,5 +1,5 @@
 -- What a pass knows once its own entries have grown.
-use Rattle.std.proofs.Common.{◌≡◌, ℕ, List, [], ◌∷◌, ◌++◌, append-nil, append_assoc, Option, Some, None, refl, sym, ap, ◌∙◌, subst}
+use Rattle.std.proofs.Common.{◌≡◌, ℕ, List, [], ◌∷◌, ◌++◌, append_assoc, Option, Some, None, refl, sym, ap, ◌∙◌, subst}
 use Rattle.std.specs.Prelude.{Result, Ok, Err, IfSome, length, drop}
 use Rattle.std.specs.Option.{option_map}
 use Rattle.mail_model.specs.Identity.{Id}
@@ -12,7 +12,7 @@ use Rattle.session_model.specs.Books.{struck_by}
 use Rattle.call_tickets.specs.Seen.{answer_seen}
 use Rattle.call_tickets.specs.Tells.{TellsMore}
 use Rattle.call_tickets.specs.Passes.{PassKnows, known_to, IsQuiet, NoneFell}
-use Rattle.call_tickets.specs.Begins.{DeskBegins, DeskLeaves, HasLeft}
+use Rattle.call_tickets.specs.Begins.{DeskBegins, DeskLeaves}
 use Rattle.call_tickets.specs.Asks.{AcksFor, IsAckedAs, DeskAsks, OnlyRefuses, filed_copies}
 use Rattle.call_tickets.specs.declared.answer.Ask.{Ask}
 use Rattle.call_tickets.specs.declared.answer.Ask.TheVariants.{Pending, Done}
@@ -21,10 +21,10 @@ use Rattle.call_tickets.specs.declared.desk.DeskFault.TheVariants.{Down, Worn, N
 use Rattle.call_tickets.specs.declared.desk.DeskTicket.{DeskTicket}
 use Rattle.call_tickets.specs.declared.tally.Tally.{Tally}
 use Rattle.cluster_owes.proofs.Books.{acked_both, struck_both}
-use Rattle.desk_model.specs.Added.{IsLonger, AreQuiet, AreStrikes}
+use Rattle.desk_model.specs.Added.{IsLonger, AreQuiet}
 use Rattle.desk_model.specs.Entries.{BeginsWith, IsStoredAs, AckedBy, AsksWith}
 use Rattle.desk_model.specs.Tallies.{IsNeverDown}
-use Rattle.desk_model.specs.Tallies.{RefusalRose, RefusalCounts, AskCounts, LeaveCounts}
+use Rattle.desk_model.specs.Tallies.{RefusalCounts, AskCounts, LeaveCounts}
 
 -- what holds, holds where something is told
 told_so : {X P : Type 0} (told : Option (List X)) → P → IfSome told (λ xs. P)

@@ -1,3 +1,4 @@
 pub mod Pairs
 pub mod Shutting
 pub mod Running
+pub mod Listening

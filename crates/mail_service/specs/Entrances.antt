@@ -1,5 +1,6 @@
 -- What becomes of doors while a service has them.
-use Rattle.std.specs.Prelude.{◌≡◌, ◌⊎◌, ◌≤◌, ℕ, List, [], ◌∷◌, ⊤, Option, Some, None, IfSome}
+use Rattle.std.specs.Prelude.{◌≡◌, ◌⊎◌, ◌≤◌, ℕ, ◌+◌, List, [], ◌∷◌, length, sum_by, ⊤, Option, Some, None, IfSome}
+use Rattle.std.specs.Option.{option_map}
 use Rattle.io_edge.specs.Causes.{Rose}
 use Rattle.io_edge.specs.declared.yard.Protocol.{Protocol}
 use Rattle.mail_service.specs.declared.doors.Entrance.{Entrance}
@@ -20,6 +21,14 @@ OneMet P xs ys = ⊥
 -- a door with its node and protocol
 abbrev pub marked : {G : Type 0} → Entrance G → ℕ × Protocol × G
 marked entrance = (entrance.node, entrance.protocol, entrance.door)
+
+-- how many connections were handed on at all of them
+abbrev pub taken_in : {G : Type 0} → List (Entrance G) → ℕ
+taken_in entrances = sum_by (λ entrance. entrance.taken) entrances
+
+-- how many connections a door has handed on, and has left, where that is told
+abbrev pub come_at : {G X : Type 0} → (G → Option (List X)) → Entrance G → Option ℕ
+come_at left entrance = option_map (λ conns. entrance.taken + length conns) (left entrance.door)
 
 -- no connection is left where that is told
 abbrev pub IsEmpty : {X : Type 0} → Option (List X) → Type 0
@@ -47,9 +56,13 @@ pub record IsLater {G : Type 0} (quiets faults : G → ℕ) (old new : Entrance 
   pub faults_later : faults old.door ≤ faults new.door
 
 module _ {G X : Type 0} (left : G → Option (List X)) (quiets faults : G → ℕ) where
-  -- a call found nobody, and no connection is left where that is told
+  -- where it is told which connections are left, each that is left no more was handed on
+  abbrev pub HandsOn : Entrance G → Entrance G → Type 0
+  HandsOn old new = come_at left new ≡ come_at left old
+
+  -- A call found nobody, and no connection is left where that is told. Each was handed on.
   abbrev pub WasQuiet : Entrance G → Entrance G → Type 0
-  WasQuiet old new = Rose (quiets old.door) (quiets new.door) × IsEmpty (left new.door)
+  WasQuiet old new = Rose (quiets old.door) (quiets new.door) × IsEmpty (left new.door) × HandsOn old new
 
   -- a call failed
   abbrev pub HasFailed : Entrance G → Entrance G → Type 0
@@ -63,7 +76,7 @@ module _ {G X : Type 0} (left : G → Option (List X)) (quiets faults : G → �
 
   -- a connection was handed on, or the door may end so
   abbrev pub Knocks : Option DoorEnd → Entrance G → Entrance G → Type 0
-  Knocks None old new = ⊤
+  Knocks None old new = HandsOn old new
   Knocks (Some end) old new = EndsSo end old new
 
   -- how all of them ended

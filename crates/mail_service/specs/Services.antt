@@ -4,7 +4,7 @@ use Rattle.io_edge.specs.declared.yard.Protocol.{Protocol}
 use Rattle.io_edge.specs.declared.yard.YardRefusal.{YardRefusal}
 use Rattle.io_edge.specs.declared.yard.YardRefusal.TheVariants as refused
 use Rattle.yard_stores.specs.Taken.{with_all, TellsAll}
-use Rattle.mail_service.specs.Entrances.{AllMet, IsLater, AllEndSo, marked}
+use Rattle.mail_service.specs.Entrances.{AllMet, IsLater, AllEndSo, marked, taken_in}
 use Rattle.mail_service.specs.declared.doors.Entrance.{Entrance}
 use Rattle.mail_service.specs.declared.doors.DoorEnd.{DoorEnd}
 use Rattle.mail_service.specs.declared.console.ConsoleEnd.{ConsoleEnd}
@@ -23,12 +23,13 @@ abbrev pub unopened : YardRefusal → ServiceEnd
 unopened refused.Failed = Unopened
 unopened refused.NoMemory = NoMemory
 
--- at which node a door is, and what is spoken there
-abbrev pub place_of : {G : Type 0} → Entrance G → ℕ × Protocol
-place_of entrance = (entrance.node, entrance.protocol)
+-- at which node a door is, what is spoken there, and how many connections it has handed on
+abbrev pub place_of : {G : Type 0} → Entrance G → ℕ × Protocol × ℕ
+place_of entrance = (entrance.node, entrance.protocol, entrance.taken)
 
-abbrev pub place_at : Port → ℕ × Protocol
-place_at port = (port.node, port.protocol)
+-- as it is opened; it has handed on none
+abbrev pub place_at : Port → ℕ × Protocol × ℕ
+place_at port = (port.node, port.protocol, 0)
 
 -- There is a door at each port, and none was given back.
 pub record HasOpened {G : Type 0} (ports : List Port) (entrances : List (Entrance G)) (opened0 opened1 closed0 closed1 : Option (List (ℕ × Protocol × G))) : Type 0 where
@@ -37,9 +38,10 @@ pub record HasOpened {G : Type 0} (ports : List Port) (entrances : List (Entranc
   pub closed : closed1 ≡ closed0
 
 module _ {G X : Type 0} (left : G → Option (List X)) (quiets faults : G → ℕ) where
-  -- Doors while a service had them: what became of each, how they ended, and that each was given back.
-  pub record AreServed (end : DoorEnd) (before : List (Entrance G)) (closed0 closed1 : Option (List (ℕ × Protocol × G))) : Type 0 where
+  -- Doors while a service had them: what became of each, how they ended, how many connections they handed on, and that each was given back.
+  pub record AreServed (end : DoorEnd) (taken : ℕ) (before : List (Entrance G)) (closed0 closed1 : Option (List (ℕ × Protocol × G))) : Type 0 where
     pub after : List (Entrance G)
+    pub taken_is : taken ≡ taken_in after
     pub later : AllMet (IsLater quiets faults) before after
     pub ends : AllEndSo left quiets faults end before after
     pub closed : TellsAll closed0 closed1 (map marked after)

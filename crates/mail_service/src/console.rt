@@ -1,9 +1,10 @@
 //! The console: lines that order something, and what is said of it.
-ghost use Rattle.std.specs.Prelude.{◌≡◌, ◌≤◌};
+ghost use Rattle.std.specs.Prelude.{◌≡◌, ◌≤◌, ◌∷◌, ◌++◌, [], ℕ, List, OnOk};
+ghost use Rattle.std.specs.Io.KnownBytes.{Consumes};
 ghost use Rattle.io_edge.specs.Causes.{Rose, HasCause};
 ghost use Rattle.mail_service.specs.declared.console.Heard.TheVariants as heard;
 ghost use Rattle.mail_service.specs.declared.console.ConsoleEnd.TheVariants as ends;
-ghost use Rattle.mail_service.specs.Consoles.{IsReadFault, IsWriteFault};
+ghost use Rattle.mail_service.specs.Consoles.{IsReadFault, IsWriteFault, HasListened, HasHeard, HasTurned, IsKept, MayEndSaying, TakesOctet, is_stop, whole_line};
 
 use crate::backend::Backend;
 use io_edge::{Failed, Sink, Source, write_all};
@@ -45,6 +46,7 @@ pub enum ConsoleEnd {
 
 // Reads the next octet; nothing at the end.
 fn next_octet<S: Source>(source: &mut S) -> Result<Option<u8>, Failed>
+    ensures octet { TakesOctet (S.left source.old) (S.left source.new) result }
     ensures cause { HasCause (S.faults source.old) (S.faults source.new) result }
 {
     let mut octet = [0u8; 1];
@@ -55,10 +57,30 @@ fn next_octet<S: Source>(source: &mut S) -> Result<Option<u8>, Failed>
     }
 }
 
+// Keeps an octet of a line whose LF was not read yet, as long as the line is not too long.
+fn keep_octet(line: &mut Vec<u8>, long: &mut bool, octet: u8) -> Result<(), AllocError>
+    ensures kept { (taken : List ℕ) → IsKept long.old taken line.old.items → OnOk result (IsKept long.new (taken ++ octet ∷ []) line.new.items) }
+{
+    if *long || line.len() >= MOST {
+        *long = true;
+        return Ok(());
+    }
+    line.push(octet)?;
+    Ok(())
+}
+
+// How a line was read that is whole.
+fn whole_line(long: bool) -> Heard
+    ensures { result ≡ whole_line long }
+{
+    if long { Heard::Long } else { Heard::Line }
+}
+
 // Reads a line through its LF, without it.
 fn read_line<R: Wait, S: Source>(rt: &R, source: &mut S, line: &mut Vec<u8>) -> Heard
     ensures later { S.faults source.old ≤ S.faults source.new }
     ensures fault { result ≡ heard.ReadFault → Rose (S.faults source.old) (S.faults source.new) }
+    ensures heard { (taken : List ℕ) × Consumes (S.left source.old) (S.left source.new) taken × HasHeard result (S.left source.new) taken line.new.items }
 {
     line.clear();
     let mut long = false;
@@ -69,23 +91,20 @@ fn read_line<R: Wait, S: Source>(rt: &R, source: &mut S, line: &mut Vec<u8>) -> 
             Err(_) => return Heard::ReadFault,
         };
         if octet == b'\n' {
-            return if long { Heard::Long } else { Heard::Line };
+            return whole_line(long);
         }
-        if line.len() >= MOST {
-            long = true;
-        } else if line.push(octet).is_err() {
+        if keep_octet(line, &mut long, octet).is_err() {
             return Heard::NoMemory;
         }
     }
     unreachable!()
 }
 
-// The line without a CR at its end.
-fn without_cr(line: &[u8]) -> &[u8] {
-    match line.split_last() {
-        Some((b'\r', front)) => front,
-        _ => line,
-    }
+// Whether the line ends the console. A CR at its end is not looked at.
+fn is_stop(line: &[u8]) -> bool
+    ensures { result ≡ is_stop line.now }
+{
+    line == b"stop".as_slice() || line == b"stop\r".as_slice()
 }
 
 // Appends the answer to a line that is too long.
@@ -99,7 +118,7 @@ fn refuse_long(alloc: Global, number: u64, out: &mut Vec<u8>) -> Result<(), Allo
 fn say<K: Sink>(sink: &mut K, made: Result<(), AllocError>, out: &[u8]) -> Option<ConsoleEnd>
     ensures later { K.faults sink.old ≤ K.faults sink.new }
     ensures fault { IsWriteFault result → Rose (K.faults sink.old) (K.faults sink.new) }
-    ensures read { IsReadFault result → ⊥ }
+    ensures end { MayEndSaying result }
 {
     match made {
         Ok(()) => match write_all(sink, out) {
@@ -128,24 +147,30 @@ fn turn<R: Wait, B: Backend, S: Source, K: Sink>(
     ensures write_later { K.faults sink.old ≤ K.faults sink.new }
     ensures read_fault { IsReadFault result → Rose (S.faults source.old) (S.faults source.new) }
     ensures write_fault { IsWriteFault result → Rose (K.faults sink.old) (K.faults sink.new) }
+    ensures turned { (taken : List ℕ) × Consumes (S.left source.old) (S.left source.new) taken × HasTurned result (S.left source.new) number taken }
 {
     let mut out = Vec::new(alloc);
-    let made = match read_line(rt, source, line) {
+    match read_line(rt, source, line) {
         Heard::Line => {
-            if without_cr(line) == b"stop".as_slice() {
+            if is_stop(line) {
                 return Some(ConsoleEnd::Stopped);
             }
-            backend.obey(alloc, pass, line, number, &mut out)
+            let made = backend.obey(alloc, pass, line, number, &mut out);
+            say(sink, made, &out)
         }
-        Heard::Long => refuse_long(alloc, number, &mut out),
-        Heard::Ended => return Some(ConsoleEnd::Early { line: number }),
-        Heard::ReadFault => return Some(ConsoleEnd::ReadFault),
-        Heard::NoMemory => return Some(ConsoleEnd::NoMemory),
-    };
-    say(sink, made, &out)
+        Heard::Long => {
+            let made = refuse_long(alloc, number, &mut out);
+            say(sink, made, &out)
+        }
+        Heard::Ended => Some(ConsoleEnd::Early { line: number }),
+        Heard::ReadFault => Some(ConsoleEnd::ReadFault),
+        Heard::NoMemory => Some(ConsoleEnd::NoMemory),
+    }
 }
 
-/// Does what the lines of the console order, and answers each, until the line `stop`. May wait.
+/// Does what the lines of the console order, and answers each, until the line `stop`. It answers `Stopped` only at that line, and
+/// `Early` only where the source has ended and no line before was `stop`, with the number of the line that was not whole, or of the
+/// next. Numbers of lines stay at the end of their type. May wait.
 pub fn listen<R: Wait, B: Backend, S: Source, K: Sink>(
     rt: &R,
     alloc: Global,
@@ -161,6 +186,7 @@ pub fn listen<R: Wait, B: Backend, S: Source, K: Sink>(
     ensures write_later { K.faults sink.old ≤ K.faults sink.new }
     ensures read_fault { result ≡ ends.ReadFault → Rose (S.faults source.old) (S.faults source.new) }
     ensures write_fault { result ≡ ends.WriteFault → Rose (K.faults sink.old) (K.faults sink.new) }
+    ensures listened { HasListened (S.left source.old) (S.left source.new) result }
 {
     let mut line = Vec::new(alloc);
     let mut number: u64 = 0;

@@ -1,7 +1,7 @@
 //! Doors, and the connections that come in by them.
 ghost use Rattle.std.specs.Prelude.{◌≡◌};
 ghost use Rattle.std.specs.Thread.{IsSync};
-ghost use Rattle.mail_service.specs.Entrances.{AllMet, IsLater, EndsSo, AllEndSo, IsEmpty, Knocks, worse, noted};
+ghost use Rattle.mail_service.specs.Entrances.{AllMet, IsLater, EndsSo, AllEndSo, IsEmpty, Knocks, taken_in, worse, noted};
 
 use crate::backend::Line;
 use crossbeam_channel::Sender;
@@ -20,6 +20,8 @@ pub struct Entrance<G> {
     pub protocol: Protocol,
     /// The door.
     pub door: G,
+    /// How many connections were handed on.
+    pub taken: u64,
 }
 
 /// A connection on its way to who serves it.
@@ -40,7 +42,7 @@ pub enum DoorEnd {
     Quiet,
     /// A call of it failed.
     Failed,
-    /// There was no memory to hand a connection on.
+    /// There was no memory to hand a connection on, or too many were.
     NoMemory,
 }
 
@@ -101,6 +103,10 @@ fn knock<R: Wait, G: Door>(
 {
     match entrance.door.accept() {
         Ok(Accepted::Conn(source, sink)) => {
+            let Some(taken) = entrance.taken.checked_add(1) else {
+                return Some(DoorEnd::NoMemory);
+            };
+            entrance.taken = taken;
             let node = entrance.node;
             let protocol = entrance.protocol;
             if hand_on(rt, watch, node, protocol, source, sink, conns) {
@@ -148,6 +154,16 @@ fn attend<R: Wait, G: Door>(
         end = noted(end, came);
     }
     unreachable!()
+}
+
+/// How many connections were handed on at all of these doors.
+pub(crate) fn taken_in<G>(entrances: &[Entrance<G>]) -> u128
+    ensures { result ≡ taken_in entrances.now }
+{
+    entrances
+        .iter()
+        .map(|entrance| u128::from(entrance.taken))
+        .sum()
 }
 
 /// Attends all doors, each in a thread, until the service is to end.

@@ -25,8 +25,11 @@
 //!
 //! `DoorEnd::Quiet` is said only where each door has found nobody while it was out: its number of quiet calls rose, and where it
 //! tells which connections are left, none is. `Failed` is said only where the count of some door rose. A door that was handed out
-//! is given back however a service ends. `ConsoleEnd::ReadFault` and
-//! `WriteFault` come only where the count of the source or the sink rose.
+//! is given back however a service ends.
+//!
+//! `ConsoleEnd::Stopped` is said only at a whole line `stop`, `Early` only where the source has ended and no line was `stop`, with
+//! the number of the line that was not whole, or of the next. `ReadFault` and `WriteFault` come only where the count of the source
+//! or the sink rose.
 //!
 //! COSTS
 //!
@@ -34,7 +37,7 @@
 //!
 //! STANDS ON
 //!
-//! `io_edge` for doors, sources and sinks, `yard_stores` for what a yard tells, and `crossbeam_channel`.
+//! `io_edge` for doors, sources and sinks, `mail_model` for lines, `yard_stores` for what a yard tells, and `crossbeam_channel`.
 //!
 //! WHAT IT DOES NOT DO
 //!

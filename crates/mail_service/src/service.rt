@@ -1,8 +1,8 @@
 //! A whole service: the doors of a yard, those who serve, the courier and the console, side by side, from beginning to end.
-ghost use Rattle.std.specs.Prelude.{◌≡◌, ◌≤◌, ◌<◌, ◌+◌, None, IsSome, IfOk, IfErr, IsErrOf};
+ghost use Rattle.std.specs.Prelude.{◌≡◌, ◌≤◌, ◌<◌, ◌+◌, None, IsSome, IfSome, IfOk, IfErr, IsErrOf};
 ghost use Rattle.std.specs.Thread.{IsSync};
 ghost use Rattle.io_edge.specs.Causes.{Rose};
-ghost use Rattle.mail_service.specs.Consoles.{IsReadFault, IsWriteFault};
+ghost use Rattle.mail_service.specs.Consoles.{IsReadFault, IsWriteFault, HasListened};
 ghost use Rattle.mail_service.specs.Entrances.{AllMet, IsLater, AllEndSo};
 ghost use Rattle.mail_service.specs.Services.{AreServed, HasOpened, HasRun, console_end, unopened};
 ghost use Rattle.mail_service.specs.declared.console.ConsoleEnd.TheVariants as ends;
@@ -10,7 +10,7 @@ ghost use Rattle.mail_service.specs.declared.service.ServiceEnd.TheVariants as s
 
 use crate::backend::Backend;
 use crate::console::{ConsoleEnd, listen};
-use crate::doors::{Conn, DoorEnd, Entrance, Watch, attend_all};
+use crate::doors::{Conn, DoorEnd, Entrance, Watch, attend_all, taken_in};
 use crate::workers::serve_all;
 use crate::yards::{Port, open_doors, shut_all};
 use crossbeam_channel::{Receiver, Sender, unbounded};
@@ -68,6 +68,7 @@ fn preside<R: Wait, B: Backend, S: Source, K: Sink>(
     ensures write_later { K.faults sink.old ≤ K.faults sink.new }
     ensures read_fault { result ≡ ends.ReadFault → Rose (S.faults source.old) (S.faults source.new) }
     ensures write_fault { result ≡ ends.WriteFault → Rose (K.faults sink.old) (K.faults sink.new) }
+    ensures listened { HasListened (S.left source.old) (S.left source.new) result }
 {
     let end = listen(rt, alloc, backend, pass, source, sink);
     watch.stop.store(true, Ordering::SeqCst);
@@ -95,6 +96,7 @@ fn admit<R: Threads + Wait + Sync, B: Backend, G: Door + Send, S: Source, K: Sin
     ensures write_later { K.faults sink.old ≤ K.faults sink.new }
     ensures read_fault { result.1 ≡ ends.ReadFault → Rose (S.faults source.old) (S.faults source.new) }
     ensures write_fault { result.1 ≡ ends.WriteFault → Rose (K.faults sink.old) (K.faults sink.new) }
+    ensures listened { HasListened (S.left source.old) (S.left source.new) result.1 }
 {
     // Where no thread can be made the second is called first: doors end only once the console has ended.
     join_mut(
@@ -112,6 +114,7 @@ fn admit<R: Threads + Wait + Sync, B: Backend, G: Door + Send, S: Source, K: Sin
             ensures write_later { K.faults sink.entry.now ≤ K.faults sink.exit.now }
             ensures read_fault { result ≡ ends.ReadFault → Rose (S.faults source.entry.now) (S.faults source.exit.now) }
             ensures write_fault { result ≡ ends.WriteFault → Rose (K.faults sink.entry.now) (K.faults sink.exit.now) }
+            ensures listened { HasListened (S.left source.entry.now) (S.left source.exit.now) result }
         { preside(rt, alloc, backend, pass, watch, source, sink) },
     )
 }
@@ -136,6 +139,7 @@ fn attend_service<R: Threads + Wait + Sync, B: Backend, G: Door + Send, S: Sourc
     ensures write_later { K.faults sink.old ≤ K.faults sink.new }
     ensures read_fault { result.1 ≡ ends.ReadFault → Rose (S.faults source.old) (S.faults source.new) }
     ensures write_fault { result.1 ≡ ends.WriteFault → Rose (K.faults sink.old) (K.faults sink.new) }
+    ensures listened { HasListened (S.left source.old) (S.left source.new) result.1 }
 {
     let stop = AtomicBool::new(false);
     let numbers = AtomicU64::new(1);
@@ -148,7 +152,7 @@ fn attend_service<R: Threads + Wait + Sync, B: Backend, G: Door + Send, S: Sourc
     )
 }
 
-// The same. Then nobody can hand a connection on any more, and the doors are given back.
+// The same. Then nobody can hand a connection on any more, and the doors are given back. It is counted how many were handed on.
 fn keep<R: Threads + Wait + Sync, B: Backend, Y: Yard, S: Source, K: Sink>(
     rt: &R,
     alloc: Global,
@@ -159,12 +163,12 @@ fn keep<R: Threads + Wait + Sync, B: Backend, Y: Yard, S: Source, K: Sink>(
     yard: &mut Y,
     source: &mut S,
     sink: &mut K,
-) -> (DoorEnd, ConsoleEnd)
+) -> (DoorEnd, ConsoleEnd, u128)
     requires belongs { B.belongs backend.now pass.old }
     requires there { IsSome conns.old }
     ensures belongs { B.belongs backend.now pass.new }
     ensures quota { B.quota pass.new ≡ B.quota pass.old }
-    ensures served { AreServed Y.Door.left Y.Door.quiets Y.Door.faults result.0 entrances.old.items (Y.closed yard.old) (Y.closed yard.new) }
+    ensures served { AreServed Y.Door.left Y.Door.quiets Y.Door.faults result.0 result.2 entrances.old.items (Y.closed yard.old) (Y.closed yard.new) }
     ensures opened { Y.opened yard.new ≡ Y.opened yard.old }
     ensures handed { Y.handed yard.new ≡ Y.handed yard.old }
     ensures returned { Y.returned yard.new ≡ Y.returned yard.old }
@@ -175,14 +179,18 @@ fn keep<R: Threads + Wait + Sync, B: Backend, Y: Yard, S: Source, K: Sink>(
     ensures write_later { K.faults sink.old ≤ K.faults sink.new }
     ensures read_fault { result.1 ≡ ends.ReadFault → Rose (S.faults source.old) (S.faults source.new) }
     ensures write_fault { result.1 ≡ ends.WriteFault → Rose (K.faults sink.old) (K.faults sink.new) }
+    ensures listened { HasListened (S.left source.old) (S.left source.new) result.1 }
 {
     let Some(sender) = conns.take() else {
         unreachable!()
     };
-    let ends = attend_service(rt, alloc, backend, pass, entrances, &sender, source, sink);
+    let (doors, console) = attend_service(
+        rt, alloc, backend, pass, entrances, &sender, source, sink,
+    );
     drop(sender);
+    let taken = taken_in(entrances);
     shut_all(yard, mem::replace(entrances, Vec::new(alloc)));
-    ends
+    (doors, console, taken)
 }
 
 // Serves connections, in the name of passes that are split off and joined again.
@@ -234,13 +242,13 @@ fn serve_beside<
     yard: &mut Y,
     source: &mut S,
     sink: &mut K,
-) -> ((), (DoorEnd, ConsoleEnd))
+) -> ((), (DoorEnd, ConsoleEnd, u128))
     requires belongs { B.belongs backend.now pass.old × B.belongs backend.now ours.old }
     requires enough { workers + 3 ≤ B.quota pass.old }
     requires there { IsSome conns.old }
     ensures belongs { B.belongs backend.now pass.new × B.belongs backend.now ours.new }
     ensures quota { (B.quota pass.new ≡ B.quota pass.old) × (B.quota ours.new ≡ B.quota ours.old) }
-    ensures served { AreServed G.left G.quiets G.faults result.1.0 entrances.old.items (Y.closed yard.old) (Y.closed yard.new) }
+    ensures served { AreServed G.left G.quiets G.faults result.1.0 result.1.2 entrances.old.items (Y.closed yard.old) (Y.closed yard.new) }
     ensures opened { Y.opened yard.new ≡ Y.opened yard.old }
     ensures handed { Y.handed yard.new ≡ Y.handed yard.old }
     ensures returned { Y.returned yard.new ≡ Y.returned yard.old }
@@ -251,6 +259,7 @@ fn serve_beside<
     ensures write_later { K.faults sink.old ≤ K.faults sink.new }
     ensures read_fault { result.1.1 ≡ ends.ReadFault → Rose (S.faults source.old) (S.faults source.new) }
     ensures write_fault { result.1.1 ≡ ends.WriteFault → Rose (K.faults sink.old) (K.faults sink.new) }
+    ensures listened { HasListened (S.left source.old) (S.left source.new) result.1.1 }
 {
     // Where no thread can be made the second is called first: there is an end of serving only once the doors have ended.
     join_mut(
@@ -262,13 +271,13 @@ fn serve_beside<
             ensures belongs { B.belongs backend.entry.now pass.exit.now }
             ensures quota { B.quota pass.exit.now ≡ B.quota pass.entry.now }
         { serve_lent(rt, *alloc, backend, pass, workers, waiting) },
-        &mut || -> (DoorEnd, ConsoleEnd)
+        &mut || -> (DoorEnd, ConsoleEnd, u128)
             requires sync { IsSync R.row }
             requires belongs { B.belongs backend.now ours.now }
             requires there { IsSome conns.now }
             ensures belongs { B.belongs backend.entry.now ours.exit.now }
             ensures quota { B.quota ours.exit.now ≡ B.quota ours.entry.now }
-            ensures served { AreServed G.left G.quiets G.faults result.0 entrances.entry.now.items (Y.closed yard.entry.now) (Y.closed yard.exit.now) }
+            ensures served { AreServed G.left G.quiets G.faults result.0 result.2 entrances.entry.now.items (Y.closed yard.entry.now) (Y.closed yard.exit.now) }
             ensures opened { Y.opened yard.exit.now ≡ Y.opened yard.entry.now }
             ensures handed { Y.handed yard.exit.now ≡ Y.handed yard.entry.now }
             ensures returned { Y.returned yard.exit.now ≡ Y.returned yard.entry.now }
@@ -279,6 +288,7 @@ fn serve_beside<
             ensures write_later { K.faults sink.entry.now ≤ K.faults sink.exit.now }
             ensures read_fault { result.1 ≡ ends.ReadFault → Rose (S.faults source.entry.now) (S.faults source.exit.now) }
             ensures write_fault { result.1 ≡ ends.WriteFault → Rose (K.faults sink.entry.now) (K.faults sink.exit.now) }
+            ensures listened { HasListened (S.left source.entry.now) (S.left source.exit.now) result.1 }
         {
             keep(
                 rt, *alloc, backend, ours, entrances, conns, yard, source, sink,
@@ -327,7 +337,7 @@ pub fn open_service<Y: Yard>(
 }
 
 /// Serves at doors that are open, from there on as `run_service` does: until the console has ended and each connection that came
-/// in was served. The doors are given back. May wait.
+/// in was served. The doors are given back. It is said how many connections they handed on. May wait.
 ///
 /// The pass has a quota of four more than the number of threads that serve, at least, and comes back with its whole quota.
 pub fn serve_open<R: Threads + Wait + Clock + Sync, B: Backend + Sync, Y: Yard, S: Source, K: Sink>(
@@ -342,12 +352,12 @@ pub fn serve_open<R: Threads + Wait + Clock + Sync, B: Backend + Sync, Y: Yard, 
     yard: &mut Y,
     source: &mut S,
     sink: &mut K,
-) -> (DoorEnd, ConsoleEnd, B::Pass)
+) -> (DoorEnd, ConsoleEnd, B::Pass, u128)
     requires belongs { B.belongs backend.now pass }
     requires enough { workers + 4 ≤ B.quota pass }
     ensures belongs { B.belongs backend.now result.2 }
     ensures quota { B.quota result.2 ≡ B.quota pass }
-    ensures served { AreServed Y.Door.left Y.Door.quiets Y.Door.faults result.0 entrances.items (Y.closed yard.old) (Y.closed yard.new) }
+    ensures served { AreServed Y.Door.left Y.Door.quiets Y.Door.faults result.0 result.3 entrances.items (Y.closed yard.old) (Y.closed yard.new) }
     ensures opened { Y.opened yard.new ≡ Y.opened yard.old }
     ensures handed { Y.handed yard.new ≡ Y.handed yard.old }
     ensures returned { Y.returned yard.new ≡ Y.returned yard.old }
@@ -358,10 +368,11 @@ pub fn serve_open<R: Threads + Wait + Clock + Sync, B: Backend + Sync, Y: Yard, 
     ensures write_later { K.faults sink.old ≤ K.faults sink.new }
     ensures read_fault { result.1 ≡ ends.ReadFault → Rose (S.faults source.old) (S.faults source.new) }
     ensures write_fault { result.1 ≡ ends.WriteFault → Rose (K.faults sink.old) (K.faults sink.new) }
+    ensures listened { HasListened (S.left source.old) (S.left source.new) result.1 }
 {
     let mut ours = backend.split(&mut pass, 1);
     let mut lent = Some(conns);
-    let ((), (doors, console)) = serve_beside(
+    let ((), (doors, console, taken)) = serve_beside(
         rt,
         &alloc,
         backend,
@@ -376,7 +387,7 @@ pub fn serve_open<R: Threads + Wait + Clock + Sync, B: Backend + Sync, Y: Yard, 
         sink,
     );
     backend.join(&mut pass, ours);
-    (doors, console, pass)
+    (doors, console, pass, taken)
 }
 
 /// Runs a whole service over a backend: opens a door of the yard at each port, in order, calls them, serves their connections by
@@ -423,10 +434,11 @@ pub fn run_service<
     ensures unopened { result.0 ≡ service_ends.Unopened → Rose (Y.unopened yard.old) (Y.unopened yard.new) }
     ensures read_fault { IsReadFault (console_end result.0) → Rose (S.faults source.old) (S.faults source.new) }
     ensures write_fault { IsWriteFault (console_end result.0) → Rose (K.faults sink.old) (K.faults sink.new) }
+    ensures listened { IfSome (console_end result.0) (λ end. HasListened (S.left source.old) (S.left source.new) end) }
 {
     match open_service(alloc, ports, yard) {
         Ok((entrances, conns, waiting)) => {
-            let (doors, console, pass) = serve_open(
+            let (doors, console, pass, _taken) = serve_open(
                 rt, alloc, backend, pass, workers, entrances, conns, &waiting, yard, source, sink,
             );
             (ServiceEnd::Served { console, doors }, pass)

@@ -43,6 +43,7 @@ pub fn open_doors<Y: Yard>(
             node: port.node,
             protocol: port.protocol,
             door,
+            taken: 0,
         });
     }
     Ok(())
@@ -63,6 +64,7 @@ pub fn shut_all<Y: Yard>(yard: &mut Y, entrances: Vec<Entrance<Y::Door>>)
             node,
             protocol,
             door,
+            ..
         } = entrance;
         yard.shut(node, protocol, door);
     }

@@ -43,7 +43,7 @@ use Rattle.drive_tape.specs.Drive.{EndsDenied}
 use Rattle.accepted_tapes.specs.Accepted.{NobodyWaits}
 use Rattle.porcupine_server.specs.Complete.{IsGoodTape}
 use Rattle.porcupine_server.specs.Endings.{ending_of, status_of, last_entries, Finishes}
-use Rattle.porcupine_server.specs.Stores.{NodeStoreFailed, StoreFailed}
+use Rattle.serve_word.specs.Stores.{NodeStoreFailed, StoreFailed}
 use Rattle.porcupine_server.specs.Works.{SourceAndSink, Stores, Works, NoPlan, NoStores, ServedStores, NotOpened, Ran, IsBeforeRun}
 use Rattle.porcupine_server.proofs.GoodPlan.{run_part, no_plan_fault, reads_good_plan}
 use Rattle.porcupine_server.proofs.GoodRun.{first_lines, no_end_handled, no_end_next, read_first, no_run_fault, granted}

@@ -10,6 +10,7 @@ mod LeftOut
 pub mod Promises
 pub mod Named
 pub mod OwnStores
+pub mod FirstWords
 mod PlanHead
 pub mod Tasks
 pub mod NoMemory

@@ -6,7 +6,7 @@ use Rattle.node_store.specs.Disks.{View}
 use Rattle.porcupine_server.specs.declared.ending.Ending.{Ending}
 use Rattle.porcupine_server.specs.declared.ending.Ending.TheVariants.{Done, Line, Read, Write, Store, NoMemory}
 use Rattle.porcupine_server.specs.Endings.{status_of, last_entries, Finishes}
-use Rattle.porcupine_server.specs.Stores.{store_line}
+use Rattle.serve_word.specs.Stores.{store_line}
 use Rattle.porcupine_server.specs.Works.{SourceAndSink, Stores, Works, NoPlan, NoStores, ServedStores, NotOpened, Ran}
 use Rattle.porcupine_server.proofs.Serving.{no_store_stop}
 

@@ -12,20 +12,12 @@ use Rattle.cluster_world.specs.Worlds.{disks_of, disks_tell}
 use Rattle.cluster_world.specs.Opens.{Opened}
 use Rattle.cluster_world.specs.declared.world.World.{World}
 use Rattle.drive_tape.specs.Worlds.{HasFailed}
-use Rattle.porcupine_server.specs.Stores.{NodeStoreFailed}
+use Rattle.serve_word.specs.Stores.{NodeStoreFailed}
+use Rattle.serve_word.proofs.Storing.{looked_at}
 
 -- what stands at a place within the list
 pub has_place : {X : Type 0} (xs : List X) (k : ℕ) → k < length xs → (x : X) × (slice_get xs k ≡ Some x)
 has_place xs k within = ⊎_elim (λ there. (there.0, there.2)) (λ past. absurd (omega (arith, past.0, within))) (slice_get_cases xs k).1
-
--- each store that was looked at was taken
-pub looked_at : {D : Type 0} (seen : D → Option (List ℕ)) (faults : D → ℕ) (taken disks : List D) → AllLooked seen faults taken disks → (k : ℕ) (disk : D) → slice_get disks k ≡ Some disk
-    → (was : D) × (slice_get taken k ≡ Some was) × Looked seen faults was disk
-looked_at seen faults [] [] all k disk at = absurd (none-some disk at)
-looked_at seen faults [] (y ∷ disks) all k disk at = absurd all
-looked_at seen faults (x ∷ taken) [] all k disk at = absurd all
-looked_at seen faults (x ∷ taken) (y ∷ disks) all zero disk at = (x, refl, let one : y ≡ disk = cc in subst (Looked seen faults x) one all.0)
-looked_at seen faults (x ∷ taken) (y ∷ disks) all (suc k) disk at = looked_at seen faults taken disks all.1 k disk at
 
 -- octets that were not told are not told later
 untold : (old new : Option (List ℕ)) → IsToldAlike old new → new ≡ None → IfSome old (λ held. held ≢ [])

@@ -1,10 +1,8 @@
 pub mod Words
-pub mod Stores
 pub mod Endings
 pub mod Works
 pub mod Promises
 pub mod Complete
-pub mod Fresh
 pub mod Tasks
 pub mod SmallTape
 pub mod PostedTape

@@ -1,5 +1,6 @@
 -- The words of the command line, and what is written with others.
-use Rattle.std.specs.Prelude.{◌≡◌, ◌⊎◌, ℕ, List, [], ◌∷◌, ◌++◌, drop, Option, Result, Ok, Err, codes}
+use Rattle.std.specs.Prelude.{◌≡◌, ◌⊎◌, ℕ, Bool, false, List, [], ◌∷◌, ◌++◌, drop, String, Option, Result, Ok, Err, codes}
+use Rattle.std.specs.String.{string_bytes}
 use Rattle.std.specs.Io.KnownBytes.{Appends}
 use Rattle.std.specs.Vec.Iter.{into_iter_items}
 use Rattle.std.specs.declared.vec.IntoIter.{IntoIter}
@@ -7,6 +8,7 @@ use Rattle.std.specs.IoError.{error_kind}
 use Rattle.std.specs.declared.io.Error.{Error}
 use Rattle.std.specs.declared.io.ErrorKind.TheVariants.{InvalidData}
 use Rattle.io_edge.specs.Causes.{Rose}
+use Rattle.command_words.specs.Forms.{is_word}
 
 -- what the system hands over has a word that is not text
 abbrev pub IsNotText : {X : Type 0} → Result X Error → Type 0
@@ -17,6 +19,11 @@ IsNotText (Err fault) = error_kind fault ≡ InvalidData
 abbrev pub words_after_name : {X Z : Type 0} → Result (IntoIter X Z) Error → List X
 words_after_name (Ok arguments) = drop 1 (into_iter_items arguments)
 words_after_name (Err fault) = []
+
+-- the first word is `serve`
+abbrev pub serves_first : {Z : Type 0} → List (String Z) → Bool
+serves_first [] = false
+serves_first (word ∷ words) = is_word (string_bytes word) (codes "serve")
 
 -- the line that refuses other words
 abbrev pub words_line : List ℕ

@@ -10,7 +10,7 @@ use Rattle.drive_tape.specs.declared.drove.Drove.{Drove}
 use Rattle.drive_tape.specs.Drive.{Drives}
 use Rattle.drive_tape.specs.Plans.{ReadsHead, IsTapePlan}
 use Rattle.yard_stores.specs.Taken.{AllLooked}
-use Rattle.porcupine_server.specs.Stores.{AreStores}
+use Rattle.serve_word.specs.Stores.{AreStores}
 use Rattle.porcupine_server.specs.declared.ending.Ending.{Ending}
 use Rattle.porcupine_server.specs.declared.ending.Ending.TheVariants.{Done, Line, Read, Write, Store, NoMemory}
 use Rattle.porcupine_server.specs.Endings.{ending_of, Finishes}

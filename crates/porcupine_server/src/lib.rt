@@ -28,7 +28,6 @@
 mod ending;
 mod laws;
 mod program;
-mod real_yard;
 mod server;
 mod words;
 
@@ -36,4 +35,4 @@ pub use laws::{
     empty_store_is_refused, first_line_is_handled, one_tape_is_good, posted_tape_is_good,
 };
 pub use program::run;
-pub use server::porcupine;
+pub use server::{drive_word, porcupine};

@@ -1,6 +1,6 @@
 // The words of the command line.
 ghost use Rattle.std.specs.Prelude.{◌≡◌, IfOk, OnErr};
-ghost use Rattle.porcupine_server.specs.Words.{IsNotText, words_after_name};
+ghost use Rattle.porcupine_server.specs.Words.{IsNotText, serves_first, words_after_name};
 
 use std::alloc::{AllocError, Global};
 use std::env::Args;
@@ -30,5 +30,15 @@ pub fn words_of(alloc: Global, arguments: io::Result<Args>) -> Result<Vec<String
             ErrorKind::InvalidData => Ok(Vec::new(alloc)),
             _ => Err(AllocError),
         },
+    }
+}
+
+/// Whether the first word is `serve`.
+pub fn asks_to_serve(words: &[String]) -> bool
+    ensures { result ≡ serves_first words.now }
+{
+    match words.first() {
+        Some(word) => word.as_str() == "serve",
+        None => false,
     }
 }

@@ -11,7 +11,7 @@ use std::io;
 use std::io::ErrorKind;
 use std::rt::Files;
 
-///! Where the stores of a yard are. in memory, or in a folder of the system. Its count of faults never falls.
+/// Where the stores of a yard are: in memory, or in a folder of the system. Its count of faults never falls.
 pub trait Backing: Drop {
     /// A store of this backing.
     type Store: Disk + Drop + Send;

@@ -22,6 +22,7 @@
 //! | `porcupine: node N has no store: FILE: WHY` | the file could not be opened |
 //! | `porcupine: node N has its door for SMTP at 127.0.0.1:PORT` | the door was opened; so for POP3 |
 //! | `porcupine: node N has no door for SMTP: 127.0.0.1:PORT: WHY` | the door could not be opened; so for POP3 |
+//! | `porcupine: FILE could not be read: WHY` | a file of that name could not be read |
 //!
 //! DIAGNOSTICS
 //!

@@ -17,7 +17,8 @@ use tcp_door::TcpDoor;
 /// reads the files of the system. Its fates carry each letter, its clocks show the time of the system, and its gates hold nobody. It
 /// keeps a memory of each store and each door for clauses alone. What a file of the system holds is not told.
 ///
-/// It says on standard error which doors it opened, and why one was not. That this could not be said changes nothing.
+/// It says on standard error which doors it opened, why one was not, and why a file could not be read. That this could not be said
+/// changes nothing.
 #[derive(Drop)]
 pub struct RealYard<'a, R, P: Backing> {
     system: &'a R,
@@ -64,6 +65,11 @@ fn tell_no_door<R: Eprint>(system: &R, node: u8, protocol: Protocol, port: u16, 
     let _ = eprintln!(system;
         "porcupine: node {node} has no door for {name}: 127.0.0.1:{port}: {fault}"
     );
+}
+
+// Says why a file could not be read.
+fn tell_unread<R: Eprint>(system: &R, name: &str, fault: &io::Error) {
+    let _ = eprintln!(system; "porcupine: {name} could not be read: {fault}");
 }
 
 impl<
@@ -168,13 +174,16 @@ impl<
     fn file(&mut self, name: &str) -> Result<Vec<u8>, YardRefusal> {
         match fs::read(self.system, name) {
             Ok(octets) => Ok(octets),
-            Err(fault) => match fault.kind() {
-                ErrorKind::OutOfMemory => Err(YardRefusal::NoMemory),
-                _ => {
-                    self.unread = self.unread.saturating_add(1);
-                    Err(YardRefusal::Failed)
+            Err(fault) => {
+                tell_unread(self.system, name, &fault);
+                match fault.kind() {
+                    ErrorKind::OutOfMemory => Err(YardRefusal::NoMemory),
+                    _ => {
+                        self.unread = self.unread.saturating_add(1);
+                        Err(YardRefusal::Failed)
+                    }
                 }
-            },
+            }
         }
     }
 

@@ -2,7 +2,7 @@
 //!
 //! SUMMARY
 //!
-//! Tests of `porcupine_server` by its two calls, over an outside in memory: a tape goes in, and its transcript, its status and
+//! Tests of `porcupine_server` by its calls, over an outside in memory: a tape goes in, and its transcript, its status and
 //! the disks that are given back are held against tables. `src/tests.rt` says how a table is read.
 //!
 //! DESCRIPTION
@@ -18,6 +18,7 @@
 //! | `tests/clocks.rt` | the clock that a tape sets, and the counts of the book |
 //! | `tests/faults.rt`, `tests/command_line.rt` | each part of the outside failing in turn, and other words |
 //! | `tests/word_forms.rt` | the words of the command line, and what `check` and `storm` write |
+//! | `tests/serving.rt` | `serve`: its console, mail that comes in by its doors, and each of its statuses |
 //! | `tests/driving.rt` | `drive_tape` by its own calls |
 //!
 //! STANDS ON

@@ -1,4 +1,4 @@
-// Whole tapes through the program's one call, over an outside in memory.
+// Whole tapes, and a service, over an outside in memory.
 
 mod clocks;
 mod clusters;
@@ -15,6 +15,7 @@ mod plans;
 mod recipients;
 mod replies;
 mod run_lines;
+mod serving;
 mod store;
 mod three_nodes;
 mod word_forms;
@@ -22,7 +23,7 @@ mod word_forms;
 use io_edge::{MemoryYard, Sink, SliceSource, VecSink, Yard};
 use line_source::LineSource;
 use node_disk::MemoryDisk;
-use porcupine_server::porcupine;
+use porcupine_server::drive_word;
 use std::alloc::{AllocError, Global};
 use std::process::Abort;
 use std::test::Fail;
@@ -56,13 +57,6 @@ fn lines_of<'a>(alloc: Global, text: &'a [u8]) -> Result<Vec<&'a [u8]>, AllocErr
     Ok(lines)
 }
 
-// The words of a command line.
-fn words(alloc: Global, word: &str) -> Result<Vec<String>, AllocError> {
-    let mut words = Vec::new(alloc);
-    words.push(String::from_str(alloc, word)?)?;
-    Ok(words)
-}
-
 /// What a run of the program left.
 #[derive(Drop)]
 struct Run {
@@ -88,16 +82,15 @@ fn yard_of(alloc: Global, failing: u64) -> Result<MemoryYard<MemoryDisk>, AllocE
     Ok(MemoryYard::new(alloc, disks))
 }
 
-// What the program answers to the word `drive`. Whoever calls this sees none of the clauses of the top call, which are long, and
-// of which no test needs one.
+// What the word `drive` comes to. Whoever calls this sees none of the clauses of that call, which are long, and of which no test
+// needs one.
 fn answered<S: LineSource, K: Sink, Y: Yard>(
     alloc: Global,
     source: &mut S,
     sink: &mut K,
     yard: &mut Y,
-) -> Result<u8, AllocError> {
-    let words = words(alloc, "drive")?;
-    Ok(porcupine(alloc, &words, source, sink, yard))
+) -> u8 {
+    drive_word(alloc, source, sink, yard)
 }
 
 // Runs `drive` on the tape over the stores of this yard: the status and the transcript.
@@ -105,16 +98,16 @@ fn drive_over(
     alloc: Global,
     tape: &[u8],
     yard: &mut MemoryYard<MemoryDisk>,
-) -> Result<(u8, Vec<u8>), AllocError> {
+) -> (u8, Vec<u8>) {
     let mut sink = VecSink::new(alloc);
-    let status = answered(alloc, &mut SliceSource::new(tape), &mut sink, yard)?;
-    Ok((status, sink.held))
+    let status = answered(alloc, &mut SliceSource::new(tape), &mut sink, yard);
+    (status, sink.held)
 }
 
 // Runs `drive` on the tape, over empty disks, of the first of which this call fails.
 fn drive(alloc: Global, tape: &[u8], failing: u64) -> Result<Run, AllocError> {
     let mut yard = yard_of(alloc, failing)?;
-    let (status, transcript) = drive_over(alloc, tape, &mut yard)?;
+    let (status, transcript) = drive_over(alloc, tape, &mut yard);
     let mut disk = MemoryDisk::new(alloc);
     for (_, node, last) in yard.returned {
         if node == 1 {

@@ -1,5 +1,5 @@
 -- What stays of a world over its steps.
-use Rattle.std.proofs.Common.{◌≡◌, inl, inr, ⊎_elim, ℕ, suc, Bool, true, false, List, [], ◌∷◌, ◌++◌, refl, sym, ap, ◌∙◌, subst, append-nil, append_assoc, ◌≤◌, arith}
+use Rattle.std.proofs.Common.{◌≡◌, inl, inr, ℕ, suc, Bool, true, false, true≢false, eqb-true, List, [], ◌∷◌, ◌++◌, refl, sym, ap, ◌∙◌, subst, append-nil, append_assoc, ◌≤◌, arith}
 use Rattle.std.specs.Prelude.{MatchBool, Result, Option, is_some}
 use Rattle.std.specs.List.{list_all}
 use Rattle.mail_model.specs.Plan.{Plan}
@@ -20,16 +20,37 @@ use Rattle.cluster_world.specs.Seen.{step_seen, outcome_seen}
 use Rattle.cluster_world.specs.Outcomes.{StepMade, MakesSteps, PostsAll, has_failed}
 use Rattle.cluster_world.specs.declared.world.World.{World}
 use Rattle.cluster_world.specs.declared.step.Step.{Step}
+use Rattle.cluster_world.specs.declared.step.Step.TheVariants as step
 use Rattle.cluster_world.specs.declared.step.Said.{Said}
 use Rattle.cluster_world.specs.declared.fault.StepFault.{StepFault}
 use Rattle.cluster_world.proofs.Chained.{tells_alike}
-use Rattle.shard_board.specs.Orders.{AlwaysKnown}
+use Rattle.shard_board.specs.Deeds.{is_blind}
+use Rattle.shard_board.specs.Pages.{is_known_over}
 use Rattle.shard_board.specs.Worlds.{KeepsWorld, AllKnown, StepsKeepWorld, FlowsKeepWorld, OpenedIsSound}
 
 -- disks of which each tells what it holds
 pub all_tell : {D : Type 0} (seen : D → Option (List ℕ)) → ((disk : D) → is_some (seen disk) ≡ true) → (disks : List D) → list_all (λ disk. is_some (seen disk)) disks ≡ true
 all_tell seen each [] = refl
 all_tell seen each (disk ∷ disks) = rw (each disk) (all_tell seen each disks)
+
+-- a deed over disks that tell is known
+pub known_over : {D : Type 0} (seen : D → Option (List ℕ)) → ((disk : D) → is_some (seen disk) ≡ true) → (blind : Bool) (world : World D) → is_known_over seen blind world ≡ true
+known_over seen each true world = refl
+known_over seen each false world = all_tell seen each (disks_of world)
+
+-- a step that is blind reads from no disk what the machine has to know
+blind_so : (nodes : ℕ) (one : Step) → is_blind nodes one ≡ true → IsBlind nodes one
+blind_so nodes (step.Push from to) blind = eqb-true nodes 1 blind
+blind_so nodes (step.Start node) blind = absurd (true≢false (sym blind))
+blind_so nodes (step.Begin node call) blind = tt
+blind_so nodes (step.Ask ticket) blind = tt
+blind_so nodes (step.GiveUp ticket) blind = tt
+blind_so nodes (step.Post letter keep) blind = tt
+blind_so nodes (step.Drop letter) blind = tt
+blind_so nodes (step.Widen at user id to) blind = tt
+blind_so nodes (step.Crash node) blind = tt
+blind_so nodes (step.Lose node) blind = tt
+blind_so nodes (step.Tick seconds) blind = tt
 
 module _ {D : Type 0} (on : View D) where
   -- a sound world of the machine for which it stands
@@ -128,7 +149,10 @@ module _ {D : Type 0} (on : View D) where
         tickets = opening_asks_one_thing plan.nodes;
       }
 
-  -- what the machine does is known at any turn of a board, where it always is
-  pub known_there : (first now : World D) (step : Step) → plan_of now ≡ plan_of first → AlwaysKnown on.seen (plan_of first).nodes step → StepIsKnown on.seen (state_of now) step
-  known_there first now step same known =
-      ⊎_elim (λ tell. inl (all_tell on.seen tell (disks_of now))) (λ blind. inr (subst (λ (p : Plan). IsBlind p.nodes step) (sym same) blind)) known
+  -- what the machine does in a step is known, where it is blind or the disks tell
+  pub known_so : (world : World D) (step : Step) → is_known_over on.seen (is_blind (plan_of world).nodes step) world ≡ true → StepIsKnown on.seen (state_of world) step
+  known_so world step known = by (is_blind (plan_of world).nodes step) refl known
+    where
+      by : (blind : Bool) → is_blind (plan_of world).nodes step ≡ blind → is_known_over on.seen blind world ≡ true → StepIsKnown on.seen (state_of world) step
+      by true blind known = inr (blind_so (plan_of world).nodes step blind)
+      by false blind tell = inl tell

@@ -1,5 +1,5 @@
 -- A history that is shared out stays so, where each of its items stands for several entries.
-use Rattle.std.proofs.Common.{◌≡◌, ℕ, suc, ◌+◌, ◌<◌, Bool, true, false, cond, List, [], ◌∷◌, ◌++◌, map, replicate, length, refl, ap, ◌∙◌, length-append, ne_eqb, arith}
+use Rattle.std.proofs.Common.{◌≡◌, ℕ, suc, ◌<◌, Bool, true, false, cond, List, [], ◌∷◌, ◌++◌, map, replicate, length, refl, ap, ◌∙◌, length-append, ne_eqb, arith}
 use Rattle.std.specs.Prelude.{nat_eq}
 use Rattle.std.specs.List.{flat_map}
 use mathlib.Core.Option.{some}

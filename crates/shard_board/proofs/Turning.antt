@@ -1,10 +1,11 @@
 -- What the single calls of a board say of their turn.
-use Rattle.std.proofs.Common.{◌≡◌, ℕ, zero, suc, ◌+◌, ◌<◌, List, [], ◌∷◌, ◌++◌, append-nil, length, slice_get, Option, Some, None, refl, sym, ap, ◌∙◌, subst, arith}
+use Rattle.std.proofs.Common.{◌≡◌, ℕ, Bool, true, ◌&&◌, zero, suc, ◌<◌, List, [], ◌∷◌, ◌++◌, append-nil, length, slice_get, Option, Some, None, refl, sym, ap, ◌∙◌, subst, arith}
 use Rattle.std.specs.Prelude.{Result, Ok, Err, IfOk}
 use Rattle.std.proofs.lemmas.List.{append_cancel_left}
 use Rattle.mail_model.specs.Book.{BookEntry}
+use Rattle.mail_model.specs.Plan.{Plan}
 use Rattle.node_store.specs.Disks.{View}
-use Rattle.cluster_world.specs.Worlds.{book_of}
+use Rattle.cluster_world.specs.Worlds.{plan_of, book_of}
 use Rattle.cluster_world.specs.declared.step.Step.{Step}
 use Rattle.cluster_world.specs.declared.step.Said.{Said}
 use Rattle.cluster_world.specs.declared.fault.StepFault.{StepFault}
@@ -15,17 +16,33 @@ use Rattle.shard_board.specs.declared.order.Told.TheVariants as told
 use Rattle.shard_board.specs.declared.part.Part.{Part}
 use Rattle.shard_board.specs.declared.board.Board.{Board}
 use Rattle.shard_board.specs.declared.board.BoardPass.{BoardPass}
-use Rattle.shard_board.specs.Boards.{own_entries, seen_book, IsTurnOf}
-use Rattle.shard_board.specs.Deeds.{MakesOne}
+use Rattle.shard_board.specs.Boards.{plan_of_board, own_entries, seen_book, made_known, IsTurnOf}
+use Rattle.shard_board.specs.Deeds.{MakesOne, is_blind}
+use Rattle.shard_board.specs.Pages.{are_known}
+use Rattle.shard_board.specs.Parts.{pages_of, AddsKnown}
+use Rattle.shard_board.proofs.Paged.{none_added}
 use Rattle.shard_board.specs.Entries.{entry_shown}
-use Rattle.shard_board.specs.Orders.{Obeys, TellsOf}
+use Rattle.shard_board.specs.Orders.{is_blind_order, Obeys, TellsOf}
+use Rattle.shard_board.specs.Posts.{step_by}
 use Rattle.shard_board.specs.Reads.{TellsSum, TellsEntry}
+use Rattle.io_edge.specs.declared.fate.Luck.{Luck}
+use Rattle.io_edge.specs.declared.fate.Luck.TheVariants as luck
 
 -- what stands in front is found there
 in_front : (xs ys : List BookEntry) (n : ℕ) → n < length xs → slice_get (xs ++ ys) n ≡ slice_get xs n
 in_front [] ys n below = absurd (omega (arith, below))
 in_front (x ∷ xs) ys zero below = refl
 in_front (x ∷ xs) ys (suc n) below = in_front xs ys n (omega (arith, below))
+
+-- a step that is ordered is blind where its order is
+pub order_still : {X : Type 0} (nodes : ℕ) (order : Option Step) (one : Step) → order ≡ Some one → (is_blind nodes one ≡ true → X) → is_blind_order nodes order ≡ true → X
+order_still nodes order one same still blind = still (ap (is_blind_order nodes) (sym same) ∙ blind)
+
+-- what becomes of a letter is blind
+pub luck_blind : (nodes : ℕ) (lucky : Luck) (letter : ℕ) → is_blind nodes (step_by lucky letter) ≡ true
+luck_blind nodes luck.Carry letter = refl
+luck_blind nodes luck.Drop letter = refl
+luck_blind nodes luck.Twice letter = refl
 
 module _ {D F C : Type 0} (on : View D) where
   -- the same turn, of which something else is said
@@ -39,13 +56,35 @@ module _ {D F C : Type 0} (on : View D) where
     later = t.later;
     grows = t.grows;
     plans = t.plans;
-    sound = t.sound;
+    ready = t.ready;
+    told = t.told;
+    pages = t.pages;
+    paged = t.paged;
+    made_is = t.made_is;
     seen_is = t.seen_is;
     own_is = t.own_is;
     joined_is = t.joined_is;
     quota_is = t.quota_is;
     tally_is = t.tally_is;
   }
+
+  -- a turn whose pages are known leaves as it was whether what the pass made is known
+  module _ {A : Type 0} (did : Part D F C → A → Part D F C → Type 0) (board : Board D F C) (before after : BoardPass D F C) (answer : A) (t : IsTurnOf on did board before after answer) where
+    pub made_still : AddsKnown on.seen t.old t.new → made_known on.seen after ≡ made_known on.seen before
+    made_still (added, is, known) =
+        let same : t.pages ≡ added = append_cancel_left (pages_of t.old) t.pages added (sym t.paged ∙ is) in
+        t.made_is ∙ ap (λ b. b && made_known on.seen before) (ap (are_known on.seen) same ∙ known)
+
+    pub same_still : t.new ≡ t.old → made_known on.seen after ≡ made_known on.seen before
+    same_still same = made_still (none_added on t.old t.new same)
+
+  -- a deed that is blind
+  pub deed_still : {A : Type 0} (did : Part D F C → A → Part D F C → Type 0) (blind : ℕ → Bool) (board : Board D F C) (before after : BoardPass D F C) (answer : A)
+      → (t : IsTurnOf on (λ old out new. did old out new × (blind (plan_of old.world).nodes ≡ true → AddsKnown on.seen old new)) board before after answer) → blind (plan_of_board board).nodes ≡ true
+      → made_known on.seen after ≡ made_known on.seen before
+  deed_still did blind board before after answer t so =
+      made_still (λ old out new. did old out new × (blind (plan_of old.world).nodes ≡ true → AddsKnown on.seen old new)) board before after answer t
+      (t.work.1 (ap (λ (p : Plan). blind p.nodes) t.plans.0 ∙ so))
 
   told_so : (order : Option Step) (one : Step) → order ≡ Some one → (said : Result Said StepFault) (result : Result Told StepFault) → TellsOf said result
       → (old new : Part D F C) → MakesOne on said one old.world new.world → Obeys on order old result new

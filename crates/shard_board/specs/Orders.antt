@@ -1,9 +1,8 @@
 -- What an order of an operator does.
-use Rattle.std.specs.Prelude.{◌≡◌, ◌⊎◌, ℕ, ⊤, true, is_some, List, Option, Some, None, Result, Ok, Err}
+use Rattle.std.specs.Prelude.{◌≡◌, ℕ, Bool, true, Option, Some, None, Result, Ok, Err}
 use Rattle.session_model.specs.Sums.{sum_of}
 use Rattle.node_store.specs.Disks.{View}
 use Rattle.cluster_world.specs.Worlds.{book_of}
-use Rattle.cluster_world.specs.Steps.{IsBlind}
 use Rattle.cluster_world.specs.Sums.{sum_seen}
 use Rattle.cluster_world.specs.declared.step.Step.{Step}
 use Rattle.cluster_world.specs.declared.step.Step.TheVariants as step
@@ -14,7 +13,7 @@ use Rattle.shard_board.specs.declared.order.Order.TheVariants.{Crash, Start, Los
 use Rattle.shard_board.specs.declared.order.Told.{Told}
 use Rattle.shard_board.specs.declared.order.Told.TheVariants as told
 use Rattle.shard_board.specs.declared.part.Part.{Part}
-use Rattle.shard_board.specs.Deeds.{MakesOne}
+use Rattle.shard_board.specs.Deeds.{MakesOne, is_blind}
 
 -- the step that is ordered; to count is none
 abbrev pub step_ordered : Order → Option Step
@@ -25,14 +24,10 @@ step_ordered (Push from to) = Some (step.Push from to)
 step_ordered (Widen at user id to) = Some (step.Widen at user id to)
 step_ordered Sum = None
 
--- What the machine does in the step is known over so many nodes: each disk of this type tells what it holds, or the step reads from none what the machine has to know.
-abbrev pub AlwaysKnown : {D : Type 0} → (D → Option (List ℕ)) → ℕ → Step → Type 0
-AlwaysKnown {D} seen nodes one = ((disk : D) → is_some (seen disk) ≡ true) ⊎ IsBlind nodes one
-
--- and so it is in the step that is ordered
-abbrev pub OrderIsKnown : {D : Type 0} → (D → Option (List ℕ)) → ℕ → Option Step → Type 0
-OrderIsKnown seen nodes (Some one) = AlwaysKnown seen nodes one
-OrderIsKnown seen nodes None = ⊤
+-- over so many nodes the step that is ordered is blind; to count reads no disk
+abbrev pub is_blind_order : ℕ → Option Step → Bool
+is_blind_order nodes (Some one) = is_blind nodes one
+is_blind_order nodes None = true
 
 module _ {D F C : Type 0} (on : View D) where
   -- The world makes the step that is ordered, and no other. To count changes nothing, and tells how many entries of each kind the book has.

@@ -16,6 +16,7 @@ use Rattle.io_edge.specs.declared.fate.Luck.{Luck}
 use Rattle.io_edge.specs.declared.fate.Luck.TheVariants as luck
 use Rattle.shard_board.specs.declared.part.Part.{Part}
 use Rattle.shard_board.specs.Deeds.{MakesOne}
+use Rattle.shard_board.specs.Parts.{AddsKnown}
 use Rattle.shard_board.specs.Worlds.{IsSoundWorld}
 
 -- the step that a letter's luck leads to
@@ -44,12 +45,13 @@ module _ {D F C : Type 0} (on : View D) (decides : F → ℕ → Luck → F → 
   FirstMet None old result new = (result ≡ Ok Quiet) × (new.world ≡ old.world) × (new.fate ≡ old.fate)
   FirstMet (Some letter) old result new = LetterMet letter old result new
 
-  -- The clock was set, which left a sound world, and then the letter of the lowest number was looked at.
+  -- The clock was set, which leaves a sound world sound, and then the letter of the lowest number was looked at. Both steps are blind.
   pub record PostsOne (old : Part D F C) (result : Result Posted DeskFault) (new : Part D F C) : Type 0 where
     pub seconds : ℕ
     pub mid : Part D F C
     pub ticked : Result Said StepFault
     pub tick : MakesOne on ticked (Tick seconds) old.world mid.world
     pub fate_is : mid.fate ≡ old.fate
-    pub sound : IsSoundWorld on mid.world
+    pub sound : IsSoundWorld on old.world → IsSoundWorld on mid.world
     pub first : FirstMet (first_number (state_of mid.world).flying.flights) mid result new
+    pub known : AddsKnown on.seen old new

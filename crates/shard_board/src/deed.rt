@@ -1,13 +1,13 @@
 //! What a turn does to the world of a board.
-ghost use Rattle.std.specs.Prelude.{◌≡◌};
+ghost use Rattle.std.specs.Prelude.{◌≡◌, ℕ, Bool, true};
 ghost use Rattle.node_store.specs.Disks.{view_of};
 ghost use Rattle.cluster_world.specs.Books.{IsLongerBook};
-ghost use Rattle.cluster_world.specs.Worlds.{state_of, plan_of, book_of};
-ghost use Rattle.cluster_world.specs.Steps.{StepIsKnown};
+ghost use Rattle.cluster_world.specs.Worlds.{plan_of, book_of, CanMakeSteps};
 ghost use Rattle.cluster_world.specs.Ended.{IsEnded};
 ghost use Rattle.cluster_world.specs.declared.world.World.{World as AWorld};
 ghost use Rattle.shard_board.specs.Worlds.{IsSoundWorld};
-ghost use Rattle.shard_board.specs.Deeds.{MakesOne};
+ghost use Rattle.shard_board.specs.Pages.{is_known_over};
+ghost use Rattle.shard_board.specs.Deeds.{MakesOne, is_blind};
 
 use cluster_world::{Said, Step, StepFault, World};
 use io_edge::Disk;
@@ -24,18 +24,46 @@ pub trait Deed<D: Disk> {
     /// What it did: of the deed, the old world, the answer and the new world.
     ghost did: { Self → AWorld D → Self.Out → AWorld D → Type 0 };
 
-    /// Does it. The world is sound afterwards.
+    /// Whether it is blind over so many nodes.
+    ghost blind: { Self → ℕ → Bool };
+
+    /// Whether it is blind over so many nodes: it reads from no disk what the machine has to know.
+    fn is_blind(&self, nodes: u8) -> bool
+        ensures { result ≡ blind self.now nodes };
+
+    /// Does it. Where it is blind, or the disks of the world tell what they hold, a sound world is sound afterwards.
     fn act(self, alloc: Global, world: &mut World<D>) -> Self::Out
-        requires sound { IsSoundWorld (view_of D.seen D.faults D.clock) world.old }
+        requires ready { CanMakeSteps D.seen world.old }
         requires asks { asks self world.old }
         ensures did { did self world.old result world.new }
-        ensures sound { IsSoundWorld (view_of D.seen D.faults D.clock) world.new }
+        ensures ready { CanMakeSteps D.seen world.new }
+        ensures sound { is_known_over D.seen (blind self (plan_of world.old).nodes) world.old ≡ true
+            → IsSoundWorld (view_of D.seen D.faults D.clock) world.old → IsSoundWorld (view_of D.seen D.faults D.clock) world.new }
         ensures plan { plan_of world.new ≡ plan_of world.old }
         ensures longer { IsLongerBook (book_of world.old) (book_of world.new) };
 
     /// What is answered where there is no memory for the page. Nothing is then done.
     fn short(self) -> Self::Out
         ensures { (world : AWorld D) → did self world result world };
+}
+
+// Whether the step is blind over so many nodes.
+fn is_blind(step: &Step, nodes: u8) -> bool
+    ensures { result ≡ is_blind nodes step.now }
+{
+    match step {
+        Step::Push { .. } => nodes == 1,
+        Step::Start { .. } => false,
+        Step::Begin { .. }
+        | Step::Ask { .. }
+        | Step::GiveUp { .. }
+        | Step::Post { .. }
+        | Step::Drop { .. }
+        | Step::Widen { .. }
+        | Step::Crash { .. }
+        | Step::Lose { .. }
+        | Step::Tick { .. } => true,
+    }
 }
 
 /// One step.
@@ -47,9 +75,15 @@ pub(crate) struct Stepping {
 impl<D: Disk> Deed<D> for Stepping {
     type Out = Result<Said, StepFault>;
 
-    ghost asks = { λ deed world. StepIsKnown D.seen (state_of world) deed.step × IsEnded deed.step };
+    ghost asks = { λ deed world. IsEnded deed.step };
 
     ghost did = { λ deed old result new. MakesOne (view_of D.seen D.faults D.clock) result deed.step old new };
+
+    ghost blind = { λ deed nodes. is_blind nodes deed.step };
+
+    fn is_blind(&self, nodes: u8) -> bool {
+        is_blind(&self.step, nodes)
+    }
 
     fn act(self, alloc: Global, world: &mut World<D>) -> Result<Said, StepFault> {
         world.step(alloc, self.step)

@@ -1,6 +1,8 @@
 //! What stays of a world, whatever is done with it: functions that do nothing, whose contracts hold of the definitions alone.
 ghost use Rattle.node_store.specs.Disks.{view_of};
 ghost use Rattle.shard_board.specs.Worlds.{StepsKeepWorld, FlowsKeepWorld, OpenedIsSound};
+ghost use Rattle.shard_board.specs.Boards.{PassTells};
+ghost use Rattle.shard_board.specs.declared.board.BoardPass.{BoardPass as APass};
 
 use io_edge::Disk;
 
@@ -18,4 +20,9 @@ pub fn flows_keep_world<D: Disk>()
 /// A world that was opened is sound.
 pub fn opened_is_sound<D: Disk>()
     ensures { OpenedIsSound (view_of D.seen D.faults D.clock) }
+{}
+
+/// Over disks of which each tells what it holds, each pass of a board tells still.
+pub fn passes_tell<D: Disk, F, C>()
+    ensures { (pass : APass D F C) → PassTells D.seen pass }
 {}

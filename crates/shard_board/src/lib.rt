@@ -21,9 +21,10 @@
 //!
 //! HOW IT STANDS
 //!
-//! The history of the lock has a page for each deed, mostly a step, with what it added to the book. A page takes no room. So the book is
-//! what it was as the board was made, and after that what the pages have; what a pass has seen of it is what its pages have, and
-//! its own entries are those on the pages of its own turns.
+//! The history of the lock has a page for each deed, mostly a step: the world before and after it, and whether it was blind, that
+//! is whether it read from no disk what the machine has to know. A page takes no room. So the book is what it was as the board was
+//! made, and after that what the pages have; what a pass has seen of it is what its pages have, and its own entries are those on
+//! the pages of its own turns.
 //!
 //! PROMISES
 //!
@@ -31,13 +32,18 @@
 //!   between them; the book of the old begins with all that the pass had seen; what was added is the pass's own.
 //! - What `close` gives has in its book the entries of the opening, of the pass and of each pass that was joined, each once, in
 //!   their order, and no other (`ClosesWith`).
-//! - `specs/Worlds.antt` has what stays whatever is done: the plan, and that the world is sound, which says that it can make
-//!   steps and stands for a sound world of the machine. The law is `steps_keep_world`.
+//! - The plan stays, and the world can make steps, whatever is done.
+//! - A page is known where its deed was blind, or the disks told what they hold. A pass tells still (`tells_still`) where each
+//!   page that it has seen is known; then the worlds that its turn found and left were sound, which says that they stand for a
+//!   sound world of the machine. Over disks of which each tells, every pass tells always (`passes_tell`). Over disks that tell
+//!   nothing a start is not known, nor a push among several nodes: whoever has seen one tells nothing any more.
+//! - `made_known` says that what a pass and those that it took in made is known. Each call but those two orders leaves it as it
+//!   is, and where it holds of the pass that closes the board, the world is sound.
+//! - `specs/Worlds.antt` has what stays of a world over known steps. The law is `steps_keep_world`.
 //!
 //! DIAGNOSTICS
 //!
-//! A call is refused as `cluster_world` refuses its step. Over disks that tell nothing of what they hold, no node is started, and
-//! among several nodes none pushes: `console` requires that the machine's part in the step is known.
+//! A call is refused as `cluster_world` refuses its step.
 //!
 //! STANDS ON
 //!
@@ -64,5 +70,5 @@ mod works;
 
 pub use board::{Board, BoardPass};
 pub use deed::Deed;
-pub use laws::{flows_keep_world, opened_is_sound, steps_keep_world};
+pub use laws::{flows_keep_world, opened_is_sound, passes_tell, steps_keep_world};
 pub use order::{Order, Told};

@@ -1,12 +1,14 @@
-//! What one step added to the book.
+//! What one deed found and left.
+use cluster_world::World;
 use std::snapshot::Snapshot;
-use world_book::Book;
 
-/// What one step added to the book. It takes no room: a page is read by clauses alone.
+/// What one deed found and left, and whether it was blind. It takes no room: a page is read by clauses alone.
 #[derive(Drop)]
-pub struct Page {
-    /// The book as the step found it.
-    pub before: Snapshot<Book>,
-    /// The book as it left it.
-    pub after: Snapshot<Book>,
+pub struct Page<D> {
+    /// The world as the deed found it.
+    pub before: Snapshot<World<D>>,
+    /// The world as it left it.
+    pub after: Snapshot<World<D>>,
+    /// Whether it reads from no disk what the machine has to know.
+    pub blind: Snapshot<bool>,
 }

@@ -1,14 +1,14 @@
 //! The calls of a board. Each is one turn.
-ghost use Rattle.std.specs.Prelude.{◌≡◌, ◌<◌, IfOk, length, slice_get};
+ghost use Rattle.std.specs.Prelude.{◌≡◌, ◌<◌, true, IfOk, length, slice_get};
 ghost use Rattle.node_store.specs.Disks.{view_of};
 ghost use Rattle.cluster_world.specs.Worlds.{plan_of};
 ghost use Rattle.cluster_world.specs.Ended.{IsEnded};
 ghost use Rattle.cluster_world.specs.declared.world.World.{World as AWorld};
 ghost use Rattle.cluster_world.specs.declared.step.Step.TheVariants as step;
 ghost use Rattle.shard_board.specs.Parts.{KeepsPart};
-ghost use Rattle.shard_board.specs.Deeds.{MakesOne};
-ghost use Rattle.shard_board.specs.Boards.{first_part, plan_of_board, own_entries, seen_book, IsPassOf, IsTurnOf};
-ghost use Rattle.shard_board.specs.Orders.{step_ordered, AlwaysKnown, OrderIsKnown, Obeys, TellsOf};
+ghost use Rattle.shard_board.specs.Deeds.{MakesOne, is_blind};
+ghost use Rattle.shard_board.specs.Boards.{first_part, plan_of_board, own_entries, seen_book, made_known, IsPassOf, IsTurnOf};
+ghost use Rattle.shard_board.specs.Orders.{step_ordered, is_blind_order, Obeys, TellsOf};
 ghost use Rattle.shard_board.specs.Posts.{PostsOne};
 ghost use Rattle.shard_board.specs.Reads.{TellsLife, TellsSum, TellsEntry};
 ghost use Rattle.shard_board.specs.Entries.{entry_shown};
@@ -62,6 +62,7 @@ impl<D: Disk, F, C> Board<D, F, C> {
         requires asks { (world : AWorld D) → plan_of world ≡ plan_of_board self.now → T.asks deed world }
         ensures pass { IsPassOf (view_of D.seen D.faults D.clock) self.now pass.new }
         ensures turn { IsTurnOf (view_of D.seen D.faults D.clock) (λ old out new. T.did deed old.world out new.world) self.now pass.old pass.new result }
+        ensures still { T.blind deed (plan_of_board self.now).nodes ≡ true → made_known D.seen pass.new ≡ made_known D.seen pass.old }
     {
         self.take(rt, pass, Doing { alloc, deed })
     }
@@ -75,10 +76,10 @@ impl<D: Disk, F, C> Board<D, F, C> {
         step: Step,
     ) -> Result<Said, StepFault>
         requires pass { IsPassOf (view_of D.seen D.faults D.clock) self.now pass.old }
-        requires known { AlwaysKnown D.seen (plan_of_board self.now).nodes step }
         requires ended { IsEnded step }
         ensures pass { IsPassOf (view_of D.seen D.faults D.clock) self.now pass.new }
         ensures turn { IsTurnOf (view_of D.seen D.faults D.clock) (λ old said new. MakesOne (view_of D.seen D.faults D.clock) said step old.world new.world) self.now pass.old pass.new result }
+        ensures still { is_blind (plan_of_board self.now).nodes step ≡ true → made_known D.seen pass.new ≡ made_known D.seen pass.old }
     {
         self.act(rt, alloc, pass, Stepping { step })
     }
@@ -100,6 +101,7 @@ impl<D: Disk, F, C> Board<D, F, C> {
         requires ended { IsEnded (step.Begin node call) }
         ensures pass { IsPassOf (view_of D.seen D.faults D.clock) self.now pass.new }
         ensures turn { IsTurnOf (view_of D.seen D.faults D.clock) (λ old said new. MakesOne (view_of D.seen D.faults D.clock) said (step.Begin node call) old.world new.world) self.now pass.old pass.new result }
+        ensures still { made_known D.seen pass.new ≡ made_known D.seen pass.old }
     {
         self.step(rt, alloc, pass, Step::Begin { node, call })
     }
@@ -119,6 +121,7 @@ impl<D: Disk, F, C> Board<D, F, C> {
         requires pass { IsPassOf (view_of D.seen D.faults D.clock) self.now pass.old }
         ensures pass { IsPassOf (view_of D.seen D.faults D.clock) self.now pass.new }
         ensures turn { IsTurnOf (view_of D.seen D.faults D.clock) (λ old said new. MakesOne (view_of D.seen D.faults D.clock) said (step.Ask ticket) old.world new.world) self.now pass.old pass.new result }
+        ensures still { made_known D.seen pass.new ≡ made_known D.seen pass.old }
     {
         self.step(rt, alloc, pass, Step::Ask { ticket })
     }
@@ -138,6 +141,7 @@ impl<D: Disk, F, C> Board<D, F, C> {
         requires pass { IsPassOf (view_of D.seen D.faults D.clock) self.now pass.old }
         ensures pass { IsPassOf (view_of D.seen D.faults D.clock) self.now pass.new }
         ensures turn { IsTurnOf (view_of D.seen D.faults D.clock) (λ old said new. MakesOne (view_of D.seen D.faults D.clock) said (step.GiveUp ticket) old.world new.world) self.now pass.old pass.new result }
+        ensures still { made_known D.seen pass.new ≡ made_known D.seen pass.old }
     {
         self.step(rt, alloc, pass, Step::GiveUp { ticket })
     }
@@ -147,12 +151,13 @@ impl<D: Disk, F, C> Board<D, F, C> {
         requires pass { IsPassOf (view_of D.seen D.faults D.clock) self.now pass.old }
         ensures pass { IsPassOf (view_of D.seen D.faults D.clock) self.now pass.new }
         ensures turn { IsTurnOf (view_of D.seen D.faults D.clock) TellsSum self.now pass.old pass.new result }
+        ensures still { made_known D.seen pass.new ≡ made_known D.seen pass.old }
     {
         self.take(rt, pass, Summing)
     }
 
     /// What an operator orders: the step that is ordered, and no other, or a count of the entries of the book. A start, and a push
-    /// among several nodes, read from a disk what has to be known of the world, so the disks have to tell what they hold.
+    /// among several nodes, are not blind: over disks that tell nothing, no pass that has seen such a step tells any more.
     ///
     /// # Errors
     ///
@@ -165,9 +170,9 @@ impl<D: Disk, F, C> Board<D, F, C> {
         order: Order,
     ) -> Result<Told, StepFault>
         requires pass { IsPassOf (view_of D.seen D.faults D.clock) self.now pass.old }
-        requires known { OrderIsKnown D.seen (plan_of_board self.now).nodes (step_ordered order) }
         ensures pass { IsPassOf (view_of D.seen D.faults D.clock) self.now pass.new }
         ensures turn { IsTurnOf (view_of D.seen D.faults D.clock) (Obeys (view_of D.seen D.faults D.clock) (step_ordered order)) self.now pass.old pass.new result }
+        ensures still { is_blind_order (plan_of_board self.now).nodes (step_ordered order) ≡ true → made_known D.seen pass.new ≡ made_known D.seen pass.old }
     {
         match order {
             Order::Crash(node) => told(self.step(rt, alloc, pass, Step::Crash { node })),
@@ -192,6 +197,7 @@ impl<D: Disk, F, C> Board<D, F, C> {
         requires pass { IsPassOf (view_of D.seen D.faults D.clock) self.now pass.old }
         ensures pass { IsPassOf (view_of D.seen D.faults D.clock) self.now pass.new }
         ensures turn { IsTurnOf (view_of D.seen D.faults D.clock) (TellsLife node) self.now pass.old pass.new result }
+        ensures still { made_known D.seen pass.new ≡ made_known D.seen pass.old }
     {
         self.take(rt, pass, Looking { node })
     }
@@ -211,6 +217,7 @@ impl<D: Disk, F, C> Board<D, F, C> {
         requires pass { IsPassOf (view_of D.seen D.faults D.clock) self.now pass.old }
         ensures pass { IsPassOf (view_of D.seen D.faults D.clock) self.now pass.new }
         ensures turn { IsTurnOf (view_of D.seen D.faults D.clock) (TellsEntry place) self.now pass.old pass.new result }
+        ensures still { made_known D.seen pass.new ≡ made_known D.seen pass.old }
         ensures own { own_entries pass.new ≡ own_entries pass.old }
         ensures seen { place < length (seen_book self.now pass.old) → IfOk result (λ found. entry_shown found ≡ slice_get (seen_book self.now pass.old) place) }
     {
@@ -240,6 +247,7 @@ impl<D: Disk, F: Fate, C: Clock> Board<D, F, C> {
         requires pass { IsPassOf (view_of D.seen D.faults D.clock) self.now pass.old }
         ensures pass { IsPassOf (view_of D.seen D.faults D.clock) self.now pass.new }
         ensures turn { IsTurnOf (view_of D.seen D.faults D.clock) (PostsOne (view_of D.seen D.faults D.clock) F.decides) self.now pass.old pass.new result }
+        ensures still { made_known D.seen pass.new ≡ made_known D.seen pass.old }
     {
         self.take(rt, pass, Posting { alloc })
     }

@@ -1,10 +1,9 @@
 //! What one turn does to a part: a work for each kind of turn.
-ghost use Rattle.std.specs.Prelude.{◌≡◌, IfOk};
+ghost use Rattle.std.specs.Prelude.{◌≡◌, true, IfOk};
 ghost use Rattle.std.specs.Option.{option_copied};
-ghost use Rattle.turnstile.specs.Lists.{IsPrefix};
 ghost use Rattle.node_store.specs.Disks.{view_of};
-ghost use Rattle.shard_board.specs.Worlds.{IsSoundWorld};
-ghost use Rattle.shard_board.specs.Parts.{KeepsPart, pages_of};
+ghost use Rattle.cluster_world.specs.Worlds.{plan_of, CanMakeSteps};
+ghost use Rattle.shard_board.specs.Parts.{KeepsPart, AddsKnown};
 ghost use Rattle.shard_board.specs.Posts.{step_by, posted_of, LetterMet, PostsOne};
 ghost use Rattle.shard_board.specs.Reads.{TellsLife, TellsSum, TellsEntry};
 
@@ -29,9 +28,9 @@ pub(crate) struct Doing<T> {
 impl<D: Disk, F, C, T: Deed<D>> Work<Part<D, F, C>> for Doing<T> {
     type Out = T::Out;
 
-    ghost asks = { λ work part. IsSoundWorld (view_of D.seen D.faults D.clock) part.world × T.asks work.deed part.world };
+    ghost asks = { λ work part. CanMakeSteps D.seen part.world × T.asks work.deed part.world };
 
-    ghost did = { λ work old result new. T.did work.deed old.world result new.world };
+    ghost did = { λ work old result new. T.did work.deed old.world result new.world × (T.blind work.deed (plan_of old.world).nodes ≡ true → AddsKnown D.seen old new) };
 
     fn run(self, part: &mut Part<D, F, C>) -> T::Out {
         part.make(self.alloc, self.deed)
@@ -140,11 +139,10 @@ fn meet<D: Disk, F: Fate, C>(
     alloc: Global,
     letter: u64,
 ) -> Result<Posted, DeskFault>
-    requires sound { IsSoundWorld (view_of D.seen D.faults D.clock) part.old.world }
-    ensures sound { IsSoundWorld (view_of D.seen D.faults D.clock) part.new.world }
+    requires ready { CanMakeSteps D.seen part.old.world }
     ensures met { LetterMet (view_of D.seen D.faults D.clock) F.decides letter part.old result part.new }
     ensures keeps { KeepsPart (view_of D.seen D.faults D.clock) part.old part.new }
-    ensures grows { IsPrefix (pages_of part.old) (pages_of part.new) }
+    ensures known { AddsKnown D.seen part.old part.new }
 {
     let luck = part.fate.decide(letter);
     let step = step_by(luck, letter);
@@ -155,7 +153,7 @@ fn meet<D: Disk, F: Fate, C>(
 impl<D: Disk, F: Fate, C: Clock> Work<Part<D, F, C>> for Posting {
     type Out = Result<Posted, DeskFault>;
 
-    ghost asks = { λ work part. IsSoundWorld (view_of D.seen D.faults D.clock) part.world };
+    ghost asks = { λ work part. CanMakeSteps D.seen part.world };
 
     ghost did = { λ work old result new. PostsOne (view_of D.seen D.faults D.clock) F.decides old result new };
 

@@ -37,6 +37,7 @@ use Rattle.cluster_world.specs.declared.step.Said.TheVariants as said
 use Rattle.cluster_world.specs.declared.fault.StepFault.{StepFault}
 use Rattle.cluster_world.specs.declared.fault.StepFault.TheVariants as fault
 use Rattle.desk_model.specs.Added.{Adds, copies_filed, AreCopiesOf, AcknowledgesFor, AreForAnswer}
+use Rattle.desk_model.specs.Growing.{AnswersInKind}
 use Rattle.desk_model.specs.Tickets.{filing_in}
 use Rattle.desk_model.proofs.Answered.{answers_acknowledge}
 use Rattle.solo_desk.specs.Asking.{OwnAnswer, HandsOn}
@@ -222,6 +223,23 @@ module _ {D : Type 0} (on : View D) (ticket : DeskTicket) (old new : World D) (s
       never_falls fault.Worn s = tt
       never_falls fault.NoRoom s = tt
 
+-- whatever is told, an answer that is handed on is of its kind
+pub answers_in_kind : (begun : Begun) (came : Result Said StepFault) (result : Result Ask DeskFault) → HandsOn begun.kind came result → AnswersInKind begun result
+answers_in_kind begun (Ok (said.Asked (Done given))) (Ok ask) (same, fits) = subst (λ (a : Ask). AnswersInKind begun (Ok a)) (sym same) (fits_so begun.kind given fits)
+answers_in_kind begun (Ok (said.Asked (Done given))) (Err why) hands = tt
+answers_in_kind begun (Ok (said.Asked (Pending got wanted))) result hands = subst (λ (r : Result Ask DeskFault). AnswersInKind begun r) (sym hands) tt
+answers_in_kind begun (Ok (said.Begun number stirs)) result hands = absurd hands
+answers_in_kind begun (Ok (said.Faulted n)) result hands = absurd hands
+answers_in_kind begun (Ok said.Noted) result hands = absurd hands
+answers_in_kind begun (Ok said.Heard) result hands = absurd hands
+answers_in_kind begun (Ok (said.Thrown why)) result hands = absurd hands
+answers_in_kind begun (Ok (said.Sent letters)) result hands = absurd hands
+answers_in_kind begun (Ok (said.Widened did)) result hands = absurd hands
+answers_in_kind begun (Ok (said.NodeUp boot)) result hands = absurd hands
+answers_in_kind begun (Ok said.Done) result hands = absurd hands
+answers_in_kind begun (Err why) result hands = subst (λ (r : Result Ask DeskFault). AnswersInKind begun r) (sym hands) tt
+
+module _ {D : Type 0} (on : View D) (ticket : DeskTicket) (old new : World D) where
   pub handed_by : (came : Result Said StepFault) (result : Result Ask DeskFault) → HandsOn ticket.begun.kind came result → IsStep on came (step.Ask ticket.ticket) old new → AsksBy on ticket result old new
   handed_by came (Err why) hands is = tt
   handed_by (Ok (said.Asked (Done given))) (Ok ask) hands is = subst (λ a. IsStep on (Ok (said.Asked a)) (step.Ask ticket.ticket) old new) (sym hands.0) is

@@ -34,6 +34,15 @@ module _ {D : Type 0} (on : View D) (old new : World D) (serves : CanServe on ol
   pub give_up_adds : (came : Result Said StepFault) (number : Number) → IsStep on came (step.GiveUp number) old new → AddsTo AreQuiet old new
   give_up_adds came number is = idle_adds on came (step.GiveUp number) old new is (inr tt) tt serves tt
 
+  -- a Leave
+  pub leave_adds : (came : Result Said StepFault) (node : ℕ) (begun : Call) → IsLeave begun true → IsStep on came (step.Begin node begun) old new → AddsTo AreQuiet old new
+  leave_adds came node (call.Leave user login manager) leave is = idle_adds on came (step.Begin node (call.Leave user login manager)) old new is (inr tt) tt serves tt
+  leave_adds came node (call.Deliver deliver) leave is = absurd (let never : true ≡ false = leave in cc)
+  leave_adds came node (call.Login user proof) leave is = absurd (let never : true ≡ false = leave in cc)
+  leave_adds came node (call.Fetch user id holders from most) leave is = absurd (let never : true ≡ false = leave in cc)
+  leave_adds came node (call.Strike user items) leave is = absurd (let never : true ≡ false = leave in cc)
+
+module _ {D : Type 0} (on : View D) (old new : World D) where
   pub gave_up_by : (ticket : DeskTicket) (came : Result Said StepFault) (result : Result (Unit {0}) DeskFault) → EndsAs came result → IsStep on came (step.GiveUp ticket.ticket) old new → GivesUpBy on ticket result old new
   gave_up_by ticket came (Err why) ends is = tt
   gave_up_by ticket (Err why) (Ok done) ends is = inr (inr (why, ends, is))
@@ -48,20 +57,12 @@ module _ {D : Type 0} (on : View D) (old new : World D) (serves : CanServe on ol
   gave_up_by ticket (Ok (said.NodeUp boot)) (Ok done) ends is = absurd is.did.kind
   gave_up_by ticket (Ok (said.Faulted n)) (Ok done) ends is = absurd is.did.kind
 
-  -- a Leave
-  pub leave_adds : (came : Result Said StepFault) (node : ℕ) (begun : Call) → IsLeave begun true → IsStep on came (step.Begin node begun) old new → AddsTo AreQuiet old new
-  leave_adds came node (call.Leave user login manager) leave is = idle_adds on came (step.Begin node (call.Leave user login manager)) old new is (inr tt) tt serves tt
-  leave_adds came node (call.Deliver deliver) leave is = absurd (let never : true ≡ false = leave in cc)
-  leave_adds came node (call.Login user proof) leave is = absurd (let never : true ≡ false = leave in cc)
-  leave_adds came node (call.Fetch user id holders from most) leave is = absurd (let never : true ≡ false = leave in cc)
-  leave_adds came node (call.Strike user items) leave is = absurd (let never : true ≡ false = leave in cc)
-
-  pub leave_is_ended : (begun : Call) → IsLeave begun true → IsTextEnded (machine_call begun)
-  leave_is_ended (call.Leave user login manager) leave = tt
-  leave_is_ended (call.Deliver deliver) leave = absurd (let never : true ≡ false = leave in cc)
-  leave_is_ended (call.Login user proof) leave = tt
-  leave_is_ended (call.Fetch user id holders from most) leave = tt
-  leave_is_ended (call.Strike user items) leave = tt
+pub leave_is_ended : (begun : Call) → IsLeave begun true → IsTextEnded (machine_call begun)
+leave_is_ended (call.Leave user login manager) leave = tt
+leave_is_ended (call.Deliver deliver) leave = absurd (let never : true ≡ false = leave in cc)
+leave_is_ended (call.Login user proof) leave = tt
+leave_is_ended (call.Fetch user id holders from most) leave = tt
+leave_is_ended (call.Strike user items) leave = tt
 
 -- The letter of the lowest number was posted, as is answered.
 pub posted_by : {D : Type 0} (on : View D) (old new : World D) (letter : ℕ) (came : Result Said StepFault) (result : Result Posted DeskFault)
@@ -69,10 +70,10 @@ pub posted_by : {D : Type 0} (on : View D) (old new : World D) (letter : ℕ) (c
 posted_by on old new letter (Ok what) result first is e = subst (λ r. PostsBy on r old new) (sym e) (letter, what, first, is)
 posted_by on old new letter (Err fault.Worn) result first is e = subst (λ r. PostsBy on r old new) (sym e) (letter, fault.Worn, first, is)
 posted_by on old new letter (Err (fault.NoMemory down)) result first is e = subst (λ r. PostsBy on r old new) (sym e) (letter, fault.NoMemory down, first, is)
-posted_by on old new letter (Err fault.NoSuchNode) result first is e = absurd e
-posted_by on old new letter (Err fault.NodeLost) result first is e = absurd e
-posted_by on old new letter (Err fault.NodeDown) result first is e = absurd e
-posted_by on old new letter (Err fault.NodeUp) result first is e = absurd e
-posted_by on old new letter (Err fault.NoSuchLetter) result first is e = absurd e
-posted_by on old new letter (Err fault.NoSuchTicket) result first is e = absurd e
-posted_by on old new letter (Err fault.NoRoom) result first is e = absurd e
+posted_by on old new letter (Err fault.NoSuchNode) result first is e = subst (λ r. PostsBy on r old new) (sym e) (letter, fault.NoSuchNode, first, is)
+posted_by on old new letter (Err fault.NodeLost) result first is e = subst (λ r. PostsBy on r old new) (sym e) (letter, fault.NodeLost, first, is)
+posted_by on old new letter (Err fault.NodeDown) result first is e = subst (λ r. PostsBy on r old new) (sym e) (letter, fault.NodeDown, first, is)
+posted_by on old new letter (Err fault.NodeUp) result first is e = subst (λ r. PostsBy on r old new) (sym e) (letter, fault.NodeUp, first, is)
+posted_by on old new letter (Err fault.NoSuchLetter) result first is e = subst (λ r. PostsBy on r old new) (sym e) (letter, fault.NoSuchLetter, first, is)
+posted_by on old new letter (Err fault.NoSuchTicket) result first is e = subst (λ r. PostsBy on r old new) (sym e) (letter, fault.NoSuchTicket, first, is)
+posted_by on old new letter (Err fault.NoRoom) result first is e = subst (λ r. PostsBy on r old new) (sym e) (letter, fault.NoRoom, first, is)

@@ -13,7 +13,7 @@ use Rattle.mail_base.specs.Delivers.{mail_in}
 use Rattle.session_model.specs.Calls as model
 use Rattle.session_model.specs.Books.{struck_by}
 use Rattle.call_tickets.specs.Seen.{call_seen, asks_whole}
-use Rattle.call_tickets.specs.Begins.{IsFilingOf, FilingFits, IsBegunFor}
+use Rattle.call_tickets.specs.Begins.{IsFilingOf, FilingFits, IsKindFor, IsBegunFor}
 use Rattle.call_tickets.specs.declared.call.Call.{Call}
 use Rattle.call_tickets.specs.declared.call.Call.TheVariants as call
 use Rattle.call_tickets.specs.declared.desk.DeskFault.{DeskFault}
@@ -40,6 +40,7 @@ use Rattle.desk_model.specs.Added.{AreQuiet, AreStrikes}
 use Rattle.desk_model.proofs.Begun.{begun_calls_strike, deliveries_file}
 use Rattle.solo_desk.specs.Beginning.{RefusedAs, FindsUnder, HandsOut}
 use Rattle.desk_model.specs.Entries.{BeginsWith}
+use Rattle.desk_model.specs.Growing.{BeginsInKind}
 use Rattle.solo_desk.specs.Kinds.{IsOfKind}
 use Rattle.solo_desk.specs.Serving.{CanServe, AddsTo}
 use Rattle.solo_desk.specs.Steps.{BeginsAs, BeginsBy}
@@ -97,6 +98,35 @@ begun_for (call.Strike user items) asked kind what seen of_kind is files =
     subst (λ a. IsBegunFor a what) (some_same _ asked seen) (is ∙ (let same : kind ≡ kinds.Strike = cc of_kind in same), tt)
 begun_for (call.Leave user login manager) asked kind what seen of_kind is files = absurd (let never : Some kind ≡ None = of_kind in cc)
 
+-- what was begun is of the kind of the call
+kind_for : (begun : Call) (asked : model.Call) (kind found : CallKind) → call_seen begun ≡ Some asked → IsOfKind begun (Some kind) → found ≡ kind → IsKindFor asked found
+kind_for (call.Deliver deliver) asked kind found seen of_kind is =
+    subst (λ a. IsKindFor a found) (let same : model.Call.Deliver (mail_in deliver) ≡ asked = cc seen in same) (is ∙ (let same : kind ≡ kinds.Deliver = cc of_kind in same))
+kind_for (call.Login user proof) asked kind found seen of_kind is =
+    subst (λ a. IsKindFor a found) (some_same _ asked seen) (is ∙ (let same : kind ≡ kinds.Login = cc of_kind in same))
+kind_for (call.Fetch user id holders from most) asked kind found seen of_kind is = by (asks_whole from most) seen
+  where
+    by : (b : Bool) → (if b then Some (model.Call.Fetch user id) else None) ≡ Some asked → IsKindFor asked found
+    by true e = subst (λ a. IsKindFor a found) (some_same (model.Call.Fetch user id) asked e) (is ∙ (let same : kind ≡ kinds.Fetch = cc of_kind in same))
+    by false e = absurd (let never : None ≡ Some asked = e in cc)
+kind_for (call.Strike user items) asked kind found seen of_kind is =
+    subst (λ a. IsKindFor a found) (some_same _ asked seen) (is ∙ (let same : kind ≡ kinds.Strike = cc of_kind in same))
+kind_for (call.Leave user login manager) asked kind found seen of_kind is = absurd (let never : Some kind ≡ None = of_kind in cc)
+
+-- what was found is of this kind, whatever came
+finds_kind : {D : Type 0} (kind : CallKind) (came : Result Said StepFault) (world : World D) (what : Begun) → FindsUnder kind came world what → what.kind ≡ kind
+finds_kind kind (Ok (said.Begun ticket stirs)) world what finds = finds.0
+finds_kind kind (Ok (said.Faulted n)) world what finds = finds.0
+finds_kind kind (Ok said.Noted) world what finds = finds.0
+finds_kind kind (Ok (said.Asked ask)) world what finds = finds.0
+finds_kind kind (Ok said.Heard) world what finds = finds.0
+finds_kind kind (Ok (said.Thrown why)) world what finds = finds.0
+finds_kind kind (Ok (said.Sent letters)) world what finds = finds.0
+finds_kind kind (Ok (said.Widened did)) world what finds = finds.0
+finds_kind kind (Ok (said.NodeUp boot)) world what finds = finds.0
+finds_kind kind (Ok said.Done) world what finds = finds.0
+finds_kind kind (Err why) world what finds = finds.0
+
 module _ {D : Type 0} (on : View D) where
   -- it strikes what it is to delete
   begins_adds : (came : Result Said StepFault) (node : ℕ) (begun : Call) (asked : model.Call) (number : Number) (old new : World D) → call_seen begun ≡ Some asked → IsTextEnded (machine_call begun)
@@ -151,8 +181,40 @@ module _ {D : Type 0} (on : View D) where
           (filing_seen filing) (sym (wanted_same one.wants) ∙ sym f) in
           record { octets = filed.octets; stored = filed.stored; users = filed.users; size = filed.size; digest = filed.digest }
 
+  module _ (node : ℕ) (begun : Call) (kind : CallKind) (of_kind : IsOfKind begun (Some kind)) (came : Result Said StepFault) (old mid new : World D) (is : IsStep on came (step.Begin node begun) old mid) where
+    -- a refusal adds nothing
+    refused_none : (why : DeskFault) → RefusedAs came why → AddsTo AreQuiet old mid
+    refused_none why refused = by came refused is
+      where
+        by : (came : Result Said StepFault) → RefusedAs came why → IsStep on came (step.Begin node begun) old mid → AddsTo AreQuiet old mid
+        by (Ok what) so is = absurd so
+        by (Err (fault.NoMemory (Some n))) so is = absurd so
+        by (Err (fault.NoMemory None)) so is = refused_adds on (fault.NoMemory None) (step.Begin node begun) old mid tt is
+        by (Err fault.NoSuchNode) so is = refused_adds on fault.NoSuchNode (step.Begin node begun) old mid tt is
+        by (Err fault.NodeLost) so is = refused_adds on fault.NodeLost (step.Begin node begun) old mid tt is
+        by (Err fault.NodeDown) so is = refused_adds on fault.NodeDown (step.Begin node begun) old mid tt is
+        by (Err fault.NodeUp) so is = refused_adds on fault.NodeUp (step.Begin node begun) old mid tt is
+        by (Err fault.NoSuchLetter) so is = refused_adds on fault.NoSuchLetter (step.Begin node begun) old mid tt is
+        by (Err fault.NoSuchTicket) so is = refused_adds on fault.NoSuchTicket (step.Begin node begun) old mid tt is
+        by (Err fault.Worn) so is = refused_adds on fault.Worn (step.Begin node begun) old mid tt is
+        by (Err fault.NoRoom) so is = refused_adds on fault.NoRoom (step.Begin node begun) old mid tt is
+
+    pub handed_longer : (result : Result DeskTicket DeskFault) → HandsOut on kind came result mid new → IsLongerBook (book_of old) (book_of new)
+    handed_longer (Ok ticket) (same, so, finds) = longer_then old mid new is.did.books (longer_same mid new same)
+    handed_longer (Err why) (inl (same, refused)) = longer_then old mid new is.did.books (longer_same mid new same)
+    handed_longer (Err why) (inr (began, given)) = longer_then old mid new is.did.books given.longer
+
+    pub handed_by : (result : Result DeskTicket DeskFault) → HandsOut on kind came result mid new → BeginsBy on node begun result old new
+    handed_by (Ok ticket) (same, so, finds) = (came, so, subst (IsStep on came (step.Begin node begun) old) (sym same) is)
+    handed_by (Err why) hands = tt
+
+    -- whatever is told, a call that has begun is of its kind
+    pub handed_in_kind : (asked : model.Call) → call_seen begun ≡ Some asked → (result : Result DeskTicket DeskFault) → HandsOut on kind came result mid new → BeginsInKind asked result
+    handed_in_kind asked seen (Ok ticket) (same, so, finds) = kind_for begun asked kind ticket.begun.kind seen of_kind (finds_kind kind came mid ticket.begun finds)
+    handed_in_kind asked seen (Err why) hands = tt
+
   module _ (node : ℕ) (begun : Call) (kind : CallKind) (of_kind : IsOfKind begun (Some kind)) (ended : IsTextEnded (machine_call begun)) (came : Result Said StepFault) (old mid new : World D)
-      (is : IsStep on came (step.Begin node begun) old mid) (serves : CanServe on old) where
+      (is : IsStep on came (step.Begin node begun) old mid) (serves : CanServe on old) (mid_serves : CanServe on mid) where
     -- what stands under its ticket is for the call
     found_for : (asked : model.Call) → call_seen begun ≡ Some asked → (number : Number) → BeginsAs came number → (what : Begun) → FindsUnder kind came mid what → IsBegunFor asked what
     found_for asked seen number so what finds = by came so is finds
@@ -185,43 +247,14 @@ module _ {D : Type 0} (on : View D) where
         by (Err fault.Worn) so is found = absurd so
         by (Err fault.NoRoom) so is found = absurd so
 
-    -- a refusal adds nothing
-    refused_none : (why : DeskFault) → RefusedAs came why → AddsTo AreQuiet old mid
-    refused_none why refused = by came refused is
-      where
-        by : (came : Result Said StepFault) → RefusedAs came why → IsStep on came (step.Begin node begun) old mid → AddsTo AreQuiet old mid
-        by (Ok what) so is = absurd so
-        by (Err (fault.NoMemory (Some n))) so is = absurd so
-        by (Err (fault.NoMemory None)) so is = refused_adds on (fault.NoMemory None) (step.Begin node begun) old mid tt is
-        by (Err fault.NoSuchNode) so is = refused_adds on fault.NoSuchNode (step.Begin node begun) old mid tt is
-        by (Err fault.NodeLost) so is = refused_adds on fault.NodeLost (step.Begin node begun) old mid tt is
-        by (Err fault.NodeDown) so is = refused_adds on fault.NodeDown (step.Begin node begun) old mid tt is
-        by (Err fault.NodeUp) so is = refused_adds on fault.NodeUp (step.Begin node begun) old mid tt is
-        by (Err fault.NoSuchLetter) so is = refused_adds on fault.NoSuchLetter (step.Begin node begun) old mid tt is
-        by (Err fault.NoSuchTicket) so is = refused_adds on fault.NoSuchTicket (step.Begin node begun) old mid tt is
-        by (Err fault.Worn) so is = refused_adds on fault.Worn (step.Begin node begun) old mid tt is
-        by (Err fault.NoRoom) so is = refused_adds on fault.NoRoom (step.Begin node begun) old mid tt is
-
-    pub handed_adds : (asked : model.Call) → call_seen begun ≡ Some asked → (result : Result DeskTicket DeskFault) → HandsOut kind came result mid new → AddsTo (BeginsWith asked result) old new
+    pub handed_adds : (asked : model.Call) → call_seen begun ≡ Some asked → (result : Result DeskTicket DeskFault) → HandsOut on kind came result mid new → AddsTo (BeginsWith asked result) old new
     handed_adds asked seen (Ok ticket) (same, so, finds) =
         let a = begins_adds came node begun asked ticket.ticket old mid seen ended so is serves in
         record { added = a.added; book = ap book_of same ∙ a.book; is = (found_for asked seen ticket.ticket so ticket.begun finds, a.is) }
     handed_adds asked seen (Err why) (inl (same, refused)) =
-        let a = refused_none why refused in
+        let a = refused_none node begun kind of_kind came old mid new is why refused in
         record { added = a.added; book = ap book_of same ∙ a.book; is = a.is }
-    handed_adds asked seen (Err why) (inr (deliver, began, quiet)) =
-        let a = then_quiet (struck_by asked) old mid new (begins_adds came node begun asked began.0 old mid seen ended began.1 is serves) quiet in
-        let none : struck_by asked ≡ [] = deliver_strikes begun asked seen (subst (λ k. IsOfKind begun (Some k)) deliver of_kind) in
+    handed_adds asked seen (Err why) (inr (began, given)) =
+        let a = then_quiet (struck_by asked) old mid new (begins_adds came node begun asked began.0 old mid seen ended began.1 is serves) (given.adds mid_serves) in
+        let none : struck_by asked ≡ [] = deliver_strikes begun asked seen (subst (λ k. IsOfKind begun (Some k)) given.kind_is of_kind) in
         record { added = a.added; book = a.book; is = strikes_none a.added (subst (λ l. AreStrikes l a.added) none a.is) }
-
-    pub handed_longer : (result : Result DeskTicket DeskFault) → HandsOut kind came result mid new → IsLongerBook (book_of old) (book_of new)
-    handed_longer (Ok ticket) (same, so, finds) = longer_then old mid new is.did.books (longer_same mid new same)
-    handed_longer (Err why) (inl (same, refused)) = longer_then old mid new is.did.books (longer_same mid new same)
-    handed_longer (Err why) (inr (deliver, began, quiet)) = longer_then old mid new is.did.books (quiet.added, quiet.book)
-
-    pub handed_by : (result : Result DeskTicket DeskFault) → HandsOut kind came result mid new → BeginsBy on node begun result old new
-    handed_by (Ok ticket) (same, so, finds) = (came, so, subst (IsStep on came (step.Begin node begun) old) (sym same) is)
-    handed_by (Err why) hands = tt
-
-    pub handed_plan : plan_of new ≡ plan_of mid → plan_of new ≡ plan_of old
-    handed_plan same = same ∙ is.did.plan

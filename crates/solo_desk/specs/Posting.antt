@@ -1,23 +1,15 @@
 -- What comes of posting a letter that is in flight.
-use Rattle.std.specs.Prelude.{◌≡◌, ⊤, Result, Ok, Err}
+use Rattle.std.specs.Prelude.{◌≡◌, Result, Ok, Err}
 use Rattle.call_tickets.specs.declared.desk.DeskFault.{DeskFault}
 use Rattle.call_tickets.specs.declared.desk.DeskFault.TheVariants as desk
 use Rattle.call_tickets.specs.declared.desk.Posted.{Posted}
 use Rattle.call_tickets.specs.declared.desk.Posted.TheVariants.{Did}
 use Rattle.cluster_world.specs.declared.step.Said.{Said}
 use Rattle.cluster_world.specs.declared.fault.StepFault.{StepFault}
-use Rattle.cluster_world.specs.declared.fault.StepFault.TheVariants.{Worn, NoMemory}
-
--- what a step may say that posts it
-abbrev pub IsSaidOfPost : Result Said StepFault → Type 0
-IsSaidOfPost (Ok what) = ⊤
-IsSaidOfPost (Err Worn) = ⊤
-IsSaidOfPost (Err (NoMemory down)) = ⊤
-IsSaidOfPost (Err why) = ⊥
+use Rattle.cluster_world.specs.declared.fault.StepFault.TheVariants.{Worn}
 
 -- it was posted, or why not
 abbrev pub IsPosted : Result Said StepFault → Result Posted DeskFault → Type 0
 IsPosted (Ok what) result = result ≡ Ok Did
 IsPosted (Err Worn) result = result ≡ Err desk.Worn
-IsPosted (Err (NoMemory down)) result = result ≡ Err desk.NoMemory
-IsPosted (Err why) result = ⊥
+IsPosted (Err why) result = result ≡ Err desk.NoMemory

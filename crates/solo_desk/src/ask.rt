@@ -1,9 +1,11 @@
 // It is asked what became of a call.
 ghost use Rattle.std.specs.Prelude.{◌≡◌};
 ghost use Rattle.node_store.specs.Disks.{view_of};
-ghost use Rattle.cluster_world.specs.Worlds.{plan_of};
+ghost use Rattle.cluster_world.specs.Books.{IsLongerBook};
+ghost use Rattle.cluster_world.specs.Worlds.{plan_of, book_of, CanMakeSteps};
 ghost use Rattle.solo_desk.specs.Serving.{CanServe, AddsTo};
 ghost use Rattle.desk_model.specs.Entries.{AsksWith};
+ghost use Rattle.desk_model.specs.Growing.{AnswersInKind};
 ghost use Rattle.solo_desk.specs.Steps.{AsksBy};
 ghost use Rattle.solo_desk.specs.Asking.{IsSaidOfAsk, OwnAnswer, Tells, HandsOn};
 
@@ -60,10 +62,13 @@ pub fn ask_call<D: Disk>(
     world: &mut World<D>,
     ticket: &DeskTicket,
 ) -> Result<Ask, DeskFault>
-    requires { CanServe (view_of D.seen D.faults D.clock) world.old }
-    ensures serves { CanServe (view_of D.seen D.faults D.clock) world.new }
+    requires { CanMakeSteps D.seen world.old }
+    ensures ready { CanMakeSteps D.seen world.new }
+    ensures serves { CanServe (view_of D.seen D.faults D.clock) world.old → CanServe (view_of D.seen D.faults D.clock) world.new }
     ensures plan { plan_of world.new ≡ plan_of world.old }
-    ensures adds { AddsTo (AsksWith ticket.now.begun result) world.old world.new }
+    ensures longer { IsLongerBook (book_of world.old) (book_of world.new) }
+    ensures adds { CanServe (view_of D.seen D.faults D.clock) world.old → AddsTo (AsksWith ticket.now.begun result) world.old world.new }
+    ensures kind { AnswersInKind ticket.now.begun result }
     ensures made { AsksBy (view_of D.seen D.faults D.clock) ticket.now result world.old world.new }
 {
     if !stands_as_begun(world, ticket) {

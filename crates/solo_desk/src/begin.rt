@@ -7,10 +7,11 @@ ghost use Rattle.node_store.specs.Disks.{view_of};
 ghost use Rattle.node_tickets.specs.Standing.{filing_at};
 ghost use Rattle.cluster_world.specs.Telling.{standing_in};
 ghost use Rattle.cluster_world.specs.Books.{IsLongerBook};
-ghost use Rattle.cluster_world.specs.Worlds.{plan_of, book_of};
+ghost use Rattle.cluster_world.specs.Worlds.{plan_of, book_of, CanMakeSteps};
 ghost use Rattle.mail_base.specs.declared.filing.CallKind.TheVariants as kinds;
 ghost use Rattle.solo_desk.specs.Serving.{CanServe, AddsTo};
 ghost use Rattle.desk_model.specs.Entries.{BeginsWith};
+ghost use Rattle.desk_model.specs.Growing.{BeginsInKind};
 ghost use Rattle.solo_desk.specs.Steps.{BeginsBy};
 ghost use Rattle.solo_desk.specs.Beginning.{IsSaidOfBegin, TicketOf, FindsFiled, Takes, HandsOut};
 
@@ -52,7 +53,7 @@ fn begun_under<D: Disk>(
     kind: CallKind,
     ticket: &Ticket,
 ) -> Result<Begun, AllocError>
-    requires { CanServe (view_of D.seen D.faults D.clock) world.now }
+    requires { CanMakeSteps D.seen world.now }
     ensures ok { IfOk result (λ begun. FindsFiled kind (filing_at (standing_in world.now ticket.now)) begun) }
     ensures err { OnErr result (kind ≡ kinds.Deliver) }
 {
@@ -72,10 +73,11 @@ fn take<D: Disk>(
     kind: CallKind,
     ticket: Ticket,
 ) -> Result<DeskTicket, DeskFault>
-    requires { CanServe (view_of D.seen D.faults D.clock) world.old }
-    ensures serves { CanServe (view_of D.seen D.faults D.clock) world.new }
+    requires { CanMakeSteps D.seen world.old }
+    ensures ready { CanMakeSteps D.seen world.new }
+    ensures serves { CanServe (view_of D.seen D.faults D.clock) world.old → CanServe (view_of D.seen D.faults D.clock) world.new }
     ensures plan { plan_of world.new ≡ plan_of world.old }
-    ensures takes { Takes kind ticket result world.old world.new }
+    ensures takes { Takes (view_of D.seen D.faults D.clock) kind ticket result world.old world.new }
 {
     match begun_under(world, kind, &ticket) {
         Ok(begun) => Ok(DeskTicket { ticket, begun }),
@@ -105,11 +107,12 @@ fn hand_out<D: Disk>(
     kind: CallKind,
     said: &Result<Said, StepFault>,
 ) -> Result<DeskTicket, DeskFault>
-    requires serves { CanServe (view_of D.seen D.faults D.clock) world.old }
+    requires ready { CanMakeSteps D.seen world.old }
     requires fits { IsSaidOfBegin said.now }
-    ensures serves { CanServe (view_of D.seen D.faults D.clock) world.new }
+    ensures ready { CanMakeSteps D.seen world.new }
+    ensures serves { CanServe (view_of D.seen D.faults D.clock) world.old → CanServe (view_of D.seen D.faults D.clock) world.new }
     ensures plan { plan_of world.new ≡ plan_of world.old }
-    ensures hands { HandsOut kind said.now result world.old world.new }
+    ensures hands { HandsOut (view_of D.seen D.faults D.clock) kind said.now result world.old world.new }
 {
     match ticket_of(said)? {
         Some(ticket) => take(alloc, world, kind, ticket),
@@ -130,11 +133,13 @@ pub fn begin_call<D: Disk>(
     node: NodeNo,
     call: Call,
 ) -> Result<DeskTicket, DeskFault>
-    requires { CanServe (view_of D.seen D.faults D.clock) world.old }
-    ensures serves { CanServe (view_of D.seen D.faults D.clock) world.new }
+    requires { CanMakeSteps D.seen world.old }
+    ensures ready { CanMakeSteps D.seen world.new }
+    ensures serves { CanServe (view_of D.seen D.faults D.clock) world.old → CanServe (view_of D.seen D.faults D.clock) world.new }
     ensures plan { plan_of world.new ≡ plan_of world.old }
     ensures longer { IsLongerBook (book_of world.old) (book_of world.new) }
-    ensures adds { (asked : calls.Call) → call_seen call ≡ Some asked → AddsTo (BeginsWith asked result) world.old world.new }
+    ensures adds { (asked : calls.Call) → call_seen call ≡ Some asked → CanServe (view_of D.seen D.faults D.clock) world.old → AddsTo (BeginsWith asked result) world.old world.new }
+    ensures kind { (asked : calls.Call) → call_seen call ≡ Some asked → BeginsInKind asked result }
     ensures made { BeginsBy (view_of D.seen D.faults D.clock) node call result world.old world.new }
 {
     let Some(kind) = kind_of(&call) else {

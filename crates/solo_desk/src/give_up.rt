@@ -1,7 +1,8 @@
 // A call is given up.
 ghost use Rattle.std.specs.Prelude.{◌≡◌};
 ghost use Rattle.node_store.specs.Disks.{view_of};
-ghost use Rattle.cluster_world.specs.Worlds.{plan_of};
+ghost use Rattle.cluster_world.specs.Books.{IsLongerBook};
+ghost use Rattle.cluster_world.specs.Worlds.{plan_of, book_of, CanMakeSteps};
 ghost use Rattle.desk_model.specs.Added.{AreQuiet};
 ghost use Rattle.solo_desk.specs.Serving.{CanServe, AddsTo};
 ghost use Rattle.solo_desk.specs.Steps.{GivesUpBy};
@@ -40,10 +41,12 @@ pub fn give_up_call<D: Disk>(
     world: &mut World<D>,
     ticket: &DeskTicket,
 ) -> Result<(), DeskFault>
-    requires { CanServe (view_of D.seen D.faults D.clock) world.old }
-    ensures serves { CanServe (view_of D.seen D.faults D.clock) world.new }
+    requires { CanMakeSteps D.seen world.old }
+    ensures ready { CanMakeSteps D.seen world.new }
+    ensures serves { CanServe (view_of D.seen D.faults D.clock) world.old → CanServe (view_of D.seen D.faults D.clock) world.new }
     ensures plan { plan_of world.new ≡ plan_of world.old }
-    ensures adds { AddsTo AreQuiet world.old world.new }
+    ensures longer { IsLongerBook (book_of world.old) (book_of world.new) }
+    ensures adds { CanServe (view_of D.seen D.faults D.clock) world.old → AddsTo AreQuiet world.old world.new }
     ensures never { IsNeverDown result }
     ensures made { GivesUpBy (view_of D.seen D.faults D.clock) ticket.now result world.old world.new }
 {

@@ -1,7 +1,8 @@
 // The Leave of a login begins.
 ghost use Rattle.std.specs.Prelude.{◌≡◌};
 ghost use Rattle.node_store.specs.Disks.{view_of};
-ghost use Rattle.cluster_world.specs.Worlds.{plan_of};
+ghost use Rattle.cluster_world.specs.Books.{IsLongerBook};
+ghost use Rattle.cluster_world.specs.Worlds.{plan_of, book_of, CanMakeSteps};
 ghost use Rattle.desk_model.specs.Added.{AreQuiet};
 ghost use Rattle.solo_desk.specs.Serving.{CanServe, AddsTo};
 ghost use Rattle.solo_desk.specs.Steps.{LeavesBy};
@@ -46,10 +47,12 @@ pub fn leave_login<D: Disk>(
     node: NodeNo,
     call: Call,
 ) -> Result<(), DeskFault>
-    requires { CanServe (view_of D.seen D.faults D.clock) world.old }
-    ensures serves { CanServe (view_of D.seen D.faults D.clock) world.new }
+    requires { CanMakeSteps D.seen world.old }
+    ensures ready { CanMakeSteps D.seen world.new }
+    ensures serves { CanServe (view_of D.seen D.faults D.clock) world.old → CanServe (view_of D.seen D.faults D.clock) world.new }
     ensures plan { plan_of world.new ≡ plan_of world.old }
-    ensures adds { AddsTo AreQuiet world.old world.new }
+    ensures longer { IsLongerBook (book_of world.old) (book_of world.new) }
+    ensures adds { CanServe (view_of D.seen D.faults D.clock) world.old → AddsTo AreQuiet world.old world.new }
     ensures made { LeavesBy (view_of D.seen D.faults D.clock) node call result world.old world.new }
 {
     if !is_leave(&call) {

@@ -20,7 +20,11 @@
 //!   disk, and of a disk that tells nothing the contract of that step says nothing of the machine.
 //!
 //! A desk can be over a world that stands for a sound one of the machine of `cluster_model`, in which each ticket asks for one
-//! thing (`CanServe` in `specs/Serving`). That is so of a world that was opened, and each step keeps it (`specs/Laws`).
+//! thing (`CanServe` in `specs/Serving`). That is so of a world that was opened, and each step keeps it that is known
+//! (`specs/Laws`). The calls over a world ask less, that it can make steps: then they say which step they made, that the book only
+//! grows, and that a call and an answer are of their kind. What was added to the book they say where the world was sound, and then
+//! they leave it sound.
+//!
 //! `specs/Steps` says of each call which step it made, and `specs/Entries` what that adds to the book.
 //!
 //! DIAGNOSTICS

@@ -18,7 +18,7 @@ use Rattle.whole_world.specs.Steps.{Said}
 use Rattle.whole_world.specs.Makes.{said_of}
 use Rattle.whole_world.specs.Regroup.{PostsEach, ThrownOld, maps_at, HasRoomFor}
 use Rattle.whole_world.proofs.Before.{before_true}
-use Rattle.whole_world.proofs.Viewing.{numbered, AreLight, AreLightFlights, AllPut, put_all, IsOfRounds, Posted, posted}
+use Rattle.whole_world.proofs.Viewing.{numbered, AreLight, AreLightFlights, put_all, IsOfRounds, Posted, posted}
 use Rattle.whole_world.proofs.Viewing.Posted.{NotUp, Reached}
 
 -- letters of the rounds

@@ -8,7 +8,6 @@ use Rattle.object_model.specs.Letters.Body.{Group, Join, Install, Report, Report
 use Rattle.cluster_model.specs.Cluster as mail_cluster
 use Rattle.cluster_model.specs.Room.{Flight}
 use Rattle.cluster_model.specs.World as mail
-use Rattle.cluster_model.specs.World.{letters_of}
 use Rattle.cluster_model.specs.Steps as mail_steps
 use Rattle.cluster_model.specs.Steps.Step.{Start, Post}
 use Rattle.maps_model.specs.Cluster as maps
@@ -18,7 +17,6 @@ use Rattle.maps_model.specs.Rules.HearsJoin.{Late, Above, Joins}
 use Rattle.maps_model.specs.Rules.HearsInstall.{Old as OldInstall, NotPromised, NotMember, Enters}
 use Rattle.maps_model.specs.Rules.HearsReport.{Stale as StaleReport, Takes, Older}
 use Rattle.maps_model.specs.Rules.HearsAck.{Stale as StaleAck, Clears, Other}
-use Rattle.maps_model.specs.Rules.MarkAt.{TellsItself, Marks, Spares}
 use Rattle.maps_model.proofs.Lists.{same_or_apart}
 use Rattle.whole_model.specs.Whole.{Node, Life, Slot, slot_at, with_slot, mail_slot, maps_disk_of}
 use Rattle.whole_model.specs.Whole.Life.{Up, Down, Lost}

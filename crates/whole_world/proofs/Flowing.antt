@@ -4,7 +4,6 @@ use Rattle.mail_model.specs.Record.{Record}
 use Rattle.object_model.specs.Letters.{Membership, Body, Letter}
 use Rattle.object_model.specs.Letters.Body.{Group, Join, Install, Report, ReportAck}
 use Rattle.cluster_model.specs.World as mail
-use Rattle.cluster_model.specs.World.{letters_of}
 use Rattle.cluster_model.specs.Steps as mail_steps
 use Rattle.cluster_model.specs.Steps.Step.{Start, Post}
 use Rattle.cluster_model.proofs.Stepping.{flew}
@@ -15,7 +14,6 @@ use Rattle.maps_model.specs.Rules.HearsJoin.{Late, Above, Joins}
 use Rattle.maps_model.specs.Rules.HearsInstall.{Old as OldInstall, NotPromised, NotMember, Enters}
 use Rattle.maps_model.specs.Rules.HearsReport.{Stale as StaleReport, Takes, Older}
 use Rattle.maps_model.specs.Rules.HearsAck.{Stale as StaleAck, Clears, Other}
-use Rattle.maps_model.specs.Rules.MarkAt.{TellsItself, Marks, Spares}
 use Rattle.maps_model.proofs.Lists.{same_or_apart}
 use Rattle.whole_model.specs.Whole.{Node, Slot, slot_at, with_slot, maps_disk_of}
 use Rattle.whole_model.specs.Whole.Life.{Up}
@@ -35,10 +33,6 @@ use Rattle.whole_world.proofs.Stepping.{makes_stand}
 use Rattle.whole_world.proofs.Viewing.{slot_here, slot_other}
 use Rattle.object_model.specs.Letters.{Member}
 use Rattle.cluster_model.specs.Makes as mail_makes
-use Rattle.cluster_model.specs.Makes.Posts.{NobodyUp, OfOtherEpoch, TooLate, IsHeard, FailsHearing as MailFails}
-use Rattle.cluster_model.specs.Makes.Pushes.{Sends as MailSends, FailsPushing}
-use Rattle.cluster_model.specs.Steps.Said.{Faulted}
-use Rattle.cluster_model.specs.Steps.Step.{PushTo}
 use Rattle.whole_world.specs.Steps.Step.{OfMessages}
 use Rattle.whole_world.specs.Steps.Said.{Told}
 use Rattle.whole_world.specs.Settled.{IsLive}

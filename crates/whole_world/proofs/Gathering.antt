@@ -18,7 +18,7 @@ use Rattle.maps_model.proofs.Order.{before_not_most}
 use Rattle.whole_world.specs.World.{World, put}
 use Rattle.whole_world.specs.Steps.{Said}
 use Rattle.whole_world.specs.Regroup.{PostsEach, ThrownOld, maps_at}
-use Rattle.whole_world.proofs.Viewing.{numbered, AllPut, Posted, posted}
+use Rattle.whole_world.proofs.Viewing.{numbered, Posted, posted}
 use Rattle.whole_world.proofs.Viewing.Posted.{NotUp, Reached}
 use Rattle.whole_world.proofs.Asking.{Views, numbers_above, join_of, Answered, Asks}
 use Rattle.whole_world.proofs.Asking.Answered.{Silent, Promises, TooOld}

@@ -4,35 +4,29 @@ use Rattle.std.specs.Option.{option_map}
 use Rattle.mail_model.specs.Identity.{EpochId}
 use Rattle.mail_model.specs.Plan.{Plan}
 use Rattle.mail_model.specs.Record.{Record}
-use Rattle.mail_model.specs.Record.Record.{Boot}
 use Rattle.mail_model.specs.Book.BookEntry.{CameUp, WentDown}
 use Rattle.object_model.specs.Lists.{Among}
 use Rattle.object_model.specs.Letters.{Letter}
 use Rattle.cluster_model.specs.Cluster as mail_cluster
 use Rattle.cluster_model.specs.Claims.{boot_of}
-use Rattle.cluster_model.specs.Rules as mail_rules
 use Rattle.cluster_model.specs.Forms.{FormsEpoch}
-use Rattle.cluster_model.specs.Thrown.{Why, is_stale}
-use Rattle.cluster_model.specs.Deeds as mail_deeds
-use Rattle.cluster_model.specs.Starts as mail_starts
+use Rattle.cluster_model.specs.Thrown.{Why}
 use Rattle.cluster_model.specs.World as mail
 use Rattle.cluster_model.specs.Steps as mail_steps
 use Rattle.cluster_model.specs.Steps.Step.{Post, PushTo, Form, Start}
-use Rattle.cluster_model.specs.Steps.Said.{Heard, Thrown, Faulted}
 use Rattle.cluster_model.specs.Makes as mail_makes
 use Rattle.cluster_model.specs.Makes.Posts.{IsForMaps, FailsForMaps}
 use Rattle.maps_model.specs.Rules as maps_rules
 use Rattle.whole_model.specs.Whole.{Node, Slot, slot_at, with_slot, maps_disk_of}
 use Rattle.whole_model.specs.Whole.Life.{Down}
 use Rattle.whole_model.specs.Rules.{promise_records}
-use Rattle.whole_world.specs.World.{World, mail_world_of, slot_up, IsUp, after}
+use Rattle.whole_world.specs.World.{World, mail_world_of, slot_up, IsUp}
 use Rattle.whole_world.specs.Thrown.{refused_by}
 use Rattle.whole_world.specs.Steps.{Step, Said, StepFault, StepOutcome, actor_fault, letters_worn, first_refusal, by_slot, group_fault, conclude_fault, node_fault, step_fault, users_reported}
 use Rattle.whole_world.specs.Steps.Step.{OfMessages, OpenGroup, ConcludeGroup, ReportTo}
-use Rattle.whole_world.specs.Steps.Said.{Told}
 use Rattle.whole_world.specs.Steps.StepFault.{Fault}
 use Rattle.whole_world.specs.Steps.StepOutcome.{Says, Refused, NoMemory}
-use Rattle.whole_world.specs.Makes.{done_for_maps, learnt, promise_by, said_of, started, NodeGoesDown, Groups, Forms, Reports, HearsMaps, StartsUp, DoesStep, RunsShort, MadeStep, MakesStep, MakesAll}
+use Rattle.whole_world.specs.Makes.{learnt, promise_by, said_of, started, NodeGoesDown, Groups, Forms, Reports, HearsMaps, StartsUp, DoesStep, RunsShort, MadeStep, MakesStep, MakesAll}
 use Rattle.whole_world.specs.Makes.Groups.{Opens, FailsOpening}
 use Rattle.whole_world.specs.Makes.Reports.{Sends, HasNone}
 use Rattle.whole_world.specs.Makes.HearsMaps.{Hears, FailsHearing}

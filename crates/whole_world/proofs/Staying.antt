@@ -19,12 +19,8 @@ use Rattle.cluster_model.proofs.Filing.{among_map}
 use Rattle.cluster_model.proofs.Stepping.{flew}
 use Rattle.maps_model.specs.Cluster as maps
 use Rattle.maps_model.specs.Rules as maps_rules
-use Rattle.maps_model.specs.Rules.HearsGroup.{Rises, Again, Old as OldGroup}
-use Rattle.maps_model.specs.Rules.HearsJoin.{Late, Above, Joins}
-use Rattle.maps_model.specs.Rules.HearsInstall.{Old as OldInstall, NotPromised, NotMember, Enters}
 use Rattle.maps_model.specs.Rules.HearsReport.{Stale as StaleReport, Takes, Older}
 use Rattle.maps_model.specs.Rules.HearsAck.{Stale as StaleAck, Clears, Other}
-use Rattle.maps_model.specs.Rules.MarkAt.{TellsItself, Marks, Spares}
 use Rattle.maps_model.proofs.Lists.{same_or_apart}
 use Rattle.whole_model.specs.Whole.{Node, Slot, slot_at, with_slot, maps_disk_of, holds_of}
 use Rattle.whole_model.specs.Whole.Life.{Up}

@@ -19,7 +19,7 @@ use Rattle.cluster_model.specs.Room.{Flight, has_room}
 use Rattle.cluster_model.specs.World as mail
 use Rattle.cluster_model.specs.World.{letters_of, Leads}
 use Rattle.cluster_model.specs.Steps as mail_steps
-use Rattle.cluster_model.specs.Steps.Step.{Start, Post}
+use Rattle.cluster_model.specs.Steps.Step.{Start}
 use Rattle.cluster_model.specs.Makes as mail_makes
 use Rattle.cluster_model.proofs.Slots as mail_slots
 use Rattle.cluster_model.proofs.Learning.{counted_ready, learns}
@@ -28,11 +28,6 @@ use Rattle.cluster_model.proofs.Starting.{start_acts}
 use Rattle.cluster_model.proofs.Stepping.{slot_again, flew, quiet_leads, books_one, letter_idle, heard_leads}
 use Rattle.maps_model.specs.Cluster as maps
 use Rattle.maps_model.specs.Rules as maps_rules
-use Rattle.maps_model.specs.Rules.HearsGroup.{Rises, Again, Old as OldGroup}
-use Rattle.maps_model.specs.Rules.HearsJoin.{Late, Above, Joins}
-use Rattle.maps_model.specs.Rules.HearsInstall.{Old as OldInstall, NotPromised, NotMember, Enters}
-use Rattle.maps_model.specs.Rules.HearsReport.{Stale as StaleReport, Takes, Older}
-use Rattle.maps_model.specs.Rules.HearsAck.{Stale as StaleAck, Clears, Other}
 use Rattle.maps_model.specs.Epochs.{IsBefore}
 use Rattle.maps_model.proofs.Hears.{hears}
 use Rattle.maps_model.proofs.Lives.{starts}

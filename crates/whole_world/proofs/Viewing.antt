@@ -5,8 +5,7 @@ use Rattle.std.proofs.lemmas.Bool.{lt-ltb, le-leb}
 use Rattle.mail_model.specs.Plan.{Plan}
 use Rattle.mail_model.specs.Record.{Record}
 use Rattle.object_model.specs.Lists.{Among}
-use Rattle.object_model.specs.Letters.{Membership, Body, Letter}
-use Rattle.object_model.specs.Letters.Body.{Group, Join, Install}
+use Rattle.object_model.specs.Letters.{Membership, Letter}
 use Rattle.object_model.specs.Mishaps.MishapKind.{Down as DownKind}
 use Rattle.object_model.proofs.Lists.{get_same}
 use Rattle.cluster_model.specs.Cluster as mail_cluster

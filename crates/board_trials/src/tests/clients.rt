@@ -14,22 +14,22 @@ use std::alloc::Global;
 use std::sync::Wait;
 use std::test::Fail;
 
-const MAIL_TO_ANN: &[u8] =
+pub(super) const MAIL_TO_ANN: &[u8] =
     b"HELO c\r\nMAIL FROM:<a>\r\nRCPT TO:<ann>\r\nDATA\r\nx\r\n.\r\nQUIT\r\n";
 
-const STORED: &[u8] =
+pub(super) const STORED: &[u8] =
     b"220 node1 Porcupine ready\r\n250 node1\r\n250 sender ok\r\n250 recipient ok\r\n354 end with a line that is a single period\r\n250 stored\r\n221 node1 closing\r\n";
 
 const NOT_STORED: &[u8] =
     b"220 node1 Porcupine ready\r\n250 node1\r\n250 sender ok\r\n250 recipient ok\r\n354 end with a line that is a single period\r\n451 not stored, try again\r\n221 node1 closing\r\n";
 
-const READ: &[u8] = b"USER ann\r\nPASS sesame\r\nRETR 1\r\nDELE 1\r\nQUIT\r\n";
+pub(super) const READ: &[u8] = b"USER ann\r\nPASS sesame\r\nRETR 1\r\nDELE 1\r\nQUIT\r\n";
 
-const READ_ALL: &[u8] =
+pub(super) const READ_ALL: &[u8] =
     b"+OK node1 ready <1.13.0@node1>\r\n+OK send PASS\r\n+OK maildrop open\r\n+OK 112 octets\r\nReturn-Path: <a>\r\nReceived: from c\r\n by node1 with SMTP id <1.1.1@node1>;\r\n Thu, 01 Jan 1970 00:00:00 +0000\r\nx\r\n.\r\n+OK message 1 deleted\r\n+OK bye\r\n";
 
 // A client sends mail to node 1, and hears what is handed back; nothing where its connection did not end by itself.
-fn sends<R: Wait, G: Gate>(
+pub(super) fn sends<R: Wait, G: Gate>(
     rt: &R,
     alloc: Global,
     gate: &G,
@@ -65,9 +65,10 @@ fn sends<R: Wait, G: Gate>(
 }
 
 // A client reads mail at node 1.
-fn reads<R: Wait>(
+pub(super) fn reads<R: Wait, G: Gate>(
     rt: &R,
     alloc: Global,
+    gate: &G,
     board: &Cluster,
     pass: &mut Pass,
     plan: &Plan,
@@ -84,7 +85,7 @@ fn reads<R: Wait>(
     let served = serve_pop(
         rt,
         alloc,
-        &OpenGate,
+        gate,
         &desk,
         pass,
         plan,
@@ -119,7 +120,7 @@ fn mail_is_read_back(rt: HostRuntime) -> Result<(), Fail> {
         12,
         MAIL_TO_ANN,
     );
-    let read = reads(&rt, alloc, &board, &mut pass, &plan, 13, READ);
+    let read = reads(&rt, alloc, &OpenGate, &board, &mut pass, &plan, 13, READ);
     let tally = Board::tally(&pass);
     let sum = board.close(pass).sum();
     assert!(rt; sent.as_slice() == STORED && read.as_slice() == READ_ALL);

@@ -105,7 +105,7 @@ fn told_sum(sum: &BookSum) -> [u8; 2] {
 }
 
 // What came of an order.
-fn told_order(came: &Result<Told, StepFault>) -> [u8; 2] {
+pub(super) fn told_order(came: &Result<Told, StepFault>) -> [u8; 2] {
     match came {
         Ok(Told::Said(said)) => told_said(said),
         Ok(Told::Sum(sum)) => told_sum(sum),
@@ -171,7 +171,7 @@ fn reads<R: Wait>(rt: &R, board: &Cluster, pass: &mut Pass, place: u8) -> [u8; 2
     told_place(&entry)
 }
 
-// An order is carried out. The disks tell what they hold, so each may be given.
+// An order is carried out.
 fn orders<R: Wait>(rt: &R, alloc: Global, board: &Cluster, pass: &mut Pass, order: Order) -> [u8; 2]
     requires pass { IsPassOf in_memory board.now pass.old }
     ensures pass { IsPassOf in_memory board.now pass.new }

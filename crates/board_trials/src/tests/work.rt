@@ -1,4 +1,4 @@
-// Four passes, each with a user of its own, and what the book, the store and the passes then say of their work.
+// Four threads, each with a pass and a user of its own, and what the book, the store and the passes then say of their work.
 ghost use Rattle.std.specs.Prelude.{◌≡◌, ◌+◌};
 ghost use Rattle.shard_board.specs.Boards.{quota_of, IsPassOf};
 ghost use Rattle.board_trials.specs.Disks.{plainly};
@@ -16,14 +16,15 @@ use shard_board::{Board, BoardPass, Order, Told};
 use std::alloc::{AllocError, Global};
 use std::sync::Wait;
 use std::test::Fail;
+use std::thread::{Threads, join};
 use world_book::Entry;
 
 type Shared = Board<PlainDisk, Lots, SetClock>;
 
 type Hand = BoardPass<PlainDisk, Lots, SetClock>;
 
-// How many messages are deleted in the name of each pass.
-const ROUNDS: u32 = 1000;
+// How many messages are deleted in the name of each pass, and how many orders are given.
+const ROUNDS: u32 = 334;
 
 fn begins<R: Wait>(
     rt: &R,
@@ -136,7 +137,7 @@ fn deletes<R: Wait>(
     Ok(is_dropped(&asked))
 }
 
-// An order is carried out. The disks tell what they hold, so each may be given.
+// An order is carried out.
 fn orders<R: Wait>(
     rt: &R,
     alloc: Global,
@@ -256,6 +257,73 @@ fn works<R: Wait>(
     (pass, ids)
 }
 
+// What two passes did: one pass that both are joined in, and the ids of the messages of each.
+type Both = (Hand, Vec<MsgId>, Vec<MsgId>);
+
+// Two threads, each with a pass and a user of its own.
+fn work_two<R: Threads + Wait + Sync>(
+    rt: &R,
+    alloc: Global,
+    board: &Shared,
+    first: Hand,
+    second: Hand,
+    one: &[u8],
+    two: &[u8],
+) -> Both
+    requires passes { IsPassOf plainly board.now first × IsPassOf plainly board.now second }
+    ensures pass { IsPassOf plainly board.now result.0 × (quota_of result.0 ≡ quota_of first + quota_of second) }
+{
+    let ((mut pass, ones), (other, twos)) = join(
+        rt,
+        || -> (Hand, Vec<MsgId>)
+            requires pass { IsPassOf plainly board.now first }
+            ensures { IsPassOf plainly board.entry.now result.0 × (quota_of result.0 ≡ quota_of first) }
+        { works(rt, alloc, board, first, one) },
+        || -> (Hand, Vec<MsgId>)
+            requires pass { IsPassOf plainly board.now second }
+            ensures { IsPassOf plainly board.entry.now result.0 × (quota_of result.0 ≡ quota_of second) }
+        { works(rt, alloc, board, second, two) },
+    );
+    board.join(&mut pass, other);
+    (pass, ones, twos)
+}
+
+// Two threads that have two threads each: the users are ann and bob, cat and dan.
+fn work_four<R: Threads + Wait + Sync>(
+    rt: &R,
+    alloc: Global,
+    board: &Shared,
+    first: Hand,
+    second: Hand,
+    third: Hand,
+    fourth: Hand,
+) -> (Hand, [Sent; 4])
+    requires front { IsPassOf plainly board.now first × IsPassOf plainly board.now second }
+    requires back { IsPassOf plainly board.now third × IsPassOf plainly board.now fourth }
+    ensures pass { IsPassOf plainly board.now result.0 }
+    ensures quota { quota_of result.0 ≡ (quota_of first + quota_of second) + (quota_of third + quota_of fourth) }
+{
+    let ((mut pass, ann, bob), (other, cat, dan)) = join(
+        rt,
+        || -> Both
+            requires passes { IsPassOf plainly board.now first × IsPassOf plainly board.now second }
+            ensures { IsPassOf plainly board.entry.now result.0 × (quota_of result.0 ≡ quota_of first + quota_of second) }
+        { work_two(rt, alloc, board, first, second, b"ann", b"bob") },
+        || -> Both
+            requires passes { IsPassOf plainly board.now third × IsPassOf plainly board.now fourth }
+            ensures { IsPassOf plainly board.entry.now result.0 × (quota_of result.0 ≡ quota_of third + quota_of fourth) }
+        { work_two(rt, alloc, board, third, fourth, b"cat", b"dan") },
+    );
+    board.join(&mut pass, other);
+    let all = [
+        sent_by(*b"ann", ann),
+        sent_by(*b"bob", bob),
+        sent_by(*b"cat", cat),
+        sent_by(*b"dan", dan),
+    ];
+    (pass, all)
+}
+
 // The message that an entry of one kind has, where it is of the user.
 fn id_in(entry: &Entry, kind: u8, user: &[u8]) -> Option<MsgId> {
     let (of, name, id) = match entry {
@@ -357,7 +425,7 @@ fn sent_by(user: [u8; 3], ids: Vec<MsgId>) -> Sent {
 // Whether the book and the store of the world have all that was sent, and nothing else.
 fn agrees(alloc: Global, world: World<PlainDisk>, all: &[Sent]) -> Result<bool, AllocError> {
     let sum = world.sum();
-    if (sum.acked, sum.struck, sum.dropped) != (4004, 4000, 4000) {
+    if (sum.acked, sum.struck, sum.dropped) != (1340, 1336, 1336) {
         return Ok(false);
     }
     if !all_booked(alloc, world.book().entries(), all)? {
@@ -371,7 +439,7 @@ fn agrees(alloc: Global, world: World<PlainDisk>, all: &[Sent]) -> Result<bool, 
 }
 
 #[test]
-fn four_passes_agree(rt: HostRuntime) -> Result<(), Fail> {
+fn four_threads_agree(rt: HostRuntime) -> Result<(), Fail> {
     let alloc = rt.alloc();
     let Some(world) = open_plain(alloc) else {
         panic!(rt; "no world");
@@ -382,26 +450,14 @@ fn four_passes_agree(rt: HostRuntime) -> Result<(), Fail> {
     let second = board.split(&mut first, 1);
     let third = board.split(&mut first, 1);
     let fourth = board.split(&mut first, 1);
-    let (mut pass, ann) = works(&rt, alloc, &board, first, b"ann");
-    let (second, bob) = works(&rt, alloc, &board, second, b"bob");
-    let (third, cat) = works(&rt, alloc, &board, third, b"cat");
-    let (fourth, dan) = works(&rt, alloc, &board, fourth, b"dan");
-    board.join(&mut pass, second);
-    board.join(&mut pass, third);
-    board.join(&mut pass, fourth);
+    let (pass, all) = work_four(&rt, alloc, &board, first, second, third, fourth);
     let tally = Board::tally(&pass);
     let world = board.close(pass);
     assert_eq!(rt;
         (tally.stored, tally.dropped, tally.failed),
-        (4004, 4000, 0)
+        (1340, 1336, 0)
     );
     assert_eq!(rt; (tally.down, tally.worn), (0, 0));
-    let all = [
-        sent_by(*b"ann", ann),
-        sent_by(*b"bob", bob),
-        sent_by(*b"cat", cat),
-        sent_by(*b"dan", dan),
-    ];
     assert!(rt; agrees(alloc, world, &all)?);
     Ok(())
 }

@@ -25,7 +25,19 @@ drives
 help
 version
 serve
-serve|plan.toml
+serve|
+serve||
+serve|a|
+serve|a|b
+serve|-
+serve|--
+serve|-a
+serve|--|a
+-|serve|a
+Serve|a
+SERVE|a
+serves|a
+a|serve
 storm
 storm|1
 storm|1|
@@ -145,6 +157,19 @@ fn reads_words_of_each_form(rt: HostRuntime) -> Result<(), Fail> {
         alloc,
         "check|drive",
         Some(Task::Check { file: "drive" }),
+    )?;
+    asks(
+        &rt,
+        alloc,
+        "serve|plan.toml",
+        Some(Task::Serve { file: "plan.toml" }),
+    )?;
+    asks(&rt, alloc, "serve| ", Some(Task::Serve { file: " " }))?;
+    asks(
+        &rt,
+        alloc,
+        "serve|check",
+        Some(Task::Serve { file: "check" }),
     )?;
     Ok(())
 }

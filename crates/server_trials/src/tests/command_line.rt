@@ -5,6 +5,12 @@ use io_edge::{SliceSource, VecSink};
 use porcupine_server::run;
 use std::env;
 use std::env::{Env, FillError};
+use std::fs::File;
+use std::net::{Net, TcpListener, TcpStream};
+use std::rt::Files;
+use std::sync::Wait;
+use std::thread::Threads;
+use std::time::Clock;
 
 /// A system that hands over these words, and has no environment.
 #[derive(Drop)]
@@ -49,7 +55,20 @@ const CASES: [(&[&[u8]], u64, u8, &[u8]); 11] = [
 ];
 
 // Runs the program with these words, of whose writes this one fails.
-pub(super) fn runs_with(rt: &HostRuntime, words: &[&[u8]], write: u64) -> (u8, Vec<u8>) {
+pub(super) fn runs_with<
+    R: Files<File = File>
+        + AllocGlobal
+        + Eprint
+        + Net<Listener = TcpListener, Stream = TcpStream>
+        + Clock
+        + Threads
+        + Wait
+        + Sync,
+>(
+    rt: &R,
+    words: &[&[u8]],
+    write: u64,
+) -> (u8, Vec<u8>) {
     let alloc = rt.alloc();
     let mut sink = FaultySink::new(VecSink::new(alloc), write);
     let arguments = env::args(&(HandedOver { words }, alloc));

@@ -124,7 +124,7 @@ fn listed(alloc: Global, lines: &[u8], failing: u64, image: Image) -> Result<Vec
     let tape = joined(alloc, &[lines, STARTED_AGAIN])?;
     let mut disks = Vec::new(alloc);
     disks.push(failing_disk(alloc, failing, image)?)?;
-    let (_, transcript) = drive_over(alloc, &tape, &mut MemoryYard::new(alloc, disks))?;
+    let (_, transcript) = drive_over(alloc, &tape, &mut MemoryYard::new(alloc, disks));
     let last = lines_of(alloc, &transcript)?.pop().unwrap_or(b"");
     Vec::from_slice(alloc, last)
 }

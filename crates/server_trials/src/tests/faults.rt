@@ -148,7 +148,7 @@ fn write_fails(rt: &impl Abort, alloc: Global, write: u64, messages: u64) -> Res
     let mut yard = yard_of(alloc, 0)?;
     let mut sink = FaultySink::new(VecSink::new(alloc), write);
     let mut source = SliceSource::new(&tape);
-    let answer = answered(alloc, &mut source, &mut sink, &mut yard)?;
+    let answer = answered(alloc, &mut source, &mut sink, &mut yard);
     assert_eq!(rt; answer, if write <= 10 { 5 } else { 0 });
     match yard.returned.last() {
         Some((_, _, disk)) => journal.is_held(rt, disk.octets()),
@@ -200,7 +200,7 @@ fn outside_fails(
     let mut yard = FaultyYard::new(yard_of(alloc, 0)?, failing.store);
     let mut sink = FaultySink::new(VecSink::new(alloc), failing.write);
     let mut source = FaultySource::new(SliceSource::new(tape), failing.read);
-    let answer = answered(alloc, &mut source, &mut sink, &mut yard)?;
+    let answer = answered(alloc, &mut source, &mut sink, &mut yard);
     assert_eq!(rt; answer, status);
     assert_eq!(rt; sink.inner.held.as_slice(), transcript);
     Ok(())
@@ -246,7 +246,7 @@ fn is_given_back(rt: &impl Abort, alloc: Global, node: u8, transcript: &[u8]) ->
     let mut yard = MemoryYard::new(alloc, held_by(alloc, node)?);
     let mut sink = VecSink::new(alloc);
     let mut source = SliceSource::new(&tape);
-    let answer = answered(alloc, &mut source, &mut sink, &mut yard)?;
+    let answer = answered(alloc, &mut source, &mut sink, &mut yard);
     assert_eq!(rt; answer, 6);
     assert_eq!(rt; sink.held.as_slice(), transcript);
     match yard.returned.last() {

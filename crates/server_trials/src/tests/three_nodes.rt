@@ -58,7 +58,7 @@ fn driven(alloc: Global, tape: &[u8], node: u8, failing: u64) -> Result<Left, Al
         disks.push(disk)?;
     }
     let mut yard = MemoryYard::new(alloc, disks);
-    let (status, transcript) = drive_over(alloc, tape, &mut yard)?;
+    let (status, transcript) = drive_over(alloc, tape, &mut yard);
     Ok(Left {
         status,
         transcript,

@@ -7,10 +7,13 @@ use porcupine_server::porcupine;
 use std::alloc::{AllocError, Global};
 use std::fs;
 use std::process::Abort;
+use std::sync::Wait;
 use std::test::Fail;
+use std::thread::Threads;
+use std::time::Clock;
 
 /// Words, the status, and what is written. A bar parts one word from the next; a line may end in an empty word.
-const CASES: [(&str, u8, &str); 33] = [
+const CASES: [(&str, u8, &str); 38] = [
     ("check|plan.toml", 0, "ok\n"),
     ("check|seventeen.toml", 2, "! plan 3\n"),
     ("check|plan", 4, "! read\n"),
@@ -43,7 +46,12 @@ const CASES: [(&str, u8, &str); 33] = [
     ("storm|-1|1", 1, "! words\n"),
     ("storm|1|-1", 1, "! words\n"),
     ("storm|+1|1", 1, "! words\n"),
-    ("serve|plan.toml", 1, "! words\n"),
+    ("serve|plan.toml", 6, "! disk 0 1\n"),
+    ("serve|seventeen.toml", 2, "! plan 3\n"),
+    ("serve|plan", 4, "! read\n"),
+    ("serve", 1, "! words\n"),
+    ("serve|", 1, "! words\n"),
+    ("serve|plan.toml|plan.toml", 1, "! words\n"),
 ];
 
 const PLAN_FILE: &str = "nodes = 3
@@ -106,24 +114,29 @@ fn yard_of(alloc: Global) -> Result<MemoryYard<PlainDisk>, AllocError> {
 }
 
 // Runs the program with the words of the line, of whose writes this one fails.
-fn runs(alloc: Global, line: &str, write: u64) -> Result<(u8, Vec<u8>), AllocError> {
+fn runs(
+    rt: &(impl Threads + Wait + Clock + Sync),
+    alloc: Global,
+    line: &str,
+    write: u64,
+) -> Result<(u8, Vec<u8>), AllocError> {
     let words = words_of(alloc, line)?;
     let mut yard = yard_of(alloc)?;
     let mut sink = FaultySink::new(VecSink::new(alloc), write);
     let mut source = SliceSource::new(b"");
-    let status = porcupine(alloc, &words, &mut source, &mut sink, &mut yard);
+    let status = porcupine(rt, alloc, &words, &mut source, &mut sink, &mut yard);
     Ok((status, sink.inner.held))
 }
 
 // Runs it, and compares.
 fn gives(
-    rt: &impl Abort,
+    rt: &(impl Abort + Threads + Wait + Clock + Sync),
     alloc: Global,
     line: &str,
     status: u8,
     written: &str,
 ) -> Result<(), Fail> {
-    let answer = runs(alloc, line, 0)?;
+    let answer = runs(rt, alloc, line, 0)?;
     assert_eq!(rt; answer.0, status, "{line}");
     assert!(rt; answer.1.as_slice() == written.as_bytes(), "{line}");
     Ok(())
@@ -145,8 +158,8 @@ fn words_have_a_form(rt: HostRuntime) -> Result<(), Fail> {
 
 #[test]
 fn a_storm_is_the_same_at_each_run(rt: HostRuntime) -> Result<(), Fail> {
-    let first = runs(rt.alloc(), "storm|7|2000", 0)?;
-    let again = runs(rt.alloc(), "storm|07|002000", 0)?;
+    let first = runs(&rt, rt.alloc(), "storm|7|2000", 0)?;
+    let again = runs(&rt, rt.alloc(), "storm|07|002000", 0)?;
     assert_eq!(rt; first.0, 0);
     assert_eq!(rt; first.1.len(), 159_218);
     assert!(rt; first.1.as_slice() == again.1.as_slice());
@@ -156,13 +169,13 @@ fn a_storm_is_the_same_at_each_run(rt: HostRuntime) -> Result<(), Fail> {
 #[test]
 fn a_write_that_fails_is_status_5(rt: HostRuntime) -> Result<(), Fail> {
     let alloc = rt.alloc();
-    let checked = runs(alloc, "check|plan.toml", 1)?;
+    let checked = runs(&rt, alloc, "check|plan.toml", 1)?;
     assert_eq!(rt; checked.0, 5);
     assert!(rt; checked.1.is_empty());
-    let stormed = runs(alloc, "storm|1|10", 3)?;
+    let stormed = runs(&rt, alloc, "storm|1|10", 3)?;
     assert_eq!(rt; stormed.0, 5);
     assert!(rt; stormed.1.starts_with(b"nodes 5\n"));
-    let refused = runs(alloc, "check", 1)?;
+    let refused = runs(&rt, alloc, "check", 1)?;
     assert_eq!(rt; refused.0, 1);
     assert!(rt; refused.1.is_empty());
     Ok(())

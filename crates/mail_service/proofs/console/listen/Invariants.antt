@@ -1,7 +1,8 @@
 use Rattle.std.proofs.Common.{◌≡◌, ◌≤◌}
+use Rattle.mail_service.proofs.Listening.{HasRead}
 use Rattle.mail_service.proofs.console.listen.Given as goal
 
--- the pass belongs and has its quota, and the counts have not fallen
+-- the pass belongs and has its quota, the counts have not fallen, and none of the lines so far ends the console
 abbrev pub invariant-loop : goal.invariant-loop
 invariant-loop g l = record {
   next : (goal.iterator-loop g).can_next l.iterator';
@@ -9,5 +10,6 @@ invariant-loop g l = record {
   belongs : g.B.Backend.belongs l.fn.backend l.pass;
   quota : g.B.Backend.quota l.pass ≡ g.B.Backend.quota l.fn.pass;
   read_later : g.S.Source.faults l.fn.source ≤ g.S.Source.faults l.source;
+  read : HasRead (g.S.Source.left l.fn.source) (g.S.Source.left l.source) l.number;
   write_later : g.K.Sink.faults l.fn.sink ≤ g.K.Sink.faults l.sink;
 }

@@ -2,7 +2,8 @@ use Rattle.std.proofs.Common.{refl, sym, ap, ◌∙◌, subst, inl, inr, []}
 use Rattle.mail_model.specs.Plan.{Plan}
 use Rattle.porcupine_server.specs.Works.{IsBeforeRun}
 use Rattle.yard_stores.proofs.Taking.{as_many}
-use Rattle.porcupine_server.proofs.Serving.{none_taken, are_stores, are_empty, untaken_same, untaken_failed, served_failed, before_untaken}
+use Rattle.serve_word.proofs.Storing.{none_taken, are_stores, are_empty, untaken_same, untaken_failed, served_failed}
+use Rattle.porcupine_server.proofs.Serving.{before_untaken, store_untaken}
 use Rattle.porcupine_server.proofs.server.work.Goals as goal
 
 pub returns-in_default-clause-works : goal.returns-in_default-clause-works
@@ -35,7 +36,7 @@ pub returns-in-Err-take_stores-clause-store_fault : goal.returns-in-Err-take_sto
 returns-in-Err-take_stores-clause-store_fault g c node is = let t = c.in-Err-take_stores.ensures.taken in
     untaken_failed g.Y.Store.Disk.seen g.Y.Store.Disk.faults _ _ _ _ t.0 c.take_stores.new.disks.items
     (are_stores _ _ _ _ _ _ t.0 _ t.1 c.give_back_all.ensures.handed c.in-Err-take_stores.ensures.returned c.give_back_all.ensures.returned)
-    c.plan.inside.nodes _ _ _ node c.in-Err-take_stores.fault c.give_back_all.ensures.faults t.2 (sym c.untaken.ensures ∙ is)
+    c.plan.inside.nodes _ _ _ node c.in-Err-take_stores.fault c.give_back_all.ensures.faults t.2 (store_untaken c.in-Err-take_stores.fault node (sym c.untaken.ensures ∙ is))
 
 pub serve-ending-requires-clause-empty : goal.serve-ending-requires-clause-empty
 serve-ending-requires-clause-empty g c = let t = c.in_default-take_stores.ensures.taken in are_empty _ g.Y.Store.Disk.faults t.0 _ t.2.0

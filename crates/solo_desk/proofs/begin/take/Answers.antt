@@ -6,11 +6,15 @@ use Rattle.solo_desk.proofs.Posting.{give_up_adds}
 use Rattle.solo_desk.proofs.begin.take.Goals as goal
 
 pub returns-in-Err-clause-serves : goal.returns-in-Err-clause-serves
-returns-in-Err-clause-serves g c =
+returns-in-Err-clause-serves g c = λ serves.
     let on = view_of g.D.Disk.seen g.D.Disk.faults g.D.Disk.clock in
-    steps_serve on c.step.result (GiveUp c.args.ticket) c.args.world.now c.step.new.self c.step.ensures.is (inr tt) tt c.step.ensures.ready c.requires
+    steps_serve on c.step.result (GiveUp c.args.ticket) c.args.world.now c.step.new.self c.step.ensures.is (inr tt) tt c.step.ensures.ready serves
 
 pub returns-in-Err-clause-takes : goal.returns-in-Err-clause-takes
 returns-in-Err-clause-takes g c =
     let on = view_of g.D.Disk.seen g.D.Disk.faults g.D.Disk.clock in
-    (c.in-Err.ensures.err, give_up_adds on c.args.world.now c.step.new.self c.requires c.step.result c.args.ticket c.step.ensures.is)
+    record {
+      kind_is = c.in-Err.ensures.err;
+      longer = c.step.ensures.is.did.books;
+      adds = λ serves. give_up_adds on c.args.world.now c.step.new.self serves c.step.result c.args.ticket c.step.ensures.is;
+    }

@@ -3,4 +3,4 @@ use Rattle.board_desk.proofs.Sound.{same_world_adds}
 use Rattle.board_desk.proofs.deeds.BeginningDeed.short.Goals as goal
 
 pub returns : goal.returns
-returns g c = λ world. record { made = tt; adds = λ asked seen. same_world_adds world world refl }
+returns g c = λ world. record { made = tt; kind = λ asked seen. tt; adds = λ asked seen sound. same_world_adds world world refl }

@@ -3,4 +3,4 @@ use Rattle.board_desk.proofs.Sound.{same_world_adds}
 use Rattle.board_desk.proofs.deeds.GivingUpDeed.short.Goals as goal
 
 pub returns : goal.returns
-returns g c = λ world. record { made = tt; adds = same_world_adds world world refl; never = tt }
+returns g c = λ world. record { made = tt; adds = λ sound. same_world_adds world world refl; never = tt }

@@ -7,7 +7,7 @@ is_up-life-requires g c = record { pass = c.requires.belongs.belongs }
 
 pub returns-clause-belongs : goal.returns-clause-belongs
 returns-clause-belongs g c =
-    still_desk (view_of g.D.Disk.seen g.D.Disk.faults g.D.Disk.clock) _ c.args.self.now.board.now c.args.pass.now c.is_up-life.new.pass c.is_up-life.result c.is_up-life.ensures.turn c.count_absence.new.tally c.args.self.now.pattern.value c.requires.belongs c.is_up-life.ensures.pass
+    still_desk (view_of g.D.Disk.seen g.D.Disk.faults g.D.Disk.clock) _ c.args.self.now.board.now c.args.pass.now c.is_up-life.new.pass c.is_up-life.result c.is_up-life.ensures.turn c.count_absence.new.tally c.args.self.now.pattern.value c.is_up-life.ensures.still c.requires.belongs c.is_up-life.ensures.pass
 
 pub returns-clause-quiet : goal.returns-clause-quiet
 returns-clause-quiet g c =

@@ -1,7 +1,8 @@
 use Rattle.std.proofs.Common.{ap}
 use Rattle.node_store.specs.Disks.{view_of}
+use Rattle.shard_board.specs.Boards.{plan_of_board}
 use Rattle.shard_board.specs.Orders.{step_ordered}
-use Rattle.shard_board.proofs.Turning.{obeyed, counted}
+use Rattle.shard_board.proofs.Turning.{obeyed, counted, order_still}
 use Rattle.shard_board.proofs.board.Board.console.Goals as goal
 
 pub returns-in-Crash-clause-turn : goal.returns-in-Crash-clause-turn
@@ -21,3 +22,21 @@ returns-in-Widen-clause-turn g c = obeyed (view_of g.D.Disk.seen g.D.Disk.faults
 
 pub returns-in-Sum-clause-turn : goal.returns-in-Sum-clause-turn
 returns-in-Sum-clause-turn g c = counted (view_of g.D.Disk.seen g.D.Disk.faults g.D.Disk.clock) (step_ordered c.args.order) c.args.self.now c.args.pass.now _ _ (ap step_ordered c.in-Sum.is) c.sum.ensures.turn
+
+pub returns-in-Crash-clause-still : goal.returns-in-Crash-clause-still
+returns-in-Crash-clause-still g c = order_still (plan_of_board c.args.self.now).nodes (step_ordered c.args.order) _ (ap step_ordered c.in-Crash.is) c.step.ensures.still
+
+pub returns-in-Start-clause-still : goal.returns-in-Start-clause-still
+returns-in-Start-clause-still g c = order_still (plan_of_board c.args.self.now).nodes (step_ordered c.args.order) _ (ap step_ordered c.in-Start.is) c.step-in-Start.ensures.still
+
+pub returns-in-Lose-clause-still : goal.returns-in-Lose-clause-still
+returns-in-Lose-clause-still g c = order_still (plan_of_board c.args.self.now).nodes (step_ordered c.args.order) _ (ap step_ordered c.in-Lose.is) c.step-in-Lose.ensures.still
+
+pub returns-in-Push-clause-still : goal.returns-in-Push-clause-still
+returns-in-Push-clause-still g c = order_still (plan_of_board c.args.self.now).nodes (step_ordered c.args.order) _ (ap step_ordered c.in-Push.is) c.step-in-Push.ensures.still
+
+pub returns-in-Widen-clause-still : goal.returns-in-Widen-clause-still
+returns-in-Widen-clause-still g c = order_still (plan_of_board c.args.self.now).nodes (step_ordered c.args.order) _ (ap step_ordered c.in-Widen.is) c.step-in-Widen.ensures.still
+
+pub returns-in-Sum-clause-still : goal.returns-in-Sum-clause-still
+returns-in-Sum-clause-still g c = λ blind. c.sum.ensures.still

@@ -8,12 +8,11 @@ use Rattle.solo_desk.proofs.desk.SoloDeskDesk.post_one.Goals as goal
 pub returns-clause-belongs : goal.returns-clause-belongs
 returns-clause-belongs g c =
     let on = view_of g.D.Disk.seen g.D.Disk.faults g.D.Disk.clock in
-    let adds = c.post_first-posted.ensures.adds in
-    still_belongs on c.args.pass.now c.requires.belongs c.post_first-posted.new.world c.count_if_refused.new.tally c.post_first-posted.ensures.serves (adds.added, adds.book)
+    still_belongs on c.args.pass.now c.requires.belongs c.post_first-posted.new.world c.count_if_refused.new.tally (c.post_first-posted.ensures.serves c.requires.belongs.serves) c.post_first-posted.ensures.longer
 
 pub returns-clause-quiet : goal.returns-clause-quiet
 returns-clause-quiet g c =
     let on = view_of g.D.Disk.seen g.D.Disk.faults g.D.Disk.clock in
-    let adds = c.post_first-posted.ensures.adds in
+    let adds = c.post_first-posted.ensures.adds c.requires.belongs.serves in
     refuses_known (Some (own_entries c.args.pass.now)) (Some (own_entries (then_pass on c.args.pass.now c.requires.belongs c.post_first-posted.new.world c.count_if_refused.new.tally))) adds.added (own_grew on c.args.pass.now c.requires.belongs c.post_first-posted.new.world c.count_if_refused.new.tally adds.added adds.book) c.args.pass.now.tally c.count_if_refused.new.tally
     c.post_first-posted.result c.post_first-posted.ensures.never adds.is c.count_if_refused.ensures.fell c.count_if_refused.ensures.rose

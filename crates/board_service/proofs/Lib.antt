@@ -1,0 +1,9 @@
+pub mod Still
+pub mod Ordered
+pub mod Turned
+pub mod Said
+pub mod Earned
+pub mod Counted
+pub mod Over
+pub mod Threads
+pub mod Kept

@@ -1,0 +1,46 @@
+-- What the courier of a board does.
+use Rattle.std.specs.Prelude.{◌≡◌, ◌⊎◌, ℕ, Bool, true, false, Some, Result, Ok, Err}
+use Rattle.io_edge.specs.declared.fate.Luck.{Luck}
+use Rattle.call_tickets.specs.declared.desk.Posted.{Posted}
+use Rattle.call_tickets.specs.declared.desk.Posted.TheVariants.{Did, Quiet}
+use Rattle.call_tickets.specs.declared.desk.DeskFault.{DeskFault}
+use Rattle.node_store.specs.Disks.{View}
+use Rattle.cluster_world.specs.declared.fault.StepFault.{StepFault}
+use Rattle.cluster_world.specs.declared.step.Step.TheVariants as step
+use Rattle.shard_board.specs.declared.board.Board.{Board}
+use Rattle.shard_board.specs.declared.board.BoardPass.{BoardPass}
+use Rattle.shard_board.specs.declared.order.Told.{Told}
+use Rattle.shard_board.specs.Boards.{IsTurnOf}
+use Rattle.shard_board.specs.Orders.{Obeys}
+use Rattle.shard_board.specs.Posts.{PostsOne}
+
+-- a letter was looked at
+abbrev pub has_posted : Result Posted DeskFault → Bool
+has_posted (Ok Did) = true
+has_posted (Ok Quiet) = false
+has_posted (Err why) = false
+
+module _ {D F C : Type 0} (on : View D) (board : Board D F C) where
+  -- one node sent to another what it owes, if it could
+  pub record HasPushed (old new : BoardPass D F C) : Type 0 where
+    pub from : ℕ
+    pub to : ℕ
+    pub told : Result Told StepFault
+    pub turn : IsTurnOf on (Obeys on (Some (step.Push from to))) board old new told
+
+  -- it did, or nothing was done
+  abbrev pub MayPush : BoardPass D F C → BoardPass D F C → Type 0
+  MayPush old new = HasPushed old new ⊎ (new ≡ old)
+
+  -- where a letter was looked at, nothing else is done
+  abbrev pub PushesAfter : Bool → BoardPass D F C → BoardPass D F C → Type 0
+  PushesAfter true old new = new ≡ old
+  PushesAfter false old new = MayPush old new
+
+  -- What fate decides of the letter of the lowest number was done; where there was none, a node may have sent what it owes.
+  pub record Carries (decides : F → ℕ → Luck → F → Type 0) (old : BoardPass D F C) (did : Bool) (new : BoardPass D F C) : Type 0 where
+    pub mid : BoardPass D F C
+    pub posted : Result Posted DeskFault
+    pub post : IsTurnOf on (PostsOne on decides) board old mid posted
+    pub did_is : did ≡ has_posted posted
+    pub push : PushesAfter did mid new

@@ -1,0 +1,11 @@
+pub mod Tellings
+pub mod Visits
+pub mod Passes
+pub mod Serving
+pub mod Carrying
+pub mod ConsoleLines
+pub mod ConsoleAnswers
+pub mod Obeying
+pub mod Served
+pub mod Counting
+pub mod Booked

@@ -1,0 +1,208 @@
+//! What is said of the lines of the console.
+ghost use Rattle.std.specs.Prelude.{◌≡◌, ◌++◌, ◌∷◌, codes, List, ℕ, Some, OnOk, IfOk};
+ghost use Rattle.std.specs.Fmt.{decimal};
+ghost use Rattle.std.specs.Option.{option_copied, option_map};
+ghost use Rattle.mail_model.specs.Lines.{ended};
+ghost use Rattle.session_model.specs.Events.{sum_text};
+ghost use Rattle.cluster_world.specs.Sums.{sum_seen};
+ghost use Rattle.board_service.specs.ConsoleAnswers.{node_line, up_line, fault_line, refused_line, refusal_word, start_said, start_told, sum_told, order_told, answer_to};
+
+use crate::orders::ConsoleOrder;
+use cluster_world::{BookSum, Said, StepFault};
+use mail_base::NodeNo;
+use shard_board::Told;
+use std::alloc::{AllocError, Global};
+
+// The text as a line, behind what is there.
+fn push_line(out: &mut Vec<u8>, text: &[u8]) -> Result<(), AllocError>
+    ensures { OnOk result (out.new.items ≡ out.old.items ++ ended text.now) }
+{
+    out.extend_from_slice(text)?;
+    out.push(b'\n')?;
+    Ok(())
+}
+
+// `WORD N`
+fn behind_word(alloc: Global, word: &[u8], number: u64) -> Result<Vec<u8>, AllocError>
+    ensures { IfOk result (λ text. text.items ≡ word.now ++ decimal number) }
+{
+    let number = number.to_string(alloc)?;
+    let mut text = Vec::from_slice(alloc, word)?;
+    text.extend_from_slice(number.as_bytes())?;
+    Ok(text)
+}
+
+// A word and a number more.
+fn push_number(
+    alloc: Global,
+    text: &mut Vec<u8>,
+    word: &[u8],
+    number: u64,
+) -> Result<(), AllocError>
+    ensures { OnOk result (text.new.items ≡ text.old.items ++ word.now ++ decimal number) }
+{
+    let number = number.to_string(alloc)?;
+    text.extend_from_slice(word)?;
+    text.extend_from_slice(number.as_bytes())
+}
+
+// `*0 node N WORD`
+fn say_node(alloc: Global, node: u64, word: &[u8], out: &mut Vec<u8>) -> Result<(), AllocError>
+    ensures { OnOk result (out.new.items ≡ out.old.items ++ node_line node word.now) }
+{
+    let mut text = behind_word(alloc, b"*0 node ", node)?;
+    text.extend_from_slice(word)?;
+    push_line(out, &text)
+}
+
+// `*0 node N up B`
+fn say_up(alloc: Global, node: u64, boot: u32, out: &mut Vec<u8>) -> Result<(), AllocError>
+    ensures { OnOk result (out.new.items ≡ out.old.items ++ up_line node boot) }
+{
+    let mut text = behind_word(alloc, b"*0 node ", node)?;
+    let boot = boot.to_string(alloc)?;
+    text.extend_from_slice(b" up ")?;
+    text.extend_from_slice(boot.as_bytes())?;
+    push_line(out, &text)
+}
+
+// `*0 fault N`
+fn say_fault(alloc: Global, node: NodeNo, out: &mut Vec<u8>) -> Result<(), AllocError>
+    ensures { OnOk result (out.new.items ≡ out.old.items ++ fault_line node) }
+{
+    let text = behind_word(alloc, b"*0 fault ", u64::from(node.number()))?;
+    push_line(out, &text)
+}
+
+// `*0 sum acked A struck S dropped D lost L`
+fn say_sum(alloc: Global, sum: &BookSum, out: &mut Vec<u8>) -> Result<(), AllocError>
+    ensures { OnOk result (out.new.items ≡ out.old.items ++ ended (codes "*0 " ++ sum_text (sum_seen sum.now))) }
+{
+    let mut text = behind_word(alloc, b"*0 sum acked ", sum.acked)?;
+    push_number(alloc, &mut text, b" struck ", sum.struck)?;
+    push_number(alloc, &mut text, b" dropped ", sum.dropped)?;
+    push_number(alloc, &mut text, b" lost ", sum.lost)?;
+    push_line(out, &text)
+}
+
+/// `! line N WORD`
+pub(crate) fn say_refused(
+    alloc: Global,
+    number: u64,
+    word: &[u8],
+    out: &mut Vec<u8>,
+) -> Result<(), AllocError>
+    ensures { OnOk result (out.new.items ≡ out.old.items ++ refused_line number word.now) }
+{
+    let mut text = behind_word(alloc, b"! line ", number)?;
+    text.push(b' ')?;
+    text.extend_from_slice(word)?;
+    push_line(out, &text)
+}
+
+// The word for a refusal; none for want of memory.
+fn refusal_word(why: StepFault) -> Option<&'static [u8]>
+    ensures { option_copied result ≡ refusal_word why }
+{
+    match why {
+        StepFault::NoSuchNode => Some(b"NoSuchNode"),
+        StepFault::NodeLost => Some(b"NodeLost"),
+        StepFault::NodeDown => Some(b"NodeDown"),
+        StepFault::NodeUp => Some(b"NodeUp"),
+        StepFault::NoSuchLetter => Some(b"NoSuchLetter"),
+        StepFault::NoSuchTicket => Some(b"NoSuchTicket"),
+        StepFault::Worn => Some(b"Worn"),
+        StepFault::NoRoom => Some(b"NoRoom"),
+        StepFault::NoMemory { .. } => None,
+    }
+}
+
+// What is said of an order that was refused.
+fn say_why(alloc: Global, number: u64, why: StepFault, out: &mut Vec<u8>) -> Result<(), AllocError>
+    ensures { OnOk result ((said : List ℕ) × (option_map (refused_line number) (refusal_word why) ≡ Some said) × (out.new.items ≡ out.old.items ++ said)) }
+{
+    match refusal_word(why) {
+        Some(word) => say_refused(alloc, number, word, out),
+        None => Err(AllocError),
+    }
+}
+
+// What is said of a node that was to start.
+fn say_start(alloc: Global, node: u64, said: &Said, out: &mut Vec<u8>) -> Result<(), AllocError>
+    ensures { OnOk result (out.new.items ≡ out.old.items ++ start_said node said.now) }
+{
+    match said {
+        Said::NodeUp { boot } => say_up(alloc, node, *boot, out),
+        Said::Faulted(failed) => say_fault(alloc, *failed, out),
+        Said::Begun { .. } => Ok(()),
+        Said::Noted => Ok(()),
+        Said::Asked(_) => Ok(()),
+        Said::Heard => Ok(()),
+        Said::Thrown(_) => Ok(()),
+        Said::Sent { .. } => Ok(()),
+        Said::Widened(_) => Ok(()),
+        Said::Done => Ok(()),
+    }
+}
+
+// The same of what was told.
+fn say_start_told(
+    alloc: Global,
+    node: u64,
+    told: &Told,
+    out: &mut Vec<u8>,
+) -> Result<(), AllocError>
+    ensures { OnOk result (out.new.items ≡ out.old.items ++ start_told node told.now) }
+{
+    match told {
+        Told::Said(said) => say_start(alloc, node, said, out),
+        Told::Sum(_) => Ok(()),
+    }
+}
+
+// What is said of the entries that were counted.
+fn say_sum_told(alloc: Global, told: &Told, out: &mut Vec<u8>) -> Result<(), AllocError>
+    ensures { OnOk result (out.new.items ≡ out.old.items ++ sum_told told.now) }
+{
+    match told {
+        Told::Said(_) => Ok(()),
+        Told::Sum(sum) => say_sum(alloc, sum, out),
+    }
+}
+
+// What is said of an order that was done.
+fn say_told(
+    alloc: Global,
+    order: ConsoleOrder,
+    told: &Told,
+    out: &mut Vec<u8>,
+) -> Result<(), AllocError>
+    ensures { OnOk result (out.new.items ≡ out.old.items ++ order_told order told.now) }
+{
+    match order {
+        ConsoleOrder::Crash(node) => say_node(alloc, node, b" down", out),
+        ConsoleOrder::Start(node) => say_start_told(alloc, node, told, out),
+        ConsoleOrder::Lose(node) => say_node(alloc, node, b" lost", out),
+        ConsoleOrder::Sum => say_sum_told(alloc, told, out),
+    }
+}
+
+/// What is said of an order on the line of this number.
+///
+/// # Errors
+///
+/// Out of memory: here, or as the order was done.
+pub(crate) fn say_answer(
+    alloc: Global,
+    number: u64,
+    order: ConsoleOrder,
+    came: &Result<Told, StepFault>,
+    out: &mut Vec<u8>,
+) -> Result<(), AllocError>
+    ensures { OnOk result ((said : List ℕ) × (answer_to number order came.now ≡ Some said) × (out.new.items ≡ out.old.items ++ said)) }
+{
+    match came {
+        Ok(told) => say_told(alloc, order, told, out),
+        Err(why) => say_why(alloc, number, *why, out),
+    }
+}

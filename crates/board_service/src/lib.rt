@@ -1,0 +1,71 @@
+//! board_service: a cluster is served to clients, behind the doors of a yard.
+//!
+//! SUMMARY
+//!
+//! `serve_board` takes a world, its plan, the ports, a yard, and the console's source and sink. It opens the doors, puts the
+//! world behind a board, serves connections, letters and the console side by side until the console has ended, and gives the
+//! world back. `Telling` says whether the disks tell what they hold.
+//!
+//! DESCRIPTION
+//!
+//! - `backend`: a board as the `Backend` of `mail_service`. Threads share it, each with a pass of the board.
+//! - `client`: a connection is one call of `serve_smtp` or `serve_pop`, over the board as a desk, in the name of its thread's
+//!   pass.
+//! - `courier`: one letter is posted as fate decides, after the clock was set. Where none is in flight, and the disks tell what
+//!   they hold, one node sends to another what it owes: the next of all pairs, in a round. That is no reason to go on, so a
+//!   service ends though a node stays down. What such a push put in flight just before the end stays there.
+//! - `orders`, `answers`, `obey`: a line of the console is one turn of the board.
+//!
+//! | Line | Does | Answer |
+//! |---|---|---|
+//! | `crash n` | a node stops | `*0 node n down` |
+//! | `start n` | a node that is down starts; over disks that do not tell what they hold this is no line | `*0 node n up b`, or `*0 fault n` where its disk failed |
+//! | `lose n` | a node loses its disk for good | `*0 node n lost` |
+//! | `sum` | the entries of the book are counted | `*0 sum acked a struck s dropped d lost l` |
+//!
+//! A line of another form is answered `! line N BadLine`, a node that no plan has `! line N NoSuchNode`, and an order that the
+//! cluster refuses `! line N NAME` with the name of the refusal. One CR at the end of a line is dropped. `stop` is a line of
+//! `mail_service`.
+//!
+//! PROMISES
+//!
+//! `specs/Served.antt` says what the world is that comes back: it is sound, and its book is shared out among what it had before
+//! and lists of entries, one for each pass. Each connection is said by `ServesSmtp` or `ServesPop` of `session_gate`
+//! (`specs/Visits.antt`). Where the disks tell what they hold, what acknowledges or strikes in such a list came of connections,
+//! one after another. So each message that a client was told is stored stands in the book, with exactly what was told: that is
+//! the law `told_is_booked` (`specs/Booked.antt`).
+//!
+//! Connections that were handed on and those that were served are counted. Where each door is said to have been quiet, as many
+//! were served as the doors told that they had (`CountsServed`).
+//!
+//! DIAGNOSTICS
+//!
+//! The ends and their causes are those of `mail_service`. `NoMemory` comes also where there is none for the board, and then
+//! nobody was served.
+//!
+//! STANDS ON
+//!
+//! `mail_service` for doors, threads and the console, `shard_board` and `board_desk` for the cluster behind a lock,
+//! `board_threads` for what may cross threads, `session_gate` for connections.
+//!
+//! WHAT IT DOES NOT DO
+//!
+//! How long a connection waits is not said, nor which of those that were handed on a thread serves. It takes no
+//! stores from the yard and gives none back: whoever has the world does. Over disks that do not tell what they hold nothing is
+//! pushed, so that a node that was down is not brought up to date.
+#![tactic(auto)]
+
+mod answers;
+mod backend;
+mod client;
+mod courier;
+mod laws;
+mod obey;
+mod orders;
+mod pass;
+mod serve;
+mod telling;
+
+pub use laws::told_is_booked;
+pub use serve::serve_board;
+pub use telling::Telling;

@@ -1,0 +1,119 @@
+//! What the lines of the console order.
+ghost use Rattle.std.specs.Prelude.{◌≡◌, codes, option_and_then, IfSome};
+ghost use Rattle.mail_model.specs.Tape.{strip};
+ghost use Rattle.board_service.specs.ConsoleLines.{numbered, sum_line, order_in, known_where, IsKnownWhere, order_heard, node_of, board_order};
+ghost use Rattle.board_service.specs.declared.orders.ConsoleOrder.TheVariants.{Crash, Start, Lose};
+
+use crate::telling::Telling;
+use line_words::number;
+use mail_base::NodeNo;
+use shard_board::Order;
+use tape_lines::{strip, without_cr};
+
+/// What a line of the console orders. A number is as the line gives it, below 2^64: whether there is such a node is not asked
+/// here.
+#[derive(Clone, Copy, Debug, PartialEq, Eq)]
+pub(crate) enum ConsoleOrder {
+    /// A node stops. What is on its disk stays.
+    Crash(u64),
+    /// A node that is down starts.
+    Start(u64),
+    /// A node loses its disk for good.
+    Lose(u64),
+    /// The entries of the book are counted.
+    Sum,
+}
+
+fn crashes(line: &[u8]) -> Option<ConsoleOrder>
+    ensures { result ≡ option_and_then (numbered Crash) (strip (codes "crash ") line.now) }
+{
+    let node = number(strip(b"crash ", line)?)?;
+    Some(ConsoleOrder::Crash(node))
+}
+
+fn starts(line: &[u8]) -> Option<ConsoleOrder>
+    ensures { result ≡ option_and_then (numbered Start) (strip (codes "start ") line.now) }
+{
+    let node = number(strip(b"start ", line)?)?;
+    Some(ConsoleOrder::Start(node))
+}
+
+fn loses(line: &[u8]) -> Option<ConsoleOrder>
+    ensures { result ≡ option_and_then (numbered Lose) (strip (codes "lose ") line.now) }
+{
+    let node = number(strip(b"lose ", line)?)?;
+    Some(ConsoleOrder::Lose(node))
+}
+
+fn sums(line: &[u8]) -> Option<ConsoleOrder>
+    ensures { result ≡ option_and_then sum_line (strip (codes "sum") line.now) }
+{
+    let rest = strip(b"sum", line)?;
+    if !rest.is_empty() {
+        return None;
+    }
+    Some(ConsoleOrder::Sum)
+}
+
+// The order that the line spells.
+fn order_in(line: &[u8]) -> Option<ConsoleOrder>
+    ensures { result ≡ order_in line.now }
+{
+    if let Some(order) = crashes(line) {
+        return Some(order);
+    }
+    if let Some(order) = starts(line) {
+        return Some(order);
+    }
+    if let Some(order) = loses(line) {
+        return Some(order);
+    }
+    sums(line)
+}
+
+// The order, where it is known. A start reads a disk, so it is known only where the disks tell what they hold.
+fn known_where(telling: Telling, order: ConsoleOrder) -> Option<ConsoleOrder>
+    ensures is { result ≡ known_where telling order }
+    ensures known { IfSome result (IsKnownWhere telling) }
+{
+    match telling {
+        Telling::Told => Some(order),
+        Telling::Untold => match order {
+            ConsoleOrder::Crash(node) => Some(ConsoleOrder::Crash(node)),
+            ConsoleOrder::Start(_) => None,
+            ConsoleOrder::Lose(node) => Some(ConsoleOrder::Lose(node)),
+            ConsoleOrder::Sum => Some(ConsoleOrder::Sum),
+        },
+    }
+}
+
+/// What the line orders, given without its LF; nothing where it is not known. A CR at its end is dropped.
+pub(crate) fn order_heard(telling: Telling, raw: &[u8]) -> Option<ConsoleOrder>
+    ensures is { result ≡ order_heard telling raw.now }
+    ensures known { IfSome result (IsKnownWhere telling) }
+{
+    let order = order_in(without_cr(raw))?;
+    known_where(telling, order)
+}
+
+// The node of this number. No plan has others.
+fn node_of(number: u64) -> Option<NodeNo>
+    ensures { result ≡ node_of number }
+{
+    if number > 16 {
+        return None;
+    }
+    NodeNo::new(number as u8)
+}
+
+/// What a board is to do; nothing where no plan has the node.
+pub(crate) fn board_order(order: ConsoleOrder) -> Option<Order>
+    ensures { result ≡ board_order order }
+{
+    match order {
+        ConsoleOrder::Crash(number) => Some(Order::Crash(node_of(number)?)),
+        ConsoleOrder::Start(number) => Some(Order::Start(node_of(number)?)),
+        ConsoleOrder::Lose(number) => Some(Order::Lose(node_of(number)?)),
+        ConsoleOrder::Sum => Some(Order::Sum),
+    }
+}

@@ -1,0 +1,5 @@
+pub mod Fitting
+pub mod Ported
+pub mod Storing
+pub mod Ended
+pub mod Served
