@@ -1,27 +1,24 @@
 -- What the passes of a service came to know.
-use Rattle.std.proofs.Common.{◌≡◌, ◌+◌, ◌-◌, ◌^◌, ℕ, Bool, true, ◌&&◌, cond, List, [], ◌∷◌, ◌++◌, length, Option, Some, None, refl, sym, ap, ◌∙◌, subst, arith}
+use Rattle.std.proofs.Common.{◌≡◌, ◌+◌, ◌-◌, ◌^◌, ℕ, Bool, cond, List, [], ◌∷◌, ◌++◌, length, Option, Some, None, refl, sym, ap, ◌∙◌, subst, arith}
 use Rattle.std.specs.Prelude.{min}
 use Rattle.mail_model.specs.Book.{BookEntry}
 use Rattle.mail_model.specs.Plan.{Plan}
 use Rattle.node_store.specs.Disks.{View}
 use Rattle.cluster_world.specs.declared.world.World.{World}
 use Rattle.mail_service.specs.declared.backend.Line.{Line}
+use Rattle.turnstile.specs.Passes.{own_entries as own_pages, joined_entries as joined_pages}
 use Rattle.shard_board.specs.declared.board.Board.{Board}
 use Rattle.shard_board.specs.declared.board.BoardPass.{BoardPass}
 use Rattle.shard_board.specs.Boards.{IsPassOf, IsNewBoard, IsSplitOf, TakesInPass, ClosesWith, first_world, own_entries, joined_entries}
 use Rattle.shard_board.proofs.Paged.{pass_tells}
 use Rattle.board_desk.specs.Desks.{told_entries}
 use Rattle.board_service.specs.declared.pass.ServicePass.{ServicePass}
-use Rattle.board_service.specs.declared.telling.Telling.{Telling}
-use Rattle.board_service.specs.Tellings.{EachTells, TellsIf}
+use Rattle.board_service.specs.Disks.{EachTells}
 use Rattle.board_service.specs.Visits.{Visit, WasServed, IsStill, ComesOf, IsEarned, AllEarned}
 use Rattle.board_service.specs.Passes.{most, IsServicePass, StaysPass, GoesStill}
 use Rattle.board_service.specs.Serving.{Serves, visit_of}
 use Rattle.board_service.specs.Served.{HasServed}
 use Rattle.board_service.proofs.Still.{still_same, still_both}
-
-and_true : {a b : Bool} → a ≡ true → b ≡ true → (a && b) ≡ true
-and_true p q = rw p q
 
 -- counts that stay at their greatest
 one_more : (served visits next : ℕ) → served ≡ min visits most → next ≡ min (served + 1) most → next ≡ min (visits + 1) most
@@ -33,11 +30,6 @@ both_counted a b m n next p q then = omega (arith, p, q, then)
 -- where each disk tells what it holds, a pass tells its own entries
 told_is : {D F C : Type 0} (seen : D → Option (List ℕ)) → EachTells seen → (pass : BoardPass D F C) → told_entries seen pass ≡ Some (own_entries pass)
 told_is seen each pass = ap (λ (tells : Bool). cond tells (Some (own_entries pass)) None) (pass_tells seen pass each).0
-
--- and so what is still of what is told is still of its own
-own_still : {D F C : Type 0} (seen : D → Option (List ℕ)) → EachTells seen → (old new : BoardPass D F C) → IsStill (told_entries seen old) (told_entries seen new)
-    → IsStill (Some (own_entries old)) (Some (own_entries new))
-own_still seen each old new still = subst (λ told. IsStill told (Some (own_entries new))) (told_is seen each old) (subst (λ told. IsStill (told_entries seen old) told) (told_is seen each new) still)
 
 module _ (plan : Plan) where
   comes_on : (visits : List Visit) (old new : Option (List BookEntry)) → IsStill old new → ComesOf plan visits old → ComesOf plan visits new
@@ -84,26 +76,22 @@ module _ {D : Type 0} (seen : D → Option (List ℕ)) (plan : Plan) where
   same_earned own own' joined joined' count p q earned = subst (λ (l : List BookEntry). AllEarned seen plan (l ∷ joined') count) (sym p)
       (subst (λ (ls : List (List BookEntry)). AllEarned seen plan (own ∷ ls) count) (sym q) earned)
 
-module _ {D F C : Type 0} (on : View D) (board : Board D F C) (telling : Telling) (plan : Plan) where
+module _ {D F C : Type 0} (on : View D) (board : Board D F C) (plan : Plan) where
   -- it went on, and nothing was acknowledged or struck
-  pub service_goes : (old new : ServicePass D F C) → IsServicePass on board telling plan old → GoesStill on board old.board new.board → new.served ≡ old.served → IsServicePass on board telling plan new
+  pub service_goes : (old new : ServicePass D F C) → IsServicePass on board plan old → GoesStill on board old.board new.board → new.served ≡ old.served → IsServicePass on board plan new
   service_goes old new was goes same = record {
     belongs = goes.stays.belongs;
-    tells = was.tells;
-    made = goes.stays.made_is ∙ was.made;
     visits = was.visits;
     served_is = same ∙ was.served_is;
     earned = same_earned on.seen plan (own_entries new.board) (own_entries new.board) (joined_entries old.board) (joined_entries new.board) was.visits refl goes.stays.joined_is
-        (first_on on.seen plan (own_entries old.board) (own_entries new.board) (joined_entries old.board) was.visits (λ each. own_still on.seen each old.board new.board goes.still) was.earned);
+        (first_on on.seen plan (own_entries old.board) (own_entries new.board) (joined_entries old.board) was.visits goes.still was.earned);
   }
 
   -- a connection was served in its name
-  pub service_serves : (old new : ServicePass D F C) (line : Line) (left0 left1 held0 held1 : Option (List ℕ)) → IsServicePass on board telling plan old → StaysPass on board old.board new.board
-      → Serves on.seen plan old.board line left0 left1 held0 held1 new.board → new.served ≡ min (old.served + 1) most → IsServicePass on board telling plan new
+  pub service_serves : (old new : ServicePass D F C) (line : Line) (left0 left1 held0 held1 : Option (List ℕ)) → IsServicePass on board plan old → StaysPass on board old.board new.board
+      → Serves on.seen plan old.board line left0 left1 held0 held1 new.board → new.served ≡ min (old.served + 1) most → IsServicePass on board plan new
   service_serves old new line left0 left1 held0 held1 was stays (ended, served) counts = record {
     belongs = stays.belongs;
-    tells = was.tells;
-    made = stays.made_is ∙ was.made;
     visits = was.visits + 1;
     served_is = one_more old.served was.visits new.served was.served_is counts;
     earned = same_earned on.seen plan (own_entries new.board) (own_entries new.board) (joined_entries old.board) (joined_entries new.board) (was.visits + 1) refl stays.joined_is
@@ -115,33 +103,27 @@ module _ {D F C : Type 0} (on : View D) (board : Board D F C) (telling : Telling
         )) was.earned);
   }
 
-  pub service_splits : (part : ℕ) (old new other : ServicePass D F C) → IsServicePass on board telling plan old → IsPassOf on board new.board × IsPassOf on board other.board
-      → IsSplitOf board part old.board new.board other.board → new.served ≡ old.served → other.served ≡ 0 → IsServicePass on board telling plan new × IsServicePass on board telling plan other
+  pub service_splits : (part : ℕ) (old new other : ServicePass D F C) → IsServicePass on board plan old → IsPassOf on board new.board × IsPassOf on board other.board
+      → IsSplitOf board part old.board new.board other.board → new.served ≡ old.served → other.served ≡ 0 → IsServicePass on board plan new × IsServicePass on board plan other
   service_splits part old new other was belong split same none = (
     record {
       belongs = belong.0;
-      tells = was.tells;
-      made = (split.made_is on.seen).0 ∙ was.made;
       visits = was.visits;
       served_is = same ∙ was.served_is;
       earned = same_earned on.seen plan (own_entries old.board) (own_entries new.board) (joined_entries old.board) (joined_entries new.board) was.visits split.own_is.0 split.joined_is.0 was.earned;
     },
     record {
       belongs = belong.1;
-      tells = was.tells;
-      made = (split.made_is on.seen).1;
       visits = 0;
       served_is = none;
       earned = same_earned on.seen plan [] (own_entries other.board) [] (joined_entries other.board) 0 split.own_is.1 split.joined_is.1 (nothing_earned on.seen plan);
     },
   )
 
-  pub service_joins : (old other new : ServicePass D F C) → IsServicePass on board telling plan old → IsServicePass on board telling plan other → IsPassOf on board new.board
-      → TakesInPass board old.board other.board new.board → new.served ≡ min (old.served + other.served) most → IsServicePass on board telling plan new
+  pub service_joins : (old other new : ServicePass D F C) → IsServicePass on board plan old → IsServicePass on board plan other → IsPassOf on board new.board
+      → TakesInPass board old.board other.board new.board → new.served ≡ min (old.served + other.served) most → IsServicePass on board plan new
   service_joins old other new was beside belongs takes counts = record {
     belongs = belongs;
-    tells = was.tells;
-    made = takes.made_is on.seen ∙ and_true was.made beside.made;
     visits = was.visits + beside.visits;
     served_is = both_counted old.served other.served was.visits beside.visits new.served was.served_is beside.served_is counts;
     earned = same_earned on.seen plan (own_entries old.board) (own_entries new.board) (joined_entries old.board ++ own_entries other.board ∷ joined_entries other.board) (joined_entries new.board)
@@ -150,23 +132,22 @@ module _ {D F C : Type 0} (on : View D) (board : Board D F C) (telling : Telling
   }
 
   -- the first pass of a board
-  pub service_begins : (world : World D) (passes : ℕ) (pass : ServicePass D F C) → TellsIf on.seen telling → IsNewBoard on world passes board pass.board → pass.served ≡ 0
-      → IsServicePass on board telling plan pass
-  service_begins world passes pass tells made none = record {
+  pub service_begins : (world : World D) (passes : ℕ) (pass : ServicePass D F C) → IsNewBoard on world passes board pass.board → pass.served ≡ 0
+      → IsServicePass on board plan pass
+  service_begins world passes pass made none = record {
     belongs = made.belongs;
-    tells = tells;
-    made = made.known.1;
     visits = 0;
     served_is = none;
     earned = same_earned on.seen plan [] (own_entries pass.board) [] (joined_entries pass.board) 0 made.own_is made.joined_is (nothing_earned on.seen plan);
   }
 
   -- and the last
-  abbrev pub service_ends : (pass : ServicePass D F C) (world : World D) → (was : IsServicePass on board telling plan pass) → ClosesWith on board pass.board world → HasServed on plan (first_world board) world
+  abbrev pub service_ends : (pass : ServicePass D F C) (world : World D) → (was : IsServicePass on board plan pass) → ClosesWith on board pass.board world → HasServed on plan (first_world board) world
   service_ends pass world was closed = record {
     plan_is = closed.plan;
-    sound = closed.sound was.made;
-    lists = own_entries pass.board ∷ joined_entries pass.board;
+    ready = closed.ready;
+    pages = own_pages pass.board.lower ∷ joined_pages pass.board.lower;
+    sound = closed.sound;
     shares = closed.shares;
     count = was.visits;
     earned = was.earned;

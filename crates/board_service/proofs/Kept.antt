@@ -1,5 +1,5 @@
 -- What clients were told is stored stands in the book.
-use Rattle.std.proofs.Common.{◌≡◌, inl, inr, ◌⊎◌, ℕ, Bool, true, false, List, [], ◌∷◌, ◌++◌, Option, Some, None, refl, sym, ap, ◌∙◌, subst}
+use Rattle.std.proofs.Common.{◌≡◌, inl, inr, ◌⊎◌, ℕ, Bool, true, false, List, [], ◌∷◌, ◌++◌, map, Option, Some, None, refl, sym, ap, ◌∙◌, subst}
 use Rattle.std.specs.Prelude.{IfSome, cond, nat_eq}
 use Rattle.std.specs.Option.{option_map}
 use Rattle.io_edge.specs.declared.yard.Protocol.{Protocol}
@@ -22,8 +22,9 @@ use Rattle.cluster_model.proofs.Filing.{among_map}
 use Rattle.cluster_owes.proofs.Books.{acked_both}
 use Rattle.node_store.specs.Disks.{View}
 use Rattle.cluster_world.specs.Worlds.{book_of}
+use Rattle.shard_board.specs.Pages.{all_on}
 use Rattle.board_service.specs.Visits.{Visit, ServedBy, WasServed, ComesOf, AllEarned}
-use Rattle.board_service.specs.Tellings.{EachTells}
+use Rattle.board_service.specs.Disks.{EachTells}
 use Rattle.board_service.specs.Booked.{smtp_exchanges, pop_exchanges, exchanges_by, exchanges_in, exchanges_of_list, exchanges_of_all, IsKept, AreKept, ToldIsBooked}
 
 among_left : {X : Type 0} (x : X) (xs ys : List X) → Among x xs → Among x (xs ++ ys)
@@ -207,4 +208,5 @@ share_within opening lists book shares entries among copy a =
     written_within found.0 shares.authors book copy (subst (λ (es : List BookEntry). Among copy (acked_in es)) (sym found.2) a)
 
 pub told_is_booked : {D : Type 0} (on : View D) → ToldIsBooked on
-told_is_booked on each plan old new served = all_kept on.seen each plan served.lists served.count served.earned (book_of new) (share_within (book_of old) served.lists (book_of new) served.shares)
+told_is_booked on each plan old new served = let lists = map all_on served.pages in
+    all_kept on.seen each plan lists served.count served.earned (book_of new) (share_within (book_of old) lists (book_of new) served.shares)

@@ -1,5 +1,5 @@
 -- What a service over a board came to, as one behind the doors of a yard.
-use Rattle.std.proofs.Common.{◌≡◌, ℕ, List, map, Option, Some, None, refl, sym, ◌∙◌, subst}
+use Rattle.std.proofs.Common.{◌≡◌, ℕ, true, List, [], ◌∷◌, map, Option, Some, None, refl, sym, ◌∙◌, subst}
 use Rattle.std.specs.Prelude.{IfSome}
 use Rattle.io_edge.specs.declared.yard.Protocol.{Protocol}
 use Rattle.mail_model.specs.Plan.{Plan}
@@ -17,13 +17,23 @@ use Rattle.mail_service.specs.declared.yards.Port.{Port}
 use Rattle.mail_service.proofs.Running.{same_doors}
 use Rattle.shard_board.specs.declared.board.Board.{Board}
 use Rattle.shard_board.specs.Boards.{ClosesWith, first_world}
+use Rattle.shard_board.specs.declared.page.Page.{Page}
+use Rattle.shard_board.proofs.Paged.{all_known}
 use Rattle.board_service.specs.declared.pass.ServicePass.{ServicePass}
-use Rattle.board_service.specs.declared.telling.Telling.{Telling}
 use Rattle.board_service.specs.Counting.{IsSettledAs}
 use Rattle.board_service.specs.Passes.{IsServicePass}
-use Rattle.board_service.specs.Served.{ServesOver, CountsServed, left_at}
+use Rattle.board_service.specs.Disks.{EachTells}
+use Rattle.board_service.specs.Served.{pages_known, ServedIsSound, ServesOver, CountsServed, left_at}
 use Rattle.board_service.proofs.Counted.{doors_counted, ends_settled, each_settled}
 use Rattle.board_service.proofs.Earned.{service_ends}
+
+-- where each disk tells, all pages of all passes are known
+lists_known : {D : Type 0} (seen : D → Option (List ℕ)) → EachTells seen → (lists : List (List (Page D))) → pages_known seen lists ≡ true
+lists_known seen each [] = refl
+lists_known seen each (pages ∷ lists) = rw (all_known seen each pages) (lists_known seen each lists)
+
+pub served_is_sound : {D : Type 0} (on : View D) → ServedIsSound on
+served_is_sound on each plan old new served = served.sound (lists_known on.seen each served.pages)
 
 -- what is the same number as one that is told
 total_is : (told : Option ℕ) (taken count : ℕ) → count ≡ taken → IfSome told (λ total. total ≡ taken) → IfSome told (λ total. count ≡ total)
@@ -32,10 +42,10 @@ total_is (Some total) taken count is tells = is ∙ sym tells
 
 module _ {G X : Type 0} (left : G → Option (List X)) (quiets faults : G → ℕ) {D : Type 0} (on : View D) (plan : Plan) where
   -- the board is closed, and its doors are said to have ended as is known of them
-  pub serves_over : {F C : Type 0} (board : Board D F C) (telling : Telling) (pass : ServicePass D F C) (world : World D) (end said : DoorEnd) (taken : ℕ) (before : List (Entrance G))
-      (closed0 closed1 : Option (List (ℕ × Protocol × G))) → IsServicePass on board telling plan pass → ClosesWith on board pass.board world → IsSettledAs end taken pass.served said
+  pub serves_over : {F C : Type 0} (board : Board D F C) (pass : ServicePass D F C) (world : World D) (end said : DoorEnd) (taken : ℕ) (before : List (Entrance G))
+      (closed0 closed1 : Option (List (ℕ × Protocol × G))) → IsServicePass on board plan pass → ClosesWith on board pass.board world → IsSettledAs end taken pass.served said
       → AreServed left quiets faults end taken before closed0 closed1 → ServesOver left quiets faults on plan said before closed0 closed1 (first_world board) world
-  serves_over board telling pass world end said taken before closed0 closed1 was closed settled served = record {
+  serves_over board pass world end said taken before closed0 closed1 was closed settled served = record {
     taken = taken;
     doors = record {
       after = served.after;
@@ -44,7 +54,7 @@ module _ {G X : Type 0} (left : G → Option (List X)) (quiets faults : G → �
       ends = ends_settled left quiets faults end taken pass.served said before served.after settled served.ends;
       closed = served.closed;
     };
-    world = service_ends on board telling plan pass world was closed;
+    world = service_ends on board plan pass world was closed;
     each = each_settled end taken pass.served said was.visits settled was.served_is;
   }
 

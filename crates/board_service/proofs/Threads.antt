@@ -24,5 +24,5 @@ module _ (D F C : RattleType) where
   backend_sync a R G g r h d f c = let b : IsSync (board.the_row D F C g) = board_sync D F C g d f c in
       declared_sync (backend.the_type a R D F C G g) (
         search sendable depth 20,
-        (search sendable depth 20, (search sendable depth 20, (search (sendable, plan_sync) depth 20, (search sendable depth 20, (search (sendable, lists.crosses) depth 20, tt))))),
+        (search sendable depth 20, (search sendable depth 20, (search (sendable, plan_sync) depth 20, (search (sendable, lists.crosses) depth 20, tt)))),
       )

@@ -1,5 +1,5 @@
 -- How a pass goes on after a turn.
-use Rattle.std.proofs.Common.{◌≡◌, ℕ, Bool, true, false, true≢false, cond, List, ◌++◌, Option, Some, None, refl, sym, ap, ◌∙◌}
+use Rattle.std.proofs.Common.{◌≡◌, ℕ, List, ◌++◌, Some, refl, sym, ap, ◌∙◌}
 use Rattle.std.proofs.lemmas.List.{append_cancel_left}
 use Rattle.std.specs.Prelude.{Result}
 use Rattle.io_edge.specs.declared.fate.Luck.{Luck}
@@ -18,22 +18,20 @@ use Rattle.shard_board.specs.declared.board.Board.{Board}
 use Rattle.shard_board.specs.declared.board.BoardPass.{BoardPass}
 use Rattle.shard_board.specs.declared.order.Order.{Order}
 use Rattle.shard_board.specs.declared.order.Told.{Told}
-use Rattle.shard_board.specs.Boards.{IsPassOf, IsTurnOf, first_world, plan_of_board, own_entries, tells_still, made_known}
+use Rattle.shard_board.specs.Boards.{IsPassOf, IsTurnOf, own_entries}
 use Rattle.shard_board.specs.Worlds.{IsSoundWorld}
-use Rattle.shard_board.specs.Orders.{step_ordered, is_blind_order, Obeys}
+use Rattle.shard_board.specs.Orders.{step_ordered, Obeys}
 use Rattle.shard_board.specs.Posts.{PostsOne}
-use Rattle.board_desk.specs.Desks.{told_entries}
+use Rattle.shard_board.proofs.Paged.{pass_tells}
 use Rattle.board_desk.proofs.Posted.{posts_add}
+use Rattle.board_service.specs.Disks.{EachTells}
 use Rattle.board_service.specs.Visits.{IsStill}
 use Rattle.board_service.specs.Passes.{StaysPass, GoesStill}
 use Rattle.board_service.proofs.Still.{still_same, still_both, still_known, none_fell}
-use Rattle.board_service.proofs.Ordered.{OrderIsKnown, order_made, orders_add}
+use Rattle.board_service.proofs.Ordered.{orders_add}
 
 module _ {D F C : Type 0} (on : View D) (board : Board D F C) where
   module _ {A : Type 0} (did : Part D F C → A → Part D F C → Type 0) (before after : BoardPass D F C) (answer : A) (t : IsTurnOf on did board before after answer) where
-    turn_stays : made_known on.seen after ≡ made_known on.seen before → IsPassOf on board after → StaysPass on board before after
-    turn_stays made belongs = record { belongs = belongs; quota_is = t.quota_is; joined_is = t.joined_is; made_is = made }
-
     own_still : AddsTo AreQuiet t.old.world t.new.world → IsStill (Some (own_entries before)) (Some (own_entries after))
     own_still adds =
         let grew : TellsMore (Some (own_entries before)) adds.added (Some (own_entries after)) =
@@ -41,35 +39,28 @@ module _ {D F C : Type 0} (on : View D) (board : Board D F C) where
         still_known (Some (own_entries before)) (Some (own_entries after)) no_counts no_counts
         (quiet_knows (Some (own_entries before)) (Some (own_entries after)) adds.added grew no_counts no_counts adds.is none_fell)
 
-    -- where the pass tells still, the turn found a sound world
-    turn_still : (IsSoundWorld on t.old.world → AddsTo AreQuiet t.old.world t.new.world) → IsStill (told_entries on.seen before) (told_entries on.seen after)
-    turn_still adds = by (tells_still on.seen before) (tells_still on.seen after) (λ tells. ((t.told tells).told, (t.told tells).old_sound))
-      where
-        by : (told tells : Bool) → (tells ≡ true → (told ≡ true) × IsSoundWorld on t.old.world) → IsStill (cond told (Some (own_entries before)) None) (cond tells (Some (own_entries after)) None)
-        by told false so = record { acked = tt; struck = tt }
-        by true true so = own_still (adds (so refl).1)
-        by false true so = absurd (true≢false (sym (so refl).0))
-
-    turn_goes : made_known on.seen after ≡ made_known on.seen before → IsPassOf on board after → (IsSoundWorld on t.old.world → AddsTo AreQuiet t.old.world t.new.world) → GoesStill on board before after
-    turn_goes made belongs adds = record { stays = turn_stays made belongs; still = turn_still adds }
+    -- where each disk tells, the pass tells, and so the turn found a sound world
+    turn_goes : IsPassOf on board after → (EachTells on.seen → IsSoundWorld on t.old.world → AddsTo AreQuiet t.old.world t.new.world) → GoesStill on board before after
+    turn_goes belongs adds = record {
+      stays = record { belongs = belongs; quota_is = t.quota_is; joined_is = t.joined_is };
+      still = λ each. own_still (adds each (t.told (pass_tells on.seen after each).0).old_sound);
+    }
 
   -- after an order
-  pub order_goes : (ordered : Order) (before after : BoardPass D F C) (came : Result Told StepFault) → OrderIsKnown on.seen (plan_of_board board).nodes (step_ordered ordered)
-      → (is_blind_order (plan_of_board board).nodes (step_ordered ordered) ≡ true → made_known on.seen after ≡ made_known on.seen before) → IsPassOf on board after
+  pub order_goes : (ordered : Order) (before after : BoardPass D F C) (came : Result Told StepFault) → IsPassOf on board after
       → IsTurnOf on (Obeys on (step_ordered ordered)) board before after came → GoesStill on board before after
-  order_goes ordered before after came known still belongs t =
-      turn_goes (Obeys on (step_ordered ordered)) before after came t (order_made on.seen (plan_of_board board).nodes ordered before after known still) belongs
-      (λ sound. orders_add on ordered (first_world board) t.old came t.new t.plans.0 known sound t.work)
+  order_goes ordered before after came belongs t =
+      turn_goes (Obeys on (step_ordered ordered)) before after came t belongs (λ each sound. orders_add on each ordered t.old came t.new sound t.work)
 
   -- after a letter
-  pub post_goes : (decides : F → ℕ → Luck → F → Type 0) (before after : BoardPass D F C) (posted : Result Posted DeskFault) → made_known on.seen after ≡ made_known on.seen before → IsPassOf on board after
+  pub post_goes : (decides : F → ℕ → Luck → F → Type 0) (before after : BoardPass D F C) (posted : Result Posted DeskFault) → IsPassOf on board after
       → IsTurnOf on (PostsOne on decides) board before after posted → GoesStill on board before after
-  post_goes decides before after posted still belongs t =
-      turn_goes (PostsOne on decides) before after posted t still belongs (λ sound. posts_add on decides t.old posted t.new sound t.work)
+  post_goes decides before after posted belongs t =
+      turn_goes (PostsOne on decides) before after posted t belongs (λ each sound. posts_add on decides t.old posted t.new sound t.work)
 
   -- a pass that was lent to nobody
   pub same_goes : (pass : BoardPass D F C) → IsPassOf on board pass → GoesStill on board pass pass
-  same_goes pass belongs = record { stays = record { belongs = belongs; quota_is = refl; joined_is = refl; made_is = refl }; still = still_same (told_entries on.seen pass) }
+  same_goes pass belongs = record { stays = record { belongs = belongs; quota_is = refl; joined_is = refl }; still = λ each. still_same (Some (own_entries pass)) }
 
   pub goes_both : (a b c : BoardPass D F C) → GoesStill on board a b → GoesStill on board b c → GoesStill on board a c
   goes_both a b c p q = record {
@@ -77,7 +68,6 @@ module _ {D F C : Type 0} (on : View D) (board : Board D F C) where
       belongs = q.stays.belongs;
       quota_is = q.stays.quota_is ∙ p.stays.quota_is;
       joined_is = q.stays.joined_is ∙ p.stays.joined_is;
-      made_is = q.stays.made_is ∙ p.stays.made_is;
     };
-    still = still_both (told_entries on.seen a) (told_entries on.seen b) (told_entries on.seen c) p.still q.still;
+    still = λ each. still_both (Some (own_entries a)) (Some (own_entries b)) (Some (own_entries c)) (p.still each) (q.still each);
   }

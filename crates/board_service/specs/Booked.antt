@@ -1,6 +1,6 @@
 -- What clients were told is stored stands in the book.
 use mathlib.Core.Logic.{inl, inr}
-use Rattle.std.specs.Prelude.{◌≡◌, ℕ, List, [], ◌∷◌, ◌++◌, ⊤, Option, Some}
+use Rattle.std.specs.Prelude.{◌≡◌, ℕ, List, [], ◌∷◌, ◌++◌, map, ⊤, Option, Some}
 use Rattle.io_edge.specs.declared.yard.Protocol.{Protocol}
 use Rattle.io_edge.specs.declared.yard.Protocol.TheVariants.{Smtp, Pop}
 use Rattle.mail_model.specs.Book.{BookEntry, Acked, acked_in}
@@ -18,8 +18,9 @@ use Rattle.session_gate.specs.declared.stop.Served.{Served}
 use Rattle.node_store.specs.Disks.{View}
 use Rattle.cluster_world.specs.Worlds.{book_of}
 use Rattle.cluster_world.specs.declared.world.World.{World}
+use Rattle.shard_board.specs.Pages.{all_on}
 use Rattle.board_service.specs.Visits.{Visit, ServedBy, WasServed, ComesOf, AllEarned}
-use Rattle.board_service.specs.Tellings.{EachTells}
+use Rattle.board_service.specs.Disks.{EachTells}
 use Rattle.board_service.specs.Served.{HasServed}
 
 -- the exchanges of the session of a connection; none, where it had no session
@@ -65,4 +66,4 @@ AreKept acked (one ∷ more) = IsKept acked one × AreKept acked more
 -- So it is of all that a service told its clients, and the book of the world that it leaves, where each disk tells what it holds.
 abbrev pub ToldIsBooked : {D : Type 0} → View D → Type 0
 ToldIsBooked {D} on = (each : EachTells on.seen) (plan : Plan) (old new : World D) (served : HasServed on plan old new)
-    → AreKept (acked_in (book_of new)) (exchanges_of_all on.seen each plan served.lists served.count served.earned)
+    → AreKept (acked_in (book_of new)) (exchanges_of_all on.seen each plan (map all_on served.pages) served.count served.earned)

@@ -1,13 +1,11 @@
 -- What the lines of the console order.
-use Rattle.std.specs.Prelude.{◌≡◌, ◌&&◌, ℕ, List, Option, Some, None, nat_le, nat_eq, length, codes, option_and_then, if◌then◌else◌}
+use Rattle.std.specs.Prelude.{◌&&◌, ℕ, List, Option, Some, None, nat_le, nat_eq, length, codes, option_and_then, if◌then◌else◌}
 use Rattle.std.specs.Option.{option_map}
 use Rattle.mail_model.specs.Lines.{without_cr}
 use Rattle.mail_model.specs.Numbers.{number_of}
 use Rattle.mail_model.specs.Tape.{strip, or_else}
 use Rattle.shard_board.specs.declared.order.Order.{Order}
 use Rattle.shard_board.specs.declared.order.Order.TheVariants as board
-use Rattle.board_service.specs.declared.telling.Telling.{Telling}
-use Rattle.board_service.specs.declared.telling.Telling.TheVariants.{Told, Untold}
 use Rattle.board_service.specs.declared.orders.ConsoleOrder.{ConsoleOrder}
 use Rattle.board_service.specs.declared.orders.ConsoleOrder.TheVariants.{Crash, Start, Lose, Sum}
 
@@ -27,20 +25,9 @@ order_in line =
     (or_else (option_and_then (numbered Lose) (strip (codes "lose ") line))
     (option_and_then sum_line (strip (codes "sum") line))))
 
--- A start reads a disk, so it is known only where the disks tell what they hold.
-abbrev pub known_where : Telling → ConsoleOrder → Option ConsoleOrder
-known_where Told order = Some order
-known_where Untold (Crash node) = Some (Crash node)
-known_where Untold (Start node) = None
-known_where Untold (Lose node) = Some (Lose node)
-known_where Untold Sum = Some Sum
-
-abbrev pub IsKnownWhere : Telling → ConsoleOrder → Type 0
-IsKnownWhere telling order = known_where telling order ≡ Some order
-
 -- what the line orders, where it is known; a CR at its end is dropped
-abbrev pub order_heard : Telling → List ℕ → Option ConsoleOrder
-order_heard telling raw = option_and_then (known_where telling) (order_in (without_cr raw))
+abbrev pub order_heard : List ℕ → Option ConsoleOrder
+order_heard raw = order_in (without_cr raw)
 
 -- the node of this number; no plan has others
 abbrev pub node_of : ℕ → Option ℕ

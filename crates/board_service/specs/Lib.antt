@@ -1,4 +1,4 @@
-pub mod Tellings
+pub mod Disks
 pub mod Visits
 pub mod Passes
 pub mod Serving

@@ -8,7 +8,6 @@ use Rattle.shard_board.specs.declared.order.Order.{Order}
 use Rattle.shard_board.specs.declared.order.Told.{Told}
 use Rattle.shard_board.specs.Boards.{IsTurnOf}
 use Rattle.shard_board.specs.Orders.{step_ordered, Obeys}
-use Rattle.board_service.specs.declared.telling.Telling.{Telling}
 use Rattle.board_service.specs.declared.orders.ConsoleOrder.{ConsoleOrder}
 use Rattle.board_service.specs.ConsoleLines.{order_heard, board_order}
 use Rattle.board_service.specs.ConsoleAnswers.{refused_line, answer_to}
@@ -31,5 +30,5 @@ module _ {D F C : Type 0} (on : View D) (board : Board D F C) where
   HearsOrder (Some order) number old said new = OrdersBy order number (board_order order) old said new
 
   -- what is said of the line of this number
-  abbrev pub ObeysLine : Telling → BoardPass D F C → List ℕ → ℕ → List ℕ → BoardPass D F C → Type 0
-  ObeysLine telling old line number said new = HearsOrder (order_heard telling line) number old said new
+  abbrev pub ObeysLine : BoardPass D F C → List ℕ → ℕ → List ℕ → BoardPass D F C → Type 0
+  ObeysLine old line number said new = HearsOrder (order_heard line) number old said new

@@ -1,13 +1,15 @@
 -- What a service leaves of a world.
-use Rattle.std.specs.Prelude.{◌≡◌, ℕ, ◌+◌, List, [], ◌∷◌, length, map, ⊤, Option, Some, None, IfSome}
+use Rattle.std.specs.Prelude.{◌≡◌, ℕ, ◌+◌, Bool, true, List, [], ◌∷◌, length, map, ⊤, Option, Some, None, IfSome}
+use Rattle.std.specs.List.{list_all}
 use Rattle.io_edge.specs.declared.yard.Protocol.{Protocol}
-use Rattle.mail_model.specs.Book.{BookEntry}
 use Rattle.mail_model.specs.Plan.{Plan}
 use Rattle.turnstile.specs.Shares.{AreShares}
 use Rattle.node_store.specs.Disks.{View}
-use Rattle.cluster_world.specs.Worlds.{plan_of, book_of}
+use Rattle.cluster_world.specs.Worlds.{plan_of, book_of, CanMakeSteps}
 use Rattle.cluster_world.specs.declared.world.World.{World}
+use Rattle.shard_board.specs.Pages.{all_on, are_known}
 use Rattle.shard_board.specs.Worlds.{IsSoundWorld}
+use Rattle.shard_board.specs.declared.page.Page.{Page}
 use Rattle.yard_stores.specs.Taken.{with_all}
 use Rattle.mail_service.specs.Entrances.{marked}
 use Rattle.mail_service.specs.Services.{AreServed}
@@ -17,17 +19,28 @@ use Rattle.mail_service.specs.declared.doors.DoorEnd.TheVariants.{Quiet, Failed,
 use Rattle.mail_service.specs.declared.doors.Entrance.{Entrance}
 use Rattle.mail_service.specs.declared.service.ServiceEnd.{ServiceEnd}
 use Rattle.mail_service.specs.declared.service.ServiceEnd.TheVariants as ends
+use Rattle.board_service.specs.Disks.{EachTells}
 use Rattle.board_service.specs.Visits.{AllEarned}
 
--- The world has its plan, and is sound. Its book is shared out among what it had before and lists of entries: each entry is one's alone. So many connections were served; where the
--- disks tell what they hold, the lists are what they came to know.
+-- whether each of these pages is known
+abbrev pub pages_known : {D : Type 0} → (D → Option (List ℕ)) → List (List (Page D)) → Bool
+pages_known seen lists = list_all (λ pages. are_known seen pages) lists
+
+-- The world has its plan, and can make steps. There are pages for what the turns of each pass did; where each of them is known, the world is sound. Its book is shared out among what
+-- it had before and what the pages have, pass by pass: each entry is one's alone. So many connections were served; where the disks tell what they hold, what the pages have is what
+-- they came to know.
 pub record HasServed {D : Type 0} (on : View D) (plan : Plan) (old new : World D) : Type 0 where
   pub plan_is : plan_of new ≡ plan_of old
-  pub sound : IsSoundWorld on new
-  pub lists : List (List BookEntry)
-  pub shares : AreShares (book_of old) lists (book_of new)
+  pub ready : CanMakeSteps on.seen new
+  pub pages : List (List (Page D))
+  pub sound : pages_known on.seen pages ≡ true → IsSoundWorld on new
+  pub shares : AreShares (book_of old) (map all_on pages) (book_of new)
   pub count : ℕ
-  pub earned : AllEarned on.seen plan lists count
+  pub earned : AllEarned on.seen plan (map all_on pages) count
+
+-- Where each disk tells what it holds, a world that was served is sound.
+abbrev pub ServedIsSound : {D : Type 0} → View D → Type 0
+ServedIsSound {D} on = EachTells on.seen → (plan : Plan) (old new : World D) → HasServed on plan old new → IsSoundWorld on new
 
 -- it was served over, where a console was listened to; else it is as it was
 abbrev pub LeavesWorld : {D : Type 0} → View D → Plan → Option ConsoleEnd → World D → World D → Type 0

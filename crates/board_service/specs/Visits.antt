@@ -11,7 +11,7 @@ use Rattle.call_tickets.specs.declared.tally.Tally.{Tally}
 use Rattle.session_gate.specs.Connections.{ServesSmtp, ServesPop}
 use Rattle.session_gate.specs.declared.stop.Served.{Served}
 use Rattle.mail_service.specs.declared.backend.Line.{Line}
-use Rattle.board_service.specs.Tellings.{EachTells}
+use Rattle.board_service.specs.Disks.{EachTells}
 
 -- A connection of this number was served at this node, as its protocol is spoken.
 abbrev pub ServedBy : Protocol → Plan → (node number : ℕ) → Served → (left0 left1 held0 held1 : Option (List ℕ)) → PassKnows → PassKnows → Type 0

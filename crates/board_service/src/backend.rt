@@ -3,7 +3,6 @@ use crate::client::serve_client;
 use crate::courier::carry_one;
 use crate::obey::obey_line;
 use crate::pass::ServicePass;
-use crate::telling::Telling;
 use io_edge::{Clock, Disk, Fate, Gate, Sink, Source};
 use mail_base::Plan;
 use mail_service::{Backend, Line};
@@ -21,8 +20,6 @@ pub(crate) struct BoardBackend<'a, R, D: Disk, F, C, G> {
     pub(crate) gate: &'a G,
     // who looks names up
     pub(crate) plan: &'a Plan,
-    // whether the disks tell what they hold
-    pub(crate) telling: Telling,
     // how many pushes were begun
     pub(crate) pushes: &'a AtomicU64,
 }
@@ -44,7 +41,7 @@ impl<
 
     type Pass = ServicePass<D, F, C>;
 
-    ghost belongs = { λ backend pass. IsServicePass (view_of D.seen D.faults D.clock) backend.board.now backend.telling backend.plan.now pass };
+    ghost belongs = { λ backend pass. IsServicePass (view_of D.seen D.faults D.clock) backend.board.now backend.plan.now pass };
 
     ghost quota = { λ pass. quota_of pass.board };
 
@@ -52,7 +49,7 @@ impl<
 
     ghost carries = { λ backend old did new. Carries (view_of D.seen D.faults D.clock) backend.board.now F.decides old.board did new.board };
 
-    ghost obeys = { λ backend old line number said new. ObeysLine (view_of D.seen D.faults D.clock) backend.board.now backend.telling old.board line number said new.board };
+    ghost obeys = { λ backend old line number said new. ObeysLine (view_of D.seen D.faults D.clock) backend.board.now old.board line number said new.board };
 
     fn split(&self, pass: &mut ServicePass<D, F, C>, part: u32) -> ServicePass<D, F, C> {
         let board = self.board.split(&mut pass.board, part);
@@ -93,7 +90,6 @@ impl<
             self.rt,
             alloc,
             self.board,
-            self.telling,
             &mut pass.board,
             plan.nodes,
             self.pushes,
@@ -112,7 +108,6 @@ impl<
             self.rt,
             alloc,
             self.board,
-            self.telling,
             &mut pass.board,
             line,
             number,

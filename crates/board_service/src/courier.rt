@@ -1,13 +1,11 @@
 //! Who carries letters at a board, and has nodes send what they owe.
-ghost use Rattle.std.specs.Prelude.{◌≡◌, true, is_some};
+ghost use Rattle.std.specs.Prelude.{◌≡◌};
 ghost use Rattle.node_store.specs.Disks.{view_of};
 ghost use Rattle.shard_board.specs.Boards.{IsPassOf, IsTurnOf};
 ghost use Rattle.shard_board.specs.Posts.{PostsOne};
-ghost use Rattle.board_service.specs.Tellings.{TellsIf};
 ghost use Rattle.board_service.specs.Passes.{GoesStill};
 ghost use Rattle.board_service.specs.Carrying.{has_posted, HasPushed, MayPush, PushesAfter, Carries};
 
-use crate::telling::Telling;
 use call_tickets::{DeskFault, Posted};
 use io_edge::{Clock, Disk, Fate};
 use mail_base::NodeNo;
@@ -51,7 +49,6 @@ fn push<R: Wait, D: Disk, F, C>(
     to: NodeNo,
 )
     requires pass { IsPassOf (view_of D.seen D.faults D.clock) board.now pass.old }
-    requires tells { (disk : D) → is_some (D.seen disk) ≡ true }
     ensures goes { GoesStill (view_of D.seen D.faults D.clock) board.now pass.old pass.new }
     ensures pushed { HasPushed (view_of D.seen D.faults D.clock) board.now pass.old pass.new }
 {
@@ -88,7 +85,6 @@ fn push_at<R: Wait, D: Disk, F, C>(
     place: u64,
 )
     requires pass { IsPassOf (view_of D.seen D.faults D.clock) board.now pass.old }
-    requires tells { (disk : D) → is_some (D.seen disk) ≡ true }
     ensures goes { GoesStill (view_of D.seen D.faults D.clock) board.now pass.old pass.new }
     ensures push { MayPush (view_of D.seen D.faults D.clock) board.now pass.old pass.new }
 {
@@ -98,28 +94,21 @@ fn push_at<R: Wait, D: Disk, F, C>(
     }
 }
 
-// The next pair in the round has its push. Over disks that do not tell what they hold nothing is pushed, since a push reads one.
+// The next pair in the round has its push.
 fn push_next<R: Wait, D: Disk, F, C>(
     rt: &R,
     alloc: Global,
     board: &Board<D, F, C>,
-    telling: Telling,
     pass: &mut BoardPass<D, F, C>,
     nodes: u8,
     pushes: &AtomicU64,
 )
     requires pass { IsPassOf (view_of D.seen D.faults D.clock) board.now pass.old }
-    requires tells { TellsIf D.seen telling }
     ensures goes { GoesStill (view_of D.seen D.faults D.clock) board.now pass.old pass.new }
     ensures push { MayPush (view_of D.seen D.faults D.clock) board.now pass.old pass.new }
 {
-    match telling {
-        Telling::Told => {
-            let place = pushes.fetch_add(1, Ordering::SeqCst);
-            push_at(rt, alloc, board, pass, nodes, place)
-        }
-        Telling::Untold => {}
-    }
+    let place = pushes.fetch_add(1, Ordering::SeqCst);
+    push_at(rt, alloc, board, pass, nodes, place)
 }
 
 // The same, but where a letter was looked at.
@@ -127,42 +116,38 @@ fn push_after<R: Wait, D: Disk, F, C>(
     rt: &R,
     alloc: Global,
     board: &Board<D, F, C>,
-    telling: Telling,
     pass: &mut BoardPass<D, F, C>,
     nodes: u8,
     pushes: &AtomicU64,
     did: bool,
 )
     requires pass { IsPassOf (view_of D.seen D.faults D.clock) board.now pass.old }
-    requires tells { TellsIf D.seen telling }
     ensures goes { GoesStill (view_of D.seen D.faults D.clock) board.now pass.old pass.new }
     ensures push { PushesAfter (view_of D.seen D.faults D.clock) board.now did pass.old pass.new }
 {
     match did {
         true => {}
-        false => push_next(rt, alloc, board, telling, pass, nodes, pushes),
+        false => push_next(rt, alloc, board, pass, nodes, pushes),
     }
 }
 
-/// Does what fate decides of the letter of the lowest number in flight. Where there is none, and the disks tell what they hold,
-/// the next of all pairs of nodes has its push, which is no reason to go on: a node that stays down would be sent the same again
-/// and again. Answers whether a letter was looked at.
+/// Does what fate decides of the letter of the lowest number in flight. Where there is none, the next of all pairs of nodes has its
+/// push, which is no reason to go on: a node that stays down would be sent the same again and again. Answers whether a letter was
+/// looked at.
 pub(crate) fn carry_one<R: Wait, D: Disk, F: Fate, C: Clock>(
     rt: &R,
     alloc: Global,
     board: &Board<D, F, C>,
-    telling: Telling,
     pass: &mut BoardPass<D, F, C>,
     nodes: u8,
     pushes: &AtomicU64,
 ) -> bool
     requires pass { IsPassOf (view_of D.seen D.faults D.clock) board.now pass.old }
-    requires tells { TellsIf D.seen telling }
     ensures goes { GoesStill (view_of D.seen D.faults D.clock) board.now pass.old pass.new }
     ensures carries { Carries (view_of D.seen D.faults D.clock) board.now F.decides pass.old result pass.new }
 {
     let posted = post(rt, alloc, board, pass);
     let did = has_posted(&posted);
-    push_after(rt, alloc, board, telling, pass, nodes, pushes, did);
+    push_after(rt, alloc, board, pass, nodes, pushes, did);
     did
 }

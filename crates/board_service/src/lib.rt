@@ -4,22 +4,22 @@
 //!
 //! `serve_board` takes a world, its plan, the ports, a yard, and the console's source and sink. It opens the doors, puts the
 //! world behind a board, serves connections, letters and the console side by side until the console has ended, and gives the
-//! world back. `Telling` says whether the disks tell what they hold.
+//! world back.
 //!
 //! DESCRIPTION
 //!
 //! - `backend`: a board as the `Backend` of `mail_service`. Threads share it, each with a pass of the board.
 //! - `client`: a connection is one call of `serve_smtp` or `serve_pop`, over the board as a desk, in the name of its thread's
 //!   pass.
-//! - `courier`: one letter is posted as fate decides, after the clock was set. Where none is in flight, and the disks tell what
-//!   they hold, one node sends to another what it owes: the next of all pairs, in a round. That is no reason to go on, so a
-//!   service ends though a node stays down. What such a push put in flight just before the end stays there.
+//! - `courier`: one letter is posted as fate decides, after the clock was set. Where none is in flight, one node sends to another
+//!   what it owes: the next of all pairs, in a round. That is no reason to go on, so a service ends though a node stays down. What
+//!   such a push put in flight just before the end stays there.
 //! - `orders`, `answers`, `obey`: a line of the console is one turn of the board.
 //!
 //! | Line | Does | Answer |
 //! |---|---|---|
 //! | `crash n` | a node stops | `*0 node n down` |
-//! | `start n` | a node that is down starts; over disks that do not tell what they hold this is no line | `*0 node n up b`, or `*0 fault n` where its disk failed |
+//! | `start n` | a node that is down starts | `*0 node n up b`, or `*0 fault n` where its disk failed |
 //! | `lose n` | a node loses its disk for good | `*0 node n lost` |
 //! | `sum` | the entries of the book are counted | `*0 sum acked a struck s dropped d lost l` |
 //!
@@ -29,11 +29,14 @@
 //!
 //! PROMISES
 //!
-//! `specs/Served.antt` says what the world is that comes back: it is sound, and its book is shared out among what it had before
-//! and lists of entries, one for each pass. Each connection is said by `ServesSmtp` or `ServesPop` of `session_gate`
-//! (`specs/Visits.antt`). Where the disks tell what they hold, what acknowledges or strikes in such a list came of connections,
-//! one after another. So each message that a client was told is stored stands in the book, with exactly what was told: that is
-//! the law `told_is_booked` (`specs/Booked.antt`).
+//! `specs/Served.antt` says what the world is that comes back: it has its plan and can make steps, and its book is shared out among
+//! what it had before and what the pages of each pass have. As long as each of these pages is known, the world is sound. A start,
+//! and a push among several nodes, have a page that is known only where the disks tell what they hold; all others are known. So
+//! over disks of which each tells, a world that was served is sound: that is the law `served_is_sound`.
+//!
+//! Each connection is said by `ServesSmtp` or `ServesPop` of `session_gate` (`specs/Visits.antt`). Where the disks tell what they
+//! hold, what acknowledges or strikes in the list of a pass came of connections, one after another. So each message that a client
+//! was told is stored stands in the book, with exactly what was told: that is the law `told_is_booked` (`specs/Booked.antt`).
 //!
 //! Connections that were handed on and those that were served are counted. Where each door is said to have been quiet, as many
 //! were served as the doors told that they had (`CountsServed`).
@@ -50,9 +53,9 @@
 //!
 //! WHAT IT DOES NOT DO
 //!
-//! How long a connection waits is not said, nor which of those that were handed on a thread serves. It takes no
-//! stores from the yard and gives none back: whoever has the world does. Over disks that do not tell what they hold nothing is
-//! pushed, so that a node that was down is not brought up to date.
+//! How long a connection waits is not said, nor which of those that were handed on a thread serves. It takes no stores from the
+//! yard and gives none back: whoever has the world does. A push is made whether anything is owed or not, so over disks that tell
+//! nothing a service of several nodes has pages that are not known as soon as no letter is in flight.
 #![tactic(auto)]
 
 mod answers;
@@ -64,8 +67,6 @@ mod obey;
 mod orders;
 mod pass;
 mod serve;
-mod telling;
 
-pub use laws::told_is_booked;
+pub use laws::{served_is_sound, told_is_booked};
 pub use serve::serve_board;
-pub use telling::Telling;

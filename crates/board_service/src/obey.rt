@@ -1,15 +1,13 @@
 //! A line of the console, at a board.
-ghost use Rattle.std.specs.Prelude.{◌≡◌, ◌++◌, List, ℕ, IfSome, OnOk};
+ghost use Rattle.std.specs.Prelude.{◌≡◌, ◌++◌, List, ℕ, OnOk};
 ghost use Rattle.node_store.specs.Disks.{view_of};
 ghost use Rattle.shard_board.specs.Boards.{IsPassOf};
-ghost use Rattle.board_service.specs.Tellings.{TellsIf};
-ghost use Rattle.board_service.specs.ConsoleLines.{IsKnownWhere, board_order};
+ghost use Rattle.board_service.specs.ConsoleLines.{board_order};
 ghost use Rattle.board_service.specs.Obeying.{IsOrdered, OrdersBy, HearsOrder, ObeysLine};
 ghost use Rattle.board_service.specs.Passes.{GoesStill};
 
 use crate::answers::{say_answer, say_refused};
 use crate::orders::{ConsoleOrder, board_order, order_heard};
-use crate::telling::Telling;
 use io_edge::Disk;
 use shard_board::{Board, BoardPass, Order};
 use std::alloc::{AllocError, Global};
@@ -20,7 +18,6 @@ fn do_order<R: Wait, D: Disk, F, C>(
     rt: &R,
     alloc: Global,
     board: &Board<D, F, C>,
-    telling: Telling,
     pass: &mut BoardPass<D, F, C>,
     number: u64,
     order: ConsoleOrder,
@@ -28,13 +25,9 @@ fn do_order<R: Wait, D: Disk, F, C>(
     out: &mut Vec<u8>,
 ) -> Result<(), AllocError>
     requires pass { IsPassOf (view_of D.seen D.faults D.clock) board.now pass.old }
-    requires tells { TellsIf D.seen telling }
-    requires known { IsKnownWhere telling order }
-    requires is { Some ordered ≡ board_order order }
     ensures goes { GoesStill (view_of D.seen D.faults D.clock) board.now pass.old pass.new }
     ensures ordered { OnOk result ((said : List ℕ) × (out.new.items ≡ out.old.items ++ said) × IsOrdered (view_of D.seen D.faults D.clock) board.now order number ordered pass.old said pass.new) }
 {
-    let _ = telling;
     let came = board.console(rt, alloc, pass, ordered);
     say_answer(alloc, number, order, &came, out)
 }
@@ -44,7 +37,6 @@ fn obey_order<R: Wait, D: Disk, F, C>(
     rt: &R,
     alloc: Global,
     board: &Board<D, F, C>,
-    telling: Telling,
     pass: &mut BoardPass<D, F, C>,
     number: u64,
     order: ConsoleOrder,
@@ -52,14 +44,11 @@ fn obey_order<R: Wait, D: Disk, F, C>(
     out: &mut Vec<u8>,
 ) -> Result<(), AllocError>
     requires pass { IsPassOf (view_of D.seen D.faults D.clock) board.now pass.old }
-    requires tells { TellsIf D.seen telling }
-    requires known { IsKnownWhere telling order }
-    requires is { ordered ≡ board_order order }
     ensures goes { GoesStill (view_of D.seen D.faults D.clock) board.now pass.old pass.new }
     ensures orders { OnOk result ((said : List ℕ) × (out.new.items ≡ out.old.items ++ said) × OrdersBy (view_of D.seen D.faults D.clock) board.now order number ordered pass.old said pass.new) }
 {
     match ordered {
-        Some(ordered) => do_order(rt, alloc, board, telling, pass, number, order, ordered, out),
+        Some(ordered) => do_order(rt, alloc, board, pass, number, order, ordered, out),
         None => say_refused(alloc, number, b"NoSuchNode", out),
     }
 }
@@ -69,22 +58,19 @@ fn obey_heard<R: Wait, D: Disk, F, C>(
     rt: &R,
     alloc: Global,
     board: &Board<D, F, C>,
-    telling: Telling,
     pass: &mut BoardPass<D, F, C>,
     number: u64,
     heard: Option<ConsoleOrder>,
     out: &mut Vec<u8>,
 ) -> Result<(), AllocError>
     requires pass { IsPassOf (view_of D.seen D.faults D.clock) board.now pass.old }
-    requires tells { TellsIf D.seen telling }
-    requires known { IfSome heard (IsKnownWhere telling) }
     ensures goes { GoesStill (view_of D.seen D.faults D.clock) board.now pass.old pass.new }
     ensures hears { OnOk result ((said : List ℕ) × (out.new.items ≡ out.old.items ++ said) × HearsOrder (view_of D.seen D.faults D.clock) board.now heard number pass.old said pass.new) }
 {
     match heard {
         Some(order) => {
             let ordered = board_order(order);
-            obey_order(rt, alloc, board, telling, pass, number, order, ordered, out)
+            obey_order(rt, alloc, board, pass, number, order, ordered, out)
         }
         None => say_refused(alloc, number, b"BadLine", out),
     }
@@ -99,17 +85,15 @@ pub(crate) fn obey_line<R: Wait, D: Disk, F, C>(
     rt: &R,
     alloc: Global,
     board: &Board<D, F, C>,
-    telling: Telling,
     pass: &mut BoardPass<D, F, C>,
     line: &[u8],
     number: u64,
     out: &mut Vec<u8>,
 ) -> Result<(), AllocError>
     requires pass { IsPassOf (view_of D.seen D.faults D.clock) board.now pass.old }
-    requires tells { TellsIf D.seen telling }
     ensures goes { GoesStill (view_of D.seen D.faults D.clock) board.now pass.old pass.new }
-    ensures obeys { OnOk result ((said : List ℕ) × (out.new.items ≡ out.old.items ++ said) × ObeysLine (view_of D.seen D.faults D.clock) board.now telling pass.old line.now number said pass.new) }
+    ensures obeys { OnOk result ((said : List ℕ) × (out.new.items ≡ out.old.items ++ said) × ObeysLine (view_of D.seen D.faults D.clock) board.now pass.old line.now number said pass.new) }
 {
-    let heard = order_heard(telling, line);
-    obey_heard(rt, alloc, board, telling, pass, number, heard, out)
+    let heard = order_heard(line);
+    obey_heard(rt, alloc, board, pass, number, heard, out)
 }

@@ -1,10 +1,9 @@
 //! What the lines of the console order.
-ghost use Rattle.std.specs.Prelude.{◌≡◌, codes, option_and_then, IfSome};
+ghost use Rattle.std.specs.Prelude.{◌≡◌, codes, option_and_then};
 ghost use Rattle.mail_model.specs.Tape.{strip};
-ghost use Rattle.board_service.specs.ConsoleLines.{numbered, sum_line, order_in, known_where, IsKnownWhere, order_heard, node_of, board_order};
+ghost use Rattle.board_service.specs.ConsoleLines.{numbered, sum_line, order_in, order_heard, node_of, board_order};
 ghost use Rattle.board_service.specs.declared.orders.ConsoleOrder.TheVariants.{Crash, Start, Lose};
 
-use crate::telling::Telling;
 use line_words::number;
 use mail_base::NodeNo;
 use shard_board::Order;
@@ -71,29 +70,11 @@ fn order_in(line: &[u8]) -> Option<ConsoleOrder>
     sums(line)
 }
 
-// The order, where it is known. A start reads a disk, so it is known only where the disks tell what they hold.
-fn known_where(telling: Telling, order: ConsoleOrder) -> Option<ConsoleOrder>
-    ensures is { result ≡ known_where telling order }
-    ensures known { IfSome result (IsKnownWhere telling) }
-{
-    match telling {
-        Telling::Told => Some(order),
-        Telling::Untold => match order {
-            ConsoleOrder::Crash(node) => Some(ConsoleOrder::Crash(node)),
-            ConsoleOrder::Start(_) => None,
-            ConsoleOrder::Lose(node) => Some(ConsoleOrder::Lose(node)),
-            ConsoleOrder::Sum => Some(ConsoleOrder::Sum),
-        },
-    }
-}
-
 /// What the line orders, given without its LF; nothing where it is not known. A CR at its end is dropped.
-pub(crate) fn order_heard(telling: Telling, raw: &[u8]) -> Option<ConsoleOrder>
-    ensures is { result ≡ order_heard telling raw.now }
-    ensures known { IfSome result (IsKnownWhere telling) }
+pub(crate) fn order_heard(raw: &[u8]) -> Option<ConsoleOrder>
+    ensures { result ≡ order_heard raw.now }
 {
-    let order = order_in(without_cr(raw))?;
-    known_where(telling, order)
+    order_in(without_cr(raw))
 }
 
 // The node of this number. No plan has others.

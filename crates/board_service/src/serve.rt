@@ -8,14 +8,12 @@ ghost use Rattle.mail_service.specs.Consoles.{IsReadFault, IsWriteFault, HasList
 ghost use Rattle.mail_service.specs.Services.{AreServed, HasRun, console_end};
 ghost use Rattle.mail_service.specs.declared.console.ConsoleEnd.TheVariants as ends;
 ghost use Rattle.mail_service.specs.declared.service.ServiceEnd.TheVariants as service_ends;
-ghost use Rattle.board_service.specs.Tellings.{TellsIf};
 ghost use Rattle.board_service.specs.Passes.{IsServicePass};
 ghost use Rattle.board_service.specs.Served.{ServesOver, LeavesWorld, CountsServed};
 ghost use Rattle.board_service.specs.Counting.{IsSettledAs};
 
 use crate::backend::BoardBackend;
 use crate::pass::ServicePass;
-use crate::telling::Telling;
 use cluster_world::World;
 use crossbeam_channel::{Receiver, Sender};
 use io_edge::{Clock, Disk, Door, Fate, Gate, Sink, Source, Yard};
@@ -47,7 +45,6 @@ fn serve_by<
     rt: &R,
     alloc: Global,
     workers: u16,
-    telling: Telling,
     plan: &Plan,
     gate: &G,
     pushes: &AtomicU64,
@@ -60,9 +57,9 @@ fn serve_by<
     source: &mut S,
     sink: &mut K,
 ) -> (DoorEnd, ConsoleEnd, ServicePass<D, F, C>, u128)
-    requires belongs { IsServicePass (view_of D.seen D.faults D.clock) board.now telling plan.now pass }
+    requires belongs { IsServicePass (view_of D.seen D.faults D.clock) board.now plan.now pass }
     requires enough { workers + 4 ≤ quota_of pass.board }
-    ensures belongs { IsServicePass (view_of D.seen D.faults D.clock) board.now telling plan.now result.2 }
+    ensures belongs { IsServicePass (view_of D.seen D.faults D.clock) board.now plan.now result.2 }
     ensures quota { quota_of (result.2).board ≡ quota_of pass.board }
     ensures served { AreServed Y.Door.left Y.Door.quiets Y.Door.faults result.0 result.3 entrances.items (Y.closed yard.old) (Y.closed yard.new) }
     ensures opened { Y.opened yard.new ≡ Y.opened yard.old }
@@ -82,7 +79,6 @@ fn serve_by<
         board,
         gate,
         plan,
-        telling,
         pushes,
     };
     serve_open(
@@ -122,7 +118,6 @@ fn serve_over<
     rt: &R,
     alloc: Global,
     workers: u16,
-    telling: Telling,
     plan: &Plan,
     gate: &G,
     board: Board<D, F, C>,
@@ -134,7 +129,7 @@ fn serve_over<
     source: &mut S,
     sink: &mut K,
 ) -> (DoorEnd, ConsoleEnd, World<D>)
-    requires belongs { IsServicePass (view_of D.seen D.faults D.clock) board telling plan.now pass }
+    requires belongs { IsServicePass (view_of D.seen D.faults D.clock) board plan.now pass }
     requires whole { quota_of pass.board ≡ passes_of board }
     requires enough { workers + 4 ≤ quota_of pass.board }
     ensures served { ServesOver Y.Door.left Y.Door.quiets Y.Door.faults (view_of D.seen D.faults D.clock) plan.now result.0 entrances.items (Y.closed yard.old) (Y.closed yard.new)
@@ -153,8 +148,8 @@ fn serve_over<
 {
     let pushes = AtomicU64::new(0);
     let (doors, console, pass, taken) = serve_by(
-        rt, alloc, workers, telling, plan, gate, &pushes, &board, pass, entrances, conns, waiting,
-        yard, source, sink,
+        rt, alloc, workers, plan, gate, &pushes, &board, pass, entrances, conns, waiting, yard,
+        source, sink,
     );
     let ServicePass {
         board: last,
@@ -205,20 +200,20 @@ fn make_board<Y: Yard>(
 /// served side by side, from beginning to end, as `run_service` of `mail_service` does. So many threads serve connections. The
 /// fate of letters, the clock and the gate are made by the yard. May wait.
 ///
-/// Sessions look names up in `plan`, which is to be the plan of the world, once more. `telling` says whether the disks tell what
-/// they hold: only where they do may a node be started, and is what is owed pushed.
+/// Sessions look names up in `plan`, which is to be the plan of the world, once more.
 ///
 /// Each connection that was handed on was served: where a number of them is missing, the doors are said to have ended for want of
 /// memory.
 ///
 /// The world comes back in any case. It is as it was where nobody was served: where a door could not be opened, and where there
-/// was no memory for the doors or the board. Else its book has, beside what it had, what connections came to know, each entry
-/// once; and each message that a connection was told is stored is among them.
+/// was no memory for the doors or the board. Else it can make steps still, and it is sound as long as each page of what was done to
+/// it is known: over disks that tell what they hold, each is. Its book has, beside what it had, what was added in the name of each
+/// thread, each entry once. Over disks that tell what they hold that is what connections came to know, and each message that one of
+/// them was told is stored is there.
 pub fn serve_board<R: Threads + Wait + Time + Sync, Y: Yard, S: Source, K: Sink>(
     rt: &R,
     alloc: Global,
     workers: u16,
-    telling: Telling,
     plan: &Plan,
     ports: &[Port],
     world: World<Y::Store>,
@@ -227,7 +222,6 @@ pub fn serve_board<R: Threads + Wait + Time + Sync, Y: Yard, S: Source, K: Sink>
     sink: &mut K,
 ) -> (ServiceEnd, World<Y::Store>)
     requires sound { IsSoundWorld (view_of Y.Store.seen Y.Store.faults Y.Store.clock) world }
-    requires telling { TellsIf Y.Store.seen telling }
     ensures world { LeavesWorld (view_of Y.Store.seen Y.Store.faults Y.Store.clock) plan.now (console_end result.0) world result.1 }
     ensures ran { HasRun Y.Door.left Y.Door.quiets Y.Door.faults ports.now result.0 (Y.opened yard.old) (Y.opened yard.new) (Y.closed yard.old) (Y.closed yard.new) }
     ensures counted { CountsServed Y.Door.left (view_of Y.Store.seen Y.Store.faults Y.Store.clock) plan.now result.0 world result.1 (Y.opened yard.old) (Y.opened yard.new) }
@@ -251,8 +245,8 @@ pub fn serve_board<R: Threads + Wait + Time + Sync, Y: Yard, S: Source, K: Sink>
     match make_board(alloc, world, u32::from(workers) + 4, yard) {
         Ok((board, pass, gate)) => {
             let (doors, console, world) = serve_over(
-                rt, alloc, workers, telling, plan, &gate, board, pass, entrances, conns, &waiting,
-                yard, source, sink,
+                rt, alloc, workers, plan, &gate, board, pass, entrances, conns, &waiting, yard,
+                source, sink,
             );
             (ServiceEnd::Served { console, doors }, world)
         }

@@ -29,7 +29,7 @@ use Rattle.cluster_world.specs.Opens.{Opened, OpenFails, Refused}
 use Rattle.cluster_world.specs.Worlds.{disks_of}
 use Rattle.cluster_world.specs.declared.fault.OpenFault.{OpenFault}
 use Rattle.cluster_world.specs.declared.world.World.{World}
-use Rattle.board_service.specs.Served.{LeavesWorld}
+use Rattle.board_service.specs.Served.{LeavesWorld, CountsServed}
 use Rattle.serve_word.specs.Endings.{ending_of, ending_unopened, status_of, line_of, Finishes}
 use Rattle.serve_word.specs.Plans.{IsPlanFile, IsUnread, ports_of}
 use Rattle.serve_word.specs.Stores.{store_line, AreStores, NodeStoreFailed}
@@ -219,16 +219,17 @@ completes status told left0 left1 held0 held1 octets input failed unseen read wr
 -- the cluster was opened over its stores, and served
 pub ran : {D G X : Type 0} (on : View D) (is_settled : D → Type 0) (left : G → Option (List X)) (quiets faults : G → ℕ) (out : Outside D G) (plan names : Plan) (ports : List Port) (file : ServePlan) (ending : ServeEnd) (disks given : List D)
     (answer : ServiceEnd) (start last : World D) → plan ≡ file.plan → names ≡ file.plan → ports ≡ ports_of file → ending ≡ ending_of answer → Opened on is_settled plan disks start
-    → LeavesWorld on names (console_end answer) start last → given ≡ disks_of last → HasRun left quiets faults ports answer out.opened0 out.opened1 out.closed0 out.closed1
+    → LeavesWorld on names (console_end answer) start last → CountsServed left on names answer start last out.opened0 out.opened1 → given ≡ disks_of last → HasRun left quiets faults ports answer out.opened0 out.opened1 out.closed0 out.closed1
     → IfSome (console_end answer) (λ console. HasListened out.left0 out.left1 console) → (console_end answer ≡ None → (out.left1 ≡ out.left0) × (out.held1 ≡ out.held0))
     → ServesStores on is_settled left quiets faults file out ending disks given
-ran on is_settled left quiets faults out plan names ports file ending disks given answer start last plan_is names_are ports_are is opened leaves closed run heard unserved = inr (record {
+ran on is_settled left quiets faults out plan names ports file ending disks given answer start last plan_is names_are ports_are is opened leaves counted closed run heard unserved = inr (record {
   end = answer;
   is = is;
   start = start;
   last = last;
   opened = subst (λ (p : Plan). Opened on is_settled p disks start) plan_is opened;
   leaves = subst (λ (p : Plan). LeavesWorld on p (console_end answer) start last) names_are leaves;
+  counted = subst (λ (p : Plan). CountsServed left on p answer start last out.opened0 out.opened1) names_are counted;
   stores = closed;
   doors = subst (λ (p : List Port). HasRun left quiets faults p answer out.opened0 out.opened1 out.closed0 out.closed1) ports_are run;
   listened = heard;
@@ -266,6 +267,7 @@ module _ {D G X : Type 0} (on : View D) (is_settled : D → Type 0) (left : G �
         last = run.last;
         opened = run.opened;
         leaves = run.leaves;
+        counted = run.counted;
         stores = run.stores;
         doors = run.doors;
         listened = run.listened;

@@ -10,7 +10,7 @@ use Rattle.yard_stores.specs.Taken.{AllLooked}
 use Rattle.mail_service.specs.Consoles.{HasListened}
 use Rattle.mail_service.specs.Services.{HasRun, console_end}
 use Rattle.mail_service.specs.declared.service.ServiceEnd.{ServiceEnd}
-use Rattle.board_service.specs.Served.{LeavesWorld}
+use Rattle.board_service.specs.Served.{LeavesWorld, CountsServed}
 use Rattle.serve_word.specs.declared.plan_parts.PlanFault.{PlanFault}
 use Rattle.serve_word.specs.declared.ending.ServeEnd.{ServeEnd}
 use Rattle.serve_word.specs.declared.ending.ServeEnd.TheVariants.{Done, Broken, Early, Unread, ReadFault, WriteFault, Store, NoMemory, Doors}
@@ -96,7 +96,8 @@ pub record NotOpened {D G : Type 0} (on : View D) (out : Outside D G) (ending : 
   pub handed : AreHandedOn on.seen disks given
 
 module _ {D G X : Type 0} (on : View D) (is_settled : D → Type 0) (left : G → Option (List X)) (quiets faults : G → ℕ) where
-  -- The cluster was opened over its stores and served: what became of its world, of its doors and of the console. The stores that were given back are those of the world.
+  -- The cluster was opened over its stores and served: what became of its world, of its doors and of the console. Where each door was quiet, as many connections were served as the doors
+  -- had. The stores that were given back are those of the world.
   pub record Ran (plan : ServePlan) (out : Outside D G) (ending : ServeEnd) (disks given : List D) : Type 0 where
     pub end : ServiceEnd
     pub is : ending ≡ ending_of end
@@ -104,6 +105,7 @@ module _ {D G X : Type 0} (on : View D) (is_settled : D → Type 0) (left : G �
     pub last : World D
     pub opened : Opened on is_settled plan.plan disks start
     pub leaves : LeavesWorld on plan.plan (console_end end) start last
+    pub counted : CountsServed left on plan.plan end start last out.opened0 out.opened1
     pub stores : given ≡ disks_of last
     pub doors : HasRun left quiets faults (ports_of plan) end out.opened0 out.opened1 out.closed0 out.closed1
     pub listened : IfSome (console_end end) (λ console. HasListened out.left0 out.left1 console)

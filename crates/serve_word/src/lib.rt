@@ -36,8 +36,7 @@
 //! WHAT IT DOES NOT DO
 //!
 //! It writes nothing to standard error: which doors and stores were opened is told by the yard. A store that holds something is
-//! refused, so nothing is served over the stores of an earlier run. What a disk holds is not asked, so no node is started again
-//! and nothing that is owed is pushed.
+//! refused, so nothing is served over the stores of an earlier run.
 #![tactic(auto)]
 
 mod ending;

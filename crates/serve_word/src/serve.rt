@@ -16,7 +16,7 @@ ghost use Rattle.serve_word.specs.declared.ending.ServeEnd.TheVariants as ends;
 
 use crate::ending::{ServeEnd, finish};
 use crate::plan_parts::{PlanParts, read_parts};
-use board_service::{Telling, serve_board};
+use board_service::serve_board;
 use cluster_world::World;
 use io_edge::{Sink, Source, Yard};
 use mail_base::Plan;
@@ -71,16 +71,7 @@ fn serve_stores<R: Threads + Wait + Clock + Sync, S: Source, K: Sink, Y: Yard>(
         Err((fault, disks)) => (ServeEnd::unopened(&fault), disks),
         Ok(world) => {
             let (end, world) = serve_board(
-                rt,
-                alloc,
-                WORKERS,
-                Telling::Untold,
-                names,
-                ports,
-                world,
-                yard,
-                source,
-                sink,
+                rt, alloc, WORKERS, names, ports, world, yard, source, sink,
             );
             (ServeEnd::of(end), world.close())
         }

@@ -1,6 +1,4 @@
 use Rattle.node_store.specs.Disks.{view_of}
-use Rattle.shard_board.specs.Boards.{plan_of_board}
-use Rattle.board_service.proofs.Ordered.{order_known}
 use Rattle.board_service.proofs.Turned.{order_goes}
 use Rattle.board_service.proofs.Said.{ordered_so}
 use Rattle.board_service.proofs.obey.do_order.Goals as goal
@@ -8,8 +6,7 @@ use Rattle.board_service.proofs.obey.do_order.Goals as goal
 pub returns-clause-goes : goal.returns-clause-goes
 returns-clause-goes g c =
     order_goes (view_of g.D.Disk.seen g.D.Disk.faults g.D.Disk.clock) c.args.board.now c.args.ordered c.args.pass.now c.console-came.new.pass c.console-came.result
-    (order_known g.D.Disk.seen (plan_of_board c.args.board.now).nodes c.args.telling c.args.order c.args.ordered c.requires.tells c.requires.known c.requires.is)
-    c.console-came.ensures.still c.console-came.ensures.pass c.console-came.ensures.turn
+    c.console-came.ensures.pass c.console-came.ensures.turn
 
 pub returns-clause-ordered : goal.returns-clause-ordered
 returns-clause-ordered g c =

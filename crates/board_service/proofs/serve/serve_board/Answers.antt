@@ -8,7 +8,7 @@ use Rattle.board_service.proofs.serve.serve_board.Goals as goal
 
 pub serve_over-doors-requires-clause-belongs : goal.serve_over-doors-requires-clause-belongs
 serve_over-doors-requires-clause-belongs g c κs within =
-    service_begins (view_of g.Y.Store.Disk.seen g.Y.Store.Disk.faults g.Y.Store.Disk.clock) c.in-Ok-make_board.board c.args.telling c.args.plan.now c.args.world _ c.in-Ok-make_board.pass c.requires.telling
+    service_begins (view_of g.Y.Store.Disk.seen g.Y.Store.Disk.faults g.Y.Store.Disk.clock) c.in-Ok-make_board.board c.args.plan.now c.args.world _ c.in-Ok-make_board.pass
     c.in-Ok-make_board.ensures.made c.in-Ok-make_board.ensures.served
 
 -- the doors were opened before the board was made

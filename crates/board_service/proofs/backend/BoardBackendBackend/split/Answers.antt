@@ -5,5 +5,5 @@ use Rattle.board_service.proofs.backend.BoardBackendBackend.split.Goals as goal
 
 pub returns-clause-belong : goal.returns-clause-belong
 returns-clause-belong g c =
-    service_splits (view_of g.D.Disk.seen g.D.Disk.faults g.D.Disk.clock) c.args.self.now.board.now c.args.self.now.telling c.args.self.now.plan.now c.args.part c.args.pass.now
+    service_splits (view_of g.D.Disk.seen g.D.Disk.faults g.D.Disk.clock) c.args.self.now.board.now c.args.self.now.plan.now c.args.part c.args.pass.now
     (record { board = c.split-board.new.pass; served = c.args.pass.now.served }) (record { board = c.split-board.result; served = 0 }) c.requires.belongs c.split-board.ensures.belong c.split-board.ensures.split refl refl
