@@ -29,6 +29,8 @@ import tempfile
 import threading
 import time
 
+from others import Others, are_installed
+
 ROOT = pathlib.Path(__file__).resolve().parent.parent
 PROGRAM = ROOT / "crates" / "porcupine" / "out" / "porcupine"
 PATTERN = ROOT / "bench" / "append_pattern.c"
@@ -60,6 +62,10 @@ def free_ports(count):
 
 class Service:
     """A service that runs, with its folder, its ports and its console."""
+
+    # whom the load is for, and how many commands a client may send at once
+    rcpt = "alice"
+    together = 3
 
     def __init__(self, nodes=1, copies=1, confirm=1, parent=None, prefix=(), folder=None, ports=None):
         self.home = tempfile.mkdtemp(prefix="porcupine-", dir=parent)
@@ -151,24 +157,27 @@ def greeted(port):
 
 def text_of(name, size):
     """A text of so many octets, whose subject is the name."""
-    head = b"Subject: " + name.encode() + b"\r\n\r\n"
+    head = b"From: load@client.example\r\nSubject: " + name.encode() + b"\r\n\r\n"
     line = b"x" * 62 + b"\r\n"
     return (head + line * (size // 64 + 1))[: max(size, len(head) + 2) - 2] + b"\r\n"
 
 
-def send(client, lines, user, text):
-    """Sends a text: whether it was stored, and how long the answer to its last octet took."""
-    client.sendall(b"MAIL FROM:<load@client.example>\r\nRCPT TO:<" + user.encode() + b">\r\nDATA\r\n")
-    for wanted in (b"250", b"250", b"354"):
+def send(client, lines, rcpt, text, together=3):
+    """Sends a text: whether it was stored, and how long the answer to its last octet took. So many of the three commands before it
+    go out together."""
+    commands = [b"MAIL FROM:<load@client.example>\r\n", b"RCPT TO:<" + rcpt.encode() + b">\r\n", b"DATA\r\n"]
+    for number, wanted in enumerate((b"250", b"250", b"354")):
+        if number % together == 0:
+            client.sendall(b"".join(commands[number : number + together]))
         if not lines.readline().startswith(wanted):
             return False, 0.0
     client.sendall(text + b".\r\n")
     begun = time.perf_counter()
     reply = lines.readline()
-    return reply == b"250 stored\r\n", time.perf_counter() - begun
+    return reply.startswith(b"250"), time.perf_counter() - begun
 
 
-def load(number, port, count, size, results, begin):
+def load(number, port, rcpt, together, count, size, results, begin):
     """One client: it sends so many messages, or as many as it can where the count is 0, and tells how it went."""
     told, waits = [], []
     with contextlib.suppress(OSError, AssertionError):
@@ -178,7 +187,7 @@ def load(number, port, count, size, results, begin):
         while count == 0 or sent < count:
             sent += 1
             name = f"{number}-{sent}"
-            stored, wait = send(client, lines, "alice", text_of(name, size))
+            stored, wait = send(client, lines, rcpt, text_of(name, size), together)
             if not stored:
                 break
             told.append(name)
@@ -190,7 +199,7 @@ def load(number, port, count, size, results, begin):
 def loads(service, clients, count, size=1024, during=None):
     """So many clients at once, each a process, spread over the nodes: the names that were stored, the waits, and the seconds."""
     begin, results = multiprocessing.Barrier(clients + 1), multiprocessing.Queue()
-    runs = [multiprocessing.Process(target=load, args=(n, service.smtp + n % service.nodes, count, size, results, begin)) for n in range(clients)]
+    runs = [multiprocessing.Process(target=load, args=(n, service.smtp + n % service.nodes, service.rcpt, service.together, count, size, results, begin)) for n in range(clients)]
     for run in runs:
         run.start()
     begin.wait(60)
@@ -413,25 +422,42 @@ def quantile(values, part):
     return sorted(values)[min(len(values) - 1, int(len(values) * part))] if values else 0.0
 
 
+def print_head(what):
+    print(what)
+    print(f"{'clients':>7} {'messages/s':>10} {'CPU ms/message':>14} {'p50 ms':>8} {'p99 ms':>8} {'MiB idle':>8} {'MiB loaded':>10}")
+
+
+def print_load(service, clients):
+    """A line: what so many clients get."""
+    _, idle = service.used()
+    loads(service, clients, 20)
+    before, _ = service.used()
+    names, waits, seconds = loads(service, clients, max(40, 3200 // clients))
+    after, loaded = service.used()
+    print(
+        f"{clients:>7} {len(names) / seconds:>10.0f} {(after - before) / max(1, len(names)) * 1000:>14.3f} {quantile(waits, 0.5) * 1000:>8.2f}"
+        f" {quantile(waits, 0.99) * 1000:>8.2f} {idle:>8.1f} {loaded:>10.1f}",
+        flush=True,
+    )
+
+
 def print_rates(what, parent, silent=0):
     """A table of messages of 1 KiB, of which three nodes keep two copies."""
-    print(f"{what}: 3 nodes, 2 copies, both confirmed, 1 KiB" + (f", beside {silent} silent clients" if silent else ""))
-    print(f"{'clients':>7} {'messages/s':>10} {'CPU ms/message':>14} {'p50 ms':>8} {'p99 ms':>8} {'MiB idle':>8} {'MiB loaded':>10}")
+    print_head(f"{what}: 3 nodes, 2 copies, both confirmed, 1 KiB" + (f", beside {silent} silent clients" if silent else ""))
     for clients in (1, 4, 16, 64):
         with Service(nodes=3, copies=2, confirm=2, parent=parent) as service:
             quiet = [connect(service.smtp + n % 3)[0] for n in range(silent)]
-            _, idle = service.used()
-            loads(service, clients, 20)
-            before, _ = service.used()
-            names, waits, seconds = loads(service, clients, max(40, 3200 // clients))
-            after, loaded = service.used()
-            print(
-                f"{clients:>7} {len(names) / seconds:>10.0f} {(after - before) / max(1, len(names)) * 1000:>14.3f} {quantile(waits, 0.5) * 1000:>8.2f}"
-                f" {quantile(waits, 0.99) * 1000:>8.2f} {idle:>8.1f} {loaded:>10.1f}",
-                flush=True,
-            )
+            print_load(service, clients)
             for client in quiet:
                 client.close()
+
+
+def print_rates_of_others(what, parent):
+    """The same of OpenSMTPD, which keeps one copy, and delivers it to the maildir after its answer."""
+    print_head(f"OpenSMTPD, {what}: 1 KiB")
+    for clients in (1, 4, 16, 64):
+        with Others(free_ports(2), parent) as others:
+            print_load(others, clients)
 
 
 def print_syncs_alone(parent):
@@ -447,37 +473,55 @@ def print_syncs_alone(parent):
         print(f"a program in C, one thread, the same calls: {statistics.median(rates):.0f} syncs a second")
 
 
-def print_reading(parent, count=10_000):
-    """What it costs a reader to read and delete so many messages."""
-    with Service(parent=parent) as service:
-        names, _, _ = loads(service, 4, count // 4)
-        before, _ = service.used()
-        begun = time.perf_counter()
-        client, lines = connect(service.pop, 600)
-        for line in (b"USER alice", b"PASS tanstaaf"):
-            lines.readline()
-            client.sendall(line + b"\r\n")
+def read_all(service, names):
+    """One reader gets and deletes so many messages: the seconds, and what is answered to QUIT."""
+    begun = time.perf_counter()
+    client, lines = connect(service.pop, 600)
+    for line in (b"USER alice", b"PASS tanstaaf"):
         lines.readline()
-        for number in range(1, len(names) + 1):
-            client.sendall(b"RETR %d\r\nDELE %d\r\n" % (number, number))
-            while lines.readline() != b".\r\n":
-                pass
-            lines.readline()
-        client.sendall(b"QUIT\r\n")
-        bye = lines.readline()
-        seconds = time.perf_counter() - begun
-        after, _ = service.used()
-        print(f"POP3, RETR and DELE of {len(names)} messages: {len(names) / seconds:.0f} a second, {(after - before) / len(names) * 1000:.3f} ms of CPU each, {bye.decode().strip()}")
+        client.sendall(line + b"\r\n")
+    lines.readline()
+    for number in range(1, names + 1):
+        client.sendall(b"RETR %d\r\nDELE %d\r\n" % (number, number))
+        if not lines.readline().startswith(b"+OK"):
+            sys.exit(f"message {number} cannot be read")
+        while lines.readline() != b".\r\n":
+            pass
+        lines.readline()
+    client.sendall(b"QUIT\r\n")
+    bye = lines.readline()
+    return time.perf_counter() - begun, bye
+
+
+def print_reading(who, service, count):
+    """What it costs a reader to read and delete so many messages."""
+    before, _ = service.used()
+    seconds, bye = read_all(service, count)
+    after, _ = service.used()
+    print(f"POP3 of {who}, RETR and DELE of {count} messages: {count / seconds:.0f} a second, {(after - before) / count * 1000:.3f} ms of CPU each, {bye.decode().strip()}", flush=True)
+
+
+def print_readings(parent, count=10_000):
+    with Service(parent=parent) as service:
+        loads(service, 4, count // 4)
+        print_reading("porcupine", service, count)
+    if are_installed():
+        with Others(free_ports(2), parent) as others:
+            loads(others, 4, count // 4)
+            while others.delivered() < count:
+                time.sleep(0.5)
+            print_reading("Dovecot", others, count)
 
 
 def print_all_rates(folder):
-    others = [name for name in ("postfix", "exim4", "opensmtpd", "dovecot") if shutil.which(name) or os.path.exists(f"/usr/sbin/{name}")]
-    print(f"other servers of the distribution: {', '.join(others) or 'none is installed'}; processors: {os.cpu_count()}, load {os.getloadavg()[0]:.1f}")
+    print(f"OpenSMTPD and Dovecot: {'measured too' if are_installed() else 'not installed, or not root'}; processors: {os.cpu_count()}, load {os.getloadavg()[0]:.1f}")
     print_rates("stores in memory", "/dev/shm")
     print_rates("stores in memory", "/dev/shm", silent=180)
+    if are_installed():
+        print_rates_of_others("maildir and queue on the disk", folder)
     print_rates("stores on the disk", folder)
     print_syncs_alone(folder)
-    print_reading("/dev/shm")
+    print_readings("/dev/shm")
 
 
 def print_syncs():

@@ -14,7 +14,7 @@ use Rattle.atomic_table.proofs.Lists.{at_set, set_else, set_again, at_snoc, at_l
 use Rattle.turnstile.specs.declared.views.View.{View}
 use Rattle.turnstile.specs.declared.views.Key.{Key}
 use Rattle.turnstile.specs.Lists.{weight, longer, IsPrefix, IsSubsequence, AreSubsequences}
-use Rattle.turnstile.specs.Rule.{IsSharedOut, owned_weight, ViewFits, Home, Away, TableIsSound, first_view, HasDrawn, HasLooked, extended_view, HasAdded, HasLeft, lessened_view, handed_view, joined_view, spent_view, GivesBack}
+use Rattle.turnstile.specs.Rule.{IsSharedOut, owned_weight, ViewFits, Home, Away, TableIsSound, first_view, HasDrawn, HasLooked, extended_view, HasAdded, HasLeft, HasRung, lessened_view, handed_view, joined_view, spent_view, GivesBack}
 use Rattle.turnstile.specs.Shares.{AreShares}
 use Rattle.turnstile.proofs.Shares.{tags_same, tags_added, tags_split, tags_join, tags_start, tags_close}
 use Rattle.turnstile.proofs.Lists.{weigh_set, weigh_append, weigh_le, weigh_two, weigh_alone, begins_same, begins_trans, begins_drop, begins_both, stands_append, all_append, stands_later, all_later}
@@ -29,6 +29,17 @@ none_inside n e l = omega arith
 by_test : {X : Type 0} (P : X → Type 0) (x y : X) (b : Bool) → (b ≡ true → P y) → (b ≡ false → P x) → P (cond b y x)
 by_test P x y true a b = a refl
 by_test P x y false a b = b refl
+
+-- 16 bells that nobody has rung
+abbrev pub silent : List ℕ
+silent = 0 ∷ 0 ∷ 0 ∷ 0 ∷ 0 ∷ 0 ∷ 0 ∷ 0 ∷ 0 ∷ 0 ∷ 0 ∷ 0 ∷ 0 ∷ 0 ∷ 0 ∷ 0 ∷ []
+
+-- a change behind the first three words
+behind : (a b c : ℕ) (bells : List ℕ) (i y : ℕ) → 3 ≤ i → (others : List ℕ) × (set (a ∷ b ∷ c ∷ bells) i y ≡ a ∷ b ∷ c ∷ others)
+behind a b c bells zero y l = absurd (omega arith)
+behind a b c bells (suc zero) y l = absurd (omega arith)
+behind a b c bells (suc (suc zero)) y l = absurd (omega arith)
+behind a b c bells (suc (suc (suc k))) y l = (set bells k y, refl)
 
 module _ {V E : Type 0} (history : V → List E) (kin : V → V → Type 0) where
   abbrev D : Type 0
@@ -94,7 +105,8 @@ module _ {V E : Type 0} (history : V → List E) (kin : V → V → Type 0) wher
           begun = r.begun;
           next = r.next + 1;
           served = r.served;
-          words = ap (λ ws. set ws 0 ((get_or ws 0 0 + 1) % 2 ^ 64)) r.words ∙ ap (λ (n : ℕ). n ∷ r.served % 2 ^ 64 ∷ length r.entries ∷ []) (next_mod r.next 1);
+          bells = r.bells;
+          words = ap (λ ws. set ws 0 ((get_or ws 0 0 + 1) % 2 ^ 64)) r.words ∙ ap (λ (n : ℕ). n ∷ r.served % 2 ^ 64 ∷ length r.entries ∷ r.bells) (next_mod r.next 1);
           out = let o = weigh_set (λ (x : D). x.waits) s.views id v w at in let o' = r.out in omega arith;
           quotas = let o = weigh_set (λ (x : D). x.quota) s.views id v w at in let o' = r.quotas in omega arith;
           few = r.few;
@@ -131,6 +143,31 @@ module _ {V E : Type 0} (history : V → List E) (kin : V → V → Type 0) wher
   stands_still : (key : Key V) (s : St) (r : Rule key s) (i id : ℕ) (m : M) → At s.views id m.0 → Rule key (stepped s i (get_or s.words i 0) id m.1 m.0 keeps)
   stands_still key s r i id m at = subst (λ (z : List ℕ × List D). Rule key record { words = z.0; homes = s.homes; views = z.1 }) (λ k. (sym (set-get_or s.words i 0) k, sym (set_again s.views id m.0 at) k)) r
 
+  -- only a bell changes, and no view
+  pub rings : (key : Key V) (slots id i : ℕ) (m : M) → 3 ≤ i → Allows (Rule key) slots id m i (λ n. (n + 1) % 2 ^ 64) (HasRung (step slots i 1 0 none) m)
+  rings key slots id i m far s r deep at below = let y : ℕ = (get_or s.words i 0 + 1) % 2 ^ 64 in let bells = behind (r.next % 2 ^ 64) (r.served % 2 ^ 64) (length r.entries) r.bells i y far in (
+    m.0,
+    keeps,
+    tt,
+    subst (λ (views : List D). Rule key record { words = set s.words i y; homes = s.homes; views = views }) (sym (set_again s.views id m.0 at)) record {
+      entries = r.entries;
+      begun = r.begun;
+      next = r.next;
+      served = r.served;
+      bells = bells.0;
+      words = ap (λ ws. set ws i y) r.words ∙ bells.1;
+      out = r.out;
+      quotas = r.quotas;
+      few = r.few;
+      each = r.each;
+      apart = r.apart;
+      slot = r.slot;
+      whole = r.whole;
+      shared = r.shared;
+    },
+    refl,
+  )
+
   pub looks : (key : Key V) (slots id : ℕ) (m : M) → 0 < m.0.waits → m.0.inside ≡ 0 → m.0.first_value ≡ Some key.first_value.value → m.1 ≡ [] → Allows (Rule key) slots id m 1 (λ n. n) (HasLooked history kin (step slots 1 0 0 none) m)
   looks key slots id m waits out of_this empty s r deep at below = let v : D = m.0 in dite (ℕ_discrete (get_or s.words 1 0) (v.ticket % 2 ^ 64))
       (λ hit. let k = served_here key s r id v at waits out hit in let h = k.1 in let x = h.0 in let w : D = record v { inside = 1; seen = history x } in let p = r.each id v at in
@@ -143,6 +180,7 @@ module _ {V E : Type 0} (history : V → List E) (kin : V → V → Type 0) wher
           begun = r.begun;
           next = r.next;
           served = r.served;
+          bells = r.bells;
           words = set-get_or s.words 1 0 ∙ r.words;
           out = let o = weigh_set (λ (y : D). y.waits) s.views id v w at in let o' = r.out in omega arith;
           quotas = let o = weigh_set (λ (y : D). y.quota) s.views id v w at in let o' = r.quotas in omega arith;
@@ -178,7 +216,8 @@ module _ {V E : Type 0} (history : V → List E) (kin : V → V → Type 0) wher
           begun = begins_trans (history key.first_value.value) r.entries (history x) r.begun over;
           next = r.next;
           served = r.served;
-          words = ap (λ ws. set ws 2 ((get_or ws 2 0 + k) % 2 ^ 64)) r.words ∙ ap (λ (n : ℕ). r.next % 2 ^ 64 ∷ r.served % 2 ^ 64 ∷ n ∷ [])
+          bells = r.bells;
+          words = ap (λ ws. set ws 2 ((get_or ws 2 0 + k) % 2 ^ 64)) r.words ∙ ap (λ (n : ℕ). r.next % 2 ^ 64 ∷ r.served % 2 ^ 64 ∷ n ∷ r.bells)
               (let e = ap length q.2 in ap (λ (n : ℕ). n % 2 ^ 64) (omega arith) ∙ mod-eq_of_lt fits);
           out = let o = weigh_set (λ (y : D). y.waits) s.views id v w at in let o' = r.out in omega arith;
           quotas = let o = weigh_set (λ (y : D). y.quota) s.views id v w at in let o' = r.quotas in omega arith;
@@ -218,7 +257,8 @@ module _ {V E : Type 0} (history : V → List E) (kin : V → V → Type 0) wher
           begun = r.begun;
           next = r.next;
           served = r.served + 1;
-          words = ap (λ ws. set ws 1 ((get_or ws 1 0 + 1) % 2 ^ 64)) r.words ∙ ap (λ (n : ℕ). r.next % 2 ^ 64 ∷ n ∷ length r.entries ∷ []) (next_mod r.served 1);
+          bells = r.bells;
+          words = ap (λ ws. set ws 1 ((get_or ws 1 0 + 1) % 2 ^ 64)) r.words ∙ ap (λ (n : ℕ). r.next % 2 ^ 64 ∷ n ∷ length r.entries ∷ r.bells) (next_mod r.served 1);
           out = let o = weigh_set (λ (y : D). y.waits) s.views id v w at in let o' = r.out in omega arith;
           quotas = let o = weigh_set (λ (y : D). y.quota) s.views id v w at in let o' = r.quotas in omega arith;
           few = r.few;
@@ -274,6 +314,7 @@ module _ {V E : Type 0} (history : V → List E) (kin : V → V → Type 0) wher
     begun = r.begun;
     next = r.next;
     served = r.served;
+    bells = r.bells;
     words = r.words;
     out = let o = weigh_set (λ (y : D). y.waits) s.views id v w at in let o' = r.out in let o'' = weigh_append (λ (y : D). y.waits) views (new ∷ []) in omega arith;
     quotas = let o = weigh_set (λ (y : D). y.quota) s.views id v w at in let o' = r.quotas in let o'' = weigh_append (λ (y : D). y.quota) views (new ∷ []) in omega arith;
@@ -307,6 +348,7 @@ module _ {V E : Type 0} (history : V → List E) (kin : V → V → Type 0) wher
         begun = r.begun;
         next = r.next;
         served = r.served;
+        bells = r.bells;
         words = r.words;
         out = let o = weigh_set (λ (y : D). y.waits) s.views id v w at in let o' = r.out in let o'' = weigh_set (λ (y : D). y.waits) views other u spent_view at' in omega arith;
         quotas = let o = weigh_set (λ (y : D). y.quota) s.views id v w at in let o' = r.quotas in let o'' = weigh_set (λ (y : D). y.quota) views other u spent_view at' in omega arith;
@@ -331,13 +373,14 @@ module _ {V E : Type 0} (history : V → List E) (kin : V → V → Type 0) wher
         whole = λ g. let o = weigh_set (owned_weight g) s.views id v w at in let o' = r.whole g in let o'' = weigh_set (owned_weight g) views other u spent_view at' in let a = weigh_append (weight g) v.joined (u.own ∷ u.joined) in omega arith;
       }
 
-  pub starts : (key : Key V) (x : V) (n : ℕ) → x ≡ key.first_value.value → n ≡ length (history x) → kin x x → key.passes < 2 ^ 32 → Rule key (opening (0 ∷ 0 ∷ n ∷ []) (x ∷ []) (first_view history key))
+  pub starts : (key : Key V) (x : V) (n : ℕ) → x ≡ key.first_value.value → n ≡ length (history x) → kin x x → key.passes < 2 ^ 32 → Rule key (opening (0 ∷ 0 ∷ n ∷ silent) (x ∷ []) (first_view history key))
   starts key x n first counted same few = let v : D = first_view history key in let first_value : V = key.first_value.value in record {
     entries = history first_value;
     begun = begins_same (history first_value);
     next = 0;
     served = 0;
-    words = ap (λ (k : ℕ). 0 ∷ 0 ∷ k ∷ []) (counted ∙ ap (λ y. length (history y)) first);
+    bells = silent;
+    words = ap (λ (k : ℕ). 0 ∷ 0 ∷ k ∷ silent) (counted ∙ ap (λ y. length (history y)) first);
     out = refl;
     quotas = omega arith;
     few = few;

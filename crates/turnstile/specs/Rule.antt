@@ -1,5 +1,5 @@
 -- The rule of the table, and what each step tells.
--- Word 0 is the next ticket, word 1 the ticket that is served, and word 2 the length of the history. The slot has the value.
+-- Word 0 is the next ticket, word 1 the ticket that is served, and word 2 the length of the history. The words behind these are bells, of which nothing is asked. The slot has the value.
 use Rattle.std.specs.Prelude.{◌≡◌, ◌≢◌, ◌⊎◌, ℕ, ◌+◌, ◌-◌, ◌%◌, ◌^◌, ◌<◌, ◌≤◌, List, [], ◌∷◌, ◌++◌, map, length, drop, Some, None, IfSome}
 use mathlib.Core.Option.{some, none}
 use lib.ListN.{get_elem?}
@@ -28,6 +28,10 @@ module _ {V E : Type 0} where
   -- the seat has served the next ticket
   abbrev pub HasLeft : Step V → Sat V E → ℕ → Sat V E → Type 0
   HasLeft st m n m' = m' ≡ (record m.0 { waits = 0; inside = 0 }, [])
+
+  -- the seat has rung a bell
+  abbrev pub HasRung : Step V → Sat V E → ℕ → Sat V E → Type 0
+  HasRung st m n m' = m' ≡ m
 
   -- a view that hands the quota q on, and the view that is handed on
   abbrev pub lessened_view : ℕ → View V E → View V E
@@ -91,7 +95,8 @@ module _ {V E : Type 0} where
       pub begun : IsPrefix (history key.first_value.value) entries
       pub next : ℕ
       pub served : ℕ
-      pub words : s.words ≡ next % 2 ^ 64 ∷ served % 2 ^ 64 ∷ length entries ∷ []
+      pub bells : List ℕ
+      pub words : s.words ≡ next % 2 ^ 64 ∷ served % 2 ^ 64 ∷ length entries ∷ bells
       pub out : weight (λ (v : View V E). v.waits) s.views + served ≡ next
       pub quotas : weight (λ (v : View V E). v.quota) s.views ≡ key.passes
       pub few : key.passes < 2 ^ 32

@@ -19,13 +19,15 @@
 //!
 //! HOW IT STANDS
 //!
-//! The table of `atomic_table` has three words and one slot. Word 0 is the next ticket, word 1 the ticket that is served, word 2
-//! the length of the history; the slot has the value. A turn draws a ticket from word 0, looks at word 1 until it is its own,
-//! takes the slot, works, adds to word 2, gives the slot back and serves the next. `specs/Rule.antt` has the rule that each of
-//! these steps keeps. The words wrap at 2^64, and the rule speaks of the numbers behind them, which do not.
+//! The table of `atomic_table` has words and one slot. Word 0 is the next ticket, word 1 the ticket that is served, word 2 the
+//! length of the history, and the sixteen words behind these are bells; the slot has the value. A turn draws a ticket from word 0,
+//! looks at word 1 until it is its own, takes the slot, works, adds to word 2, gives the slot back and serves the next.
+//! `specs/Rule.antt` has the rule that each of these steps keeps. The words wrap at 2^64, and the rule speaks of the numbers behind
+//! them, which do not.
 //!
-//! A thread that waits looks a few times and gives way after each look. Then it sleeps on word 1. Who serves the next wakes the
-//! sleepers, where word 0 shows that there may be any.
+//! A thread that waits looks a few times and gives way after each look. Then it sleeps on the bell of its ticket, which is that of
+//! each sixteenth. Who serves the next rings the bell of its ticket and wakes those who sleep on it, where word 0 shows that the
+//! ticket was drawn. So of many threads that wait, few are woken at a turn.
 //!
 //! STANDS ON
 //!

@@ -30,7 +30,8 @@ impl<V: Counted> Turnstile<V> {
             slots.destroy_empty();
             return Err(value);
         }
-        match Table::new(alloc, &[0, 0, count], slots, &about) {
+        let words = [0, 0, count, 0, 0, 0, 0, 0, 0, 0, 0, 0, 0, 0, 0, 0, 0, 0, 0];
+        match Table::new(alloc, &words, slots, &about) {
             Ok((table, seat)) => Ok((Turnstile { table }, Pass { seat })),
             Err(refused) => {
                 let Refused { mut slots } = refused;

@@ -1,6 +1,6 @@
 //! The rule, and what each step tells. These types are for the proofs alone.
 ghost use Rattle.std.specs.Prelude.{ℕ};
-ghost use Rattle.turnstile.specs.Rule.{TableIsSound, first_view, HasDrawn, HasLooked, HasAdded, HasLeft, lessened_view, handed_view, joined_view, spent_view};
+ghost use Rattle.turnstile.specs.Rule.{TableIsSound, first_view, HasDrawn, HasLooked, HasAdded, HasLeft, HasRung, lessened_view, handed_view, joined_view, spent_view};
 
 use crate::counted::Counted;
 use crate::views::{Key, View};
@@ -38,6 +38,12 @@ pub(crate) struct ServeNext;
 
 impl<V: Counted> Play<V, View<V, V::Entry>> for ServeNext {
     ghost then = { HasLeft };
+}
+
+pub(crate) struct Ring;
+
+impl<V: Counted> Play<V, View<V, V::Entry>> for Ring {
+    ghost then = { HasRung };
 }
 
 /// The quota that a split hands on. Each call picks it.

@@ -1,10 +1,10 @@
 //! Turns.
-ghost use Rattle.std.specs.Prelude.{◌≡◌, ◌+◌, ◌<◌, [], ◌∷◌};
+ghost use Rattle.std.specs.Prelude.{◌≡◌, ◌+◌, ◌<◌, ◌≤◌, [], ◌∷◌};
 ghost use Rattle.turnstile.specs.Passes.{first_value, IsSeatOf, IsIdle, IsPassOf, IsInside, IsWorked, IsFilled, IsOut, IsTurn};
 
 use crate::counted::{Counted, Work};
 use crate::lock::{Pass, Place, Turnstile};
-use crate::plays::{Add, Draw, Look, ServeNext};
+use crate::plays::{Add, Draw, Look, Ring, ServeNext};
 use crate::views::View;
 use std::sync::Wait;
 use std::thread;
@@ -15,21 +15,36 @@ const SERVED: usize = 1;
 
 const LENGTH: usize = 2;
 
+// The first of the bells, and how many there are.
+const FIRST_BELL: usize = 3;
+
+const BELLS: u64 = 16;
+
 // How often a thread looks before it sleeps.
 const TRIES: u32 = 8;
 
 // A sleep compares the low 32 bits.
 const LOW_HALF: u64 = 0xffff_ffff;
 
+// The word of the bell of a ticket.
+fn bell_of(ticket: u64) -> usize
+    ensures { (3 ≤ result) × (result < 19) }
+{
+    FIRST_BELL + (ticket % BELLS) as usize
+}
+
 impl<V: Counted> Turnstile<V> {
-    // Draws a ticket, and waits until it is served.
+    // Draws a ticket, and waits until it is served. The bell is heard before the look, so that none is missed: whoever serves the
+    // ticket rings afterwards, and then the bell is no longer as it was heard.
     fn enter<R: Wait>(&self, rt: &R, seat: &mut Place<V>)
         requires { IsSeatOf self.now seat.old × IsIdle seat.old }
         ensures { (x : V) × IsInside V.history V.keeps self.now seat.old.me.0 x seat.new }
     {
         let mine = self.table.shared.fetch_add::<Draw>(seat, NEXT, 1);
+        let bell = bell_of(mine);
         let mut tries = 0u32;
         for _ in rt.forever() {
+            let heard = self.table.shared.peek(bell);
             let served = self.table.shared.load::<Look>(seat, SERVED);
             if served == mine {
                 return;
@@ -38,9 +53,7 @@ impl<V: Counted> Turnstile<V> {
                 tries += 1;
                 thread::yield_now();
             } else {
-                self.table
-                    .shared
-                    .park(rt, SERVED, (served & LOW_HALF) as u32);
+                self.table.shared.park(rt, bell, (heard & LOW_HALF) as u32);
             }
         }
         unreachable!()
@@ -64,13 +77,19 @@ impl<V: Counted> Turnstile<V> {
     {
         self.table.shared.fetch_add::<Add>(seat, LENGTH, count);
         let served = self.table.shared.fetch_add::<ServeNext>(seat, SERVED, 1);
-        self.wake_others(served);
+        self.call_next(seat, served.wrapping_add(1));
     }
 
-    // Wakes the threads that wait, if there are any. Whoever draws a ticket from now on finds it served.
-    fn wake_others(&self, served: u64) {
-        if self.table.shared.peek(NEXT) != served.wrapping_add(1) {
-            self.table.shared.wake_all(SERVED);
+    // Rings the bell of the ticket that is served now, and wakes those who sleep on it, if the ticket was drawn already. Whoever draws
+    // it from now on finds it served.
+    fn call_next(&self, seat: &mut Place<V>, ticket: u64)
+        requires { seat.old.table_id ≡ self.now.table.shared.table_id }
+        ensures { (seat.new.table_id ≡ seat.old.table_id) × (seat.new.me ≡ seat.old.me) }
+    {
+        if self.table.shared.peek(NEXT) != ticket {
+            let bell = bell_of(ticket);
+            self.table.shared.fetch_add::<Ring>(seat, bell, 1);
+            self.table.shared.wake_all(bell);
         }
     }
 

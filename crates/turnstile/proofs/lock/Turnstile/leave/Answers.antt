@@ -16,10 +16,10 @@ fetch_add-served-requires g c = let x = c.requires.0 in let f = c.requires.1 in 
     )
 
 pub returns : goal.returns
-returns g c = let x = c.requires.0 in let f = c.requires.1 in let told = c.fetch_add.ensures in let told' = c.fetch_add-served.ensures in let e = told.2.1 x f.hand in record {
+returns g c = let x = c.requires.0 in let f = c.requires.1 in let told = c.fetch_add.ensures in let told' = c.fetch_add-served.ensures in let last = c.call_next.ensures in let e = told.2.1 x f.hand in record {
   new = x;
-  table = told'.0 ∙ told.0;
+  table = last.0 ∙ (told'.0 ∙ told.0);
   had = f.hand;
-  me = told'.2 ∙ ap (λ v. (record v { waits = 0; inside = 0 }, [])) e;
-  stand = subst (λ m. IsSubsequence m.0.own m.0.seen × AreSubsequences m.0.joined m.0.seen) (sym told'.2) (told.2.2, told.2.3);
+  me = last.1 ∙ (told'.2 ∙ ap (λ v. (record v { waits = 0; inside = 0 }, [])) e);
+  stand = subst (λ m. IsSubsequence m.0.own m.0.seen × AreSubsequences m.0.joined m.0.seen) (sym (last.1 ∙ told'.2)) (told.2.2, told.2.3);
 }
