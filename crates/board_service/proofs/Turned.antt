@@ -1,5 +1,5 @@
 -- How a pass goes on after a turn.
-use Rattle.std.proofs.Common.{◌≡◌, ℕ, List, ◌++◌, Some, refl, sym, ap, ◌∙◌}
+use Rattle.std.proofs.Common.{ℕ, ◌++◌, Some, refl, sym, ap, ◌∙◌}
 use Rattle.std.proofs.lemmas.List.{append_cancel_left}
 use Rattle.std.specs.Prelude.{Result}
 use Rattle.io_edge.specs.declared.fate.Luck.{Luck}
@@ -26,7 +26,7 @@ use Rattle.shard_board.proofs.Paged.{pass_tells}
 use Rattle.board_desk.proofs.Posted.{posts_add}
 use Rattle.board_service.specs.Disks.{EachTells}
 use Rattle.board_service.specs.Visits.{IsStill}
-use Rattle.board_service.specs.Passes.{StaysPass, GoesStill}
+use Rattle.board_service.specs.Passes.{GoesStill}
 use Rattle.board_service.proofs.Still.{still_same, still_both, still_known, none_fell}
 use Rattle.board_service.proofs.Ordered.{orders_add}
 
