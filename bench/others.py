@@ -133,6 +133,14 @@ class Others:
             seconds += sum(int(field) for field in fields[11:15])
         return seconds / os.sysconf("SC_CLK_TCK"), pages * os.sysconf("SC_PAGE_SIZE") / 2**20
 
-    def delivered(self):
-        """How many messages are in the maildir."""
-        return sum(len(os.listdir(os.path.join(self.home, "mail", part))) for part in ("new", "cur") if os.path.isdir(os.path.join(self.home, "mail", part)))
+    def fill(self, texts):
+        """Puts messages into the maildir, as a delivery leaves them."""
+        owner = pwd.getpwnam(OWNER)
+        for part in ("new", "cur", "tmp"):
+            path = os.path.join(self.home, "mail", part)
+            os.makedirs(path, exist_ok=True)
+            os.chown(path, owner.pw_uid, owner.pw_gid)
+        for number, text in enumerate(texts):
+            path = os.path.join(self.home, "mail", "new", f"{1_000_000 + number}.M{number}.bench")
+            pathlib.Path(path).write_bytes(text)
+            os.chown(path, owner.pw_uid, owner.pw_gid)

@@ -94,11 +94,7 @@ fn answered<S: LineSource, K: Sink, Y: Yard>(
 }
 
 // Runs `drive` on the tape over the stores of this yard: the status and the transcript.
-fn drive_over(
-    alloc: Global,
-    tape: &[u8],
-    yard: &mut MemoryYard<MemoryDisk>,
-) -> (u8, Vec<u8>) {
+fn drive_over(alloc: Global, tape: &[u8], yard: &mut MemoryYard<MemoryDisk>) -> (u8, Vec<u8>) {
     let mut sink = VecSink::new(alloc);
     let status = answered(alloc, &mut SliceSource::new(tape), &mut sink, yard);
     (status, sink.held)

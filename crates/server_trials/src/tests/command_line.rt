@@ -64,11 +64,7 @@ pub(super) fn runs_with<
         + Threads
         + Wait
         + Sync,
->(
-    rt: &R,
-    words: &[&[u8]],
-    write: u64,
-) -> (u8, Vec<u8>) {
+>(rt: &R, words: &[&[u8]], write: u64) -> (u8, Vec<u8>) {
     let alloc = rt.alloc();
     let mut sink = FaultySink::new(VecSink::new(alloc), write);
     let arguments = env::args(&(HandedOver { words }, alloc));

@@ -133,11 +133,23 @@ fn the_console_is_answered(rt: HostRuntime) -> Result<(), Fail> {
     let alloc = rt.alloc();
     let cases: [(&'static [u8], u8, &str); 6] = [
         (b"stop\nsum\n", 0, ""),
-        (b"sum\r\nstop\r\n", 0, "*0 sum acked 0 struck 0 dropped 0 lost 0\n"),
-        (b"stop it\ncrash 1\nstop\n", 0, "! line 1 BadLine\n*0 node 1 down\n"),
+        (
+            b"sum\r\nstop\r\n",
+            0,
+            "*0 sum acked 0 struck 0 dropped 0 lost 0\n",
+        ),
+        (
+            b"stop it\ncrash 1\nstop\n",
+            0,
+            "! line 1 BadLine\n*0 node 1 down\n",
+        ),
         (b"", 3, "! line 1 BadLine\n"),
         (b"stop", 3, "! line 1 BadLine\n"),
-        (b"crash 2\nsto", 3, "! line 1 NoSuchNode\n! line 2 BadLine\n"),
+        (
+            b"crash 2\nsto",
+            3,
+            "! line 1 NoSuchNode\n! line 2 BadLine\n",
+        ),
     ];
     for (console, status, said) in cases {
         let run = gives(&rt, Outside { console, ..SOUND }, alloc, status, said)?;
@@ -155,15 +167,41 @@ fn each_part_of_the_outside_fails(rt: HostRuntime) -> Result<(), Fail> {
         ..SOUND
     };
     let cases: [(Outside, u8, &str); 9] = [
-        (Outside { file: "plan", ..SOUND }, 4, "! read\n"),
-        (Outside { file: "zero.toml", ..SOUND }, 2, "! plan 3\n"),
+        (
+            Outside {
+                file: "plan",
+                ..SOUND
+            },
+            4,
+            "! read\n",
+        ),
+        (
+            Outside {
+                file: "zero.toml",
+                ..SOUND
+            },
+            2,
+            "! plan 3\n",
+        ),
         (Outside { stores: 0, ..SOUND }, 6, "! disk 0 1\n"),
         (Outside { doors: 0, ..SOUND }, 8, "! doors\n"),
         (Outside { doors: 1, ..SOUND }, 8, "! doors\n"),
         (Outside { read: 1, ..SOUND }, 4, "! read\n"),
         (Outside { write: 1, ..sum }, 5, ""),
-        (Outside { file: "plan", write: 1, ..SOUND }, 5, ""),
-        (Outside { read: 5, ..sum }, 4, "*0 sum acked 0 struck 0 dropped 0 lost 0\n! read\n"),
+        (
+            Outside {
+                file: "plan",
+                write: 1,
+                ..SOUND
+            },
+            5,
+            "",
+        ),
+        (
+            Outside { read: 5, ..sum },
+            4,
+            "*0 sum acked 0 struck 0 dropped 0 lost 0\n! read\n",
+        ),
     ];
     for (outside, status, said) in cases {
         let run = gives(&rt, outside, alloc, status, said)?;
@@ -205,7 +243,10 @@ fn a_door_that_fails_is_told_before_the_console(rt: HostRuntime) -> Result<(), F
     };
     let run = serves(&rt, alloc, outside, yard_of(alloc, 1, doors)?)?;
     assert_eq!(rt; run.status, 8);
-    assert_eq!(rt; text_of(&run.said), "*0 sum acked 0 struck 0 dropped 0 lost 0\n! doors\n");
+    assert_eq!(rt;
+        text_of(&run.said),
+        "*0 sum acked 0 struck 0 dropped 0 lost 0\n! doors\n"
+    );
     assert_eq!(rt; run.yard.closed.len(), 2);
     Ok(())
 }
