@@ -54,7 +54,7 @@ C
 <*0 sum acked 0 struck 0 dropped 0 lost 0
 ";
 
-// A node stops in the middle of a text, and before another client comes, who hears nothing. It starts, and takes mail again.
+// A node stops in the middle of a text. It starts, and takes mail again.
 const STOPS: &[u8] = b"\
 S2
 <220 node2 Porcupine ready
@@ -71,18 +71,16 @@ S2
 @8
 >.
 <421 node2 down
-S2@8
 C
 @7
 >crash 2
 <*0 node 2 down
 !8
 @1
-@2
 >start 2
 <*0 node 2 up 2
 !9
-@4
+@3
 >stop
 S2@9
 <220 node2 Porcupine ready
