@@ -12,7 +12,8 @@ use crate::node::Node;
 use crate::outbox::Why;
 use mail_base::{Body, EpochId, Letter, Ticket};
 
-fn is_same_epoch(a: &EpochId, b: &EpochId) -> bool
+/// Whether both are one epoch.
+pub(crate) fn is_same_epoch(a: &EpochId, b: &EpochId) -> bool
     ensures { result ≡ is_same_epoch a.now b.now }
 {
     a.count == b.count && a.node == b.node
@@ -75,7 +76,7 @@ impl Node {
     fn is_stale(&self, letter: &Letter) -> bool
         ensures { result ≡ is_stale letter.now (node_seen self.now).installed }
     {
-        has_epoch(&letter.body) && !is_same_epoch(&letter.epoch, &self.epoch())
+        self.shape.installed.makes_stale(letter)
     }
 
     // Whether the ticket stands.

@@ -11,6 +11,7 @@ pub mod Found
 pub mod Restarted
 mod Refused
 mod Said
+mod Epochs
 mod Looked
 mod Opened
 mod Outlasted

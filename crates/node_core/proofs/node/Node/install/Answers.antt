@@ -1,0 +1,28 @@
+use Rattle.std.proofs.Common.{◌≡◌, Option, refl, ap}
+use Rattle.object_model.specs.Letters.{Membership}
+use Rattle.cluster_model.specs.Cluster as plain
+use Rattle.node_core.specs.Nodes.{node_seen, IsWhole}
+use Rattle.node_core.specs.declared.node.Node.{Node}
+use Rattle.node_core.proofs.node.Node.install.Goals as goal
+
+pub returns : goal.returns
+returns c =
+    let old = c.args.self.now in
+    let new : Node = record old { shape = record old.shape { installed = c.installed_of.result } } in
+    let with_installed : Option Membership → plain.Node = λ m. record (node_seen old) { installed = m } in
+    let whole : IsWhole old → IsWhole new = λ w. record {
+      tickets = w.tickets;
+      boot = w.boot;
+      shape = record { some = w.shape.some; within = w.shape.within; few = w.shape.few; copies = w.shape.copies };
+    } in
+    record {
+      seen = ap with_installed (c.installed_of.ensures old.shape.nodes);
+      store = refl;
+      numbers = refl;
+      tickets = refl;
+      same = λ plan own p. record { own_is = p.own_is; nodes = p.nodes; copies = p.copies; confirm = p.confirm };
+      keeps = λ records k. k;
+      works = λ seen w. record { store = w.store; whole = whole w.whole };
+      whole = whole;
+      end_is = refl;
+    }
