@@ -38,10 +38,7 @@ use Rattle.node_tickets.specs.declared.tickets.Tickets.{Tickets}
 use Rattle.node_store.specs.Keeps.{KeepsRecords}
 use Rattle.node_store.specs.Changes.{with_boot}
 use Rattle.node_store.specs.Writes.{Done, WorkIsCutShort}
-use Rattle.node_core.specs.Installed.{installed_as}
 use Rattle.node_core.specs.Nodes.{node_seen, end_in}
-use Rattle.node_core.specs.declared.installed.Installed.{Installed}
-use Rattle.node_core.specs.declared.installed.Installed.TheVariants.{First}
 use Rattle.node_core.specs.Starting.{MayHold, WhereItHolds, IsStartStop, StartKeeps, StartedOver, StoppedOver, WornOver, NodeStarts, NodeStarted, PromisedOver, NodeStartedWith, HasReopened, HoldsNoJournal, ReopensStore}
 use Rattle.node_core.specs.Works.{fault_of}
 use Rattle.node_core.specs.declared.shape.Shape.{Shape}
@@ -352,28 +349,24 @@ module _ {D : Type 0} (on : View D) (plan : Plan) (own : ℕ) (before mid : D) (
     abbrev node_of : ℕ → ℕ → ℕ → Log → plain.Tickets → plain.Node
     node_of nodes named stamped log seen = record { boot = boot; drawn = named; count = stamped; calls = 0; installed = Some (first_membership nodes); log = log; tickets = seen }
 
-    abbrev node_with : Installed → plain.Node
-    node_with installed = record { boot = boot; drawn = drawn; count = count; calls = 0; installed = installed_as shape.nodes installed; log = new.log; tickets = tickets_in tickets }
-
-    seen_is : Done on (with_boot boot) store mid new after → shape.nodes ≡ plan.nodes → shape.installed ≡ First → tickets_in tickets ≡ fin.empty → drawn ≡ drawn_found found boot → count ≡ count_found found
+    seen_is : Done on (with_boot boot) store mid new after → shape.nodes ≡ plan.nodes → tickets_in tickets ≡ fin.empty → drawn ≡ drawn_found found boot → count ≡ count_found found
         → node_seen node ≡ started own (Some (first_membership plan.nodes)) boot (r.reopened.records ++ Boot boot ∷ [])
-    seen_is d nodes installed none drawn_is count_is =
+    seen_is d nodes none drawn_is count_is =
         let records = r.reopened.records in
         let log_is : new.log ≡ recovered own (records ++ Boot boot ∷ []) =
         sym (d.log records r.reopened.keeps) ∙ r.reopened.log ∙ sym (recovered_booted own boot records) in
         let drawn_on_is : drawn ≡ drawn_on own boot 0 (records ++ Boot boot ∷ []) = drawn_is ∙ r.reopened.names.drawn boot ∙ sym (drawn_booted own boot boot 0 records) in
         let count_on_is : count ≡ greatest_count_on 0 (records ++ Boot boot ∷ []) = count_is ∙ r.reopened.names.count ∙ sym (count_booted boot 0 records) in
-        ap node_with installed
-        ∙ ap (λ (n : ℕ). node_of n drawn count new.log (tickets_in tickets)) nodes
+        ap (λ (n : ℕ). node_of n drawn count new.log (tickets_in tickets)) nodes
         ∙ ap (λ (n : ℕ). node_of plan.nodes n count new.log (tickets_in tickets)) drawn_on_is
         ∙ ap (λ (n : ℕ). node_of plan.nodes (drawn_on own boot 0 (records ++ Boot boot ∷ [])) n new.log (tickets_in tickets)) count_on_is
         ∙ ap (λ (l : Log). node_of plan.nodes (drawn_on own boot 0 (records ++ Boot boot ∷ [])) (greatest_count_on 0 (records ++ Boot boot ∷ [])) l (tickets_in tickets)) log_is
         ∙ ap (λ (t : plain.Tickets). node_of plan.nodes (drawn_on own boot 0 (records ++ Boot boot ∷ [])) (greatest_count_on 0 (records ++ Boot boot ∷ [])) (recovered own (records ++ Boot boot ∷ [])) t) none
 
-    pub has_started : Done on (with_boot boot) store mid new after → shape.nodes ≡ plan.nodes → shape.copies ≡ plan.copies → shape.confirm ≡ plan.confirm → shape.installed ≡ First
+    pub has_started : Done on (with_boot boot) store mid new after → shape.nodes ≡ plan.nodes → shape.copies ≡ plan.copies → shape.confirm ≡ plan.confirm
         → IsOf own boot shape.confirm tickets → tickets_in tickets ≡ fin.empty → drawn ≡ drawn_found found boot → count ≡ count_found found
         → 1 ≤ own → own ≤ plan.nodes → plan.nodes ≤ 16 → 1 ≤ plan.copies → NodeStarted on plan own before after node
-    has_started d nodes copies confirm installed whose none drawn_is count_is low within few some_copies =
+    has_started d nodes copies confirm whose none drawn_is count_is low within few some_copies =
         let own_is : new.own ≡ own = d.own ∙ r.reopened.own_is in
         record {
           of_plan = record { own_is = own_is; nodes = nodes; copies = copies; confirm = confirm };
@@ -393,18 +386,18 @@ module _ {D : Type 0} (on : View D) (plan : Plan) (own : ℕ) (before mid : D) (
           quiet = d.appends.quiet ∙ r.quiet;
           over = after_reading on plan own before mid store found r only (StartedOver on plan own before after node)
               (λ records pending holds held seen was alone.
-              boot_done on plan own before records pending holds mid held seen was kept alone store found r.reopened boot boot_next boot_fits after new d node refl (seen_is d nodes installed none drawn_is count_is));
+              boot_done on plan own before records pending holds mid held seen was kept alone store found r.reopened boot boot_next boot_fits after new d node refl (seen_is d nodes none drawn_is count_is));
           some = (r.reopened.records ++ d.added, d.keeps r.reopened.records r.reopened.keeps);
         }
 
-    pub has_promised : Done on (with_boot boot) store mid new after → shape.nodes ≡ plan.nodes → shape.copies ≡ plan.copies → shape.confirm ≡ plan.confirm → shape.installed ≡ First
+    pub has_promised : Done on (with_boot boot) store mid new after → shape.nodes ≡ plan.nodes → shape.copies ≡ plan.copies → shape.confirm ≡ plan.confirm
         → IsOf own boot shape.confirm tickets → tickets_in tickets ≡ fin.empty → drawn ≡ drawn_found found boot → count ≡ count_found found
         → 1 ≤ own → own ≤ plan.nodes → plan.nodes ≤ 16 → 1 ≤ plan.copies → (promise : EpochId) → promise ≡ promise_found found → NodeStartedWith on plan own before after node promise
-    has_promised d nodes copies confirm installed whose none drawn_is count_is low within few some_copies promise promise_is = record {
-      started = has_started d nodes copies confirm installed whose none drawn_is count_is low within few some_copies;
+    has_promised d nodes copies confirm whose none drawn_is count_is low within few some_copies promise promise_is = record {
+      started = has_started d nodes copies confirm whose none drawn_is count_is low within few some_copies;
       over = after_reading on plan own before mid store found r only (PromisedOver on plan own before after node promise)
           (λ records pending holds held seen was alone.
-          boot_promised on plan own before records pending holds mid held seen was kept alone store found r.reopened boot boot_next boot_fits after new d node refl (seen_is d nodes installed none drawn_is count_is)
+          boot_promised on plan own before records pending holds mid held seen was kept alone store found r.reopened boot boot_next boot_fits after new d node refl (seen_is d nodes none drawn_is count_is)
           promise promise_is);
     }
 

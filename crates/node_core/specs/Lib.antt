@@ -5,8 +5,6 @@ pub mod Failing
 pub mod Filed
 pub mod First
 pub mod Hearing
-pub mod Installed
-pub mod Installing
 pub mod Listing
 pub mod Naming
 pub mod Nodes

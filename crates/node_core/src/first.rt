@@ -4,7 +4,6 @@ ghost use Rattle.io_edge.specs.Octets.{IsToldAlike};
 ghost use Rattle.std.specs.FinMap as fin;
 ghost use Rattle.node_store.specs.Disks.{view_of};
 ghost use Rattle.node_tickets.specs.Standing.{IsOf, tickets_in};
-ghost use Rattle.node_core.specs.declared.installed.Installed.TheVariants.{First};
 ghost use Rattle.node_core.specs.First.{StartsFirst};
 
 use crate::fault::NodeFault;
@@ -26,7 +25,6 @@ fn in_first_boot(alloc: Global, store: NodeStore, plan: &Plan, number: NodeNo) -
     ensures nodes { result.shape.nodes ≡ plan.now.nodes }
     ensures copies { result.shape.copies ≡ plan.now.copies }
     ensures confirm { result.shape.confirm ≡ plan.now.confirm }
-    ensures installed { result.shape.installed ≡ First }
     ensures whose { IsOf number 1 result.shape.confirm result.tickets }
     ensures none { tickets_in result.tickets ≡ fin.empty }
 {

@@ -3,11 +3,9 @@ ghost use Rattle.std.specs.Prelude.{◌≡◌, ◌≤◌, [], IfSome, OnOk};
 ghost use Rattle.io_edge.specs.Moments.{Keeps, Tears};
 ghost use Rattle.io_edge.specs.Octets.{IsToldAlike};
 ghost use Rattle.node_store.specs.Disks.{view_of};
-ghost use Rattle.node_core.specs.declared.installed.Installed.TheVariants.{First};
 ghost use Rattle.node_core.specs.Starting.{NodeCreated, NodeStarts, ReopensStore, StartsWithPromise};
 
 use crate::fault::NodeFault;
-use crate::installed::Installed;
 use crate::numbers::Numbers;
 use crate::shape::Shape;
 use io_edge::Disk;
@@ -48,18 +46,16 @@ fn reopened<D: Disk>(
     }
 }
 
-// The numbers of a plan that a node needs, and the first epoch, which is built in.
+// The numbers of a plan that a node needs.
 pub(crate) fn shape_of(plan: &Plan) -> Shape
     ensures nodes { result.nodes ≡ plan.now.nodes }
     ensures copies { result.copies ≡ plan.now.copies }
     ensures confirm { result.confirm ≡ plan.now.confirm }
-    ensures installed { result.installed ≡ First }
 {
     Shape {
         nodes: plan.nodes,
         copies: plan.copies,
         confirm: plan.confirm,
-        installed: Installed::First,
     }
 }
 

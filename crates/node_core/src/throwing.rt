@@ -12,8 +12,7 @@ use crate::node::Node;
 use crate::outbox::Why;
 use mail_base::{Body, EpochId, Letter, Ticket};
 
-/// Whether both are one epoch.
-pub(crate) fn is_same_epoch(a: &EpochId, b: &EpochId) -> bool
+fn is_same_epoch(a: &EpochId, b: &EpochId) -> bool
     ensures { result ≡ is_same_epoch a.now b.now }
 {
     a.count == b.count && a.node == b.node
@@ -76,7 +75,7 @@ impl Node {
     fn is_stale(&self, letter: &Letter) -> bool
         ensures { result ≡ is_stale letter.now (node_seen self.now).installed }
     {
-        self.shape.installed.makes_stale(letter)
+        has_epoch(&letter.body) && !is_same_epoch(&letter.epoch, &self.epoch())
     }
 
     // Whether the ticket stands.

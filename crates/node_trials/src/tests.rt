@@ -18,7 +18,6 @@
 //! A File has the number of its users more, a Strike that of its deletions, and the others that have a state its value: here, with
 //! its octets in a Push, n where a Push has none, gone, or x for the secret of a profile.
 mod calls;
-mod epochs;
 mod falls;
 mod letters;
 mod lines;
@@ -37,7 +36,6 @@ ghost use Rattle.node_core.specs.Spelling.{CanBeTaken};
 ghost use Rattle.node_core.specs.Works.{LeavesUp};
 
 use call_tickets::Call;
-use epochs::installs;
 use io_edge::Disk;
 use lines::{
     at, deletion_at, deliver_at, digit, fetch_at, id_at, letter_at, lines_of, login_at, named,
@@ -188,7 +186,6 @@ fn tells(alloc: Global, node: &mut Node, line: &[u8], out: &mut Vec<u8>) -> Resu
         b'o' => say_whether(out, node.is_due(node_at(line, 2))),
         b'i' => say_ticket(node, ticket_at(line), out),
         b'l' => say_ids(alloc, node, out),
-        b'I' => installs(alloc, node, line),
         b'u' => say_users(alloc, node, out),
         b'q' => say_whether(out, node.is_settled()),
         b'c' => {

@@ -11,7 +11,6 @@ pub mod Found
 pub mod Restarted
 mod Refused
 mod Said
-mod Epochs
 mod Looked
 mod Opened
 mod Outlasted

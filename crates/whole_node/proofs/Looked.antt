@@ -34,7 +34,7 @@ use Rattle.node_maps.specs.Hearing.{promise_due, left_by, HearsBody, StopsHearin
 use Rattle.node_maps.specs.declared.answer.Answer.{Answer}
 use Rattle.node_maps.specs.declared.maps.NodeMaps.{NodeMaps}
 use Rattle.node_core.specs.Nodes.{node_seen, NodeKeeps, end_in, IsAsBefore, IsSameNode, CanWork, IsWhole}
-use Rattle.node_core.specs.Works.{Rule, NodeDid, NodeStopped, NodeFailed}
+use Rattle.node_core.specs.Works.{Rule, NodeDid, NodeStopped, NodeFailed, HasLearned}
 use Rattle.node_core.specs.Hearing.{why_seen}
 use Rattle.node_core.specs.Spelling.{AllCanBeTaken}
 use Rattle.node_core.specs.declared.fault.NodeFault.{NodeFault}
@@ -45,14 +45,13 @@ use Rattle.node_core.specs.declared.outbox.Why.TheVariants as why
 use Rattle.node_core.specs.declared.outbox.Outbox.{Outbox}
 use Rattle.node_core.proofs.Doing.{did_none}
 use Rattle.node_core.proofs.Sending.{none_fit}
-use Rattle.whole_node.specs.Nodes.{IsOfOneEpoch, KnowsHere, HasMaps, WholeWorks}
-use Rattle.whole_node.specs.Hearing.{NamesANode, FitsMaps, maps_weight, maps_weight_of_all, why_refused, is_install, installs, HasTakenIn, appends_promise, learns_and_promises, PromiseStands, MakesPromise, TookLetter, TakesLetter, LeftByRule, LookedAt, ThrownStale, LookedAtOrStale, KeepsMaps, HearsOfMaps}
+use Rattle.whole_node.specs.Nodes.{joint_seen, KnowsHere, HasMaps, WholeWorks}
+use Rattle.whole_node.specs.Hearing.{NamesANode, FitsMaps, maps_weight, maps_weight_of_all, why_refused, is_install, appends_promise, learns_and_promises, PromiseStands, MakesPromise, TookLetter, TakesLetter, LeftByRule, LookedAt, ThrownStale, LookedAtOrStale, KeepsMaps, HearsOfMaps}
 use Rattle.whole_node.specs.declared.node.WholeNode.{WholeNode}
 use Rattle.whole_node.proofs.Holding.{holds_same}
 use Rattle.whole_node.proofs.Called.{same_own, done_stops, knows_any}
 use Rattle.whole_node.proofs.Refused.{refused_same, never_stale}
-use Rattle.whole_node.proofs.Said.{AreSaid, hears_boot, hears_epoch, are_said}
-use Rattle.whole_node.proofs.Epochs.{installs_boot, left_seen}
+use Rattle.whole_node.proofs.Said.{AreSaid, hears_boot, are_said}
 
 -- a letter makes the promise due to which it brings a node
 pub due_is : (node : maps.Node) (body : Body) → promise_due node body ≡ promise_by node body
@@ -125,15 +124,15 @@ has_ruled on rule promise old before new after sent has disk d own boot held = r
 }
 
 -- a promise and then the stamps of a letter
-did_learned : {D : Type 0} (on : View D) (body : Body) (promise : Option EpochId) (installed : Option Membership) (old mid new : Node) (before after : D) (sent : List Letter)
-    → NodeDid on (appends_promise promise []) old before mid after [] → HasTakenIn body installed mid new → AllCanBeTaken sent → NodeDid on (learns_and_promises body promise installed sent) old before new after sent
-did_learned on body promise installed old mid new before after sent d l fits = record {
+did_learned : {D : Type 0} (on : View D) (body : Body) (promise : Option EpochId) (old mid new : Node) (before after : D) (sent : List Letter)
+    → NodeDid on (appends_promise promise []) old before mid after [] → HasLearned body mid new → AllCanBeTaken sent → NodeDid on (learns_and_promises body promise sent) old before new after sent
+did_learned on body promise old mid new before after sent d l fits = record {
   added = d.added;
   disk = λ records k. d.disk records k;
-  node = λ records k. ap (λ (n : plain.Node). with_stamps body (installs body installed n)) (d.node records k) ∙ sym l.seen;
+  node = λ records k. ap (with_stamps body) (d.node records k) ∙ sym l.seen;
   out = λ records k. refl;
   keeps = λ records k. subst (KeepsRecords (records ++ d.added)) (sym l.store) (d.keeps records k);
-  boot = ap (λ (n : plain.Node). n.boot) l.seen ∙ installs_boot body installed (node_seen mid) ∙ d.boot;
+  boot = ap (λ (n : plain.Node). n.boot) l.seen ∙ d.boot;
   same = λ plan own p. l.same plan own (d.same plan own p);
   works = record { store = subst (CanGoOn (on.seen after)) (sym l.store) d.works.store; whole = l.whole d.works.whole };
   appends = subst (λ (n : ℕ). AppendsRecords on before after (end_in old) n d.added) (sym (ap (λ (s : NodeStore). end_of s.journal) l.store)) d.appends;
@@ -142,7 +141,7 @@ did_learned on body promise installed old mid new before after sent d l fits = r
 
 -- work that stopped, by another name of its rule
 stopped_so : {D : Type 0} (on : View D) (body : Body) (promise : Option EpochId) (old : Node) (before after : D) → NodeStopped on (appends_promise promise []) old before after
-    → NodeStopped on (learns_and_promises body promise None []) old before after
+    → NodeStopped on (learns_and_promises body promise []) old before after
 stopped_so on body promise old before after d = record {
   front = d.front;
   pending = d.pending;
@@ -218,16 +217,11 @@ module _ {D : Type 0} (on : View D) (letter : Letter) (old : WholeNode) (before 
       said_so : AreSaid letter.body outbox.letters
       said_so = are_said old.mail.store.own (node_of old.maps) (maps_disk_of works.maps.records) letter (left_by new.maps promise (maps_disk_of works.maps.records) outbox.letters) letter.body of (hears works.maps.records works.maps.keeps)
 
-      mail_did : NodeDid on (learns_and_promises letter.body promise (node_of new.maps).installed outbox.letters) old.mail before new.mail amid outbox.letters
-      mail_did = did_learned on letter.body promise (node_of new.maps).installed old.mail mid.mail new.mail before amid outbox.letters stands.did took.taken said_so.taken
+      mail_did : NodeDid on (learns_and_promises letter.body promise outbox.letters) old.mail before new.mail amid outbox.letters
+      mail_did = did_learned on letter.body promise old.mail mid.mail new.mail before amid outbox.letters stands.did took.learned said_so.taken
 
-      same_epoch : is_install letter.body ≡ false → (node_of new.maps).installed ≡ (node_of old.maps).installed
-      same_epoch none = hears_epoch old.mail.store.own (node_of old.maps) (maps_disk_of works.maps.records) letter (left_by new.maps promise (maps_disk_of works.maps.records) outbox.letters) letter.body of none
-          (hears works.maps.records works.maps.keeps)
-
-      mail_seen : IsOfOneEpoch old → node_seen new.mail ≡ record (with_stamps letter.body (node_seen old.mail)) { installed = (node_of new.maps).installed }
-      mail_seen one = sym (mail_did.node works.maps.records works.maps.keeps)
-          ∙ left_seen letter.body (node_of new.maps).installed (node_seen old.mail) (λ none. one.same ∙ sym (same_epoch none))
+      mail_seen : record (with_stamps letter.body (node_seen old.mail)) { installed = new.maps.group.installed } ≡ record (node_seen new.mail) { installed = new.maps.group.installed }
+      mail_seen = ap (λ (n : plain.Node). record n { installed = new.maps.group.installed }) (mail_did.node works.maps.records works.maps.keeps)
 
       looked : IsFresh → LookedAt on letter old before new amid outbox.thrown outbox.letters
       looked fresh = record {
@@ -237,8 +231,8 @@ module _ {D : Type 0} (on : View D) (letter : Letter) (old : WholeNode) (before 
         rule = λ records keeps. record {
           did = left_by new.maps promise (maps_disk_of records) outbox.letters;
           hears = hears records keeps;
-          left = λ one i. record {
-            node = record { mail = (mail_seen one) i; maps = node_of new.maps };
+          left = λ i. record {
+            node = record { mail = (sym mail_seen) i; maps = node_of new.maps };
             disk = records ++ promise_records promise;
             out = outbox.letters;
           };
@@ -265,7 +259,7 @@ module _ {D : Type 0} (on : View D) (letter : Letter) (old : WholeNode) (before 
       pub heard_works : WholeWorks (on.seen amid) new
       heard_works = record {
         mail = mail_did.works;
-        maps = has_ruled on (learns_and_promises letter.body promise (node_of new.maps).installed outbox.letters) promise old before new amid outbox.letters works.maps (λ records. refl) mail_did heard.own
+        maps = has_ruled on (learns_and_promises letter.body promise outbox.letters) promise old before new amid outbox.letters works.maps (λ records. refl) mail_did heard.own
             (hears_boot old.mail.store.own (node_of old.maps) (maps_disk_of works.maps.records) letter (left_by new.maps promise (maps_disk_of works.maps.records) outbox.letters) letter.body of
             (hears works.maps.records works.maps.keeps))
             heard.held;

@@ -19,7 +19,6 @@ use Rattle.whole_world.specs.Steps.{greatest_epoch}
 use Rattle.whole_world.specs.Makes.{done_for_maps}
 use Rattle.node_store.specs.Disks.{View}
 use Rattle.node_store.specs.declared.fault.KeepFault.TheVariants as keep
-use Rattle.node_store.specs.declared.store.NodeStore.{NodeStore}
 use Rattle.mailbox_fragment.specs.Here.{is_here_in}
 use Rattle.mailbox_fragment.specs.declared.fragments.Fragments.{Fragments}
 use Rattle.node_maps.specs.Nodes.{node_of, own_of, KeepsNode}
@@ -28,14 +27,13 @@ use Rattle.node_maps.specs.Rounds as rounds
 use Rattle.node_maps.specs.declared.concluding.Concluded.{Concluded}
 use Rattle.node_maps.specs.declared.maps.NodeMaps.{NodeMaps}
 use Rattle.node_core.specs.Nodes.{node_seen, NodeKeeps, CanWork}
-use Rattle.node_core.specs.Installing.{HasInstalled}
 use Rattle.node_core.specs.Spelling.{CanBeTaken, AllCanBeTaken}
 use Rattle.node_core.specs.Works.{NodeDid, NodeFailed, LeavesUp}
 use Rattle.node_core.specs.declared.fault.NodeFault.{NodeFault}
 use Rattle.node_core.specs.declared.fault.NodeFault.TheVariants.{Disk, Worn, NoMemory}
 use Rattle.node_core.specs.declared.node.Node.{Node}
 use Rattle.node_core.proofs.Sending.{none_fit}
-use Rattle.whole_node.specs.Nodes.{whole_seen, IsOfOneEpoch, KnowsHere, HasMaps, WholeWorks}
+use Rattle.whole_node.specs.Nodes.{joint_seen, KnowsHere, HasMaps, WholeWorks}
 use Rattle.whole_node.specs.Hearing.{FitsMaps, appends_promise}
 use Rattle.whole_node.specs.Grouping.{next_of, GroupOpened, Unopened, StopsOpening, OpensGroup, ConcludedBy, GroupConcluded, ConcludesOrNot, ConcludesGroup}
 use Rattle.whole_node.specs.Reporting.{users_first, ReportedBy, ReportsTo}
@@ -109,19 +107,16 @@ module _ {D : Type 0} (on : View D) (nodes : ℕ) (old : WholeNode) (before : D)
       turned_taken = All-permutation (λ (l : Letter). CanBeTaken l.body) letters (reverse letters) (IsPermutation-reverse letters)
           (subst AllCanBeTaken letters_are (groups_taken old.mail.store.own (next_of old) (others old.mail.store.own nodes)))
 
-      abbrev with_installed : Option Membership → plain.Node
-      with_installed installed = record (node_seen old.mail) { installed = installed }
-
-      mail_seen : IsOfOneEpoch old → node_seen new.mail ≡ record (node_seen old.mail) { installed = (node_of new.maps).installed }
-      mail_seen one = sym (d.node works.maps.records works.maps.keeps) ∙ ap with_installed (one.same ∙ ap (λ (r : rules.Reaction). r.node.installed) (started any_disk))
+      mail_seen : record (node_seen old.mail) { installed = new.maps.group.installed } ≡ record (node_seen new.mail) { installed = new.maps.group.installed }
+      mail_seen = ap (λ (n : plain.Node). record n { installed = new.maps.group.installed }) (d.node works.maps.records works.maps.keeps)
 
       pub opened_so : (done : Grouped) → nat_le greatest_epoch (node_of old.maps).heard ≡ false → done.epoch ≡ next_of old → done.letters ≡ reverse letters → GroupOpened on nodes old before new after done
       opened_so done fresh epoch is = record {
         fresh = fresh;
         epoch = epoch;
-        rule = λ records keeps one.
-            (λ i. record { node = record { mail = (mail_seen one) i; maps = node_of new.maps }; disk = records ++ promise_records (Some (next_of old)); out = is i })
-            ∙ ap (λ (r : rules.Reaction). done_for_maps (whole_seen old) records r (Some (next_of old)) (reverse r.out)) (sym (started (maps_disk_of records)));
+        rule = λ records keeps.
+            (λ i. record { node = record { mail = (sym mail_seen) i; maps = node_of new.maps }; disk = records ++ promise_records (Some (next_of old)); out = is i })
+            ∙ ap (λ (r : rules.Reaction). done_for_maps (joint_seen old) records r (Some (next_of old)) (reverse r.out)) (sym (started (maps_disk_of records)));
         mail = did_sent on (Some (next_of old)) old.mail new.mail before after done.letters d (subst AllCanBeTaken (sym is) turned_taken);
         fits = subst (All FitsMaps) (sym is) turned_fit;
       }
@@ -152,7 +147,7 @@ has_kept old new has mail kept = record {
   knows = λ user id. ap (λ (f : Fragments). is_here_in f user id) kept.held ∙ has.knows user id;
 }
 
-module _ (buckets : ℕ) (done : Concluded) (old new : WholeNode) (has : HasMaps old) (c : rounds.ConcludesGroup buckets done old.maps new.maps) (mail : HasInstalled (node_of new.maps).installed old.mail new.mail) where
+module _ (buckets : ℕ) (done : Concluded) (old new : WholeNode) (has : HasMaps old) (c : rounds.ConcludesGroup buckets done old.maps new.maps) (mail : new.mail ≡ old.mail) where
   concludes : (records : List Record) → NodeKeeps records old.mail → NodeInOrder old.mail.store.own (node_of old.maps) (maps_disk_of records)
       → rules.Concludes old.mail.store.own buckets (node_of old.maps) (maps_disk_of records) (left_by new.maps None (maps_disk_of records) done.letters)
   concludes records keeps order =
@@ -165,7 +160,7 @@ module _ (buckets : ℕ) (done : Concluded) (old new : WholeNode) (has : HasMaps
     rule = λ records keeps order. record {
       did = left_by new.maps None (maps_disk_of records) done.letters;
       concludes = concludes records keeps order;
-      left = λ i. record { node = record { mail = mail.seen i; maps = node_of new.maps }; disk = records ++ promise_records None; out = done.letters };
+      left = λ i. record { node = record { mail = record (node_seen (mail i)) { installed = new.maps.group.installed }; maps = node_of new.maps }; disk = records ++ promise_records None; out = done.letters };
     };
     epoch = c.epoch;
     mail = mail;
@@ -173,10 +168,10 @@ module _ (buckets : ℕ) (done : Concluded) (old new : WholeNode) (has : HasMaps
 
   pub concluded_has : HasMaps new
   concluded_has = record {
-    own = c.own ∙ has.own ∙ ap (λ (s : NodeStore). s.own) (sym mail.store);
-    boot = c.boot ∙ has.boot ∙ ap (λ (n : plain.Node). n.boot) (sym mail.seen);
+    own = c.own ∙ has.own ∙ ap (λ (n : Node). n.store.own) (sym mail);
+    boot = c.boot ∙ has.boot ∙ ap (λ (n : Node). (node_seen n).boot) (sym mail);
     records = has.records;
-    keeps = mail.keeps has.records has.keeps;
+    keeps = subst (NodeKeeps has.records) (sym mail) has.keeps;
     knows = λ user id. ap (λ (f : Fragments). is_here_in f user id) c.held ∙ has.knows user id;
   }
 
@@ -192,12 +187,9 @@ reported_so to room node (Ok letters) has other reports = record {
     reports = subst (λ (n : ℕ). rules.Reports n to (users_first membership to room node) (node_of node.maps) (maps_disk_of records) (left_by node.maps None (maps_disk_of records) letters)) has.own
         (subst (λ (o : Option Membership). rounds.ReportsIn o to (min room 64) letters node.maps) installed reports (maps_disk_of records)
         (is_disk records node.maps (knows_any node has records keeps)));
-    left = λ one i. record { node = record { mail = with_epoch (one.same i); maps = node_of node.maps }; disk = records ++ promise_records None; out = letters };
+    left = refl;
   };
 }
-  where
-    with_epoch : Option Membership → plain.Node
-    with_epoch installed = record (node_seen node.mail) { installed = installed }
 
 pub reports_none : (to room : ℕ) (node : WholeNode) (letters : List Letter) → to ≡ node.mail.store.own → letters ≡ [] → ReportsTo to room letters node
 reports_none to room node letters own none = record { own = λ e. none; without = λ e. none; sends = λ away. absurd (away own) }

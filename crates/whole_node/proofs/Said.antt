@@ -1,5 +1,5 @@
 -- What a rule of membership and maps leaves of a node's boot, and what it says.
-use Rattle.std.proofs.Common.{◌≡◌, ◌<◌, ◌+◌, ℕ, Bool, true, false, cond, nat_eq, List, [], ◌∷◌, map, Option, Some, None, refl, sym, ap, ◌∙◌, subst, arith, true≢false}
+use Rattle.std.proofs.Common.{◌≡◌, ◌<◌, ◌+◌, ℕ, Bool, true, false, cond, nat_eq, List, [], ◌∷◌, map, Option, Some, None, refl, sym, ap, ◌∙◌, subst, arith}
 use Rattle.std.specs.Prelude.{All}
 use Rattle.std.proofs.lemmas.List.Elements.{All-nil, All-cons}
 use Rattle.mail_model.specs.Identity.{EpochId}
@@ -17,7 +17,7 @@ use Rattle.maps_model.specs.Rules.HearsAck.{Stale as StaleAck, Clears, Other}
 use Rattle.whole_model.specs.Rules.{IsMapsBody}
 use Rattle.node_core.specs.Spelling.{CanBeTaken, AllCanBeTaken}
 use Rattle.node_core.proofs.Sending.{one_fits, none_fit}
-use Rattle.whole_node.specs.Hearing.{FitsMaps, maps_weight, maps_weight_of_all, is_install}
+use Rattle.whole_node.specs.Hearing.{FitsMaps, maps_weight, maps_weight_of_all}
 
 -- letters that fit
 pub none_says : All FitsMaps []
@@ -54,22 +54,6 @@ module _ (own : ℕ) (node : maps.Node) (disk : maps.Disk) (letter : Letter) (di
   hears_boot (ReportAck user version) of (Clears g a b c e) = ap (λ (x : rules.Reaction). x.node.boot) e
   hears_boot (ReportAck user version) of (Other g a b c e) = ap (λ (x : rules.Reaction). x.node.boot) e
   hears_boot other of h = absurd of
-
-  pub hears_epoch : (body : Body) → IsMapsBody body → is_install body ≡ false → rules.Hears own node disk letter body did → did.node.installed ≡ node.installed
-  hears_epoch (Group epoch) of none (Rises below e) = ap (λ (x : rules.Reaction). x.node.installed) e
-  hears_epoch (Group epoch) of none (Again same e) = ap (λ (x : rules.Reaction). x.node.installed) e
-  hears_epoch (Group epoch) of none (OldGroup below e) = ap (λ (x : rules.Reaction). x.node.installed) e
-  hears_epoch (Join epoch promise boot was claims) of none (Late n e) = ap (λ (x : rules.Reaction). x.node.installed) e
-  hears_epoch (Join epoch promise boot was claims) of none (Above g a b c e) = ap (λ (x : rules.Reaction). x.node.installed) e
-  hears_epoch (Join epoch promise boot was claims) of none (Joins g a b c e) = ap (λ (x : rules.Reaction). x.node.installed) e
-  hears_epoch (Install g) of none h = absurd (true≢false none)
-  hears_epoch (Report row) of none (StaleReport n e) = ap (λ (x : rules.Reaction). x.node.installed) e
-  hears_epoch (Report row) of none (Takes g a b c e) = ap (λ (x : rules.Reaction). x.node.installed) e
-  hears_epoch (Report row) of none (Older g a b s c d e) = ap (λ (x : rules.Reaction). x.node.installed) e
-  hears_epoch (ReportAck user version) of none (StaleAck n e) = ap (λ (x : rules.Reaction). x.node.installed) e
-  hears_epoch (ReportAck user version) of none (Clears g a b c e) = ap (λ (x : rules.Reaction). x.node.installed) e
-  hears_epoch (ReportAck user version) of none (Other g a b c e) = ap (λ (x : rules.Reaction). x.node.installed) e
-  hears_epoch other of none h = absurd of
 
   nothing : (body : Body) → 0 < maps_weight body → (r : rules.Reaction) → did ≡ r → r.out ≡ [] → AreSaid body did.out
   nothing body some r e none = subst (AreSaid body) (sym (ap (λ (x : rules.Reaction). x.out) e ∙ none)) (record { fits = none_says; taken = none_fit; light = some })

@@ -1,5 +1,5 @@
 -- A whole node of the code: what it has for messages, and its maps, which know what its disk says is here.
-use Rattle.std.specs.Prelude.{◌≡◌, ℕ, true, List, Option, None}
+use Rattle.std.specs.Prelude.{◌≡◌, ℕ, true, List, Option}
 use Rattle.mail_model.specs.Identity.{Id}
 use Rattle.mail_model.specs.Identity.Key.{Message}
 use Rattle.mail_model.specs.Record.{Record}
@@ -18,13 +18,9 @@ use Rattle.whole_node.specs.declared.node.WholeNode.{WholeNode}
 abbrev pub whole_seen : WholeNode → whole.Node
 whole_seen node = record { mail = node_seen node.mail; maps = node_of node.maps }
 
--- and where messages have no epoch
-abbrev pub without_epoch : WholeNode → whole.Node
-without_epoch node = record { mail = record (node_seen node.mail) { installed = None }; maps = node_of node.maps }
-
--- Messages go by the membership that its maps have installed. It is not so at a node that has started: its maps have none, and messages have the first, which is built in.
-pub record IsOfOneEpoch (node : WholeNode) : Type 0 where
-  pub same : (node_seen node.mail).installed ≡ (node_of node.maps).installed
+-- and where both halves have the membership that its maps have installed
+abbrev pub joint_seen : WholeNode → whole.Node
+joint_seen node = record { mail = record (node_seen node.mail) { installed = node.maps.group.installed }; maps = node_of node.maps }
 
 -- the maps know of each message whether these records say that it is here
 abbrev pub KnowsHere : List Record → NodeMaps → Type 0

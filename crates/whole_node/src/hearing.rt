@@ -84,8 +84,7 @@ pub fn fits_maps(letter: &Letter) -> bool
     names_a_node(&letter.body) && tells_own_row(letter)
 }
 
-/// Whether it is an Install.
-pub(crate) fn is_install(body: &Body) -> bool
+fn is_install(body: &Body) -> bool
     ensures { result ≡ is_install (body_seen body.now) }
 {
     match body {
@@ -205,14 +204,12 @@ impl WholeNode {
         }
     }
 
-    // The letter is taken in. The promise that it makes due stands on the disk. After an Install messages go by the epoch that the
-    // maps have.
+    // The letter is taken in. The promise that it makes due stands on the disk.
     fn take_letter(&mut self, alloc: Global, letter: &Letter) -> Result<Outbox, AllocError>
         requires row { TellsOwnRow letter.now.from letter.now.body }
         ensures { TakesLetter letter.now result self.old self.new }
     {
         let answer = self.maps.hear(alloc, letter)?;
-        self.share_after(&letter.body)?;
         self.mail.learn(&letter.body);
         Ok(outbox_of(answer))
     }

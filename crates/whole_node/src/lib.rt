@@ -18,7 +18,6 @@
 //! | `open_group` | the node promises the epoch of a group of its own, and asks the other nodes to join it |
 //! | `conclude` | the open group is concluded: those who joined are its members |
 //! | `report` | the Reports of the first rows that are due to a node |
-//! | `share_epoch` | messages go by the epoch that the maps have installed |
 //! | `widen`, `push`, `ask`, `give_up`, `mishap` | nothing: they change of no message whether it is here |
 //!
 //! `mail` and `maps` show both halves, and what each of them tells is read there.
@@ -47,13 +46,11 @@
 //!
 //! WHAT IT DOES NOT DO
 //!
-//! A node that has started has the first epoch for messages, whose members are all nodes of the plan, and none for its maps;
-//! `share_epoch` makes it none for both, and each Install and each conclusion then leaves both with one. A world has its nodes
+//! The half for messages still has all nodes of the plan as members: an epoch is known to the maps alone. A world has its nodes
 //! hear letters of messages alone (`hear_mail`), and forms no groups yet.
 #![tactic(auto)]
 
 mod calls;
-mod epoch;
 mod grouping;
 mod hear;
 mod hearing;
