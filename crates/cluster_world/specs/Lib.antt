@@ -1,3 +1,5 @@
+pub mod Forming
+pub mod Hears
 pub mod Flights
 pub mod Books
 pub mod Lives
@@ -30,4 +32,6 @@ pub mod Begins
 pub mod Widens
 pub mod Pushes
 pub mod Posts
+pub mod Forms
 pub mod Runs
+pub mod Regroups

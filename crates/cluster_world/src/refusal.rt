@@ -45,6 +45,8 @@ fn actor(step: &Step) -> Option<NodeNo>
 {
     match step {
         Step::Begin { node, .. }
+        | Step::Group { node }
+        | Step::Conclude { node }
         | Step::Crash { node }
         | Step::Start { node }
         | Step::Lose { node } => Some(*node),
@@ -67,6 +69,8 @@ impl<D> Nodes<D> {
     {
         match step {
             Step::Begin { node, .. }
+            | Step::Group { node }
+            | Step::Conclude { node }
             | Step::Crash { node }
             | Step::Start { node }
             | Step::Lose { node } => self.has(*node),
