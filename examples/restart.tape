@@ -16,7 +16,6 @@ say 1 .
 say 1 MAIL FROM:<bob@b.example>
 crash 1
 start 1
-regroup 1
 open pop 1
 say 2 USER alice
 say 2 PASS tanstaaf
@@ -25,7 +24,6 @@ say 2 RETR 1
 say 2 DELE 1
 crash 1
 start 1
-regroup 1
 open pop 1
 say 3 USER alice
 say 3 PASS tanstaaf
@@ -34,7 +32,6 @@ say 3 DELE 1
 say 3 QUIT
 crash 1
 start 1
-regroup 1
 open smtp 1
 say 4 HELO c.example
 say 4 MAIL FROM:<bob@b.example>

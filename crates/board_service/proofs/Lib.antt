@@ -1,6 +1,4 @@
-pub mod Members
 pub mod Still
-pub mod Regrouped
 pub mod Ordered
 pub mod Turned
 pub mod Said

@@ -94,7 +94,7 @@ module _ (confirm : ℕ) (May : Id → List ℕ → Type 0) (old : World) where
 
   starts_lead : (plan : Plan) (n : ℕ) (said : Said) (new : World) → StartsUp plan old n said new → To new
   starts_lead plan n said new (Comes disk pending node records here starts below is new_world) = subst To (sym new_world)
-      (changes_life (CameUp n node.boot) (λ slots. tt) (start_act n disk pending node records) refl refl refl refl here (λ ready. start_acts n disk pending records node starts ready))
+      (changes_life (CameUp n node.boot) (λ slots. tt) (start_act n disk pending node records) refl refl refl refl here (λ ready. start_acts n plan.nodes disk pending records node starts ready))
   starts_lead plan n said new (FailsStarting disk pending next records here stops is new_world) = stops_lead n disk pending next records new here stops new_world
 
   falls_lead : (n : ℕ) (life : Life) (entry : BookEntry) (said : Said) (new : World) → ((slots : List Slot) → MayEnter confirm entry slots) → (life ≡ Down []) ⊎ (life ≡ Lost)

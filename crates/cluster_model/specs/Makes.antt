@@ -231,7 +231,7 @@ pub data FormsAt (old : World) (own : ℕ) (said : Said) (new : World) : Type 0 
 -- A node that is down starts, and the book has it. Where its disk fails it stays down.
 pub data StartsUp (plan : Plan) (old : World) (n : ℕ) (said : Said) (new : World) : Type 0 where
   Comes : (disk pending : List Record) (node : Node) (records : List Record) → slot_at old.slots n ≡ Some (record { life = Down pending; disk = disk })
-      → StartsNode n disk pending node records → node.boot ≤ greatest_boot → said ≡ NodeUp node.boot
+      → StartsNode n plan.nodes disk pending node records → node.boot ≤ greatest_boot → said ≡ NodeUp node.boot
       → new ≡ record old { slots = with_slot old.slots n (slot_up node records); book = old.book ++ CameUp n node.boot ∷ [] }
       → StartsUp plan old n said new
   FailsStarting : (disk pending next records : List Record) → slot_at old.slots n ≡ Some (record { life = Down pending; disk = disk })

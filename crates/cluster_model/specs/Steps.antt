@@ -1,5 +1,5 @@
 -- What can be done with a world, what it answers, and what is refused.
-use Rattle.std.specs.Prelude.{ℕ, ◌+◌, ◌-◌, ◌^◌, max, Bool, true, false, not, ◌&&◌, ◌||◌, nat_eq, nat_lt, nat_le, List, [], ◌∷◌, length, Option, Some, None, is_some, if◌then◌else◌}
+use Rattle.std.specs.Prelude.{ℕ, ◌+◌, ◌-◌, ◌^◌, Bool, true, false, not, ◌&&◌, ◌||◌, nat_eq, nat_lt, nat_le, List, [], ◌∷◌, length, Option, Some, None, is_some, if◌then◌else◌}
 use Rattle.std.specs.List.{list_all}
 use Rattle.mail_model.specs.Identity.{Id, EpochId}
 use Rattle.mail_model.specs.Plan.{Plan, Proof}
@@ -155,9 +155,9 @@ ticket_fault (AskFor ticket) slots = if stands_at ticket (slot_at slots ticket.n
 ticket_fault (GiveUp ticket) slots = if stands_at ticket (slot_at slots ticket.node) then None else Some NoSuchTicket
 ticket_fault step slots = None
 
--- Whether the node's epoch has fewer than F members, or none. A node without an epoch has none.
+-- whether the node's epoch has fewer than F members
 abbrev pub has_few_members : Plan → Node → Bool
-has_few_members plan node = nat_lt (length (nodes_in (members_of node) plan.nodes)) (max 1 plan.confirm)
+has_few_members plan node = nat_lt (length (nodes_in (members_of node) plan.nodes)) plan.confirm
 
 -- the first second after the last year that a date can have
 abbrev pub end_of_dates : ℕ

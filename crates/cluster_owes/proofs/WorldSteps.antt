@@ -157,7 +157,7 @@ posts_go plan old new number keep said (FailsForMaps flies node disk promise up 
 
 -- a node starts
 module _ (old : World) (n : ℕ) (disk pending : List Record) (node : Node) (records : List Record) (here : slot_at old.slots n ≡ Some (record { life = Down pending; disk = disk }))
-    (rises : boot_of disk ≤ boot_of (disk ++ pending)) (starts : StartsNode n disk pending node records) where
+    (rises : boot_of disk ≤ boot_of (disk ++ pending)) (nodes : ℕ) (starts : StartsNode n nodes disk pending node records) where
   boot_is : node.boot ≡ boot_of (disk ++ starts.kept) + 1
   boot_is = ap (λ (x : Node). x.boot) starts.is
 
@@ -247,7 +247,7 @@ module _ (plan : Plan) (tells : Bool) (old new : World) (sound : Sound plan.conf
 
   starts_go : (n : ℕ) (said : Said) → StartsUp plan old n said new → OtherGoes old new
   starts_go n said (Comes disk pending node records here starts below is new_world) = subst (λ (w : World). OtherGoes old w) (sym new_world)
-      (comes_goes old n disk pending node records here (sound.order.each n (record { life = Down pending; disk = disk }) here).rises starts)
+      (comes_goes old n disk pending node records here (sound.order.each n (record { life = Down pending; disk = disk }) here).rises plan.nodes starts)
   starts_go n said (FailsStarting disk pending next records here stops is new_world) = stops_go n disk pending next records here new_world
 
   does_go : (step : Step) (said : Said) → IsIdleStep step (Says said) → DoesStep plan tells old step said new → OtherGoes old new

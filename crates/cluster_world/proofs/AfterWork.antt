@@ -340,14 +340,14 @@ module _ {D : Type 0} (on : View D) (n : ℕ) (P : Life → D → Life → D →
     not_lost slot (seen, life_is, st) lost = let never : plain.Life.Up seen ≡ plain.Life.Lost = sym life_is ∙ lost in cc
 
     module _ (change : List Slot → List Slot) (only : OnlyTickets on change mid new) where
-      pub idle_stands : (w : machine.World) → StateStandsFor on start w → (left : List Flight) → flying'.flights ≡ left → flying'.sent ≡ flying.sent → booked_by book' ≡ booked_by book
+      pub idle_stands : (w : machine.World) → StateStandsFor on start w → (left : List Flight) → flying'.flights ≡ left → flying'.sent ≡ flying.sent → book' ≡ book
           → StateStandsFor on final (record w { slots = change w.slots; flying = left })
-      idle_stands w st left flies sent booked_is =
+      idle_stands w st left flies sent book_is =
           let (slot, here, stood) = up_slot w st in
           let now : SlotStands on n ch.life' ch.disk' slot =
           subst (λ d. SlotStands on n ch.life' d slot) (sym untold) (subst (λ l. SlotStands on n l ch.disk slot) (sym is) (same_slot slot stood)) in
           subst (λ slots. StateStandsFor on final (record w { slots = change slots; flying = left })) (slot_same w.slots n slot here)
-          (work_stands on n P old mid new ch change only flying flying' seconds book book' w st slot now left flies w.sent (sent ∙ st.sent) w.book (booked_is ∙ st.book))
+          (work_stands on n P old mid new ch change only flying flying' seconds book book' w st slot now left flies w.sent (sent ∙ st.sent) w.book (ap booked_by book_is ∙ st.book))
 
       pub idle_stops : (w : machine.World) → StateStandsFor on start w → (slots : List Slot) → ((m : ℕ) → kept_at (slot_at slots m) ≡ kept_at (slot_at w.slots m)) → EveryStopKeeps on start final w.slots slots
       idle_stops w st slots kept =

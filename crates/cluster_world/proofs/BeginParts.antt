@@ -1,7 +1,7 @@
 -- A call that begins at a node that is up: how the node and its disk then are.
 use Rattle.std.proofs.Common.{◌≡◌, ◌⊎◌, inl, inr, ℕ, ◌+◌, ◌<◌, ◌≤◌, true, false, List, [], ◌∷◌, Option, Some, None, Result, Ok, Err, refl, sym, ap, ◌∙◌, subst, arith}
 use Rattle.std.specs.Prelude.{IfOk, is_some, slice_get, slice_set}
-use Rattle.std.proofs.Common.{get_or, All}
+use Rattle.std.proofs.Common.{get_or}
 use Rattle.std.proofs.lemmas.Option.{slice_get-get_or}
 use Rattle.std.specs.List.{list_all}
 use Rattle.std.proofs.lemmas.Bool.{and_parts}
@@ -25,8 +25,6 @@ use Rattle.node_core.specs.declared.fault.NodeFault.TheVariants.{Disk, Worn, NoM
 use Rattle.node_core.specs.declared.node.Node.{Node}
 use Rattle.node_core.specs.declared.outbox.Outbox.{Outbox}
 use Rattle.call_tickets.specs.declared.call.Call.{Call}
-use Rattle.whole_node.specs.Hearing.{FitsMaps}
-use Rattle.cluster_world.specs.Hears.{AllCanBeHeard}
 use Rattle.cluster_world.specs.Begins.{BeginsAt, HasRule}
 use Rattle.cluster_world.specs.Changes.{ChangesNode}
 use Rattle.cluster_world.specs.Lives.{life_seen, of_node, falls_left, all_falls_left, CanWorkOn}
@@ -42,7 +40,6 @@ use Rattle.cluster_world.specs.declared.fault.StepFault.TheVariants as fault
 use Rattle.cluster_world.proofs.Still.{some_same}
 use Rattle.cluster_world.proofs.Changing.{changed_at, node_at}
 use Rattle.cluster_world.proofs.Asked.{ready_of}
-use Rattle.cluster_world.proofs.FlightLaws.{all_heard}
 use Rattle.cluster_world.proofs.Turned.{still_ready, falls_now}
 use Rattle.cluster_world.proofs.Refusing.{fit_of}
 
@@ -237,9 +234,9 @@ module _ {D : Type 0} (on : View D) (is_settled : D → Type 0) (n : ℕ) (call 
   fits_by ticket sent (CallDid.Reads kind found of_kind those t did) = did.fits
   fits_by ticket sent (CallDid.Leaves user called t none same disk) = subst AllCanBeTaken (sym none) none_fit
 
-  pub begin_heard : (r : Began) → began ≡ r → IfOk r (λ begun. All FitsMaps begun.1.letters) → IfOk r (λ begun. AllCanBeHeard begun.1.letters)
-  begin_heard (Ok begun) e fits = all_heard begun.1.letters (fits_by begun.0 begun.1.letters (begin_did (Ok begun) e).did) fits
-  begin_heard (Err why) e fits = tt
+  pub begin_heard : (r : Began) → began ≡ r → IfOk r (λ begun. AllCanBeTaken begun.1.letters)
+  begin_heard (Ok begun) e = fits_by begun.0 begun.1.letters (begin_did (Ok begun) e).did
+  begin_heard (Err why) e = tt
 
   up_alone : (node : Node) → ch.life' ≡ Up node → StaysUp ⊎ FellDown → IsNodeOf old.plan n node × CanWork (on.seen ch.disk') node
   up_alone node up (inl s) =

@@ -6,18 +6,16 @@ use Rattle.io_edge.specs.Moments.{IsOnly}
 use Rattle.io_edge.specs.Octets.{IsToldAlike}
 use Rattle.mail_model.specs.Plan.{Plan}
 use Rattle.mail_model.specs.Record.{payloads_of}
-use Rattle.mail_model.specs.Record.Record.{Boot, Promise}
-use Rattle.object_model.specs.Letters.{MapRow}
+use Rattle.mail_model.specs.Record.Record.{Boot}
 use Rattle.mail_model.proofs.Sessions.{get_set, get_set_other}
 use Rattle.session_model.specs.Events.{NodeLife as life}
 use Rattle.cluster_model.specs.Cluster as plain
-use Rattle.cluster_model.specs.Starts.{first_epoch, fresh_node}
 use Rattle.cluster_model.specs.WorldLaws.{fresh_slot, fresh_slots}
 use Rattle.disk_journal.specs.Journal.{EndsAt}
 use Rattle.node_store.specs.Disks.{View}
+use Rattle.node_core.specs.First.{fresh_node}
 use Rattle.node_core.specs.Nodes.{end_in, CanWork, IsNodeOf}
 use Rattle.node_core.specs.declared.node.Node.{Node}
-use Rattle.whole_node.specs.Starting.{first_map}
 use Rattle.world_book.specs.Books.{entries_of}
 use Rattle.cluster_world.specs.Books.{entries_seen}
 use Rattle.cluster_world.specs.Lives.{of_node, CanWorkOn}
@@ -163,27 +161,27 @@ none_refused on disks = record {
 }
 
 -- the slots of a beginning
-fresh_count : (nodes : ℕ) (map : List MapRow) (m : ℕ) → length (fresh_slots nodes map m) ≡ m
-fresh_count nodes map zero = refl
-fresh_count nodes map (suc m) = ap suc (fresh_count nodes map m)
+fresh_count : (nodes m : ℕ) → length (fresh_slots nodes m) ≡ m
+fresh_count nodes zero = refl
+fresh_count nodes (suc m) = ap suc (fresh_count nodes m)
 
-fresh_at : (nodes : ℕ) (map : List MapRow) (m k : ℕ) (slot : plain.Slot) → slice_get (fresh_slots nodes map m) k ≡ Some slot → slot ≡ fresh_slot nodes map
-fresh_at nodes map zero k slot e = absurd (let never : None ≡ Some slot = e in cc)
-fresh_at nodes map (suc m) zero slot e = some_same slot (fresh_slot nodes map) (sym e)
-fresh_at nodes map (suc m) (suc k) slot e = fresh_at nodes map m k slot e
+fresh_at : (nodes m k : ℕ) (slot : plain.Slot) → slice_get (fresh_slots nodes m) k ≡ Some slot → slot ≡ fresh_slot nodes
+fresh_at nodes zero k slot e = absurd (let never : None ≡ Some slot = e in cc)
+fresh_at nodes (suc m) zero slot e = some_same slot (fresh_slot nodes) (sym e)
+fresh_at nodes (suc m) (suc k) slot e = fresh_at nodes m k slot e
 
 module _ {D : Type 0} (on : View D) (is_settled : D → Type 0) (only : (disk : D) → is_settled disk → IfSome (on.seen disk) (λ held. IsOnly on.clock disk held)) (plan : Plan) where
-  fresh_stands : (n : ℕ) (life : Life) (before after : D) → IsOpenedOn on is_settled plan n life before after → SlotStands on n life after (fresh_slot plan.nodes (first_map plan))
+  fresh_stands : (n : ℕ) (life : Life) (before after : D) → IsOpenedOn on is_settled plan n life before after → SlotStands on n life after (fresh_slot plan.nodes)
   fresh_stands n life before after o =
-      subst (λ l. SlotStands on n l after (fresh_slot plan.nodes (first_map plan))) (sym o.is) (
-        fresh_node plan.nodes (first_map plan),
+      subst (λ l. SlotStands on n l after (fresh_slot plan.nodes)) (sym o.is) (
+        fresh_node plan.nodes,
         refl,
         record {
           seen_is = o.first.seen_is;
           keeps = o.first.keeps;
           tells = o.first.tells;
-          images = both_held (on.seen after) (λ held. IsOnly on.clock after held) (λ held. EndsAt n held (payloads_of (Boot 1 ∷ Promise first_epoch ∷ [])) (end_in o.node)) _
-              (λ held alone ends c image. subst (λ x. EndsAt n x (payloads_of (Boot 1 ∷ Promise first_epoch ∷ [])) (end_in o.node)) (sym (alone c image)) ends) (only after o.settled) o.first.tells;
+          images = both_held (on.seen after) (λ held. IsOnly on.clock after held) (λ held. EndsAt n held (payloads_of (Boot 1 ∷ [])) (end_in o.node)) _
+              (λ held alone ends c image. subst (λ x. EndsAt n x (payloads_of (Boot 1 ∷ [])) (end_in o.node)) (sym (alone c image)) ends) (only after o.settled) o.first.tells;
         },
       )
 
@@ -195,12 +193,12 @@ module _ {D : Type 0} (on : View D) (is_settled : D → Type 0) (only : (disk : 
     opened_at : (k : ℕ) (life : Life) (d' : D) → slice_get lives k ≡ Some life → slice_get new k ≡ Some d' → (d : D) × IsOpenedOn on is_settled plan (suc k) life d d'
     opened_at k life d' a b = let (d, here) = was_there k d' b in (d, o.each k life d d' a here b)
 
-    pub opened_slots : length lives ≡ plan.nodes → SlotsStand on lives new (fresh_slots plan.nodes (first_map plan) plan.nodes)
+    pub opened_slots : length lives ≡ plan.nodes → SlotsStand on lives new (fresh_slots plan.nodes plan.nodes)
     opened_slots many = record {
-      count = fresh_count plan.nodes (first_map plan) plan.nodes ∙ sym many;
+      count = fresh_count plan.nodes plan.nodes ∙ sym many;
       each = λ k life disk slot a b c.
           let (d, so) = opened_at k life disk a b in
-          subst (λ s. SlotStands on (suc k) life disk s) (sym (fresh_at plan.nodes (first_map plan) plan.nodes k slot c)) (fresh_stands (suc k) life d disk so);
+          subst (λ s. SlotStands on (suc k) life disk s) (sym (fresh_at plan.nodes plan.nodes k slot c)) (fresh_stands (suc k) life d disk so);
     }
 
     up_is : (x y : Node) → Up x ≡ Up y → x ≡ y
@@ -234,8 +232,8 @@ module _ {D : Type 0} (on : View D) (is_settled : D → Type 0) (only : (disk : 
         plan_is = plan_is;
         steps = no_steps;
         stands = record {
-          slots = subst (λ ds. SlotsStand on world.nodes.lives.items ds (fresh_slots plan.nodes (first_map plan) plan.nodes)) (sym disks_are)
-              (subst (λ ls. SlotsStand on ls new (fresh_slots plan.nodes (first_map plan) plan.nodes)) (sym lives_are) (opened_slots many));
+          slots = subst (λ ds. SlotsStand on world.nodes.lives.items ds (fresh_slots plan.nodes plan.nodes)) (sym disks_are)
+              (subst (λ ls. SlotsStand on ls new (fresh_slots plan.nodes plan.nodes)) (sym lives_are) (opened_slots many));
           flying = none_fly;
           sent = none_sent;
           seconds = first_second;

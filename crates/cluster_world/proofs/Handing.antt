@@ -5,6 +5,7 @@ use Rattle.std.proofs.lemmas.Option.{slice_get_within, slice_get-get_or}
 use Rattle.mail_model.specs.Plan.{Plan}
 use Rattle.object_model.specs.Letters.{Letter}
 use Rattle.node_store.specs.Disks.{View}
+use Rattle.node_core.specs.Hearing.{HearsLetter}
 use Rattle.node_core.specs.Nodes.{CanWork, IsNodeOf}
 use Rattle.node_core.specs.Works.{LeavesUp}
 use Rattle.node_core.specs.declared.fault.NodeFault.{NodeFault}
@@ -13,7 +14,6 @@ use Rattle.node_core.specs.declared.outbox.Outbox.{Outbox}
 use Rattle.cluster_world.specs.Lives.{life_seen, is_up_life, of_node, CanWorkOn}
 use Rattle.cluster_world.specs.Worlds.{seen_life, life_among}
 use Rattle.cluster_world.specs.Changes.{ChangesNode}
-use Rattle.cluster_world.specs.Hears.{HearsAny}
 use Rattle.cluster_world.specs.Turning.{TurnsBy}
 use Rattle.cluster_world.specs.Posts.{HearsAtNode}
 use Rattle.cluster_world.specs.declared.life.Life.{Life}
@@ -59,7 +59,7 @@ module _ {D : Type 0} (nodes : Nodes D) (n k : ℕ) (at : k + 1 ≡ n) (up : is_
     -- it did
     pub heard_in : (on : View D) (is_settled : D → Type 0) (letter : Letter) (result : Result Outbox NodeFault) (new : Nodes D) (l' : Life) (d' : D) → CanWorkOn on.seen nodes.plan nodes.lives.items nodes.disks.items
         → new.plan ≡ nodes.plan → new.lives.items ≡ slice_set nodes.lives.items k l' → new.disks.items ≡ slice_set nodes.disks.items k d'
-        → TurnsBy (λ result old before new after. (plan : Plan) (own : ℕ) → IsNodeOf plan own old → HearsAny on own plan.nodes letter old before new after result) result l d l' d'
+        → TurnsBy (λ result old before new after. (plan : Plan) (own : ℕ) → IsNodeOf plan own old → HearsLetter on own plan.nodes letter old before new after result) result l d l' d'
         → (LeavesUp result → is_settled d → is_settled d') → ChangesNode n (HearsAtNode on is_settled nodes.plan n letter result) nodes new
     heard_in on is_settled letter result new l' d' works p e f t settled =
         changed_at n k (HearsAtNode on is_settled nodes.plan n letter result) nodes new l l' d d' at life_here disk_here p e f

@@ -29,7 +29,6 @@ use Rattle.cluster_model.proofs.Waiting.{pending_letter}
 use Rattle.cluster_model.proofs.Midst.{keep_in_midst}
 use Rattle.cluster_owes.specs.Outcomes as owes
 use Rattle.node_store.specs.Disks.{View}
-use Rattle.whole_node.specs.Starting.{first_map}
 use Rattle.node_core.specs.Nodes.{node_seen}
 use Rattle.node_core.specs.declared.node.Node.{Node}
 use Rattle.cluster_world.specs.Lives.{life_seen, of_node}
@@ -99,10 +98,10 @@ module _ {D : Type 0} (on : View D) where
       let told = disks_tell on.seen last in
       let few : plan.nodes ≤ 64 = omega (arith, start.nodes.few, ap (λ (p : Plan). p.nodes) d.begins.plan_is) in
       let m = mirror_all on plan told lines few outcomes [] [] left start last (record { plan_is = d.begins.plan_is; told_is = sym s.told })
-      (record { outs = []; next = opening_world plan.nodes (first_map plan); makes = refl; stands = d.begins.stands; asked = refl; answered = refl; within = λ one k. absurd k; sessions = λ lines of. tt })
+      (record { outs = []; next = opening_world plan.nodes; makes = refl; stands = d.begins.stands; asked = refl; answered = refl; within = λ one k. absurd k; sessions = λ lines of. tt })
       (⊎_elim (λ t. inl (s.told ∙ t)) (λ b. inr (subst (λ (p : Plan). AllBlind p.nodes outcomes) d.begins.plan_is b)) d.known) d.sessions d.makes in
-      let opens = opening_sound plan.nodes plan.confirm (first_map plan) few in
-      let both = makes_sound plan told m.outs [] (opening_world plan.nodes (first_map plan)) m.next m.makes opens.0 opens.1 in
+      let opens = opening_sound plan.nodes plan.confirm few in
+      let both = makes_sound plan told m.outs [] (opening_world plan.nodes) m.next m.makes opens.0 opens.1 in
       record { w = m.next; stands = m.stands; in_plan = both.0; sound = both.1 }
 
   -- the slot of a node that is up

@@ -22,9 +22,7 @@ pub mod FirstBoots
 pub mod FlightLaws
 pub mod Flowing
 pub mod Given
-pub mod Grouping
 pub mod Handing
-pub mod Hearing
 pub mod Holding
 pub mod InTurn
 pub mod Kept
@@ -46,7 +44,6 @@ pub mod Quietly
 pub mod Refusals
 pub mod Refused
 pub mod Refusing
-pub mod Rounds
 pub mod Same
 pub mod SeenAlike
 pub mod Starts

@@ -1,23 +1,20 @@
 -- A letter is handed to its receiver.
 use Rattle.std.proofs.Common.{◌≡◌, ◌⊎◌, inl, inr, ℕ, zero, suc, ◌≤◌, ◌<◌, Bool, true, false, ◌||◌, nat_le, List, [], ◌∷◌, ◌++◌, length, Option, Some, None, is_some, Ok, Err, refl, sym, ap, ◌∙◌, subst, arith, if◌then◌else◌}
 use Rattle.io_edge.specs.Causes.{Rose}
-use Rattle.mail_model.specs.Identity.{EpochId}
 use Rattle.mail_model.specs.Plan.{Plan}
 use Rattle.mail_model.specs.Record.{Record}
 use Rattle.mail_model.specs.Book.BookEntry.{WentDown}
-use Rattle.object_model.specs.Lists.{Among}
-use Rattle.object_model.specs.Letters.{Membership, Letter}
+use Rattle.object_model.specs.Letters.{Letter}
 use Rattle.object_model.specs.Mishaps.{MishapKind as mishap}
-use Rattle.session_model.specs.Events.{NodeLife, NodeLife as life, turned}
+use Rattle.session_model.specs.Events.{NodeLife as life, turned}
 use Rattle.cluster_model.specs.Cluster as plain
 use Rattle.cluster_model.specs.Cluster.{Slot, slot_at}
 use Rattle.cluster_model.specs.Deeds.{slot_up, hear}
 use Rattle.cluster_model.specs.Thrown as thrown
-use Rattle.cluster_model.specs.Thrown.{is_stale, thrown_by, with_stamps}
+use Rattle.cluster_model.specs.Thrown.{thrown_by}
 use Rattle.cluster_model.specs.World as machine
 use Rattle.cluster_model.specs.World.{Flies, flies_on, missed}
-use Rattle.cluster_model.specs.Forms.{IsMapsBody, IsPlainMaps}
-use Rattle.cluster_model.specs.Makes.{IsUp, IsHeardOrThrown, Posts, RunsShort, NodeGoesDown, lost_letter, cut_world, after}
+use Rattle.cluster_model.specs.Makes.{IsUp, Posts, RunsShort, lost_letter, cut_world, after}
 use Rattle.cluster_model.specs.Steps as steps
 use Rattle.cluster_model.specs.Steps.{letter_at, letters_end, first_fault, step_fault}
 use Rattle.cluster_model.specs.Steps.StepFault.{NoSuchLetter, Worn}
@@ -33,7 +30,6 @@ use Rattle.world_book.specs.Books.{entries_of}
 use Rattle.world_book.specs.declared.book.Book.{Book}
 use Rattle.world_book.specs.declared.entry.Entry.TheVariants as written
 use Rattle.cluster_world.specs.Books.{entries_seen, booked_by}
-use Rattle.cluster_world.specs.Forming.{forms_rule}
 use Rattle.cluster_world.specs.Flights.{InFlight, flights_without, taken_out, put_down, weight_of_flights}
 use Rattle.cluster_world.specs.Lives.{life_seen, is_up_life, of_node}
 use Rattle.cluster_world.specs.Stands.{SlotStands}
@@ -41,13 +37,10 @@ use Rattle.cluster_world.specs.Worlds.{WorldState, seen_life, life_among, state_
 use Rattle.cluster_world.specs.Changes.{ChangesNode}
 use Rattle.cluster_world.specs.Missing.{OnlyTickets, Noticed, SentOff}
 use Rattle.cluster_world.specs.Posts.{out_of, IsEntered}
-use Rattle.cluster_world.specs.Seen.{said_seen}
-use Rattle.cluster_world.specs.Turns.{life_after_step}
-use Rattle.cluster_world.specs.Steps.{StepDid, IsLighter, WasToWork, SaysSo, FallsSo, FaultHasCause}
+use Rattle.cluster_world.specs.Steps.{StepDid, IsLighter, WasToWork}
 use Rattle.cluster_world.specs.declared.life.Life.{Life}
 use Rattle.cluster_world.specs.declared.life.Life.TheVariants.{Up, Down, Lost}
 use Rattle.cluster_world.specs.declared.nodes.Nodes.{Nodes}
-use Rattle.cluster_world.specs.declared.step.Step.{Step}
 use Rattle.cluster_world.specs.declared.step.Step.TheVariants as step
 use Rattle.cluster_world.specs.declared.step.Said.{Said}
 use Rattle.cluster_world.specs.declared.step.Said.TheVariants as said
@@ -70,86 +63,13 @@ module _ (plan : Plan) (w : machine.World) (number : ℕ) (keep : Bool) where
       ∙ ap (λ x. first_fault ((if is_some o then None else Some NoSuchLetter) ∷ None ∷ (if x || false then Some Worn else None) ∷ None ∷ [])) f
 
 -- where the letter is
-abbrev pub flies_of : (w : machine.World) (number : ℕ) (letter : Letter) → Standing w.flying number letter → Flies w number
+abbrev flies_of : (w : machine.World) (number : ℕ) (letter : Letter) → Standing w.flying number letter → Flies w number
 flies_of w number letter s = record { front = s.front; letter = letter; back = s.back; is = s.is }
 
 flies_left : (w : machine.World) (number : ℕ) (letter : Letter) (s : Standing w.flying number letter) (keep : Bool)
     → flights_without (out_of number keep) w.flying ≡ flies_on w number (flies_of w number letter s) keep
 flies_left w number letter s true = refl
 flies_left w number letter s false = s.left
-
--- what is said of a letter that was handed to its receiver, which goes on
-abbrev pub said_by : Option Why → Said
-said_by None = said.Heard
-said_by (Some what) = said.Thrown what
-
-says_so : (o : Option Why) (number : ℕ) (keep : Bool) → SaysSo (step.Post number keep) (said_by o)
-says_so None number keep = tt
-says_so (Some what) number keep = tt
-
-falls_none : (o : Option Why) (nodes number : ℕ) (keep : Bool) (lives : ℕ → NodeLife) → FallsSo (Ok (said_by o)) nodes (step.Post number keep) lives
-falls_none None nodes number keep lives = tt
-falls_none (Some what) nodes number keep lives = tt
-
-lives_stay : (o : Option Why) (number : ℕ) (keep : Bool) (n : ℕ) (was : NodeLife) → life_after_step (Ok (said_by o)) (step.Post number keep) n was ≡ was
-lives_stay None number keep n was = refl
-lives_stay (Some what) number keep n was = refl
-
-no_cause : {D : Type 0} (on : View D) (o : Option Why) (s : Step) (old new : WorldState D) → FaultHasCause on (Ok (said_by o)) s old new
-no_cause on None s old new = tt
-no_cause on (Some what) s old new = tt
-
--- What the machine makes of a letter that its receiver, which was this node, did this with: it is posted; or the node's disk fails; or memory runs out.
-module _ (plan : Plan) (number : ℕ) (keep : Bool) (letter : Letter) (did_rule : Rule) (a : Node) where
-  abbrev pub PostsBy : Option Why → Type 0
-  PostsBy o = (w : machine.World) (s : Standing w.flying number letter) (node : plain.Node) (disk : List Record) → IsUp w letter.to node disk → node ≡ node_seen a
-      → Posts plan w number keep (said_seen (said_by o)) (after (record w { flying = flies_on w number (flies_of w number letter s) keep }) letter.to (did_rule node disk))
-
-  abbrev pub FailsBy : (List Slot → List Slot) → Type 0
-  FailsBy change = (w : machine.World) (s : Standing w.flying number letter) (node : plain.Node) (disk : List Record) → IsUp w letter.to node disk → node ≡ node_seen a
-      → (fell : machine.World) → NodeGoesDown w letter.to disk (did_rule node disk).disk fell
-      → Posts plan w number keep (steps.Said.Faulted letter.to) (record fell { slots = change fell.slots; flying = flies_on w number (flies_of w number letter s) keep })
-
-  abbrev pub RunsBy : Type 0
-  RunsBy = (w : machine.World) (s : Standing w.flying number letter) (node : plain.Node) (disk : List Record) → IsUp w letter.to node disk → node ≡ node_seen a
-      → (fell : machine.World) → NodeGoesDown w letter.to disk (did_rule node disk).disk fell → RunsShort plan w (steps.Step.Post number keep) letter.to fell
-
--- so it is of a letter of messages
-module _ (plan : Plan) (number : ℕ) (keep : Bool) (letter : Letter) (a : Node) where
-  abbrev pub heard_rule : Rule
-  heard_rule = λ node disk. hear letter.to plan.nodes node disk letter
-
-  pub posts_heard : thrown_by letter.to (node_seen a) letter ≡ None → PostsBy plan number keep letter heard_rule a None
-  posts_heard taken w s node disk up is = Posts.IsHeard (flies_of w number letter s) node disk up (ap (λ n. thrown_by letter.to n letter) is ∙ taken) refl refl
-
-  pub fails_heard : thrown_by letter.to (node_seen a) letter ≡ None → FailsBy plan number keep letter heard_rule a (λ slots. missed mishap.Disk slots letter)
-  fails_heard taken w s node disk up is fell goes = Posts.FailsHearing (flies_of w number letter s) node disk up (ap (λ n. thrown_by letter.to n letter) is ∙ taken) refl fell goes refl
-
-  pub runs_heard : RunsBy plan number keep letter heard_rule a
-  runs_heard w s node disk up is fell goes = RunsShort.Hearing number keep (flies_of w number letter s) node disk refl refl up goes
-
-says_for_maps : (o : Option Why) → IsHeardOrThrown (said_seen (said_by o))
-says_for_maps None = tt
-says_for_maps (Some what) = tt
-
--- and of one of membership or maps
-module _ (plan : Plan) (number : ℕ) (keep : Bool) (letter : Letter) (a : Node) (maps : IsMapsBody letter.body) (within : is_stale letter (node_seen a).installed ≡ false)
-    (installed : Option Membership) (promise : Option EpochId) (sent : List Letter) where
-  abbrev pub looked_rule : Rule
-  looked_rule = forms_rule (with_stamps letter.body) installed promise sent
-
-  pub posts_looked : ((one : Letter) → Among one sent → IsPlainMaps one) → (o : Option Why) → PostsBy plan number keep letter looked_rule a o
-  posts_looked sends o w s node disk up is =
-      Posts.IsForMaps (flies_of w number letter s) node disk up maps (ap (λ (n : plain.Node). is_stale letter n.installed) is ∙ within) (says_for_maps o) (looked_rule node disk)
-      (record { installed = installed; promise = promise; node_is = refl; disk_is = refl; sends = sends }) refl
-
-  pub fails_looked : FailsBy plan number keep letter looked_rule a (λ slots. slots)
-  fails_looked w s node disk up is fell goes =
-      Posts.FailsForMaps (flies_of w number letter s) node disk promise up maps (ap (λ (n : plain.Node). is_stale letter n.installed) is ∙ within) refl fell goes refl
-
-  pub runs_looked : RunsBy plan number keep letter looked_rule a
-  runs_looked w s node disk up is fell goes =
-      RunsShort.Forming node disk promise up (flies_of w number letter s, refl, maps, ap (λ (n : plain.Node). is_stale letter n.installed) is ∙ within) goes
 
 -- a slot that is up is of a node that is up
 up_then : {D : Type 0} (on : View D) (n : ℕ) (l : Life) (disk : D) (slot : Slot) (node : plain.Node) → SlotStands on n l disk slot → slot.life ≡ plain.Life.Up node → is_up_life (life_seen l) ≡ true
@@ -370,92 +290,95 @@ module _ {D : Type 0} (on : View D) (old : Nodes D) (flying : InFlight) (seconds
             })
             tt
 
-        -- It did this, and its letters are in flight: the letter was heard, or thrown all the same.
-        module _ (did_rule : Rule) where
-          pub answered_posted : (o : Option Why) (b : Node) → ch.life' ≡ Up b → (letters : List Letter) → weight_of_all letters < weight_of letter → NodeDid on did_rule a ch.disk b ch.disk' letters
-              → (new : Nodes D) (flying' : InFlight) → SentOff on old.plan letters (out_of number keep) flying flying' mid new
-              → PostsBy old.plan number keep letter did_rule a o → StepDid on (Ok (said_by o)) (step.Post number keep) before (state_with new flying' seconds book)
-          answered_posted o b is letters less did new flying' off posts = work_did on letter.to P old mid new ch _ off.noticed.only flying flying' seconds book book (Ok (said_by o)) (step.Post number keep) refl refl
-              (says_so o number keep) (falls_none o old.plan.nodes number keep (life_among old))
-              (λ m. work_goes_on on letter.to P old mid new ch _ off.noticed.only (up_boot b is did.boot) m ∙ sym (lives_stay o number keep m (life_among old m)))
-              did.appends.told
-              (subst (λ f. on.faults ch.disk ≤ f) (sym did.appends.quiet) (omega arith))
-              (λ boot _. did.appends.quiet)
-              (lighter_sent keep (said_by o) new flying' book letters less off.flies)
-              (same_book (booked_by book))
+        -- it was heard
+        pub heard_posted : (b : Node) → ch.life' ≡ Up b → (letters : List Letter) → weight_of_all letters < weight_of letter → thrown_by letter.to (node_seen a) letter ≡ None
+            → NodeDid on rule a ch.disk b ch.disk' letters → (new : Nodes D) (flying' : InFlight) → SentOff on old.plan letters (out_of number keep) flying flying' mid new
+            → StepDid on (Ok said.Heard) (step.Post number keep) before (state_with new flying' seconds book)
+        heard_posted b is letters less taken did new flying' off = work_did on letter.to P old mid new ch _ off.noticed.only flying flying' seconds book book (Ok said.Heard) (step.Post number keep) refl refl tt tt
+            (work_goes_on on letter.to P old mid new ch _ off.noticed.only (up_boot b is did.boot))
+            did.appends.told
+            (subst (λ f. on.faults ch.disk ≤ f) (sym did.appends.quiet) (omega arith))
+            (λ boot _. did.appends.quiet)
+            (lighter_sent keep said.Heard new flying' book letters less off.flies)
+            (same_book (booked_by book))
+            tt
+            (λ w st.
+            let s = standing w.flying number letter (there w st) in
+            let flies : Flies w number = flies_of w number letter s in
+            let sent : WorkSent on letter.to P old mid new ch rule a was flying flying' seconds book book letters (flies_on w number flies keep) w.book w =
+            work_sent on letter.to P old mid new ch rule a was flying flying' seconds book book b is letters did old.plan (out_of number keep) off w st
+            (flies_on w number flies keep) (flies_left w number letter s keep) w.book st.book in
+            record {
+              next = after (record w { flying = flies_on w number flies keep }) letter.to (hear letter.to old.plan.nodes sent.node sent.disk letter);
+              stands = sent.stands;
+              made = (goes w st, Posts.IsHeard flies sent.node sent.disk sent.up (ap (λ n. thrown_by letter.to n letter) sent.node_is ∙ taken) refl refl);
+              stops = sent.stops;
+            })
+            tt
+
+        -- it went down in it
+        module _ (down : ch.life' ≡ Down) (taken : thrown_by letter.to (node_seen a) letter ≡ None) (told : is_some (on.seen ch.disk') ≡ is_some (on.seen ch.disk)) (later : on.faults ch.disk ≤ on.faults ch.disk')
+            (above : 1 ≤ letter.to) (within : letter.to ≤ old.plan.nodes) (new : Nodes D) (flying' : InFlight) (book' : Book) (entered : IsEntered letter.to book book')
+            (cut : (w : machine.World) → StateStandsFor on before w → CutSlot on letter.to P old mid new ch rule a was flying flying' seconds book book' w) where
+          booked_is : (w : machine.World) → StateStandsFor on before w → booked_by book' ≡ w.book ++ WentDown letter.to ∷ []
+          booked_is w st = ap entries_seen entered.wrote ∙ entries_more (entries_of book) (written.Down letter.to ∷ []) ∙ ap (λ b. b ++ WentDown letter.to ∷ []) st.book
+
+          was_to_work : WasToWork old.plan.nodes (step.Post number keep) (life_among old letter.to) letter.to
+          was_to_work = record { above = above; within = within; worked = inl ((node_seen a).boot, ap seen_life ch.was ∙ ap life_seen was) }
+
+          lives_down : (change : List Slot → List Slot) (only : OnlyTickets on change mid new) (m : ℕ) → life_among new m ≡ turned letter.to life.Down m (life_among old m)
+          lives_down change only m = work_lives on letter.to P old mid new ch change only m ∙ ap (λ l. turned letter.to l m (life_among old m)) (ap life_seen down)
+
+          not_up : (boot : ℕ) → life_seen ch.life' ≡ life.Up boot → ⊥
+          not_up boot up = let never : life.Down ≡ life.Up boot = sym (ap life_seen down) ∙ up in cc
+
+          pub faulted_posted : Rose (on.faults ch.disk) (on.faults ch.disk') → Noticed on old.plan (λ slots. missed mishap.Disk slots letter) mid new → flying' ≡ taken_out (out_of number keep) flying
+              → StepDid on (Ok (said.Faulted letter.to)) (step.Post number keep) before (state_with new flying' seconds book')
+          faulted_posted rose noted left = work_did on letter.to P old mid new ch (λ slots. missed mishap.Disk slots letter) noted.only flying flying' seconds book book' (Ok (said.Faulted letter.to)) (step.Post number keep) refl
+              refl tt was_to_work (lives_down (λ slots. missed mishap.Disk slots letter) noted.only) told later (λ boot up. absurd (not_up boot up))
+              (lighter_left keep (said.Faulted letter.to) new flying' book' left)
+              (longer_by book book' (written.Down letter.to ∷ []) entered.wrote)
               tt
               (λ w st.
               let s = standing w.flying number letter (there w st) in
-              let sent : WorkSent on letter.to P old mid new ch did_rule a was flying flying' seconds book book letters (flies_on w number (flies_of w number letter s) keep) w.book w =
-              work_sent on letter.to P old mid new ch did_rule a was flying flying' seconds book book b is letters did old.plan (out_of number keep) off w st
-              (flies_on w number (flies_of w number letter s) keep) (flies_left w number letter s keep) w.book st.book in
+              let flies : Flies w number = flies_of w number letter s in
+              let c = cut w st in
+              let fell : machine.World = cut_world w letter.to c.disk c.front c.pending in
               record {
-                next = after (record w { flying = flies_on w number (flies_of w number letter s) keep }) letter.to (did_rule sent.node sent.disk);
-                stands = sent.stands;
-                made = (goes w st, posts w s sent.node sent.disk sent.up sent.node_is);
-                stops = sent.stops;
+                next = record fell { slots = missed mishap.Disk fell.slots letter; flying = flies_on w number flies keep };
+                stands = cut_stands on letter.to P old mid new ch rule a was flying flying' seconds book book' down (λ slots. missed mishap.Disk slots letter) noted.only w st c
+                    (flies_on w number flies keep) (left_is w st s flying' left) (ap (λ (f : InFlight). f.sent) left) w.book (booked_is w st);
+                made = (
+                  goes w st,
+                  Posts.FailsHearing flies c.node c.disk c.up (ap (λ n. thrown_by letter.to n letter) c.node_is ∙ taken) refl fell (record { front = c.front; pending = c.pending; one = c.one; cut = c.cut; is = refl }) refl,
+                );
+                stops = cut_stops on letter.to P old mid new ch rule a was flying flying' seconds book book' down (λ slots. missed mishap.Disk slots letter) noted.only w st c (missed mishap.Disk fell.slots letter)
+                    (λ n. missed_kept mishap.Disk fell.slots n letter);
               })
-              (no_cause on o (step.Post number keep) before (state_with new flying' seconds book))
+              (λ disk disk' e f. inl (rose_there disk disk' e f))
+            where
+              rose_there : (disk disk' : D) → of_node old.disks.items letter.to ≡ Some disk → of_node new.disks.items letter.to ≡ Some disk' → Rose (on.faults disk) (on.faults disk')
+              rose_there disk disk' e f =
+                  let d_is : ch.disk ≡ disk = Rattle.cluster_world.proofs.Still.some_same ch.disk disk (sym ch.held ∙ e) in
+                  let d'_is : ch.disk' ≡ disk' = Rattle.cluster_world.proofs.Still.some_same ch.disk' disk'
+                  (sym (Rattle.cluster_world.proofs.Turned.disk_there letter.to P old mid ch) ∙ ap (λ ds. of_node ds letter.to) (sym noted.only.disks) ∙ f) in
+                  subst (λ d. Rose (on.faults d) (on.faults disk')) d_is (subst (λ d. Rose (on.faults ch.disk) (on.faults d)) d'_is rose)
 
-          -- it went down in it
-          module _ (down : ch.life' ≡ Down) (told : is_some (on.seen ch.disk') ≡ is_some (on.seen ch.disk)) (later : on.faults ch.disk ≤ on.faults ch.disk')
-              (above : 1 ≤ letter.to) (within : letter.to ≤ old.plan.nodes) (new : Nodes D) (flying' : InFlight) (book' : Book) (entered : IsEntered letter.to book book')
-              (cut : (w : machine.World) → StateStandsFor on before w → CutSlot on letter.to P old mid new ch did_rule a was flying flying' seconds book book' w) where
-            booked_is : (w : machine.World) → StateStandsFor on before w → booked_by book' ≡ w.book ++ WentDown letter.to ∷ []
-            booked_is w st = ap entries_seen entered.wrote ∙ entries_more (entries_of book) (written.Down letter.to ∷ []) ∙ ap (λ b. b ++ WentDown letter.to ∷ []) st.book
-
-            was_to_work : WasToWork old.plan.nodes (step.Post number keep) (life_among old letter.to) letter.to
-            was_to_work = record { above = above; within = within; worked = inl ((node_seen a).boot, ap seen_life ch.was ∙ ap life_seen was) }
-
-            lives_down : (change : List Slot → List Slot) (only : OnlyTickets on change mid new) (m : ℕ) → life_among new m ≡ turned letter.to life.Down m (life_among old m)
-            lives_down change only m = work_lives on letter.to P old mid new ch change only m ∙ ap (λ l. turned letter.to l m (life_among old m)) (ap life_seen down)
-
-            not_up : (boot : ℕ) → life_seen ch.life' ≡ life.Up boot → ⊥
-            not_up boot up = let never : life.Down ≡ life.Up boot = sym (ap life_seen down) ∙ up in cc
-
-            pub faulted_posted : Rose (on.faults ch.disk) (on.faults ch.disk') → (change : List Slot → List Slot) (only : OnlyTickets on change mid new)
-                → ((slots : List Slot) (n : ℕ) → Rattle.cluster_world.proofs.Kept.kept_at (slot_at (change slots) n) ≡ Rattle.cluster_world.proofs.Kept.kept_at (slot_at slots n))
-                → flying' ≡ taken_out (out_of number keep) flying
-                → FailsBy old.plan number keep letter did_rule a change → StepDid on (Ok (said.Faulted letter.to)) (step.Post number keep) before (state_with new flying' seconds book')
-            faulted_posted rose change only kept left posts = work_did on letter.to P old mid new ch change only flying flying' seconds book book' (Ok (said.Faulted letter.to)) (step.Post number keep) refl
-                refl tt was_to_work (lives_down change only) told later (λ boot up. absurd (not_up boot up))
-                (lighter_left keep (said.Faulted letter.to) new flying' book' left)
-                (longer_by book book' (written.Down letter.to ∷ []) entered.wrote)
-                tt
-                (λ w st.
-                let s = standing w.flying number letter (there w st) in
-                let c = cut w st in
-                let fell : machine.World = cut_world w letter.to c.disk c.front c.pending in
-                record {
-                  next = record fell { slots = change fell.slots; flying = flies_on w number (flies_of w number letter s) keep };
-                  stands = cut_stands on letter.to P old mid new ch did_rule a was flying flying' seconds book book' down change only w st c
-                      (flies_on w number (flies_of w number letter s) keep) (left_is w st s flying' left) (ap (λ (f : InFlight). f.sent) left) w.book (booked_is w st);
-                  made = (goes w st, posts w s c.node c.disk c.up c.node_is fell (record { front = c.front; pending = c.pending; one = c.one; cut = c.cut; is = refl }));
-                  stops = cut_stops on letter.to P old mid new ch did_rule a was flying flying' seconds book book' down change only w st c (change fell.slots) (kept fell.slots);
-                })
-                (λ disk disk' e f. inl (rose_there disk disk' e f))
-              where
-                rose_there : (disk disk' : D) → of_node old.disks.items letter.to ≡ Some disk → of_node new.disks.items letter.to ≡ Some disk' → Rose (on.faults disk) (on.faults disk')
-                rose_there disk disk' e f =
-                    let d_is : ch.disk ≡ disk = Rattle.cluster_world.proofs.Still.some_same ch.disk disk (sym ch.held ∙ e) in
-                    let d'_is : ch.disk' ≡ disk' = Rattle.cluster_world.proofs.Still.some_same ch.disk' disk'
-                    (sym (Rattle.cluster_world.proofs.Turned.disk_there letter.to P old mid ch) ∙ ap (λ ds. of_node ds letter.to) (sym only.disks) ∙ f) in
-                    subst (λ d. Rose (on.faults d) (on.faults disk')) d_is (subst (λ d. Rose (on.faults ch.disk) (on.faults d)) d'_is rose)
-
-            pub fallen_posted : new ≡ mid → flying' ≡ flying → RunsBy old.plan number keep letter did_rule a → StepDid on (Err (fault.NoMemory (Some letter.to))) (step.Post number keep) before (state_with new flying' seconds book')
-            fallen_posted same_nodes left runs =
-                let only : OnlyTickets on (λ slots. slots) mid new = subst (λ (m : Nodes D). OnlyTickets on (λ slots. slots) mid m) (sym same_nodes) (nothing_else on mid) in
-                work_did on letter.to P old mid new ch (λ slots. slots) only flying flying' seconds book book' (Err (fault.NoMemory (Some letter.to))) (step.Post number keep) refl
-                tt tt was_to_work (lives_down (λ slots. slots) only) told later (λ boot up. absurd (not_up boot up)) tt (longer_by book book' (written.Down letter.to ∷ []) entered.wrote) tt
-                (λ w st.
-                let s = standing w.flying number letter (there w st) in
-                let c = cut w st in
-                let fell : machine.World = cut_world w letter.to c.disk c.front c.pending in
-                record {
-                  next = fell;
-                  stands = cut_stands on letter.to P old mid new ch did_rule a was flying flying' seconds book book' down (λ slots. slots) only w st c
-                      w.flying (ap (λ (f : InFlight). f.flights) left ∙ st.flying) (ap (λ (f : InFlight). f.sent) left) w.book (booked_is w st);
-                  made = runs w s c.node c.disk c.up c.node_is fell (record { front = c.front; pending = c.pending; one = c.one; cut = c.cut; is = refl });
-                  stops = cut_stops on letter.to P old mid new ch did_rule a was flying flying' seconds book book' down (λ slots. slots) only w st c fell.slots (λ n. refl);
-                })
-                tt
+          pub fallen_posted : new ≡ mid → flying' ≡ flying → StepDid on (Err (fault.NoMemory (Some letter.to))) (step.Post number keep) before (state_with new flying' seconds book')
+          fallen_posted same_nodes left =
+              let only : OnlyTickets on (λ slots. slots) mid new = subst (λ (m : Nodes D). OnlyTickets on (λ slots. slots) mid m) (sym same_nodes) (nothing_else on mid) in
+              work_did on letter.to P old mid new ch (λ slots. slots) only flying flying' seconds book book' (Err (fault.NoMemory (Some letter.to))) (step.Post number keep) refl
+              tt tt was_to_work (lives_down (λ slots. slots) only) told later (λ boot up. absurd (not_up boot up)) tt (longer_by book book' (written.Down letter.to ∷ []) entered.wrote) tt
+              (λ w st.
+              let s = standing w.flying number letter (there w st) in
+              let flies : Flies w number = flies_of w number letter s in
+              let c = cut w st in
+              let fell : machine.World = cut_world w letter.to c.disk c.front c.pending in
+              record {
+                next = fell;
+                stands = cut_stands on letter.to P old mid new ch rule a was flying flying' seconds book book' down (λ slots. slots) only w st c
+                    w.flying (ap (λ (f : InFlight). f.flights) left ∙ st.flying) (ap (λ (f : InFlight). f.sent) left) w.book (booked_is w st);
+                made = RunsShort.Hearing number keep flies c.node c.disk refl refl c.up (record { front = c.front; pending = c.pending; one = c.one; cut = c.cut; is = refl });
+                stops = cut_stops on letter.to P old mid new ch rule a was flying flying' seconds book book' down (λ slots. slots) only w st c fell.slots (λ n. refl);
+              })
+              tt

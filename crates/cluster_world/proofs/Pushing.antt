@@ -1,5 +1,5 @@
 -- What a step does in which a node pushes to another.
-use Rattle.std.proofs.Common.{◌≡◌, inl, inr, ⊎_elim, ℕ, ◌≤◌, ◌&&◌, nat_le, Bool, true, false, List, [], ◌∷◌, ◌++◌, length, All, append-nil, Option, Some, None, Result, Ok, Err, refl, sym, ap, ◌∙◌, subst, arith}
+use Rattle.std.proofs.Common.{◌≡◌, inl, inr, ⊎_elim, ℕ, ◌≤◌, ◌&&◌, nat_le, Bool, true, false, List, [], ◌∷◌, ◌++◌, length, append-nil, Option, Some, None, Result, Ok, Err, refl, sym, ap, ◌∙◌, subst, arith}
 use Rattle.std.specs.Prelude.{IfOk, IfErr, is_some, nat_lt, nat_eq}
 use Rattle.std.specs.List.{list_all}
 use Rattle.std.specs.FinMap as fin
@@ -26,14 +26,11 @@ use Rattle.node_core.specs.declared.fault.NodeFault.{NodeFault}
 use Rattle.node_core.specs.declared.fault.NodeFault.TheVariants.{Disk, Worn, NoMemory}
 use Rattle.node_core.specs.declared.outbox.Outbox.{Outbox}
 use Rattle.node_core.specs.declared.node.Node.{Node}
-use Rattle.whole_node.specs.Hearing.{FitsMaps}
 use Rattle.world_book.specs.Books.{entries_of}
 use Rattle.world_book.specs.declared.book.Book.{Book}
 use Rattle.world_book.specs.declared.entry.Entry.TheVariants as written
 use Rattle.cluster_world.specs.Books.{entries_seen, booked_by}
 use Rattle.cluster_world.specs.Flights.{InFlight, put_down, taken_out}
-use Rattle.cluster_world.specs.Hears.{AllCanBeHeard}
-use Rattle.cluster_world.proofs.FlightLaws.{all_heard}
 use Rattle.cluster_world.specs.Lives.{life_seen, of_node, all_falls_left, CanWorkOn}
 use Rattle.cluster_world.specs.Stands.{SlotsStand}
 use Rattle.cluster_world.specs.Worlds.{WorldState, seen_life, life_among, state_with, StateStandsFor}
@@ -219,10 +216,6 @@ module _ {D : Type 0} (on : View D) (n to : ℕ) (old : Nodes D) (fit : node_ref
 
     falls_so : Comes (Err Disk) → Falls
     falls_so c = record { is = c.1; told = ap (λ (o : Option (List ℕ)). is_some o) c.0.read.seen; later = c.0.later }
-
-    -- what it sends can be heard
-    pub pushed_heard : (outbox : Outbox) → pushed ≡ Ok outbox → IfOk pushed (λ o. All FitsMaps o.letters) → AllCanBeHeard outbox.letters
-    pushed_heard outbox e fits = all_heard outbox.letters (comes (Ok outbox) e).0.1.fits (subst (λ (r : Result Outbox NodeFault). IfOk r (λ o. All FitsMaps o.letters)) e fits)
 
     pub pushed_ready : (r : Result Outbox NodeFault) → pushed ≡ r → CanWorkOn on.seen mid.plan mid.lives.items mid.disks.items
     pushed_ready (Ok outbox) e = stays_ready on n P old mid ch ready a was b (stays (read_well outbox (comes (Ok outbox) e)))

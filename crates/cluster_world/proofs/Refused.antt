@@ -13,7 +13,7 @@ use Rattle.cluster_world.specs.Worlds.{WorldState, life_in, tells_in, StateStand
 use Rattle.cluster_world.specs.Steps.{StepDid}
 use Rattle.cluster_world.specs.Sure.{IsSurelyDone}
 use Rattle.cluster_world.specs.declared.step.Step.{Step}
-use Rattle.cluster_world.specs.declared.step.Step.TheVariants.{Begin, Ask, GiveUp, Post, Drop, Push, Widen, Group, Conclude, Crash, Start, Lose, Tick}
+use Rattle.cluster_world.specs.declared.step.Step.TheVariants.{Begin, Ask, GiveUp, Post, Drop, Push, Widen, Crash, Start, Lose, Tick}
 use Rattle.cluster_world.specs.declared.fault.StepFault.{StepFault}
 use Rattle.cluster_world.specs.declared.fault.StepFault.TheVariants as fault
 use Rattle.cluster_world.proofs.Clocks.{unticked}
@@ -42,8 +42,6 @@ life_of_node (Post letter keep) (life.Up boot) = tt
 life_of_node (Drop letter) (life.Up boot) = tt
 life_of_node (Push from to) (life.Up boot) = tt
 life_of_node (Widen at user id to) (life.Up boot) = tt
-life_of_node (Group node) (life.Up boot) = tt
-life_of_node (Conclude node) (life.Up boot) = tt
 life_of_node (Crash node) (life.Up boot) = tt
 life_of_node (Start node) (life.Up boot) = tt
 life_of_node (Lose node) (life.Up boot) = tt
@@ -55,8 +53,6 @@ life_of_node (Post letter keep) life.Down = tt
 life_of_node (Drop letter) life.Down = tt
 life_of_node (Push from to) life.Down = tt
 life_of_node (Widen at user id to) life.Down = tt
-life_of_node (Group node) life.Down = tt
-life_of_node (Conclude node) life.Down = tt
 life_of_node (Crash node) life.Down = tt
 life_of_node (Start node) life.Down = tt
 life_of_node (Lose node) life.Down = tt
@@ -146,7 +142,6 @@ module _ {D : Type 0} (on : View D) (state : WorldState D) (even : length state.
   }
   did_so fault.NoSuchLetter of e = absurd of
   did_so fault.NoSuchTicket of e = absurd of
-  did_so fault.NotAGroup of e = absurd of
   did_so fault.Worn of e = absurd of
   did_so fault.NoRoom of e = absurd of
   did_so (fault.NoMemory down) of e = absurd of
@@ -170,7 +165,6 @@ module _ {D : Type 0} (state : WorldState D) where
       ask_sure fault.NodeUp of = tt
       ask_sure fault.NoSuchLetter of = tt
       ask_sure fault.NoSuchTicket of = tt
-      ask_sure fault.NotAGroup of = tt
       ask_sure fault.Worn of = tt
       ask_sure fault.NoRoom of = tt
       ask_sure (fault.NoMemory down) of = absurd of
@@ -183,7 +177,6 @@ module _ {D : Type 0} (state : WorldState D) where
       give_up_sure fault.NodeUp of = tt
       give_up_sure fault.NoSuchLetter of = tt
       give_up_sure fault.NoSuchTicket of = tt
-      give_up_sure fault.NotAGroup of = tt
       give_up_sure fault.Worn of = tt
       give_up_sure fault.NoRoom of = tt
       give_up_sure (fault.NoMemory down) of = absurd of
@@ -191,8 +184,6 @@ module _ {D : Type 0} (state : WorldState D) where
   sure_by (Post letter keep) f of e = tt
   sure_by (Push from to) f of e = tt
   sure_by (Widen at user id to) f of e = tt
-  sure_by (Group node) f of e = tt
-  sure_by (Conclude node) f of e = tt
   sure_by (Start node) f of e = tt
 
   pub refused_sure : (step : Step) (f : StepFault) → node_refusal state.plan (life_in state) step ≡ Some f → IsSurelyDone state step (Err f)

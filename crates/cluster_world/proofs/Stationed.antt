@@ -40,13 +40,6 @@ whole_of (Up whole) node seen is maps works = (whole, refl, record { mail = subs
 whole_of Down node seen is maps works = absurd (down_up node is)
 whole_of Lost node seen is maps works = absurd (lost_up node is)
 
--- the whole node that is in it can work
-pub works_in : (held : Held) (node : WholeNode) (seen : Option (List ℕ)) → held ≡ Up node → (one : WholeNode) × (held ≡ Up one) × WholeWorks seen one → WholeWorks seen node
-works_in held node seen is (one, same, works) = subst (WholeWorks seen) (the_one one node (sym same ∙ is)) works
-  where
-    the_one : (a b : WholeNode) → Up a ≡ Up b → a ≡ b
-    the_one a b e = cc
-
 -- a call that leaves a whole node leaves its life, and the maps of whoever stays up
 pub left_life : {T : Type 0} (result : Result T NodeFault) (whole : WholeNode) → life_of_held (held_left result whole) ≡ life_left result whole.mail
 left_life (Ok done) whole = refl
@@ -88,7 +81,6 @@ pub has_still : (tickets : plain.Tickets) (old new : WholeNode) → ChangesTicke
 has_still tickets old new t same has = record {
   own = ap own_of same ∙ has.own ∙ sym (t.same (plan_with old.mail) old.mail.store.own (is_of_it old.mail)).own_is;
   boot = ap (λ (m : NodeMaps). (node_of m).boot) same ∙ has.boot ∙ sym (ap (λ (n : plain.Node). n.boot) t.seen);
-  epoch = ap (λ (n : plain.Node). n.installed) t.seen ∙ has.epoch ∙ sym (ap (λ (m : NodeMaps). m.group.installed) same);
   records = has.records;
   keeps = t.keeps has.records has.keeps;
   knows = subst (KnowsHere has.records) (sym same) has.knows;

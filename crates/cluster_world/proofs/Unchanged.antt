@@ -33,7 +33,6 @@ changes_none on fault.NodeDown step old new same = same
 changes_none on fault.NodeUp step old new same = same
 changes_none on fault.NoSuchLetter step old new same = same
 changes_none on fault.NoSuchTicket step old new same = same
-changes_none on fault.NotAGroup step old new same = same
 changes_none on fault.Worn step old new same = same
 changes_none on fault.NoRoom step old new same = same
 changes_none on (fault.NoMemory None) step old new same = same

@@ -1,11 +1,11 @@
 -- Letters in flight as a list in order of number, and what becomes of letters that are put in flight.
 use Rattle.std.specs.Prelude.{◌≡◌, ℕ, ◌+◌, ◌≤◌, ◌<◌, ◌^◌, List, [], ◌∷◌, ◌++◌, length, ⊤, Option, Some, None, slice_get, if◌then◌else◌}
 use Rattle.object_model.specs.Letters.{Letter}
+use Rattle.node_core.specs.Spelling.{CanBeTaken}
 use Rattle.node_core.specs.Weights.{weight_of}
 use Rattle.cluster_model.specs.Room.{Flight, octets_flying, has_room}
 use Rattle.cluster_model.specs.Steps.{letter_at}
 use Rattle.cluster_model.specs.Plain.{without_letter}
-use Rattle.cluster_world.specs.Hears.{CanBeHeard}
 
 -- what is in flight, and the number of the last letter that was sent
 pub record InFlight : Type 0 where
@@ -27,9 +27,9 @@ AreUpTo n [] = ⊤
 AreUpTo n (flight ∷ flights) = (flight.number ≤ n) × AreUpTo n flights
 
 -- its receiver can hear each
-abbrev pub FlightsCanBeHeard : List Flight → Type 0
-FlightsCanBeHeard [] = ⊤
-FlightsCanBeHeard (flight ∷ flights) = CanBeHeard flight.letter × FlightsCanBeHeard flights
+abbrev pub AllCanBeHeard : List Flight → Type 0
+AllCanBeHeard [] = ⊤
+AllCanBeHeard (flight ∷ flights) = CanBeTaken flight.letter.body × AllCanBeHeard flights
 
 -- The numbers rise and none is above the last; so many octets are in flight; and each letter can be heard.
 pub record FlightIsCounted (octets sent : ℕ) (flights : List Flight) : Type 0 where
@@ -37,7 +37,7 @@ pub record FlightIsCounted (octets sent : ℕ) (flights : List Flight) : Type 0 
   pub drawn : AreUpTo sent flights
   pub sum : octets ≡ octets_flying flights
   pub few : octets < 2 ^ 30
-  pub heard : FlightsCanBeHeard flights
+  pub heard : AllCanBeHeard flights
 
 -- what letters that are put in flight leave: those in flight, and those that found no room
 pub record PutDown : Type 0 where

@@ -1,5 +1,3 @@
-pub mod Forming
-pub mod Hears
 pub mod Flights
 pub mod Books
 pub mod Lives
@@ -32,6 +30,4 @@ pub mod Begins
 pub mod Widens
 pub mod Pushes
 pub mod Posts
-pub mod Forms
 pub mod Runs
-pub mod Regroups

@@ -21,9 +21,9 @@ use Rattle.cluster_world.specs.Turns.{node_refusal, refused_for_node, life_after
 use Rattle.cluster_world.specs.Moments.{StopsKeep}
 use Rattle.cluster_world.specs.declared.world.World.{World}
 use Rattle.cluster_world.specs.declared.step.Step.{Step}
-use Rattle.cluster_world.specs.declared.step.Step.TheVariants.{Begin, Ask, GiveUp, Post, Drop, Push, Widen, Group, Conclude, Crash, Start, Lose, Tick}
+use Rattle.cluster_world.specs.declared.step.Step.TheVariants.{Begin, Ask, GiveUp, Post, Drop, Push, Widen, Crash, Start, Lose, Tick}
 use Rattle.cluster_world.specs.declared.step.Said.{Said}
-use Rattle.cluster_world.specs.declared.step.Said.TheVariants.{Begun, Noted, Asked, Heard, Thrown, Sent, Widened, Grouped, Concluded, NodeUp, Done, Faulted}
+use Rattle.cluster_world.specs.declared.step.Said.TheVariants.{Begun, Noted, Asked, Heard, Thrown, Sent, Widened, NodeUp, Done, Faulted}
 use Rattle.cluster_world.specs.declared.fault.StepFault.{StepFault}
 use Rattle.cluster_world.specs.declared.fault.StepFault.TheVariants.{NoMemory}
 
@@ -72,8 +72,6 @@ MayMisread (Post letter keep) = ⊥
 MayMisread (Drop letter) = ⊥
 MayMisread (Push from to) = ⊤
 MayMisread (Widen at user id to) = ⊥
-MayMisread (Group node) = ⊥
-MayMisread (Conclude node) = ⊥
 MayMisread (Crash node) = ⊥
 MayMisread (Start node) = ⊤
 MayMisread (Lose node) = ⊥
@@ -116,10 +114,6 @@ SaysSo (Push from to) (Sent letters) = ⊤
 SaysSo (Push from to) (Faulted failed) = failed ≡ from
 SaysSo (Widen at user id to) (Widened did) = ⊤
 SaysSo (Widen at user id to) (Faulted failed) = failed ≡ at
-SaysSo (Group node) (Grouped epoch) = ⊤
-SaysSo (Group node) (Faulted failed) = failed ≡ node
-SaysSo (Conclude node) (Concluded epoch members) = ⊤
-SaysSo (Conclude node) (Faulted failed) = failed ≡ node
 SaysSo (Crash node) Done = ⊤
 SaysSo (Start node) (NodeUp boot) = ⊤
 SaysSo (Start node) (Faulted failed) = failed ≡ node

@@ -21,7 +21,6 @@ pub struct Nodes<D> {
     pub(crate) disks: Vec<D>,
     ghost few: { plan.nodes ≤ 16 },
     ghost copied: { 1 ≤ plan.copies },
-    ghost bucketed: { 1 ≤ plan.buckets },
     ghost all: { length lives.items ≡ plan.nodes },
     ghost disk_each: { length disks.items ≡ plan.nodes },
 }

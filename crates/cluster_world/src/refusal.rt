@@ -45,8 +45,6 @@ fn actor(step: &Step) -> Option<NodeNo>
 {
     match step {
         Step::Begin { node, .. }
-        | Step::Group { node }
-        | Step::Conclude { node }
         | Step::Crash { node }
         | Step::Start { node }
         | Step::Lose { node } => Some(*node),
@@ -69,8 +67,6 @@ impl<D> Nodes<D> {
     {
         match step {
             Step::Begin { node, .. }
-            | Step::Group { node }
-            | Step::Conclude { node }
             | Step::Crash { node }
             | Step::Start { node }
             | Step::Lose { node } => self.has(*node),

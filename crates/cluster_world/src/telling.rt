@@ -1,16 +1,19 @@
 //! What a world tells of its letters, its calls and its members.
-ghost use Rattle.std.specs.Prelude.{◌≡◌, Some};
+ghost use Rattle.std.specs.Prelude.{◌≡◌, ◌≤◌, Some, if◌then◌else◌};
 ghost use Rattle.std.specs.Option.{option_copied};
 ghost use Rattle.session_model.specs.Sums.{sum_of};
+ghost use Rattle.object_model.specs.Sets.{all_nodes};
 ghost use Rattle.node_core.specs.Nodes.{IsWhole};
 ghost use Rattle.node_core.specs.declared.node.Node.{Node as ANode};
 ghost use Rattle.node_tickets.specs.Standing.{call_kind_seen, kind_of_ticket, filed_seen, filing_at};
 ghost use Rattle.cluster_world.specs.Flights.{first_number};
+ghost use Rattle.cluster_world.specs.Lives.{is_up_life};
 ghost use Rattle.cluster_world.specs.Sums.{sum_seen};
-ghost use Rattle.cluster_world.specs.Worlds.{state_of, book_of, node_of_life, node_in, CanMakeSteps};
-ghost use Rattle.cluster_world.specs.Telling.{members_seen, standing_on, standing_in};
+ghost use Rattle.cluster_world.specs.Worlds.{state_of, plan_of, life_of, book_of, CanMakeSteps};
+ghost use Rattle.cluster_world.specs.Telling.{standing_on, standing_in};
 ghost use Rattle.cluster_world.specs.declared.life.Life.TheVariants as lives;
 
+use crate::nodes::numbered;
 use crate::station::Station;
 use crate::steps::ask::{node_of, ticket_of};
 use crate::sum::{BookSum, sum};
@@ -18,15 +21,15 @@ use crate::world::World;
 use io_edge::Disk;
 use mail_base::{CallKind, Filing, NodeNo, NodeSet, Ticket};
 
-/// The members of a node's epoch.
-fn members_at(life: &Station) -> NodeSet
-    requires whole { (node : ANode) → life.now ≡ lives.Up node → IsWhole node }
-    ensures { result ≡ members_seen (node_of_life (Some life.now)) }
+/// The nodes from 1 to so many.
+fn first_nodes(nodes: u8) -> NodeSet
+    requires { nodes ≤ 16 }
+    ensures { result ≡ all_nodes nodes }
 {
-    match life.mail() {
-        Some(node) => node.member_set(),
-        None => NodeSet::empty(),
+    if nodes == 0 {
+        return NodeSet::empty();
     }
+    first_nodes(nodes - 1).with(numbered(nodes))
 }
 
 /// The kind of the call of the ticket at a node, if it stands there.
@@ -66,14 +69,14 @@ impl<D: Disk> World<D> {
         self.seconds
     }
 
-    /// The members of the node's epoch: none where the node is not up, or has no epoch. It takes no memory.
+    /// The members of the node's epoch: all nodes of the plan, and none where the node is not up. It takes no memory.
     pub fn members(&self, node: NodeNo) -> NodeSet
-        requires ready { CanMakeSteps D.seen self.now }
-        ensures { result ≡ members_seen (node_in (state_of self.now) node) }
+        ensures { result ≡ (if is_up_life (life_of self.now node) then all_nodes (plan_of self.now).nodes else 0) }
     {
-        match self.nodes.life(node) {
-            Some(life) => members_at(life),
-            None => NodeSet::empty(),
+        if self.is_up(node) {
+            first_nodes(self.plan().nodes)
+        } else {
+            NodeSet::empty()
         }
     }
 

@@ -11,11 +11,9 @@ use crate::station::Station;
 use crate::step::{Said, Step};
 use crate::steps::ask::ask_for;
 use crate::steps::begin::begin_call;
-use crate::steps::conclude::conclude_node;
 use crate::steps::crash::crash_node;
 use crate::steps::drop::drop_letter;
 use crate::steps::give_up::give_up_call;
-use crate::steps::group::group_node;
 use crate::steps::lose::lose_node;
 use crate::steps::post::post_letter;
 use crate::steps::push::push_states;
@@ -46,7 +44,6 @@ pub struct World<D> {
 fn opened<D>(alloc: Global, plan: Plan, lives: Vec<Station>, disks: Vec<D>, book: Book) -> World<D>
     requires few { plan.nodes ≤ 16 }
     requires copied { 1 ≤ plan.copies }
-    requires bucketed { 1 ≤ plan.buckets }
     requires all { length lives.items ≡ plan.nodes }
     requires disk_each { length disks.items ≡ plan.nodes }
     requires room { 2 * plan.nodes ≤ spare_of book }
@@ -83,8 +80,8 @@ impl<D: Disk> World<D> {
     ghost use Rattle.cluster_world.specs.declared.step.Step.TheVariants.{Begin};
     ghost use Rattle.cluster_world.specs.Opens.{CanBeOpened, AreEmpty, Opened, Refused};
 
-    /// A new world on empty disks, one for each node of the plan, in order: a journal each, and the records of each node's
-    /// first boot and of its promise of the first epoch, in which all nodes are. A refusal hands the disks back.
+    /// A new world on empty disks, one for each node of the plan, in order: a journal each, and the record of each node's
+    /// first boot. A refusal hands the disks back.
     pub fn open(alloc: Global, plan: Plan, disks: Vec<D>) -> Result<World<D>, (OpenFault, Vec<D>)>
         requires fit { CanBeOpened plan }
         requires one_each { length disks.items ≡ plan.nodes }
@@ -177,20 +174,6 @@ impl<D: Disk> World<D> {
                 user,
                 *id,
                 *to,
-            ),
-            Step::Group { node } => group_node(
-                alloc,
-                &mut self.nodes,
-                &mut self.flying,
-                &mut self.book,
-                *node,
-            ),
-            Step::Conclude { node } => conclude_node(
-                alloc,
-                &mut self.nodes,
-                &mut self.flying,
-                &mut self.book,
-                *node,
             ),
             Step::Tick { seconds } => {
                 self.seconds = *seconds;

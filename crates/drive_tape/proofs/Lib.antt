@@ -38,5 +38,3 @@ pub mod FedOpens
 pub mod FedMoves
 pub mod Sure
 pub mod WholeTexts
-pub mod Forming
-pub mod EpochTexts

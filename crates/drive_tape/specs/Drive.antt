@@ -38,7 +38,7 @@ use Rattle.drive_tape.specs.declared.drove.Stop.TheVariants as why
 use Rattle.drive_tape.specs.Denials.{stop_by}
 use Rattle.drive_tape.specs.Faults.{tape_fault_seen}
 use Rattle.drive_tape.specs.Kept.{AreToldOrBlind, KeptIn}
-use Rattle.drive_tape.specs.Led.{AreLedTo, AreDenied}
+use Rattle.drive_tape.specs.Led.{AreLedTo}
 use Rattle.drive_tape.specs.Points.{AreAtOwnNodes}
 use Rattle.drive_tape.specs.Worlds.{AreLives, HasFailed}
 
@@ -80,9 +80,9 @@ NamesLine (drove.WriteFault n) line = n ≡ line
 NamesLine (drove.BadTape n why) line = n ≡ line
 NamesLine (drove.NoMemory n) line = n ≡ line
 
--- the steps of an outcome were denied, for this fault of the tape
+-- the last step of an outcome was refused, for this fault of the tape
 abbrev pub IsDenied : TapeFault → Outcome → Type 0
-IsDenied fault (Moved order steps sum) = (cause : StepFault) × AreDenied order cause steps × (stop_by cause ≡ why.Bad fault)
+IsDenied fault (Moved order steps sum) = (before : List StepMade) × (one : StepMade) × (cause : StepFault) × (steps ≡ before ++ one ∷ []) × (one.result ≡ Err cause) × (stop_by cause ≡ why.Bad fault)
 IsDenied fault (KeptUp k ticket cause) = stop_by cause ≡ why.Bad fault
 IsDenied fault outcome = ⊥
 

@@ -23,4 +23,3 @@ pub mod Plans
 pub mod Lines
 pub mod Fed
 pub mod Runs
-pub mod Forms

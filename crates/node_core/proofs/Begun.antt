@@ -1,6 +1,5 @@
 -- A call that a node begins, for every plan whose node it is.
-use Rattle.std.proofs.Common.{◌≡◌, ◌⊎◌, ◌<◌, ℕ, zero, suc, ◌+◌, max, List, [], ◌++◌, length, Bool, true, false, not, ◌&&◌, ◌||◌, nat_lt, nat_le, Option, Some, refl, sym, ap, subst, ◌∙◌, ⊎_elim, append-nil, lt-ltb, arith, true≢false}
-use Rattle.std.proofs.Math.Nat.{le-max_left}
+use Rattle.std.proofs.Common.{◌≡◌, ◌⊎◌, ℕ, ◌+◌, List, [], ◌++◌, length, Bool, true, false, not, ◌&&◌, ◌||◌, nat_lt, nat_le, Option, Some, refl, sym, ap, subst, ◌∙◌, ⊎_elim, append-nil}
 use Rattle.std.specs.Prelude.{Result, Ok, Err}
 use Rattle.io_edge.specs.Moments.{Keeps as KeepsImages}
 use Rattle.io_edge.proofs.Passing.{keeps_none}
@@ -38,11 +37,11 @@ use Rattle.node_core.proofs.Sending.{none_fit}
 
 -- the mishaps of a delivery
 pub delivery_mishaps : (plan : Plan) (own seconds : ℕ) (old : Node) (members : List ℕ) (m : Mishaps) → IsNodeOf plan own old → members ≡ nodes_in (members_of (node_seen old)) old.shape.nodes
-    → m ≡ late_seen (nat_le end_of_dates seconds) (nat_lt (length members) (max 1 old.shape.confirm)) → (mail : Mail) → m ≡ mishaps_of_call plan seconds (node_seen old) (Deliver mail)
+    → m ≡ late_seen (nat_le end_of_dates seconds) (nat_lt (length members) old.shape.confirm) → (mail : Mail) → m ≡ mishaps_of_call plan seconds (node_seen old) (Deliver mail)
 delivery_mishaps plan own seconds old members m p are is mail =
-    is ∙ ap (λ (l : List ℕ). late_seen (nat_le end_of_dates seconds) (nat_lt (length l) (max 1 old.shape.confirm))) are
-    ∙ ap (λ (n : ℕ). late_seen (nat_le end_of_dates seconds) (nat_lt (length (nodes_in (members_of (node_seen old)) n)) (max 1 old.shape.confirm))) p.nodes
-    ∙ ap (λ (f : ℕ). late_seen (nat_le end_of_dates seconds) (nat_lt (length (nodes_in (members_of (node_seen old)) plan.nodes)) (max 1 f))) p.confirm
+    is ∙ ap (λ (l : List ℕ). late_seen (nat_le end_of_dates seconds) (nat_lt (length l) old.shape.confirm)) are
+    ∙ ap (λ (n : ℕ). late_seen (nat_le end_of_dates seconds) (nat_lt (length (nodes_in (members_of (node_seen old)) n)) old.shape.confirm)) p.nodes
+    ∙ ap (λ (f : ℕ). late_seen (nat_le end_of_dates seconds) (nat_lt (length (nodes_in (members_of (node_seen old)) plan.nodes)) f)) p.confirm
 
 -- a delivery that nothing befalls comes before the end of dates
 none_is_late : (late few : Bool) → nat_lt 0 (mishaps_of (late_seen late few)) ≡ false → late ≡ false
@@ -52,23 +51,6 @@ none_is_late true true none = absurd (cc none)
 
 pub comes_in_time : (late few : Bool) (m : Mishaps) → m ≡ late_seen late few → nat_lt 0 (mishaps_of m) ≡ false → late ≡ false
 comes_in_time late few m is none = none_is_late late few (sym (ap (λ (x : Mishaps). nat_lt 0 (mishaps_of x)) is) ∙ none)
-
--- and one that nothing befalls has some members
-none_is_few : (late few : Bool) → nat_lt 0 (mishaps_of (late_seen late few)) ≡ false → few ≡ false
-none_is_few late false none = refl
-none_is_few false true none = absurd (cc none)
-none_is_few true true none = absurd (cc none)
-
-none_is_fewer : (confirm : ℕ) → nat_lt 0 (max 1 confirm) ≡ true
-none_is_fewer confirm = lt-ltb 0 (max 1 confirm) (omega (arith, le-max_left 1 confirm))
-
-some_there : (length confirm : ℕ) → nat_lt length (max 1 confirm) ≡ false → 0 < length
-some_there zero confirm few = absurd (true≢false (sym (none_is_fewer confirm) ∙ few))
-some_there (suc length) confirm few = omega arith
-
-pub has_some : (late : Bool) (length confirm : ℕ) (m : Mishaps) → m ≡ late_seen late (nat_lt length (max 1 confirm)) → nat_lt 0 (mishaps_of m) ≡ false → 0 < length
-has_some late length confirm m is none =
-    some_there length confirm (none_is_few late (nat_lt length (max 1 confirm)) (sym (ap (λ (x : Mishaps). nat_lt 0 (mishaps_of x)) is) ∙ none))
 
 -- when a call is worn that fails at once, or one that does not
 worn_failing : (a b c f : Bool) → f ≡ true → (a || b || (not f && c)) ≡ (a || b)

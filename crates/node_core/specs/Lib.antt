@@ -5,7 +5,6 @@ pub mod Failing
 pub mod Filed
 pub mod First
 pub mod Hearing
-pub mod Installing
 pub mod Listing
 pub mod Naming
 pub mod Nodes

@@ -1,5 +1,5 @@
 //! Calls that fail at once.
-ghost use Rattle.std.specs.Prelude.{◌≡◌, max, nat_lt, nat_le, length};
+ghost use Rattle.std.specs.Prelude.{◌≡◌, nat_lt, nat_le, length};
 ghost use Rattle.object_model.specs.Mishaps.{mishaps_of};
 ghost use Rattle.cluster_model.specs.Steps.{end_of_dates};
 ghost use Rattle.node_tickets.specs.Seen.{kind_seen, mishaps_seen};
@@ -14,12 +14,12 @@ use call_tickets::Mishaps;
 use mail_base::{CallKind, NodeNo, Ticket};
 use std::alloc::Global;
 
-/// What befalls a call that some members are asked for: one at least has to be there.
+/// What befalls a call that some members are asked for.
 pub(crate) fn few_members(members: &[NodeNo], confirm: u8) -> Mishaps
-    ensures { mishaps_seen result ≡ few_seen (nat_lt (length members.now) (max 1 confirm)) }
+    ensures { mishaps_seen result ≡ few_seen (nat_lt (length members.now) confirm) }
 {
     Mishaps {
-        few_members: u64::from(members.len() < usize::from(confirm.max(1))),
+        few_members: u64::from(members.len() < usize::from(confirm)),
         year: 0,
         dropped: 0,
         stale: 0,
@@ -31,7 +31,7 @@ pub(crate) fn few_members(members: &[NodeNo], confirm: u8) -> Mishaps
 
 /// The same of a delivery at these seconds.
 pub(crate) fn few_members_or_late(members: &[NodeNo], confirm: u8, seconds: u64) -> Mishaps
-    ensures { mishaps_seen result ≡ late_seen (nat_le end_of_dates seconds) (nat_lt (length members.now) (max 1 confirm)) }
+    ensures { mishaps_seen result ≡ late_seen (nat_le end_of_dates seconds) (nat_lt (length members.now) confirm) }
 {
     Mishaps {
         year: u64::from(seconds >= 253_402_300_800),

@@ -1,12 +1,9 @@
-//! How a node stands in its cluster.
+//! The numbers of a plan that a node needs.
 
-use membership::Install;
-
-/// How many nodes, copies of an object and confirmations the plan has, and the membership that the node has installed, if any.
-#[derive(Drop)]
+/// How many nodes, copies of an object and confirmations.
+#[derive(Clone, Copy, Debug)]
 pub(crate) struct Shape {
     pub(crate) nodes: u8,
     pub(crate) copies: u8,
     pub(crate) confirm: u8,
-    pub(crate) installed: Option<Install>,
 }

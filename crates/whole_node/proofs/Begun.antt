@@ -1,7 +1,6 @@
 -- A call that has begun, and the maps after it.
 use Rattle.std.proofs.Common.{◌≡◌, ◌≢◌, ℕ, zero, suc, ◌+◌, ◌<◌, ◌≤◌, Bool, true, false, ◌&&◌, cond, List, [], ◌∷◌, ◌++◌, map, Option, Some, None, refl, sym, ap, ◌∙◌, subst, true≢false, nat_eq, eq-eqb, arith, append-nil, if◌then◌else◌}
-use Rattle.std.specs.Prelude.{All, flat_map, length, Result, Ok, Err, ⊤}
-use Rattle.std.proofs.lemmas.List.Elements.{All-nil}
+use Rattle.std.specs.Prelude.{flat_map, length, Result, Ok, Err, ⊤}
 use Rattle.std.specs.Cmp.{nat_cmp_total}
 use Rattle.std.specs.FinMap as fin
 use Rattle.std.proofs.lemmas.Map.Lookups.{exact_unsigned}
@@ -42,8 +41,6 @@ use Rattle.whole_node.specs.declared.node.WholeNode.{WholeNode}
 use Rattle.whole_node.proofs.Led.{led_none}
 use Rattle.whole_node.proofs.Taking.{Leads, leads_none}
 use Rattle.whole_node.proofs.Ruled.{leads_delivered, leads_deleted}
-use Rattle.whole_node.specs.Hearing.{FitsMaps}
-use Rattle.whole_node.proofs.Mailing.{begins_mail}
 use Rattle.whole_node.proofs.Called.{plan_for, is_for, has_users, same_own, done_stops, knows_any, follows_led, has_after, has_same}
 
 -- the own node is one of itself
@@ -195,23 +192,15 @@ module _ {D : Type 0} (on : View D) (plan : Plan) (own seconds : ℕ) (old : Who
     pub noted_has : (ticket : Option Number) (number : Number) (sent : List Letter) → Did ticket sent → ticket ≡ Some number → NotesUnder number → HasMaps new
     noted_has ticket number sent (AtOnce kind kind_is fails ticket_is d) it notes =
         let n = subst NotesUnder (some_is number (new_number own (node_seen old.mail)) (sym it ∙ ticket_is)) notes in
-        has_after old holds on (rules.refuse kind (mishaps_of_call plan seconds (node_seen old.mail) call) (ids_drawn call)) before new after sent d (λ records. refl)
+        has_after old holds on (rules.refuse kind (mishaps_of_call plan seconds (node_seen old.mail) call) (ids_drawn call)) before new after sent d
         (idle_leads (unchanged (rules.refuse kind (mishaps_of_call plan seconds (node_seen old.mail) call) (ids_drawn call)) sent d (refused kind sent d) n))
     noted_has ticket number sent (Goes octets goes filed ticket_is d) it notes =
         let n = subst NotesUnder (some_is number (new_number own (node_seen old.mail)) (sym it ∙ ticket_is)) notes in
-        has_after old holds on (begun octets) before new after sent d (λ records. (begins_mail plan (at_second seconds) own (node_seen old.mail) records call octets).epoch) (led_by call octets sent d n (λ quiet. absurd (never_filed call octets quiet filed)))
+        has_after old holds on (begun octets) before new after sent d (led_by call octets sent d n (λ quiet. absurd (never_filed call octets quiet filed)))
     noted_has ticket number sent (Reads kind found kind_is those ticket_is d) it notes =
         let n = subst NotesUnder (some_is number (new_number own (node_seen old.mail)) (sym it ∙ ticket_is)) notes in
-        has_after old holds on (rules.begin_read kind found) before new after sent d (λ records. refl) (idle_leads (unchanged (rules.begin_read kind found) sent d (read kind found sent d) n))
+        has_after old holds on (rules.begin_read kind found) before new after sent d (idle_leads (unchanged (rules.begin_read kind found) sent d (read kind found sent d) n))
     noted_has ticket number sent (Leaves user is_leave none none_sent as_before untouched) it notes = absurd (no_ticket number (sym it ∙ none))
-
-    -- whatever it sends fits
-    begun_fits_by : (ticket : Option Number) (sent : List Letter) → Did ticket sent → All FitsMaps sent
-    begun_fits_by ticket sent (AtOnce kind kind_is fails ticket_is d) = subst (All FitsMaps) (d.out holds.records holds.keeps) (All-nil FitsMaps)
-    begun_fits_by ticket sent (Goes octets goes filed ticket_is d) =
-        subst (All FitsMaps) (d.out holds.records holds.keeps) (begins_mail plan (at_second seconds) own (node_seen old.mail) holds.records call octets).fits
-    begun_fits_by ticket sent (Reads kind found kind_is those ticket_is d) = subst (All FitsMaps) (d.out holds.records holds.keeps) (All-nil FitsMaps)
-    begun_fits_by ticket sent (Leaves user is_leave none none_sent as_before untouched) = subst (All FitsMaps) (sym none_sent) (All-nil FitsMaps)
 
     -- memory ran out as its copies were noted
     pub noting_stops : (ticket : Option Number) (number : Number) (sent : List Letter) → is_worn_for plan seconds (node_seen old.mail) call ≡ false → Did ticket sent → ticket ≡ Some number
@@ -243,7 +232,7 @@ module _ {D : Type 0} (on : View D) (plan : Plan) (own seconds : ℕ) (old : Who
     ticketless_has ticket sent (AtOnce kind kind_is fails ticket_is d) it maps = absurd (none_some _ (sym it ∙ ticket_is))
     ticketless_has ticket sent (Goes octets goes filed ticket_is d) it maps = absurd (none_some _ (sym it ∙ ticket_is))
     ticketless_has ticket sent (Reads kind found kind_is those ticket_is d) it maps = absurd (none_some _ (sym it ∙ ticket_is))
-    ticketless_has ticket sent (Leaves user is_leave none none_sent as_before untouched) it maps = has_same old holds new as_before.same (ap (λ (n : plain.Node). n.boot) as_before.seen) (ap (λ (n : plain.Node). n.installed) as_before.seen) as_before.keeps maps
+    ticketless_has ticket sent (Leaves user is_leave none none_sent as_before untouched) it maps = has_same old holds new as_before.same (ap (λ (n : plain.Node). n.boot) as_before.seen) as_before.keeps maps
 
     -- its work failed
     pub failed_follows : (fault : NodeFault) → new.maps ≡ old.maps → FollowsCall on plan own seconds call (Err fault) old before new after
@@ -254,9 +243,9 @@ module _ {D : Type 0} (on : View D) (plan : Plan) (own seconds : ℕ) (old : Who
 
     pub failed_has : (fault : NodeFault) → NodeBegins on plan own seconds call old.mail before new.mail after (Err fault) → new.maps ≡ old.maps → LeavesUp {T = Option Number × Outbox} (Err fault) → HasMaps new
     failed_has Disk begins maps up = absurd up
-    failed_has Worn begins maps up = has_same old holds new begins.1.same (ap (λ (n : plain.Node). n.boot) begins.1.seen) (ap (λ (n : plain.Node). n.installed) begins.1.seen) begins.1.keeps maps
+    failed_has Worn begins maps up = has_same old holds new begins.1.same (ap (λ (n : plain.Node). n.boot) begins.1.seen) begins.1.keeps maps
     failed_has (NoMemory true) begins maps up = absurd up
-    failed_has (NoMemory false) begins maps up = has_same old holds new begins.0.same (ap (λ (n : plain.Node). n.boot) begins.0.seen) (ap (λ (n : plain.Node). n.installed) begins.0.seen) begins.0.keeps maps
+    failed_has (NoMemory false) begins maps up = has_same old holds new begins.0.same (ap (λ (n : plain.Node). n.boot) begins.0.seen) begins.0.keeps maps
 
     -- so whatever was begun
     pub begun_follows : (ticket : Option Number) (outbox : Outbox) → CallBegun on plan own seconds call old.mail before new.mail after ticket outbox → NotesBegun ticket new.mail old.maps new.maps
@@ -267,9 +256,6 @@ module _ {D : Type 0} (on : View D) (plan : Plan) (own seconds : ℕ) (old : Who
     pub begun_has : (ticket : Option Number) (outbox : Outbox) → CallBegun on plan own seconds call old.mail before new.mail after ticket outbox → NotesBegun ticket new.mail old.maps new.maps → HasMaps new
     begun_has None outbox b maps = ticketless_has None outbox.letters b.did refl maps
     begun_has (Some number) outbox b notes = noted_has (Some number) number outbox.letters b.did refl notes
-
-    pub begun_fits : (ticket : Option Number) (outbox : Outbox) → CallBegun on plan own seconds call old.mail before new.mail after ticket outbox → All FitsMaps outbox.letters
-    begun_fits ticket outbox b = begun_fits_by ticket outbox.letters b.did
 
     pub begun_stops : (ticket : Option Number) (outbox : Outbox) → CallBegun on plan own seconds call old.mail before new.mail after ticket outbox → WantsSome ticket new.mail
         → CallStopped on plan own seconds call old.mail before new.mail after keep.NoMemory
@@ -298,7 +284,3 @@ module _ {D : Type 0} (on : View D) (users : Users) (seconds : ℕ) (old : Whole
     mail = mail_works (Ok (ticket, outbox)) begins tt;
     maps = begun_has on (plan_for users old.mail) old.mail.store.own seconds old before new after (is_for users old.mail) works.maps works.mail.whole call ticket outbox (begins_one (Ok (ticket, outbox)) begins) notes;
   }
-
-  pub begun_all_fit : (ticket : Option Number) (outbox : Outbox) → BeginsAny (Ok (ticket, outbox)) → All FitsMaps outbox.letters
-  begun_all_fit ticket outbox begins =
-      begun_fits on (plan_for users old.mail) old.mail.store.own seconds old before new after (is_for users old.mail) works.maps works.mail.whole call ticket outbox (begins_one (Ok (ticket, outbox)) begins)

@@ -1,8 +1,7 @@
 //! A node pushes to another what is due to it.
-ghost use Rattle.std.specs.Prelude.{◌≡◌, ◌+◌, ◌≤◌, ◌<◌, ℕ, All, None, length, IfOk, IfErr};
+ghost use Rattle.std.specs.Prelude.{◌≡◌, ◌+◌, ◌≤◌, ◌<◌, ℕ, None, length, IfOk, IfErr};
 ghost use Rattle.node_store.specs.Disks.{view_of};
-ghost use Rattle.whole_node.specs.Hearing.{FitsMaps};
-ghost use Rattle.cluster_world.specs.Hears.{AllCanBeHeard};
+ghost use Rattle.node_core.specs.Spelling.{AllCanBeTaken};
 ghost use Rattle.world_book.specs.Books.{spare_of};
 ghost use Rattle.cluster_world.specs.Asking.{IsUpWhole};
 ghost use Rattle.cluster_world.specs.Lives.{all_falls_left, CanWorkOn};
@@ -76,8 +75,7 @@ fn push_in<D: Disk>(
 ) -> Result<Outbox, NodeFault>
     requires fit { node_refusal nodes.old.plan (life_among nodes.old) (step.Push from to) ≡ None }
     requires works { CanWorkOn D.seen nodes.old.plan nodes.old.lives.items nodes.old.disks.items }
-    ensures pushes { ChangesNode from (PushesAt (view_of D.seen D.faults D.clock) D.settled from to most room result) nodes.old nodes.new }
-    ensures fits { IfOk result (λ outbox. All FitsMaps outbox.letters) }
+    ensures { ChangesNode from (PushesAt (view_of D.seen D.faults D.clock) D.settled from to most room result) nodes.old nodes.new }
 {
     let place = place_of(from);
     push_at(
@@ -98,7 +96,7 @@ fn send_pushed<D: Disk>(
     letters: Vec<Letter>,
 ) -> Result<Said, StepFault>
     requires works { CanWorkOn D.seen nodes.old.plan nodes.old.lives.items nodes.old.disks.items }
-    requires heard { AllCanBeHeard letters.items }
+    requires heard { AllCanBeTaken letters.items }
     ensures ok { IfOk result (λ said. (said ≡ Sent (length letters.items)) × SentOff (view_of D.seen D.faults D.clock) nodes.old.plan letters.items None flying.old flying.new nodes.old nodes.new) }
     ensures err { IfErr result (λ why. (why ≡ NoMemory None) × (flying.new ≡ flying.old) × (nodes.new ≡ nodes.old)) }
 {

@@ -6,7 +6,7 @@ use Rattle.cluster_world.specs.Lives.{is_up_life}
 use Rattle.cluster_world.specs.Posts.{mishap_of}
 use Rattle.cluster_world.specs.Worlds.{life_among}
 use Rattle.cluster_world.proofs.Posting.{no_letter_posted, worn_posted}
-use Rattle.cluster_world.proofs.PostEnds.{nobody_did, handed_ready, handed_fit, handed_room, noted_ready, ends_within, ended_did}
+use Rattle.cluster_world.proofs.PostEnds.{nobody_did, handed_ready, handed_room, noted_ready, ends_within, ended_did}
 use Rattle.cluster_world.proofs.steps.post.post_letter.Goals as goal
 
 pub returns-in_default-clause-did : goal.returns-in_default-clause-did
@@ -29,7 +29,7 @@ note_handed-requires g c = record {
 }
 
 pub end_post-requires-clause-works : goal.end_post-requires-clause-works
-end_post-requires-clause-works g c = noted_ready (view_of g.D.Disk.seen g.D.Disk.faults g.D.Disk.clock) c.hear_in-heard.new.nodes.plan c.in-Some.letter.now (mishap_of c.in-Some.letter.now.body c.hear_in-heard.result) c.hear_in-heard.new.nodes c.note_handed.new.nodes refl c.note_handed.ensures
+end_post-requires-clause-works g c = noted_ready (view_of g.D.Disk.seen g.D.Disk.faults g.D.Disk.clock) c.hear_in-heard.new.nodes.plan c.in-Some.letter.now (mishap_of c.hear_in-heard.result) c.hear_in-heard.new.nodes c.note_handed.new.nodes refl c.note_handed.ensures
     (handed_ready (view_of g.D.Disk.seen g.D.Disk.faults g.D.Disk.clock) g.D.Disk.settled c.args.number c.args.keep c.args.nodes.now c.args.flying.now c.args.book.now c.requires.ready c.requires.room c.in-Some.letter.now (sym c.in-Some.ensures.is)
     (ap (nat_le letters_end) (sym c.sent.ensures) ∙ sym c.is_worn.ensures ∙ c.if-is_worn.false) c.hear_in-heard.new.nodes c.hear_in-heard.result c.hear_in-heard.ensures.hears)
 
@@ -41,10 +41,6 @@ end_post-requires-clause-within g c = ends_within (view_of g.D.Disk.seen g.D.Dis
 pub end_post-requires-clause-room : goal.end_post-requires-clause-room
 end_post-requires-clause-room g c = handed_room (view_of g.D.Disk.seen g.D.Disk.faults g.D.Disk.clock) g.D.Disk.settled c.args.number c.args.keep c.args.nodes.now c.args.flying.now c.args.book.now c.requires.ready c.requires.room c.in-Some.letter.now (sym c.in-Some.ensures.is)
     (ap (nat_le letters_end) (sym c.sent.ensures) ∙ sym c.is_worn.ensures ∙ c.if-is_worn.false) c.hear_in-heard.new.nodes c.hear_in-heard.result c.hear_in-heard.ensures.hears
-
-pub end_post-requires-clause-fit : goal.end_post-requires-clause-fit
-end_post-requires-clause-fit g c = handed_fit (view_of g.D.Disk.seen g.D.Disk.faults g.D.Disk.clock) g.D.Disk.settled c.args.number c.args.keep c.args.nodes.now c.args.flying.now c.args.book.now c.requires.ready c.requires.room c.in-Some.letter.now (sym c.in-Some.ensures.is)
-    (ap (nat_le letters_end) (sym c.sent.ensures) ∙ sym c.is_worn.ensures ∙ c.if-is_worn.false) c.hear_in-heard.new.nodes c.hear_in-heard.result c.hear_in-heard.ensures.hears c.hear_in-heard.ensures.fits
 
 pub returns-clause-did : goal.returns-clause-did
 returns-clause-did g c = (ended_did (view_of g.D.Disk.seen g.D.Disk.faults g.D.Disk.clock) g.D.Disk.settled c.args.number c.args.keep c.args.nodes.now c.args.flying.now c.args.book.now c.requires.ready c.requires.room c.in-Some.letter.now (sym c.in-Some.ensures.is)

@@ -21,8 +21,8 @@ push_at-requires g c =
     let f = fit_of (list_all (is_node nodes.plan) (c.args.from ∷ c.args.to ∷ [])) (life_refusal s (life_among nodes c.args.from)) c.requires.fit in
     record { up = up_there g.D.Disk.seen s c.args.from c.args.to c.place_of-place.result nodes f.0 f.1 tt c.requires.works c.place_of-place.ensures _ _ _ _ c.index_mut.ensures.value c.index_mut-2.ensures.value }
 
-pub returns-clause-pushes : goal.returns-clause-pushes
-returns-clause-pushes g c =
+pub returns : goal.returns
+returns g c =
     let nodes = c.args.nodes.now in
     let on = view_of g.D.Disk.seen g.D.Disk.faults g.D.Disk.clock in
     let s = step.Push c.args.from c.args.to in
