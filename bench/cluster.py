@@ -1,5 +1,6 @@
 #!/usr/bin/env python3
-"""Runs the built program over tapes of clusters of several nodes, and of nodes that start again, and prints three tables.
+"""Runs the built program over tapes of clusters of several nodes, of nodes that start again, and of regroups, and prints four
+tables.
 
     ./porcupine drive < examples/first.tape    # builds the program
     bench/cluster.py
@@ -7,8 +8,10 @@
 It asserts nothing. In the first table one session sends messages of 1 KiB to one mailbox, and each is followed by
 `flow`: of a cluster of n nodes, with min(n, 3) copies of which 2 are confirmed, or all where n is below 2. In the second
 one node pushes what it owes after all letters were dropped, and the letters are posted by `flow`. In the third one node
-takes messages, stops, and starts again: what the two lines `crash 1` and `start 1` take longer. The time is that of the
-whole run; the memory is the peak resident set of the process.
+takes messages, stops, and starts again: what the two lines `crash 1` and `start 1` take longer. In the fourth node 1
+regroups a cluster again and again: how long one line `regroup 1` takes, and how many letters it sends, by the number of
+the letter that the next group sends first. The time is that of the whole run; the memory is the peak resident set of the
+process.
 """
 
 import os
@@ -21,11 +24,13 @@ MESSAGE = b"say 1 MAIL FROM:<bob@b.example>\nsay 1 RCPT TO:<alice>\nsay 1 DATA\n
 NODES = [1, 3, 5, 16]
 COUNTS = [1_000, 100_000]
 STARTS = [10_000, 100_000, 1_000_000]
+BUCKETS = [1, 1_024]
+REGROUPS = 2_000
 
 
-def plan(nodes, copies, confirm):
+def plan(nodes, copies, confirm, buckets=1):
     """The plan lines of a cluster with one user, and a session that takes mail."""
-    head = f"nodes {nodes}\ncopies {copies} {confirm}\nbuckets 1\nuser alice tanstaaf\npostmaster alice\ngo\n"
+    head = f"nodes {nodes}\ncopies {copies} {confirm}\nbuckets {buckets}\nuser alice tanstaaf\npostmaster alice\ngo\n"
     return head.encode() + b"open smtp 1\nsay 1 HELO c.example\n"
 
 
@@ -96,6 +101,33 @@ def print_starts():
         print(f"{messages:>9,} {more:>8.2f} {more / messages * 1e6:>11.1f} {(high - low) * 1024 / messages:>14.0f} {status}")
 
 
+def grouping(nodes, buckets, count, behind):
+    """A cluster that regroups so often, and these lines after it."""
+    yield plan(nodes, min(nodes, 3), min(nodes, 2), buckets)
+    yield b"regroup 1\n" * count
+    yield behind
+
+
+def letters_of_one(nodes, buckets):
+    """How many letters a regroup sends; none are sent where there is one node."""
+    for letter in range(1, 7 * nodes):
+        _, _, _, status = timed(grouping(nodes, buckets, 1, b"group 1\ndrop %d\n" % letter))
+        if status == 0:
+            return letter - 1
+    return 0
+
+
+def print_regroups():
+    """What it costs to form an epoch."""
+    print(f"{'nodes':>5} {'buckets':>7} {'us/regroup':>10} {'letters':>7} status")
+    for nodes in NODES:
+        for buckets in BUCKETS:
+            _, without, _, _ = timed(grouping(nodes, buckets, 0, b""))
+            _, seconds, _, status = timed(grouping(nodes, buckets, REGROUPS, b""))
+            letters = letters_of_one(nodes, buckets)
+            print(f"{nodes:>5} {buckets:>7,} {(seconds - without) / REGROUPS * 1e6:>10.1f} {letters:>7} {status}")
+
+
 def main():
     print("a cluster takes messages in")
     print_sending()
@@ -103,6 +135,8 @@ def main():
     print_flow()
     print("a node starts again")
     print_starts()
+    print("a cluster regroups")
+    print_regroups()
 
 
 if __name__ == "__main__":

@@ -2,7 +2,7 @@
 """Tries the service with mail programs that people use, and takes its measure, over the program that was built.
 
     ./porcupine check examples/service.toml    # builds the program
-    bench/service.py try                       # smtplib, poplib, curl and swaks; many clients, silent ones, broken ones; each status
+    bench/service.py try                       # smtplib, poplib, curl and swaks; many clients, silent ones, broken ones; regroups; each status
     bench/service.py kill [SECONDS [ROUNDS]]   # kill -9 under load; then each message that had its 250 has to stand on as many disks as confirm
     bench/service.py rates [FOLDER]            # messages a second, processor time, memory; the folder is on the disk to be measured
     bench/service.py syncs                     # how many syncs a message costs; it needs strace
@@ -362,6 +362,32 @@ def try_statuses():
         check("a stop ends a service whose node is down", service.stop()[0] == 0)
 
 
+def code_at(service, node):
+    """How a node answers a message."""
+    with smtplib.SMTP(HOST, service.smtp + node - 1, timeout=30) as client:
+        try:
+            client.sendmail("bob@b.example", ["alice"], b"Subject: one more\r\n\r\na text\r\n")
+        except smtplib.SMTPResponseException as refusal:
+            return refusal.smtp_code
+    return 250
+
+
+def try_regroups():
+    with Service(nodes=4, copies=2, confirm=2) as service:
+        service.ask("crash 2")
+        check("a group of a node that is down is refused", service.ask("group 2") == "! line 2 NodeDown")
+        check("it starts", service.ask("start 2") == "*0 node 2 up 2")
+        check("and takes no mail, since it has no epoch", code_at(service, 2) == 451)
+        check("a group lets it in", service.ask("group 1") == "*0 epoch 2.1 members 1 2 3 4")
+        check("and it takes mail", code_at(service, 2) == 250)
+        service.ask("lose 3")
+        service.ask("lose 4")
+        check("two of four are lost, and the others regroup", service.ask("group 2") == "*0 epoch 3.2 members 1 2")
+        check("and take mail", all(code_at(service, node) == 250 for node in (1, 2, 1, 2)))
+        check("all of it is in the book", service.ask("sum") == "*0 sum acked 5 struck 0 dropped 0 lost 2")
+        check("a service with lost nodes stops", service.stop()[0] == 0)
+
+
 def try_all():
     with Service() as service:
         try_programs(service)
@@ -370,6 +396,7 @@ def try_all():
         names, _, _ = loads(service, 6, 10)
         check("three nodes take mail, each of it by two", len(names) == 60)
         try_silent(service)
+    try_regroups()
     try_statuses()
 
 

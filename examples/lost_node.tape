@@ -24,6 +24,7 @@ post 5
 flow
 crash 1
 start 1
+regroup 1
 open smtp 3
 say 2 HELO d.example
 say 2 MAIL FROM:<carol@d.example>

@@ -16,6 +16,7 @@ say 1 .
 say 1 MAIL FROM:<bob@b.example>
 crash 1
 start 1
+regroup 1
 open pop 1
 say 2 USER alice
 say 2 PASS tanstaaf
@@ -24,6 +25,7 @@ say 2 RETR 1
 say 2 DELE 1
 crash 1
 start 1
+regroup 1
 open pop 1
 say 3 USER alice
 say 3 PASS tanstaaf
@@ -32,6 +34,7 @@ say 3 DELE 1
 say 3 QUIT
 crash 1
 start 1
+regroup 1
 open smtp 1
 say 4 HELO c.example
 say 4 MAIL FROM:<bob@b.example>

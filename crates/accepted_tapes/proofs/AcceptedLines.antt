@@ -4,6 +4,7 @@ use Rattle.std.specs.Prelude.{⊤}
 use Rattle.std.proofs.lemmas.List.Concat.{flat_map-append}
 use Rattle.mail_model.specs.Plan.{Plan}
 use Rattle.mail_model.specs.Transcript.{Entry}
+use Rattle.object_model.specs.Letters.{MapRow}
 use Rattle.session_model.specs.Sessions.{Session}
 use Rattle.session_model.specs.Acts.{Act}
 use Rattle.session_model.specs.Lives.{failed_by, failed_in}
@@ -26,8 +27,8 @@ pub data Stage : Type 0 where
   Unknown : Stage
 
 abbrev pub Meets : Plan → Stage → List Act → List Session → List Standing → World → Type 0
-Meets plan Fresh been sessions calls w = (been ≡ []) × (sessions ≡ []) × (calls ≡ []) × (w ≡ opening_world plan.nodes)
-Meets plan (One session) been sessions calls w = (sessions ≡ session ∷ []) × (calls ≡ []) × (w ≡ opening_world plan.nodes)
+Meets plan Fresh been sessions calls w = (been ≡ []) × (sessions ≡ []) × (calls ≡ []) × ((map : List MapRow) × (w ≡ opening_world plan.nodes map))
+Meets plan (One session) been sessions calls w = (sessions ≡ session ∷ []) × (calls ≡ []) × ((map : List MapRow) × (w ≡ opening_world plan.nodes map))
 Meets plan (Flown flying sent) been sessions calls w = (session : Session) × (sessions ≡ session ∷ []) × Idles session
     × ((octets : List ℕ) × (length octets ≤ 4096) × Holds plan.nodes (flying octets) sent w)
 Meets plan On been sessions calls w = (session : Session) × (sessions ≡ session ∷ []) × Idles session

@@ -18,7 +18,7 @@ use Rattle.cluster_model.specs.Steps.Step.{Begin}
 use Rattle.cluster_model.specs.Steps.Said.{Begun, Faulted}
 use Rattle.cluster_model.specs.Steps.StepOutcome.{Says}
 use Rattle.cluster_model.specs.Makes.{MakesStep, BeginsCall}
-use Rattle.object_model.specs.Letters.{Number}
+use Rattle.object_model.specs.Letters.{Number, MapRow}
 use Rattle.cluster_model.specs.Plain.{kept}
 use Rattle.worked_sessions.specs.OneMessage.{greeted, texting, small_mail, waiting, at_hello}
 use Rattle.worked_sessions.specs.ThreeNodes.{three_nodes, posted_lines}
@@ -56,18 +56,18 @@ told acts outputs been new handled sound =
     (record { is_unit = text_lines; whole = refl; led = (refl, refl) }) refl refl refl idle_line handled sound
 
 -- it has begun, and its letters are in flight
-sent_off : (been : List Act) (acts : List Act) (new : List Session) (t : HasTold (codes ".") waiting acts new) (calls : List Standing) (w : World) (left : List Standing) (next : World) → calls ≡ [] → w ≡ opening_world 3
+sent_off : (been : List Act) (acts : List Act) (new : List Session) (t : HasTold (codes ".") waiting acts new) (calls : List Standing) (w : World) (left : List Standing) (next : World) → calls ≡ [] → (managers : List MapRow) → w ≡ opening_world 3 managers
     → FollowsAll three_nodes posted_lines acts calls w left next → (octets : List ℕ) × (length octets ≤ 4096) × Holds 3 (two_files octets) 2 next
-sent_off been acts new t calls w left next none opens follows =
+sent_off been acts new t calls w left next none managers opens follows =
     let (between, mid, one, (later, last, two, rest)) = subst (λ (a : List Act). FollowsAll three_nodes posted_lines a calls w left next) t.acts_are follows in
     let (node, call, at, made, either) = two in
     let is_one = the_node node at in
-    let fresh : mid ≡ opening_world 3 = one.1 ∙ opens in
+    let fresh : mid ≡ opening_world 3 managers = one.1 ∙ opens in
     ⊎_elim
     (λ (began : (ticket : Number) × MakesStep three_nodes true mid (Begin node call) (Says (Begun ticket)) last × (later ≡ between ++ record { session = 1; ticket = ticket } ∷ [])).
-    let begins : BeginsCall three_nodes true (opening_world 3) 1 call (Begun began.0) last =
+    let begins : BeginsCall three_nodes true (opening_world 3 managers) 1 call (Begun began.0) last =
     subst (λ (v : World). BeginsCall three_nodes true v 1 call (Begun began.0) last) fresh (subst (λ (n : ℕ). BeginsCall three_nodes true mid n call (Begun began.0) last) is_one began.1.1) in
-    let sent = delivered call began.0 last made begins in
+    let sent = delivered managers call began.0 last made begins in
     (sent.0, sent.1, asks_keep three_nodes posted_lines 3 (two_files sent.0) 2 t.more t.asked.asks later last left next sent.2 rest))
     (λ (fell : MakesStep three_nodes true mid (Begin node call) (Says (Faulted node)) last × (later ≡ between)).
     absurd (never_asked t.more t.asked.asks t.some last left next
@@ -79,7 +79,7 @@ period = record {
   accepts = λ been sessions calls w meets. (Say 1 (codes "."), refl, hears_order 3 refl posted_lines at_hello (codes ".") been sessions meets.0 refl, λ denied. tt);
   moves = λ been sessions calls w acts outputs new left next meets handled follows sound.
       let t = told acts outputs been new (subst (λ (ss : List Session). IsHandled three_nodes been ss (codes "say 1 .") acts outputs new) meets.0 handled) sound in
-      (t.asked.session, t.asked.is, t.asked.idles, sent_off been acts new t calls w left next meets.1 meets.2 follows);
+      (t.asked.session, t.asked.is, t.asked.idles, sent_off been acts new t calls w left next meets.1 meets.2.0 meets.2.1 follows);
 }
 
 -- Which letters are in flight before each line that posts one: the two that carry the message, and those that answer them.
@@ -108,30 +108,30 @@ abbrev last_of_all : List ℕ → List Flight
 last_of_all = all_but 5 false seventh
 
 again_first : Leads three_nodes posted_lines (codes "again 1") (Flown two_files 2) (Flown third 3)
-again_first = posts_line three_nodes posted_lines (codes "again 1") (Again 1) 1 true two_files third 2 3 refl (λ been sessions. refl) (λ steps w next made. made) (calm_again 1) (file_to 2) (λ octets. refl) refl
+again_first = posts_line three_nodes posted_lines (codes "again 1") (Again 1) 1 true two_files third 2 3 refl (λ been sessions. refl) (λ steps w next made. made) (λ steps why denied. denied) (calm_again 1) (file_to 2) (λ octets. refl) refl
     (λ octets w next said short h posts well. file_posted three_nodes (two_files octets) 2 w h refl 1 true 1 2 first_ticket first_id first_stamp 7 small_mail.mailboxes octets refl (omega arith) (omega arith)
     (fits_in _ 536870912 (omega (arith, short))) said next posts well)
 
 again_second : Leads three_nodes posted_lines (codes "again 1") (Flown third 3) (Flown fourth 4)
-again_second = posts_line three_nodes posted_lines (codes "again 1") (Again 1) 1 true third fourth 3 4 refl (λ been sessions. refl) (λ steps w next made. made) (calm_again 1) (file_to 2) (λ octets. refl) refl
+again_second = posts_line three_nodes posted_lines (codes "again 1") (Again 1) 1 true third fourth 3 4 refl (λ been sessions. refl) (λ steps w next made. made) (λ steps why denied. denied) (calm_again 1) (file_to 2) (λ octets. refl) refl
     (λ octets w next said short h posts well. file_posted three_nodes (third octets) 3 w h refl 1 true 1 2 first_ticket first_id first_stamp 7 small_mail.mailboxes octets refl (omega arith) (omega arith)
     (fits_in _ 536870912 (omega (arith, short))) said next posts well)
 
 post_third : Leads three_nodes posted_lines (codes "post 3") (Flown fourth 4) (Flown fifth 4)
-post_third = posts_line three_nodes posted_lines (codes "post 3") (Post 3) 3 false fourth fifth 4 4 refl (λ been sessions. refl) (λ steps w next made. made) (calm_post 3) (λ octets. told_by 2) (λ octets. refl) refl
+post_third = posts_line three_nodes posted_lines (codes "post 3") (Post 3) 3 false fourth fifth 4 4 refl (λ been sessions. refl) (λ steps w next made. made) (λ steps why denied. denied) (calm_post 3) (λ octets. told_by 2) (λ octets. refl) refl
     (λ octets w next said short h posts well. told_posted three_nodes (fourth octets) 4 w h refl 3 false 2 1 first_ticket first_id refl (omega arith) (omega arith) said next posts well)
 
 post_fourth : Leads three_nodes posted_lines (codes "post 4") (Flown fifth 4) (Flown sixth 4)
-post_fourth = posts_line three_nodes posted_lines (codes "post 4") (Post 4) 4 false fifth sixth 4 4 refl (λ been sessions. refl) (λ steps w next made. made) (calm_post 4) (λ octets. told_by 2) (λ octets. refl) refl
+post_fourth = posts_line three_nodes posted_lines (codes "post 4") (Post 4) 4 false fifth sixth 4 4 refl (λ been sessions. refl) (λ steps w next made. made) (λ steps why denied. denied) (calm_post 4) (λ octets. told_by 2) (λ octets. refl) refl
     (λ octets w next said short h posts well. told_posted three_nodes (fifth octets) 4 w h refl 4 false 2 1 first_ticket first_id refl (omega arith) (omega arith) said next posts well)
 
 post_second : Leads three_nodes posted_lines (codes "post 2") (Flown sixth 4) (Flown seventh 5)
-post_second = posts_line three_nodes posted_lines (codes "post 2") (Post 2) 2 false sixth seventh 4 5 refl (λ been sessions. refl) (λ steps w next made. made) (calm_post 2) (file_to 3) (λ octets. refl) refl
+post_second = posts_line three_nodes posted_lines (codes "post 2") (Post 2) 2 false sixth seventh 4 5 refl (λ been sessions. refl) (λ steps w next made. made) (λ steps why denied. denied) (calm_post 2) (file_to 3) (λ octets. refl) refl
     (λ octets w next said short h posts well. file_posted three_nodes (sixth octets) 4 w h refl 2 false 1 3 first_ticket first_id first_stamp 7 small_mail.mailboxes octets refl (omega arith) (omega arith)
     (fits_in _ 536870912 (omega (arith, short))) said next posts well)
 
 post_fifth : Leads three_nodes posted_lines (codes "post 5") (Flown seventh 5) (Flown last_of_all 5)
-post_fifth = posts_line three_nodes posted_lines (codes "post 5") (Post 5) 5 false seventh last_of_all 5 5 refl (λ been sessions. refl) (λ steps w next made. made) (calm_post 5) (λ octets. told_by 3) (λ octets. refl) refl
+post_fifth = posts_line three_nodes posted_lines (codes "post 5") (Post 5) 5 false seventh last_of_all 5 5 refl (λ been sessions. refl) (λ steps w next made. made) (λ steps why denied. denied) (calm_post 5) (λ octets. told_by 3) (λ octets. refl) refl
     (λ octets w next said short h posts well. told_posted three_nodes (seventh octets) 5 w h refl 5 false 3 1 first_ticket first_id refl (omega arith) (omega arith) said next posts well)
 
 chained : Chained three_nodes posted_lines posted_lines Fresh
@@ -146,5 +146,5 @@ chained = told_chain 3 refl posted_lines (codes "say 1 ." ∷ codes "again 1" �
 )
 
 pub letters_accepted : AreAccepted three_nodes posted_lines
-letters_accepted front line rest acts outputs sessions calls w split runs follows sound alone =
-    chain_accepts three_nodes posted_lines posted_lines Fresh chained [] [] [] (opening_world 3) (refl, refl, refl, refl) front line rest acts outputs sessions calls w split runs follows sound
+letters_accepted map front line rest acts outputs sessions calls w split runs follows sound alone =
+    chain_accepts three_nodes posted_lines posted_lines Fresh chained [] [] [] (opening_world 3 map) (refl, refl, refl, (map, refl)) front line rest acts outputs sessions calls w split runs follows sound

@@ -3,7 +3,6 @@ use Rattle.std.proofs.Common.{◌≡◌, ◌+◌, ◌≤◌, ℕ, zero, suc, Boo
 use Rattle.std.proofs.lemmas.Option.{none-some, same_Some}
 use Rattle.std.proofs.lemmas.List.{length-take}
 use Rattle.std.proofs.lemmas.Bool.Decides.{nat_tests}
-use Rattle.std.specs.FinMap as fin
 use Rattle.httpdate.specs.Date.{date_text}
 use Rattle.object_model.specs.Sets.{count_below}
 use Rattle.mail_model.specs.Identity.{Id, Stamp, id_text}
@@ -11,13 +10,13 @@ use Rattle.std.specs.Fmt.{decimal, digits}
 use Rattle.mail_model.specs.Mail.{IsStored, protocol_of}
 use Rattle.mail_model.specs.Lines.{sent_line}
 use Rattle.mail_model.specs.Record.{Record}
-use Rattle.mail_model.specs.Record.Record.{Boot}
-use Rattle.object_model.specs.Letters.{Number, Letter}
+use Rattle.mail_model.specs.Record.Record.{Boot, Promise}
+use Rattle.object_model.specs.Letters.{Number, MapRow, Letter}
 use Rattle.session_model.specs.Calls.{Call, given_of}
 use Rattle.session_model.specs.Calls.Call.{Deliver as DeliverCall}
 use Rattle.cluster_model.specs.Cluster.{Node, Life, Slot, with_slot}
 use Rattle.cluster_model.specs.Cluster.Life.{Up, Down, Lost}
-use Rattle.cluster_model.specs.Starts.{first_membership}
+use Rattle.cluster_model.specs.Starts.{first_epoch, fresh_node}
 use Rattle.cluster_model.specs.Deeds.{slot_up}
 use Rattle.cluster_model.specs.Rules.{Reaction}
 use Rattle.cluster_model.specs.Room.{Flight, has_room}
@@ -34,23 +33,26 @@ use Rattle.worked_sessions.specs.ThreeNodes.{three_nodes}
 use Rattle.accepted_tapes.proofs.Flown.{AreFirstUp, Holds, stay_up, file_of, filed_of}
 
 -- each node as it is opened
-abbrev pub fresh : Node
-fresh = record { boot = 1; drawn = 0; count = 0; calls = 0; installed = Some (first_membership 3); log = fin.empty; tickets = fin.empty }
+abbrev pub fresh : List MapRow → Node
+fresh managers = fresh_node 3 managers
 
-all_fresh : AreFirstUp 3 (opening_world 3).slots
-all_fresh zero above within = absurd (omega (arith, above))
-all_fresh (suc zero) above within = record { node = fresh; disk = Boot 1 ∷ []; up = refl; first = refl }
-all_fresh (suc (suc zero)) above within = record { node = fresh; disk = Boot 1 ∷ []; up = refl; first = refl }
-all_fresh (suc (suc (suc zero))) above within = record { node = fresh; disk = Boot 1 ∷ []; up = refl; first = refl }
-all_fresh (suc (suc (suc (suc n)))) above within = absurd (omega (arith, within))
+abbrev pub fresh_disk : List Record
+fresh_disk = Boot 1 ∷ Promise first_epoch ∷ []
 
-abbrev node_in : Life → Node
-node_in (Up node) = node
-node_in (Down pending) = fresh
-node_in Lost = fresh
+all_fresh : (managers : List MapRow) → AreFirstUp 3 (opening_world 3 managers).slots
+all_fresh managers zero above within = absurd (omega (arith, above))
+all_fresh managers (suc zero) above within = record { node = fresh managers; disk = fresh_disk; up = refl; managers = managers; first = refl }
+all_fresh managers (suc (suc zero)) above within = record { node = fresh managers; disk = fresh_disk; up = refl; managers = managers; first = refl }
+all_fresh managers (suc (suc (suc zero))) above within = record { node = fresh managers; disk = fresh_disk; up = refl; managers = managers; first = refl }
+all_fresh managers (suc (suc (suc (suc n)))) above within = absurd (omega (arith, within))
 
-is_fresh : (node : Node) (disk : List Record) → IsUp (opening_world 3) 1 node disk → node ≡ fresh
-is_fresh node disk up = ap (λ (slot : Slot). node_in slot.life) (same_Some (slot_up node disk) (slot_up fresh (Boot 1 ∷ [])) (sym up))
+abbrev node_in : List MapRow → Life → Node
+node_in managers (Up node) = node
+node_in managers (Down pending) = fresh managers
+node_in managers Lost = fresh managers
+
+is_fresh : (managers : List MapRow) (node : Node) (disk : List Record) → IsUp (opening_world 3 managers) 1 node disk → node ≡ fresh managers
+is_fresh managers node disk up = ap (λ (slot : Slot). node_in managers slot.life) (same_Some (slot_up node disk) (slot_up (fresh managers) fresh_disk) (sym up))
 
 -- the call of the message
 same_mail : (call : NodeCall) → call_made call ≡ Some (DeliverCall small_mail) → call ≡ Deliver small_mail
@@ -125,40 +127,40 @@ sends_two w own did one two out first second = rw out (rw first (rw second refl)
 pub fits_in : (size most : ℕ) → size ≤ most → nat_le size most ≡ true
 fits_in size most fits = grind (arith, nat_tests, fits)
 
-began : (octets : List ℕ) → length octets ≤ 4096 → (new : World) → new ≡ after (with_struck (opening_world 3) (Deliver small_mail)) 1 (begun_by three_nodes (opening_world 3) 1 fresh (Boot 1 ∷ []) (Deliver small_mail) octets)
+began : (managers : List MapRow) (octets : List ℕ) → length octets ≤ 4096 → (new : World) → new ≡ after (with_struck (opening_world 3 managers) (Deliver small_mail)) 1 (begun_by three_nodes (opening_world 3 managers) 1 (fresh managers) fresh_disk (Deliver small_mail) octets)
     → Holds 3 (two_files octets) 2 new
 unfolding count_below
-began octets short new is =
-    let did : Reaction = begun_by three_nodes (opening_world 3) 1 fresh (Boot 1 ∷ []) (Deliver small_mail) octets in
-    let to = is ∙ sends_two (opening_world 3) 1 did (file_to 2 octets) (file_to 3 octets) refl (fits_in _ 536870912 (omega (arith, short))) (fits_in _ 536870912 (omega (arith, short))) in
+began managers octets short new is =
+    let did : Reaction = begun_by three_nodes (opening_world 3 managers) 1 (fresh managers) fresh_disk (Deliver small_mail) octets in
+    let to = is ∙ sends_two (opening_world 3 managers) 1 did (file_to 2 octets) (file_to 3 octets) refl (fits_in _ 536870912 (omega (arith, short))) (fits_in _ 536870912 (omega (arith, short))) in
     record {
       flying_is = ap (λ (w : World). w.flying) to;
       sent_is = ap (λ (w : World). w.sent) to;
-      up = subst (AreFirstUp 3) (sym (ap (λ (w : World). w.slots) to)) (stay_up 3 (opening_world 3).slots 1 fresh did.node (Boot 1 ∷ []) did.disk all_fresh refl refl);
+      up = subst (AreFirstUp 3) (sym (ap (λ (w : World). w.slots) to)) (stay_up 3 (opening_world 3 managers).slots 1 (fresh managers) did.node fresh_disk did.disk (all_fresh managers) refl refl);
     }
 
 -- the message has begun to be delivered
-pub delivered : (call : NodeCall) (ticket : Number) (new : World) → call_made call ≡ Some (DeliverCall small_mail) → BeginsCall three_nodes true (opening_world 3) 1 call (Begun ticket) new
+pub delivered : (managers : List MapRow) (call : NodeCall) (ticket : Number) (new : World) → call_made call ≡ Some (DeliverCall small_mail) → BeginsCall three_nodes true (opening_world 3 managers) 1 call (Begun ticket) new
     → (octets : List ℕ) × (length octets ≤ 4096) × Holds 3 (two_files octets) 2 new
 unfolding count_below
-delivered call ticket new made begins = by call begins (same_mail call made)
+delivered managers call ticket new made begins = by call begins (same_mail call made)
   where
-    fails_not : (node : Node) (disk : List Record) → IsUp (opening_world 3) 1 node disk → fails_at_once three_nodes 0 node (Deliver small_mail) ≡ true → ⊥
-    fails_not node disk up fails = let clash : false ≡ true = subst (λ (n : Node). fails_at_once three_nodes 0 n (Deliver small_mail) ≡ true) (is_fresh node disk up) fails in cc
+    fails_not : (node : Node) (disk : List Record) → IsUp (opening_world 3 managers) 1 node disk → fails_at_once three_nodes 0 node (Deliver small_mail) ≡ true → ⊥
+    fails_not node disk up fails = let clash : false ≡ true = subst (λ (n : Node). fails_at_once three_nodes 0 n (Deliver small_mail) ≡ true) (is_fresh managers node disk up) fails in cc
 
-    by : (c : NodeCall) → BeginsCall three_nodes true (opening_world 3) 1 c (Begun ticket) new → c ≡ Deliver small_mail → (octets : List ℕ) × (length octets ≤ 4096) × Holds 3 (two_files octets) 2 new
+    by : (c : NodeCall) → BeginsCall three_nodes true (opening_world 3 managers) 1 c (Begun ticket) new → c ≡ Deliver small_mail → (octets : List ℕ) × (length octets ≤ 4096) × Holds 3 (two_files octets) 2 new
     by c (FailsAtOnce node disk kind up kind_is fails said is) same = absurd (fails_not node disk up (subst (λ (x : NodeCall). fails_at_once three_nodes 0 node x ≡ true) same fails))
     by c (Goes node disk octets up fine filed said is) same =
-        let here : IsFiled (opening_world 3) 1 fresh (Deliver small_mail) octets = subst (λ (n : Node). IsFiled (opening_world 3) 1 n (Deliver small_mail) octets) (is_fresh node disk up) (subst (λ (x : NodeCall). IsFiled (opening_world 3) 1 node x octets) same filed) in
+        let here : IsFiled (opening_world 3 managers) 1 (fresh managers) (Deliver small_mail) octets = subst (λ (n : Node). IsFiled (opening_world 3 managers) 1 n (Deliver small_mail) octets) (is_fresh managers node disk up) (subst (λ (x : NodeCall). IsFiled (opening_world 3 managers) 1 node x octets) same filed) in
         let short = short_octets octets here.0 in
-        let on : disk ≡ Boot 1 ∷ [] = ap (λ (slot : Slot). slot.disk) (same_Some (slot_up node disk) (slot_up fresh (Boot 1 ∷ [])) (sym up)) in (
+        let on : disk ≡ fresh_disk = ap (λ (slot : Slot). slot.disk) (same_Some (slot_up node disk) (slot_up (fresh managers) fresh_disk) (sym up)) in (
           octets,
           short,
-          began octets short new (subst (λ (d : List Record). new ≡ after (with_struck (opening_world 3) (Deliver small_mail)) 1 (begun_by three_nodes (opening_world 3) 1 fresh d (Deliver small_mail) octets)) on
-              (subst (λ (n : Node). new ≡ after (with_struck (opening_world 3) (Deliver small_mail)) 1 (begun_by three_nodes (opening_world 3) 1 n disk (Deliver small_mail) octets)) (is_fresh node disk up)
-              (subst (λ (x : NodeCall). new ≡ after (with_struck (opening_world 3) x) 1 (begun_by three_nodes (opening_world 3) 1 node disk x octets)) same is))),
+          began managers octets short new (subst (λ (d : List Record). new ≡ after (with_struck (opening_world 3 managers) (Deliver small_mail)) 1 (begun_by three_nodes (opening_world 3 managers) 1 (fresh managers) d (Deliver small_mail) octets)) on
+              (subst (λ (n : Node). new ≡ after (with_struck (opening_world 3 managers) (Deliver small_mail)) 1 (begun_by three_nodes (opening_world 3 managers) 1 n disk (Deliver small_mail) octets)) (is_fresh managers node disk up)
+              (subst (λ (x : NodeCall). new ≡ after (with_struck (opening_world 3 managers) x) 1 (begun_by three_nodes (opening_world 3 managers) 1 node disk x octets)) same is))),
         )
     by c (FailsInIt node disk octets up filed said goes_down) same = absurd (let clash : Begun ticket ≡ Faulted 1 = said in cc)
-    by c (Reads node disk kind found up alone kind_is found_is said is) same = absurd (let clash : 3 ≡ 1 = alone in omega (arith, clash))
-    by c (FailsReading node disk user id from most up alone is said new_is) same = absurd (let clash : Begun ticket ≡ Faulted 1 = said in cc)
+    by c (Reads node disk kind found up alone goes kind_is found_is said is) same = absurd (let clash : 3 ≡ 1 = alone in omega (arith, clash))
+    by c (FailsReading node disk user id from most up alone goes is said new_is) same = absurd (let clash : Begun ticket ≡ Faulted 1 = said in cc)
     by c (Leaves node disk user up alone is said new_is) same = absurd (let clash : Begun ticket ≡ Noted = said in cc)

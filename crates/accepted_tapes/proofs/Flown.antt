@@ -4,7 +4,7 @@ use Rattle.std.proofs.lemmas.Bool.{and_parts, eqb-true}
 use Rattle.mail_model.specs.Identity.{Id, Stamp}
 use Rattle.mail_model.specs.Plan.{Plan}
 use Rattle.mail_model.specs.Record.{Record}
-use Rattle.object_model.specs.Letters.{Number, Membership, Letter}
+use Rattle.object_model.specs.Letters.{Number, MapRow, Membership, Letter}
 use Rattle.object_model.specs.Letters.Body.{File, Filed}
 use Rattle.session_model.specs.Acts.{Act}
 use Rattle.session_model.specs.Acts.Act.{StillWaits, Does}
@@ -29,7 +29,8 @@ pub record IsFirstUp (nodes : ℕ) (slots : List Slot) (n : ℕ) : Type 0 where
   pub node : Node
   pub disk : List Record
   pub up : slot_at slots n ≡ Some (slot_up node disk)
-  pub first : node.installed ≡ Some (first_membership nodes)
+  pub managers : List MapRow
+  pub first : node.installed ≡ Some (first_membership nodes managers)
 
 abbrev pub AreFirstUp : ℕ → List Slot → Type 0
 AreFirstUp nodes slots = (n : ℕ) → 1 ≤ n → n ≤ nodes → IsFirstUp nodes slots n
@@ -104,8 +105,8 @@ pub stay_up : (nodes : ℕ) (slots : List Slot) (at : ℕ) (node now : Node) (di
     → now.installed ≡ node.installed → AreFirstUp nodes (with_slot slots at (slot_up now held))
 stay_up nodes slots at node now disk held all here same n above within = ⊎_elim
     (λ (it : (n ≡ at) × (slot_up was.node was.disk ≡ slot_up node disk) × (slot_at (with_slot slots at (slot_up now held)) n ≡ Some (slot_up now held))).
-    record { node = now; disk = held; up = it.2; first = same ∙ sym (same_node it.1) ∙ was.first })
-    (λ (other : slot_at (with_slot slots at (slot_up now held)) n ≡ Some (slot_up was.node was.disk)). record { node = was.node; disk = was.disk; up = other; first = was.first })
+    record { node = now; disk = held; up = it.2; managers = was.managers; first = same ∙ sym (same_node it.1) ∙ was.first })
+    (λ (other : slot_at (with_slot slots at (slot_up now held)) n ≡ Some (slot_up was.node was.disk)). record { node = was.node; disk = was.disk; up = other; managers = was.managers; first = was.first })
     (read_before slots at n (slot_up node disk) (slot_up now held) (slot_up was.node was.disk) here was.up)
   where
     was : IsFirstUp nodes slots n

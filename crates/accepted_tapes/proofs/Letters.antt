@@ -23,7 +23,7 @@ use Rattle.cluster_model.specs.Steps.Step.{Post}
 use Rattle.cluster_model.specs.Steps.Said.{Faulted}
 use Rattle.cluster_model.specs.Steps.StepOutcome.{Says, Refused, NoMemory}
 use Rattle.cluster_model.specs.Makes.{MadeStep, MakesStep, Posts}
-use Rattle.accepted_tapes.specs.Orders.{MakesOrder, StepsOnce, EndsIn, WentSo, WentWell, has_failed}
+use Rattle.accepted_tapes.specs.Orders.{MakesOrder, StepsOnce, EndsIn, AreDenied, WentSo, WentWell, has_failed}
 use Rattle.accepted_tapes.specs.Follows.{FollowsAll}
 use Rattle.accepted_tapes.proofs.AcceptedLines.{Leads}
 use Rattle.accepted_tapes.proofs.AcceptedLines.Stage.{Flown}
@@ -79,12 +79,14 @@ calm_again letter plan lives event is sound = absurd is
 
 module _ (plan : Plan) (all : List (List ℕ)) (line : List ℕ) (order : ClusterOrder) (number : ℕ) (keep : Bool) (flying flies : List ℕ → List Flight) (sent sends : ℕ)
     (spelled : tape_order line ≡ Some (Moves order)) (open_to : (been : List Act) (sessions : List Session) → refusal plan been sessions (Moves order) ≡ None)
-    (once : (steps : List MadeStep) (w next : World) → MakesOrder plan order steps w next → StepsOnce plan (Post number keep) steps w next) (calm : IsCalmOrder order)
+    (once : (steps : List MadeStep) (w next : World) → MakesOrder plan order steps w next → StepsOnce plan (Post number keep) steps w next)
+    (ends : (steps : List MadeStep) (why : StepFault) → AreDenied order why steps → EndsIn (Refused why) steps) (calm : IsCalmOrder order)
     (letter : List ℕ → Letter) (there : (octets : List ℕ) → letter_at number (flying octets) ≡ Some (letter octets)) (few : nat_le letters_end sent ≡ false)
     (comes : (octets : List ℕ) (w next : World) (said : Said) → length octets ≤ 4096 → Holds plan.nodes (flying octets) sent w → Posts plan w number keep said next → ((n : ℕ) → said ≡ Faulted n → ⊥)
     → Holds plan.nodes (flies octets) sends next) where
-  grants : (octets : List ℕ) (w : World) → Holds plan.nodes (flying octets) sent w → (steps : List MadeStep) (why : StepFault) (next : World) → MakesOrder plan order steps w next → EndsIn (Refused why) steps → ⊥
-  grants octets w h steps why next makes (before, one, are, is) =
+  grants : (octets : List ℕ) (w : World) → Holds plan.nodes (flying octets) sent w → (steps : List MadeStep) (why : StepFault) (next : World) → MakesOrder plan order steps w next → AreDenied order why steps → ⊥
+  grants octets w h steps why next makes denied =
+      let (before, one, are, is) = ends steps why denied in
       let (outcome, steps_are, made) = once steps w next makes in
       let same = last_is (record { step = Post number keep; outcome = outcome }) one before (sym steps_are ∙ are) in
       let refused : MakesStep plan true w (Post number keep) (Refused why) next =

@@ -5,7 +5,7 @@ use Rattle.std.proofs.lemmas.Option.{none-some, same_Some}
 use Rattle.mail_model.specs.Identity.{Id, Stamp}
 use Rattle.mail_model.specs.Plan.{Plan}
 use Rattle.mail_model.specs.Record.{Record}
-use Rattle.object_model.specs.Letters.{Number, Letter}
+use Rattle.object_model.specs.Letters.{Number, MapRow, Letter}
 use Rattle.cluster_model.specs.Cluster.{Node, Slot, Ticket, with_slot}
 use Rattle.cluster_model.specs.Starts.{first_membership}
 use Rattle.cluster_model.specs.Forms.{IsMapsBody}
@@ -45,7 +45,7 @@ not_stale false is = none-some Stale is
 
 module _ (plan : Plan) (flying : List Flight) (sent : ℕ) (old : World) (h : Holds plan.nodes flying sent old) (distinct : are_distinct flying ≡ true)
     (number : ℕ) (keep : Bool) (letter : Letter) (here : letter_at number flying ≡ Some letter) (above : 1 ≤ letter.to) (within : letter.to ≤ plan.nodes)
-    (fresh : is_stale letter (Some (first_membership plan.nodes)) ≡ false) (of_mail : IsMapsBody letter.body → ⊥) where
+    (fresh : (managers : List MapRow) → is_stale letter (Some (first_membership plan.nodes managers)) ≡ false) (of_mail : IsMapsBody letter.body → ⊥) where
   so : (f : Flies old number) → (f.letter ≡ letter) × (flies_on old number f keep ≡ kept number keep old.flying)
   so f = let is = flies_so old number f keep (subst (λ (l : List Flight). are_distinct l ≡ true) (sym h.flying_is) distinct) in
       (same_Some f.letter letter (sym is.0 ∙ ap (letter_at number) h.flying_is ∙ here), is.1)
@@ -53,12 +53,12 @@ module _ (plan : Plan) (flying : List Flight) (sent : ℕ) (old : World) (h : Ho
   there : IsFirstUp plan.nodes old.slots letter.to
   there = h.up letter.to above within
 
-  first_at : (node : Node) (disk : List Record) → IsUp old letter.to node disk → node.installed ≡ Some (first_membership plan.nodes)
+  first_at : (node : Node) (disk : List Record) → IsUp old letter.to node disk → node.installed ≡ Some (first_membership plan.nodes there.managers)
   first_at node disk up = ap (λ (slot : Slot). installed_in slot.life) (same_Some (slot_up node disk) (slot_up there.node there.disk) (sym up ∙ there.up)) ∙ there.first
 
   never_stale : (node : Node) (disk : List Record) → IsUp old letter.to node disk → thrown_by letter.to node letter ≡ Some Stale → ⊥
   never_stale node disk up thrown =
-      not_stale (is_late letter.to node letter) (subst (λ b. (if b then Some Stale else (if is_late letter.to node letter then Some Late else None)) ≡ Some Stale) (ap (is_stale letter) (first_at node disk up) ∙ fresh) thrown)
+      not_stale (is_late letter.to node letter) (subst (λ b. (if b then Some Stale else (if is_late letter.to node letter then Some Late else None)) ≡ Some Stale) (ap (is_stale letter) (first_at node disk up) ∙ fresh there.managers) thrown)
 
   post_comes : (said : Said) (new : World) → Posts plan old number keep said new → ((n : ℕ) → said ≡ Faulted n → ⊥) → IsLate number keep letter old new ⊎ WasHeard plan number keep letter old new
   post_comes said new (NobodyUp f never says is) well =
@@ -89,7 +89,7 @@ pub file_posted : (plan : Plan) (flying : List Flight) (sent : ℕ) (old : World
 file_posted plan flying sent old h distinct number keep from to ticket id stamp targets users octets here above within room said new posts well = ⊎_elim
     (λ (late : IsLate number keep (file_of from to ticket id stamp targets users octets) old new). absurd (let clash : false ≡ true = late.0 in cc))
     (λ (heard : WasHeard plan number keep (file_of from to ticket id stamp targets users octets) old new). was heard)
-    (post_comes plan flying sent old h distinct number keep (file_of from to ticket id stamp targets users octets) here above within refl (λ of. of) said new posts well)
+    (post_comes plan flying sent old h distinct number keep (file_of from to ticket id stamp targets users octets) here above within (λ managers. refl) (λ of. of) said new posts well)
   where
     was : WasHeard plan number keep (file_of from to ticket id stamp targets users octets) old new
         → Holds plan.nodes (kept number keep flying ++ record { number = sent + 1; letter = filed_of to from ticket id } ∷ []) (sent + 1) new
@@ -115,7 +115,7 @@ told_posted plan flying sent old h distinct number keep from to ticket id here a
     (λ (late : IsLate number keep (filed_of from to ticket id) old new). subst (Holds plan.nodes (kept number keep flying) sent) (sym late.1)
     (record { flying_is = ap (kept number keep) h.flying_is; sent_is = h.sent_is; up = h.up }))
     (λ (heard : WasHeard plan number keep (filed_of from to ticket id) old new). was heard (ticket_at to (with_stamps (Filed id) heard.node) ticket) refl)
-    (post_comes plan flying sent old h distinct number keep (filed_of from to ticket id) here above within refl (λ of. of) said new posts well)
+    (post_comes plan flying sent old h distinct number keep (filed_of from to ticket id) here above within (λ managers. refl) (λ of. of) said new posts well)
   where
     holds : (node : Node) (disk : List Record) (did : Reaction) → IsUp old to node disk → did.out ≡ [] → did.node.installed ≡ node.installed → new ≡ after (record old { flying = kept number keep old.flying }) to did
         → Holds plan.nodes (kept number keep flying) sent new

@@ -5,7 +5,7 @@ use Rattle.mail_model.specs.Tape.{Order, tape_order}
 use Rattle.mail_model.specs.Tape.Order.{Close, GiveUp, Moves}
 use Rattle.mail_model.specs.Transcript.{Entry}
 use Rattle.object_model.specs.Lists.{Among}
-use Rattle.object_model.specs.Letters.{Number}
+use Rattle.object_model.specs.Letters.{Number, MapRow}
 use Rattle.session_model.specs.Sessions.{Session}
 use Rattle.session_model.specs.Acts.{Act}
 use Rattle.session_model.specs.Acts.Act.{StillWaits}
@@ -17,7 +17,7 @@ use Rattle.cluster_model.specs.Steps.{StepFault}
 use Rattle.cluster_model.specs.Steps.Step.{GiveUp as EndCall}
 use Rattle.cluster_model.specs.Steps.StepOutcome.{Refused}
 use Rattle.cluster_model.specs.Makes.{MadeStep, MakesStep}
-use Rattle.accepted_tapes.specs.Orders.{MakesOrder, EndsIn}
+use Rattle.accepted_tapes.specs.Orders.{MakesOrder, AreDenied}
 use Rattle.accepted_tapes.specs.Follows.{Standing, FollowsAll}
 
 -- no session was asked in vain
@@ -34,7 +34,7 @@ GrantsEnd plan k calls w = (ticket : Number) (why : StepFault) (next : World) �
 
 -- no step that the order asks for is one that the machine refuses
 abbrev pub Grants : Plan → Order → List Standing → World → Type 0
-Grants plan (Moves order) calls w = (steps : List MadeStep) (why : StepFault) (next : World) → MakesOrder plan order steps w next → EndsIn (Refused why) steps → ⊥
+Grants plan (Moves order) calls w = (steps : List MadeStep) (why : StepFault) (next : World) → MakesOrder plan order steps w next → AreDenied order why steps → ⊥
 Grants plan (GiveUp k) calls w = GrantsEnd plan k calls w
 Grants plan (Close k) calls w = GrantsEnd plan k calls w
 Grants plan order calls w = ⊤
@@ -44,9 +44,10 @@ abbrev pub IsAccepted : Plan → List Act → List Session → List Standing →
 IsAccepted plan been sessions calls w line =
     (order : Order) × (tape_order line ≡ Some order) × (refusal plan been sessions order ≡ None) × (MayBeDenied order sessions → Grants plan order calls w)
 
--- Each of the run lines is accepted after those before it, whatever the machine makes of these on disks that do not fail. In a plan of one node nobody waits.
+-- Each of the run lines is accepted after those before it, whoever manages the users as the cluster opens and whatever the machine makes of these lines on disks that do not fail. In a
+-- plan of one node nobody waits.
 abbrev pub AreAccepted : Plan → List (List ℕ) → Type 0
-AreAccepted plan lines = (front : List (List ℕ)) (line : List ℕ) (rest : List (List ℕ)) (acts : List (List Act)) (outputs : List (List (List Entry))) (sessions : List Session)
+AreAccepted plan lines = (map : List MapRow) (front : List (List ℕ)) (line : List ℕ) (rest : List (List ℕ)) (acts : List (List Act)) (outputs : List (List (List Entry))) (sessions : List Session)
     → (calls : List Standing) (w : World) → lines ≡ front ++ line ∷ rest → AreHandled plan [] [] front acts outputs sessions
-    → FollowsAll plan lines (flat_map (λ a. a) acts) [] (opening_world plan.nodes) calls w → failed_in (flat_map (λ a. a) acts) ≡ []
+    → FollowsAll plan lines (flat_map (λ a. a) acts) [] (opening_world plan.nodes map) calls w → failed_in (flat_map (λ a. a) acts) ≡ []
     → (plan.nodes ≡ 1 → NobodyWaits (flat_map (λ a. a) acts)) → IsAccepted plan (flat_map (λ a. a) acts) sessions calls w line

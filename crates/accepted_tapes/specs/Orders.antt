@@ -1,5 +1,5 @@
 -- The steps of the machine that a run line asks for, on disks that tell what they hold.
-use Rattle.std.specs.Prelude.{◌≡◌, ℕ, zero, suc, ◌+◌, Bool, true, false, nat_eq, List, [], ◌∷◌, ◌++◌, MatchBool, ⊤, Option, Some, None, if◌then◌else◌}
+use Rattle.std.specs.Prelude.{◌≡◌, ℕ, zero, suc, ◌+◌, Bool, true, false, nat_eq, List, [], ◌∷◌, ◌++◌, MatchBool, ◌⊎◌, ⊤, Option, Some, None, if◌then◌else◌}
 use Rattle.mail_model.specs.Plan.{Plan}
 use Rattle.mail_model.specs.Record.{Record}
 use Rattle.mail_model.specs.Tape.{ClusterOrder}
@@ -9,10 +9,10 @@ use Rattle.session_model.specs.Events.ClusterEvent.{HasFaulted}
 use Rattle.cluster_model.specs.Cluster.{Node}
 use Rattle.cluster_model.specs.Room.{Flight}
 use Rattle.cluster_model.specs.World.{World}
-use Rattle.cluster_model.specs.Steps.{Step, StepOutcome}
-use Rattle.cluster_model.specs.Steps.Step.{Post, DropLetter, PushTo, Widen, Crash, Start, Lose, Tick}
+use Rattle.cluster_model.specs.Steps.{Step, StepFault, StepOutcome}
+use Rattle.cluster_model.specs.Steps.Step.{Post, DropLetter, PushTo, Widen, Form, Crash, Start, Lose, Tick}
 use Rattle.cluster_model.specs.Steps.Said.{Faulted}
-use Rattle.cluster_model.specs.Steps.StepOutcome.{Says}
+use Rattle.cluster_model.specs.Steps.StepOutcome.{Says, Refused}
 use Rattle.cluster_model.specs.Makes.{MadeStep, MakesStep, MakesAll, IsUp}
 
 -- the step failed: the disk of its node did, or it was refused, or memory ran out
@@ -57,7 +57,15 @@ pub record PushesAll (nodes : ℕ) (w : World) (node : ℕ) (steps : List MadeSt
   pub up : Works w node → PushesTo node (nodes_but node nodes 1) steps
   pub else_none : (Works w node → ⊥) → steps ≡ []
 
--- the steps that a run line asks for were made
+-- The step belongs to a regroup of this node: it opens or concludes its group, or posts a letter that does not stay in flight.
+abbrev pub IsOfRegroup : ℕ → MadeStep → Type 0
+IsOfRegroup node one = (one.step ≡ Form node) ⊎ ((letter : ℕ) × (one.step ≡ Post letter false))
+
+abbrev pub AreOfRegroup : ℕ → List MadeStep → Type 0
+AreOfRegroup node [] = ⊤
+AreOfRegroup node (one ∷ more) = IsOfRegroup node one × AreOfRegroup node more
+
+-- The steps that a run line asks for were made. A cluster may refuse to form an epoch for the sake of maps, which are not seen here.
 abbrev pub MakesOrder : Plan → ClusterOrder → List MadeStep → World → World → Type 0
 MakesOrder plan (order.Crash node) steps old new = StepsOnce plan (Crash node) steps old new
 MakesOrder plan (order.Start node) steps old new = StepsOnce plan (Start node) steps old new
@@ -68,12 +76,20 @@ MakesOrder plan (order.Drop letter) steps old new = StepsOnce plan (DropLetter l
 MakesOrder plan order.Flow steps old new = PostsAll plan steps old new
 MakesOrder plan (order.Push node) steps old new = PushesAll plan.nodes old node steps × MakesAll plan true old steps new
 MakesOrder plan (order.Widen at user id to) steps old new = StepsOnce plan (Widen at user id to) steps old new
+MakesOrder plan (order.Group node) steps old new = StepsOnce plan (Form node) steps old new
+MakesOrder plan (order.Conclude node) steps old new = StepsOnce plan (Form node) steps old new
+MakesOrder plan (order.Regroup node) steps old new = AreOfRegroup node steps × MakesAll plan true old steps new
 MakesOrder plan (order.Tick seconds) steps old new = StepsOnce plan (Tick seconds) steps old new
 MakesOrder plan order.Sum steps old new = (steps ≡ []) × (new ≡ old)
 
 -- this is what came of the last of them
 abbrev pub EndsIn : StepOutcome → List MadeStep → Type 0
 EndsIn outcome steps = (before : List MadeStep) × (one : MadeStep) × (steps ≡ before ++ one ∷ []) × (one.outcome ≡ outcome)
+
+-- The last of them was refused so; or a regroup was, before its first step.
+abbrev pub AreDenied : ClusterOrder → StepFault → List MadeStep → Type 0
+AreDenied (order.Regroup node) why steps = EndsIn (Refused why) steps ⊎ (steps ≡ [])
+AreDenied order why steps = EndsIn (Refused why) steps
 
 -- none of them failed
 abbrev pub WentWell : List MadeStep → Type 0

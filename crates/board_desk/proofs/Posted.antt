@@ -66,7 +66,7 @@ module _ {D : Type 0} (on : View D) where
   letters_add luck.Drop letter result old new serves made = idle_one_adds result (step.Drop letter) old new (inr tt) tt tt serves made
   letters_add luck.Twice letter result old new serves made = idle_one_adds result (step.Post letter true) old new (inr tt) tt tt serves made
 
-  quiet_both : (a b c : World D) → AddsTo AreQuiet a b → AddsTo AreQuiet b c → AddsTo AreQuiet a c
+  pub quiet_both : (a b c : World D) → AddsTo AreQuiet a b → AddsTo AreQuiet b c → AddsTo AreQuiet a c
   quiet_both a b c p q = record {
     added = p.added ++ q.added;
     book = q.book ∙ ap (λ l. l ++ q.added) p.book ∙ append_assoc (book_of a) p.added q.added;
@@ -85,6 +85,7 @@ never_posted (Err fault.NodeDown) = tt
 never_posted (Err fault.NodeUp) = tt
 never_posted (Err fault.NoSuchLetter) = tt
 never_posted (Err fault.NoSuchTicket) = tt
+never_posted (Err fault.NotAGroup) = tt
 never_posted (Err fault.Worn) = tt
 never_posted (Err fault.NoRoom) = tt
 never_posted (Err (fault.NoMemory down)) = tt

@@ -1,4 +1,6 @@
+pub mod Members
 pub mod Still
+pub mod Regrouped
 pub mod Ordered
 pub mod Turned
 pub mod Said

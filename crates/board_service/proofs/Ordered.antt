@@ -1,5 +1,5 @@
 -- What is ordered of a board adds nothing to its book that acknowledges or strikes, where each disk tells what it holds.
-use Rattle.std.proofs.Common.{inl, inr, Some, None}
+use Rattle.std.proofs.Common.{inl, inr, ℕ}
 use Rattle.std.specs.Prelude.{Result, Ok, Err}
 use Rattle.cluster_owes.specs.Outcomes.{IsIdleStep}
 use Rattle.node_store.specs.Disks.{View}
@@ -15,7 +15,8 @@ use Rattle.desk_model.specs.Added.{AreQuiet}
 use Rattle.solo_desk.specs.Serving.{AddsTo}
 use Rattle.solo_desk.proofs.Stepping.{idle_adds}
 use Rattle.shard_board.specs.Deeds.{MakesOne}
-use Rattle.shard_board.specs.Orders.{step_ordered, Obeys}
+use Rattle.shard_board.specs.Orders.{Ordered, ordered_by, Obeys}
+use Rattle.shard_board.specs.Orders.Ordered.{OneStep, Regrouped, Counted}
 use Rattle.shard_board.specs.Worlds.{IsSoundWorld}
 use Rattle.shard_board.specs.declared.part.Part.{Part}
 use Rattle.shard_board.specs.declared.order.Order.{Order}
@@ -25,6 +26,7 @@ use Rattle.shard_board.specs.declared.order.Told.TheVariants as told
 use Rattle.shard_board.proofs.Keeping.{all_tell}
 use Rattle.board_desk.proofs.Sound.{can_serve, same_world_adds}
 use Rattle.board_service.specs.Disks.{EachTells}
+use Rattle.board_service.proofs.Regrouped.{regroups_add}
 
 module _ {D : Type 0} (on : View D) (each : EachTells on.seen) where
   one_adds : (one : Step) (result : Result Said StepFault) (old new : World D) → IsEnded one → IsIdleStep (step_seen one) (outcome_seen result) → IsSoundWorld on old
@@ -35,21 +37,30 @@ module _ {D : Type 0} (on : View D) (each : EachTells on.seen) where
   module _ {F C : Type 0} where
     -- a step in which no call begins, and none is answered
     step_adds : (one : Step) → IsEnded one → ((result : Result Said StepFault) → IsIdleStep (step_seen one) (outcome_seen result)) → (old : Part D F C) (came : Result Told StepFault) (new : Part D F C)
-        → IsSoundWorld on old.world → Obeys on (Some one) old came new → AddsTo AreQuiet old.world new.world
+        → IsSoundWorld on old.world → Obeys on (OneStep one) old came new → AddsTo AreQuiet old.world new.world
     step_adds one ended idle old (Ok (told.Said said)) new sound made = one_adds one (Ok said) old.world new.world ended (idle (Ok said)) sound made
+    step_adds one ended idle old (Ok (told.Regrouped came)) new sound made = absurd made
     step_adds one ended idle old (Ok (told.Sum sum)) new sound made = absurd made
     step_adds one ended idle old (Err why) new sound made = one_adds one (Err why) old.world new.world ended (idle (Err why)) sound made
 
-    count_adds : (old : Part D F C) (came : Result Told StepFault) (new : Part D F C) → Obeys on None old came new → AddsTo AreQuiet old.world new.world
+    group_adds : (node : ℕ) (old : Part D F C) (came : Result Told StepFault) (new : Part D F C) → IsSoundWorld on old.world → Obeys on (Regrouped node) old came new → AddsTo AreQuiet old.world new.world
+    group_adds node old (Ok (told.Said said)) new sound made = absurd made
+    group_adds node old (Ok (told.Regrouped came)) new sound made = regroups_add on node (Ok came) old.world new.world sound made
+    group_adds node old (Ok (told.Sum sum)) new sound made = absurd made
+    group_adds node old (Err why) new sound made = regroups_add on node (Err why) old.world new.world sound made
+
+    count_adds : (old : Part D F C) (came : Result Told StepFault) (new : Part D F C) → Obeys on Counted old came new → AddsTo AreQuiet old.world new.world
     count_adds old (Ok (told.Said said)) new made = absurd made
+    count_adds old (Ok (told.Regrouped came)) new made = absurd made
     count_adds old (Ok (told.Sum sum)) new made = same_world_adds old.world new.world made.1
     count_adds old (Err why) new made = absurd made
 
-    pub orders_add : (ordered : Order) (old : Part D F C) (came : Result Told StepFault) (new : Part D F C) → IsSoundWorld on old.world → Obeys on (step_ordered ordered) old came new
+    pub orders_add : (ordered : Order) (old : Part D F C) (came : Result Told StepFault) (new : Part D F C) → IsSoundWorld on old.world → Obeys on (ordered_by ordered) old came new
         → AddsTo AreQuiet old.world new.world
     orders_add (order.Crash node) old came new sound made = step_adds (step.Crash node) tt (λ result. tt) old came new sound made
     orders_add (order.Start node) old came new sound made = step_adds (step.Start node) tt (λ result. tt) old came new sound made
     orders_add (order.Lose node) old came new sound made = step_adds (step.Lose node) tt (λ result. tt) old came new sound made
     orders_add (order.Push from to) old came new sound made = step_adds (step.Push from to) tt (λ result. tt) old came new sound made
     orders_add (order.Widen at user id to) old came new sound made = step_adds (step.Widen at user id to) tt (λ result. tt) old came new sound made
+    orders_add (order.Regroup node) old came new sound made = group_adds node old came new sound made
     orders_add order.Sum old came new sound made = count_adds old came new made

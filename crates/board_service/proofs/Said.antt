@@ -8,13 +8,13 @@ use Rattle.shard_board.specs.declared.board.BoardPass.{BoardPass}
 use Rattle.shard_board.specs.declared.order.Order.{Order}
 use Rattle.shard_board.specs.declared.order.Told.{Told}
 use Rattle.shard_board.specs.Boards.{IsTurnOf}
-use Rattle.shard_board.specs.Orders.{step_ordered, Obeys}
+use Rattle.shard_board.specs.Orders.{ordered_by, Obeys}
 use Rattle.board_service.specs.declared.orders.ConsoleOrder.{ConsoleOrder}
 use Rattle.board_service.specs.ConsoleAnswers.{answer_to}
 use Rattle.board_service.specs.Obeying.{IsOrdered}
 
 module _ {D F C E : Type 0} (on : View D) (board : Board D F C) (order : ConsoleOrder) (number : ℕ) (ordered : Order) (old new : BoardPass D F C) (came : Result Told StepFault)
-    (turn : IsTurnOf on (Obeys on (step_ordered ordered)) board old new came) where
+    (turn : IsTurnOf on (Obeys on (ordered_by ordered)) board old new came) where
   pub ordered_so : (result : Result (Unit {0}) E) (before after : List ℕ) → OnOk result ((said : List ℕ) × (answer_to number order came ≡ Some said) × (after ≡ before ++ said))
       → OnOk result ((said : List ℕ) × (after ≡ before ++ said) × IsOrdered on board order number ordered old said new)
   ordered_so (Ok done) before after (said, answer, appended) = (said, appended, record { told = came; turn = turn; said_is = answer })

@@ -20,7 +20,7 @@ use Rattle.shard_board.specs.declared.order.Order.{Order}
 use Rattle.shard_board.specs.declared.order.Told.{Told}
 use Rattle.shard_board.specs.Boards.{IsPassOf, IsTurnOf, own_entries}
 use Rattle.shard_board.specs.Worlds.{IsSoundWorld}
-use Rattle.shard_board.specs.Orders.{step_ordered, Obeys}
+use Rattle.shard_board.specs.Orders.{ordered_by, Obeys}
 use Rattle.shard_board.specs.Posts.{PostsOne}
 use Rattle.shard_board.proofs.Paged.{pass_tells}
 use Rattle.board_desk.proofs.Posted.{posts_add}
@@ -48,9 +48,9 @@ module _ {D F C : Type 0} (on : View D) (board : Board D F C) where
 
   -- after an order
   pub order_goes : (ordered : Order) (before after : BoardPass D F C) (came : Result Told StepFault) → IsPassOf on board after
-      → IsTurnOf on (Obeys on (step_ordered ordered)) board before after came → GoesStill on board before after
+      → IsTurnOf on (Obeys on (ordered_by ordered)) board before after came → GoesStill on board before after
   order_goes ordered before after came belongs t =
-      turn_goes (Obeys on (step_ordered ordered)) before after came t belongs (λ each sound. orders_add on each ordered t.old came t.new sound t.work)
+      turn_goes (Obeys on (ordered_by ordered)) before after came t belongs (λ each sound. orders_add on each ordered t.old came t.new sound t.work)
 
   -- after a letter
   pub post_goes : (decides : F → ℕ → Luck → F → Type 0) (before after : BoardPass D F C) (posted : Result Posted DeskFault) → IsPassOf on board after

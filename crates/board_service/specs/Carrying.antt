@@ -1,5 +1,5 @@
 -- What the courier of a board does.
-use Rattle.std.specs.Prelude.{◌≡◌, ◌⊎◌, ℕ, Bool, true, false, Some, Result, Ok, Err}
+use Rattle.std.specs.Prelude.{◌≡◌, ◌⊎◌, ℕ, Bool, true, false, Result, Ok, Err}
 use Rattle.io_edge.specs.declared.fate.Luck.{Luck}
 use Rattle.call_tickets.specs.declared.desk.Posted.{Posted}
 use Rattle.call_tickets.specs.declared.desk.Posted.TheVariants.{Did, Quiet}
@@ -12,6 +12,7 @@ use Rattle.shard_board.specs.declared.board.BoardPass.{BoardPass}
 use Rattle.shard_board.specs.declared.order.Told.{Told}
 use Rattle.shard_board.specs.Boards.{IsTurnOf}
 use Rattle.shard_board.specs.Orders.{Obeys}
+use Rattle.shard_board.specs.Orders.Ordered.{OneStep}
 use Rattle.shard_board.specs.Posts.{PostsOne}
 
 -- a letter was looked at
@@ -26,7 +27,7 @@ module _ {D F C : Type 0} (on : View D) (board : Board D F C) where
     pub from : ℕ
     pub to : ℕ
     pub told : Result Told StepFault
-    pub turn : IsTurnOf on (Obeys on (Some (step.Push from to))) board old new told
+    pub turn : IsTurnOf on (Obeys on (OneStep (step.Push from to))) board old new told
 
   -- it did, or nothing was done
   abbrev pub MayPush : BoardPass D F C → BoardPass D F C → Type 0

@@ -3,8 +3,12 @@ use Rattle.std.specs.Prelude.{ℕ, List, [], ◌∷◌, ◌++◌, Option, Some, 
 use Rattle.std.specs.Fmt.{decimal}
 use Rattle.std.specs.Option.{option_map}
 use Rattle.mail_model.specs.Lines.{ended}
-use Rattle.session_model.specs.Events.{sum_text}
+use Rattle.mail_model.specs.Identity.{EpochId}
+use Rattle.object_model.specs.Sets.{nodes_in}
+use Rattle.session_model.specs.Events.{formed_text, sum_text}
 use Rattle.cluster_world.specs.Sums.{sum_seen}
+use Rattle.cluster_world.specs.declared.regrouping.Regroup.{Regroup}
+use Rattle.cluster_world.specs.declared.regrouping.Regroup.TheVariants.{Formed, Fault}
 use Rattle.cluster_world.specs.declared.step.Said.{Said}
 use Rattle.cluster_world.specs.declared.step.Said.TheVariants.{NodeUp, Faulted}
 use Rattle.cluster_world.specs.declared.fault.StepFault.{StepFault}
@@ -12,7 +16,7 @@ use Rattle.cluster_world.specs.declared.fault.StepFault.TheVariants as fault
 use Rattle.shard_board.specs.declared.order.Told.{Told}
 use Rattle.shard_board.specs.declared.order.Told.TheVariants as told
 use Rattle.board_service.specs.declared.orders.ConsoleOrder.{ConsoleOrder}
-use Rattle.board_service.specs.declared.orders.ConsoleOrder.TheVariants.{Crash, Start, Lose, Sum}
+use Rattle.board_service.specs.declared.orders.ConsoleOrder.TheVariants.{Crash, Start, Lose, Group, Sum}
 
 -- `*0 node N WORD`
 abbrev pub node_line : ℕ → List ℕ → List ℕ
@@ -26,6 +30,10 @@ up_line node boot = ended (codes "*0 node " ++ decimal node ++ codes " up " ++ d
 abbrev pub fault_line : ℕ → List ℕ
 fault_line node = ended (codes "*0 fault " ++ decimal node)
 
+-- `*0 epoch C.N members a b ..`
+abbrev pub epoch_line : EpochId → ℕ → List ℕ
+epoch_line epoch members = ended (codes "*0 " ++ formed_text epoch (nodes_in members 16))
+
 -- `! line N WORD`
 abbrev pub refused_line : ℕ → List ℕ → List ℕ
 refused_line number word = ended (codes "! line " ++ decimal number ++ 32 ∷ word)
@@ -38,6 +46,7 @@ refusal_word fault.NodeDown = Some (codes "NodeDown")
 refusal_word fault.NodeUp = Some (codes "NodeUp")
 refusal_word fault.NoSuchLetter = Some (codes "NoSuchLetter")
 refusal_word fault.NoSuchTicket = Some (codes "NoSuchTicket")
+refusal_word fault.NotAGroup = Some (codes "NotAGroup")
 refusal_word fault.Worn = Some (codes "Worn")
 refusal_word fault.NoRoom = Some (codes "NoRoom")
 refusal_word (fault.NoMemory down) = None
@@ -50,11 +59,23 @@ start_said node said = []
 
 abbrev pub start_told : ℕ → Told → List ℕ
 start_told node (told.Said said) = start_said node said
+start_told node (told.Regrouped came) = []
 start_told node (told.Sum sum) = []
+
+-- a node was to regroup: an epoch was formed, or a disk failed; no regroup says anything else
+abbrev pub regroup_line : Regroup → List ℕ
+regroup_line (Formed epoch members) = epoch_line epoch members
+regroup_line (Fault failed) = fault_line failed
+
+abbrev pub regroup_told : Told → List ℕ
+regroup_told (told.Said said) = []
+regroup_told (told.Regrouped came) = regroup_line came
+regroup_told (told.Sum sum) = []
 
 -- the entries of the book were to be counted; no count says anything else
 abbrev pub sum_told : Told → List ℕ
 sum_told (told.Said said) = []
+sum_told (told.Regrouped came) = []
 sum_told (told.Sum sum) = ended (codes "*0 " ++ sum_text (sum_seen sum))
 
 -- what is said of an order that was done
@@ -62,6 +83,7 @@ abbrev pub order_told : ConsoleOrder → Told → List ℕ
 order_told (Crash node) came = node_line node (codes " down")
 order_told (Start node) came = start_told node came
 order_told (Lose node) came = node_line node (codes " lost")
+order_told (Group node) came = regroup_told came
 order_told Sum came = sum_told came
 
 -- what is said of an order on the line of this number; nothing where memory ran out

@@ -7,7 +7,7 @@ use Rattle.mail_model.specs.Tape.{strip, or_else}
 use Rattle.shard_board.specs.declared.order.Order.{Order}
 use Rattle.shard_board.specs.declared.order.Order.TheVariants as board
 use Rattle.board_service.specs.declared.orders.ConsoleOrder.{ConsoleOrder}
-use Rattle.board_service.specs.declared.orders.ConsoleOrder.TheVariants.{Crash, Start, Lose, Sum}
+use Rattle.board_service.specs.declared.orders.ConsoleOrder.TheVariants.{Crash, Start, Lose, Group, Sum}
 
 -- a word and one number
 abbrev pub numbered : (ℕ → ConsoleOrder) → List ℕ → Option ConsoleOrder
@@ -23,7 +23,8 @@ order_in line =
     or_else (option_and_then (numbered Crash) (strip (codes "crash ") line))
     (or_else (option_and_then (numbered Start) (strip (codes "start ") line))
     (or_else (option_and_then (numbered Lose) (strip (codes "lose ") line))
-    (option_and_then sum_line (strip (codes "sum") line))))
+    (or_else (option_and_then (numbered Group) (strip (codes "group ") line))
+    (option_and_then sum_line (strip (codes "sum") line)))))
 
 -- what the line orders, where it is known; a CR at its end is dropped
 abbrev pub order_heard : List ℕ → Option ConsoleOrder
@@ -38,4 +39,5 @@ abbrev pub board_order : ConsoleOrder → Option Order
 board_order (Crash number) = option_map board.Crash (node_of number)
 board_order (Start number) = option_map board.Start (node_of number)
 board_order (Lose number) = option_map board.Lose (node_of number)
+board_order (Group number) = option_map board.Regroup (node_of number)
 board_order Sum = Some board.Sum

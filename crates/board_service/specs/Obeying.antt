@@ -7,7 +7,7 @@ use Rattle.shard_board.specs.declared.board.BoardPass.{BoardPass}
 use Rattle.shard_board.specs.declared.order.Order.{Order}
 use Rattle.shard_board.specs.declared.order.Told.{Told}
 use Rattle.shard_board.specs.Boards.{IsTurnOf}
-use Rattle.shard_board.specs.Orders.{step_ordered, Obeys}
+use Rattle.shard_board.specs.Orders.{ordered_by, Obeys}
 use Rattle.board_service.specs.declared.orders.ConsoleOrder.{ConsoleOrder}
 use Rattle.board_service.specs.ConsoleLines.{order_heard, board_order}
 use Rattle.board_service.specs.ConsoleAnswers.{refused_line, answer_to}
@@ -16,7 +16,7 @@ module _ {D F C : Type 0} (on : View D) (board : Board D F C) where
   -- The board did what was ordered, and what came of it is said.
   pub record IsOrdered (order : ConsoleOrder) (number : ℕ) (ordered : Order) (old : BoardPass D F C) (said : List ℕ) (new : BoardPass D F C) : Type 0 where
     pub told : Result Told StepFault
-    pub turn : IsTurnOf on (Obeys on (step_ordered ordered)) board old new told
+    pub turn : IsTurnOf on (Obeys on (ordered_by ordered)) board old new told
     pub said_is : answer_to number order told ≡ Some said
 
   -- or no plan has the node

@@ -1,15 +1,16 @@
 //! What is said of the lines of the console.
-ghost use Rattle.std.specs.Prelude.{◌≡◌, ◌++◌, ◌∷◌, codes, List, ℕ, Some, OnOk, IfOk};
+ghost use Rattle.std.specs.Prelude.{◌≡◌, ◌≤◌, ◌++◌, ◌∷◌, codes, List, ℕ, Some, OnOk, IfOk};
 ghost use Rattle.std.specs.Fmt.{decimal};
 ghost use Rattle.std.specs.Option.{option_copied, option_map};
 ghost use Rattle.mail_model.specs.Lines.{ended};
-ghost use Rattle.session_model.specs.Events.{sum_text};
+ghost use Rattle.object_model.specs.Sets.{nodes_in};
+ghost use Rattle.session_model.specs.Events.{node_words, sum_text};
 ghost use Rattle.cluster_world.specs.Sums.{sum_seen};
-ghost use Rattle.board_service.specs.ConsoleAnswers.{node_line, up_line, fault_line, refused_line, refusal_word, start_said, start_told, sum_told, order_told, answer_to};
+ghost use Rattle.board_service.specs.ConsoleAnswers.{node_line, up_line, fault_line, refused_line, refusal_word, epoch_line, start_said, start_told, regroup_line, regroup_told, sum_told, order_told, answer_to};
 
 use crate::orders::ConsoleOrder;
-use cluster_world::{BookSum, Said, StepFault};
-use mail_base::NodeNo;
+use cluster_world::{BookSum, Regroup, Said, StepFault};
+use mail_base::{EpochId, NodeNo, NodeSet};
 use shard_board::Told;
 use std::alloc::{AllocError, Global};
 
@@ -85,6 +86,44 @@ fn say_sum(alloc: Global, sum: &BookSum, out: &mut Vec<u8>) -> Result<(), AllocE
     push_line(out, &text)
 }
 
+#[tactic(auto, using(crate::proofs::Members::with_last, crate::proofs::Members::without_last))]
+// ` a b ..`: those of the members from 1 to so many.
+fn push_members(
+    alloc: Global,
+    text: &mut Vec<u8>,
+    members: NodeSet,
+    nodes: u8,
+) -> Result<(), AllocError>
+    requires { nodes ≤ 16 }
+    ensures { OnOk result (text.new.items ≡ text.old.items ++ node_words (nodes_in members nodes)) }
+{
+    if nodes == 0 {
+        return Ok(());
+    }
+    push_members(alloc, text, members, nodes - 1)?;
+    let last = NodeNo::new(nodes).unwrap();
+    if members.has(last) {
+        push_number(alloc, text, b" ", u64::from(nodes))?;
+    }
+    Ok(())
+}
+
+// `*0 epoch C.N members a b ..`
+fn say_epoch(
+    alloc: Global,
+    epoch: EpochId,
+    members: NodeSet,
+    out: &mut Vec<u8>,
+) -> Result<(), AllocError>
+    ensures { OnOk result (out.new.items ≡ out.old.items ++ epoch_line epoch members) }
+{
+    let mut text = behind_word(alloc, b"*0 epoch ", epoch.count)?;
+    push_number(alloc, &mut text, b".", u64::from(epoch.node))?;
+    text.extend_from_slice(b" members")?;
+    push_members(alloc, &mut text, members, 16)?;
+    push_line(out, &text)
+}
+
 /// `! line N WORD`
 pub(crate) fn say_refused(
     alloc: Global,
@@ -111,6 +150,7 @@ fn refusal_word(why: StepFault) -> Option<&'static [u8]>
         StepFault::NodeUp => Some(b"NodeUp"),
         StepFault::NoSuchLetter => Some(b"NoSuchLetter"),
         StepFault::NoSuchTicket => Some(b"NoSuchTicket"),
+        StepFault::NotAGroup => Some(b"NotAGroup"),
         StepFault::Worn => Some(b"Worn"),
         StepFault::NoRoom => Some(b"NoRoom"),
         StepFault::NoMemory { .. } => None,
@@ -141,6 +181,8 @@ fn say_start(alloc: Global, node: u64, said: &Said, out: &mut Vec<u8>) -> Result
         Said::Thrown(_) => Ok(()),
         Said::Sent { .. } => Ok(()),
         Said::Widened(_) => Ok(()),
+        Said::Grouped(_) => Ok(()),
+        Said::Concluded { .. } => Ok(()),
         Said::Done => Ok(()),
     }
 }
@@ -156,6 +198,28 @@ fn say_start_told(
 {
     match told {
         Told::Said(said) => say_start(alloc, node, said, out),
+        Told::Regrouped(_) => Ok(()),
+        Told::Sum(_) => Ok(()),
+    }
+}
+
+// What is said of a regroup.
+fn say_regroup(alloc: Global, came: &Regroup, out: &mut Vec<u8>) -> Result<(), AllocError>
+    ensures { OnOk result (out.new.items ≡ out.old.items ++ regroup_line came.now) }
+{
+    match came {
+        Regroup::Formed { epoch, members } => say_epoch(alloc, *epoch, *members, out),
+        Regroup::Fault(failed) => say_fault(alloc, *failed, out),
+    }
+}
+
+// The same of what was told.
+fn say_regroup_told(alloc: Global, told: &Told, out: &mut Vec<u8>) -> Result<(), AllocError>
+    ensures { OnOk result (out.new.items ≡ out.old.items ++ regroup_told told.now) }
+{
+    match told {
+        Told::Said(_) => Ok(()),
+        Told::Regrouped(came) => say_regroup(alloc, came, out),
         Told::Sum(_) => Ok(()),
     }
 }
@@ -166,6 +230,7 @@ fn say_sum_told(alloc: Global, told: &Told, out: &mut Vec<u8>) -> Result<(), All
 {
     match told {
         Told::Said(_) => Ok(()),
+        Told::Regrouped(_) => Ok(()),
         Told::Sum(sum) => say_sum(alloc, sum, out),
     }
 }
@@ -183,6 +248,7 @@ fn say_told(
         ConsoleOrder::Crash(node) => say_node(alloc, node, b" down", out),
         ConsoleOrder::Start(node) => say_start_told(alloc, node, told, out),
         ConsoleOrder::Lose(node) => say_node(alloc, node, b" lost", out),
+        ConsoleOrder::Group(_) => say_regroup_told(alloc, told, out),
         ConsoleOrder::Sum => say_sum_told(alloc, told, out),
     }
 }

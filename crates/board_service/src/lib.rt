@@ -12,8 +12,8 @@
 //! - `client`: a connection is one call of `serve_smtp` or `serve_pop`, over the board as a desk, in the name of its thread's
 //!   pass.
 //! - `courier`: one letter is posted as fate decides, after the clock was set. Where none is in flight, one node sends to another
-//!   what it owes: the next of all pairs, in a round. That is no reason to go on, so a service ends though a node stays down. What
-//!   such a push put in flight just before the end stays there.
+//!   what it owes: the next of all pairs, in a round. To a node that is no member of its epoch it sends nothing. That is no reason
+//!   to go on, so a service ends though a node stays down. What such a push put in flight just before the end stays there.
 //! - `orders`, `answers`, `obey`: a line of the console is one turn of the board.
 //!
 //! | Line | Does | Answer |
@@ -21,7 +21,11 @@
 //! | `crash n` | a node stops | `*0 node n down` |
 //! | `start n` | a node that is down starts | `*0 node n up b`, or `*0 fault n` where its disk failed |
 //! | `lose n` | a node loses its disk for good | `*0 node n lost` |
+//! | `group n` | a node regroups: it opens a group, asks all others and concludes, in one turn | `*0 epoch c.n members a b ..`, or `*0 fault m` where a disk failed |
 //! | `sum` | the entries of the book are counted | `*0 sum acked a struck s dropped d lost l` |
+//!
+//! A node that was started has no epoch, and takes no mail until a regroup lets it in. Whoever comes to the board meanwhile waits,
+//! and finds the epoch that was there before or the one that was formed.
 //!
 //! A line of another form is answered `! line N BadLine`, a node that no plan has `! line N NoSuchNode`, and an order that the
 //! cluster refuses `! line N NAME` with the name of the refusal. One CR at the end of a line is dropped. `stop` is a line of

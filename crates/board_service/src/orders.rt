@@ -2,7 +2,7 @@
 ghost use Rattle.std.specs.Prelude.{◌≡◌, codes, option_and_then};
 ghost use Rattle.mail_model.specs.Tape.{strip};
 ghost use Rattle.board_service.specs.ConsoleLines.{numbered, sum_line, order_in, order_heard, node_of, board_order};
-ghost use Rattle.board_service.specs.declared.orders.ConsoleOrder.TheVariants.{Crash, Start, Lose};
+ghost use Rattle.board_service.specs.declared.orders.ConsoleOrder.TheVariants.{Crash, Start, Lose, Group};
 
 use line_words::number;
 use mail_base::NodeNo;
@@ -19,6 +19,8 @@ pub(crate) enum ConsoleOrder {
     Start(u64),
     /// A node loses its disk for good.
     Lose(u64),
+    /// A node opens a group, asks all others and concludes.
+    Group(u64),
     /// The entries of the book are counted.
     Sum,
 }
@@ -44,6 +46,13 @@ fn loses(line: &[u8]) -> Option<ConsoleOrder>
     Some(ConsoleOrder::Lose(node))
 }
 
+fn groups(line: &[u8]) -> Option<ConsoleOrder>
+    ensures { result ≡ option_and_then (numbered Group) (strip (codes "group ") line.now) }
+{
+    let node = number(strip(b"group ", line)?)?;
+    Some(ConsoleOrder::Group(node))
+}
+
 fn sums(line: &[u8]) -> Option<ConsoleOrder>
     ensures { result ≡ option_and_then sum_line (strip (codes "sum") line.now) }
 {
@@ -65,6 +74,9 @@ fn order_in(line: &[u8]) -> Option<ConsoleOrder>
         return Some(order);
     }
     if let Some(order) = loses(line) {
+        return Some(order);
+    }
+    if let Some(order) = groups(line) {
         return Some(order);
     }
     sums(line)
@@ -95,6 +107,7 @@ pub(crate) fn board_order(order: ConsoleOrder) -> Option<Order>
         ConsoleOrder::Crash(number) => Some(Order::Crash(node_of(number)?)),
         ConsoleOrder::Start(number) => Some(Order::Start(node_of(number)?)),
         ConsoleOrder::Lose(number) => Some(Order::Lose(node_of(number)?)),
+        ConsoleOrder::Group(number) => Some(Order::Regroup(node_of(number)?)),
         ConsoleOrder::Sum => Some(Order::Sum),
     }
 }

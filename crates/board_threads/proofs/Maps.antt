@@ -5,8 +5,6 @@ use denote.Param.SendFields.{declared_send, variants_send, as_row_send}
 use denote.Struct.Field.{row_field}
 use Rattle.std.proofs.Crossing as lists
 use Rattle.std.proofs.MapsCrossing as maps
-use Rattle.membership.specs.contracts.install.Install as install
-use Rattle.membership.specs.contracts.install.Install.TheInside as install_inside
 use Rattle.membership.specs.contracts.opened.Joined as joined
 use Rattle.membership.specs.contracts.opened.Joined.TheInside as joined_inside
 use Rattle.membership.specs.contracts.opened.OpenGroup as open_group
@@ -21,15 +19,8 @@ use Rattle.mailbox_fragment.specs.contracts.fragments.Fragments as fragments
 use Rattle.node_maps.specs.contracts.maps.NodeMaps as node_maps
 use Rattle.whole_node.specs.contracts.node.WholeNode as whole
 use Rattle.mail_base.specs.contracts.member.Claim as claim
-use Rattle.mail_base.specs.contracts.member.Member as member
-use Rattle.board_threads.proofs.Mail.{name_send, node_no_send, msg_id_send, epoch_id_send, member_send, claim_send, row_send, user_map_send, sequence_send}
-use Rattle.board_threads.proofs.Tickets.{node_send}
-
-install_inside_send : IsSend install_inside.the_row
-install_inside_send = declared_send install_inside.the_type (epoch_id_send, (sequence_send member.the_row member_send, (user_map_send, tt)))
-
-pub install_send : IsSend install.the_row
-install_send = search (install_inside_send, sendable) depth 20
+use Rattle.board_threads.proofs.Mail.{name_send, node_no_send, msg_id_send, epoch_id_send, member_send, claim_send, row_send, sequence_send}
+use Rattle.board_threads.proofs.Tickets.{install_send, node_send}
 
 joined_inside_send : IsSend joined_inside.the_row
 joined_inside_send = declared_send joined_inside.the_type (member_send, (sequence_send claim.the_row claim_send, tt))

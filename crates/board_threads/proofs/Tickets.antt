@@ -14,10 +14,13 @@ use Rattle.node_tickets.specs.contracts.want.Want.TheInside as want_inside
 use Rattle.node_tickets.specs.contracts.progress.Progress as progress
 use Rattle.node_tickets.specs.contracts.progress.Progress.TheInside as progress_inside
 use Rattle.node_tickets.specs.contracts.tickets.Tickets as tickets
+use Rattle.membership.specs.contracts.install.Install as install
+use Rattle.membership.specs.contracts.install.Install.TheInside as install_inside
+use Rattle.mail_base.specs.contracts.member.Member as member
 use Rattle.node_core.specs.contracts.shape.Shape as shape
 use Rattle.node_core.specs.contracts.numbers.Numbers as numbers
 use Rattle.node_core.specs.contracts.node.Node as node
-use Rattle.board_threads.proofs.Mail.{name_send, node_no_send, node_set_send, msg_id_send, stamp_send, ticket_send, items_send, octets_send, filing_send}
+use Rattle.board_threads.proofs.Mail.{name_send, node_no_send, node_set_send, msg_id_send, stamp_send, ticket_send, items_send, octets_send, filing_send, epoch_id_send, member_send, user_map_send, sequence_send}
 use Rattle.board_threads.proofs.Stores.{store_send}
 
 pub mishaps_send : IsSend mishaps.the_row
@@ -47,8 +50,14 @@ progress_send = search (progress_inside_send, sendable) depth 20
 pub tickets_send : IsSend tickets.the_row
 tickets_send = declared_send tickets.the_type (node_no_send, (search sendable depth 20, (search sendable depth 20, (search (progress_send, maps.crosses, lists.crosses, sendable) depth 20, tt))))
 
+install_inside_send : IsSend install_inside.the_row
+install_inside_send = declared_send install_inside.the_type (epoch_id_send, (sequence_send member.the_row member_send, (user_map_send, tt)))
+
+pub install_send : IsSend install.the_row
+install_send = search (install_inside_send, sendable) depth 20
+
 pub shape_send : IsSend shape.the_row
-shape_send = search (sendable) depth 20
+shape_send = declared_send shape.the_type (search sendable depth 20, (search sendable depth 20, (search sendable depth 20, (search (install_send, sendable) depth 20, tt))))
 
 pub numbers_send : IsSend numbers.the_row
 numbers_send = search (sendable) depth 20

@@ -7,9 +7,7 @@ use Rattle.std.proofs.Crossing as lists
 use Rattle.std.proofs.MapsCrossing as maps
 use Rattle.world_book.specs.contracts.entry.Entry as entry
 use Rattle.world_book.specs.contracts.book.Book as book
-use Rattle.cluster_world.specs.contracts.held.Held as held
-use Rattle.cluster_world.specs.contracts.station.Station as station
-use Rattle.cluster_world.specs.contracts.station.Station.TheInside as station_inside
+use Rattle.cluster_world.specs.contracts.life.Life as life
 use Rattle.cluster_world.specs.contracts.flight.Flight as flight
 use Rattle.cluster_world.specs.contracts.flight.Flight.TheInside as flight_inside
 use Rattle.cluster_world.specs.contracts.flying.Flying as flying
@@ -25,14 +23,8 @@ entry_send = variants_send entry.enum ((name_send, (msg_id_send, (search sendabl
 pub book_send : IsSend book.the_row
 book_send = declared_send book.the_type (search (entry_send, lists.crosses, sendable) depth 20, tt)
 
-pub held_send : IsSend held.the_row
-held_send = variants_send held.enum ((whole_send, tt), (tt, (tt, tt)))
-
-station_inside_send : IsSend station_inside.the_row
-station_inside_send = declared_send station_inside.the_type (held_send, tt)
-
-pub station_send : IsSend station.the_row
-station_send = search (station_inside_send, sendable) depth 20
+pub life_send : IsSend life.the_row
+life_send = variants_send life.enum ((whole_send, tt), (tt, (tt, tt)))
 
 flight_inside_send : IsSend flight_inside.the_row
 flight_inside_send = declared_send flight_inside.the_type (search sendable depth 20, (letter_send, tt))
@@ -47,7 +39,7 @@ pub flying_send : IsSend flying.the_row
 flying_send = search (flying_inside_send, sendable) depth 20
 
 pub nodes_send : (D : RattleType) → IsSend D → IsSend (nodes.the_row D)
-nodes_send D s = declared_send (nodes.the_type D) (plan_send, (search (station_send, lists.crosses, sendable) depth 20, (search (lists.crosses, sendable) depth 20, tt)))
+nodes_send D s = declared_send (nodes.the_type D) (plan_send, (search (life_send, lists.crosses, sendable) depth 20, (search (lists.crosses, sendable) depth 20, tt)))
 
 pub world_send : (D : RattleType) → IsSend D → IsSend (world.the_row D)
 world_send D s = declared_send (world.the_type D) (nodes_send D s, (flying_send, (book_send, (search sendable depth 20, (search sendable depth 20, tt)))))

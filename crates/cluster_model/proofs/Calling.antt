@@ -119,10 +119,10 @@ module _ (plan : Plan) (tells : Bool) (old : World) (own : ℕ) (numbered : IsOf
       (unheard_leads plan.confirm (MayBring old (Begin own call)) (with_struck old call) own node disk (begun_by plan old own node disk call octets) (files_of own node call octets) (strikes_of plan own node call)
       (still_up call node disk up) (λ ready. goes_acts node disk call octets filed ready) (λ user id m. is_struck node call user id m) (λ content e. files_told node disk call octets up filed content e)))
   begins_lead call said new (FailsInIt node disk octets up filed is g) = fails_lead call node disk octets new up filed g
-  begins_lead call said new (Reads node disk kind what up one of_kind finds is new_world) = subst (λ (w : World). Leads plan.confirm (MayBring old (Begin own call)) (cluster_of old) (cluster_of w)) (sym new_world)
+  begins_lead call said new (Reads node disk kind what up one goes of_kind finds is new_world) = subst (λ (w : World). Leads plan.confirm (MayBring old (Begin own call)) (cluster_of old) (cluster_of w)) (sym new_world)
       (unheard_leads plan.confirm (MayBring old (Begin own call)) old own node disk (begin_read kind what node disk) None []
       up (λ ready. read_acts own node disk ready kind what) (λ user id m. absurd m) (λ content e. absurd (cc e)))
-  begins_lead call said new (FailsReading node disk user id from most up one reads is new_world) =
+  begins_lead call said new (FailsReading node disk user id from most up one goes reads is new_world) =
       down_leads plan.confirm (MayBring old (Begin own call)) old new own node disk (begin_read Fetching WrongSecret node disk) None None [] up
       (λ ready. read_acts own node disk ready Fetching WrongSecret) (λ letter e. absurd (cc e)) (λ user_ id_ m. absurd m) (λ content e. absurd (cc e))
       (record { front = []; pending = []; one = omega arith; cut = cut_nothing disk; is = new_world })

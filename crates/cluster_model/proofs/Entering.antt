@@ -115,8 +115,8 @@ module _ (old new : World) where
   begins_enters plan tells own call said (FailsAtOnce node disk kind up of_kind fails is e) = begun_enters call own (refuse kind (mishaps_of_call plan old.seconds node call) (ids_drawn call) node disk) e
   begins_enters plan tells own call said (Goes node disk octets up fails filed is e) = begun_enters call own (begun_by plan old own node disk call octets) e
   begins_enters plan tells own call said (FailsInIt node disk octets up filed is g) = call_cut_enters call own disk g.front g.pending g.is
-  begins_enters plan tells own call said (Reads node disk kind found up one of_kind finds is e) = same_book (ap (λ (w : World). w.book) e ∙ after_book old own (begin_read kind found node disk))
-  begins_enters plan tells own call said (FailsReading node disk user id from most up one reads is e) = cut_enters own disk [] [] e
+  begins_enters plan tells own call said (Reads node disk kind found up one goes of_kind finds is e) = same_book (ap (λ (w : World). w.book) e ∙ after_book old own (begin_read kind found node disk))
+  begins_enters plan tells own call said (FailsReading node disk user id from most up one goes reads is e) = cut_enters own disk [] [] e
   begins_enters plan tells own call said (Leaves node disk user up one leaves is e) = same_book (ap (λ (w : World). w.book) e)
 
   asks_enter : (plan : Plan) (number : Number) (said : Said) → AnswersAsk plan old number said new → Enters old new

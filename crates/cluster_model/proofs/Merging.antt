@@ -265,9 +265,9 @@ module _ (plan : Plan) (tells : Bool) (old new : World) where
       (own, [], TakesNone refl, did_merge old new (with_struck old call) (struck_slots old call) own node disk up (refuse kind (mishaps_of_call plan old.seconds node call) (ids_drawn call) node disk) e [] (λ key. refl))
   begins_take own call said (Goes node disk octets up fails filed is e) whole = goes_take own call node disk octets up filed e
   begins_take own call said (FailsInIt node disk octets up filed is g) whole = absurd (not_faulted (Begin own call) said own is whole (λ n s. cc s) (λ n s. cc s))
-  begins_take own call said (Reads node disk kind found up one of_kind finds is e) whole =
+  begins_take own call said (Reads node disk kind found up one goes of_kind finds is e) whole =
       (own, [], TakesNone refl, did_merge old new old refl own node disk up (begin_read kind found node disk) e [] (λ key. refl))
-  begins_take own call said (FailsReading node disk user id from most up one reads is e) whole = absurd (not_faulted (Begin own call) said own is whole (λ n s. cc s) (λ n s. cc s))
+  begins_take own call said (FailsReading node disk user id from most up one goes reads is e) whole = absurd (not_faulted (Begin own call) said own is whole (λ n s. cc s) (λ n s. cc s))
   begins_take own call said (Leaves node disk user up one leaves is e) whole = same_takes plan old new (Begin own call) e
 
   asks_take : (number : Number) (said : Said) → AnswersAsk plan old number said new → Takes plan old (AskFor number) new

@@ -94,7 +94,7 @@ module _ (confirm : ℕ) (May : Id → List ℕ → Type 0) (old : World) where
 
   starts_lead : (plan : Plan) (n : ℕ) (said : Said) (new : World) → StartsUp plan old n said new → To new
   starts_lead plan n said new (Comes disk pending node records here starts below is new_world) = subst To (sym new_world)
-      (changes_life (CameUp n node.boot) (λ slots. tt) (start_act n disk pending node records) refl refl refl refl here (λ ready. start_acts n plan.nodes disk pending records node starts ready))
+      (changes_life (CameUp n node.boot) (λ slots. tt) (start_act n disk pending node records) refl refl refl refl here (λ ready. start_acts n disk pending records node starts ready))
   starts_lead plan n said new (FailsStarting disk pending next records here stops is new_world) = stops_lead n disk pending next records new here stops new_world
 
   falls_lead : (n : ℕ) (life : Life) (entry : BookEntry) (said : Said) (new : World) → ((slots : List Slot) → MayEnter confirm entry slots) → (life ≡ Down []) ⊎ (life ≡ Lost)
@@ -147,8 +147,8 @@ module _ (plan : Plan) (tells : Bool) (old new : World) (p : InPlan plan.nodes o
       numbered (FailsAtOnce own disk kind up of_kind fails is e) = p node (slot_up own disk) up
       numbered (Goes own disk octets up fails filed is e) = p node (slot_up own disk) up
       numbered (FailsInIt own disk octets up filed is g) = p node (slot_up own disk) up
-      numbered (Reads own disk kind what up one of_kind finds is e) = p node (slot_up own disk) up
-      numbered (FailsReading own disk user id from most up one reads is e) = p node (slot_up own disk) up
+      numbered (Reads own disk kind what up one goes of_kind finds is e) = p node (slot_up own disk) up
+      numbered (FailsReading own disk user id from most up one goes reads is e) = p node (slot_up own disk) up
       numbered (Leaves own disk user up one leaves is e) = p node (slot_up own disk) up
   does_lead (AskFor ticket) said d = answers_lead plan.confirm (λ id o. ⊥) old plan refl ticket said new d
   does_lead (GiveUp ticket) said d = subst (λ (w : World). Leads plan.confirm (λ id o. ⊥) (cluster_of old) (cluster_of w)) (sym d.new_world)

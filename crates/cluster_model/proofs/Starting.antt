@@ -25,8 +25,8 @@ record Restarts (own : ℕ) (disk pending : List Record) (node : Node) (new : Li
   tickets : node.tickets ≡ fin.empty
   log : IsRecovered own node.log new
 
-restarts : (own nodes : ℕ) (disk pending new : List Record) (node : Node) → StartsNode own nodes disk pending node new → Restarts own disk pending node new
-restarts own nodes disk pending new node s =
+restarts : (own : ℕ) (disk pending new : List Record) (node : Node) → StartsNode own disk pending node new → Restarts own disk pending node new
+restarts own disk pending new node s =
     let boot : node.boot ≡ boot_of (disk ++ s.kept) + 1 = ap (λ (x : Node). x.boot) s.is in
     record {
       kept = s.kept;
@@ -154,9 +154,9 @@ module _ (n : ℕ) (disk pending new : List Record) (node : Node) (starts : Rest
         boot_retires : {one : Record} {a : Key} {x : State} → Boot node.boot ≡ one → one ≡ Retired a x → ⊥
         boot_retires p q = cc
 
-pub start_acts : (n nodes : ℕ) (disk pending new : List Record) (node : Node) → StartsNode n nodes disk pending node new → IsReady n (record { life = Down pending; disk = disk }) None
+pub start_acts : (n : ℕ) (disk pending new : List Record) (node : Node) → StartsNode n disk pending node new → IsReady n (record { life = Down pending; disk = disk }) None
     → IsAct (start_act n disk pending node new)
-start_acts n nodes disk pending new node starts ready = restart_acts n disk pending new node (restarts n nodes disk pending new node starts) ready
+start_acts n disk pending new node starts ready = restart_acts n disk pending new node (restarts n disk pending new node starts) ready
 
 -- A start that its disk cuts: what was pending is kept or lost, and the boot's record may be pending.
 module _ (n : ℕ) (disk pending next new : List Record) (stops : StopsStart disk pending next new) where

@@ -6,7 +6,7 @@ use Rattle.object_model.specs.Sets.{count_below}
 use Rattle.object_model.specs.Keys.{key_cmp}
 use Rattle.object_model.specs.UpdateLog.{Logged}
 use Rattle.object_model.proofs.MapLaws.{key_total}
-use Rattle.cluster_model.specs.Rows.{hi, row_plan, ticket_of, copy_at, here_at, pushed, TwoOfThree, HeardTwiceCountsOnce, TargetsMoveOn, PushedThreeTimes, LateHereChangesNothing, GoneBeforeItCame}
+use Rattle.cluster_model.specs.Rows.{hi, row_plan, ticket_of, copy_at, here_at, pushed, TwoOfThree, HeardTwiceCountsOnce, TargetsMoveOn, PushedThreeTimes, LateHereChangesNothing, GoneBeforeItCame, ticket_again, StartedHasNoEpoch}
 use Rattle.cluster_model.proofs.Playing.{waits, ends, gives_up, hears_told, throws_late, hears_ack, hears_retired, pushes_due, pushes_nothing, drops, one_entry, emptied}
 
 got_copy : (entry : Logged) → get (insert (empty {R = key_cmp}) (copy_at 1) entry) (copy_at 1) ≡ Some entry
@@ -20,7 +20,7 @@ ruleset told = (one_entry, emptied_copy, got_copy)
 
 pub two_of_three : TwoOfThree
 unfolding count_below
-two_of_three = (
+two_of_three map = (
   _,
   (
     _,
@@ -48,7 +48,7 @@ two_of_three = (
 
 pub twice_once : HeardTwiceCountsOnce
 unfolding count_below
-twice_once = (
+twice_once map = (
   _,
   (
     _,
@@ -97,7 +97,7 @@ twice_once = (
 
 pub move_on : TargetsMoveOn
 unfolding count_below
-move_on = (
+move_on map = (
   _,
   (
     _,
@@ -169,7 +169,7 @@ move_on = (
 
 pub three_times : PushedThreeTimes
 unfolding count_below
-three_times = (
+three_times map = (
   _,
   (
     _,
@@ -238,7 +238,7 @@ three_times = (
 
 pub late_here : LateHereChangesNothing
 unfolding count_below
-late_here = (
+late_here map = (
   _,
   (
     _,
@@ -292,7 +292,7 @@ late_here = (
 
 pub gone_first : GoneBeforeItCame
 unfolding count_below
-gone_first = (
+gone_first map = (
   _,
   (
     _,
@@ -307,6 +307,39 @@ gone_first = (
         record { is = refl },
         refl,
         (_, record { is = refl }, refl, refl),
+      ),
+    ),
+  ),
+  refl,
+)
+
+pub started_again : StartedHasNoEpoch
+unfolding count_below
+started_again map = (
+  _,
+  (
+    _,
+    record { is = refl },
+    refl,
+    (
+      _,
+      record { is = refl },
+      refl,
+      (
+        _,
+        record { is = refl },
+        refl,
+        (
+          _,
+          record { is = refl },
+          refl,
+          (
+            _,
+            record { is = refl },
+            refl,
+            (_, ends (row_plan 2 2 1) hi _ _ _ ticket_again _ refl (get-insert nat_cmp_total _ _ _ _) _ refl refl, refl, refl),
+          ),
+        ),
       ),
     ),
   ),

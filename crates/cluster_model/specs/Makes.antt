@@ -125,12 +125,12 @@ pub data BeginsCall (plan : Plan) (tells : Bool) (old : World) (own : ℕ) (call
   FailsInIt : (node : Node) (disk : List Record) (octets : List ℕ) → IsUp old own node disk → IsFiled old own node call octets
       → said ≡ Faulted own → NodeGoesDown (with_struck old call) own disk (begun_by plan old own node disk call octets).disk new
       → BeginsCall plan tells old own call said new
-  Reads : (node : Node) (disk : List Record) (kind : CallKind) (found : Found) → IsUp old own node disk → plan.nodes ≡ 1 → kind_of_call call ≡ Some kind
-      → IsFound plan tells disk call found → said ≡ Begun (new_number own node) → new ≡ after old own (begin_read kind found node disk)
+  Reads : (node : Node) (disk : List Record) (kind : CallKind) (found : Found) → IsUp old own node disk → plan.nodes ≡ 1
+      → fails_at_once plan old.seconds node call ≡ false → kind_of_call call ≡ Some kind → IsFound plan tells disk call found → said ≡ Begun (new_number own node) → new ≡ after old own (begin_read kind found node disk)
       → BeginsCall plan tells old own call said new
   -- a Fetch reads octets, and its disk fails in it
-  FailsReading : (node : Node) (disk : List Record) (user : List ℕ) (id : Id) (from most : ℕ) → IsUp old own node disk → plan.nodes ≡ 1 → call ≡ Fetch user id from most
-      → said ≡ Faulted own → new ≡ cut_world old own disk [] []
+  FailsReading : (node : Node) (disk : List Record) (user : List ℕ) (id : Id) (from most : ℕ) → IsUp old own node disk → plan.nodes ≡ 1
+      → fails_at_once plan old.seconds node call ≡ false → call ≡ Fetch user id from most → said ≡ Faulted own → new ≡ cut_world old own disk [] []
       → BeginsCall plan tells old own call said new
   Leaves : (node : Node) (disk : List Record) (user : List ℕ) → IsUp old own node disk → plan.nodes ≡ 1 → call ≡ Leave user → said ≡ Noted → new ≡ old
       → BeginsCall plan tells old own call said new
@@ -231,7 +231,7 @@ pub data FormsAt (old : World) (own : ℕ) (said : Said) (new : World) : Type 0 
 -- A node that is down starts, and the book has it. Where its disk fails it stays down.
 pub data StartsUp (plan : Plan) (old : World) (n : ℕ) (said : Said) (new : World) : Type 0 where
   Comes : (disk pending : List Record) (node : Node) (records : List Record) → slot_at old.slots n ≡ Some (record { life = Down pending; disk = disk })
-      → StartsNode n plan.nodes disk pending node records → node.boot ≤ greatest_boot → said ≡ NodeUp node.boot
+      → StartsNode n disk pending node records → node.boot ≤ greatest_boot → said ≡ NodeUp node.boot
       → new ≡ record old { slots = with_slot old.slots n (slot_up node records); book = old.book ++ CameUp n node.boot ∷ [] }
       → StartsUp plan old n said new
   FailsStarting : (disk pending next records : List Record) → slot_at old.slots n ≡ Some (record { life = Down pending; disk = disk })

@@ -66,7 +66,7 @@ abbrev pub NodesFall : Type 0
 NodesFall = (n : ℕ) (before : Slot) (life : Life) → before.life ≢ Lost → (life ≡ Down []) ⊎ (life ≡ Lost) → IsReady n before None → IsAct (drop_act n before life)
 
 abbrev pub NodesStart : Type 0
-NodesStart = (n nodes : ℕ) (disk pending new : List Record) (node : Node) → StartsNode n nodes disk pending node new → IsReady n (record { life = Down pending; disk = disk }) None
+NodesStart = (n : ℕ) (disk pending new : List Record) (node : Node) → StartsNode n disk pending node new → IsReady n (record { life = Down pending; disk = disk }) None
     → IsAct (start_act n disk pending node new)
 
 -- a start that its disk cuts is one, too

@@ -1,5 +1,5 @@
 -- A plain program of the rules: what each step makes of a world and what it says, where no disk fails and memory is ample. It is slow, and made to be read and to compute. It does
--- without the calls that read and without membership; a node starts in the first epoch.
+-- without the calls that read, and no epoch is formed after the first.
 use Rattle.std.specs.Prelude.{◌≡◌, ℕ, ◌+◌, Bool, true, false, nat_eq, nat_lt, List, [], ◌∷◌, ◌++◌, length, map, Option, Some, None, if◌then◌else◌}
 use Rattle.std.specs.List.{filter}
 use Rattle.mail_model.specs.Identity.{Key, State}
@@ -17,7 +17,7 @@ use Rattle.cluster_model.specs.Cluster.CallKind.{Delivering, Striking}
 use Rattle.cluster_model.specs.Cluster.Life.{Up, Down, Lost}
 use Rattle.cluster_model.specs.Claims.{boot_of}
 use Rattle.cluster_model.specs.Rules.{ticket_at, push, can_widen, widen, end_ticket, refuse, new_number}
-use Rattle.cluster_model.specs.Starts.{first_membership, started}
+use Rattle.cluster_model.specs.Starts.{started}
 use Rattle.cluster_model.specs.Thrown.{Why, thrown_by}
 use Rattle.cluster_model.specs.Thrown.Why.{WhileDown, Late}
 use Rattle.cluster_model.specs.Progress.{Ask, ask_of, entries_with}
@@ -136,13 +136,13 @@ falls w n life entry None = refuses NoSuchNode w
 falls w n life entry (Some slot) = says Finished (record w { slots = with_slot w.slots n (record slot { life = life }); book = w.book ++ entry ∷ [] })
 
 -- a node starts, and nothing was pending
-abbrev pub starts : Plan → World → ℕ → Option Slot → StepRan
-starts plan w n None = refuses NoSuchNode w
-starts plan w n (Some slot) =
+abbrev pub starts : World → ℕ → Option Slot → StepRan
+starts w n None = refuses NoSuchNode w
+starts w n (Some slot) =
     let boot = boot_of slot.disk + 1 in
     let records = slot.disk ++ Boot boot ∷ [] in
     if nat_lt greatest_boot boot then refuses Worn w
-    else says (NodeUp boot) (record w { slots = with_slot w.slots n (slot_up (started n (Some (first_membership plan.nodes)) boot records) records); book = w.book ++ CameUp n boot ∷ [] })
+    else says (NodeUp boot) (record w { slots = with_slot w.slots n (slot_up (started n None boot records) records); book = w.book ++ CameUp n boot ∷ [] })
 
 -- what a step does that is not refused
 abbrev pub does : Plan → List ℕ → World → Step → StepRan
@@ -156,7 +156,7 @@ does plan octets w (Widen at user id to) =
     at_node w at (λ node disk. says (Widened (can_widen to (said_of (Message user id) disk))) (after w at (widen at to (Message user id) node disk)))
 does plan octets w (Form node) = runs_short w
 does plan octets w (Crash node) = falls w node (Down []) (WentDown node) (slot_at w.slots node)
-does plan octets w (Start node) = starts plan w node (slot_at w.slots node)
+does plan octets w (Start node) = starts w node (slot_at w.slots node)
 does plan octets w (Lose node) = falls w node Lost (WasLost node) (slot_at w.slots node)
 does plan octets w (Tick seconds) = says Finished (record w { seconds = seconds })
 

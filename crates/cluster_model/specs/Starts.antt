@@ -8,22 +8,26 @@ use Rattle.object_model.specs.Sets.{has, without_node}
 use Rattle.object_model.specs.Lists.{Among}
 use Rattle.object_model.specs.States.{join_with}
 use Rattle.object_model.specs.Said.{said}
-use Rattle.object_model.specs.Letters.{Member, Membership}
+use Rattle.object_model.specs.Letters.{Member, MapRow, Membership}
 use Rattle.object_model.specs.UpdateLog.{Logged, Log, noted, retired}
 use Rattle.cluster_model.specs.Cluster.{Node}
 use Rattle.cluster_model.specs.Claims.{boot_of}
 use Rattle.cluster_model.specs.Rules.{greatest_named}
 
--- The first epoch has all nodes of the plan as members. It is what a node has where no epoch was formed yet and the first is built in.
+-- The first epoch, in which a cluster opens over empty disks, has all nodes of the plan as members, each in its first boot. It has one map of managers, which messages do not see.
 abbrev pub first_epoch : EpochId
 first_epoch = record { count = 1; node = 1 }
 
 abbrev pub first_members : ℕ → List Member
 first_members zero = []
-first_members (suc k) = record { node = suc k; boot = 1; was = no_epoch } ∷ first_members k
+first_members (suc k) = first_members k ++ record { node = suc k; boot = 1; was = no_epoch } ∷ []
 
-abbrev pub first_membership : ℕ → Membership
-first_membership nodes = record { epoch = first_epoch; members = first_members nodes; map = [] }
+abbrev pub first_membership : ℕ → List MapRow → Membership
+first_membership nodes map = record { epoch = first_epoch; members = first_members nodes; map = map }
+
+-- a node that is up in its first boot and in the first epoch, and has done nothing
+abbrev pub fresh_node : ℕ → List MapRow → Node
+fresh_node nodes map = record { boot = 1; drawn = 0; count = 0; calls = 0; installed = Some (first_membership nodes map); log = fin.empty; tickets = fin.empty }
 
 -- the greatest count of a stamp in the states of these records
 abbrev pub greatest_count_on : ℕ → List Record → ℕ
@@ -79,14 +83,12 @@ started own installed boot records = record {
   tickets = fin.empty;
 }
 
--- A start keeps or loses what was pending, and records the next boot before all else. It has no epoch, or the first, where that is built in.
-pub record StartsNode (own nodes : ℕ) (disk pending : List Record) (node : Node) (new : List Record) : Type 0 where
+-- A start keeps or loses what was pending, and records the next boot before all else. It leaves the node without an epoch: the next that is formed lets it in.
+pub record StartsNode (own : ℕ) (disk pending : List Record) (node : Node) (new : List Record) : Type 0 where
   pub kept : List Record
   pub pending_is : (kept ≡ []) ⊎ (kept ≡ pending)
   pub records : new ≡ (disk ++ kept) ++ Boot (boot_of (disk ++ kept) + 1) ∷ []
-  pub installed : Option Membership
-  pub begins : (installed ≡ None) ⊎ (installed ≡ Some (first_membership nodes))
-  pub is : node ≡ started own installed (boot_of (disk ++ kept) + 1) new
+  pub is : node ≡ started own None (boot_of (disk ++ kept) + 1) new
 
 -- A start that its disk cuts: what was pending is kept or lost, and the record of the boot may be pending, or nothing. Where not even the disk started, all is as it was.
 pub record StopsStart (disk pending : List Record) (next new : List Record) : Type 0 where

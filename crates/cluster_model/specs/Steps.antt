@@ -1,5 +1,5 @@
 -- What can be done with a world, what it answers, and what is refused.
-use Rattle.std.specs.Prelude.{ℕ, ◌+◌, ◌-◌, ◌^◌, Bool, true, false, not, ◌&&◌, ◌||◌, nat_eq, nat_lt, nat_le, List, [], ◌∷◌, length, Option, Some, None, is_some, if◌then◌else◌}
+use Rattle.std.specs.Prelude.{ℕ, ◌+◌, ◌-◌, ◌^◌, max, Bool, true, false, not, ◌&&◌, ◌||◌, nat_eq, nat_lt, nat_le, List, [], ◌∷◌, length, Option, Some, None, is_some, if◌then◌else◌}
 use Rattle.std.specs.List.{list_all}
 use Rattle.mail_model.specs.Identity.{Id, EpochId}
 use Rattle.mail_model.specs.Plan.{Plan, Proof}
@@ -155,22 +155,27 @@ ticket_fault (AskFor ticket) slots = if stands_at ticket (slot_at slots ticket.n
 ticket_fault (GiveUp ticket) slots = if stands_at ticket (slot_at slots ticket.node) then None else Some NoSuchTicket
 ticket_fault step slots = None
 
--- whether the node's epoch has fewer than F members
+-- Whether the node's epoch has fewer than F members, or none. A node without an epoch has none.
 abbrev pub has_few_members : Plan → Node → Bool
-has_few_members plan node = nat_lt (length (nodes_in (members_of node) plan.nodes)) plan.confirm
+has_few_members plan node = nat_lt (length (nodes_in (members_of node) plan.nodes)) (max 1 plan.confirm)
 
 -- the first second after the last year that a date can have
 abbrev pub end_of_dates : ℕ
 end_of_dates = 253402300800
 
--- What makes a call fail at once: a Deliver or a Strike with too few members, and a Deliver that has no date. The others have rules in a plan of one node alone, and do not.
+-- What makes a call fail at once: a Deliver or a Strike with too few members, a Deliver that has no date, and a Login or a Fetch at a node without an epoch.
 abbrev pub few_mishaps : Plan → Node → Mishaps
 few_mishaps plan node = if has_few_members plan node then counted FewMembers no_mishaps else no_mishaps
 
+abbrev pub epoch_mishaps : Node → Mishaps
+epoch_mishaps node = if is_some node.installed then no_mishaps else counted FewMembers no_mishaps
+
 abbrev pub mishaps_of_call : Plan → ℕ → Node → NodeCall → Mishaps
 mishaps_of_call plan seconds node (Deliver mail) = if nat_le end_of_dates seconds then counted Year (few_mishaps plan node) else few_mishaps plan node
+mishaps_of_call plan seconds node (Login user proof) = epoch_mishaps node
+mishaps_of_call plan seconds node (Fetch user id from most) = epoch_mishaps node
 mishaps_of_call plan seconds node (Strike user items) = few_mishaps plan node
-mishaps_of_call plan seconds node call = no_mishaps
+mishaps_of_call plan seconds node (Leave user) = no_mishaps
 
 abbrev pub fails_at_once : Plan → ℕ → Node → NodeCall → Bool
 fails_at_once plan seconds node call = nat_lt 0 (mishaps_of (mishaps_of_call plan seconds node call))

@@ -1,16 +1,16 @@
 -- What holds of worlds, whatever steps are made.
 use Rattle.std.specs.Prelude.{◌≡◌, ◌⊎◌, ◌≤◌, ◌+◌, ℕ, Bool, zero, suc, List, [], ◌∷◌, Some}
-use Rattle.std.specs.FinMap as fin
 use Rattle.mail_model.specs.Identity.{Id}
 use Rattle.mail_model.specs.Plan.{Plan}
 use Rattle.mail_model.specs.Record.{Record}
-use Rattle.mail_model.specs.Record.Record.{Boot}
+use Rattle.mail_model.specs.Record.Record.{Boot, Promise}
 use Rattle.mail_model.specs.Told.{Mail}
 use Rattle.mail_model.specs.Mail.{IsStored}
+use Rattle.object_model.specs.Letters.{MapRow}
 use Rattle.cluster_model.specs.Cluster.{Node, Slot, slot_at}
 use Rattle.cluster_model.specs.Cluster.Life.{Up}
 use Rattle.cluster_model.specs.Parts.{IsHeldSomewhere, Sound}
-use Rattle.cluster_model.specs.Starts.{first_membership}
+use Rattle.cluster_model.specs.Starts.{first_epoch, fresh_node}
 use Rattle.cluster_model.specs.Deeds.{IsOfPlan}
 use Rattle.cluster_model.specs.World.{World, letters_of, cluster_of}
 use Rattle.cluster_model.specs.Steps.{Step, StepOutcome}
@@ -27,23 +27,20 @@ abbrev pub StepsKeepSound : Type 0
 StepsKeepSound = (plan : Plan) (tells : Bool) (old new : World) (steps : List MadeStep) → MakesAll plan tells old steps new
     → InPlan plan.nodes old.slots → Sound plan.confirm (cluster_of old) → InPlan plan.nodes new.slots × Sound plan.confirm (cluster_of new)
 
--- where a cluster opens over empty disks: each node in its first boot, which is on its disk, and in the first epoch
-abbrev pub fresh_slot : ℕ → Slot
-fresh_slot nodes = record {
-  life = Up (record { boot = 1; drawn = 0; count = 0; calls = 0; installed = Some (first_membership nodes); log = fin.empty; tickets = fin.empty });
-  disk = Boot 1 ∷ [];
-}
+-- Where a cluster opens over empty disks: each node is in its first boot and in the first epoch. Its disk has the boot, and the promise of that epoch.
+abbrev pub fresh_slot : ℕ → List MapRow → Slot
+fresh_slot nodes map = record { life = Up (fresh_node nodes map); disk = Boot 1 ∷ Promise first_epoch ∷ [] }
 
-abbrev pub fresh_slots : ℕ → ℕ → List Slot
-fresh_slots nodes zero = []
-fresh_slots nodes (suc k) = fresh_slot nodes ∷ fresh_slots nodes k
+abbrev pub fresh_slots : ℕ → List MapRow → ℕ → List Slot
+fresh_slots nodes map zero = []
+fresh_slots nodes map (suc k) = fresh_slot nodes map ∷ fresh_slots nodes map k
 
-abbrev pub opening_world : ℕ → World
-opening_world nodes = record { slots = fresh_slots nodes nodes; flying = []; sent = 0; seconds = 0; book = [] }
+abbrev pub opening_world : ℕ → List MapRow → World
+opening_world nodes map = record { slots = fresh_slots nodes map nodes; flying = []; sent = 0; seconds = 0; book = [] }
 
--- it is sound
+-- it is sound, whoever manages the users
 abbrev pub OpeningIsSound : Type 0
-OpeningIsSound = (nodes confirm : ℕ) → nodes ≤ 64 → InPlan nodes (opening_world nodes).slots × Sound confirm (cluster_of (opening_world nodes))
+OpeningIsSound = (nodes confirm : ℕ) (map : List MapRow) → nodes ≤ 64 → InPlan nodes (opening_world nodes map).slots × Sound confirm (cluster_of (opening_world nodes map))
 
 -- a message that a Deliver files has the next id of its node, and is the message that was told, at the seconds of the world
 pub record FiledBy (old : World) (own : ℕ) (mail : Mail) (id : Id) (octets : List ℕ) : Type 0 where

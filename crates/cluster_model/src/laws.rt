@@ -1,7 +1,7 @@
 // The laws of the machine: functions that do nothing, whose contracts hold of the definitions alone.
 ghost use Rattle.cluster_model.specs.Laws.{MovesKeepSound, AcknowledgedStand, AcknowledgedKept, DroppedAreGone};
 ghost use Rattle.cluster_model.specs.RuleLaws.{ConfirmsAfterRecords, ConfirmsAfterGone, DiskSaysMerge, TakesNothingTwice, CountsOnce, TargetsStay, StoredAtF, LeavesLogAtLast, AnswersSender, SendsInOrder, IdsAreNew, FetchedAsFiled};
-ghost use Rattle.cluster_model.specs.Rows.{TwoOfThree, HeardTwiceCountsOnce, TargetsMoveOn, PushedThreeTimes, LateHereChangesNothing, GoneBeforeItCame};
+ghost use Rattle.cluster_model.specs.Rows.{TwoOfThree, HeardTwiceCountsOnce, TargetsMoveOn, PushedThreeTimes, LateHereChangesNothing, GoneBeforeItCame, StartedHasNoEpoch};
 ghost use Rattle.cluster_model.specs.TicketLaws.{TargetsAreEnough, TicketsBeginFair, TicketsStayFair, FailedHasCause, AllHeardIsDone};
 ghost use Rattle.cluster_model.specs.ReadLaws.{ListedOnce, ListedNamed, OneListing};
 ghost use Rattle.cluster_model.specs.WorldLaws.{StepsKeepSound, StepsBring, OpeningIsSound};
@@ -234,6 +234,11 @@ pub fn late_here_changes_nothing()
 /// A worked case: a message of which a node hears first that it is deleted leaves no octets there.
 pub fn gone_before_it_came()
     ensures { GoneBeforeItCame }
+{}
+
+/// A worked case: a node that started has no epoch: it throws a letter as stale, and a call there fails at once.
+pub fn started_has_no_epoch()
+    ensures { StartedHasNoEpoch }
 {}
 
 /// Where the epoch has F members, a delivery asks F nodes at least, and so does each item of a deletion.

@@ -40,7 +40,7 @@ use Rattle.cluster_owes.specs.Outcomes.{BegunCall}
 use Rattle.cluster_owes.proofs.Masks.{IsMask}
 use Rattle.cluster_owes.proofs.Standing.{StandsAs}
 use Rattle.cluster_owes.proofs.Books.{AreMasked, AreDeletions, masked_for, acked_for, struck_for, dropped_for, entry_for, done_entries, book_acknowledged, book_dropped}
-use Rattle.cluster_owes.proofs.Known.{Filed, filing_of, AnswerStands, TicketFits, AckStands, Known, HoldsNoMore, answer_stays}
+use Rattle.cluster_owes.proofs.Known.{Filed, filing_of, AnswerStands, ReadingFits, TicketFits, AckStands, Known, HoldsNoMore, answer_stays}
 use Rattle.cluster_owes.proofs.QuietSteps.{StepKept, step_kept, no_brings, failed_drops, failed_acks, failed_stands}
 use Rattle.cluster_owes.proofs.Answering.{ticket_stands, unread, done_same, answered_so, failed_so, apart_same, others_push, quiet_answer, told_answer, old_acks, stands_not}
 
@@ -188,11 +188,17 @@ module _ (plan : Plan) (tells : Bool) (lines : List (List ℕ)) (asked : List As
       (quiet call (found_told found) (ap (λ a. entries_with a stood) (read_is found same)) (no_drops call found) (no_acks call found never)
       (answer_stays tells old.slots new.slots kept.grew call (found_told found) so))
 
+  reading : (call : Call) → ((mail : Mail) → call ≡ Deliver mail → ⊥) → ReadingFits tells old.slots call stood → Told call (answer_told own)
+  reading call never fits = ⊎_elim
+      (λ none. failed call (stood.mishaps, failed_so plan.confirm stood.mishaps stood.wants own none.1 (sym (unread plan.confirm stood none.0) ∙ e)))
+      (λ (found, is, so). read call found never is so)
+      fits
+
   pub any_answer : (one : BegunCall) → one.ticket ≡ number → one.session ≡ k → IsSoundMail one.call → (call : Call) → one.call ≡ call → TicketFits lines tells old.slots known.files one call stood
       → Told call (answer_told own)
   any_answer one at by sound (Deliver mail) same fits = delivered mail one at by (subst IsSoundMail same sound) fits
-  any_answer one at by sound (Login user given) same fits = read (Login user given) fits.0 (λ mail e. cc e) fits.1 fits.2
-  any_answer one at by sound (Fetch user id) same fits = read (Fetch user id) fits.0 (λ mail e. cc e) fits.1 fits.2
+  any_answer one at by sound (Login user given) same fits = reading (Login user given) (λ mail e. cc e) fits
+  any_answer one at by sound (Fetch user id) same fits = reading (Fetch user id) (λ mail e. cc e) fits
   any_answer one at by sound (Strike user ids) same fits = struck user ids one fits
 
 pub known_answers : (plan : Plan) (tells : Bool) (lines : List (List ℕ)) (asked : List Asked) (answered : List Answered) (begun : List BegunCall) (old new : World) (k : ℕ) (call : Call) (number : Number) (own : NodeAnswer)

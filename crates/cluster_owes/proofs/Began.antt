@@ -160,8 +160,8 @@ module _ (plan : Plan) (tells : Bool) (lines : List (List ℕ)) (asked : List As
   says_fell said fall (FailsAtOnce node disk kind up of_kind fails is new_world) = absurd (subst (λ s. IsFall (Says s)) is fall)
   says_fell said fall (Goes node disk octets up fails filed is new_world) = absurd (subst (λ s. IsFall (Says s)) is fall)
   says_fell said fall (FailsInIt node disk octets up filed is g) = fell_in call is_call (down_in call node disk _ own up g)
-  says_fell said fall (Reads node disk kind what up alone of_kind finds is new_world) = absurd (subst (λ s. IsFall (Says s)) is fall)
-  says_fell said fall (FailsReading node disk user id from most up alone reads is new_world) =
+  says_fell said fall (Reads node disk kind what up alone goes of_kind finds is new_world) = absurd (subst (λ s. IsFall (Says s)) is fall)
+  says_fell said fall (FailsReading node disk user id from most up alone goes reads is new_world) =
       fell_in (FetchCall user id from most) (ap call_made (sym reads) ∙ is_call) (cut_goes old new own node disk [] [] up new_world)
   says_fell said fall (Leaves node disk user up alone leaves is new_world) = absurd (subst (λ s. IsFall (Says s)) is fall)
 

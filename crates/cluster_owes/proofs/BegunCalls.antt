@@ -1,5 +1,5 @@
 -- Each kind of call that begins: what is known then.
-use Rattle.std.proofs.Common.{◌≡◌, inl, inr, ⊎_elim, ◌≤◌, ◌+◌, ℕ, Bool, true, false, List, [], ◌∷◌, ◌++◌, map, Some, None, refl, sym, ap, ◌∙◌, subst, arith, le_refl, le_trans, true≢false, if◌then◌else◌}
+use Rattle.std.proofs.Common.{◌≡◌, inl, inr, ⊎_elim, ◌≤◌, ◌+◌, ℕ, Bool, true, false, List, [], ◌∷◌, ◌++◌, map, Some, None, refl, sym, ap, ◌∙◌, subst, arith, le_refl, le_trans, if◌then◌else◌}
 use Rattle.mail_model.specs.Identity.{Id}
 use Rattle.mail_model.specs.Plan.{Plan}
 use Rattle.mail_model.specs.Record.{Record}
@@ -10,7 +10,7 @@ use Rattle.object_model.specs.Letters.{Number}
 use Rattle.object_model.specs.Mishaps.{no_mishaps}
 use Rattle.object_model.specs.Sets.{has, one_node, nodes_in}
 use Rattle.object_model.proofs.Lists.{among_behind}
-use Rattle.session_model.specs.Calls.{Call}
+use Rattle.session_model.specs.Calls.{Call, given_of}
 use Rattle.session_model.specs.Calls.Call.{Deliver, Login, Fetch, Strike}
 use Rattle.session_model.specs.Logs.{Asked, Answered}
 use Rattle.session_model.specs.SoundMails.{IsSoundMail}
@@ -48,8 +48,13 @@ refused_fits plan lines tells slots files last seconds node (DeliverCall mail) m
     subst (λ c. TicketFits lines tells slots files last c ticket) (let same : Deliver mail ≡ made = cc is in same) (found, inl wants)
 refused_fits plan lines tells slots files last seconds node (StrikeCall user items) made is fails ticket wants found =
     subst (λ c. TicketFits lines tells slots files last c ticket) (let same : Strike user (map (λ item. item.id) items) ≡ made = cc is in same) (found, inl wants)
-refused_fits plan lines tells slots files last seconds node (LoginCall user proof) made is fails ticket wants found = absurd (true≢false (sym fails))
-refused_fits plan lines tells slots files last seconds node (FetchCall user id from most) made is fails ticket wants found = absurd (true≢false (sym fails))
+refused_fits plan lines tells slots files last seconds node (LoginCall user proof) made is fails ticket wants found =
+    subst (λ c. TicketFits lines tells slots files last c ticket) (let same : Login user (given_of proof) ≡ made = cc is in same) (inl (found, wants))
+refused_fits plan lines tells slots files last seconds node (FetchCall user id from most) made is fails ticket wants found = by (is_whole from most) is
+  where
+    by : (b : Bool) → (if b then Some (Fetch user id) else None) ≡ Some made → TicketFits lines tells slots files last made ticket
+    by true e = subst (λ c. TicketFits lines tells slots files last c ticket) (let same : Fetch user id ≡ made = cc e in same) (inl (found, wants))
+    by false e = absurd (cc e)
 refused_fits plan lines tells slots files last seconds node (Leave user) made is fails ticket wants found = absurd (cc is)
 
 module _ (plan : Plan) (tells : Bool) (lines : List (List ℕ)) (asked : List Asked) (answered : List Answered) (begun : List BegunCall) (old new : World)
@@ -157,8 +162,8 @@ module _ (plan : Plan) (tells : Bool) (lines : List (List ℕ)) (asked : List As
       → AnswerStands tells new.slots made (found_told what) → TicketFits lines tells new.slots known.files (last made) made ticket
   read_fits (Deliver mail) what ticket found deliver strike so = absurd (deliver mail refl)
   read_fits (Strike user ids) what ticket found deliver strike so = absurd (strike user ids refl)
-  read_fits (Login user given) what ticket found deliver strike so = (what, found, so)
-  read_fits (Fetch user id) what ticket found deliver strike so = (what, found, so)
+  read_fits (Login user given) what ticket found deliver strike so = inr (what, found, so)
+  read_fits (Fetch user id) what ticket found deliver strike so = inr (what, found, so)
 
   reads_not_deliver : (call : NodeCall) (made : Call) (what : Found) (disk : List Record) → call_made call ≡ Some made → IsFound plan tells disk call what → (mail : Mail) → made ≡ Deliver mail → ⊥
   reads_not_deliver (DeliverCall mail) made what disk is_call finds other same = finds
@@ -201,14 +206,14 @@ module _ (plan : Plan) (tells : Bool) (lines : List (List ℕ)) (asked : List As
           (refused_fits plan lines tells new.slots known.files (last made) old.seconds node call made is_call fails (record { kind = kind; wants = []; mishaps = mishaps_of_call plan old.seconds node call; found = None }) refl refl)
       by (Goes node disk octets up fails filed is new_world) = goes call made is_call did sound taken node disk octets up filed (number_of node is) new_world
       by (FailsInIt node disk octets up filed is g) = absurd (cc is)
-      by (Reads node disk kind what up alone of_kind finds is new_world) =
+      by (Reads node disk kind what up alone goes of_kind finds is new_world) =
           begins_empty plan tells lines asked answered begun old new known k own call made is_call number did sound taken node disk up (begin_read kind what node disk)
           (record { kind = kind; wants = []; mishaps = no_mishaps; found = Some what }) refl refl refl
           (new_world ∙ ap (λ (w : World). after w own (begin_read kind what node disk)) (sym (unstruck call what disk finds))) (number_of node is)
           (read_fits made what (record { kind = kind; wants = []; mishaps = no_mishaps; found = Some what }) refl (reads_not_deliver call made what disk is_call finds) (reads_not_strike call made what disk is_call finds)
           (answer_stays tells old.slots new.slots (step_kept_is plan tells lines asked answered begun old new known k own call made is_call number did sound taken).grew made (found_told what)
           (found_stands plan tells old.slots own node disk up call made what is_call finds)))
-      by (FailsReading node disk user id from most up alone reads is new_world) = absurd (cc is)
+      by (FailsReading node disk user id from most up alone goes reads is new_world) = absurd (cc is)
       by (Leaves node disk user up alone leaves is new_world) = absurd (cc is)
 
   pub known_fell : (call : NodeCall) (made : Call) (outcome : StepOutcome) → call_made call ≡ Some made → IsFall outcome → MakesStep plan tells old (Begin own call) outcome new

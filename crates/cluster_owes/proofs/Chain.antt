@@ -1,6 +1,7 @@
 -- What is known after all steps, from the opening on.
 use Rattle.std.proofs.Common.{inl, ◌≤◌, ℕ, Bool, List, [], ◌∷◌, ◌++◌, flat_map, refl, sym, subst, append_assoc, append-nil}
 use Rattle.mail_model.specs.Plan.{Plan}
+use Rattle.object_model.specs.Letters.{MapRow}
 use Rattle.session_model.specs.Calls.Answer.{Failed}
 use Rattle.session_model.specs.Logs.{Asked, Answered}
 use Rattle.cluster_model.specs.World.{World}
@@ -62,8 +63,8 @@ module _ (plan : Plan) (tells : Bool) (lines : List (List ℕ)) where
       )
 
   -- where it opens nothing was asked
-  opens_knowing : plan.nodes ≤ 64 → Knows [] [] [] (opening_world plan.nodes)
-  opens_knowing le = let both = opening_sound plan.nodes plan.confirm le in record {
+  opens_knowing : (map : List MapRow) → plan.nodes ≤ 64 → Knows [] [] [] (opening_world plan.nodes map)
+  opens_knowing map le = let both = opening_sound plan.nodes plan.confirm map le in record {
     in_plan = both.0;
     sound = both.1;
     clock = inl refl;
@@ -81,6 +82,6 @@ module _ (plan : Plan) (tells : Bool) (lines : List (List ℕ)) where
     answers = λ one m. absurd m;
   }
 
-  pub known_last : (outcomes : List Outcome) (last : World) → plan.nodes ≤ 64 → AreOfSessions lines outcomes → Makes plan tells outcomes [] (opening_world plan.nodes) last
+  pub known_last : (map : List MapRow) (outcomes : List Outcome) (last : World) → plan.nodes ≤ 64 → AreOfSessions lines outcomes → Makes plan tells outcomes [] (opening_world plan.nodes map) last
       → (all : List BegunCall) × Knows (flat_map asked_by_outcome outcomes) (flat_map answered_by_outcome outcomes) all last
-  known_last outcomes last le of makes = all_known outcomes [] [] [] (opening_world plan.nodes) last of makes (opens_knowing le)
+  known_last map outcomes last le of makes = all_known outcomes [] [] [] (opening_world plan.nodes map) last of makes (opens_knowing map le)

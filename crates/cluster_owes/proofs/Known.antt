@@ -73,12 +73,17 @@ DeliveryFits lines files one mail wants = (wants ≡ [])
     ⊎ ((f : Filed) × (want : Want) × Among f files × (f.ticket ≡ one.ticket) × (f.mail ≡ mail) × (wants ≡ want ∷ []) × (want.asked ≡ Copies (filing_of f)) × IsMask want.confirmed
     × (kind_at (opened lines) one.session ≡ Some (Smtp, f.id.node)) × IsOnClock lines f.seconds)
 
+-- a call that reads failed at once, or has what it found
+abbrev pub ReadingFits : Bool → List Slot → Call → Ticket → Type 0
+ReadingFits tells slots call ticket = ((ticket.found ≡ None) × (ticket.wants ≡ []))
+    ⊎ ((found : Found) × (ticket.found ≡ Some found) × AnswerStands tells slots call (found_told found))
+
 -- the ticket is that of the call
 abbrev pub TicketFits : List (List ℕ) → Bool → List Slot → List Filed → BegunCall → Call → Ticket → Type 0
 TicketFits lines tells slots files one (Deliver mail) ticket = (ticket.found ≡ None) × DeliveryFits lines files one mail ticket.wants
 TicketFits lines tells slots files one (Strike user ids) ticket = (ticket.found ≡ None) × ((ticket.wants ≡ []) ⊎ AreDeletions user ids ticket.wants)
-TicketFits lines tells slots files one (Login user given) ticket = (found : Found) × (ticket.found ≡ Some found) × AnswerStands tells slots (Login user given) (found_told found)
-TicketFits lines tells slots files one (Fetch user id) ticket = (found : Found) × (ticket.found ≡ Some found) × AnswerStands tells slots (Fetch user id) (found_told found)
+TicketFits lines tells slots files one (Login user given) ticket = ReadingFits tells slots (Login user given) ticket
+TicketFits lines tells slots files one (Fetch user id) ticket = ReadingFits tells slots (Fetch user id) ticket
 
 -- no two of them have one id
 abbrev pub AreApart : List Filed → Type 0
@@ -183,6 +188,12 @@ deletions_same user (id ∷ ids) [] new s a = absurd a
 deletions_same user (id ∷ ids) (old ∷ olds) [] s a = absurd s
 deletions_same user (id ∷ ids) (old ∷ olds) (new ∷ news) s a = (sym s.0.asked ∙ a.0, s.0.mask a.1, deletions_same user ids olds news s.1 a.2)
 
+reading_still : (tells : Bool) (old new : List Slot) (call : Call) (before after : Ticket) → ClusterGrew old new → SameCall before after → ReadingFits tells old call before → ReadingFits tells new call after
+reading_still tells old new call before after grew same fits = ⊎_elim
+    (λ none. inl (sym same.found ∙ none.0, none_same before.wants after.wants same.wants none.1))
+    (λ (found, is, so). inr (found, sym same.found ∙ is, answer_stays tells old new grew call (found_told found) so))
+    fits
+
 pub fits_still : (lines : List (List ℕ)) (tells : Bool) (old new : List Slot) (files others : List Filed) → ((f : Filed) → Among f files → Among f others)
     → (one : BegunCall) (call : Call) (before after : Ticket) → ClusterGrew old new → SameCall before after
     → TicketFits lines tells old files one call before → TicketFits lines tells new others one call after
@@ -202,8 +213,8 @@ fits_still lines tells old new files others within one (Strike user ids) before 
       (λ are. inr (deletions_same user ids before.wants after.wants same.wants are))
       fits.1,
 )
-fits_still lines tells old new files others within one (Login user given) before after grew same fits = (fits.0, sym same.found ∙ fits.1, answer_stays tells old new grew (Login user given) (found_told fits.0) fits.2)
-fits_still lines tells old new files others within one (Fetch user id) before after grew same fits = (fits.0, sym same.found ∙ fits.1, answer_stays tells old new grew (Fetch user id) (found_told fits.0) fits.2)
+fits_still lines tells old new files others within one (Login user given) before after grew same fits = reading_still tells old new (Login user given) before after grew same fits
+fits_still lines tells old new files others within one (Fetch user id) before after grew same fits = reading_still tells old new (Fetch user id) before after grew same fits
 
 -- no octets are held after that were not held before
 abbrev pub HoldsNoMore : World → World → Type 0

@@ -1,6 +1,6 @@
 -- In a plan of one node the node itself is asked, and confirms as a call begins.
 use Rattle.std.proofs.Common.{◌≡◌, inl, inr, ◌≤◌, ◌+◌, ◌-◌, ◌%◌, ℕ, zero, suc, Bool, true, false, not, List, [], ◌∷◌, ◌++◌, length, map, take, refl, sym, ap, ◌∙◌, subst, arith, true≢false, if◌then◌else◌}
-use Rattle.std.specs.Prelude.{nat_lt, nat_le}
+use Rattle.std.specs.Prelude.{max, nat_lt, nat_le}
 use Rattle.mail_model.specs.Told.{Mail}
 use Rattle.object_model.specs.Mishaps.{no_mishaps, counted, mishaps_of}
 use Rattle.object_model.specs.Mishaps.MishapKind.{FewMembers, Year}
@@ -59,7 +59,7 @@ own_confirms targets e = rw e (one_has 0 (omega arith))
 
 module _ (plan : Plan) (one : plan.nodes ≡ 1) (sure : plan.confirm ≡ 1) (some : 1 ≤ plan.copies) (own : ℕ) (own_is : own ≡ 1) (seconds : ℕ) (node : Node) where
   members : has_few_members plan node ≡ false → nodes_in (members_of node) plan.nodes ≡ 1 ∷ []
-  members few = one_member (members_of node) plan.nodes plan.confirm one sure few
+  members few = one_member (members_of node) plan.nodes (max 1 plan.confirm) one (ap (max 1) sure) few
 
   pub delivery_sure : (mail : Mail) → fails_at_once plan seconds node (Deliver mail) ≡ false → has (if has (targets_for plan own node) own then one_node own else 0) 1 ≡ true
   delivery_sure mail fails =

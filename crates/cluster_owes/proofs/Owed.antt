@@ -12,8 +12,8 @@ use Rattle.cluster_owes.proofs.Chain.{known_last}
 use Rattle.cluster_owes.proofs.Owing.{one_content, all_standing, owes_stored, owes_deletions, owes_parts, owes_book}
 
 pub cluster_owes : ClusterOwes
-cluster_owes plan tells lines stores disks outcomes last few makes sessions held are counted =
-    let known = known_last plan tells lines outcomes last few sessions makes in
+cluster_owes plan tells map lines stores disks outcomes last few makes sessions held are counted =
+    let known = known_last plan tells lines map outcomes last few sessions makes in
     let asked = flat_map asked_by_outcome outcomes in
     let answered = flat_map answered_by_outcome outcomes in
     record {
@@ -46,6 +46,6 @@ answer_among (outcome ∷ outcomes) k asked ticket given m = ⊎_elim
     m
 
 pub answers_fit : AnswersFit
-answers_fit plan tells lines outcomes last few makes sessions k asked ticket given m =
-    let known = known_last plan tells lines outcomes last few sessions makes in
+answers_fit plan tells map lines outcomes last few makes sessions k asked ticket given m =
+    let known = known_last plan tells lines map outcomes last few sessions makes in
     (known.1.answers (record { session = k; call = asked; answer = given }) (answer_among outcomes k asked ticket given m)).0

@@ -8,7 +8,7 @@ use Rattle.mail_model.specs.Plan.{Plan}
 use Rattle.mail_model.specs.Record.{Record}
 use Rattle.object_model.specs.Lists.{Among}
 use Rattle.object_model.specs.Sets.{has, count_in, count_below}
-use Rattle.object_model.specs.Letters.{Number}
+use Rattle.object_model.specs.Letters.{Number, MapRow}
 use Rattle.object_model.proofs.SetLaws.{has_one}
 use Rattle.cluster_model.specs.Reads.{Found}
 use Rattle.cluster_model.specs.Cluster.{Want, Ticket, Node, Slot, slot_at}
@@ -122,9 +122,9 @@ module _ (plan : Plan) (tells : Bool) (one : plan.nodes ≡ 1) (sure_of : plan.c
         (subst AreSure (sym (struck_same old call)) s.sure) (λ want m. absurd m))
     begins_sure own call said (Goes node disk octets up fails filed is new_world) = goes_sure own call node disk octets up fails filed new_world
     begins_sure own call said (FailsInIt node disk octets up filed is g) = down_sure own call node disk _ up g
-    begins_sure own call said (Reads node disk kind found up alone of_kind finds is new_world) = subst (λ (w : World). AreSure w.slots) (sym new_world)
+    begins_sure own call said (Reads node disk kind found up alone goes of_kind finds is new_world) = subst (λ (w : World). AreSure w.slots) (sym new_world)
         (begun_sure old own node disk (begin_read kind found node disk) _ up refl refl refl s.sure (λ want m. absurd m))
-    begins_sure own call said (FailsReading node disk user id from most up alone reads is new_world) =
+    begins_sure own call said (FailsReading node disk user id from most up alone goes reads is new_world) =
         quiet_sure old.slots new.slots (cut_goes old new own node disk [] [] up new_world).goes.tickets s.sure
     begins_sure own call said (Leaves node disk user up alone leaves is new_world) = subst (λ (w : World). AreSure w.slots) (sym new_world) s.sure
 
@@ -188,22 +188,22 @@ module _ (plan : Plan) (tells : Bool) (one : plan.nodes ≡ 1) (sure_of : plan.c
   none_among (outcome ∷ more) begun old last s (mid, came, rest) ticket got wanted (inr m) =
       none_among more (begun ++ begun_by_outcome outcome) mid last (came_surely old mid s outcome begun came) rest ticket got wanted m
 
-  fresh_sure : AreSure (opening_world 1).slots
-  fresh_sure number ticket s = absurd (at number.node s.up)
+  fresh_sure : (map : List MapRow) → AreSure (opening_world 1 map).slots
+  fresh_sure map number ticket s = absurd (at number.node s.up)
     where
       clash : (o : Option Ticket) → o ≡ None → o ≡ Some ticket → ⊥
       clash o p q = cc
 
-      fresh : ◌≡◌ {A = Option Slot} (Some (fresh_slot 1)) (Some (slot_up s.node s.disk)) → ⊥
+      fresh : ◌≡◌ {A = Option Slot} (Some (fresh_slot 1 map)) (Some (slot_up s.node s.disk)) → ⊥
       fresh e = clash (fin.get (fin.empty {R = nat_cmp}) number.seq) (fin.get-empty nat_cmp number.seq) (ap (λ (n : Node). fin.get n.tickets number.seq) (same_up _ s.node _ s.disk e) ∙ s.here)
 
-      at : (n : ℕ) → slot_at (opening_world 1).slots n ≡ Some (slot_up s.node s.disk) → ⊥
+      at : (n : ℕ) → slot_at (opening_world 1 map).slots n ≡ Some (slot_up s.node s.disk) → ⊥
       at zero e = cc
       at (suc zero) e = fresh e
       at (suc (suc k)) e = cc
 
 pub none_waits : NoneWaits
-none_waits plan tells outcomes last one sure some makes ticket got wanted m =
-    let both = opening_sound plan.nodes plan.confirm (let e : plan.nodes ≤ 64 = omega (arith, one) in e) in
-    none_among plan tells one sure some outcomes [] (opening_world plan.nodes) last
-    (record { in_plan = both.0; sound = both.1; sure = subst (λ n. AreSure (opening_world n).slots) (sym one) (fresh_sure plan tells one sure some) }) makes ticket got wanted m
+none_waits plan tells map outcomes last one sure some makes ticket got wanted m =
+    let both = opening_sound plan.nodes plan.confirm map (let e : plan.nodes ≤ 64 = omega (arith, one) in e) in
+    none_among plan tells one sure some outcomes [] (opening_world plan.nodes map) last
+    (record { in_plan = both.0; sound = both.1; sure = subst (λ n. AreSure (opening_world n map).slots) (sym one) (fresh_sure plan tells one sure some map) }) makes ticket got wanted m

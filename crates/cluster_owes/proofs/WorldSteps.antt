@@ -157,7 +157,7 @@ posts_go plan old new number keep said (FailsForMaps flies node disk promise up 
 
 -- a node starts
 module _ (old : World) (n : ℕ) (disk pending : List Record) (node : Node) (records : List Record) (here : slot_at old.slots n ≡ Some (record { life = Down pending; disk = disk }))
-    (rises : boot_of disk ≤ boot_of (disk ++ pending)) (nodes : ℕ) (starts : StartsNode n nodes disk pending node records) where
+    (rises : boot_of disk ≤ boot_of (disk ++ pending)) (starts : StartsNode n disk pending node records) where
   boot_is : node.boot ≡ boot_of (disk ++ starts.kept) + 1
   boot_is = ap (λ (x : Node). x.boot) starts.is
 
@@ -220,8 +220,8 @@ module _ (plan : Plan) (tells : Bool) (old new : World) (sound : Sound plan.conf
   leaves_go user node said (FailsAtOnce own disk kind up of_kind fails is new_world) = absurd (cc of_kind)
   leaves_go user node said (Goes own disk octets up fails filed is new_world) = absurd filed
   leaves_go user node said (FailsInIt own disk octets up filed is g) = absurd filed
-  leaves_go user node said (Reads own disk kind what up one of_kind finds is new_world) = absurd (cc of_kind)
-  leaves_go user node said (FailsReading own disk other id from most up one reads is new_world) = absurd (cc reads)
+  leaves_go user node said (Reads own disk kind what up one goes of_kind finds is new_world) = absurd (cc of_kind)
+  leaves_go user node said (FailsReading own disk other id from most up one goes reads is new_world) = absurd (cc reads)
   leaves_go user node said (Leaves own disk other up one leaves is new_world) = same_world old new new_world
 
   asks_go : (ticket : Number) (said : Said) → IsIdleStep (AskFor ticket) (Says said) → AnswersAsk plan old ticket said new → OtherGoes old new
@@ -247,7 +247,7 @@ module _ (plan : Plan) (tells : Bool) (old new : World) (sound : Sound plan.conf
 
   starts_go : (n : ℕ) (said : Said) → StartsUp plan old n said new → OtherGoes old new
   starts_go n said (Comes disk pending node records here starts below is new_world) = subst (λ (w : World). OtherGoes old w) (sym new_world)
-      (comes_goes old n disk pending node records here (sound.order.each n (record { life = Down pending; disk = disk }) here).rises plan.nodes starts)
+      (comes_goes old n disk pending node records here (sound.order.each n (record { life = Down pending; disk = disk }) here).rises starts)
   starts_go n said (FailsStarting disk pending next records here stops is new_world) = stops_go n disk pending next records here new_world
 
   does_go : (step : Step) (said : Said) → IsIdleStep step (Says said) → DoesStep plan tells old step said new → OtherGoes old new

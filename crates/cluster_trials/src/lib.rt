@@ -7,11 +7,12 @@
 //!
 //! DESCRIPTION
 //!
-//! The clusters of the tests have three nodes, with the one user ann; two nodes have to confirm a message.
+//! The clusters of the tests have three nodes, and one has four, with the one user ann; two nodes have to confirm a message.
 //!
 //! | Table | What is tried |
 //! |---|---|
 //! | `tests/steps.rt` | each step where it does its work, and each refusal that can be reached; a node that is lost, a copy that is widened, a letter that is heard twice, and 65,536 letters in flight |
+//! | `tests/groups.rt` | two groups whose letters interleave, in each order of their asking, joining and installing; nodes that stop in a round; regroups, also of two nodes of four |
 //! | `tests/orders.rt` | the first six letters of a message in each order, with each drop, for two copies and for three |
 //! | `tests/faults.rt` | each call of each disk failing in turn, from the opening of the cluster to the end of a delivery |
 //! | `tests/telling.rt` | several steps in one call, posting all letters, and what a cluster tells of its calls, letters and members |
@@ -24,7 +25,8 @@
 //!
 //! COSTS
 //!
-//! The three copies have 10,872 orders, and the two copies 2,104. Each is driven in a cluster of its own.
+//! The three copies have 10,872 orders, and the two copies 2,104; two groups have some thousands. Each is driven in a cluster of
+//! its own.
 //!
 //! STANDS ON
 //!

@@ -5,6 +5,7 @@ ghost use Rattle.cluster_world.specs.Opens.{CanBeOpened};
 ghost use Rattle.cluster_trials.specs.Disks.{octets_told};
 
 mod faults;
+mod groups;
 mod journals;
 mod orders;
 mod steps;
@@ -12,7 +13,7 @@ mod telling;
 
 use crate::open_fresh;
 use call_tickets::{Answer, Ask, Call};
-use cluster_world::{OpenFault, Said, Step, StepFault, World};
+use cluster_world::{OpenFault, Regroup, Said, Step, StepFault, World};
 use io_edge::Disk;
 use mail_base::{Deliver, MsgId, Name, Names, NodeNo, Octets, Plan, Secret, Ticket, Users};
 use node_core::Why;
@@ -34,23 +35,34 @@ fn ann(alloc: Global) -> Result<Name, AllocError> {
     }
 }
 
-/// A plan of three nodes, with the one user ann. Two nodes have to confirm a message.
-fn plan(alloc: Global, copies: u8) -> Result<Plan, AllocError>
+/// A plan of so many nodes, with the one user ann. Two nodes have to confirm a message.
+fn plan_of(alloc: Global, nodes: u8, copies: u8) -> Result<Plan, AllocError>
     requires some { 2 ≤ copies }
-    requires most { copies ≤ 3 }
+    requires most { copies ≤ nodes }
+    requires few { nodes ≤ 16 }
     ensures fit { IfOk result (λ plan. CanBeOpened plan) }
-    ensures nodes { IfOk result (λ plan. plan.nodes ≡ 3) }
+    ensures nodes { IfOk result (λ plan. plan.nodes ≡ nodes) }
 {
     let mut users = Users::new(alloc);
     users.insert(ann(alloc)?, Secret::read(alloc, b"open sesame")?.unwrap())?;
     Ok(Plan {
-        nodes: 3,
+        nodes,
         copies,
         confirm: 2,
         buckets: 1,
         users,
         postmaster: ann(alloc)?,
     })
+}
+
+/// The same of three nodes.
+fn plan(alloc: Global, copies: u8) -> Result<Plan, AllocError>
+    requires some { 2 ≤ copies }
+    requires most { copies ≤ 3 }
+    ensures fit { IfOk result (λ plan. CanBeOpened plan) }
+    ensures nodes { IfOk result (λ plan. plan.nodes ≡ 3) }
+{
+    plan_of(alloc, 3, copies)
 }
 
 /// A cluster of that plan over empty disks in memory. Of the disk of the node `weak` this call fails.
@@ -144,6 +156,8 @@ fn step_of(alloc: Global, what: u8, first: u8, second: u8) -> Result<Step, Alloc
             id: first_id(),
             to: two,
         },
+        b'g' => Step::Group { node: one },
+        b'c' => Step::Conclude { node: one },
         b'C' => Step::Crash { node: one },
         b'S' => Step::Start { node: one },
         _ => Step::Lose { node: one },
@@ -181,7 +195,10 @@ fn told_why(why: Why) -> [u8; 2] {
     match why {
         Why::Down => *b"Td",
         Why::Late => *b"Tl",
-        Why::Stale | Why::Old | Why::NotPromised | Why::NotMember => *b"T?",
+        Why::Stale => *b"Ts",
+        Why::Old => *b"To",
+        Why::NotPromised => *b"Tp",
+        Why::NotMember => *b"Tm",
     }
 }
 
@@ -194,6 +211,8 @@ fn told_said(said: &Said) -> [u8; 2] {
         Said::Thrown(why) => told_why(*why),
         Said::Sent { letters } => [b'L', digit(*letters)],
         Said::Widened(did) => { if *did { *b"Wy" } else { *b"Wn" } }
+        Said::Grouped(epoch) => [b'g', digit(epoch.count)],
+        Said::Concluded { members, .. } => [b'c', digit(u64::from(members.mask()))],
         Said::NodeUp { boot } => [b'U', digit(u64::from(*boot))],
         Said::Done => *b"..",
         Said::Faulted(node) => [b'!', digit(u64::from(node.number()))],
@@ -208,6 +227,7 @@ fn told_fault(fault: StepFault) -> [u8; 2] {
         StepFault::NodeUp => *b"up",
         StepFault::NoSuchLetter => *b"l?",
         StepFault::NoSuchTicket => *b"t?",
+        StepFault::NotAGroup => *b"ng",
         StepFault::Worn => *b"wo",
         StepFault::NoRoom => *b"ro",
         StepFault::NoMemory { .. } => *b"me",
@@ -222,7 +242,18 @@ fn told(came: &Result<Said, StepFault>) -> [u8; 2] {
     }
 }
 
-/// Makes the step that three letters tell, and tells what came of it.
+/// What came of a regroup, in two letters: the count of its epoch and the set of its members.
+fn told_regroup(came: &Result<Regroup, StepFault>) -> [u8; 2] {
+    match came {
+        Ok(Regroup::Formed { epoch, members }) => {
+            [digit(epoch.count), digit(u64::from(members.mask()))]
+        }
+        Ok(Regroup::Fault(node)) => [b'!', digit(u64::from(node.number()))],
+        Err(fault) => told_fault(*fault),
+    }
+}
+
+/// Makes the step that three letters tell, or the regroup, and tells what came of it.
 fn make<D: Disk>(
     alloc: Global,
     world: &mut World<D>,
@@ -233,6 +264,9 @@ fn make<D: Disk>(
     requires { CanMakeSteps D.seen world.old }
     ensures { CanMakeSteps D.seen world.new }
 {
+    if what == b'R' {
+        return Ok(told_regroup(&world.regroup(alloc, node(count(first)))));
+    }
     let step = step_of(alloc, what, first, second)?;
     Ok(told(&world.step(alloc, step)))
 }

@@ -19,11 +19,13 @@ use Rattle.cluster_model.specs.Makes.{IsWorkCut}
 use Rattle.cluster_model.specs.Steps.{is_node}
 use Rattle.disk_journal.specs.Journal.{TellsJournal, EndsAt}
 use Rattle.node_store.specs.Disks.{View}
-use Rattle.node_core.specs.Nodes.{node_seen, NodeKeeps, end_in, CanWork, IsNodeOf, IsSameNode, IsAsBefore}
+use Rattle.node_core.specs.Nodes.{node_seen, NodeKeeps, end_in, IsNodeOf, IsSameNode, IsAsBefore}
 use Rattle.node_core.specs.Starting.{MayHold}
 use Rattle.node_core.specs.Works.{Rule, NodeDid, NodeStopped, IsOnlyRead}
 use Rattle.node_core.specs.declared.fault.NodeFault.{NodeFault}
 use Rattle.node_core.specs.declared.node.Node.{Node}
+use Rattle.whole_node.specs.Nodes.{WholeWorks}
+use Rattle.whole_node.specs.declared.node.WholeNode.{WholeNode}
 use Rattle.world_book.specs.declared.book.Book.{Book}
 use Rattle.cluster_world.specs.Flights.{InFlight}
 use Rattle.cluster_world.specs.Lives.{life_seen, of_node, falls_left, all_falls_left, CanWorkOn}
@@ -39,7 +41,7 @@ use Rattle.cluster_world.specs.declared.life.Life.{Life}
 use Rattle.cluster_world.specs.declared.life.Life.TheVariants.{Up, Down, Lost}
 use Rattle.cluster_world.specs.declared.nodes.Nodes.{Nodes}
 use Rattle.cluster_world.specs.declared.step.Step.{Step}
-use Rattle.cluster_world.specs.declared.step.Step.TheVariants.{Begin, Ask, GiveUp, Post, Drop, Push, Widen, Crash, Start, Lose, Tick}
+use Rattle.cluster_world.specs.declared.step.Step.TheVariants.{Begin, Ask, GiveUp, Post, Drop, Push, Widen, Group, Conclude, Crash, Start, Lose, Tick}
 use Rattle.cluster_world.specs.declared.step.Said.TheVariants.{Faulted}
 use Rattle.cluster_world.specs.declared.fault.StepFault.TheVariants as fault
 use Rattle.cluster_world.proofs.Worked.{did_turned, cut_down, if_told, passed}
@@ -79,9 +81,11 @@ abbrev pub Works : Step → Type 0
 Works (Begin node call) = ⊤
 Works (Push from to) = ⊤
 Works (Widen at user id to) = ⊤
+Works (Group node) = ⊤
+Works (Conclude node) = ⊤
 Works step = ⊥
 
-pub up_of : (s : Step) (o : Option Life) → Works s → life_refusal s (seen_life o) ≡ None → (node : Node) × (o ≡ Some (Up node))
+pub up_of : (s : Step) (o : Option Life) → Works s → life_refusal s (seen_life o) ≡ None → (node : WholeNode) × (o ≡ Some (Up node))
 up_of (Begin node call) None works e = absurd (let never : Some fault.NodeLost ≡ None = e in cc)
 up_of (Begin node call) (Some (Up here)) works e = (here, refl)
 up_of (Begin node call) (Some Down) works e = absurd (let never : Some fault.NodeDown ≡ None = e in cc)
@@ -94,6 +98,14 @@ up_of (Widen at user id to) None works e = absurd (let never : Some fault.NodeLo
 up_of (Widen at user id to) (Some (Up here)) works e = (here, refl)
 up_of (Widen at user id to) (Some Down) works e = absurd (let never : Some fault.NodeDown ≡ None = e in cc)
 up_of (Widen at user id to) (Some Lost) works e = absurd (let never : Some fault.NodeLost ≡ None = e in cc)
+up_of (Group node) None works e = absurd (let never : Some fault.NodeLost ≡ None = e in cc)
+up_of (Group node) (Some (Up here)) works e = (here, refl)
+up_of (Group node) (Some Down) works e = absurd (let never : Some fault.NodeDown ≡ None = e in cc)
+up_of (Group node) (Some Lost) works e = absurd (let never : Some fault.NodeLost ≡ None = e in cc)
+up_of (Conclude node) None works e = absurd (let never : Some fault.NodeLost ≡ None = e in cc)
+up_of (Conclude node) (Some (Up here)) works e = (here, refl)
+up_of (Conclude node) (Some Down) works e = absurd (let never : Some fault.NodeDown ≡ None = e in cc)
+up_of (Conclude node) (Some Lost) works e = absurd (let never : Some fault.NodeLost ≡ None = e in cc)
 up_of (Ask ticket) o works e = absurd works
 up_of (GiveUp ticket) o works e = absurd works
 up_of (Post letter keep) o works e = absurd works
@@ -104,7 +116,7 @@ up_of (Lose node) o works e = absurd works
 up_of (Tick seconds) o works e = absurd works
 
 -- a slot of the machine stands for a node that is up
-pub slot_up_of : {D : Type 0} (on : View D) (nodes : Nodes D) (n : ℕ) (node : Node) → of_node nodes.lives.items n ≡ Some (Up node) → (slots : List Slot) → SlotsStand on nodes.lives.items nodes.disks.items slots
+pub slot_up_of : {D : Type 0} (on : View D) (nodes : Nodes D) (n : ℕ) (node : WholeNode) → of_node nodes.lives.items n ≡ Some (Up node) → (slots : List Slot) → SlotsStand on nodes.lives.items nodes.disks.items slots
     → (slot : Slot) × (slot_at slots n ≡ Some slot) × ((seen : plain.Node) × (slot.life ≡ plain.Life.Up seen))
 slot_up_of on nodes n node up slots st =
     let (disk, held) = disk_of nodes.disks.items nodes.lives.items n (Up node) (nodes.all ∙ sym nodes.disk_each) up in
@@ -122,20 +134,20 @@ caused on n P old new ch s flying flying' seconds seconds' book book' why d d' e
     subst (λ x. Rose (on.faults d) (on.faults x) ⊎ ((on.seen d ≡ None) × MayMisread s)) d'_is
     (subst (λ x. Rose (on.faults x) (on.faults ch.disk') ⊎ ((on.seen x ≡ None) × MayMisread s)) d_is why)
 
-same_node : (x y : Node) → Up x ≡ Up y → x ≡ y
+same_node : (x y : WholeNode) → Up x ≡ Up y → x ≡ y
 same_node x y e = cc
 
 module _ {D : Type 0} (on : View D) (n : ℕ) (P : Life → D → Life → D → Type 0) (old new : Nodes D) (ch : ChangesNode n P old new)
-    (ready : CanWorkOn on.seen old.plan old.lives.items old.disks.items) (a : Node) (was : ch.life ≡ Up a) where
-  pub works_there : IsNodeOf old.plan n a × CanWork (on.seen ch.disk) a
+    (ready : CanWorkOn on.seen old.plan old.lives.items old.disks.items) (a : WholeNode) (was : ch.life ≡ Up a) where
+  pub works_there : IsNodeOf old.plan n a.mail × WholeWorks (on.seen ch.disk) a
   works_there = ready_of on.seen old.plan old.lives.items old.disks.items ready n a ch.disk (ch.was ∙ ap Some was) ch.held
 
   -- It is up, in the same boot, and its disk has not failed.
-  pub record StaysUp (b : Node) : Type 0 where
+  pub record StaysUp (b : WholeNode) : Type 0 where
     pub is : ch.life' ≡ Up b
-    pub boot : (node_seen b).boot ≡ (node_seen a).boot
-    pub same : IsSameNode a b
-    pub works : CanWork (on.seen ch.disk') b
+    pub boot : (node_seen b.mail).boot ≡ (node_seen a.mail).boot
+    pub same : IsSameNode a.mail b.mail
+    pub works : WholeWorks (on.seen ch.disk') b
     pub told : IsToldAlike (on.seen ch.disk) (on.seen ch.disk')
     pub faults : on.faults ch.disk' ≡ on.faults ch.disk
 
@@ -145,23 +157,23 @@ module _ {D : Type 0} (on : View D) (n : ℕ) (P : Life → D → Life → D →
     pub told : IsToldAlike (on.seen ch.disk) (on.seen ch.disk')
     pub later : on.faults ch.disk ≤ on.faults ch.disk'
 
-  pub did_stay : (rule : Rule) (b : Node) (sent : List Letter) → ch.life' ≡ Up b → NodeDid on rule a ch.disk b ch.disk' sent → StaysUp b
-  did_stay rule b sent is did = record { is = is; boot = did.boot; same = did.same; works = did.works; told = did.appends.told; faults = did.appends.quiet }
+  pub did_stay : (rule : Rule) (b : WholeNode) (sent : List Letter) → ch.life' ≡ Up b → NodeDid on rule a.mail ch.disk b.mail ch.disk' sent → WholeWorks (on.seen ch.disk') b → StaysUp b
+  did_stay rule b sent is did works = record { is = is; boot = did.boot; same = did.same; works = works; told = did.appends.told; faults = did.appends.quiet }
 
-  pub read_stays : (b : Node) → ch.life' ≡ Up b → IsAsBefore a b → IsOnlyRead on ch.disk ch.disk' → on.faults ch.disk' ≡ on.faults ch.disk → StaysUp b
-  read_stays b is before read quiet = record {
+  pub read_stays : (b : WholeNode) → ch.life' ≡ Up b → IsAsBefore a.mail b.mail → IsOnlyRead on ch.disk ch.disk' → on.faults ch.disk' ≡ on.faults ch.disk → WholeWorks (on.seen ch.disk') b → StaysUp b
+  read_stays b is before read quiet works = record {
     is = is;
     boot = ap (λ (m : plain.Node). m.boot) before.seen;
     same = before.same;
-    works = subst (λ seen. CanWork seen b) (sym read.seen) (before.works (on.seen ch.disk) works_there.1);
+    works = works;
     told = ap (λ (o : Option (List ℕ)). is_some o) read.seen;
     faults = quiet;
   }
 
-  pub stopped_falls : (rule : Rule) → ch.life' ≡ Down → NodeStopped on rule a ch.disk ch.disk' → on.faults ch.disk ≤ on.faults ch.disk' → FallsDown
+  pub stopped_falls : (rule : Rule) → ch.life' ≡ Down → NodeStopped on rule a.mail ch.disk ch.disk' → on.faults ch.disk ≤ on.faults ch.disk' → FallsDown
   stopped_falls rule is stopped later = record { is = is; told = stopped.stops.told; later = later }
 
-  module _ (b : Node) (s : StaysUp b) where
+  module _ (b : WholeNode) (s : StaysUp b) where
     same_life : life_seen ch.life' ≡ life_seen ch.life
     same_life = ap life_seen s.is ∙ ap life.Up s.boot ∙ sym (ap life_seen was)
 
@@ -174,7 +186,7 @@ module _ {D : Type 0} (on : View D) (n : ℕ) (P : Life → D → Life → D →
     stays_ready = subst (λ p. CanWorkOn on.seen p new.lives.items new.disks.items) (sym ch.plan)
         (still_ready n P old new ch on.seen old.plan ready (λ node up.
         let is : b ≡ node = same_node b node (sym s.is ∙ up) in
-        (subst (λ m. IsNodeOf old.plan n m) is (s.same old.plan n works_there.0), subst (λ m. CanWork (on.seen ch.disk') m) is s.works)))
+        (subst (λ (m : WholeNode). IsNodeOf old.plan n m.mail) is (s.same old.plan n works_there.0), subst (λ m. WholeWorks (on.seen ch.disk') m) is s.works)))
 
     pub stays_falls : all_falls_left new.lives.items ≡ all_falls_left old.lives.items
     stays_falls =
@@ -224,18 +236,18 @@ module _ {D : Type 0} (on : View D) (n : ℕ) (P : Life → D → Life → D →
     pub record FoundUp : Type 0 where
       pub slot : Slot
       pub here : slot_at slots n ≡ Some slot
-      pub up : slot_at slots n ≡ Some (slot_up (node_seen a) slot.disk)
-      pub whole : slot ≡ slot_up (node_seen a) slot.disk
+      pub up : slot_at slots n ≡ Some (slot_up (node_seen a.mail) slot.disk)
+      pub whole : slot ≡ slot_up (node_seen a.mail) slot.disk
       pub stood : SlotStands on n (Up a) ch.disk slot
-      pub keeps : NodeKeeps slot.disk a
-      pub tells : TellsJournal (on.seen ch.disk) n (payloads_of slot.disk) (end_in a)
+      pub keeps : NodeKeeps slot.disk a.mail
+      pub tells : TellsJournal (on.seen ch.disk) n (payloads_of slot.disk) (end_in a.mail)
 
     pub found_up : FoundUp
     found_up =
         let (slot, here, stood) = slot_of on old.lives.items old.disks.items slots n ch.life ch.disk st ch.was ch.held in
         let up : SlotStands on n (Up a) ch.disk slot = subst (λ l. SlotStands on n l ch.disk slot) was stood in
         let (seen, is, s) = up in
-        let whole : slot ≡ slot_up (node_seen a) slot.disk = ap (λ l. record { life = l; disk = slot.disk }) (is ∙ ap plain.Life.Up (sym s.seen_is)) in
+        let whole : slot ≡ slot_up (node_seen a.mail) slot.disk = ap (λ l. record { life = l; disk = slot.disk }) (is ∙ ap plain.Life.Up (sym s.seen_is)) in
         record { slot = slot; here = here; up = here ∙ ap Some whole; whole = whole; stood = up; keeps = s.keeps; tells = s.tells }
 
     -- They stand where its slot is this one now, and each stop leaves what it may.
@@ -252,13 +264,13 @@ module _ {D : Type 0} (on : View D) (n : ℕ) (P : Life → D → Life → D →
 
     -- It did its work.
     pub record DidThere (rule : Rule) (sent : List Letter) (found : FoundUp) : Type 0 where
-      pub out : (rule (node_seen a) found.slot.disk).out ≡ sent
-      pub moved : SlotsMoved found.slot (slot_after rule (node_seen a) found.slot.disk)
+      pub out : (rule (node_seen a.mail) found.slot.disk).out ≡ sent
+      pub moved : SlotsMoved found.slot (slot_after rule (node_seen a.mail) found.slot.disk)
 
-    pub did_there : (rule : Rule) (b : Node) (sent : List Letter) → ch.life' ≡ Up b → NodeDid on rule a ch.disk b ch.disk' sent → (found : FoundUp) → DidThere rule sent found
+    pub did_there : (rule : Rule) (b : WholeNode) (sent : List Letter) → ch.life' ≡ Up b → NodeDid on rule a.mail ch.disk b.mail ch.disk' sent → (found : FoundUp) → DidThere rule sent found
     did_there rule b sent is did found =
         let t : SlotTurned on n rule (Up a) ch.disk (Up b) ch.disk' sent found.slot = did_turned on n rule a ch.disk ch.disk' found.slot b sent did found.stood in
-        let same : t.node ≡ node_seen a = let e : slot_up t.node found.slot.disk ≡ slot_up (node_seen a) found.slot.disk = sym t.was ∙ found.whole in the_node t.node (node_seen a) (ap (λ (s : Slot). s.life) e) in
+        let same : t.node ≡ node_seen a.mail = let e : slot_up t.node found.slot.disk ≡ slot_up (node_seen a.mail) found.slot.disk = sym t.was ∙ found.whole in the_node t.node (node_seen a.mail) (ap (λ (s : Slot). s.life) e) in
         record {
           out = subst (λ m. (rule m found.slot.disk).out ≡ sent) same t.out;
           moved = subst (λ m. SlotsMoved found.slot (slot_after rule m found.slot.disk)) same
@@ -273,13 +285,13 @@ module _ {D : Type 0} (on : View D) (n : ℕ) (P : Life → D → Life → D →
       pub front : List Record
       pub pending : List Record
       pub one : length pending ≤ 1
-      pub cut : IsWorkCut found.slot.disk (rule (node_seen a) found.slot.disk).disk front pending
+      pub cut : IsWorkCut found.slot.disk (rule (node_seen a.mail) found.slot.disk).disk front pending
       pub moved : SlotsMoved found.slot (record { life = plain.Life.Down pending; disk = found.slot.disk ++ front })
 
-    pub cut_there : (rule : Rule) → ch.life' ≡ Down → NodeStopped on rule a ch.disk ch.disk' → (found : FoundUp) → CutThere rule found
+    pub cut_there : (rule : Rule) → ch.life' ≡ Down → NodeStopped on rule a.mail ch.disk ch.disk' → (found : FoundUp) → CutThere rule found
     cut_there rule is stopped found =
         let t : SlotCut on n rule (Up a) ch.disk Down ch.disk' found.slot = cut_down on n rule a ch.disk ch.disk' found.slot stopped found.stood in
-        let same : t.node ≡ node_seen a = let e : slot_up t.node found.slot.disk ≡ slot_up (node_seen a) found.slot.disk = sym t.was ∙ found.whole in the_node t.node (node_seen a) (ap (λ (s : Slot). s.life) e) in
+        let same : t.node ≡ node_seen a.mail = let e : slot_up t.node found.slot.disk ≡ slot_up (node_seen a.mail) found.slot.disk = sym t.was ∙ found.whole in the_node t.node (node_seen a.mail) (ap (λ (s : Slot). s.life) e) in
         record {
           front = t.front;
           pending = t.pending;
@@ -294,7 +306,7 @@ module _ {D : Type 0} (on : View D) (n : ℕ) (P : Life → D → Life → D →
     -- Its disk was read, and no more.
     module _ (read : IsOnlyRead on ch.disk ch.disk') (found : FoundUp) where
       alive : found.slot.life ≢ plain.Life.Lost
-      alive lost = let never : plain.Life.Up (node_seen a) ≡ plain.Life.Lost = sym (ap (λ (s : Slot). s.life) found.whole) ∙ lost in cc
+      alive lost = let never : plain.Life.Up (node_seen a.mail) ≡ plain.Life.Lost = sym (ap (λ (s : Slot). s.life) found.whole) ∙ lost in cc
 
       read_stops : IfSome (on.seen ch.disk) (λ _. Passed on.clock ch.disk ch.disk' (IsStopOf n found.slot []))
       read_stops = if_some (on.seen ch.disk) (λ _. (c : List ℕ) → on.clock.is_image ch.disk c → IsStopOf n found.slot [] c) _
@@ -302,7 +314,7 @@ module _ {D : Type 0} (on : View D) (n : ℕ) (P : Life → D → Life → D →
           (images_stop on n (Up a) ch.disk found.slot [] alive found.stood)
 
       -- It is as it was.
-      read_stands : (b : Node) → IsAsBefore a b → SlotStands on n (Up b) ch.disk' found.slot
+      read_stands : (b : WholeNode) → IsAsBefore a.mail b.mail → SlotStands on n (Up b) ch.disk' found.slot
       read_stands b before =
           let (seen, is, s) = found.stood in (
             seen,
@@ -310,14 +322,14 @@ module _ {D : Type 0} (on : View D) (n : ℕ) (P : Life → D → Life → D →
             record {
               seen_is = before.seen ∙ s.seen_is;
               keeps = before.keeps found.slot.disk s.keeps;
-              tells = subst (λ o. TellsJournal o n (payloads_of found.slot.disk) (end_in b)) (sym read.seen)
+              tells = subst (λ o. TellsJournal o n (payloads_of found.slot.disk) (end_in b.mail)) (sym read.seen)
                   (subst (λ e. TellsJournal (on.seen ch.disk) n (payloads_of found.slot.disk) e) (sym before.end_is) s.tells);
               images = if_told (on.seen ch.disk) (on.seen ch.disk') _ (ap (λ (o : Option (List ℕ)). is_some o) read.seen)
                   (if_some (on.seen ch.disk) _ _ (λ _ images c image. subst (λ e. EndsAt n c (payloads_of found.slot.disk) e) (sym before.end_is) (images c (read.images.now c image))) s.images);
             },
           )
 
-      pub read_there : (b : Node) → ch.life' ≡ Up b → IsAsBefore a b → SlotsMoved found.slot found.slot
+      pub read_there : (b : WholeNode) → ch.life' ≡ Up b → IsAsBefore a.mail b.mail → SlotsMoved found.slot found.slot
       read_there b is before = moved found.slot found.slot (Up b) found.here is (read_stands b before) (record {
         kept = [];
         pending_is = inl refl;
@@ -343,10 +355,13 @@ module _ {D : Type 0} (on : View D) (n : ℕ) (P : Life → D → Life → D →
           (record { kept = []; pending_is = inl refl; added = []; grew = refl; stops = read_stops })
 
 -- What a node that is up did, by the plan that it is a node of.
-pub turns_at : {T D : Type 0} (Q : ℕ → Result T NodeFault → Node → D → Node → D → Type 0) (plan : Plan) (n : ℕ) (r : Result T NodeFault) (l : Life) (d : D) (l' : Life) (d' : D)
-    → ((node : Node) → l ≡ Up node → IsNodeOf plan n node)
-    → TurnsBy (λ result old before new after. (p : Plan) (own : ℕ) → IsNodeOf p own old → Q own result old before new after) r l d l' d' → TurnsBy (Q n) r l d l' d'
-turns_at Q plan n r l d l' d' of t = record { old = t.old; new = t.new; was = t.was; did = t.did plan n (of t.old t.was); is = t.is }
+pub turns_at : {T D : Type 0} (seen : D → Option (List ℕ)) (Q : ℕ → Result T NodeFault → Node → D → Node → D → Type 0) (M : ℕ → Result T NodeFault → WholeNode → D → WholeNode → D → Type 0)
+    (plan : Plan) (n : ℕ) (r : Result T NodeFault) (l : Life) (d : D) (l' : Life) (d' : D)
+    → ((node : WholeNode) → l ≡ Up node → IsNodeOf plan n node.mail)
+    → TurnsBy seen (λ result old before new after. (p : Plan) (own : ℕ) → IsNodeOf p own old → Q own result old before new after)
+    (λ result old before new after. (p : Plan) (own : ℕ) → IsNodeOf p own old.mail → M own result old before new after) r l d l' d' → TurnsBy seen (Q n) (M n) r l d l' d'
+turns_at seen Q M plan n r l d l' d' of t =
+    record { old = t.old; new = t.new; was = t.was; did = t.did plan n (of t.old t.was); maps = t.maps plan n (of t.old t.was); is = t.is; works = t.works }
 
 -- A node that is to work, at its place.
 module _ {D : Type 0} (seen : D → Option (List ℕ)) (s : Step) (n to k : ℕ) (nodes : Nodes D) (named : list_all (is_node nodes.plan) (n ∷ to ∷ []) ≡ true)
@@ -361,11 +376,11 @@ module _ {D : Type 0} (seen : D → Option (List ℕ)) (s : Step) (n to k : ℕ)
   pub disk_at : slice_get nodes.disks.items k ≡ Some d
   disk_at = slice_get-get_or nodes.disks.items k dd (omega (arith, at, inside.1, nodes.disk_each)) ∙ ap Some (sym held)
 
-  pub plan_node_at : (node : Node) → l ≡ Up node → IsNodeOf nodes.plan n node × CanWork (seen d) node
+  pub plan_node_at : (node : WholeNode) → l ≡ Up node → IsNodeOf nodes.plan n node.mail × WholeWorks (seen d) node
   plan_node_at node up = ready_of seen nodes.plan nodes.lives.items nodes.disks.items ready n node d
       (node_at nodes.lives.items n k at ∙ life_at ∙ ap Some up) (node_at nodes.disks.items n k at ∙ disk_at)
 
-  pub up_there : (node : Node) × (l ≡ Up node) × CanWork (seen d) node
+  pub up_there : (node : WholeNode) × (l ≡ Up node) × WholeWorks (seen d) node
   up_there =
       let (node, here) = up_of s (of_node nodes.lives.items n) works fits in
       let up : l ≡ Up node = some_same l (Up node) (sym life_at ∙ sym (node_at nodes.lives.items n k at) ∙ here) in

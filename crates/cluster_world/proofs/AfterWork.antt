@@ -1,5 +1,5 @@
 -- What a step leaves in which one node worked, and after which tickets may have changed: the node did its work, or stopped in it, or went down after it.
-use Rattle.std.proofs.Common.{◌≡◌, ◌≢◌, ℕ, zero, suc, ◌+◌, ◌≤◌, List, [], ◌∷◌, ◌++◌, length, append-nil, Option, Some, Result, refl, sym, ap, ◌∙◌, subst, arith}
+use Rattle.std.proofs.Common.{◌≡◌, ◌≢◌, ℕ, zero, suc, ◌+◌, ◌≤◌, List, [], ◌∷◌, ◌++◌, length, drop, append-nil, Option, Some, Result, refl, sym, ap, ◌∙◌, subst, arith}
 use Rattle.std.specs.Prelude.{slice_set, IfSome, IfOk}
 use Rattle.mail_model.specs.Plan.{Plan}
 use Rattle.mail_model.specs.Record.{Record, payloads_of}
@@ -16,10 +16,14 @@ use Rattle.cluster_model.specs.Room.{Flight}
 use Rattle.cluster_model.specs.World as machine
 use Rattle.cluster_model.specs.Makes.{IsUp, IsWorkCut, after}
 use Rattle.disk_journal.specs.Journal.{EndsAt, TellsJournal}
+use Rattle.whole_model.specs.Rules.{follows}
+use Rattle.node_maps.specs.Nodes.{node_of, own_of}
 use Rattle.node_store.specs.Disks.{View}
-use Rattle.node_core.specs.Nodes.{node_seen, IsAsBefore, IsNodeOf, CanWork}
+use Rattle.whole_node.specs.Following as node_follows
+use Rattle.node_core.specs.Nodes.{node_seen, NodeKeeps, IsAsBefore, IsNodeOf}
 use Rattle.node_core.specs.Works.{Rule, NodeDid, NodeStopped}
-use Rattle.node_core.specs.declared.node.Node.{Node}
+use Rattle.whole_node.specs.Nodes.{WholeWorks}
+use Rattle.whole_node.specs.declared.node.WholeNode.{WholeNode}
 use Rattle.world_book.specs.declared.book.Book.{Book}
 use Rattle.cluster_world.specs.Books.{booked_by, IsLongerBook}
 use Rattle.cluster_world.specs.Flights.{InFlight, PutDown, put_down, flights_without, taken_out}
@@ -39,6 +43,8 @@ use Rattle.cluster_world.specs.declared.life.Life.{Life}
 use Rattle.cluster_world.specs.declared.life.Life.TheVariants.{Up, Down}
 use Rattle.cluster_world.specs.declared.nodes.Nodes.{Nodes}
 use Rattle.cluster_world.proofs.Still.{some_same, untouched}
+use Rattle.cluster_world.proofs.Turning.{up_same}
+use Rattle.cluster_world.proofs.Follows.{MapsFollow, disk_at, all_disk, one_follows, rule_follows, idle_follows}
 use Rattle.cluster_world.proofs.Worked.{did_turned, cut_down}
 use Rattle.cluster_world.proofs.Turned.{slot_of, slots_stand, stops_kept, lives_turned, disk_there, as_many, told_by, quiet_by, settled_by, still_ready, falls_now}
 use Rattle.cluster_world.proofs.Asked.{slot_same}
@@ -47,9 +53,12 @@ use Rattle.cluster_world.proofs.Falling.{fallen}
 use Rattle.cluster_world.proofs.Kept.{kept_at, all_kept, stops_on}
 use Rattle.cluster_world.proofs.Putting.{with_put, put_is}
 
+same_maps : (a b : WholeNode) → Up a ≡ Up b → b.maps ≡ a.maps
+same_maps a b e = ap (λ (x : WholeNode). x.maps) (sym (up_same a b e))
+
 -- Nothing else changed after the node worked.
 pub nothing_else : {D : Type 0} (on : View D) (nodes : Nodes D) → OnlyTickets on (λ slots. slots) nodes nodes
-nothing_else on nodes = record { plan = refl; disks = refl; lives = λ n. refl; falls = refl; slots = λ slots s. s }
+nothing_else on nodes = record { plan = refl; disks = refl; lives = λ n. refl; maps = λ n a b e f. same_maps a b (some_same (Up a) (Up b) (sym e ∙ f)); falls = refl; slots = λ slots s. s }
 
 set_again : {X : Type 0} (xs : List X) (k : ℕ) (x y : X) → slice_set (slice_set xs k x) k y ≡ slice_set xs k y
 set_again [] k x y = refl
@@ -179,7 +188,7 @@ module _ {D : Type 0} (on : View D) (n : ℕ) (P : Life → D → Life → D →
 
 -- each node that is up can work, once this one does
 pub work_ready : {D : Type 0} (n : ℕ) (P : Life → D → Life → D → Type 0) (old mid : Nodes D) (ch : ChangesNode n P old mid) (seen : D → Option (List ℕ))
-    → CanWorkOn seen old.plan old.lives.items old.disks.items → ((node : Node) → ch.life' ≡ Up node → IsNodeOf old.plan n node × CanWork (seen ch.disk') node)
+    → CanWorkOn seen old.plan old.lives.items old.disks.items → ((node : WholeNode) → ch.life' ≡ Up node → IsNodeOf old.plan n node.mail × WholeWorks (seen ch.disk') node)
     → CanWorkOn seen mid.plan mid.lives.items mid.disks.items
 work_ready n P old mid ch seen works here = subst (λ p. CanWorkOn seen p mid.lives.items mid.disks.items) (sym ch.plan) (still_ready n P old mid ch seen old.plan works here)
 
@@ -190,7 +199,7 @@ no_more : (xs : List Record) → (xs ++ []) ++ [] ≡ xs
 no_more xs = append-nil (xs ++ []) ∙ append-nil xs
 
 -- The node was up. How the machine finds it, and what it makes of it.
-module _ {D : Type 0} (on : View D) (n : ℕ) (P : Life → D → Life → D → Type 0) (old mid new : Nodes D) (ch : ChangesNode n P old mid) (rule : Rule) (a : Node) (was : ch.life ≡ Up a)
+module _ {D : Type 0} (on : View D) (n : ℕ) (P : Life → D → Life → D → Type 0) (old mid new : Nodes D) (ch : ChangesNode n P old mid) (rule : Rule) (a : WholeNode) (was : ch.life ≡ Up a)
     (flying flying' : InFlight) (seconds : ℕ) (book book' : Book) where
   abbrev start : WorldState D
   start = state_with old flying seconds book
@@ -203,24 +212,28 @@ module _ {D : Type 0} (on : View D) (n : ℕ) (P : Life → D → Life → D →
       let (slot, here, stood) = slot_of on old.lives.items old.disks.items w.slots n ch.life ch.disk st.slots ch.was ch.held in
       (slot, here, subst (λ l. SlotStands on n l ch.disk slot) was stood)
 
-  pub up_is : (slot : Slot) → SlotStands on n (Up a) ch.disk slot → slot ≡ slot_up (node_seen a) slot.disk
+  pub up_is : (slot : Slot) → SlotStands on n (Up a) ch.disk slot → slot ≡ slot_up (node_seen a.mail) slot.disk
   up_is slot (seen, life_is, st) = ap (λ l. record { life = l; disk = slot.disk }) (life_is ∙ ap plain.Life.Up (sym st.seen_is))
 
   -- as the machine has the node, so the code has it
-  node_of : (slot : Slot) (node : plain.Node) → slot ≡ slot_up node slot.disk → SlotStands on n (Up a) ch.disk slot → node ≡ node_seen a
-  node_of slot node is (seen, life_is, st) = up_plain node seen (sym (ap (λ (x : Slot). x.life) is) ∙ life_is) ∙ sym st.seen_is
+  seen_of : (slot : Slot) (node : plain.Node) → slot ≡ slot_up node slot.disk → SlotStands on n (Up a) ch.disk slot → node ≡ node_seen a.mail
+  seen_of slot node is (seen, life_is, st) = up_plain node seen (sym (ap (λ (x : Slot). x.life) is) ∙ life_is) ∙ sym st.seen_is
 
   -- The node did its work, and what it sent is in flight.
   pub record WorkSent (letters : List Letter) (left : List Flight) (booked : List BookEntry) (w : machine.World) : Type 0 where
     pub node : plain.Node
     pub disk : List Record
     pub up : IsUp w n node disk
-    pub node_is : node ≡ node_seen a
+    pub node_is : node ≡ node_seen a.mail
     pub out : (rule node disk).out ≡ letters
     pub stands : StateStandsFor on final (after (record w { flying = left; book = booked }) n (rule node disk))
     pub stops : EveryStopKeeps on start final w.slots (after (record w { flying = left; book = booked }) n (rule node disk)).slots
+    pub disks : (m : ℕ) → disk_at (slot_at (after (record w { flying = left; book = booked }) n (rule node disk)).slots m) ≡ disk_at (slot_at (with_slot w.slots n (slot_after rule node disk)) m)
+    pub keeps : NodeKeeps disk a.mail
+    pub added : List Record
+    pub grew : (rule (node_seen a.mail) disk).disk ≡ disk ++ added
 
-  pub work_sent : (b : Node) → ch.life' ≡ Up b → (letters : List Letter) → NodeDid on rule a ch.disk b ch.disk' letters → (plan : Plan) (posted : Option ℕ)
+  pub work_sent : (b : WholeNode) → ch.life' ≡ Up b → (letters : List Letter) → NodeDid on rule a.mail ch.disk b.mail ch.disk' letters → (plan : Plan) (posted : Option ℕ)
       → SentOff on plan letters posted flying flying' mid new → (w : machine.World) → StateStandsFor on start w → (left : List Flight) → flights_without posted w.flying ≡ left
       → (booked : List BookEntry) → booked_by book' ≡ booked → WorkSent letters left booked w
   work_sent b is letters did plan posted off w st left left_is booked booked_is =
@@ -245,19 +258,35 @@ module _ {D : Type 0} (on : View D) (n : ℕ) (P : Life → D → Life → D →
         node = t.node;
         disk = slot.disk;
         up = here ∙ ap Some t.was;
-        node_is = node_of slot t.node t.was stood;
+        node_is = seen_of slot t.node t.was stood;
         out = t.out;
         stands = subst (λ x. StateStandsFor on final x) eq stands;
         stops = work_stops on n P old mid new ch change only flying flying' seconds book book' w.slots next.slots slot slot' st.slots here t.keeps
             (λ m. ap (λ (x : machine.World). kept_at (slot_at x.slots m)) (sym eq) ∙ all_kept Crowded written m q.left);
+        disks = λ m. ap (λ (x : machine.World). disk_at (slot_at x.slots m)) (sym eq) ∙ all_disk Crowded written m q.left;
+        keeps = (stood.2).keeps;
+        added = did.added;
+        grew = did.disk slot.disk (stood.2).keeps;
       }
+
+  -- its maps follow it
+  pub sent_follows : (letters : List Letter) (left : List Flight) (booked : List BookEntry) (w : machine.World) (s : WorkSent letters left booked w) (b : WholeNode) → ch.life' ≡ Up b
+      → node_follows.MapsFollow rule a b → own_of a.maps ≡ n → (change : List Slot → List Slot) → OnlyTickets on change mid new
+      → MapsFollow old.lives.items new.lives.items w.slots (after (record w { flying = left; book = booked }) n (rule s.node s.disk)).slots
+  sent_follows letters left booked w s b is follow own change only =
+      one_follows n P old mid new ch on change only w.slots (slot_up s.node s.disk) (slot_after rule s.node s.disk) s.up (after (record w { flying = left; book = booked }) n (rule s.node s.disk)).slots s.disks
+      (λ x y was' is'.
+      ap (λ (z : WholeNode). node_of z.maps) (up_same y b (sym is' ∙ is))
+      ∙ rule_follows rule n a b s.disk s.added own follow s.keeps s.grew
+      ∙ ap (λ (m : plain.Node). follows n (node_of a.maps) s.disk (drop (length s.disk) (rule m s.disk).disk)) (sym s.node_is)
+      ∙ ap (λ (z : WholeNode). follows n (node_of z.maps) s.disk (drop (length s.disk) (rule s.node s.disk).disk)) (up_same a x (sym was ∙ was')))
 
   -- The node went down in its work, or after it: these of its records stand, and what is pending may.
   pub record CutSlot (w : machine.World) : Type 0 where
     pub node : plain.Node
     pub disk : List Record
     pub up : IsUp w n node disk
-    pub node_is : node ≡ node_seen a
+    pub node_is : node ≡ node_seen a.mail
     pub front : List Record
     pub pending : List Record
     pub one : length pending ≤ 1
@@ -265,7 +294,7 @@ module _ {D : Type 0} (on : View D) (n : ℕ) (P : Life → D → Life → D →
     pub stands : SlotStands on n Down ch.disk' (record { life = plain.Life.Down pending; disk = disk ++ front })
     pub keeps : StopsKeep on n ch.disk ch.disk' (slot_up node disk) (record { life = plain.Life.Down pending; disk = disk ++ front })
 
-  pub work_stopped : NodeStopped on rule a ch.disk ch.disk' → (w : machine.World) → StateStandsFor on start w → CutSlot w
+  pub work_stopped : NodeStopped on rule a.mail ch.disk ch.disk' → (w : machine.World) → StateStandsFor on start w → CutSlot w
   work_stopped stopped w st =
       let (slot, here, stood) = up_slot w st in
       let c : SlotCut on n rule (Up a) ch.disk Down ch.disk' slot = cut_down on n rule a ch.disk ch.disk' slot stopped stood in
@@ -273,7 +302,7 @@ module _ {D : Type 0} (on : View D) (n : ℕ) (P : Life → D → Life → D →
         node = c.node;
         disk = slot.disk;
         up = here ∙ ap Some c.was;
-        node_is = node_of slot c.node c.was stood;
+        node_is = seen_of slot c.node c.was stood;
         front = c.front;
         pending = c.pending;
         one = c.one;
@@ -282,12 +311,12 @@ module _ {D : Type 0} (on : View D) (n : ℕ) (P : Life → D → Life → D →
         keeps = subst (λ s. StopsKeep on n ch.disk ch.disk' s (record { life = plain.Life.Down c.pending; disk = slot.disk ++ c.front })) c.was c.keeps;
       }
 
-  pub work_undone : (b : Node) (letters : List Letter) → NodeDid on rule a ch.disk b ch.disk' letters → (w : machine.World) → StateStandsFor on start w → CutSlot w
+  pub work_undone : (b : WholeNode) (letters : List Letter) → NodeDid on rule a.mail ch.disk b.mail ch.disk' letters → (w : machine.World) → StateStandsFor on start w → CutSlot w
   work_undone b letters did w st =
       let (slot, here, stood) = up_slot w st in
       let t : SlotTurned on n rule (Up a) ch.disk (Up b) ch.disk' letters slot = did_turned on n rule a ch.disk ch.disk' slot b letters did stood in
       let (_, fit, holds) = fallen on n ch.disk' (slot_after rule t.node slot.disk) b t.stands in
-      let node_is : t.node ≡ node_seen a = node_of slot t.node t.was stood in
+      let node_is : t.node ≡ node_seen a.mail = seen_of slot t.node t.was stood in
       let grew : (rule t.node slot.disk).disk ≡ slot.disk ++ did.added = ap (λ x. (rule x slot.disk).disk) node_is ∙ did.disk slot.disk (stood.2).keeps in
       let k = t.keeps in
       record {
@@ -322,8 +351,15 @@ module _ {D : Type 0} (on : View D) (n : ℕ) (P : Life → D → Life → D →
         work_stops on n P old mid new ch change only flying flying' seconds book book' w.slots slots (slot_up c.node c.disk) (record { life = plain.Life.Down c.pending; disk = c.disk ++ c.front })
         st.slots c.up c.keeps kept
 
+    pub cut_follows : (w : machine.World) (c : CutSlot w) (slots : List Slot)
+        → ((m : ℕ) → disk_at (slot_at slots m) ≡ disk_at (slot_at (with_slot w.slots n (record { life = plain.Life.Down c.pending; disk = c.disk ++ c.front })) m))
+        → MapsFollow old.lives.items new.lives.items w.slots slots
+    cut_follows w c slots kept =
+        one_follows n P old mid new ch on change only w.slots (slot_up c.node c.disk) (record { life = plain.Life.Down c.pending; disk = c.disk ++ c.front }) c.up slots kept
+        (λ x y was' is'. absurd (let never : Down ≡ Up y = sym down ∙ is' in cc))
+
   -- The node did nothing, and is as it was.
-  module _ (b : Node) (is : ch.life' ≡ Up b) (same : IsAsBefore a b) (untold : ch.disk' ≡ ch.disk) where
+  module _ (b : WholeNode) (is : ch.life' ≡ Up b) (same : IsAsBefore a.mail b.mail) (untold : ch.disk' ≡ ch.disk) where
     same_slot : (slot : Slot) → SlotStands on n (Up a) ch.disk slot → SlotStands on n (Up b) ch.disk slot
     same_slot slot (seen, life_is, st) = (
       seen,
@@ -340,14 +376,14 @@ module _ {D : Type 0} (on : View D) (n : ℕ) (P : Life → D → Life → D →
     not_lost slot (seen, life_is, st) lost = let never : plain.Life.Up seen ≡ plain.Life.Lost = sym life_is ∙ lost in cc
 
     module _ (change : List Slot → List Slot) (only : OnlyTickets on change mid new) where
-      pub idle_stands : (w : machine.World) → StateStandsFor on start w → (left : List Flight) → flying'.flights ≡ left → flying'.sent ≡ flying.sent → book' ≡ book
+      pub idle_stands : (w : machine.World) → StateStandsFor on start w → (left : List Flight) → flying'.flights ≡ left → flying'.sent ≡ flying.sent → booked_by book' ≡ booked_by book
           → StateStandsFor on final (record w { slots = change w.slots; flying = left })
-      idle_stands w st left flies sent book_is =
+      idle_stands w st left flies sent booked_is =
           let (slot, here, stood) = up_slot w st in
           let now : SlotStands on n ch.life' ch.disk' slot =
           subst (λ d. SlotStands on n ch.life' d slot) (sym untold) (subst (λ l. SlotStands on n l ch.disk slot) (sym is) (same_slot slot stood)) in
           subst (λ slots. StateStandsFor on final (record w { slots = change slots; flying = left })) (slot_same w.slots n slot here)
-          (work_stands on n P old mid new ch change only flying flying' seconds book book' w st slot now left flies w.sent (sent ∙ st.sent) w.book (ap booked_by book_is ∙ st.book))
+          (work_stands on n P old mid new ch change only flying flying' seconds book book' w st slot now left flies w.sent (sent ∙ st.sent) w.book (booked_is ∙ st.book))
 
       pub idle_stops : (w : machine.World) → StateStandsFor on start w → (slots : List Slot) → ((m : ℕ) → kept_at (slot_at slots m) ≡ kept_at (slot_at w.slots m)) → EveryStopKeeps on start final w.slots slots
       idle_stops w st slots kept =
@@ -355,3 +391,9 @@ module _ {D : Type 0} (on : View D) (n : ℕ) (P : Life → D → Life → D →
           work_stops on n P old mid new ch change only flying flying' seconds book book' w.slots slots slot slot st.slots here
           (subst (λ d. StopsKeep on n ch.disk d slot slot) (sym untold) (untouched on n (Up a) ch.disk slot (not_lost slot stood) stood))
           (λ m. kept m ∙ ap (λ (xs : List Slot). kept_at (slot_at xs m)) (sym (slot_same w.slots n slot here)))
+
+      pub idle_maps : node_of b.maps ≡ node_of a.maps → (w : machine.World) → StateStandsFor on start w → (slots : List Slot) → ((m : ℕ) → disk_at (slot_at slots m) ≡ disk_at (slot_at w.slots m))
+          → MapsFollow old.lives.items new.lives.items w.slots slots
+      idle_maps same w st slots kept =
+          let (slot, here, stood) = up_slot w st in
+          idle_follows on n P old mid new ch change only w.slots slot here slots kept a b was is same

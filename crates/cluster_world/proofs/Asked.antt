@@ -23,10 +23,15 @@ use Rattle.disk_journal.specs.Journal.{TellsJournal, EndsAt}
 use Rattle.call_tickets.specs.declared.answer.Ask as code
 use Rattle.node_tickets.specs.Seen.{ask_seen}
 use Rattle.node_tickets.specs.Standing.{is_done, asks_seen, asks_at, asked_out, wants_at, ticket_taken_out, done_at}
+use Rattle.node_maps.specs.Nodes.{node_of}
 use Rattle.node_store.specs.Disks.{View}
-use Rattle.node_core.specs.Nodes.{node_seen, CanWork, IsNodeOf}
+use Rattle.whole_world.specs.Makes.{IsForMessages}
+use Rattle.whole_world.specs.World as whole_world
+use Rattle.node_core.specs.Nodes.{node_seen, IsNodeOf}
 use Rattle.node_core.specs.Standing.{ticket_standing}
 use Rattle.node_core.specs.declared.node.Node.{Node}
+use Rattle.whole_node.specs.Nodes.{WholeWorks}
+use Rattle.whole_node.specs.declared.node.WholeNode.{WholeNode}
 use Rattle.world_book.specs.Books.{entries_of, spare_of}
 use Rattle.world_book.specs.declared.book.Book.{Book}
 use Rattle.world_book.specs.declared.entry.Entry.{Entry}
@@ -58,6 +63,10 @@ use Rattle.cluster_world.proofs.Unchanged.{unchanged_by}
 use Rattle.cluster_world.specs.Sure.{is_done_in}
 use Rattle.cluster_world.specs.Telling.{standing_on}
 use Rattle.cluster_world.proofs.Longer.{as_long}
+use Rattle.cluster_world.proofs.Follows.{alone_follows, follows_none}
+use Rattle.cluster_world.proofs.Told.{IsOfMail, IsDone}
+use Rattle.cluster_world.proofs.Turning.{up_same}
+use Rattle.cluster_world.proofs.Wholly.{led, even_of}
 
 when_done : (b : Bool) (X Y : Type 0) → b ≡ true → MatchBool b X Y → X
 when_done true X Y e m = m
@@ -77,7 +86,7 @@ slot_same slots zero slot e = refl
 slot_same slots (suc k) slot e = set_same slots k slot e
 
 pub ready_of : {D : Type 0} (seen : D → Option (List ℕ)) (plan : Plan) (lives : List Life) (disks : List D) → CanWorkOn seen plan lives disks
-    → (n : ℕ) (node : Node) (disk : D) → of_node lives n ≡ Some (Up node) → of_node disks n ≡ Some disk → IsNodeOf plan n node × CanWork (seen disk) node
+    → (n : ℕ) (node : WholeNode) (disk : D) → of_node lives n ≡ Some (Up node) → of_node disks n ≡ Some disk → IsNodeOf plan n node.mail × WholeWorks (seen disk) node
 ready_of seen plan lives disks works zero node disk a b = absurd (let never : None ≡ Some (Up node) = a in cc)
 ready_of seen plan lives disks works (suc k) node disk a b = works.each k node disk a b
 
@@ -103,17 +112,17 @@ module _ {D : Type 0} (on : View D) (ticket : Number) (left_of : Node → plain.
   abbrev a : IsRetold left_of ch.life ch.life'
   a = ch.does.0
 
-  works : IsNodeOf old.plan ticket.node a.old × CanWork (on.seen ch.disk) a.old
+  works : IsNodeOf old.plan ticket.node a.old.mail × WholeWorks (on.seen ch.disk) a.old
   works = ready_of on.seen old.plan old.lives.items old.disks.items ready ticket.node a.old ch.disk (ch.was ∙ ap Some a.was) ch.held
 
   abbrev left : plain.Tickets
-  left = left_of a.old
+  left = left_of a.old.mail
 
   abbrev slot_then : Slot → Slot
-  slot_then slot = slot_up (record (node_seen a.old) { tickets = left }) slot.disk
+  slot_then slot = slot_up (record (node_seen a.old.mail) { tickets = left }) slot.disk
 
   retold_life : life_seen ch.life' ≡ life_seen ch.life
-  retold_life = ap life_seen a.is ∙ ap (λ (m : plain.Node). life.Up m.boot) a.tickets.seen ∙ sym (ap life_seen a.was)
+  retold_life = ap life_seen a.is ∙ ap (λ (m : plain.Node). life.Up m.boot) a.tickets.mail.seen ∙ sym (ap life_seen a.was)
 
   retold_lives : (m : ℕ) → life_among new m ≡ life_among old m
   retold_lives m = lives_turned ticket.node (IsRetoldOn left_of) old new ch m
@@ -129,11 +138,11 @@ module _ {D : Type 0} (on : View D) (ticket : Number) (left_of : Node → plain.
   retold_ready = subst (λ p. CanWorkOn on.seen p new.lives.items new.disks.items) (sym ch.plan)
       (still_ready ticket.node (IsRetoldOn left_of) old new ch on.seen old.plan ready (λ node up.
       let is : a.new ≡ node = the_node a.new node (sym a.is ∙ up) in (
-        subst (λ m. IsNodeOf old.plan ticket.node m) is (a.tickets.same old.plan ticket.node works.0),
-        subst (λ d. CanWork (on.seen d) node) (sym ch.does.1) (subst (λ m. CanWork (on.seen ch.disk) m) is (a.tickets.works (on.seen ch.disk) works.1)),
+        subst (λ (m : WholeNode). IsNodeOf old.plan ticket.node m.mail) is (a.tickets.mail.same old.plan ticket.node works.0),
+        subst (λ d. WholeWorks (on.seen d) node) (sym ch.does.1) (subst (λ m. WholeWorks (on.seen ch.disk) m) is (a.tickets.works (on.seen ch.disk) works.1)),
       )))
     where
-      the_node : (x y : Node) → Up x ≡ Up y → x ≡ y
+      the_node : (x y : WholeNode) → Up x ≡ Up y → x ≡ y
       the_node x y e = cc
 
   stands_then : (slot : Slot) → SlotStands on ticket.node ch.life ch.disk slot → SlotStands on ticket.node ch.life' ch.disk' (slot_then slot)
@@ -141,33 +150,33 @@ module _ {D : Type 0} (on : View D) (ticket : Number) (left_of : Node → plain.
       let up : SlotStands on ticket.node (Up a.old) ch.disk slot = subst (λ l. SlotStands on ticket.node l ch.disk slot) a.was stood in
       let (seen, is, st) = up in
       let now : SlotStands on ticket.node (Up a.new) ch.disk (slot_then slot) = (
-        record (node_seen a.old) { tickets = left },
+        record (node_seen a.old.mail) { tickets = left },
         refl,
         record {
-          seen_is = a.tickets.seen;
-          keeps = a.tickets.keeps slot.disk st.keeps;
-          tells = subst (λ e. TellsJournal (on.seen ch.disk) ticket.node (payloads_of slot.disk) e) (sym a.tickets.end_is) st.tells;
-          images = subst (λ e. IfSome (on.seen ch.disk) (λ _. (c : List ℕ) → on.clock.is_image ch.disk c → EndsAt ticket.node c (payloads_of slot.disk) e)) (sym a.tickets.end_is) st.images;
+          seen_is = a.tickets.mail.seen;
+          keeps = a.tickets.mail.keeps slot.disk st.keeps;
+          tells = subst (λ e. TellsJournal (on.seen ch.disk) ticket.node (payloads_of slot.disk) e) (sym a.tickets.mail.end_is) st.tells;
+          images = subst (λ e. IfSome (on.seen ch.disk) (λ _. (c : List ℕ) → on.clock.is_image ch.disk c → EndsAt ticket.node c (payloads_of slot.disk) e)) (sym a.tickets.mail.end_is) st.images;
         },
       ) in
       subst (λ d. SlotStands on ticket.node ch.life' d (slot_then slot)) (sym ch.does.1) (subst (λ l. SlotStands on ticket.node l ch.disk (slot_then slot)) (sym a.is) now)
 
-  seen_there : (slot : Slot) → SlotStands on ticket.node ch.life ch.disk slot → slot ≡ slot_up (node_seen a.old) slot.disk
+  seen_there : (slot : Slot) → SlotStands on ticket.node ch.life ch.disk slot → slot ≡ slot_up (node_seen a.old.mail) slot.disk
   seen_there slot stood =
       let up : SlotStands on ticket.node (Up a.old) ch.disk slot = subst (λ l. SlotStands on ticket.node l ch.disk slot) a.was stood in
       let (seen, is, st) = up in
       ap (λ l. record { life = l; disk = slot.disk }) (is ∙ ap plain.Life.Up (sym st.seen_is))
 
-  alive : (slot : Slot) → slot ≡ slot_up (node_seen a.old) slot.disk → slot.life ≢ plain.Life.Lost
-  alive slot e lost = let never : plain.Life.Up (node_seen a.old) ≡ plain.Life.Lost = sym (ap (λ (s : Slot). s.life) e) ∙ lost in cc
+  alive : (slot : Slot) → slot ≡ slot_up (node_seen a.old.mail) slot.disk → slot.life ≢ plain.Life.Lost
+  alive slot e lost = let never : plain.Life.Up (node_seen a.old.mail) ≡ plain.Life.Lost = sym (ap (λ (s : Slot). s.life) e) ∙ lost in cc
 
   kept : (slot : Slot) → SlotStands on ticket.node ch.life ch.disk slot → StopsKeep on ticket.node ch.disk ch.disk' slot (slot_then slot)
   kept slot stood = subst (λ d. StopsKeep on ticket.node ch.disk d slot (slot_then slot)) (sym ch.does.1)
-      (falls_kept on ticket.node ch.disk slot ch.life (plain.Life.Up (record (node_seen a.old) { tickets = left })) refl (alive slot (seen_there slot stood)) stood)
+      (falls_kept on ticket.node ch.disk slot ch.life (plain.Life.Up (record (node_seen a.old.mail) { tickets = left })) refl (alive slot (seen_there slot stood)) stood)
 
   -- the ticket as the machine finds it
-  standing : ticket_at ticket.node (node_seen a.old) (Some ticket) ≡ ticket_standing a.old ticket
-  standing = ap (λ own. ticket_at own (node_seen a.old) (Some ticket)) (sym works.0.own_is)
+  standing : ticket_at ticket.node (node_seen a.old.mail) (Some ticket) ≡ ticket_standing a.old.mail ticket
+  standing = ap (λ own. ticket_at own (node_seen a.old.mail) (Some ticket)) (sym works.0.own_is)
 
   module _ (flying : InFlight) (seconds : ℕ) (book book' : Book) where
     abbrev before : Rattle.cluster_world.specs.Worlds.WorldState D
@@ -193,13 +202,16 @@ module _ {D : Type 0} (on : View D) (ticket : Number) (left_of : Node → plain.
         → (slot : Slot) → slot_at w.slots ticket.node ≡ Some slot → SlotStands on ticket.node ch.life ch.disk slot
         → Rattle.cluster_model.specs.Makes.MakesStep old.plan (Rattle.cluster_world.specs.Worlds.tells_in on.seen before) w (step_seen s) (Rattle.cluster_world.specs.Seen.outcome_seen outcome)
         (record w { slots = with_slot w.slots ticket.node (slot_then slot); book = w.book ++ entries })
-        → LeadsTo on outcome s before behind w
-    leads_so s outcome entries wrote w st slot here stood made = record {
+        → IsOfMail outcome s → ((v : whole_world.World) → IsDone (Rattle.cluster_world.specs.Seen.outcome_seen outcome) → IsForMessages v (step_seen s)) → LeadsTo on outcome s before behind w
+    leads_so s outcome entries wrote w st slot here stood made is for = led on outcome s before behind (even_of old) (even_of new) w st is (λ v seen sound done. for v done) (record {
       next = record w { slots = with_slot w.slots ticket.node (slot_then slot); book = w.book ++ entries };
       stands = stands_now ticket.node (IsRetoldOn left_of) old new ch on flying seconds book book' entries wrote w st (slot_then slot) (stands_then slot stood);
       made = made;
       stops = record { each = stops_kept ticket.node (IsRetoldOn left_of) old new ch on w.slots slot (slot_then slot) st.slots here (λ _. kept slot stood) };
-    }
+      follow = alone_follows on ticket.node (IsRetoldOn left_of) old new ch w.slots slot (slot_then slot) here (λ x y was is.
+          follows_none ticket.node x y slot.disk slot.disk
+          (ap (λ (z : WholeNode). node_of z.maps) (up_same y a.new (sym is ∙ a.is)) ∙ ap node_of a.tickets.maps ∙ ap (λ (z : WholeNode). node_of z.maps) (up_same a.old x (sym a.was ∙ was))) refl);
+    })
 
     unchanged : (w : machine.World) (slot : Slot) → slot_at w.slots ticket.node ≡ Some slot → slot_then slot ≡ slot
         → ◌≡◌ {A = machine.World} (record w { slots = with_slot w.slots ticket.node (slot_then slot); book = w.book ++ [] }) w
@@ -208,22 +220,22 @@ module _ {D : Type 0} (on : View D) (ticket : Number) (left_of : Node → plain.
         let book_is : w.book ++ [] ≡ w.book = append-nil w.book in
         λ i. record w { slots = slots_are i; book = book_is i }
 
-    same_slot : (slot : Slot) → slot ≡ slot_up (node_seen a.old) slot.disk → left ≡ (node_seen a.old).tickets → slot_then slot ≡ slot
-    same_slot slot is e = ap (λ (t : plain.Tickets). slot_up (record (node_seen a.old) { tickets = t }) slot.disk) e ∙ sym is
+    same_slot : (slot : Slot) → slot ≡ slot_up (node_seen a.old.mail) slot.disk → left ≡ (node_seen a.old.mail).tickets → slot_then slot ≡ slot
+    same_slot slot is e = ap (λ (t : plain.Tickets). slot_up (record (node_seen a.old.mail) { tickets = t }) slot.disk) e ∙ sym is
 
-    stands_here : (w : machine.World) (slot : Slot) → slot_at w.slots ticket.node ≡ Some slot → slot ≡ slot_up (node_seen a.old) slot.disk
-        → stands_at ticket (slot_at w.slots ticket.node) ≡ is_some (ticket_standing a.old ticket)
+    stands_here : (w : machine.World) (slot : Slot) → slot_at w.slots ticket.node ≡ Some slot → slot ≡ slot_up (node_seen a.old.mail) slot.disk
+        → stands_at ticket (slot_at w.slots ticket.node) ≡ is_some (ticket_standing a.old.mail ticket)
     stands_here w slot here is = ap (stands_at ticket) (here ∙ ap Some is) ∙ ap (λ (o : Option plain.Ticket). is_some o) standing
 
     -- A ticket is asked.
     module _ (result : Option code.Ask) (fit : node_refusal old.plan (life_among old) (step.Ask ticket) ≡ None)
-        (answered : asks_seen result ≡ asks_at a.old.shape.confirm (ticket_standing a.old ticket))
-        (left_out : left ≡ asked_out a.old.shape.confirm ticket.seq (ticket_standing a.old ticket) (node_seen a.old).tickets) where
+        (answered : asks_seen result ≡ asks_at a.old.mail.shape.confirm (ticket_standing a.old.mail ticket))
+        (left_out : left ≡ asked_out a.old.mail.shape.confirm ticket.seq (ticket_standing a.old.mail ticket) (node_seen a.old.mail).tickets) where
       -- no such ticket
       pub none_asked : result ≡ None → booked_by book' ≡ booked_by book → StepDid on (Err fault.NoSuchTicket) (step.Ask ticket) before behind
       none_asked none wrote =
-          let st_none : ticket_standing a.old ticket ≡ None = no_answer a.old.shape.confirm (ticket_standing a.old ticket) (sym (ap asks_seen none) ∙ answered) in
-          let left_is : left ≡ (node_seen a.old).tickets = left_out ∙ ap (λ o. asked_out a.old.shape.confirm ticket.seq o (node_seen a.old).tickets) st_none in
+          let st_none : ticket_standing a.old.mail ticket ≡ None = no_answer a.old.mail.shape.confirm (ticket_standing a.old.mail ticket) (sym (ap asks_seen none) ∙ answered) in
+          let left_is : left ≡ (node_seen a.old.mail).tickets = left_out ∙ ap (λ o. asked_out a.old.mail.shape.confirm ticket.seq o (node_seen a.old.mail).tickets) st_none in
           record {
             plan = ch.plan;
             handed = as_many ticket.node (IsRetoldOn left_of) old new ch;
@@ -237,15 +249,15 @@ module _ {D : Type 0} (on : View D) (ticket : Number) (left_of : Node → plain.
             lighter = tt;
             books = as_long (booked_by book) (booked_by book') wrote;
             kept = unchanged_by ticket.node (IsRetoldOn left_of) old new ch flying flying seconds seconds book book' on (step.Ask ticket)
-                (ap (λ (l : Life). node_of_life (Some l)) a.is ∙ ap Some (a.tickets.seen ∙ ap (λ (l : plain.Tickets). record (node_seen a.old) { tickets = l }) left_is) ∙ sym (ap (λ (l : Life). node_of_life (Some l)) a.was))
+                (ap (λ (l : Life). node_of_life (Some l)) a.is ∙ ap Some (a.tickets.mail.seen ∙ ap (λ (l : plain.Tickets). record (node_seen a.old.mail) { tickets = l }) left_is) ∙ sym (ap (λ (l : Life). node_of_life (Some l)) a.was))
                 (λ _. ch.does.1) (λ _. (nothing_read on ch.disk ch.disk' ch.does.1, ap on.faults ch.does.1)) refl refl wrote;
             leads = λ known ended w st.
                 let (slot, here, stood) = slot_of on old.lives.items old.disks.items w.slots ticket.node ch.life ch.disk st.slots ch.was ch.held in
                 let is = seen_there slot stood in
                 leads_so (step.Ask ticket) (Err fault.NoSuchTicket) [] (wrote ∙ sym (append-nil (booked_by book))) w st slot here stood (
-                  inl (inl (no_ticket_asked old.plan w ticket slot (node_seen a.old) named here (ap (λ (s : Slot). s.life) is) (stands_here w slot here is ∙ ap (λ (o : Option plain.Ticket). is_some o) st_none))),
+                  inl (inl (no_ticket_asked old.plan w ticket slot (node_seen a.old.mail) named here (ap (λ (s : Slot). s.life) is) (stands_here w slot here is ∙ ap (λ (o : Option plain.Ticket). is_some o) st_none))),
                   unchanged w slot here (same_slot slot is left_is),
-                );
+                ) (record { step_is = refl; said_is = refl; sees = λ unseen. unseen }) (λ v done. tt);
             cause = λ w st. tt;
           }
 
@@ -253,10 +265,10 @@ module _ {D : Type 0} (on : View D) (ticket : Number) (left_of : Node → plain.
       module _ (ask : code.Ask) (some : result ≡ Some ask) (items : List Entry) (for : AreForTicket ticket (Up a.old) items)
           (wrote : entries_of book' ≡ entries_of book ++ (if confirms (ask_seen ask) then items else [])) where
         abbrev Found : Type 0
-        Found = (t : plain.Ticket) × (ticket_standing a.old ticket ≡ Some t) × (ask_of a.old.shape.confirm t ≡ ask_seen ask)
+        Found = (t : plain.Ticket) × (ticket_standing a.old.mail ticket ≡ Some t) × (ask_of a.old.mail.shape.confirm t ≡ ask_seen ask)
 
         found : Found
-        found = an_answer a.old.shape.confirm (ticket_standing a.old ticket) (ask_seen ask) (sym (ap asks_seen some) ∙ answered)
+        found = an_answer a.old.mail.shape.confirm (ticket_standing a.old.mail ticket) (ask_seen ask) (sym (ap asks_seen some) ∙ answered)
 
         booked : booked_by book' ≡ booked_by book ++ entries_seen (if confirms (ask_seen ask) then items else [])
         booked = ap entries_seen wrote ∙ entries_more (entries_of book) (if confirms (ask_seen ask) then items else [])
@@ -266,31 +278,31 @@ module _ {D : Type 0} (on : View D) (ticket : Number) (left_of : Node → plain.
             let (slot, here, stood) = slot_of on old.lives.items old.disks.items w.slots ticket.node ch.life ch.disk st.slots ch.was ch.held in
             let is = seen_there slot stood in
             let (t, stands, answer) = found in
-            let left_is : left ≡ (node_seen a.old).tickets =
-            left_out ∙ ap (λ o. asked_out a.old.shape.confirm ticket.seq o (node_seen a.old).tickets) stands
-            ∙ ap (λ x. if is_done x then fin.remove (node_seen a.old).tickets ticket.seq else (node_seen a.old).tickets) (answer ∙ e) in
+            let left_is : left ≡ (node_seen a.old.mail).tickets =
+            left_out ∙ ap (λ o. asked_out a.old.mail.shape.confirm ticket.seq o (node_seen a.old.mail).tickets) stands
+            ∙ ap (λ x. if is_done x then fin.remove (node_seen a.old.mail).tickets ticket.seq else (node_seen a.old.mail).tickets) (answer ∙ e) in
             leads_so (step.Ask ticket) (Ok (Asked ask)) [] (booked ∙ ap (λ x. booked_by book ++ entries_seen (if confirms x then items else [])) e) w st slot here stood (
-              ask_goes old.plan w ticket slot (node_seen a.old) named here (ap (λ (s : Slot). s.life) is) (stands_here w slot here is ∙ ap (λ (o : Option plain.Ticket). is_some o) stands),
-              AnswersAsk.Waits (node_seen a.old) slot.disk t (here ∙ ap Some is) (standing ∙ stands) got wanted
+              ask_goes old.plan w ticket slot (node_seen a.old.mail) named here (ap (λ (s : Slot). s.life) is) (stands_here w slot here is ∙ ap (λ (o : Option plain.Ticket). is_some o) stands),
+              AnswersAsk.Waits (node_seen a.old.mail) slot.disk t (here ∙ ap Some is) (standing ∙ stands) got wanted
                   (ap (λ c. ask_of c t) (sym works.0.confirm) ∙ answer ∙ e) (ap steps.Said.Asked e) (unchanged w slot here (same_slot slot is left_is)),
-            )
+            ) (record { step_is = refl; said_is = refl; sees = λ unseen. unseen }) (λ v done. tt)
         ask_leads (progress.Ask.Done given) e w st =
             let (slot, here, stood) = slot_of on old.lives.items old.disks.items w.slots ticket.node ch.life ch.disk st.slots ch.was ch.held in
             let is = seen_there slot stood in
             let (t, stands, answer) = found in
-            let left_is : left ≡ fin.remove (node_seen a.old).tickets ticket.seq =
-            left_out ∙ ap (λ o. asked_out a.old.shape.confirm ticket.seq o (node_seen a.old).tickets) stands
-            ∙ ap (λ x. if is_done x then fin.remove (node_seen a.old).tickets ticket.seq else (node_seen a.old).tickets) (answer ∙ e) in
-            let made_for : is_done (ask_of a.old.shape.confirm t) ≡ true → entries_seen items ≡ wants_entries t.wants =
-            λ done. when_done (done_at a.old.shape.confirm (ticket_standing a.old ticket)) _ _ (ap (done_at a.old.shape.confirm) stands ∙ done) for ∙ ap (λ o. wants_entries (wants_at o)) stands in
+            let left_is : left ≡ fin.remove (node_seen a.old.mail).tickets ticket.seq =
+            left_out ∙ ap (λ o. asked_out a.old.mail.shape.confirm ticket.seq o (node_seen a.old.mail).tickets) stands
+            ∙ ap (λ x. if is_done x then fin.remove (node_seen a.old.mail).tickets ticket.seq else (node_seen a.old.mail).tickets) (answer ∙ e) in
+            let made_for : is_done (ask_of a.old.mail.shape.confirm t) ≡ true → entries_seen items ≡ wants_entries t.wants =
+            λ done. when_done (done_at a.old.mail.shape.confirm (ticket_standing a.old.mail ticket)) _ _ (ap (done_at a.old.mail.shape.confirm) stands ∙ done) for ∙ ap (λ o. wants_entries (wants_at o)) stands in
             let says : entries_seen (if confirms (ask_seen ask) then items else []) ≡ entries_with given t =
-            ap (λ x. entries_seen (if confirms x then items else [])) e ∙ entered a.old.shape.confirm t given items made_for (answer ∙ e) in
+            ap (λ x. entries_seen (if confirms x then items else [])) e ∙ entered a.old.mail.shape.confirm t given items made_for (answer ∙ e) in
             leads_so (step.Ask ticket) (Ok (Asked ask)) (entries_with given t) (booked ∙ ap (λ x. booked_by book ++ x) says) w st slot here stood (
-              ask_goes old.plan w ticket slot (node_seen a.old) named here (ap (λ (s : Slot). s.life) is) (stands_here w slot here is ∙ ap (λ (o : Option plain.Ticket). is_some o) stands),
-              AnswersAsk.Ends (node_seen a.old) slot.disk t (here ∙ ap Some is) (standing ∙ stands) given
+              ask_goes old.plan w ticket slot (node_seen a.old.mail) named here (ap (λ (s : Slot). s.life) is) (stands_here w slot here is ∙ ap (λ (o : Option plain.Ticket). is_some o) stands),
+              AnswersAsk.Ends (node_seen a.old.mail) slot.disk t (here ∙ ap Some is) (standing ∙ stands) given
                   (ap (λ c. ask_of c t) (sym works.0.confirm) ∙ answer ∙ e) (ap steps.Said.Asked e)
-                  (ap (λ (l : plain.Tickets). record w { slots = with_slot w.slots ticket.node (slot_up (record (node_seen a.old) { tickets = l }) slot.disk); book = w.book ++ entries_with given t }) left_is),
-            )
+                  (ap (λ (l : plain.Tickets). record w { slots = with_slot w.slots ticket.node (slot_up (record (node_seen a.old.mail) { tickets = l }) slot.disk); book = w.book ++ entries_with given t }) left_is),
+            ) (record { step_is = refl; said_is = refl; sees = λ unseen. unseen }) (λ v done. tt)
 
         pub ask_done : StepDid on (Ok (Asked ask)) (step.Ask ticket) before behind
         ask_done = record {
@@ -311,9 +323,9 @@ module _ {D : Type 0} (on : View D) (ticket : Number) (left_of : Node → plain.
         }
 
     -- A ticket is given up.
-    module _ (fit : node_refusal old.plan (life_among old) (step.GiveUp ticket) ≡ None) (stood : is_some (ticket_standing a.old ticket) ≡ true) (early : nat_le letters_end flying.sent ≡ false)
-        (left_out : left ≡ tickets_without ticket a.old) (same : booked_by book' ≡ booked_by book) where
-      ended : (o : Option plain.Ticket) → is_some o ≡ true → ticket_taken_out ticket.seq o (node_seen a.old).tickets ≡ fin.remove (node_seen a.old).tickets ticket.seq
+    module _ (fit : node_refusal old.plan (life_among old) (step.GiveUp ticket) ≡ None) (stood : is_some (ticket_standing a.old.mail ticket) ≡ true) (early : nat_le letters_end flying.sent ≡ false)
+        (left_out : left ≡ tickets_without ticket a.old.mail) (same : booked_by book' ≡ booked_by book) where
+      ended : (o : Option plain.Ticket) → is_some o ≡ true → ticket_taken_out ticket.seq o (node_seen a.old.mail).tickets ≡ fin.remove (node_seen a.old.mail).tickets ticket.seq
       ended None e = absurd (let never : false ≡ true = e in cc)
       ended (Some t) e = refl
 
@@ -321,14 +333,14 @@ module _ {D : Type 0} (on : View D) (ticket : Number) (left_of : Node → plain.
       give_up_leads w st =
           let (slot, here, stands) = slot_of on old.lives.items old.disks.items w.slots ticket.node ch.life ch.disk st.slots ch.was ch.held in
           let is = seen_there slot stands in
-          let left_is : left ≡ fin.remove (node_seen a.old).tickets ticket.seq = left_out ∙ ended (ticket_standing a.old ticket) stood in
+          let left_is : left ≡ fin.remove (node_seen a.old.mail).tickets ticket.seq = left_out ∙ ended (ticket_standing a.old.mail ticket) stood in
           let book_is : w.book ++ [] ≡ w.book = append-nil w.book in
-          let next_is : ◌≡◌ {A = machine.World} (record w { slots = with_slot w.slots ticket.node (slot_then slot); book = w.book ++ [] }) (after w ticket.node (end_ticket ticket.seq (node_seen a.old) slot.disk)) =
-          λ i. record w { slots = with_slot w.slots ticket.node (slot_up (record (node_seen a.old) { tickets = left_is i }) slot.disk); book = book_is i } in
+          let next_is : ◌≡◌ {A = machine.World} (record w { slots = with_slot w.slots ticket.node (slot_then slot); book = w.book ++ [] }) (after w ticket.node (end_ticket ticket.seq (node_seen a.old.mail) slot.disk)) =
+          λ i. record w { slots = with_slot w.slots ticket.node (slot_up (record (node_seen a.old.mail) { tickets = left_is i }) slot.disk); book = book_is i } in
           leads_so (step.GiveUp ticket) (Ok Done) [] (same ∙ sym (append-nil (booked_by book))) w st slot here stands (
-            give_up_goes old.plan w ticket slot (node_seen a.old) named here (ap (λ (s : Slot). s.life) is) (stands_here w slot here is ∙ stood) (ap (nat_le letters_end) (sym st.sent) ∙ early),
-            record { node = node_seen a.old; disk = slot.disk; up = here ∙ ap Some is; said_is = refl; new_world = next_is },
-          )
+            give_up_goes old.plan w ticket slot (node_seen a.old.mail) named here (ap (λ (s : Slot). s.life) is) (stands_here w slot here is ∙ stood) (ap (nat_le letters_end) (sym st.sent) ∙ early),
+            record { node = node_seen a.old.mail; disk = slot.disk; up = here ∙ ap Some is; said_is = refl; new_world = next_is },
+          ) (record { step_is = refl; said_is = refl; sees = λ unseen. unseen }) (λ v done. tt)
 
       pub give_up_done : StepDid on (Ok Done) (step.GiveUp ticket) before behind
       give_up_done = record {
@@ -390,7 +402,7 @@ module _ {D : Type 0} (on : View D) (ticket : Number) (result : Option code.Ask)
     asked_did = ask_done on ticket (left_once_asked ticket) old new named_asked ready re flying seconds book book' result fit ch.does.0.answer refl
 
 -- a node that may be asked is up
-ask_up : (ticket : Number) (o : Option Life) (l : Life) → o ≡ Some l → life_refusal (step.Ask ticket) (seen_life o) ≡ None → (node : Node) × (l ≡ Up node)
+ask_up : (ticket : Number) (o : Option Life) (l : Life) → o ≡ Some l → life_refusal (step.Ask ticket) (seen_life o) ≡ None → (node : WholeNode) × (l ≡ Up node)
 ask_up ticket None l e h = absurd (let never : None ≡ Some l = e in cc)
 ask_up ticket (Some (Up node)) l e h = (node, some_same l (Up node) (sym e))
 ask_up ticket (Some Down) l e h = absurd (let never : Some fault.NodeDown ≡ None = h in cc)
@@ -408,7 +420,7 @@ up_whole seen ticket nodes fit ready l here =
     let (node, up) = ask_up ticket (of_node nodes.lives.items ticket.node) l here fits in
     let (disk, held) = disk_of nodes.disks.items nodes.lives.items ticket.node l (nodes.all ∙ sym nodes.disk_each) here in
     let (of, works) = ready_of seen nodes.plan nodes.lives.items nodes.disks.items ready ticket.node node disk (here ∙ ap Some up) held in
-    record { node = node; up = up; whole = works.whole }
+    record { node = node; up = up; whole = works.mail.whole }
 
 pub if_there : (o : Option Life) (l : Life) → o ≡ Some l → IsUpWhole l → IfSome o (λ life. IsUpWhole life)
 if_there o l e up = subst (λ o. IfSome o (λ life. IsUpWhole life)) (sym e) up
@@ -430,13 +442,13 @@ pub done_in_world : {D : Type 0} (seen : D → Option (List ℕ)) (ticket : Numb
 done_in_world seen ticket nodes flying seconds book ready (Up node) here done =
     let (disk, held) = disk_of nodes.disks.items nodes.lives.items ticket.node (Up node) (nodes.all ∙ sym nodes.disk_each) here in
     let (of, works) = ready_of seen nodes.plan nodes.lives.items nodes.disks.items ready ticket.node node disk here held in
-    ap (λ o. done_at nodes.plan.confirm (standing_on o ticket)) here ∙ ap (λ c. done_at c (ticket_standing node ticket)) (sym of.confirm) ∙ done
+    ap (λ o. done_at nodes.plan.confirm (standing_on o ticket)) here ∙ ap (λ c. done_at c (ticket_standing node.mail ticket)) (sym of.confirm) ∙ done
 done_in_world seen ticket nodes flying seconds book ready Down here done = absurd done
 done_in_world seen ticket nodes flying seconds book ready Lost here done = absurd done
 
 -- where there are entries the call is done
 pub entries_done : (ticket : Number) (life : Life) (entries : List Entry) → AreForTicket ticket life entries → 1 ≤ length entries → IsDoneAt ticket life
-entries_done ticket (Up node) entries for some = by _ (done_at node.shape.confirm (ticket_standing node ticket)) for
+entries_done ticket (Up node) entries for some = by _ (done_at node.mail.shape.confirm (ticket_standing node.mail ticket)) for
   where
     by : (X : Type 0) (b : Bool) → MatchBool b X (entries ≡ []) → b ≡ true
     by X true m = refl

@@ -1,5 +1,5 @@
 -- A mishap of a letter leaves all that is told of nodes, but for a ticket: the machine notes it likewise.
-use Rattle.std.proofs.Common.{◌≡◌, ⊎_elim, ℕ, zero, suc, ◌+◌, ◌<◌, ◌≤◌, Bool, true, false, nat_eq, List, [], ◌∷◌, ◌++◌, length, take, Option, Some, None, refl, sym, ap, ◌∙◌, subst, arith, if◌then◌else◌}
+use Rattle.std.proofs.Common.{◌≡◌, ◌≢◌, ⊎_elim, ℕ, zero, suc, ◌+◌, ◌<◌, ◌≤◌, Bool, true, false, nat_eq, List, [], ◌∷◌, ◌++◌, length, take, Option, Some, None, refl, sym, ap, ◌∙◌, subst, arith, if◌then◌else◌}
 use Rattle.std.specs.Prelude.{slice_get}
 use Rattle.std.proofs.lemmas.Option.{slice_get_cases}
 use Rattle.mail_model.specs.Plan.{Plan}
@@ -10,8 +10,9 @@ use Rattle.cluster_model.specs.Cluster as plain
 use Rattle.cluster_model.specs.Cluster.{slot_at}
 use Rattle.cluster_model.specs.World.{missed, missed_under, missed_at, other_end}
 use Rattle.node_store.specs.Disks.{View}
-use Rattle.node_core.specs.Nodes.{IsNodeOf, CanWork, IsWhole}
-use Rattle.node_core.specs.declared.node.Node.{Node}
+use Rattle.node_core.specs.Nodes.{node_seen, IsNodeOf, IsWhole}
+use Rattle.whole_node.specs.Nodes.{WholeWorks}
+use Rattle.whole_node.specs.declared.node.WholeNode.{WholeNode}
 use Rattle.cluster_world.specs.Lives.{life_seen, of_node, with_node_at, falls_left, all_falls_left, CanWorkOn}
 use Rattle.cluster_world.specs.Stands.{SlotsStand}
 use Rattle.cluster_world.specs.Worlds.{seen_life}
@@ -23,7 +24,8 @@ use Rattle.cluster_world.specs.declared.life.Life.TheVariants.{Up, Down, Lost}
 use Rattle.cluster_world.specs.declared.nodes.Nodes.{Nodes}
 use Rattle.cluster_world.proofs.Still.{some_same}
 use Rattle.cluster_world.proofs.Changing.{there, changed_at, set_same}
-use Rattle.cluster_world.proofs.Turned.{slot_of, slots_stand, lives_turned, still_ready, falls_now}
+use Rattle.cluster_world.proofs.Turning.{up_same}
+use Rattle.cluster_world.proofs.Turned.{same_or, life_there, life_else, slot_of, slots_stand, lives_turned, still_ready, falls_now}
 use Rattle.cluster_world.proofs.Noted.{life_noted}
 use Rattle.cluster_world.proofs.Putting.{missed_more}
 
@@ -33,7 +35,7 @@ Noted kind at number D life disk life' disk' = LifeNoted kind at number life lif
 
 -- it is told as before
 pub seen_as_before : (kind : MishapKind) (at : ℕ) (number : Number) (life life' : Life) → LifeNoted kind at number life life' → life_seen life' ≡ life_seen life
-seen_as_before kind at number (Up old) (Up new) n = ap (λ (node : plain.Node). Rattle.session_model.specs.Events.NodeLife.Up node.boot) n.seen
+seen_as_before kind at number (Up old) (Up new) n = ap (λ (node : plain.Node). Rattle.session_model.specs.Events.NodeLife.Up node.boot) n.mail.seen
 seen_as_before kind at number Down Down n = refl
 seen_as_before kind at number Lost Lost n = refl
 seen_as_before kind at number (Up old) Down n = absurd n
@@ -54,13 +56,25 @@ falls_as_before kind at number Down Lost n = absurd n
 falls_as_before kind at number Lost (Up new) n = absurd n
 falls_as_before kind at number Lost Down n = absurd n
 
+-- its maps are as before
+pub maps_as_before : (kind : MishapKind) (at : ℕ) (number : Number) (life life' : Life) → LifeNoted kind at number life life' → (x y : WholeNode) → life ≡ Up x → life' ≡ Up y → y.maps ≡ x.maps
+maps_as_before kind at number (Up old) (Up new) n x y e f = ap (λ (z : WholeNode). z.maps) (up_same y new (sym f)) ∙ n.maps ∙ ap (λ (z : WholeNode). z.maps) (up_same old x e)
+maps_as_before kind at number Down Down n x y e f = absurd (let never : Down ≡ Up x = e in cc)
+maps_as_before kind at number Lost Lost n x y e f = absurd (let never : Lost ≡ Up x = e in cc)
+maps_as_before kind at number (Up old) Down n x y e f = absurd n
+maps_as_before kind at number (Up old) Lost n x y e f = absurd n
+maps_as_before kind at number Down (Up new) n x y e f = absurd n
+maps_as_before kind at number Down Lost n x y e f = absurd n
+maps_as_before kind at number Lost (Up new) n x y e f = absurd n
+maps_as_before kind at number Lost Down n x y e f = absurd n
+
 -- it works on
 pub works_on : (kind : MishapKind) (at : ℕ) (number : Number) (life life' : Life) → LifeNoted kind at number life life' → (plan : Plan) (own : ℕ) (seen : Option (List ℕ))
-    → ((node : Node) → life ≡ Up node → IsNodeOf plan own node × CanWork seen node) → (node : Node) → life' ≡ Up node → IsNodeOf plan own node × CanWork seen node
+    → ((node : WholeNode) → life ≡ Up node → IsNodeOf plan own node.mail × WholeWorks seen node) → (node : WholeNode) → life' ≡ Up node → IsNodeOf plan own node.mail × WholeWorks seen node
 works_on kind at number (Up old) (Up new) n plan own seen was node e =
     let same : new ≡ node = cc in
     let old_is = was old refl in
-    subst (λ x. IsNodeOf plan own x × CanWork seen x) same (n.same plan own old_is.0, n.works seen old_is.1)
+    subst (λ x. IsNodeOf plan own x.mail × WholeWorks seen x) same (n.mail.same plan own old_is.0, n.works seen old_is.1)
 works_on kind at number Down Down n plan own seen was node e = absurd (let never : Down ≡ Up node = e in cc)
 works_on kind at number Lost Lost n plan own seen was node e = absurd (let never : Lost ≡ Up node = e in cc)
 works_on kind at number (Up old) Down n plan own seen was node e = absurd n
@@ -98,6 +112,7 @@ module _ {D : Type 0} (on : View D) (plan : Plan) (kind : MishapKind) where
       plan = p;
       disks = d;
       lives = λ n. ap (λ xs. seen_life (of_node xs n)) l;
+      maps = λ n x y e f. ap (λ (z : WholeNode). z.maps) (up_same y x (some_same (Up y) (Up x) (sym f ∙ ap (λ xs. of_node xs n) l ∙ e)));
       falls = ap all_falls_left l;
       slots = λ slots s. subst (λ xs. SlotsStand on new.lives.items new.disks.items xs) (sym (same slots s)) (subst (λ xs. SlotsStand on xs new.disks.items slots) (sym l) (subst (λ xs. SlotsStand on old.lives.items xs slots) (sym d) s));
     };
@@ -105,7 +120,7 @@ module _ {D : Type 0} (on : View D) (plan : Plan) (kind : MishapKind) where
   }
 
   module _ (at : ℕ) (number : Number) (old new : Nodes D) (works : CanWorkOn on.seen plan old.lives.items old.disks.items) where
-    own_node : (n : ℕ) (life : Life) (disk : D) → of_node old.lives.items n ≡ Some life → of_node old.disks.items n ≡ Some disk → (node : Node) → life ≡ Up node → IsNodeOf plan n node × CanWork (on.seen disk) node
+    own_node : (n : ℕ) (life : Life) (disk : D) → of_node old.lives.items n ≡ Some life → of_node old.disks.items n ≡ Some disk → (node : WholeNode) → life ≡ Up node → IsNodeOf plan n node.mail × WholeWorks (on.seen disk) node
     own_node zero life disk a b node e = absurd (let never : None ≡ Some life = a in cc)
     own_node (suc k) life disk a b node e = works.each k node disk (a ∙ ap Some e) b
 
@@ -119,6 +134,14 @@ module _ {D : Type 0} (on : View D) (plan : Plan) (kind : MishapKind) where
             disks = ch.disks_are ∙ same_at old.disks.items number.node ch.disk' (ch.held ∙ ap Some (sym disk_same));
             lives = λ m. lives_turned number.node (λ l d l' d'. Noted kind at number D l d l' d') old new ch m
                 ∙ turned_still number.node m (λ k. seen_life (of_node old.lives.items k)) (life_seen ch.life') (seen_same ∙ sym (ap seen_life ch.was));
+            maps = λ m x y e f. ⊎_elim
+                (λ (same : m ≡ number.node).
+                let was : ch.life ≡ Up x = some_same ch.life (Up x) (sym ch.was ∙ ap (of_node old.lives.items) (sym same) ∙ e) in
+                let is : ch.life' ≡ Up y = some_same ch.life' (Up y) (sym (life_there number.node (λ l d l' d'. Noted kind at number D l d l' d') old new ch) ∙ ap (of_node new.lives.items) (sym same) ∙ f) in
+                maps_as_before kind at number ch.life ch.life' ch.does.0 x y was is)
+                (λ (other : m ≢ number.node).
+                ap (λ (z : WholeNode). z.maps) (up_same y x (some_same (Up y) (Up x) (sym f ∙ life_else number.node (λ l d l' d'. Noted kind at number D l d l' d') old new ch m other ∙ e))))
+                (same_or m number.node);
             falls = omega (arith, falls_now number.node (λ l d l' d'. Noted kind at number D l d l' d') old new ch, falls_as_before kind at number ch.life ch.life' ch.does.0);
             slots = λ slots s.
                 let (slot, here, stands) = slot_of on old.lives.items old.disks.items slots number.node ch.life ch.disk s ch.was ch.held in
@@ -130,7 +153,7 @@ module _ {D : Type 0} (on : View D) (plan : Plan) (kind : MishapKind) where
           };
           works = still_ready number.node (λ l d l' d'. Noted kind at number D l d l' d') old new ch on.seen plan works
               (λ node up. works_on kind at number ch.life ch.life' ch.does.0 plan number.node (on.seen ch.disk') (λ was up'.
-              subst (λ d. IsNodeOf plan number.node was × CanWork (on.seen d) was) (sym disk_same) (own_node number.node ch.life ch.disk ch.was ch.held was up')) node up);
+              subst (λ d. IsNodeOf plan number.node was.mail × WholeWorks (on.seen d) was) (sym disk_same) (own_node number.node ch.life ch.disk ch.was ch.held was up')) node up);
         }
 
     pub lives_noted : new.plan ≡ old.plan → new.disks.items ≡ old.disks.items → length old.disks.items ≡ length old.lives.items → LivesNoted kind at number old.lives.items new.lives.items
@@ -156,10 +179,17 @@ module _ {D : Type 0} (on : View D) (plan : Plan) (kind : MishapKind) where
 
 -- each node that is up is whole
 pub all_whole : {D : Type 0} (seen : D → Option (List ℕ)) (plan : Plan) (lives : List Life) (disks : List D) → length disks ≡ length lives → CanWorkOn seen plan lives disks
-    → (k : ℕ) (node : Node) → slice_get lives k ≡ Some (Up node) → IsWhole node
+    → (k : ℕ) (node : WholeNode) → slice_get lives k ≡ Some (Up node) → IsWhole node.mail
 all_whole seen plan lives disks even works k node here =
     let (disk, held) = there disks k (omega (arith, even, within_of lives k (Up node) here)) in
-    (works.each k node disk here held).1.whole
+    (works.each k node disk here held).1.mail.whole
+
+-- a node that is up is up as long as that is told of it
+pub up_too : (o p : Option Life) (x : WholeNode) → o ≡ Some (Up x) → seen_life p ≡ seen_life o → (y : WholeNode) × (p ≡ Some (Up y))
+up_too o None x e same = absurd (let never : NodeLife.Lost ≡ NodeLife.Up (node_seen x.mail).boot = same ∙ ap seen_life e in cc)
+up_too o (Some (Up y)) x e same = (y, refl)
+up_too o (Some Down) x e same = absurd (let never : NodeLife.Down ≡ NodeLife.Up (node_seen x.mail).boot = same ∙ ap seen_life e in cc)
+up_too o (Some Lost) x e same = absurd (let never : NodeLife.Lost ≡ NodeLife.Up (node_seen x.mail).boot = same ∙ ap seen_life e in cc)
 
 module _ {D : Type 0} (on : View D) (plan : Plan) where
   -- one after the other
@@ -169,6 +199,9 @@ module _ {D : Type 0} (on : View D) (plan : Plan) where
       plan = b.only.plan ∙ a.only.plan;
       disks = b.only.disks ∙ a.only.disks;
       lives = λ n. b.only.lives n ∙ a.only.lives n;
+      maps = λ n x y e f.
+          let (z, g) = up_too (of_node old.lives.items n) (of_node mid.lives.items n) x e (a.only.lives n) in
+          b.only.maps n z y g f ∙ a.only.maps n x z e g;
       falls = b.only.falls ∙ a.only.falls;
       slots = λ slots s. b.only.slots (f slots) (a.only.slots slots s);
     };
@@ -176,7 +209,7 @@ module _ {D : Type 0} (on : View D) (plan : Plan) where
   }
 
   pub noticed_none : (nodes : Nodes D) → CanWorkOn on.seen plan nodes.lives.items nodes.disks.items → Noticed on plan (λ slots. slots) nodes nodes
-  noticed_none nodes works = record { only = record { plan = refl; disks = refl; lives = λ n. refl; falls = refl; slots = λ slots s. s }; works = works }
+  noticed_none nodes works = record { only = record { plan = refl; disks = refl; lives = λ n. refl; maps = λ n x y e f. ap (λ (z : WholeNode). z.maps) (up_same y x (some_same (Up y) (Up x) (sym f ∙ e))); falls = refl; slots = λ slots s. s }; works = works }
 
   pub missed_last : (kind : MishapKind) (letters : List Letter) (letter : Letter) (old new : Nodes D) → Noticed on plan (λ slots. missed kind (all_missed kind slots letters) letter) old new
       → Noticed on plan (λ slots. all_missed kind slots (letters ++ letter ∷ [])) old new
@@ -185,6 +218,7 @@ module _ {D : Type 0} (on : View D) (plan : Plan) where
       plan = n.only.plan;
       disks = n.only.disks;
       lives = n.only.lives;
+      maps = n.only.maps;
       falls = n.only.falls;
       slots = λ slots s. subst (λ xs. SlotsStand on new.lives.items new.disks.items xs) (sym (missed_more kind slots letters letter)) (n.only.slots slots s);
     };

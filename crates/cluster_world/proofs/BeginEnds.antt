@@ -10,13 +10,14 @@ use Rattle.cluster_model.specs.World as machine
 use Rattle.cluster_model.specs.Steps as steps
 use Rattle.cluster_model.specs.Steps.{is_node, letters_end, is_worn_for}
 use Rattle.cluster_model.specs.Makes.{MakesStep}
+use Rattle.node_maps.specs.Nodes.{node_of}
 use Rattle.node_store.specs.Disks.{View}
 use Rattle.node_core.specs.Beginning.{call_seen}
 use Rattle.node_core.specs.Nodes.{node_seen, IsAsBefore}
 use Rattle.node_core.specs.Works.{IsOnlyRead}
 use Rattle.node_core.specs.declared.fault.NodeFault.{NodeFault}
 use Rattle.node_core.specs.declared.fault.NodeFault.TheVariants.{Disk, Worn, NoMemory}
-use Rattle.node_core.specs.declared.node.Node.{Node}
+use Rattle.whole_node.specs.declared.node.WholeNode.{WholeNode}
 use Rattle.node_core.specs.declared.outbox.Outbox.{Outbox}
 use Rattle.call_tickets.specs.declared.call.Call.{Call}
 use Rattle.world_book.specs.Books.{entries_of}
@@ -40,7 +41,7 @@ use Rattle.cluster_world.specs.declared.step.Said.{Said}
 use Rattle.cluster_world.specs.declared.step.Said.TheVariants as said
 use Rattle.cluster_world.specs.declared.fault.StepFault.{StepFault}
 use Rattle.cluster_world.specs.declared.fault.StepFault.TheVariants as fault
-use Rattle.cluster_world.proofs.Same.{same_told, same_quiet, same_stops, same_unchanged}
+use Rattle.cluster_world.proofs.Same.{same_told, same_quiet, led_kept, same_unchanged}
 use Rattle.cluster_world.proofs.Asked.{disk_of}
 use Rattle.cluster_world.proofs.Kept.{only_settled}
 use Rattle.cluster_world.proofs.Refusing.{fit_of}
@@ -50,14 +51,17 @@ use Rattle.cluster_world.proofs.Beginning.{begin_is_late, begin_is_worn}
 use Rattle.cluster_world.proofs.BeginIdle.{read_stands, read_stops}
 use Rattle.cluster_world.proofs.BeginSteps.{begun_step}
 use Rattle.cluster_world.proofs.BeginFalls.{unsent_step, stopped_step, failed_step}
-use Rattle.cluster_world.proofs.BeginParts.{begin_ready, begin_settles, begin_falls, begin_up, not_up, Began, begin_named, begin_life, begin_did, read_none}
+use Rattle.cluster_world.proofs.BeginParts.{begin_ready, begin_settles, begin_falls, begin_up, not_up, Began, begin_named, begin_life, begin_did, begin_maps, read_none}
+use Rattle.cluster_world.proofs.Follows.{idle_follows}
+use Rattle.cluster_world.proofs.Told.{IsOfMail}
+use Rattle.cluster_world.proofs.Wholly.{led, even_of}
 use Rattle.cluster_world.proofs.Unchanged.{unchanged_by, node_kept, changes_none}
 use Rattle.cluster_world.proofs.Longer.{same_book, longer_by}
 
 -- where the numbers of letters are used up
 module _ {D : Type 0} (on : View D) (n : ℕ) (call : Call) (seconds : ℕ) (old : Nodes D) (fit : node_refusal old.plan (life_among old) (step.Begin n call) ≡ None) (flying : InFlight) (book : Book)
     (late : nat_le letters_end flying.sent ≡ true) where
-  here_up : (o : Option Life) → Rattle.cluster_world.specs.Turns.life_refusal (step.Begin n call) (seen_life o) ≡ None → (node : Node) × (o ≡ Some (Up node))
+  here_up : (o : Option Life) → Rattle.cluster_world.specs.Turns.life_refusal (step.Begin n call) (seen_life o) ≡ None → (node : WholeNode) × (o ≡ Some (Up node))
   here_up None e = absurd (let never : Some fault.NodeLost ≡ None = e in cc)
   here_up (Some l) e = let (node, up) = begin_up n call (Some l) l refl e in (node, ap Some up)
 
@@ -80,12 +84,8 @@ module _ {D : Type 0} (on : View D) (n : ℕ) (call : Call) (seconds : ℕ) (old
         let (disk, held) = disk_of old.disks.items old.lives.items n (Up node) (old.all ∙ sym old.disk_each) up in
         let (slot, here, stood) = slot_of on old.lives.items old.disks.items w.slots n (Up node) disk st.slots up held in
         let (seen, is, s) = stood in
-        record {
-          next = w;
-          stands = st;
-          made = (inl (inl (begin_is_late old.plan w n (call_seen call) slot seen (begin_named n call old fit) here is (ap (nat_le letters_end) (sym st.sent) ∙ late))), refl);
-          stops = same_stops on (state_with old flying seconds book) w st;
-        };
+        led_kept on (state_with old flying seconds book) (Err fault.Worn) (step.Begin n call) w st (record { step_is = refl; said_is = refl; sees = λ unseen. unseen }) (λ done. done)
+        (inl (inl (begin_is_late old.plan w n (call_seen call) slot seen (begin_named n call old fit) here is (ap (nat_le letters_end) (sym st.sent) ∙ late))), refl);
     cause = λ w st. tt;
   }
 
@@ -95,10 +95,10 @@ module _ {D : Type 0} (on : View D) (is_settled : D → Type 0) (n : ℕ) (call 
   abbrev B : Life → D → Life → D → Type 0
   B = BeginsAt on is_settled old.plan n seconds (call_seen call) began
 
-  abbrev a : Node
+  abbrev a : WholeNode
   a = ch.does.0.old
 
-  abbrev b : Node
+  abbrev b : WholeNode
   b = ch.does.0.new
 
   module _ (flying : InFlight) (book : Book) (early : nat_le letters_end flying.sent ≡ false) where
@@ -113,12 +113,12 @@ module _ {D : Type 0} (on : View D) (is_settled : D → Type 0) (n : ℕ) (call 
       booked : (w : machine.World) → StateStandsFor on start w → booked_by book' ≡ w.book
       booked w st = ap entries_seen (wrote ∙ append-nil (entries_of book)) ∙ st.book
 
-      idle_did : (why : StepFault) → IsRefusedRight (Err why) (node_refusal old.plan (life_among old) (step.Begin n call)) → FallsSo (Err why) old.plan.nodes (step.Begin n call) (life_among old)
-          → ((m : ℕ) → life_after_step (Err why) (step.Begin n call) m (life_among old m) ≡ life_among old m) → ch.life' ≡ Up b → IsAsBefore a b → IsOnlyRead on ch.disk ch.disk'
+      idle_did : (why : StepFault) → IsOfMail (Err why) (step.Begin n call) → b.maps ≡ a.maps → IsRefusedRight (Err why) (node_refusal old.plan (life_among old) (step.Begin n call)) → FallsSo (Err why) old.plan.nodes (step.Begin n call) (life_among old)
+          → ((m : ℕ) → life_after_step (Err why) (step.Begin n call) m (life_among old m) ≡ life_among old m) → ch.life' ≡ Up b → IsAsBefore a.mail b.mail → IsOnlyRead on ch.disk ch.disk'
           → on.faults ch.disk' ≡ on.faults ch.disk
           → ((w : machine.World) → StateStandsFor on start w → MakesStep old.plan (tells_in on.seen start) w (steps.Step.Begin n (call_seen call)) (outcome_seen (Err why)) w)
           → StepDid on (Err why) (step.Begin n call) start final
-      idle_did why refused falls lives is same read quiet made = record {
+      idle_did why of_mail stay refused falls lives is same read quiet made = record {
         plan = ch.plan;
         handed = work_handed on n B old mid mid ch (λ slots. slots) (nothing_else on mid);
         refused = refused;
@@ -133,34 +133,37 @@ module _ {D : Type 0} (on : View D) (is_settled : D → Type 0) (n : ℕ) (call 
         books = longer_by book book' [] wrote;
         kept = changes_none on why (step.Begin n call) start final (unchanged_by n B old mid ch flying flying seconds seconds book book' on (step.Begin n call)
             (node_kept ch.life ch.life' a b ch.does.0.was is same) (λ away. absurd (away refl)) (λ _. (read, quiet)) refl refl (ap entries_seen (wrote ∙ append-nil (entries_of book))));
-        leads = λ known ended w st. record {
-          next = w;
-          stands = read_stands on n B old mid mid ch (nothing_else on mid) a ch.does.0.was read flying flying seconds book book' b is same refl w st (booked w st);
-          made = made w st;
-          stops = read_stops on n B old mid mid ch (nothing_else on mid) a ch.does.0.was read flying flying seconds book book' b is same refl w st (booked w st);
-        };
+        leads = λ known ended w st.
+            let (slot, here, stood) = up_slot on n B old mid mid ch (λ x d. idle x d) a ch.does.0.was flying flying seconds book book w st in
+            led on (Err why) (step.Begin n call) start final (even_of old) (even_of mid) w st of_mail (λ v seen sound done. tt) (record {
+              next = w;
+              stands = read_stands on n B old mid mid ch (nothing_else on mid) a ch.does.0.was read flying flying seconds book book' b is same refl w st (booked w st);
+              made = made w st;
+              stops = read_stops on n B old mid mid ch (nothing_else on mid) a ch.does.0.was read flying flying seconds book book' b is same refl w st (booked w st);
+              follow = idle_follows on n B old mid mid ch (λ slots. slots) (nothing_else on mid) w.slots slot here w.slots (λ m. refl) a b ch.does.0.was is (ap node_of stay);
+            });
         cause = λ w st. tt;
       }
 
-      worn_made : is_worn_for old.plan seconds (node_seen a) (call_seen call) ≡ true → (w : machine.World) → StateStandsFor on start w
+      worn_made : is_worn_for old.plan seconds (node_seen a.mail) (call_seen call) ≡ true → (w : machine.World) → StateStandsFor on start w
           → MakesStep old.plan (tells_in on.seen start) w (steps.Step.Begin n (call_seen call)) (outcome_seen (Err fault.Worn)) w
       worn_made worn w st =
           let (slot, here, stood) = up_slot on n B old mid mid ch (λ x d. idle x d) a ch.does.0.was flying flying seconds book book w st in
           let (seen, is, s) = stood in (
-            inl (inl (begin_is_worn old.plan w n (call_seen call) slot (node_seen a) (begin_named n call old fit) here (is ∙ ap plain.Life.Up (sym s.seen_is)) (ap (nat_le letters_end) (sym st.sent) ∙ early)
-                (ap (λ x. is_worn_for old.plan x (node_seen a) (call_seen call)) (sym st.seconds) ∙ worn))),
+            inl (inl (begin_is_worn old.plan w n (call_seen call) slot (node_seen a.mail) (begin_named n call old fit) here (is ∙ ap plain.Life.Up (sym s.seen_is)) (ap (nat_le letters_end) (sym st.sent) ∙ early)
+                (ap (λ x. is_worn_for old.plan x (node_seen a.mail) (call_seen call)) (sym st.seconds) ∙ worn))),
             refl,
           )
 
       pub worn_step : began ≡ Err Worn → StepDid on (Err fault.Worn) (step.Begin n call) start final
       worn_step e =
           let did = begin_did on is_settled n call seconds old mid fit ready began ch (Err Worn) e in
-          idle_did fault.Worn (sym fit) tt (λ m. refl) (begin_life on is_settled n call seconds old mid fit ready began ch (Err Worn) e) did.1 (read_none on ch.disk ch.disk' did.2) (ap on.faults did.2) (worn_made did.0)
+          idle_did fault.Worn (record { step_is = refl; said_is = refl; sees = λ unseen. unseen }) (begin_maps on is_settled n call seconds old mid fit ready began ch (Err Worn) e) (sym fit) tt (λ m. refl) (begin_life on is_settled n call seconds old mid fit ready began ch (Err Worn) e) did.1 (read_none on ch.disk ch.disk' did.2) (ap on.faults did.2) (worn_made did.0)
 
       pub none_step : began ≡ Err (NoMemory false) → StepDid on (Err (fault.NoMemory None)) (step.Begin n call) start final
       none_step e =
           let did = begin_did on is_settled n call seconds old mid fit ready began ch (Err (NoMemory false)) e in
-          idle_did (fault.NoMemory None) tt tt (λ m. refl) (begin_life on is_settled n call seconds old mid fit ready began ch (Err (NoMemory false)) e) did.0 did.1 did.2 (λ w st. refl)
+          idle_did (fault.NoMemory None) (record { step_is = refl; said_is = refl; sees = λ unseen. unseen }) (begin_maps on is_settled n call seconds old mid fit ready began ch (Err (NoMemory false)) e) tt tt (λ m. refl) (begin_life on is_settled n call seconds old mid fit ready began ch (Err (NoMemory false)) e) did.0 did.1 did.2 (λ w st. refl)
 
     -- Whatever the node did, and whatever came of it.
     module _ (rule : HasRule old.plan.nodes (call_seen call)) (entries : List Entry) (struck : entries_seen entries ≡ strikes_of_call (call_seen call)) (roomy : Book) (same_book : entries_of roomy ≡ entries_of book)

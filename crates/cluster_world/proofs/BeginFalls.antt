@@ -14,7 +14,7 @@ use Rattle.cluster_model.specs.Deeds.{slot_up}
 use Rattle.cluster_model.specs.Rules.{Reaction, idle}
 use Rattle.cluster_model.specs.World as machine
 use Rattle.cluster_model.specs.Steps as steps
-use Rattle.cluster_model.specs.Steps.{NodeCall, letters_end, is_worn_for}
+use Rattle.cluster_model.specs.Steps.{NodeCall, letters_end, fails_at_once, is_worn_for}
 use Rattle.cluster_model.specs.Steps.NodeCall.{Deliver, Login, Fetch, Strike, Leave}
 use Rattle.cluster_model.specs.Makes.{IsUp, IsFiled, IsWorkCut, NodeGoesDown, BeginsCall, RunsShort, MakesStep, with_struck, cut_world, begun_by, kind_of_call}
 use Rattle.disk_journal.specs.Journal.{TellsJournal}
@@ -24,7 +24,7 @@ use Rattle.node_core.specs.Beginning.{call_seen, at_second, CallDid, CallStopped
 use Rattle.node_core.specs.Nodes.{node_seen, NodeKeeps, end_in}
 use Rattle.node_core.specs.Works.{Rule, NodeDid, IsOnlyRead}
 use Rattle.node_core.specs.declared.fault.NodeFault.TheVariants.{Disk, NoMemory}
-use Rattle.node_core.specs.declared.node.Node.{Node}
+use Rattle.whole_node.specs.declared.node.WholeNode.{WholeNode}
 use Rattle.node_core.specs.declared.outbox.Outbox.{Outbox}
 use Rattle.call_tickets.specs.declared.call.Call.{Call}
 use Rattle.call_tickets.specs.declared.call.Call.TheVariants as kind
@@ -52,11 +52,13 @@ use Rattle.cluster_world.specs.declared.fault.StepFault.TheVariants as fault
 use Rattle.cluster_world.proofs.Still.{some_same}
 use Rattle.cluster_world.proofs.Turned.{disk_there, as_many, lives_turned, told_by, quiet_by}
 use Rattle.cluster_world.proofs.Falling.{entries_more}
-use Rattle.cluster_world.proofs.AfterWork.{AreThese, nothing_else, turned_after, up_slot, CutSlot, work_stopped, work_undone, cut_stands, cut_stops}
+use Rattle.cluster_world.proofs.AfterWork.{AreThese, nothing_else, turned_after, up_slot, CutSlot, work_stopped, work_undone, cut_stands, cut_stops, cut_follows}
 use Rattle.cluster_world.proofs.Beginning.{struck_world, with_struck_is, filed_in, begun_in, filed_kind, fault_so, begin_goes}
 use Rattle.cluster_world.proofs.BeginIdle.{read_fell}
 use Rattle.cluster_world.proofs.BeginParts.{Began, begin_named, begin_life, begin_did, StaysUp, begin_stays, begin_worked}
 use Rattle.cluster_world.proofs.Longer.{longer_by}
+use Rattle.cluster_world.proofs.Told.{IsOfMail}
+use Rattle.cluster_world.proofs.Wholly.{led, even_of}
 
 amiss : (call : Call) (user : List ℕ) (id : _) (from most : ℕ) → call_seen call ≡ Fetch user id from most → MayReadAmiss call
 amiss (kind.Deliver deliver) user id from most e = let never : Deliver (Rattle.mail_base.specs.Delivers.mail_in deliver) ≡ Fetch user id from most = e in cc
@@ -73,7 +75,7 @@ fetch_kind call user id from most e none = let never : Some CallKind.Fetching �
 
 -- The node goes down, with these of its records on its disk.
 module _ {D : Type 0} (on : View D) (n : ℕ) (call : Call) (seconds : ℕ) (old new : Nodes D) (fit : node_refusal old.plan (life_among old) (step.Begin n call) ≡ None)
-    (P : Life → D → Life → D → Type 0) (ch : ChangesNode n P old new) (a : Node) (was : ch.life ≡ Up a) (down : ch.life' ≡ Down) (worked : WasToWork old.plan.nodes (step.Begin n call) (life_among old n) n)
+    (P : Life → D → Life → D → Type 0) (ch : ChangesNode n P old new) (a : WholeNode) (was : ch.life ≡ Up a) (down : ch.life' ≡ Down) (worked : WasToWork old.plan.nodes (step.Begin n call) (life_among old n) n)
     (told : IsToldAlike (on.seen ch.disk) (on.seen ch.disk')) (later : on.faults ch.disk ≤ on.faults ch.disk')
     (flying : InFlight) (book book' : Book) (entries : List Entry) (struck : entries_seen entries ≡ strikes_of_call (call_seen call)) (wrote : entries_of book' ≡ entries_of book ++ (entries ++ written.Down n ∷ [])) where
   abbrev c : NodeCall
@@ -102,42 +104,43 @@ module _ {D : Type 0} (on : View D) (n : ℕ) (call : Call) (seconds : ℕ) (old
   down_world w disk front pending = cut_world (struck_world w c) n disk front pending
 
   fell_leads : (result : Result Said StepFault) (rule : Rule) (w : machine.World) → StateStandsFor on start w → (k : Cut rule w)
-      → MakesStep old.plan (tells_in on.seen start) w (steps.Step.Begin n c) (outcome_seen result) (down_world w k.disk k.front k.pending) → LeadsTo on result (step.Begin n call) start final w
-  fell_leads result rule w st k made = record {
+      → MakesStep old.plan (tells_in on.seen start) w (steps.Step.Begin n c) (outcome_seen result) (down_world w k.disk k.front k.pending) → IsOfMail result (step.Begin n call) → LeadsTo on result (step.Begin n call) start final w
+  fell_leads result rule w st k made of_mail = led on result (step.Begin n call) start final (even_of old) (even_of new) w st of_mail (λ v seen sound done. tt) (record {
     next = down_world w k.disk k.front k.pending;
     stands = cut_stands on n P old new new ch rule a was flying flying seconds book book' down (λ slots. slots) (nothing_else on new) w st k w.flying st.flying refl (w.book ++ strikes_of_call c) (booked w st);
     made = made;
     stops = cut_stops on n P old new new ch rule a was flying flying seconds book book' down (λ slots. slots) (nothing_else on new) w st k (down_world w k.disk k.front k.pending).slots (λ m. refl);
-  }
+    follow = cut_follows on n P old new new ch rule a was flying flying seconds book book' down (λ slots. slots) (nothing_else on new) w k (down_world w k.disk k.front k.pending).slots (λ m. refl);
+  })
 
   -- what the call had the node do, as far as it came
   abbrev begin_rule : List ℕ → Rule
   begin_rule octets = λ x d. begun_by old.plan (at_second seconds) n x d c octets
 
   goes_down : (octets : List ℕ) (w : machine.World) → StateStandsFor on start w → (k : Cut (begin_rule octets) w)
-      → NodeGoesDown (with_struck w c) n k.disk (begun_by old.plan w n (node_seen a) k.disk c octets).disk (down_world w k.disk k.front k.pending)
+      → NodeGoesDown (with_struck w c) n k.disk (begun_by old.plan w n (node_seen a.mail) k.disk c octets).disk (down_world w k.disk k.front k.pending)
   goes_down octets w st k = record {
     front = k.front;
     pending = k.pending;
     one = k.one;
     cut = subst (λ xs. IsWorkCut k.disk xs k.front k.pending)
         (ap (λ x. (begun_by old.plan (at_second seconds) n x k.disk c octets).disk) k.node_is
-        ∙ ap (λ s. (begun_by old.plan (at_second s) n (node_seen a) k.disk c octets).disk) st.seconds
-        ∙ ap (λ (r : Reaction). r.disk) (sym (begun_in old.plan w n (node_seen a) k.disk c octets))) k.cut;
+        ∙ ap (λ s. (begun_by old.plan (at_second s) n (node_seen a.mail) k.disk c octets).disk) st.seconds
+        ∙ ap (λ (r : Reaction). r.disk) (sym (begun_in old.plan w n (node_seen a.mail) k.disk c octets))) k.cut;
     is = ap (λ x. cut_world x n k.disk k.front k.pending) (sym (with_struck_is w c));
   }
 
-  filed_now : (octets : List ℕ) (w : machine.World) → StateStandsFor on start w → IsFiled (at_second seconds) n (node_seen a) c octets → IsFiled w n (node_seen a) c octets
-  filed_now octets w st filed = filed_in w n (node_seen a) c octets (subst (λ s. IsFiled (at_second s) n (node_seen a) c octets) st.seconds filed)
+  filed_now : (octets : List ℕ) (w : machine.World) → StateStandsFor on start w → IsFiled (at_second seconds) n (node_seen a.mail) c octets → IsFiled w n (node_seen a.mail) c octets
+  filed_now octets w st filed = filed_in w n (node_seen a.mail) c octets (subst (λ s. IsFiled (at_second s) n (node_seen a.mail) c octets) st.seconds filed)
 
-  up_now : (rule : Rule) (w : machine.World) (k : Cut rule w) → IsUp w n (node_seen a) k.disk
+  up_now : (rule : Rule) (w : machine.World) (k : Cut rule w) → IsUp w n (node_seen a.mail) k.disk
   up_now rule w k = subst (λ x. IsUp w n x k.disk) k.node_is k.up
 
-  goes_now : nat_le letters_end flying.sent ≡ false → is_worn_for old.plan seconds (node_seen a) c ≡ false → (w : machine.World) → StateStandsFor on start w → (disk : List Record) → IsUp w n (node_seen a) disk
+  goes_now : nat_le letters_end flying.sent ≡ false → is_worn_for old.plan seconds (node_seen a.mail) c ≡ false → (w : machine.World) → StateStandsFor on start w → (disk : List Record) → IsUp w n (node_seen a.mail) disk
       → steps.step_fault old.plan (steps.Step.Begin n c) w ≡ None
   goes_now early fresh w st disk up =
-      begin_goes old.plan w n c (slot_up (node_seen a) disk) (node_seen a) (begin_named n call old fit) up refl (ap (nat_le letters_end) (sym st.sent) ∙ early)
-      (ap (λ s. is_worn_for old.plan s (node_seen a) c) (sym st.seconds) ∙ fresh)
+      begin_goes old.plan w n c (slot_up (node_seen a.mail) disk) (node_seen a.mail) (begin_named n call old fit) up refl (ap (nat_le letters_end) (sym st.sent) ∙ early)
+      (ap (λ s. is_worn_for old.plan s (node_seen a.mail) c) (sym st.seconds) ∙ fresh)
 
   fell_did : (result : Result Said StepFault) → IsRefusedRight result (node_refusal old.plan (life_among old) (step.Begin n call)) → IfOk result (SaysSo (step.Begin n call))
       → FallsSo result old.plan.nodes (step.Begin n call) (life_among old) → ((m : ℕ) → life_after_step result (step.Begin n call) m (life_among old m) ≡ turned n life.Down m (life_among old m))
@@ -161,13 +164,13 @@ module _ {D : Type 0} (on : View D) (n : ℕ) (call : Call) (seconds : ℕ) (old
   }
 
   -- Memory ran out once its work had begun.
-  pub short_did : ((w : machine.World) → StateStandsFor on start w → (octets : List ℕ) × IsFiled (at_second seconds) n (node_seen a) c octets × Cut (begin_rule octets) w)
+  pub short_did : ((w : machine.World) → StateStandsFor on start w → (octets : List ℕ) × IsFiled (at_second seconds) n (node_seen a.mail) c octets × Cut (begin_rule octets) w)
       → StepDid on (Err (fault.NoMemory (Some n))) (step.Begin n call) start final
   short_did cuts = fell_did (Err (fault.NoMemory (Some n))) tt tt worked (λ m. refl) tt tt
       (λ w st.
       let (octets, filed, k) = cuts w st in
       fell_leads (Err (fault.NoMemory (Some n))) (begin_rule octets) w st k
-      (RunsShort.Beginning c (node_seen a) k.disk octets refl (up_now (begin_rule octets) w k) (filed_now octets w st filed) (goes_down octets w st k)))
+      (RunsShort.Beginning c (node_seen a.mail) k.disk octets refl (up_now (begin_rule octets) w k) (filed_now octets w st filed) (goes_down octets w st k)) (record { step_is = refl; said_is = refl; sees = λ unseen. unseen }))
       (λ w st. tt)
 
   caused : (risen : Rose (on.faults ch.disk) (on.faults ch.disk') ⊎ ((on.seen ch.disk ≡ None) × MayMisread (step.Begin n call))) → FaultHasCause on (Ok (said.Faulted n)) (step.Begin n call) start final
@@ -178,33 +181,34 @@ module _ {D : Type 0} (on : View D) (n : ℕ) (call : Call) (seconds : ℕ) (old
       (subst (λ x. Rose (on.faults x) (on.faults ch.disk') ⊎ ((on.seen x ≡ None) × MayMisread (step.Begin n call))) d_is risen)
 
   -- Its disk failed as it wrote.
-  pub failed_did : nat_le letters_end flying.sent ≡ false → is_worn_for old.plan seconds (node_seen a) c ≡ false → Rose (on.faults ch.disk) (on.faults ch.disk')
-      → (octets : List ℕ) → IsFiled (at_second seconds) n (node_seen a) c octets → ((w : machine.World) → StateStandsFor on start w → Cut (begin_rule octets) w)
+  pub failed_did : nat_le letters_end flying.sent ≡ false → is_worn_for old.plan seconds (node_seen a.mail) c ≡ false → Rose (on.faults ch.disk) (on.faults ch.disk')
+      → (octets : List ℕ) → IsFiled (at_second seconds) n (node_seen a.mail) c octets → ((w : machine.World) → StateStandsFor on start w → Cut (begin_rule octets) w)
       → StepDid on (Ok (said.Faulted n)) (step.Begin n call) start final
-  failed_did early fresh rose octets filed cuts = fell_did (Ok (said.Faulted n)) (sym fit) (fault_so call n (λ none. filed_kind (at_second seconds) n (node_seen a) c octets filed none)) worked (λ m. refl) tt tt
+  failed_did early fresh rose octets filed cuts = fell_did (Ok (said.Faulted n)) (sym fit) (fault_so call n (λ none. filed_kind (at_second seconds) n (node_seen a.mail) c octets filed none)) worked (λ m. refl) tt tt
       (λ w st.
       let k = cuts w st in
       let up = up_now (begin_rule octets) w k in
       fell_leads (Ok (said.Faulted n)) (begin_rule octets) w st k
-      (goes_now early fresh w st k.disk up, BeginsCall.FailsInIt (node_seen a) k.disk octets up (filed_now octets w st filed) refl (goes_down octets w st k)))
+      (goes_now early fresh w st k.disk up, BeginsCall.FailsInIt (node_seen a.mail) k.disk octets up (filed_now octets w st filed) refl (goes_down octets w st k)) (record { step_is = refl; said_is = refl; sees = λ unseen. unseen }))
       (λ w st. caused (inl rose))
 
   -- Its disk failed as it was read.
-  pub unread_did : nat_le letters_end flying.sent ≡ false → HasRule old.plan.nodes c → is_worn_for old.plan seconds (node_seen a) c ≡ false → (user : List ℕ) (id : _) (from most : ℕ) → c ≡ Fetch user id from most
+  pub unread_did : nat_le letters_end flying.sent ≡ false → HasRule old.plan.nodes c → fails_at_once old.plan seconds (node_seen a.mail) c ≡ false → is_worn_for old.plan seconds (node_seen a.mail) c ≡ false → (user : List ℕ) (id : _) (from most : ℕ) → c ≡ Fetch user id from most
       → IsOnlyRead on ch.disk ch.disk' → (on.seen ch.disk ≡ None) ⊎ Rose (on.faults ch.disk) (on.faults ch.disk')
-      ⊎ ((records : List Record) → NodeKeeps records a → TellsJournal (on.seen ch.disk) n (payloads_of records) (end_in a) → ⊥)
+      ⊎ ((records : List Record) → NodeKeeps records a.mail → TellsJournal (on.seen ch.disk) n (payloads_of records) (end_in a.mail) → ⊥)
       → StepDid on (Ok (said.Faulted n)) (step.Begin n call) start final
-  unread_did early rule fresh user id from most called read cause = fell_did (Ok (said.Faulted n)) (sym fit) (fault_so call n (fetch_kind c user id from most called)) worked (λ m. refl) tt tt
+  unread_did early rule goes fresh user id from most called read cause = fell_did (Ok (said.Faulted n)) (sym fit) (fault_so call n (fetch_kind c user id from most called)) worked (λ m. refl) tt tt
       (λ w st.
       let f = read_fell on n P old new new ch (nothing_else on new) a was read flying flying seconds book book' w st in
       let k : Cut (λ x d. idle x d) w = f.cut in
       let up = up_now (λ x d. idle x d) w k in
       fell_leads (Ok (said.Faulted n)) (λ x d. idle x d) w st k (
         goes_now early fresh w st k.disk up,
-        BeginsCall.FailsReading (node_seen a) k.disk user id from most up (fetch_rule old.plan.nodes c user id from most called rule) called refl
+        BeginsCall.FailsReading (node_seen a.mail) k.disk user id from most up (fetch_rule old.plan.nodes c user id from most called rule)
+            (ap (λ s. fails_at_once old.plan s (node_seen a.mail) c) (sym st.seconds) ∙ goes) called refl
             (ap (λ xs. cut_world (struck_world w c) n k.disk xs k.pending) f.front_is ∙ ap (λ xs. cut_world (struck_world w c) n k.disk [] xs) f.pending_is
             ∙ ap (λ (x : machine.World). cut_world x n k.disk [] []) (ap (λ (bk : List BookEntry). record w { book = bk }) (ap (λ xs. w.book ++ xs) (ap strikes_of_call called) ∙ append-nil w.book))),
-      ))
+      ) (record { step_is = refl; said_is = refl; sees = λ unseen. unseen }))
       (λ w st.
       let (slot, here, stood) = up_slot on n P old new new ch (λ x d. idle x d) a was flying flying seconds book book' w st in
       let (seen, is, s) = stood in
@@ -218,10 +222,10 @@ module _ {D : Type 0} (on : View D) (is_settled : D → Type 0) (n : ℕ) (call 
   abbrev B : Life → D → Life → D → Type 0
   B = BeginsAt on is_settled old.plan n seconds (call_seen call) began
 
-  abbrev a : Node
+  abbrev a : WholeNode
   a = ch.does.0.old
 
-  abbrev b : Node
+  abbrev b : WholeNode
   b = ch.does.0.new
 
   module _ (new : Nodes D) (fall : ChangesNode n (IsTurnedTo Down) mid new) where
@@ -238,11 +242,11 @@ module _ {D : Type 0} (on : View D) (is_settled : D → Type 0) (n : ℕ) (call 
     no_letters letters e some = omega (arith, some, ap length e)
 
     abbrev Short : machine.World → Type 0
-    Short w = (octets : List ℕ) × IsFiled (at_second seconds) n (node_seen a) (call_seen call) octets
+    Short w = (octets : List ℕ) × IsFiled (at_second seconds) n (node_seen a.mail) (call_seen call) octets
         × CutSlot on n (AreThese ch.life Down ch.disk ch.disk') old new new both (λ x d. begun_by old.plan (at_second seconds) n x d (call_seen call) octets) a both_was flying flying seconds book book' w
 
     unsent_cut : (ticket : Option Number) (letters : List Letter) → 1 ≤ length letters → (w : machine.World) → StateStandsFor on (state_with old flying seconds book) w
-        → CallDid on old.plan n seconds (call_seen call) a ch.disk b ch.disk' ticket letters → Short w
+        → CallDid on old.plan n seconds (call_seen call) a.mail ch.disk b.mail ch.disk' ticket letters → Short w
     unsent_cut ticket letters some w st (CallDid.AtOnce kind of_kind fails t did) =
         let (slot, here, stood) = up_slot on n B old mid mid ch (λ x d. idle x d) a ch.does.0.was flying flying seconds book book w st in
         absurd (no_letters letters (did.out slot.disk (stood.2).keeps) some)
@@ -250,9 +254,9 @@ module _ {D : Type 0} (on : View D) (is_settled : D → Type 0) (n : ℕ) (call 
       octets,
       filed,
       work_undone on n (AreThese ch.life Down ch.disk ch.disk') old new new both (λ x d. begun_by old.plan (at_second seconds) n x d (call_seen call) octets) a both_was flying flying seconds book book' b letters
-          (on_both (λ d d'. NodeDid on (λ x r. begun_by old.plan (at_second seconds) n x r (call_seen call) octets) a d b d' letters) did) w st,
+          (on_both (λ d d'. NodeDid on (λ x r. begun_by old.plan (at_second seconds) n x r (call_seen call) octets) a.mail d b.mail d' letters) did) w st,
     )
-    unsent_cut ticket letters some w st (CallDid.Reads kind found of_kind those t did) =
+    unsent_cut ticket letters some w st (CallDid.Reads kind found of_kind goes those t did) =
         let (slot, here, stood) = up_slot on n B old mid mid ch (λ x d. idle x d) a ch.does.0.was flying flying seconds book book w st in
         absurd (no_letters letters (did.out slot.disk (stood.2).keeps) some)
     unsent_cut ticket letters some w st (CallDid.Leaves user called t none same disk) = absurd (no_letters letters (sym none) some)
@@ -271,21 +275,21 @@ module _ {D : Type 0} (on : View D) (is_settled : D → Type 0) (n : ℕ) (call 
   module _ (early : nat_le letters_end flying.sent ≡ false) (rule : HasRule old.plan.nodes (call_seen call)) where
     pub stopped_step : began ≡ Err (NoMemory true) → StepDid on (Err (fault.NoMemory (Some n))) (step.Begin n call) (state_with old flying seconds book) (state_with mid flying seconds book')
     stopped_step e =
-        let s : CallStopped on old.plan n seconds (call_seen call) a ch.disk b ch.disk' keep.NoMemory = begin_did on is_settled n call seconds old mid fit ready began ch (Err (NoMemory true)) e in
+        let s : CallStopped on old.plan n seconds (call_seen call) a.mail ch.disk b.mail ch.disk' keep.NoMemory = begin_did on is_settled n call seconds old mid fit ready began ch (Err (NoMemory true)) e in
         short_did on n call seconds old mid fit B ch a ch.does.0.was (begin_life on is_settled n call seconds old mid fit ready began ch (Err (NoMemory true)) e)
         (begin_worked on is_settled n call seconds old mid fit ready began ch) s.stopped.stops.told s.fails
         flying book book' entries struck wrote
         (λ w st. (s.octets, s.filed, work_stopped on n B old mid mid ch (λ x d. begun_by old.plan (at_second seconds) n x d (call_seen call) s.octets) a ch.does.0.was flying flying seconds book book' s.stopped w st))
 
-    by_failure : ch.life' ≡ Down → CallFailed on old.plan n seconds (call_seen call) a ch.disk b ch.disk' → StepDid on (Ok (said.Faulted n)) (step.Begin n call) (state_with old flying seconds book) (state_with mid flying seconds book')
+    by_failure : ch.life' ≡ Down → CallFailed on old.plan n seconds (call_seen call) a.mail ch.disk b.mail ch.disk' → StepDid on (Ok (said.Faulted n)) (step.Begin n call) (state_with old flying seconds book) (state_with mid flying seconds book')
     by_failure down (CallFailed.Working s) =
         failed_did on n call seconds old mid fit B ch a ch.does.0.was down (begin_worked on is_settled n call seconds old mid fit ready began ch) s.stopped.stops.told s.fails.0
         flying book book' entries struck wrote early s.fresh s.fails.1 s.octets s.filed
         (λ w st. work_stopped on n B old mid mid ch (λ x d. begun_by old.plan (at_second seconds) n x d (call_seen call) s.octets) a ch.does.0.was flying flying seconds book book' s.stopped w st)
-    by_failure down (CallFailed.Reading user id from most called fresh r) =
+    by_failure down (CallFailed.Reading user id from most called goes fresh r) =
         unread_did on n call seconds old mid fit B ch a ch.does.0.was down (begin_worked on is_settled n call seconds old mid fit ready began ch)
         (ap (λ (o : Option (List ℕ)). is_some o) r.read.seen) r.later
-        flying book book' entries struck wrote early rule fresh user id from most called r.read r.cause
+        flying book book' entries struck wrote early rule goes fresh user id from most called r.read r.cause
 
     pub failed_step : began ≡ Err Disk → StepDid on (Ok (said.Faulted n)) (step.Begin n call) (state_with old flying seconds book) (state_with mid flying seconds book')
     failed_step e = by_failure (begin_life on is_settled n call seconds old mid fit ready began ch (Err Disk) e) (begin_did on is_settled n call seconds old mid fit ready began ch (Err Disk) e)

@@ -13,7 +13,7 @@ use Rattle.node_store.specs.Disks.{View}
 use Rattle.node_core.specs.Nodes.{node_seen, end_in, IsAsBefore}
 use Rattle.node_core.specs.Starting.{MayHold}
 use Rattle.node_core.specs.Works.{IsOnlyRead}
-use Rattle.node_core.specs.declared.node.Node.{Node}
+use Rattle.whole_node.specs.declared.node.WholeNode.{WholeNode}
 use Rattle.world_book.specs.declared.book.Book.{Book}
 use Rattle.cluster_world.specs.Books.{booked_by}
 use Rattle.cluster_world.specs.Changes.{ChangesNode}
@@ -36,12 +36,12 @@ use Rattle.cluster_world.proofs.AfterWork.{work_stands, work_stops, up_slot, Cut
 up_alive : (slot : Slot) (seen : plain.Node) → slot.life ≡ plain.Life.Up seen → slot.life ≢ plain.Life.Lost
 up_alive slot seen is lost = cc
 
-module _ {D : Type 0} (on : View D) (n : ℕ) (a : Node) (before after : D) (read : IsOnlyRead on before after) (slot : Slot) (stood : SlotStands on n (Up a) before slot) where
+module _ {D : Type 0} (on : View D) (n : ℕ) (a : WholeNode) (before after : D) (read : IsOnlyRead on before after) (slot : Slot) (stood : SlotStands on n (Up a) before slot) where
   alive : slot.life ≢ plain.Life.Lost
   alive = up_alive slot stood.0 stood.1
 
   -- the slot stands as it did
-  pub read_slot : (b : Node) → IsAsBefore a b → SlotStands on n (Up b) after slot
+  pub read_slot : (b : WholeNode) → IsAsBefore a.mail b.mail → SlotStands on n (Up b) after slot
   read_slot b same =
       let (seen, life_is, st) = stood in (
         seen,
@@ -49,7 +49,7 @@ module _ {D : Type 0} (on : View D) (n : ℕ) (a : Node) (before after : D) (rea
         record {
           seen_is = same.seen ∙ st.seen_is;
           keeps = same.keeps slot.disk st.keeps;
-          tells = subst (λ (o : Option (List ℕ)). TellsJournal o n (payloads_of slot.disk) (end_in b)) (sym read.seen)
+          tells = subst (λ (o : Option (List ℕ)). TellsJournal o n (payloads_of slot.disk) (end_in b.mail)) (sym read.seen)
               (subst (λ e. TellsJournal (on.seen before) n (payloads_of slot.disk) e) (sym same.end_is) st.tells);
           images = if_told (on.seen before) (on.seen after) _ (ap (λ (o : Option (List ℕ)). is_some o) read.seen)
               (if_some (on.seen before) _ _ (λ _ images d image. subst (λ e. EndsAt n d (payloads_of slot.disk) e) (sym same.end_is) (images d (read.images.now d image))) st.images);
@@ -90,7 +90,7 @@ module _ {D : Type 0} (on : View D) (n : ℕ) (a : Node) (before after : D) (rea
     stops = if_some (on.seen before) _ _ (λ _ images. passed on.clock before after (on.clock.is_image before) (IsStopOf n slot []) images read.images) (images_stop on n (Up a) before slot [] alive stood);
   }
 
-module _ {D : Type 0} (on : View D) (n : ℕ) (P : Life → D → Life → D → Type 0) (old mid new : Nodes D) (ch : ChangesNode n P old mid) (only : OnlyTickets on (λ slots. slots) mid new) (a : Node)
+module _ {D : Type 0} (on : View D) (n : ℕ) (P : Life → D → Life → D → Type 0) (old mid new : Nodes D) (ch : ChangesNode n P old mid) (only : OnlyTickets on (λ slots. slots) mid new) (a : WholeNode)
     (was : ch.life ≡ Up a) (read : IsOnlyRead on ch.disk ch.disk') (flying flying' : InFlight) (seconds : ℕ) (book book' : Book) where
   abbrev start : WorldState D
   start = state_with old flying seconds book
@@ -98,7 +98,7 @@ module _ {D : Type 0} (on : View D) (n : ℕ) (P : Life → D → Life → D →
   abbrev final : WorldState D
   final = state_with new flying' seconds book'
 
-  module _ (b : Node) (is : ch.life' ≡ Up b) (same : IsAsBefore a b) (flies : flying' ≡ flying) (w : machine.World) (st : StateStandsFor on start w) (booked : booked_by book' ≡ w.book) where
+  module _ (b : WholeNode) (is : ch.life' ≡ Up b) (same : IsAsBefore a.mail b.mail) (flies : flying' ≡ flying) (w : machine.World) (st : StateStandsFor on start w) (booked : booked_by book' ≡ w.book) where
     -- the world stands for the same world of the machine
     pub read_stands : StateStandsFor on final w
     read_stands =
@@ -124,10 +124,10 @@ module _ {D : Type 0} (on : View D) (n : ℕ) (P : Life → D → Life → D →
   read_fell w st =
       let (slot, here, stood) = up_slot on n P old mid new ch (λ x d. idle x d) a was flying flying' seconds book book' w st in
       let (seen, life_is, s) = stood in
-      let whole : slot ≡ slot_up (node_seen a) slot.disk = ap (λ l. record { life = l; disk = slot.disk }) (life_is ∙ ap plain.Life.Up (sym s.seen_is)) in
+      let whole : slot ≡ slot_up (node_seen a.mail) slot.disk = ap (λ l. record { life = l; disk = slot.disk }) (life_is ∙ ap plain.Life.Up (sym s.seen_is)) in
       record {
         cut = record {
-          node = node_seen a;
+          node = node_seen a.mail;
           disk = slot.disk;
           up = here ∙ ap Some whole;
           node_is = refl;

@@ -1,7 +1,7 @@
 -- A call that begins at a node that is up: how the node and its disk then are.
 use Rattle.std.proofs.Common.{◌≡◌, ◌⊎◌, inl, inr, ℕ, ◌+◌, ◌<◌, ◌≤◌, true, false, List, [], ◌∷◌, Option, Some, None, Result, Ok, Err, refl, sym, ap, ◌∙◌, subst, arith}
 use Rattle.std.specs.Prelude.{IfOk, is_some, slice_get, slice_set}
-use Rattle.std.proofs.Common.{get_or}
+use Rattle.std.proofs.Common.{get_or, All}
 use Rattle.std.proofs.lemmas.Option.{slice_get-get_or}
 use Rattle.std.specs.List.{list_all}
 use Rattle.std.proofs.lemmas.Bool.{and_parts}
@@ -17,14 +17,19 @@ use Rattle.node_store.specs.Appends.{Fails}
 use Rattle.node_store.specs.declared.fault.KeepFault.{KeepFault}
 use Rattle.node_store.specs.declared.fault.KeepFault.TheVariants as keep
 use Rattle.node_core.specs.Beginning.{IsTextEnded, call_seen, CallDid, CallStopped, CallFailed, NodeBegins}
-use Rattle.node_core.specs.Nodes.{node_seen, CanWork, IsNodeOf, IsAsBefore}
+use Rattle.node_core.specs.Nodes.{node_seen, IsNodeOf, IsAsBefore}
 use Rattle.node_core.specs.Spelling.{AllCanBeTaken}
 use Rattle.node_core.specs.Works.{Rule, NodeDid, IsOnlyRead, LeavesUp}
 use Rattle.node_core.specs.declared.fault.NodeFault.{NodeFault}
 use Rattle.node_core.specs.declared.fault.NodeFault.TheVariants.{Disk, Worn, NoMemory}
-use Rattle.node_core.specs.declared.node.Node.{Node}
+use Rattle.whole_node.specs.Nodes.{WholeWorks}
+use Rattle.whole_node.specs.declared.node.WholeNode.{WholeNode}
 use Rattle.node_core.specs.declared.outbox.Outbox.{Outbox}
 use Rattle.call_tickets.specs.declared.call.Call.{Call}
+use Rattle.node_maps.specs.Nodes.{own_of}
+use Rattle.whole_node.specs.Following.{FollowsCall}
+use Rattle.whole_node.specs.Hearing.{FitsMaps}
+use Rattle.cluster_world.specs.Hears.{AllCanBeHeard}
 use Rattle.cluster_world.specs.Begins.{BeginsAt, HasRule}
 use Rattle.cluster_world.specs.Changes.{ChangesNode}
 use Rattle.cluster_world.specs.Lives.{life_seen, of_node, falls_left, all_falls_left, CanWorkOn}
@@ -40,6 +45,7 @@ use Rattle.cluster_world.specs.declared.fault.StepFault.TheVariants as fault
 use Rattle.cluster_world.proofs.Still.{some_same}
 use Rattle.cluster_world.proofs.Changing.{changed_at, node_at}
 use Rattle.cluster_world.proofs.Asked.{ready_of}
+use Rattle.cluster_world.proofs.FlightLaws.{all_heard}
 use Rattle.cluster_world.proofs.Turned.{still_ready, falls_now}
 use Rattle.cluster_world.proofs.Refusing.{fit_of}
 
@@ -48,7 +54,7 @@ abbrev pub Began : Type 0
 Began = Result (Option Number × Outbox) NodeFault
 
 -- a node at which a call may begin is up
-pub begin_up : (n : ℕ) (call : Call) (o : Option Life) (l : Life) → o ≡ Some l → life_refusal (step.Begin n call) (seen_life o) ≡ None → (node : Node) × (l ≡ Up node)
+pub begin_up : (n : ℕ) (call : Call) (o : Option Life) (l : Life) → o ≡ Some l → life_refusal (step.Begin n call) (seen_life o) ≡ None → (node : WholeNode) × (l ≡ Up node)
 begin_up n call None l e h = absurd (let never : None ≡ Some l = e in cc)
 begin_up n call (Some (Up node)) l e h = (node, some_same l (Up node) (sym e))
 begin_up n call (Some Down) l e h = absurd (let never : Some fault.NodeDown ≡ None = h in cc)
@@ -59,10 +65,10 @@ within_of plan n named =
     let is : is_node plan n ≡ true = (and_parts (is_node plan n) true named).0 in
     (grind (arith, nat_tests), grind (arith, nat_tests))
 
-pub not_up : (node : Node) → Down ≡ Up node → ⊥
+pub not_up : (node : WholeNode) → Down ≡ Up node → ⊥
 not_up node e = cc
 
-pub up_same : (x y : Node) → Up x ≡ Up y → x ≡ y
+pub up_same : (x y : WholeNode) → Up x ≡ Up y → x ≡ y
 up_same x y e = cc
 
 pub none_fit : AllCanBeTaken []
@@ -81,7 +87,7 @@ module _ {D : Type 0} (n : ℕ) (call : Call) (old : Nodes D) (fit : node_refusa
 
   -- the node and its disk, that there are
   pub begin_there : (seen : D → Option (List ℕ)) → CanWorkOn seen old.plan old.lives.items old.disks.items → (l : Life) → of_node old.lives.items n ≡ Some l → (disk : D) → of_node old.disks.items n ≡ Some disk
-      → (node : Node) × (l ≡ Up node) × IsNodeOf old.plan n node × CanWork (seen disk) node
+      → (node : WholeNode) × (l ≡ Up node) × IsNodeOf old.plan n node.mail × WholeWorks (seen disk) node
   begin_there seen works l here disk held =
       let (node, up) = begin_up n call (of_node old.lives.items n) l here begin_fits in
       let (of, can) = ready_of seen old.plan old.lives.items old.disks.items works n node disk (here ∙ ap Some up) held in
@@ -103,16 +109,17 @@ module _ {D : Type 0} (on : View D) (n : ℕ) (call : Call) (lent old : Nodes D)
   disk_here : slice_get old.disks.items k ≡ Some d
   disk_here = slice_get-get_or old.disks.items k dd (omega (arith, within, old.disk_each)) ∙ ap Some (sym (held ∙ ap (λ (x : Nodes D). get_or x.disks.items k dd) same))
 
-  up_there : (node : Node) × (l ≡ Up node) × IsNodeOf old.plan n node × CanWork (on.seen d) node
+  up_there : (node : WholeNode) × (l ≡ Up node) × IsNodeOf old.plan n node.mail × WholeWorks (on.seen d) node
   up_there = begin_there n call old fit on.seen ready l (node_at old.lives.items n k at ∙ life_here) d (node_at old.disks.items n k at ∙ disk_here)
 
-  pub begin_place : (node : Node) × (l ≡ Up node) × CanWork (on.seen d) node
+  pub begin_place : (node : WholeNode) × (l ≡ Up node) × WholeWorks (on.seen d) node
   begin_place = let (node, up, of, can) = up_there in (node, up, can)
 
   pub begin_changed : (is_settled : D → Type 0) (seconds : ℕ) (began : Began) (l' : Life) (d' : D) (new : Nodes D) → new.plan ≡ lent.plan → new.lives.items ≡ slice_set lent.lives.items k l'
       → new.disks.items ≡ slice_set lent.disks.items k d' → IsTextEnded (call_seen call)
-      → TurnsBy (λ result one before other after. (plan : Plan) (own : ℕ) → IsNodeOf plan own one → lent.plan.users ≡ plan.users → IsTextEnded (call_seen call)
-      → NodeBegins on plan own seconds (call_seen call) one before other after result) began l d l' d'
+      → TurnsBy on.seen (λ result one before other after. (plan : Plan) (own : ℕ) → IsNodeOf plan own one → lent.plan.users ≡ plan.users → IsTextEnded (call_seen call)
+      → NodeBegins on plan own seconds (call_seen call) one before other after result)
+      (λ result one before other after. (plan : Plan) (own : ℕ) → IsNodeOf plan own one.mail → lent.plan.users ≡ plan.users → FollowsCall on plan own seconds (call_seen call) result one before other after) began l d l' d'
       → (LeavesUp began → is_settled d → is_settled d') → ChangesNode n (BeginsAt on is_settled old.plan n seconds (call_seen call) began) old new
   begin_changed is_settled seconds began l' d' new plan_is lives_are disks_are ended turns settled =
       let (node, up, of, can) = up_there in
@@ -123,8 +130,10 @@ module _ {D : Type 0} (on : View D) (n : ℕ) (call : Call) (lent old : Nodes D)
           old = turns.old;
           new = turns.new;
           was = turns.was;
-          did = turns.did old.plan n (subst (λ x. IsNodeOf old.plan n x) mine of) (ap (λ (x : Nodes D). x.plan.users) same) ended;
+          did = turns.did old.plan n (subst (λ (x : WholeNode). IsNodeOf old.plan n x.mail) mine of) (ap (λ (x : Nodes D). x.plan.users) same) ended;
+          maps = turns.maps old.plan n (subst (λ (x : WholeNode). IsNodeOf old.plan n x.mail) mine of) (ap (λ (x : Nodes D). x.plan.users) same);
           is = turns.is;
+          works = turns.works;
         },
         settled,
       )
@@ -135,30 +144,37 @@ module _ {D : Type 0} (on : View D) (is_settled : D → Type 0) (n : ℕ) (call 
   abbrev pub B : Life → D → Life → D → Type 0
   B = BeginsAt on is_settled old.plan n seconds (call_seen call) began
 
-  abbrev pub a : Node
+  abbrev pub a : WholeNode
   a = ch.does.0.old
 
-  abbrev pub b : Node
+  abbrev pub b : WholeNode
   b = ch.does.0.new
 
   pub begin_was : ch.life ≡ Up a
   begin_was = ch.does.0.was
 
-  pub begin_works : IsNodeOf old.plan n a × CanWork (on.seen ch.disk) a
+  pub begin_works : IsNodeOf old.plan n a.mail × WholeWorks (on.seen ch.disk) a
   begin_works = ready_of on.seen old.plan old.lives.items old.disks.items ready n a ch.disk (ch.was ∙ ap Some begin_was) ch.held
 
   pub begin_life : (r : Began) → began ≡ r → ch.life' ≡ life_left r b
   begin_life r e = ch.does.0.is ∙ ap (λ (x : Began). life_left x b) e
 
-  pub begin_did : (r : Began) → began ≡ r → NodeBegins on old.plan n seconds (call_seen call) a ch.disk b ch.disk' r
-  begin_did r e = subst (λ (x : Began). NodeBegins on old.plan n seconds (call_seen call) a ch.disk b ch.disk' x) e ch.does.0.did
+  pub begin_did : (r : Began) → began ≡ r → NodeBegins on old.plan n seconds (call_seen call) a.mail ch.disk b.mail ch.disk' r
+  begin_did r e = subst (λ (x : Began). NodeBegins on old.plan n seconds (call_seen call) a.mail ch.disk b.mail ch.disk' x) e ch.does.0.did
+
+  -- what became of its maps
+  pub begin_maps : (r : Began) → began ≡ r → FollowsCall on old.plan n seconds (call_seen call) r a ch.disk b ch.disk'
+  begin_maps r e = subst (λ (x : Began). FollowsCall on old.plan n seconds (call_seen call) x a ch.disk b ch.disk') e ch.does.0.maps
+
+  pub begin_own : own_of a.maps ≡ n
+  begin_own = begin_works.1.maps.own ∙ begin_works.0.own_is
 
   -- the node is up, in its boot
   pub record StaysUp : Type 0 where
     pub is : ch.life' ≡ Up b
-    pub boot : (node_seen b).boot ≡ (node_seen a).boot
-    pub of_plan : IsNodeOf old.plan n b
-    pub works : CanWork (on.seen ch.disk') b
+    pub boot : (node_seen b.mail).boot ≡ (node_seen a.mail).boot
+    pub of_plan : IsNodeOf old.plan n b.mail
+    pub works : WholeWorks (on.seen ch.disk') b
     pub told : IsToldAlike (on.seen ch.disk) (on.seen ch.disk')
     pub quiet : on.faults ch.disk' ≡ on.faults ch.disk
     pub settles : is_settled ch.disk → is_settled ch.disk'
@@ -169,78 +185,81 @@ module _ {D : Type 0} (on : View D) (is_settled : D → Type 0) (n : ℕ) (call 
     pub told : IsToldAlike (on.seen ch.disk) (on.seen ch.disk')
     pub later : on.faults ch.disk ≤ on.faults ch.disk'
 
+  works_by : (r : Began) → began ≡ r → LeavesUp r → WholeWorks (on.seen ch.disk') b
+  works_by r e up = subst (λ (x : Began). LeavesUp x → WholeWorks (on.seen ch.disk') b) e ch.does.0.works up
+
   settles_by : (r : Began) → began ≡ r → LeavesUp r → is_settled ch.disk → is_settled ch.disk'
   settles_by r e up = subst (λ (x : Began). LeavesUp x → is_settled ch.disk → is_settled ch.disk') e ch.does.1 up
 
-  up_by : (rule : Rule) (sent : List Letter) → ch.life' ≡ Up b → (is_settled ch.disk → is_settled ch.disk') → NodeDid on rule a ch.disk b ch.disk' sent → StaysUp
-  up_by rule sent is settles did = record {
+  up_by : (rule : Rule) (sent : List Letter) → ch.life' ≡ Up b → (is_settled ch.disk → is_settled ch.disk') → WholeWorks (on.seen ch.disk') b → NodeDid on rule a.mail ch.disk b.mail ch.disk' sent → StaysUp
+  up_by rule sent is settles can did = record {
     is = is;
     boot = did.boot;
     of_plan = did.same old.plan n begin_works.0;
-    works = did.works;
+    works = can;
     told = did.appends.told;
     quiet = did.appends.quiet;
     settles = settles;
   }
 
-  up_as_before : ch.life' ≡ Up b → (is_settled ch.disk → is_settled ch.disk') → IsAsBefore a b → IsOnlyRead on ch.disk ch.disk' → on.faults ch.disk' ≡ on.faults ch.disk → StaysUp
-  up_as_before is settles same read quiet = record {
+  up_as_before : ch.life' ≡ Up b → (is_settled ch.disk → is_settled ch.disk') → WholeWorks (on.seen ch.disk') b → IsAsBefore a.mail b.mail → IsOnlyRead on ch.disk ch.disk' → on.faults ch.disk' ≡ on.faults ch.disk → StaysUp
+  up_as_before is settles can same read quiet = record {
     is = is;
     boot = ap (λ x. x.boot) same.seen;
     of_plan = same.same old.plan n begin_works.0;
-    works = same.works (on.seen ch.disk') (subst (λ (o : Option (List ℕ)). CanWork o a) (sym read.seen) begin_works.1);
+    works = can;
     told = ap (λ (o : Option (List ℕ)). is_some o) read.seen;
     quiet = quiet;
     settles = settles;
   }
 
-  up_begun : (ticket : Option Number) (sent : List Letter) → ch.life' ≡ Up b → (is_settled ch.disk → is_settled ch.disk')
-      → CallDid on old.plan n seconds (call_seen call) a ch.disk b ch.disk' ticket sent → StaysUp
-  up_begun ticket sent is settles (CallDid.AtOnce kind of_kind fails t did) = up_by _ sent is settles did
-  up_begun ticket sent is settles (CallDid.Goes octets fails filed t did) = up_by _ sent is settles did
-  up_begun ticket sent is settles (CallDid.Reads kind found of_kind those t did) = up_by _ sent is settles did
-  up_begun ticket sent is settles (CallDid.Leaves user called t none same disk) =
-      up_as_before is settles same (read_none on ch.disk ch.disk' disk) (ap on.faults disk)
+  up_begun : (ticket : Option Number) (sent : List Letter) → ch.life' ≡ Up b → (is_settled ch.disk → is_settled ch.disk') → WholeWorks (on.seen ch.disk') b
+      → CallDid on old.plan n seconds (call_seen call) a.mail ch.disk b.mail ch.disk' ticket sent → StaysUp
+  up_begun ticket sent is settles can (CallDid.AtOnce kind of_kind fails t did) = up_by _ sent is settles can did
+  up_begun ticket sent is settles can (CallDid.Goes octets fails filed t did) = up_by _ sent is settles can did
+  up_begun ticket sent is settles can (CallDid.Reads kind found of_kind goes those t did) = up_by _ sent is settles can did
+  up_begun ticket sent is settles can (CallDid.Leaves user called t none same disk) =
+      up_as_before is settles can same (read_none on ch.disk ch.disk' disk) (ap on.faults disk)
 
   later_by : (fault : KeepFault) (x y : ℕ) → Fails fault x y → x ≤ y
   later_by keep.Disk x y f = f.0
   later_by keep.NoMemory x y f = f
 
-  down_by : (fault : KeepFault) → ch.life' ≡ Down → CallStopped on old.plan n seconds (call_seen call) a ch.disk b ch.disk' fault → FellDown
+  down_by : (fault : KeepFault) → ch.life' ≡ Down → CallStopped on old.plan n seconds (call_seen call) a.mail ch.disk b.mail ch.disk' fault → FellDown
   down_by fault is s = record { is = is; told = s.stopped.stops.told; later = later_by fault (on.faults ch.disk) (on.faults ch.disk') s.fails }
 
-  down_failed : ch.life' ≡ Down → CallFailed on old.plan n seconds (call_seen call) a ch.disk b ch.disk' → FellDown
+  down_failed : ch.life' ≡ Down → CallFailed on old.plan n seconds (call_seen call) a.mail ch.disk b.mail ch.disk' → FellDown
   down_failed is (CallFailed.Working s) = down_by keep.Disk is s
-  down_failed is (CallFailed.Reading user id from most called fresh r) =
+  down_failed is (CallFailed.Reading user id from most called goes fresh r) =
       record { is = is; told = ap (λ (o : Option (List ℕ)). is_some o) r.read.seen; later = r.later }
 
-  by_case : (r : Began) → began ≡ r → ch.life' ≡ life_left r b → NodeBegins on old.plan n seconds (call_seen call) a ch.disk b ch.disk' r → StaysUp ⊎ FellDown
-  by_case (Ok begun) e is did = inl (up_begun begun.0 begun.1.letters is (settles_by (Ok begun) e tt) did.did)
+  by_case : (r : Began) → began ≡ r → ch.life' ≡ life_left r b → NodeBegins on old.plan n seconds (call_seen call) a.mail ch.disk b.mail ch.disk' r → StaysUp ⊎ FellDown
+  by_case (Ok begun) e is did = inl (up_begun begun.0 begun.1.letters is (settles_by (Ok begun) e tt) (works_by (Ok begun) e tt) did.did)
   by_case (Err Disk) e is did = inr (down_failed is did)
-  by_case (Err Worn) e is did = inl (up_as_before is (settles_by (Err Worn) e tt) did.1 (read_none on ch.disk ch.disk' did.2) (ap on.faults did.2))
+  by_case (Err Worn) e is did = inl (up_as_before is (settles_by (Err Worn) e tt) (works_by (Err Worn) e tt) did.1 (read_none on ch.disk ch.disk' did.2) (ap on.faults did.2))
   by_case (Err (NoMemory true)) e is did = inr (down_by keep.NoMemory is did)
-  by_case (Err (NoMemory false)) e is did = inl (up_as_before is (settles_by (Err (NoMemory false)) e tt) did.0 did.1 did.2)
+  by_case (Err (NoMemory false)) e is did = inl (up_as_before is (settles_by (Err (NoMemory false)) e tt) (works_by (Err (NoMemory false)) e tt) did.0 did.1 did.2)
 
   pub begin_case : StaysUp ⊎ FellDown
   begin_case = by_case began refl ch.does.0.is ch.does.0.did
 
   pub begin_stays : (begun : Option Number × Outbox) → began ≡ Ok begun → StaysUp
-  begin_stays begun e = up_begun begun.0 begun.1.letters (begin_life (Ok begun) e) (settles_by (Ok begun) e tt) (begin_did (Ok begun) e).did
+  begin_stays begun e = up_begun begun.0 begun.1.letters (begin_life (Ok begun) e) (settles_by (Ok begun) e tt) (works_by (Ok begun) e tt) (begin_did (Ok begun) e).did
 
   -- what it sends can be heard
-  fits_by : (ticket : Option Number) (sent : List Letter) → CallDid on old.plan n seconds (call_seen call) a ch.disk b ch.disk' ticket sent → AllCanBeTaken sent
+  fits_by : (ticket : Option Number) (sent : List Letter) → CallDid on old.plan n seconds (call_seen call) a.mail ch.disk b.mail ch.disk' ticket sent → AllCanBeTaken sent
   fits_by ticket sent (CallDid.AtOnce kind of_kind fails t did) = did.fits
   fits_by ticket sent (CallDid.Goes octets fails filed t did) = did.fits
-  fits_by ticket sent (CallDid.Reads kind found of_kind those t did) = did.fits
+  fits_by ticket sent (CallDid.Reads kind found of_kind goes those t did) = did.fits
   fits_by ticket sent (CallDid.Leaves user called t none same disk) = subst AllCanBeTaken (sym none) none_fit
 
-  pub begin_heard : (r : Began) → began ≡ r → IfOk r (λ begun. AllCanBeTaken begun.1.letters)
-  begin_heard (Ok begun) e = fits_by begun.0 begun.1.letters (begin_did (Ok begun) e).did
-  begin_heard (Err why) e = tt
+  pub begin_heard : (r : Began) → began ≡ r → IfOk r (λ begun. All FitsMaps begun.1.letters) → IfOk r (λ begun. AllCanBeHeard begun.1.letters)
+  begin_heard (Ok begun) e fits = all_heard begun.1.letters (fits_by begun.0 begun.1.letters (begin_did (Ok begun) e).did) fits
+  begin_heard (Err why) e fits = tt
 
-  up_alone : (node : Node) → ch.life' ≡ Up node → StaysUp ⊎ FellDown → IsNodeOf old.plan n node × CanWork (on.seen ch.disk') node
+  up_alone : (node : WholeNode) → ch.life' ≡ Up node → StaysUp ⊎ FellDown → IsNodeOf old.plan n node.mail × WholeWorks (on.seen ch.disk') node
   up_alone node up (inl s) =
-      subst (λ x. IsNodeOf old.plan n x × CanWork (on.seen ch.disk') x) (up_same b node (sym s.is ∙ up)) (s.of_plan, s.works)
+      subst (λ (x : WholeNode). IsNodeOf old.plan n x.mail × WholeWorks (on.seen ch.disk') x) (up_same b node (sym s.is ∙ up)) (s.of_plan, s.works)
   up_alone node up (inr f) = absurd (not_up node (sym f.is ∙ up))
 
   pub begin_ready : CanWorkOn on.seen mid.plan mid.lives.items mid.disks.items
@@ -273,4 +292,4 @@ module _ {D : Type 0} (on : View D) (is_settled : D → Type 0) (n : ℕ) (call 
   pub begin_worked : WasToWork old.plan.nodes (step.Begin n call) (life_among old n) n
   begin_worked =
       let (above, within) = within_of old.plan n (begin_named n call old fit) in
-      record { above = above; within = within; worked = inl ((node_seen a).boot, ap seen_life ch.was ∙ ap life_seen begin_was) }
+      record { above = above; within = within; worked = inl ((node_seen a.mail).boot, ap seen_life ch.was ∙ ap life_seen begin_was) }

@@ -22,10 +22,12 @@ use Rattle.cluster_world.specs.declared.step.Step.TheVariants as step
 use Rattle.cluster_world.specs.declared.step.Said.TheVariants.{Done}
 use Rattle.cluster_world.specs.declared.fault.StepFault.TheVariants as fault
 use Rattle.cluster_world.specs.Books.{booked_by}
-use Rattle.cluster_world.proofs.Same.{same_stops, same_told, same_quiet, same_unchanged}
+use Rattle.cluster_world.proofs.Same.{led_kept, same_stops, same_told, same_quiet, same_unchanged}
 use Rattle.cluster_world.proofs.Kept.{missed_kept, stops_on, only_told, only_quiet}
 use Rattle.cluster_world.proofs.Posted.{flies_so}
 use Rattle.cluster_world.proofs.Longer.{same_book}
+use Rattle.cluster_world.proofs.Follows.{tickets_follow, missed_disk}
+use Rattle.cluster_world.proofs.Wholly.{led, even_of}
 
 module _ (plan : Plan) (w : machine.World) (number : ℕ) where
   fault_is : (o : Option Letter) → letter_at number w.flying ≡ o
@@ -53,12 +55,8 @@ module _ {D : Type 0} (on : View D) (nodes : Nodes D) (flying : InFlight) (secon
     lives = λ n. refl;
     told = same_told on (state_with nodes flying seconds book);
     quiet = same_quiet on (state_with nodes flying seconds book);
-    leads = λ known ended w s. record {
-      next = w;
-      stands = s;
-      made = (inl (inl (fault_is nodes.plan w number None (ap (letter_at number) (sym s.flying) ∙ e))), refl);
-      stops = same_stops on (state_with nodes flying seconds book) w s;
-    };
+    leads = λ known ended w s. led_kept on (state_with nodes flying seconds book) (Err fault.NoSuchLetter) (step.Drop number) w s (record { step_is = refl; said_is = refl; sees = λ unseen. unseen }) (λ done. done)
+        (inl (inl (fault_is nodes.plan w number None (ap (letter_at number) (sym s.flying) ∙ e))), refl);
     cause = λ w s. tt;
   }
 
@@ -78,16 +76,11 @@ module _ {D : Type 0} (on : View D) (nodes : Nodes D) (flying : InFlight) (secon
       lives = λ n. refl;
       told = same_told on (state_with nodes flying seconds book);
       quiet = same_quiet on (state_with nodes flying seconds book);
-      leads = λ known ended w s. record {
-        next = w;
-        stands = s;
-        made = (
-          inl (inl (worn_is nodes.plan w number letter true (ap (letter_at number) (sym s.flying) ∙ here)
-              (ap (λ n. has_ticket (Some letter) && nat_le letters_end n) (sym s.sent) ∙ late))),
-          refl,
-        );
-        stops = same_stops on (state_with nodes flying seconds book) w s;
-      };
+      leads = λ known ended w s. led_kept on (state_with nodes flying seconds book) (Err fault.Worn) (step.Drop number) w s (record { step_is = refl; said_is = refl; sees = λ unseen. unseen }) (λ done. done) (
+        inl (inl (worn_is nodes.plan w number letter true (ap (letter_at number) (sym s.flying) ∙ here)
+            (ap (λ n. has_ticket (Some letter) && nat_le letters_end n) (sym s.sent) ∙ late))),
+        refl,
+      );
       cause = λ w s. tt;
     }
 
@@ -109,7 +102,8 @@ module _ {D : Type 0} (on : View D) (nodes : Nodes D) (flying : InFlight) (secon
       quiet = only_quiet on (λ slots. missed plain_kind.Dropped slots letter) nodes new noted.only flying flying' seconds seconds book book on.faults;
       leads = λ known ended w s.
           let f = flies_so w number letter (ap (letter_at number) (sym s.flying) ∙ here) in
-          record {
+          led on (Ok Done) (step.Drop number) (state_with nodes flying seconds book) (state_with new flying' seconds book) (even_of nodes) (even_of new) w s (record { step_is = refl; said_is = refl; sees = λ unseen. unseen })
+          (λ v seen sound done. tt) (record {
             next = lost_letter plain_kind.Dropped w number f.flies false;
             stands = record {
               slots = subst (λ l. SlotsStand on new.lives.items new.disks.items (missed plain_kind.Dropped w.slots l)) (sym f.letter_is) (noted.only.slots w.slots s.slots);
@@ -124,6 +118,8 @@ module _ {D : Type 0} (on : View D) (nodes : Nodes D) (flying : InFlight) (secon
             );
             stops = stops_on on (state_with nodes flying seconds book) (state_with nodes flying seconds book) (state_with new flying' seconds book) w.slots w.slots (missed plain_kind.Dropped w.slots f.flies.letter) noted.only.disks
                 (λ n. missed_kept plain_kind.Dropped w.slots n f.flies.letter) (same_stops on (state_with nodes flying seconds book) w s);
-          };
+            follow = tickets_follow on (λ slots. missed plain_kind.Dropped slots letter) nodes new noted.only w.slots (missed plain_kind.Dropped w.slots f.flies.letter)
+                (λ m. missed_disk plain_kind.Dropped w.slots m f.flies.letter);
+          });
       cause = λ w s. tt;
     }

@@ -11,7 +11,7 @@ use Rattle.cluster_model.specs.World as machine
 use Rattle.cluster_model.specs.Steps as steps
 use Rattle.cluster_model.specs.Steps.{is_node}
 use Rattle.node_store.specs.Disks.{View}
-use Rattle.node_core.specs.declared.node.Node.{Node}
+use Rattle.whole_node.specs.declared.node.WholeNode.{WholeNode}
 use Rattle.world_book.specs.Books.{entries_of, spare_of}
 use Rattle.world_book.specs.declared.book.Book.{Book}
 use Rattle.world_book.specs.declared.entry.Entry.TheVariants as written
@@ -32,6 +32,8 @@ use Rattle.cluster_world.proofs.Turned.{slot_of, lives_turned, as_many, told_by,
 use Rattle.cluster_world.proofs.Refusing.{fit_of, crash_goes}
 use Rattle.cluster_world.proofs.Falling.{crash_up, lose_here, fallen, fall_told, fall_leads}
 use Rattle.cluster_world.proofs.Longer.{longer_by}
+use Rattle.cluster_world.proofs.Follows.{MapsFollow, fall_follows}
+use Rattle.cluster_world.proofs.Wholly.{led, even_of}
 
 -- a node that is up is not lost
 up_alive : (slot : Slot) (seen : plain.Node) → slot.life ≡ plain.Life.Up seen → slot.life ≢ plain.Life.Lost
@@ -75,7 +77,7 @@ module _ {D : Type 0} (on : View D) (n : ℕ) (old new : Nodes D) (book book' : 
   named = (fit_of _ _ fit).0
 
   module _ (ch : ChangesNode n (IsTurnedTo Down) old new) where
-    was_up : (node : Node) × (ch.life ≡ Up node)
+    was_up : (node : WholeNode) × (ch.life ≡ Up node)
     was_up = crash_up n ch.life (ap (life_refusal (step.Crash n)) (sym (ap seen_life ch.was)) ∙ (fit_of _ _ fit).1)
 
     pub crash_room : spare_of book' + 1 ≡ spare_of book → all_falls_left old.lives.items ≤ spare_of book → all_falls_left new.lives.items ≤ spare_of book'
@@ -121,16 +123,18 @@ module _ {D : Type 0} (on : View D) (n : ℕ) (old new : Nodes D) (book book' : 
               let (node, up) = was_up in
               let ((seen, is), fits, holds) = fallen on n ch.disk slot node (subst (λ l. SlotStands on n l ch.disk slot) up stood) in
               let (next, stands, made, stops) = fall_leads on n Down (plain.Life.Down []) refl old new ch flying seconds book book' steps.Said.Finished (step.Crash n) (written.Down n) wrote w st slot here (up_alive slot seen is) stood ([], refl, fits, holds) in
-              record {
+              led on (Ok Done) (step.Crash n) (state_with old flying seconds book) (state_with new flying seconds book') (even_of old) (even_of new) w st (record { step_is = refl; said_is = refl; sees = λ unseen. unseen }) (λ v same sound done. tt) (record {
                 next = next;
                 stands = stands;
                 made = (crash_goes old.plan w n slot named here seen is, record { slot = slot; here = here; was = up_alive slot seen is; said_is = refl; new_world = made });
                 stops = stops;
-              }
+                follow = subst (λ (x : machine.World). MapsFollow old.lives.items new.lives.items w.slots x.slots) (sym made)
+                    (fall_follows on n (IsTurnedTo Down) old new ch w.slots slot (record slot { life = plain.Life.Down [] }) here (λ b up'. let never : Down ≡ Up b = sym ch.does.0 ∙ up' in cc));
+              })
 
 module _ {D : Type 0} (on : View D) (n : ℕ) (old new : Nodes D) (book book' : Book) (fit : node_refusal old.plan (life_among old) (step.Lose n) ≡ None) where
   module _ (ch : ChangesNode n (IsTurnedTo Lost) old new) where
-    was_here : ((node : Node) × (ch.life ≡ Up node)) ⊎ (ch.life ≡ Down)
+    was_here : ((node : WholeNode) × (ch.life ≡ Up node)) ⊎ (ch.life ≡ Down)
     was_here = lose_here n ch.life (ap (life_refusal (step.Lose n)) (sym (ap seen_life ch.was)) ∙ (fit_of _ _ fit).1)
 
     some_left : 1 ≤ falls_left ch.life

@@ -11,7 +11,7 @@ use Rattle.cluster_model.specs.Steps as steps
 use Rattle.io_edge.specs.Octets.{IsToldAlike}
 use Rattle.node_store.specs.Disks.{View}
 use Rattle.node_core.specs.Starting.{MayHold}
-use Rattle.node_core.specs.declared.node.Node.{Node}
+use Rattle.whole_node.specs.declared.node.WholeNode.{WholeNode}
 use Rattle.world_book.specs.Books.{entries_of}
 use Rattle.world_book.specs.declared.book.Book.{Book}
 use Rattle.world_book.specs.declared.entry.Entry.{Entry}
@@ -38,25 +38,25 @@ entries_more [] ys = refl
 entries_more (x ∷ xs) ys = ap (λ zs. Rattle.cluster_world.specs.Books.entry_seen x ++ zs) (entries_more xs ys) ∙ sym (Rattle.std.proofs.Common.append_assoc (Rattle.cluster_world.specs.Books.entry_seen x) (entries_seen xs) (entries_seen ys))
 
 -- a life that is up in the definitions' words is up
-pub up_life : (l : Life) (boot : ℕ) → life_seen l ≡ life.Up boot → (node : Node) × (l ≡ Up node)
+pub up_life : (l : Life) (boot : ℕ) → life_seen l ≡ life.Up boot → (node : WholeNode) × (l ≡ Up node)
 up_life (Up node) boot e = (node, refl)
 up_life Down boot e = absurd (let never : life.Down ≡ life.Up boot = e in cc)
 up_life Lost boot e = absurd (let never : life.Lost ≡ life.Up boot = e in cc)
 
 -- a node that may crash is up, and one that may be lost is not lost
-pub crash_up : (n : ℕ) (l : Life) → life_refusal (step.Crash n) (life_seen l) ≡ None → (node : Node) × (l ≡ Up node)
+pub crash_up : (n : ℕ) (l : Life) → life_refusal (step.Crash n) (life_seen l) ≡ None → (node : WholeNode) × (l ≡ Up node)
 crash_up n (Up node) e = (node, refl)
 crash_up n Down e = absurd (let never : Some fault.NodeDown ≡ None = e in cc)
 crash_up n Lost e = absurd (let never : Some fault.NodeLost ≡ None = e in cc)
 
-pub lose_here : (n : ℕ) (l : Life) → life_refusal (step.Lose n) (life_seen l) ≡ None → ((node : Node) × (l ≡ Up node)) ⊎ (l ≡ Down)
+pub lose_here : (n : ℕ) (l : Life) → life_refusal (step.Lose n) (life_seen l) ≡ None → ((node : WholeNode) × (l ≡ Up node)) ⊎ (l ≡ Down)
 lose_here n (Up node) e = inl (node, refl)
 lose_here n Down e = inr refl
 lose_here n Lost e = absurd (let never : Some fault.NodeLost ≡ None = e in cc)
 
 module _ {D : Type 0} (on : View D) (own : ℕ) (disk : D) (slot : Slot) where
   -- the slot of a node that was up, as it falls
-  pub fallen : (node : Node) → SlotStands on own (Up node) disk slot
+  pub fallen : (node : WholeNode) → SlotStands on own (Up node) disk slot
       → ((seen : plain.Node) × (slot.life ≡ plain.Life.Up seen)) × All IsRecord (slot.disk ++ []) × IfSome (on.seen disk) (λ _. MayHold on disk own slot.disk [])
   fallen node (seen, is, st) =
       let fit : All IsRecord (slot.disk ++ []) = subst (λ xs. All IsRecord xs) (sym (append-nil slot.disk)) st.keeps.fit in

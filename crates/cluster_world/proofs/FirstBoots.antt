@@ -1,24 +1,31 @@
 -- A world that is opened.
-use Rattle.std.proofs.Common.{◌≡◌, ◌≢◌, ◌⊎◌, inl, inr, ⊎_elim, ℕ, zero, suc, ◌+◌, ◌<◌, ◌≤◌, List, [], ◌∷◌, ◌++◌, length, length-append, Option, Some, None, Ok, Err, refl, sym, ap, ◌∙◌, subst, arith}
+use Rattle.std.proofs.Common.{◌≡◌, ◌≢◌, ◌⊎◌, inl, inr, ⊎_elim, ℕ, zero, suc, ◌+◌, ◌<◌, ◌≤◌, List, [], ◌∷◌, ◌++◌, length, length-append, get_or, Option, Some, None, Ok, Err, refl, sym, ap, ◌∙◌, subst, arith}
 use Rattle.std.specs.Prelude.{IfSome, is_some, slice_get, slice_set}
-use Rattle.std.proofs.lemmas.Option.{slice_get_cases, slice_get_within}
+use Rattle.std.proofs.lemmas.Option.{slice_get_cases, slice_get_within, slice_get-get_or}
 use Rattle.io_edge.specs.Moments.{IsOnly}
 use Rattle.io_edge.specs.Octets.{IsToldAlike}
 use Rattle.mail_model.specs.Plan.{Plan}
 use Rattle.mail_model.specs.Record.{payloads_of}
-use Rattle.mail_model.specs.Record.Record.{Boot}
+use Rattle.mail_model.specs.Record.Record.{Boot, Promise}
+use Rattle.object_model.specs.Letters.{MapRow}
 use Rattle.mail_model.proofs.Sessions.{get_set, get_set_other}
 use Rattle.session_model.specs.Events.{NodeLife as life}
 use Rattle.cluster_model.specs.Cluster as plain
+use Rattle.cluster_model.specs.Starts.{first_epoch, fresh_node}
 use Rattle.cluster_model.specs.WorldLaws.{fresh_slot, fresh_slots}
 use Rattle.disk_journal.specs.Journal.{EndsAt}
+use Rattle.whole_model.specs.Whole as whole
+use Rattle.whole_world.specs.First.{first_node, first_slot, first_slots}
+use Rattle.node_maps.specs.Nodes.{node_of}
 use Rattle.node_store.specs.Disks.{View}
-use Rattle.node_core.specs.First.{fresh_node}
-use Rattle.node_core.specs.Nodes.{end_in, CanWork, IsNodeOf}
-use Rattle.node_core.specs.declared.node.Node.{Node}
+use Rattle.node_core.specs.Nodes.{end_in, IsNodeOf}
+use Rattle.whole_node.specs.Nodes.{WholeWorks}
+use Rattle.whole_node.specs.declared.node.WholeNode.{WholeNode}
+use Rattle.whole_node.specs.Starting.{first_map}
 use Rattle.world_book.specs.Books.{entries_of}
 use Rattle.cluster_world.specs.Books.{entries_seen}
 use Rattle.cluster_world.specs.Lives.{of_node, CanWorkOn}
+use Rattle.cluster_world.specs.Maps.{AreMaps}
 use Rattle.cluster_world.specs.Opens.{AreHandedOn, Opened, OpenFails, Refused, IsOpenedOn, OpensNext, NextComes, AreOpened}
 use Rattle.cluster_world.specs.Stands.{SlotStands, SlotsStand}
 use Rattle.cluster_world.specs.Worlds.{seen_life}
@@ -62,9 +69,28 @@ module _ {D : Type 0} (on : View D) (is_settled : D → Type 0) (plan : Plan) wh
   told_of : (lives : List Life) (old new : List D) → AreOpened on is_settled plan lives old new → (k : ℕ) (d d' : D) → slice_get old k ≡ Some d → slice_get new k ≡ Some d'
       → IsToldAlike (on.seen d) (on.seen d') × (on.faults d' ≡ on.faults d)
   told_of lives old new o k d d' a b = ⊎_elim
-      (λ (l, within, here, _). let so = o.each k l d d' here a b in (so.told, so.first.quiet))
+      (λ (l, within, here, _). let so = o.each k l d d' here a b in (so.told, so.first.mail.quiet))
       (λ (past, none). let same : d' ≡ d = some_same d' d (sym b ∙ o.rest k past ∙ a) in (ap (λ x. is_some (on.seen x)) same, ap on.faults same))
       (slice_get_cases lives k).1
+
+  -- the next node was to start on the disk at its place
+  module _ (lives lives' : List Life) (old : List D) (k : ℕ) (d dd d' : D) (at : k ≡ length lives) (less : length lives < length old) (read : d ≡ get_or old k dd) (told : IsToldAlike (on.seen d) (on.seen d')) (later : on.faults d ≤ on.faults d') where
+    next_here : slice_get old (length lives) ≡ Some d
+    next_here = ap (slice_get old) (sym at) ∙ slice_get-get_or old k dd (omega (arith, at, less)) ∙ ap Some (sym read)
+
+    pub next_opened : (n : ℕ) (life : Life) → n ≡ k + 1 → IsOpenedOn on is_settled plan n life d d' → lives' ≡ lives ++ life ∷ [] → OpensNext on is_settled plan (Ok tt) lives old lives' (slice_set old k d')
+    next_opened n life n_is so are = record {
+      disk = d;
+      disk' = d';
+      here = next_here;
+      becomes = ap (λ i. slice_set old i d') at;
+      told = told;
+      later = later;
+      comes = (life, are, subst (λ m. IsOpenedOn on is_settled plan m life d d') (n_is ∙ ap (λ i. i + 1) at) so);
+    }
+
+    pub next_short : OpensNext on is_settled plan (Err NoMemory) lives old lives' (slice_set old k d')
+    next_short = record { disk = d; disk' = d'; here = next_here; becomes = ap (λ i. slice_set old i d') at; told = told; later = later; comes = tt }
 
   module _ (lives : List Life) (old mid : List D) (o : AreOpened on is_settled plan lives old mid) (lives' : List Life) (new : List D) where
     -- one more
@@ -161,27 +187,32 @@ none_refused on disks = record {
 }
 
 -- the slots of a beginning
-fresh_count : (nodes m : ℕ) → length (fresh_slots nodes m) ≡ m
-fresh_count nodes zero = refl
-fresh_count nodes (suc m) = ap suc (fresh_count nodes m)
+fresh_count : (nodes : ℕ) (map : List MapRow) (m : ℕ) → length (fresh_slots nodes map m) ≡ m
+fresh_count nodes map zero = refl
+fresh_count nodes map (suc m) = ap suc (fresh_count nodes map m)
 
-fresh_at : (nodes m k : ℕ) (slot : plain.Slot) → slice_get (fresh_slots nodes m) k ≡ Some slot → slot ≡ fresh_slot nodes
-fresh_at nodes zero k slot e = absurd (let never : None ≡ Some slot = e in cc)
-fresh_at nodes (suc m) zero slot e = some_same slot (fresh_slot nodes) (sym e)
-fresh_at nodes (suc m) (suc k) slot e = fresh_at nodes m k slot e
+fresh_at : (nodes : ℕ) (map : List MapRow) (m k : ℕ) (slot : plain.Slot) → slice_get (fresh_slots nodes map m) k ≡ Some slot → slot ≡ fresh_slot nodes map
+fresh_at nodes map zero k slot e = absurd (let never : None ≡ Some slot = e in cc)
+fresh_at nodes map (suc m) zero slot e = some_same slot (fresh_slot nodes map) (sym e)
+fresh_at nodes map (suc m) (suc k) slot e = fresh_at nodes map m k slot e
+
+first_at : (nodes : ℕ) (map : List MapRow) (m k : ℕ) (slot : whole.Slot) → slice_get (first_slots nodes map m) k ≡ Some slot → slot ≡ first_slot nodes map
+first_at nodes map zero k slot e = absurd (let never : None ≡ Some slot = e in cc)
+first_at nodes map (suc m) zero slot e = some_same slot (first_slot nodes map) (sym e)
+first_at nodes map (suc m) (suc k) slot e = first_at nodes map m k slot e
 
 module _ {D : Type 0} (on : View D) (is_settled : D → Type 0) (only : (disk : D) → is_settled disk → IfSome (on.seen disk) (λ held. IsOnly on.clock disk held)) (plan : Plan) where
-  fresh_stands : (n : ℕ) (life : Life) (before after : D) → IsOpenedOn on is_settled plan n life before after → SlotStands on n life after (fresh_slot plan.nodes)
+  fresh_stands : (n : ℕ) (life : Life) (before after : D) → IsOpenedOn on is_settled plan n life before after → SlotStands on n life after (fresh_slot plan.nodes (first_map plan))
   fresh_stands n life before after o =
-      subst (λ l. SlotStands on n l after (fresh_slot plan.nodes)) (sym o.is) (
-        fresh_node plan.nodes,
+      subst (λ l. SlotStands on n l after (fresh_slot plan.nodes (first_map plan))) (sym o.is) (
+        fresh_node plan.nodes (first_map plan),
         refl,
         record {
-          seen_is = o.first.seen_is;
-          keeps = o.first.keeps;
-          tells = o.first.tells;
-          images = both_held (on.seen after) (λ held. IsOnly on.clock after held) (λ held. EndsAt n held (payloads_of (Boot 1 ∷ [])) (end_in o.node)) _
-              (λ held alone ends c image. subst (λ x. EndsAt n x (payloads_of (Boot 1 ∷ [])) (end_in o.node)) (sym (alone c image)) ends) (only after o.settled) o.first.tells;
+          seen_is = o.first.mail.seen_is;
+          keeps = o.first.mail.keeps;
+          tells = o.first.mail.tells;
+          images = both_held (on.seen after) (λ held. IsOnly on.clock after held) (λ held. EndsAt n held (payloads_of (Boot 1 ∷ Promise first_epoch ∷ [])) (end_in o.node.mail)) _
+              (λ held alone ends c image. subst (λ x. EndsAt n x (payloads_of (Boot 1 ∷ Promise first_epoch ∷ [])) (end_in o.node.mail)) (sym (alone c image)) ends) (only after o.settled) o.first.mail.tells;
         },
       )
 
@@ -193,15 +224,15 @@ module _ {D : Type 0} (on : View D) (is_settled : D → Type 0) (only : (disk : 
     opened_at : (k : ℕ) (life : Life) (d' : D) → slice_get lives k ≡ Some life → slice_get new k ≡ Some d' → (d : D) × IsOpenedOn on is_settled plan (suc k) life d d'
     opened_at k life d' a b = let (d, here) = was_there k d' b in (d, o.each k life d d' a here b)
 
-    pub opened_slots : length lives ≡ plan.nodes → SlotsStand on lives new (fresh_slots plan.nodes plan.nodes)
+    pub opened_slots : length lives ≡ plan.nodes → SlotsStand on lives new (fresh_slots plan.nodes (first_map plan) plan.nodes)
     opened_slots many = record {
-      count = fresh_count plan.nodes plan.nodes ∙ sym many;
+      count = fresh_count plan.nodes (first_map plan) plan.nodes ∙ sym many;
       each = λ k life disk slot a b c.
           let (d, so) = opened_at k life disk a b in
-          subst (λ s. SlotStands on (suc k) life disk s) (sym (fresh_at plan.nodes plan.nodes k slot c)) (fresh_stands (suc k) life d disk so);
+          subst (λ s. SlotStands on (suc k) life disk s) (sym (fresh_at plan.nodes (first_map plan) plan.nodes k slot c)) (fresh_stands (suc k) life d disk so);
     }
 
-    up_is : (x y : Node) → Up x ≡ Up y → x ≡ y
+    up_is : (x y : WholeNode) → Up x ≡ Up y → x ≡ y
     up_is x y e = cc
 
     pub opened_ready : CanWorkOn on.seen plan lives new
@@ -209,8 +240,26 @@ module _ {D : Type 0} (on : View D) (is_settled : D → Type 0) (only : (disk : 
       each = λ k node disk a b.
           let (d, so) = opened_at k (Up node) disk a b in
           let same : so.node ≡ node = up_is so.node node (sym so.is) in
-          subst (λ x. IsNodeOf plan (suc k) x × CanWork (on.seen disk) x) same (so.first.of_plan, so.first.works);
+          subst (λ (x : WholeNode). IsNodeOf plan (suc k) x.mail × WholeWorks (on.seen disk) x) same (so.first.mail.of_plan, record { mail = so.first.mail.works; maps = so.first.maps.has_maps });
     }
+
+    -- their maps are those of the first epoch
+    pub opened_maps : AreMaps lives (first_slots plan.nodes (first_map plan) plan.nodes)
+    opened_maps = record { each = at }
+      where
+        same_up : (x y : whole.Node) → whole.Life.Up x ≡ whole.Life.Up y → x ≡ y
+        same_up x y e = cc
+
+        at : (n : ℕ) (node : WholeNode) (slot : whole.Slot) (seen : whole.Node) → of_node lives n ≡ Some (Up node) → whole.slot_at (first_slots plan.nodes (first_map plan) plan.nodes) n ≡ Some slot → slot.life ≡ whole.Life.Up seen
+            → seen.maps ≡ node_of node.maps
+        at zero node slot seen up here is = absurd (let never : None ≡ Some (Up node) = up in cc)
+        at (suc k) node slot seen up here is =
+            let (disk, held) = both_at new lives k (Up node) (all ∙ sym o.handed) up in
+            let (d, so) = opened_at k (Up node) disk up held in
+            let same : so.node ≡ node = up_is so.node node (sym so.is) in
+            let seen_is : seen ≡ first_node plan.nodes (first_map plan) =
+            same_up seen (first_node plan.nodes (first_map plan)) (sym is ∙ ap (λ (s : whole.Slot). s.life) (first_at plan.nodes (first_map plan) plan.nodes k slot here)) in
+            ap (λ (x : whole.Node). x.maps) seen_is ∙ sym so.first.maps_are ∙ ap (λ (x : WholeNode). node_of x.maps) same
 
     pub opened_handed : AreHandedOn on.seen old new
     opened_handed = record { count = o.handed; told = λ k d d' a b. (told_of on is_settled plan lives old new o k d d' a b).0 }
@@ -232,13 +281,14 @@ module _ {D : Type 0} (on : View D) (is_settled : D → Type 0) (only : (disk : 
         plan_is = plan_is;
         steps = no_steps;
         stands = record {
-          slots = subst (λ ds. SlotsStand on world.nodes.lives.items ds (fresh_slots plan.nodes plan.nodes)) (sym disks_are)
-              (subst (λ ls. SlotsStand on ls new (fresh_slots plan.nodes plan.nodes)) (sym lives_are) (opened_slots many));
+          slots = subst (λ ds. SlotsStand on world.nodes.lives.items ds (fresh_slots plan.nodes (first_map plan) plan.nodes)) (sym disks_are)
+              (subst (λ ls. SlotsStand on ls new (fresh_slots plan.nodes (first_map plan) plan.nodes)) (sym lives_are) (opened_slots many));
           flying = none_fly;
           sent = none_sent;
           seconds = first_second;
           book = ap entries_seen none_written;
         };
+        maps = subst (λ ls. AreMaps ls (first_slots plan.nodes (first_map plan) plan.nodes)) (sym lives_are) opened_maps;
         ready = subst (λ p. CanWorkOn on.seen p world.nodes.lives.items world.nodes.disks.items) (sym plan_is)
             (subst (λ ds. CanWorkOn on.seen plan world.nodes.lives.items ds) (sym disks_are) (subst (λ ls. CanWorkOn on.seen plan ls new) (sym lives_are) opened_ready));
       };

@@ -11,13 +11,15 @@ use Rattle.std.proofs.lemmas.Bool.Decides.{nat_tests}
 use Rattle.std.specs.Result.{result_ok}
 use Rattle.std.proofs.lemmas.Option.{slice_get_within, slice_get-get_or, get_or_from_slice_get}
 use Rattle.std.specs.List.{remove}
-use Rattle.std.proofs.Common.{◌+◌, ◌-◌, ◌++◌, take, drop, Option}
+use Rattle.std.proofs.Common.{◌+◌, ◌-◌, ◌++◌, take, drop, Option, All}
 use Rattle.object_model.specs.Letters.{Letter}
-use Rattle.node_core.specs.Spelling.{CanBeTaken, AllCanBeTaken}
+use Rattle.node_core.specs.Spelling.{AllCanBeTaken}
+use Rattle.whole_node.specs.Hearing.{FitsMaps}
+use Rattle.cluster_world.specs.Hears.{CanBeHeard, AllCanBeHeard}
 use Rattle.cluster_model.specs.Room.{Flight, octets_of, octets_flying, fits, most_letters, most_octets}
 use Rattle.cluster_model.specs.Steps.{letter_at}
 use Rattle.cluster_model.specs.Plain.{without_letter}
-use Rattle.cluster_world.specs.Flights.{AreAbove, NumbersRise, AreUpTo, AllCanBeHeard, FlightIsCounted, HasAt, PutDown, flights_without, put_one, put_all}
+use Rattle.cluster_world.specs.Flights.{AreAbove, NumbersRise, AreUpTo, FlightsCanBeHeard, FlightIsCounted, HasAt, PutDown, flights_without, put_one, put_all}
 
 eq_self : (n : ℕ) → nat_eq n n ≡ true
 eq_self n = grind arith
@@ -127,9 +129,9 @@ up_to_without : (m n : ℕ) (fs : List Flight) → AreUpTo m fs → AreUpTo m (w
 up_to_without m n [] h = tt
 up_to_without m n (f ∷ fs) h = either_list (AreUpTo m) (nat_eq f.number n) fs (f ∷ without_letter n fs) h.1 (h.0, up_to_without m n fs h.1)
 
-heard_without : (n : ℕ) (fs : List Flight) → AllCanBeHeard fs → AllCanBeHeard (without_letter n fs)
+heard_without : (n : ℕ) (fs : List Flight) → FlightsCanBeHeard fs → FlightsCanBeHeard (without_letter n fs)
 heard_without n [] h = tt
-heard_without n (f ∷ fs) h = either_list AllCanBeHeard (nat_eq f.number n) fs (f ∷ without_letter n fs) h.1 (h.0, heard_without n fs h.1)
+heard_without n (f ∷ fs) h = either_list FlightsCanBeHeard (nat_eq f.number n) fs (f ∷ without_letter n fs) h.1 (h.0, heard_without n fs h.1)
 
 pub counted_without : (octets less sent n : ℕ) (fs : List Flight) → FlightIsCounted octets sent fs → less + octets_flying (without_letter n fs) ≡ octets_flying fs
     → FlightIsCounted (octets - less) sent (without_letter n fs)
@@ -142,12 +144,12 @@ counted_without octets less sent n fs h e = record {
 }
 
 -- a letter that can be heard
-pub heard_at : (fs : List Flight) (n : ℕ) (letter : Letter) → AllCanBeHeard fs → letter_at n fs ≡ Some letter → CanBeTaken letter.body
+pub heard_at : (fs : List Flight) (n : ℕ) (letter : Letter) → FlightsCanBeHeard fs → letter_at n fs ≡ Some letter → CanBeHeard letter
 heard_at [] n letter h e = absurd (let never : None ≡ Some letter = e in cc)
 heard_at (f ∷ fs) n letter h e = by (nat_eq f.number n) (heard_at fs n letter h.1) e
   where
-    by : (b : Bool) → (letter_at n fs ≡ Some letter → CanBeTaken letter.body) → (if b then Some f.letter else letter_at n fs) ≡ Some letter → CanBeTaken letter.body
-    by true more e = subst (λ (l : Letter). CanBeTaken l.body) (same_some f.letter letter e) h.0
+    by : (b : Bool) → (letter_at n fs ≡ Some letter → CanBeHeard letter) → (if b then Some f.letter else letter_at n fs) ≡ Some letter → CanBeHeard letter
+    by true more e = subst (λ (l : Letter). CanBeHeard l) (same_some f.letter letter e) h.0
     by false more e = more e
 
 pub none_taken : (fs : List Flight) (n : ℕ) → letter_at n fs ≡ None → without_letter n fs ≡ fs
@@ -202,11 +204,11 @@ up_to_more : (fs : List Flight) (f : Flight) (sent : ℕ) → AreUpTo sent fs �
 up_to_more [] f sent h e = (omega (arith, e), tt)
 up_to_more (g ∷ gs) f sent h e = (omega (arith, h.0), up_to_more gs f sent h.1 e)
 
-heard_more : (fs : List Flight) (f : Flight) → AllCanBeHeard fs → CanBeTaken f.letter.body → AllCanBeHeard (fs ++ f ∷ [])
+heard_more : (fs : List Flight) (f : Flight) → FlightsCanBeHeard fs → CanBeHeard f.letter → FlightsCanBeHeard (fs ++ f ∷ [])
 heard_more [] f h one = (one, tt)
 heard_more (g ∷ gs) f h one = (h.0, heard_more gs f h.1 one)
 
-pub counted_more : (octets sent letters : ℕ) (fs : List Flight) (letter : Letter) → FlightIsCounted octets sent fs → CanBeTaken letter.body → fits letters octets (octets_of letter) ≡ true
+pub counted_more : (octets sent letters : ℕ) (fs : List Flight) (letter : Letter) → FlightIsCounted octets sent fs → CanBeHeard letter → fits letters octets (octets_of letter) ≡ true
     → FlightIsCounted (octets + octets_of letter) (sent + 1) (fs ++ record { number = sent + 1; letter = letter } ∷ [])
 counted_more octets sent letters fs letter h one room =
     let f : Flight = record { number = sent + 1; letter = letter } in
@@ -236,5 +238,9 @@ pub counted_left : (octets less sent : ℕ) (posted : Option ℕ) (fs : List Fli
 counted_left octets less sent None fs h e = subst (λ n. FlightIsCounted n sent fs) (omega (arith, e)) h
 counted_left octets less sent (Some n) fs h e = counted_without octets less sent n fs h e
 
-pub all_rest : (x : Letter) (xs ys : List Letter) → ys ≡ x ∷ xs → AllCanBeTaken ys → AllCanBeTaken xs
-all_rest x xs ys e h = λ k d within. subst (λ (zs : List Letter). AllCanBeTaken zs) e h (suc k) d (omega (arith, within))
+pub all_rest : (x : Letter) (xs ys : List Letter) → ys ≡ x ∷ xs → AllCanBeHeard ys → AllCanBeHeard xs
+all_rest x xs ys e h = λ k d within. subst (λ (zs : List Letter). AllCanBeHeard zs) e h (suc k) d (omega (arith, within))
+
+-- letters that can be taken and that fit can be heard
+pub all_heard : (letters : List Letter) → AllCanBeTaken letters → All FitsMaps letters → AllCanBeHeard letters
+all_heard letters taken fits = λ k d within. record { taken = taken k d within; fits = fits k d within }

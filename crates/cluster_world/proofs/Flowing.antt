@@ -12,7 +12,7 @@ use Rattle.cluster_world.specs.Flows.{IsDelivered, AllDelivered, HasFlowed}
 use Rattle.cluster_world.specs.declared.world.World.{World}
 use Rattle.cluster_world.specs.declared.step.Step.TheVariants.{Post}
 use Rattle.cluster_world.specs.declared.step.Said.{Said}
-use Rattle.cluster_world.specs.declared.step.Said.TheVariants.{Begun, Noted, Asked, Heard, Thrown, Sent, Widened, NodeUp, Done, Faulted}
+use Rattle.cluster_world.specs.declared.step.Said.TheVariants.{Begun, Noted, Asked, Heard, Thrown, Sent, Widened, Grouped, Concluded, NodeUp, Done, Faulted}
 use Rattle.cluster_world.specs.declared.fault.StepFault.{StepFault}
 
 -- a letter that was delivered
@@ -24,6 +24,8 @@ delivers (Ok Noted) is = absurd is
 delivers (Ok (Asked ask)) is = absurd is
 delivers (Ok (Sent letters)) is = absurd is
 delivers (Ok (Widened did)) is = absurd is
+delivers (Ok (Grouped epoch)) is = absurd is
+delivers (Ok (Concluded epoch members)) is = absurd is
 delivers (Ok (NodeUp boot)) is = absurd is
 delivers (Ok Done) is = absurd is
 delivers (Ok (Faulted n)) is = absurd is
@@ -107,5 +109,7 @@ delivered letter Noted says none = says
 delivered letter (Asked ask) says none = says
 delivered letter (Sent letters) says none = says
 delivered letter (Widened did) says none = says
+delivered letter (Grouped epoch) says none = says
+delivered letter (Concluded epoch members) says none = says
 delivered letter (NodeUp boot) says none = says
 delivered letter Done says none = says

@@ -13,7 +13,7 @@ use Rattle.node_tickets.specs.Standing.{call_kind_seen, kind_of_ticket}
 use Rattle.node_store.specs.Disks.{View}
 use Rattle.node_core.specs.Nodes.{node_seen}
 use Rattle.node_core.specs.Standing.{ticket_standing}
-use Rattle.node_core.specs.declared.node.Node.{Node}
+use Rattle.whole_node.specs.declared.node.WholeNode.{WholeNode}
 use Rattle.world_book.specs.declared.book.Book.{Book}
 use Rattle.cluster_world.specs.Flights.{InFlight}
 use Rattle.cluster_world.specs.Lives.{of_node, falls_left, all_falls_left, CanWorkOn}
@@ -30,7 +30,7 @@ use Rattle.cluster_world.specs.declared.step.Said.TheVariants.{Done}
 use Rattle.cluster_world.specs.declared.fault.StepFault.TheVariants as fault
 use Rattle.cluster_world.specs.Books.{booked_by}
 use Rattle.cluster_world.proofs.Still.{some_same}
-use Rattle.cluster_world.proofs.Same.{same_told, same_quiet, same_stops, same_unchanged}
+use Rattle.cluster_world.proofs.Same.{same_told, same_quiet, led_kept, same_unchanged}
 use Rattle.cluster_world.proofs.Turned.{slot_of, falls_now}
 use Rattle.cluster_world.proofs.Refusing.{fit_of, no_ticket_given_up, give_up_is_worn}
 use Rattle.cluster_world.proofs.Asked.{ready_of, disk_of, give_up_done, retold_ready, retold_settled}
@@ -44,7 +44,7 @@ kind_tells (Some k) None e = absurd (let never : Some (Rattle.node_tickets.specs
 kind_tells (Some k) (Some t) e = refl
 
 -- a node at which a ticket may be given up is up
-give_up : (ticket : Number) (o : Option Life) (l : Life) → o ≡ Some l → life_refusal (step.GiveUp ticket) (seen_life o) ≡ None → (node : Node) × (l ≡ Up node)
+give_up : (ticket : Number) (o : Option Life) (l : Life) → o ≡ Some l → life_refusal (step.GiveUp ticket) (seen_life o) ≡ None → (node : WholeNode) × (l ≡ Up node)
 give_up ticket None l e h = absurd (let never : None ≡ Some l = e in cc)
 give_up ticket (Some (Up node)) l e h = (node, some_same l (Up node) (sym e))
 give_up ticket (Some Down) l e h = absurd (let never : Some fault.NodeDown ≡ None = h in cc)
@@ -63,15 +63,15 @@ module _ {D : Type 0} (on : View D) (ticket : Number) (nodes : Nodes D) (fit : n
       let (node, up) = give_up ticket (of_node nodes.lives.items ticket.node) l here fits in
       let (disk, held) = disk_of nodes.disks.items nodes.lives.items ticket.node l (nodes.all ∙ sym nodes.disk_each) here in
       let (of, works) = ready_of on.seen nodes.plan nodes.lives.items nodes.disks.items ready ticket.node node disk (here ∙ ap Some up) held in
-      record { node = node; up = up; whole = works.whole }
+      record { node = node; up = up; whole = works.mail.whole }
 
-  module _ (node : Node) (up : of_node nodes.lives.items ticket.node ≡ Some (Up node)) (flying : InFlight) (seconds : ℕ) (book : Book) where
+  module _ (node : WholeNode) (up : of_node nodes.lives.items ticket.node ≡ Some (Up node)) (flying : InFlight) (seconds : ℕ) (book : Book) where
     -- how the machine finds the ticket
     record Finds (w : machine.World) : Type 0 where
       slot : Slot
       here : slot_at w.slots ticket.node ≡ Some slot
-      is : slot.life ≡ plain.Life.Up (node_seen node)
-      stands : stands_at ticket (slot_at w.slots ticket.node) ≡ is_some (ticket_standing node ticket)
+      is : slot.life ≡ plain.Life.Up (node_seen node.mail)
+      stands : stands_at ticket (slot_at w.slots ticket.node) ≡ is_some (ticket_standing node.mail ticket)
 
     finds : (w : machine.World) → StateStandsFor on (state_with nodes flying seconds book) w → Finds w
     finds w st =
@@ -79,16 +79,16 @@ module _ {D : Type 0} (on : View D) (ticket : Number) (nodes : Nodes D) (fit : n
         let (slot, here, stood) = slot_of on nodes.lives.items nodes.disks.items w.slots ticket.node (Up node) disk st.slots up held in
         let (seen, life_is, s) = stood in
         let of = (ready_of on.seen nodes.plan nodes.lives.items nodes.disks.items ready ticket.node node disk up held).0 in
-        let is : slot.life ≡ plain.Life.Up (node_seen node) = life_is ∙ ap plain.Life.Up (sym s.seen_is) in
+        let is : slot.life ≡ plain.Life.Up (node_seen node.mail) = life_is ∙ ap plain.Life.Up (sym s.seen_is) in
         record {
           slot = slot;
           here = here;
           is = is;
           stands = ap (stands_at ticket) (here ∙ ap (λ l. Some (record { life = l; disk = slot.disk })) is)
-              ∙ ap (λ own. is_some (ticket_at own (node_seen node) (Some ticket))) (sym of.own_is);
+              ∙ ap (λ own. is_some (ticket_at own (node_seen node.mail) (Some ticket))) (sym of.own_is);
         }
 
-    pub no_ticket_stood : is_some (ticket_standing node ticket) ≡ false → StepDid on (Err fault.NoSuchTicket) (step.GiveUp ticket) (state_with nodes flying seconds book) (state_with nodes flying seconds book)
+    pub no_ticket_stood : is_some (ticket_standing node.mail ticket) ≡ false → StepDid on (Err fault.NoSuchTicket) (step.GiveUp ticket) (state_with nodes flying seconds book) (state_with nodes flying seconds book)
     no_ticket_stood none = record {
       plan = refl;
       handed = refl;
@@ -102,16 +102,12 @@ module _ {D : Type 0} (on : View D) (ticket : Number) (nodes : Nodes D) (fit : n
       lighter = tt;
       books = same_book (booked_by book);
       kept = same_unchanged on (state_with nodes flying seconds book) (step.GiveUp ticket);
-      leads = λ known ended w st. let f = finds w st in record {
-        next = w;
-        stands = st;
-        made = (inl (inl (no_ticket_given_up nodes.plan w ticket f.slot (node_seen node) named f.here f.is (f.stands ∙ none))), refl);
-        stops = same_stops on (state_with nodes flying seconds book) w st;
-      };
+      leads = λ known ended w st. let f = finds w st in led_kept on (state_with nodes flying seconds book) (Err fault.NoSuchTicket) (step.GiveUp ticket) w st (record { step_is = refl; said_is = refl; sees = λ unseen. unseen }) (λ done. done)
+          (inl (inl (no_ticket_given_up nodes.plan w ticket f.slot (node_seen node.mail) named f.here f.is (f.stands ∙ none))), refl);
       cause = λ w st. tt;
     }
 
-    pub too_late : is_some (ticket_standing node ticket) ≡ true → nat_le letters_end flying.sent ≡ true
+    pub too_late : is_some (ticket_standing node.mail ticket) ≡ true → nat_le letters_end flying.sent ≡ true
         → StepDid on (Err fault.Worn) (step.GiveUp ticket) (state_with nodes flying seconds book) (state_with nodes flying seconds book)
     too_late there late = record {
       plan = refl;
@@ -126,12 +122,8 @@ module _ {D : Type 0} (on : View D) (ticket : Number) (nodes : Nodes D) (fit : n
       lighter = tt;
       books = same_book (booked_by book);
       kept = same_unchanged on (state_with nodes flying seconds book) (step.GiveUp ticket);
-      leads = λ known ended w st. let f = finds w st in record {
-        next = w;
-        stands = st;
-        made = (inl (inl (give_up_is_worn nodes.plan w ticket f.slot (node_seen node) named f.here f.is (f.stands ∙ there) (ap (nat_le letters_end) (sym st.sent) ∙ late))), refl);
-        stops = same_stops on (state_with nodes flying seconds book) w st;
-      };
+      leads = λ known ended w st. let f = finds w st in led_kept on (state_with nodes flying seconds book) (Err fault.Worn) (step.GiveUp ticket) w st (record { step_is = refl; said_is = refl; sees = λ unseen. unseen }) (λ done. done)
+          (inl (inl (give_up_is_worn nodes.plan w ticket f.slot (node_seen node.mail) named f.here f.is (f.stands ∙ there) (ap (nat_le letters_end) (sym st.sent) ∙ late))), refl);
       cause = λ w st. tt;
     }
 
@@ -147,9 +139,9 @@ module _ {D : Type 0} (on : View D) (ticket : Number) (nodes : Nodes D) (fit : n
     pub given_settled : (flying : InFlight) (seconds : ℕ) (book : Book) (is_settled : D → Type 0) → AreSettled is_settled (state_with nodes flying seconds book) → AreSettled is_settled (state_with new flying seconds book)
     given_settled flying seconds book is_settled = retold_settled on ticket (tickets_without ticket) nodes new named ready ch flying seconds book book is_settled
 
-    pub given_did : (flying : InFlight) (seconds : ℕ) (book : Book) → is_some (ticket_standing ch.does.0.old ticket) ≡ true → nat_le letters_end flying.sent ≡ false
+    pub given_did : (flying : InFlight) (seconds : ℕ) (book : Book) → is_some (ticket_standing ch.does.0.old.mail ticket) ≡ true → nat_le letters_end flying.sent ≡ false
         → StepDid on (Ok Done) (step.GiveUp ticket) (state_with nodes flying seconds book) (state_with new flying seconds book)
     given_did flying seconds book stood early = give_up_done on ticket (tickets_without ticket) nodes new named ready ch flying seconds book book fit stood early refl refl
 
-pub up_same : (x y : Node) → Up x ≡ Up y → x ≡ y
+pub up_same : (x y : WholeNode) → Up x ≡ Up y → x ≡ y
 up_same x y e = cc

@@ -5,15 +5,16 @@ use Rattle.std.proofs.lemmas.Option.{slice_get_within, slice_get-get_or}
 use Rattle.mail_model.specs.Plan.{Plan}
 use Rattle.object_model.specs.Letters.{Letter}
 use Rattle.node_store.specs.Disks.{View}
-use Rattle.node_core.specs.Hearing.{HearsLetter}
-use Rattle.node_core.specs.Nodes.{CanWork, IsNodeOf}
+use Rattle.node_core.specs.Nodes.{IsNodeOf}
 use Rattle.node_core.specs.Works.{LeavesUp}
 use Rattle.node_core.specs.declared.fault.NodeFault.{NodeFault}
-use Rattle.node_core.specs.declared.node.Node.{Node}
+use Rattle.whole_node.specs.Nodes.{WholeWorks}
+use Rattle.whole_node.specs.declared.node.WholeNode.{WholeNode}
 use Rattle.node_core.specs.declared.outbox.Outbox.{Outbox}
 use Rattle.cluster_world.specs.Lives.{life_seen, is_up_life, of_node, CanWorkOn}
 use Rattle.cluster_world.specs.Worlds.{seen_life, life_among}
 use Rattle.cluster_world.specs.Changes.{ChangesNode}
+use Rattle.cluster_world.specs.Hears.{HearsAny, HearsWhole}
 use Rattle.cluster_world.specs.Turning.{TurnsBy}
 use Rattle.cluster_world.specs.Posts.{HearsAtNode}
 use Rattle.cluster_world.specs.declared.life.Life.{Life}
@@ -23,7 +24,7 @@ use Rattle.cluster_world.proofs.Asked.{ready_of}
 use Rattle.cluster_world.proofs.Changing.{node_at, changed_at}
 
 -- a life that is up is of a node
-is_up : (l : Life) → is_up_life (life_seen l) ≡ true → (node : Node) × (l ≡ Up node)
+is_up : (l : Life) → is_up_life (life_seen l) ≡ true → (node : WholeNode) × (l ≡ Up node)
 is_up (Up node) e = (node, refl)
 is_up Down e = absurd (let never : false ≡ true = e in cc)
 is_up Lost e = absurd (let never : false ≡ true = e in cc)
@@ -46,12 +47,12 @@ module _ {D : Type 0} (nodes : Nodes D) (n k : ℕ) (at : k + 1 ≡ n) (up : is_
     disk_here : slice_get nodes.disks.items k ≡ Some d
     disk_here = slice_get-get_or nodes.disks.items k extra disk_within ∙ ap Some (sym d_is)
 
-    of_both : (seen : D → Option (List ℕ)) → CanWorkOn seen nodes.plan nodes.lives.items nodes.disks.items → (node : Node) → l ≡ Up node → IsNodeOf nodes.plan n node × CanWork (seen d) node
+    of_both : (seen : D → Option (List ℕ)) → CanWorkOn seen nodes.plan nodes.lives.items nodes.disks.items → (node : WholeNode) → l ≡ Up node → IsNodeOf nodes.plan n node.mail × WholeWorks (seen d) node
     of_both seen works node is = ready_of seen nodes.plan nodes.lives.items nodes.disks.items works n node d
         (node_at nodes.lives.items n k at ∙ life_here ∙ ap Some is) (node_at nodes.disks.items n k at ∙ disk_here)
 
     -- what the node needs to work
-    pub up_works : (seen : D → Option (List ℕ)) → CanWorkOn seen nodes.plan nodes.lives.items nodes.disks.items → (node : Node) × (l ≡ Up node) × CanWork (seen d) node
+    pub up_works : (seen : D → Option (List ℕ)) → CanWorkOn seen nodes.plan nodes.lives.items nodes.disks.items → (node : WholeNode) × (l ≡ Up node) × WholeWorks (seen d) node
     up_works seen works =
         let (node, is) = is_up l (subst (λ o. is_up_life (seen_life o) ≡ true) (node_at nodes.lives.items n k at ∙ life_here) up) in
         (node, is, (of_both seen works node is).1)
@@ -59,8 +60,19 @@ module _ {D : Type 0} (nodes : Nodes D) (n k : ℕ) (at : k + 1 ≡ n) (up : is_
     -- it did
     pub heard_in : (on : View D) (is_settled : D → Type 0) (letter : Letter) (result : Result Outbox NodeFault) (new : Nodes D) (l' : Life) (d' : D) → CanWorkOn on.seen nodes.plan nodes.lives.items nodes.disks.items
         → new.plan ≡ nodes.plan → new.lives.items ≡ slice_set nodes.lives.items k l' → new.disks.items ≡ slice_set nodes.disks.items k d'
-        → TurnsBy (λ result old before new after. (plan : Plan) (own : ℕ) → IsNodeOf plan own old → HearsLetter on own plan.nodes letter old before new after result) result l d l' d'
+        → TurnsBy on.seen (λ result old before new after. (plan : Plan) (own : ℕ) → IsNodeOf plan own old → HearsAny on own plan.nodes letter old before new after result)
+        (λ result old before new after. (plan : Plan) (own : ℕ) → IsNodeOf plan own old.mail → HearsWhole on own plan.nodes letter result old before new after) result l d l' d'
         → (LeavesUp result → is_settled d → is_settled d') → ChangesNode n (HearsAtNode on is_settled nodes.plan n letter result) nodes new
     heard_in on is_settled letter result new l' d' works p e f t settled =
-        changed_at n k (HearsAtNode on is_settled nodes.plan n letter result) nodes new l l' d d' at life_here disk_here p e f
-        (record { old = t.old; new = t.new; was = t.was; did = t.did nodes.plan n (of_both on.seen works t.old t.was).0; is = t.is }, settled)
+        changed_at n k (HearsAtNode on is_settled nodes.plan n letter result) nodes new l l' d d' at life_here disk_here p e f (
+          record {
+            old = t.old;
+            new = t.new;
+            was = t.was;
+            did = t.did nodes.plan n (of_both on.seen works t.old t.was).0;
+            maps = t.maps nodes.plan n (of_both on.seen works t.old t.was).0;
+            is = t.is;
+            works = t.works;
+          },
+          settled,
+        )

@@ -29,8 +29,9 @@ use Rattle.cluster_model.proofs.Waiting.{pending_letter}
 use Rattle.cluster_model.proofs.Midst.{keep_in_midst}
 use Rattle.cluster_owes.specs.Outcomes as owes
 use Rattle.node_store.specs.Disks.{View}
+use Rattle.whole_node.specs.Starting.{first_map}
 use Rattle.node_core.specs.Nodes.{node_seen}
-use Rattle.node_core.specs.declared.node.Node.{Node}
+use Rattle.whole_node.specs.declared.node.WholeNode.{WholeNode}
 use Rattle.cluster_world.specs.Lives.{life_seen, of_node}
 use Rattle.cluster_world.specs.Stands.{SlotStands, SlotsStand}
 use Rattle.cluster_world.specs.Moments.{IsStopOf, StopsKeep}
@@ -98,15 +99,15 @@ module _ {D : Type 0} (on : View D) where
       let told = disks_tell on.seen last in
       let few : plan.nodes ≤ 64 = omega (arith, start.nodes.few, ap (λ (p : Plan). p.nodes) d.begins.plan_is) in
       let m = mirror_all on plan told lines few outcomes [] [] left start last (record { plan_is = d.begins.plan_is; told_is = sym s.told })
-      (record { outs = []; next = opening_world plan.nodes; makes = refl; stands = d.begins.stands; asked = refl; answered = refl; within = λ one k. absurd k; sessions = λ lines of. tt })
+      (record { outs = []; next = opening_world plan.nodes (first_map plan); makes = refl; stands = d.begins.stands; asked = refl; answered = refl; within = λ one k. absurd k; sessions = λ lines of. tt })
       (⊎_elim (λ t. inl (s.told ∙ t)) (λ b. inr (subst (λ (p : Plan). AllBlind p.nodes outcomes) d.begins.plan_is b)) d.known) d.sessions d.makes in
-      let opens = opening_sound plan.nodes plan.confirm few in
-      let both = makes_sound plan told m.outs [] (opening_world plan.nodes) m.next m.makes opens.0 opens.1 in
+      let opens = opening_sound plan.nodes plan.confirm (first_map plan) few in
+      let both = makes_sound plan told m.outs [] (opening_world plan.nodes (first_map plan)) m.next m.makes opens.0 opens.1 in
       record { w = m.next; stands = m.stands; in_plan = both.0; sound = both.1 }
 
   -- the slot of a node that is up
-  up_there : (n : ℕ) (node : Node) (lives : List Life) (disks : List D) (slots : List Slot) → length disks ≡ length lives → SlotsStand on lives disks slots → of_node lives n ≡ Some (Up node)
-      → (disk : List Record) × (slot_at slots n ≡ Some (slot_up (node_seen node) disk))
+  pub up_there : (n : ℕ) (node : WholeNode) (lives : List Life) (disks : List D) (slots : List Slot) → length disks ≡ length lives → SlotsStand on lives disks slots → of_node lives n ≡ Some (Up node)
+      → (disk : List Record) × (slot_at slots n ≡ Some (slot_up (node_seen node.mail) disk))
   up_there zero node lives disks slots even s e = absurd (let never : None ≡ Some (Up node) = e in cc)
   up_there (suc k) node lives disks slots even s e =
       let (slot, here) = both_at slots lives k (Up node) (sym s.count) e in
@@ -126,7 +127,7 @@ module _ {D : Type 0} (on : View D) where
       by s (Some Lost) here f = absurd (let never : None ≡ Some ticket = f in cc)
       by s (Some (Up node)) here f =
           let up = up_there number.node node (lives_of last) (disks_of last) s.w.slots (last.nodes.disk_each ∙ sym last.nodes.all) s.stands.slots here in
-          let (letter, inside, is) = pending_letter plan.confirm (cluster_of s.w) s.sound number (node_seen node) up.0 ticket up.1 (found_own node.store.own (node_seen node) number ticket f) got wanted e in
+          let (letter, inside, is) = pending_letter plan.confirm (cluster_of s.w) s.sound number (node_seen node.mail) up.0 ticket up.1 (found_own node.mail.store.own (node_seen node.mail) number ticket f) got wanted e in
           let (flight, flies, same) = flight_of letter s.w.flying inside in
           (flight, subst (Among flight) (sym s.stands.flying) flies, ap (λ (l : Letter). l.ticket) same ∙ is)
 

@@ -13,7 +13,7 @@ use Rattle.cluster_model.specs.Steps as steps
 use Rattle.cluster_model.specs.Steps.{is_node}
 use Rattle.node_store.specs.Disks.{View}
 use Rattle.node_core.specs.Starting.{MayHold}
-use Rattle.node_core.specs.declared.node.Node.{Node}
+use Rattle.whole_node.specs.declared.node.WholeNode.{WholeNode}
 use Rattle.world_book.specs.Books.{entries_of}
 use Rattle.world_book.specs.declared.book.Book.{Book}
 use Rattle.world_book.specs.declared.entry.Entry.TheVariants as written
@@ -36,6 +36,8 @@ use Rattle.cluster_world.proofs.Turned.{slot_of, lives_turned, as_many, told_by,
 use Rattle.cluster_world.proofs.Refusing.{fit_of, lose_goes}
 use Rattle.cluster_world.proofs.Falling.{lose_here, entries_more}
 use Rattle.cluster_world.proofs.Longer.{longer_by}
+use Rattle.cluster_world.proofs.Follows.{fall_follows}
+use Rattle.cluster_world.proofs.Wholly.{led, even_of}
 
 module _ {D : Type 0} (on : View D) (own : ℕ) (disk : D) (slot : Slot) where
   abbrev lost_with : List Record → Slot
@@ -68,7 +70,7 @@ module _ {D : Type 0} (on : View D) (own : ℕ) (disk : D) (slot : Slot) where
     pub goes : steps.life_fault (steps.Step.Lose own) slot.life ≡ None
     pub stands : SlotStands on own Lost disk (lost_with kept)
 
-  lost_up : (node : Node) → SlotStands on own (Up node) disk slot → IsLostSo
+  lost_up : (node : WholeNode) → SlotStands on own (Up node) disk slot → IsLostSo
   lost_up node (seen, is, st) = record {
     kept = [];
     pending_is = inl refl;
@@ -92,7 +94,7 @@ module _ {D : Type 0} (on : View D) (own : ℕ) (disk : D) (slot : Slot) where
         stands = (refl, s.fit, s.tells);
       }
 
-  pub lost_so : (l : Life) → ((node : Node) × (l ≡ Up node)) ⊎ (l ≡ Down) → IfSome (on.seen disk) (λ held. on.clock.is_image disk held) → SlotStands on own l disk slot → IsLostSo
+  pub lost_so : (l : Life) → ((node : WholeNode) × (l ≡ Up node)) ⊎ (l ≡ Down) → IfSome (on.seen disk) (λ held. on.clock.is_image disk held) → SlotStands on own l disk slot → IsLostSo
   lost_so l here image stood = ⊎_elim
       (λ (node, up). lost_up node (subst (λ x. SlotStands on own x disk slot) up stood))
       (λ down. lost_down image (subst (λ x. SlotStands on own x disk slot) down stood))
@@ -110,7 +112,7 @@ module _ {D : Type 0} (on : View D) (own : ℕ) (disk : D) (slot : Slot) where
 
 module _ {D : Type 0} (on : View D) (n : ℕ) (old new : Nodes D) (book book' : Book) (fit : node_refusal old.plan (life_among old) (step.Lose n) ≡ None)
     (ch : ChangesNode n (IsTurnedTo Lost) old new) (image : (disk : D) → IfSome (on.seen disk) (λ held. on.clock.is_image disk held)) (flying : InFlight) (seconds : ℕ) where
-  was_here : ((node : Node) × (ch.life ≡ Up node)) ⊎ (ch.life ≡ Down)
+  was_here : ((node : WholeNode) × (ch.life ≡ Up node)) ⊎ (ch.life ≡ Down)
   was_here = lose_here n ch.life (ap (life_refusal (step.Lose n)) (sym (ap seen_life ch.was)) ∙ (fit_of (list_all (is_node old.plan) (n ∷ [])) (life_refusal (step.Lose n) (life_among old n)) fit).1)
 
   lose_leads : entries_of book' ≡ entries_of book ++ written.Lost n ∷ [] → (w : machine.World) → StateStandsFor on (state_with old flying seconds book) w
@@ -123,7 +125,7 @@ module _ {D : Type 0} (on : View D) (n : ℕ) (old new : Nodes D) (book book' : 
       subst (λ d. SlotStands on n ch.life' d turned_slot) (sym ch.does.1) (subst (λ l. SlotStands on n l ch.disk turned_slot) (sym ch.does.0) so.stands) in
       let kept : StopsKeep on n ch.disk ch.disk' slot turned_slot =
       subst (λ d. StopsKeep on n ch.disk d slot turned_slot) (sym ch.does.1) (lost_keeps on n ch.disk slot ch.life so.kept so.pending_is so.alive stood) in
-      record {
+      led on (Ok Done) (step.Lose n) (state_with old flying seconds book) (state_with new flying seconds book') (even_of old) (even_of new) w st (record { step_is = refl; said_is = refl; sees = λ unseen. unseen }) (λ v seen sound done. tt) (record {
         next = record w { slots = plain.with_slot w.slots n turned_slot; book = w.book ++ entries_seen (written.Lost n ∷ []) };
         stands = stands_now n (IsTurnedTo Lost) old new ch on flying seconds book book' (entries_seen (written.Lost n ∷ []))
             (ap entries_seen wrote ∙ entries_more (entries_of book) (written.Lost n ∷ [])) w st turned_slot stands';
@@ -132,7 +134,8 @@ module _ {D : Type 0} (on : View D) (n : ℕ) (old new : Nodes D) (book book' : 
           record { slot = slot; here = here; was = so.alive; kept = so.kept; pending_is = so.pending_is; said_is = refl; new_world = refl },
         );
         stops = record { each = stops_kept n (IsTurnedTo Lost) old new ch on w.slots slot turned_slot st.slots here (λ _. kept) };
-      }
+        follow = fall_follows on n (IsTurnedTo Lost) old new ch w.slots slot turned_slot here (λ b up. let never : Lost ≡ Up b = sym ch.does.0 ∙ up in cc);
+      })
 
   pub lose_did : entries_of book' ≡ entries_of book ++ written.Lost n ∷ [] → StepDid on (Ok Done) (step.Lose n) (state_with old flying seconds book) (state_with new flying seconds book')
   lose_did wrote = record {

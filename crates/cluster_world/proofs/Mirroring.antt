@@ -64,7 +64,7 @@ leave_quiet user node (calls.Login name proof) outcome is = absurd is
 leave_quiet user node (calls.Fetch name id holders from most) outcome is = absurd is
 leave_quiet user node (calls.Strike name items) outcome is = absurd is
 
-leave_ended : (user : List ℕ) (begun : WorldCall) → IsLeave user begun → IsTextEnded (machine_call begun)
+pub leave_ended : (user : List ℕ) (begun : WorldCall) → IsLeave user begun → IsTextEnded (machine_call begun)
 leave_ended user (calls.Leave name login manager) is = tt
 leave_ended user (calls.Deliver deliver) is = absurd is
 leave_ended user (calls.Login name proof) is = absurd is

@@ -16,7 +16,7 @@ use Rattle.node_store.specs.Disks.{View}
 use Rattle.node_tickets.specs.Standing.{befell_in}
 use Rattle.node_core.specs.Nodes.{node_seen, ChangesTickets}
 use Rattle.node_core.specs.Standing.{ticket_standing}
-use Rattle.node_core.specs.declared.node.Node.{Node}
+use Rattle.whole_node.specs.declared.node.WholeNode.{WholeNode}
 use Rattle.cluster_world.specs.Stands.{StandsUp, SlotStands}
 use Rattle.cluster_world.specs.Noting.{LifeNoted}
 use Rattle.cluster_world.proofs.Changing.{set_same}
@@ -43,11 +43,11 @@ module _ {D : Type 0} (on : View D) (own : ℕ) (kind : MishapKind) (at : ℕ) (
       by false e b o f = absurd (let never : false ≡ true = e in cc)
 
   -- a node whose tickets alone changed stands for its slot with those
-  noted_stands : (old new : Node) (disk : D) (seen : plain.Node) (records : List Record) → number.node ≡ own → old.store.own ≡ own → StandsUp on own old disk seen records
-      → ChangesTickets (befell_in kind at number.seq (ticket_standing old number) (node_seen old).tickets) old new → SlotStands on own (Up new) disk (noted_slot kind at number seen records)
+  noted_stands : (old new : WholeNode) (disk : D) (seen : plain.Node) (records : List Record) → number.node ≡ own → old.mail.store.own ≡ own → StandsUp on own old.mail disk seen records
+      → ChangesTickets (befell_in kind at number.seq (ticket_standing old.mail number) (node_seen old.mail).tickets) old.mail new.mail → SlotStands on own (Up new) disk (noted_slot kind at number seen records)
   noted_stands old new disk seen records same own_is st ct =
-      let seen_now : node_seen new ≡ record seen { tickets = befell_in kind at number.seq (ticket_at own seen (Some number)) seen.tickets } =
-      ct.seen ∙ ap (λ n. record (node_seen old) { tickets = befell_in kind at number.seq (ticket_at n (node_seen old) (Some number)) (node_seen old).tickets }) own_is
+      let seen_now : node_seen new.mail ≡ record seen { tickets = befell_in kind at number.seq (ticket_at own seen (Some number)) seen.tickets } =
+      ct.seen ∙ ap (λ n. record (node_seen old.mail) { tickets = befell_in kind at number.seq (ticket_at n (node_seen old.mail) (Some number)) (node_seen old.mail).tickets }) own_is
       ∙ ap (λ (n : plain.Node). record n { tickets = befell_in kind at number.seq (ticket_at own n (Some number)) n.tickets }) st.seen_is in
       subst (λ slot. SlotStands on own (Up new) disk slot) (sym (noted_node seen records same)) (
         _,
@@ -81,14 +81,14 @@ module _ {D : Type 0} (on : View D) (own : ℕ) (kind : MishapKind) (at : ℕ) (
     pub is : missed_at kind slots at number (Some slot) ≡ with_slot slots own to
     pub stands : SlotStands on own life' disk to
 
-  pub life_noted : (life life' : Life) (disk : D) (slots : List plain.Slot) (slot : plain.Slot) → number.node ≡ own → ((node : Node) → life ≡ Up node → node.store.own ≡ own)
+  pub life_noted : (life life' : Life) (disk : D) (slots : List plain.Slot) (slot : plain.Slot) → number.node ≡ own → ((node : WholeNode) → life ≡ Up node → node.mail.store.own ≡ own)
       → slot_at slots own ≡ Some slot → SlotStands on own life disk slot → LifeNoted kind at number life life' → SlotNoted life' disk slots slot
   life_noted (Up old) (Up new) disk slots slot same own_is here (seen, is, st) ct =
       let slot_is : slot ≡ slot_up seen slot.disk = ap (λ l. record { life = l; disk = slot.disk }) is in
       record {
         to = noted_slot kind at number seen slot.disk;
         is = ap (λ s. missed_at kind slots at number (Some s)) slot_is ∙ missed_is slots seen slot.disk same (here ∙ ap Some slot_is);
-        stands = noted_stands old new disk seen slot.disk same (own_is old refl) st ct;
+        stands = noted_stands old new disk seen slot.disk same (own_is old refl) st ct.mail;
       }
   life_noted Down Down disk slots slot same own_is here (pending, is, fit, holds) n = record {
     to = slot;

@@ -8,7 +8,7 @@ use Rattle.session_model.specs.Events.{NodeLife, IsUp}
 use Rattle.session_model.specs.Events.NodeLife.{Up, Down, Lost}
 use Rattle.node_store.specs.Disks.{View}
 use Rattle.cluster_world.specs.Steps.{IsStep}
-use Rattle.cluster_world.specs.Outcomes.{StepMade, MakesSteps, IsPost, PostsAll, PushesTo, PushesAll, MakesOne, MakesOrder, has_failed, nodes_but}
+use Rattle.cluster_world.specs.Outcomes.{StepMade, MakesSteps, IsPost, PostsAll, PushesTo, PushesAll, AreOfRegroup, MakesOne, MakesOrder, has_failed, nodes_but}
 use Rattle.cluster_world.specs.declared.world.World.{World}
 use Rattle.cluster_world.specs.declared.step.Step.{Step}
 use Rattle.cluster_world.specs.declared.step.Step.TheVariants as step
@@ -34,6 +34,9 @@ AreStepsOf (order.Drop letter) steps = AreOne (step.Drop letter) steps
 AreStepsOf order.Flow steps = All IsPost steps
 AreStepsOf (order.Push node) steps = All (IsPushOf node) steps
 AreStepsOf (order.Widen at user id to) steps = AreOne (step.Widen at user id to) steps
+AreStepsOf (order.Group node) steps = AreOne (step.Group node) steps
+AreStepsOf (order.Conclude node) steps = AreOne (step.Conclude node) steps
+AreStepsOf (order.Regroup node) steps = AreOfRegroup node steps
 AreStepsOf (order.Tick seconds) steps = AreOne (step.Tick seconds) steps
 AreStepsOf order.Sum steps = steps ≡ []
 
@@ -89,6 +92,9 @@ module _ {D : Type 0} (on : View D) where
   order_makes order.Flow steps old new made = posts_make steps old new made
   order_makes (order.Push node) steps old new made = made.1
   order_makes (order.Widen at user id to) steps old new made = one_makes (step.Widen at user id to) steps old new made
+  order_makes (order.Group node) steps old new made = one_makes (step.Group node) steps old new made
+  order_makes (order.Conclude node) steps old new made = one_makes (step.Conclude node) steps old new made
+  order_makes (order.Regroup node) steps old new made = made.1
   order_makes (order.Tick seconds) steps old new made = one_makes (step.Tick seconds) steps old new made
   order_makes order.Sum steps old new made = subst (λ (l : List StepMade). MakesSteps on l old new) (sym made.0) made.1
 
@@ -102,5 +108,8 @@ module _ {D : Type 0} (on : View D) where
   order_are order.Flow steps old new made = posts_are steps old new made
   order_are (order.Push node) steps old new made = all_pushes _ _ node steps made.0
   order_are (order.Widen at user id to) steps old new made = one_is (step.Widen at user id to) steps old new made
+  order_are (order.Group node) steps old new made = one_is (step.Group node) steps old new made
+  order_are (order.Conclude node) steps old new made = one_is (step.Conclude node) steps old new made
+  order_are (order.Regroup node) steps old new made = made.0
   order_are (order.Tick seconds) steps old new made = one_is (step.Tick seconds) steps old new made
   order_are order.Sum steps old new made = made.0

@@ -14,6 +14,7 @@ use Rattle.cluster_owes.specs.Held.{filed_on}
 use Rattle.cluster_owes.proofs.Owed.{cluster_owes, answers_fit}
 use Rattle.cluster_owes.proofs.Sure.{none_waits}
 use Rattle.node_store.specs.Disks.{View}
+use Rattle.whole_node.specs.Starting.{first_map}
 use Rattle.cluster_world.specs.Worlds.{disks_of, lives_of, disks_tell}
 use Rattle.cluster_world.specs.Outcomes.{Outcome, Awaited, Came, Makes, asked_by_outcome, answered_by_outcome}
 use Rattle.cluster_world.specs.Outcomes.Outcome.{StillPending}
@@ -31,7 +32,7 @@ use Rattle.cluster_world.proofs.Holding.{holding, counted}
 module _ {D : Type 0} (on : View D) where
   module _ (plan : Plan) (told : Bool) (lines : List (List ℕ)) (few : plan.nodes ≤ 64) where
     abbrev opening : machine.World
-    opening = opening_world plan.nodes
+    opening = opening_world plan.nodes (first_map plan)
 
     -- so far
     abbrev SoFar : List Outcome → List Awaited → World D → Type 0
@@ -41,7 +42,7 @@ module _ {D : Type 0} (on : View D) where
         → AnswersFitAt plan told (flat_map owes.begun_by_outcome m.outs) m.next
     fits_now outcomes left world m of k asked ticket own next waits made =
         let one : owes.Outcome = owes.Outcome.Answers k asked ticket (answer_told own) in
-        answers_fit plan told lines (m.outs ++ one ∷ []) next few
+        answers_fit plan told (first_map plan) lines (m.outs ++ one ∷ []) next few
         (makes_both on plan told m.outs (one ∷ []) [] opening m.next next m.makes (next, (own, refl, waits, made), refl))
         (sessions_both on plan told lines m.outs (one ∷ []) (m.sessions lines of) (tt, tt))
         k asked ticket (answer_told own) (among_behind one m.outs (one ∷ []) (inl refl))
@@ -101,14 +102,14 @@ module _ {D : Type 0} (on : View D) where
       let told = disks_tell on.seen start in
       let few : plan.nodes ≤ 64 = omega (arith, one) in
       let m = mirror_all plan told lines few p.0 [] [] apart.between start apart.mid (record { plan_is = begins.plan_is; told_is = refl })
-      (record { outs = []; next = opening_world plan.nodes; makes = refl; stands = begins.stands; asked = refl; answered = refl; within = λ one k. absurd k; sessions = λ lines of. tt })
+      (record { outs = []; next = opening_world plan.nodes (first_map plan); makes = refl; stands = begins.stands; asked = refl; answered = refl; within = λ one k. absurd k; sessions = λ lines of. tt })
       (⊎_elim (λ t. inl t) (λ b. inr (blind_front plan.nodes p.0 (StillPending k ticket ∷ p.1) (subst (AllBlind plan.nodes) p.2 (subst (λ (q : Plan). AllBlind q.nodes outcomes) begins.plan_is b)))) known)
       (λ outcome at. sessions outcome (subst (Among outcome) (sym p.2) (among_front outcome p.0 (StillPending k ticket ∷ p.1) at))) apart.makes in
       let (asked, got, wanted, waits, is, left_is) = apart.came in
       let other : owes.Outcome = owes.Outcome.Other (step_seen (step.Ask ticket)) (outcome_seen (Ok (said.Asked (ask.Pending got wanted)))) in
       let l = led on plan told (Ok (said.Asked (ask.Pending got wanted))) (step.Ask ticket) apart.mid apart.next (record { plan_is = s.plan ∙ begins.plan_is; told_is = s.told }) (inr tt) tt is m.next m.stands in
-      none_waits plan told (m.outs ++ other ∷ []) l.next one sure some
-      (makes_both on plan told m.outs (other ∷ []) [] (opening_world plan.nodes) m.next l.next m.makes (l.next, (tt, l.made), refl))
+      none_waits plan told (first_map plan) (m.outs ++ other ∷ []) l.next one sure some
+      (makes_both on plan told m.outs (other ∷ []) [] (opening_world plan.nodes (first_map plan)) m.next l.next m.makes (l.next, (tt, l.made), refl))
       ticket got wanted (among_behind other m.outs (other ∷ []) (inl refl))
 
   pub world_owes : TellsImages on → WorldOwes on
@@ -117,11 +118,11 @@ module _ {D : Type 0} (on : View D) where
       let told = disks_tell on.seen last in
       let few : plan.nodes ≤ 64 = omega (arith, start.nodes.few, ap (λ (p : Plan). p.nodes) begins.plan_is) in
       let m = mirror_all plan told lines few outcomes [] [] left start last (record { plan_is = begins.plan_is; told_is = sym s.told })
-      (record { outs = []; next = opening_world plan.nodes; makes = refl; stands = begins.stands; asked = refl; answered = refl; within = λ one k. absurd k; sessions = λ lines of. tt })
+      (record { outs = []; next = opening_world plan.nodes (first_map plan); makes = refl; stands = begins.stands; asked = refl; answered = refl; within = λ one k. absurd k; sessions = λ lines of. tt })
       (⊎_elim (λ t. inl (s.told ∙ t)) (λ b. inr (subst (λ (p : Plan). AllBlind p.nodes outcomes) begins.plan_is b)) known) sessions makes in
       let each : length (disks_of last) ≡ length (lives_of last) = last.nodes.disk_each ∙ sym last.nodes.all in
       let h = holding on images (lives_of last) (disks_of last) m.next.slots each m.stands.slots in
-      let owed = cluster_owes plan told lines (map on.seen (disks_of last)) h.records m.outs m.next few m.makes (m.sessions lines sessions) h.held h.are
+      let owed = cluster_owes plan told (first_map plan) lines (map on.seen (disks_of last)) h.records m.outs m.next few m.makes (m.sessions lines sessions) h.held h.are
       (λ t. counted 1 (map on.seen (disks_of last)) h.records (list_all-map is_some on.seen (disks_of last) ∙ t) h.are) in (
         h.records,
         subst (λ b. Owes plan told lines (map on.seen (disks_of last)) h.records (filed_on h.records) (flat_map asked_by_outcome outcomes) (flat_map answered_by_outcome outcomes) b) (sym m.stands.book)

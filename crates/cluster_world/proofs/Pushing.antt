@@ -1,5 +1,5 @@
 -- What a step does in which a node pushes to another.
-use Rattle.std.proofs.Common.{◌≡◌, inl, inr, ⊎_elim, ℕ, ◌≤◌, ◌&&◌, nat_le, Bool, true, false, List, [], ◌∷◌, ◌++◌, length, append-nil, Option, Some, None, Result, Ok, Err, refl, sym, ap, ◌∙◌, subst, arith}
+use Rattle.std.proofs.Common.{◌≡◌, inl, inr, ⊎_elim, ℕ, ◌≤◌, ◌&&◌, nat_le, Bool, true, false, List, [], ◌∷◌, ◌++◌, length, All, append-nil, Option, Some, None, Result, Ok, Err, refl, sym, ap, ◌∙◌, subst, arith}
 use Rattle.std.specs.Prelude.{IfOk, IfErr, is_some, nat_lt, nat_eq}
 use Rattle.std.specs.List.{list_all}
 use Rattle.std.specs.FinMap as fin
@@ -18,19 +18,25 @@ use Rattle.cluster_model.specs.Steps as steps
 use Rattle.cluster_model.specs.Steps.{is_node, letters_end, is_crowded_slot, step_fault}
 use Rattle.cluster_model.specs.Makes.{Pushes, cut_world}
 use Rattle.disk_journal.specs.Journal.{TellsJournal}
+use Rattle.node_maps.specs.Nodes.{node_of}
 use Rattle.node_store.specs.Disks.{View}
 use Rattle.node_core.specs.Nodes.{node_seen, NodeKeeps, end_in, IsAsBefore}
 use Rattle.node_core.specs.Pushing.{first_within, keys_within, PushesOut}
-use Rattle.node_core.specs.Works.{IsOnlyRead}
+use Rattle.node_core.specs.Works.{IsOnlyRead, LeavesUp}
 use Rattle.node_core.specs.declared.fault.NodeFault.{NodeFault}
 use Rattle.node_core.specs.declared.fault.NodeFault.TheVariants.{Disk, Worn, NoMemory}
 use Rattle.node_core.specs.declared.outbox.Outbox.{Outbox}
 use Rattle.node_core.specs.declared.node.Node.{Node}
+use Rattle.whole_node.specs.Nodes.{WholeWorks}
+use Rattle.whole_node.specs.declared.node.WholeNode.{WholeNode}
+use Rattle.whole_node.specs.Hearing.{FitsMaps}
 use Rattle.world_book.specs.Books.{entries_of}
 use Rattle.world_book.specs.declared.book.Book.{Book}
 use Rattle.world_book.specs.declared.entry.Entry.TheVariants as written
 use Rattle.cluster_world.specs.Books.{entries_seen, booked_by}
 use Rattle.cluster_world.specs.Flights.{InFlight, put_down, taken_out}
+use Rattle.cluster_world.specs.Hears.{AllCanBeHeard}
+use Rattle.cluster_world.proofs.FlightLaws.{all_heard}
 use Rattle.cluster_world.specs.Lives.{life_seen, of_node, all_falls_left, CanWorkOn}
 use Rattle.cluster_world.specs.Stands.{SlotsStand}
 use Rattle.cluster_world.specs.Worlds.{WorldState, seen_life, life_among, state_with, StateStandsFor}
@@ -44,7 +50,7 @@ use Rattle.cluster_world.specs.Unfinished.{entries_of_fault}
 use Rattle.cluster_world.specs.Pushes.{letters_left_by, octets_left_by, IsCrowdedAt, PushesAt}
 use Rattle.cluster_world.specs.Steps.{StepDid, AreSettled, LeadsTo, WasToWork, StepIsKnown, EveryStopKeeps}
 use Rattle.cluster_world.specs.declared.life.Life.{Life}
-use Rattle.cluster_world.specs.declared.life.Life.TheVariants.{Up}
+use Rattle.cluster_world.specs.declared.life.Life.TheVariants.{Up, Down}
 use Rattle.cluster_world.specs.declared.nodes.Nodes.{Nodes}
 use Rattle.cluster_world.specs.declared.step.Step.TheVariants as step
 use Rattle.cluster_world.specs.declared.step.Said.{Said}
@@ -52,7 +58,7 @@ use Rattle.cluster_world.specs.declared.step.Said.TheVariants as said
 use Rattle.cluster_world.specs.declared.fault.StepFault.{StepFault}
 use Rattle.cluster_world.specs.declared.fault.StepFault.TheVariants as fault
 use Rattle.cluster_world.proofs.Still.{some_same}
-use Rattle.cluster_world.proofs.Same.{same_told, same_quiet, same_stops, same_unchanged}
+use Rattle.cluster_world.proofs.Same.{same_told, same_quiet, led_kept, same_unchanged}
 use Rattle.cluster_world.proofs.Kept.{all_kept, stops_on, only_settled}
 use Rattle.cluster_world.proofs.Putting.{with_put, put_is}
 use Rattle.cluster_world.proofs.Turned.{slot_of, as_many}
@@ -62,22 +68,24 @@ use Rattle.cluster_world.proofs.Asked.{ready_of, disk_of, slot_same}
 use Rattle.cluster_world.proofs.AfterWidening.{StaysUp, FallsDown, read_stays, stays_lives, stays_ready, stays_falls, stays_told, stays_quiet, stays_settled, down_lives, down_ready, down_falls, down_told, down_quiet, down_settled, found_up, read_there, read_down, within_first, within_second, told_there, when_told, caused, up_of}
 use Rattle.cluster_world.proofs.PushRoom.{keys_same, push_goes, push_is_crowded, push_is_worn, alone, none_long}
 use Rattle.cluster_world.proofs.Unchanged.{unchanged_by, node_kept}
+use Rattle.cluster_world.proofs.Follows.{all_disk, fall_follows, idle_follows, only_none}
+use Rattle.cluster_world.proofs.Wholly.{led, even_of}
 use Rattle.cluster_world.proofs.Longer.{same_book, as_long, longer_by}
 
 module _ {D : Type 0} (on : View D) (n to : ℕ) (old : Nodes D) (fit : node_refusal old.plan (life_among old) (step.Push n to) ≡ None) (ready : CanWorkOn on.seen old.plan old.lives.items old.disks.items) where
   named : list_all (is_node old.plan) (n ∷ to ∷ []) ≡ true
   named = (fit_of (list_all (is_node old.plan) (n ∷ to ∷ [])) (life_refusal (step.Push n to) (life_among old n)) fit).0
 
-  pub push_up : (node : Node) × (of_node old.lives.items n ≡ Some (Up node))
+  pub push_up : (node : WholeNode) × (of_node old.lives.items n ≡ Some (Up node))
   push_up = up_of (step.Push n to) (of_node old.lives.items n) tt (fit_of (list_all (is_node old.plan) (n ∷ to ∷ [])) (life_refusal (step.Push n to) (life_among old n)) fit).1
 
   -- how the machine finds the node
-  module _ (node : Node) (up : of_node old.lives.items n ≡ Some (Up node)) where
+  module _ (node : WholeNode) (up : of_node old.lives.items n ≡ Some (Up node)) where
     record Here (slots : List Slot) : Type 0 where
       disk : List Record
-      at : slot_at slots n ≡ Some (slot_up (node_seen node) disk)
-      keeps : NodeKeeps disk node
-      own : node.store.own ≡ n
+      at : slot_at slots n ≡ Some (slot_up (node_seen node.mail) disk)
+      keeps : NodeKeeps disk node.mail
+      own : node.mail.store.own ≡ n
 
     here : (slots : List Slot) → SlotsStand on old.lives.items old.disks.items slots → Here slots
     here slots st =
@@ -93,18 +101,18 @@ module _ {D : Type 0} (on : View D) (n to : ℕ) (old : Nodes D) (fit : node_ref
 
     -- whether it is crowded, as the machine finds it
     crowds : (flights : List Flight) (crowded : Bool) (life : Life) → of_node old.lives.items n ≡ Some life → IsCrowdedAt to (letters_left_by flights) (octets_left_by flights) crowded life
-        → (records : List Record) → NodeKeeps records node → node.store.own ≡ n → is_crowded_slot flights n to (slot_up (node_seen node) records) (plain.Life.Up (node_seen node)) ≡ crowded
+        → (records : List Record) → NodeKeeps records node.mail → node.mail.store.own ≡ n → is_crowded_slot flights n to (slot_up (node_seen node.mail) records) (plain.Life.Up (node_seen node.mail)) ≡ crowded
     crowds flights crowded life there c records keeps own =
         let same : node ≡ c.node = the_node node c.node (some_same (Up node) (Up c.node) (sym up ∙ there ∙ ap Some c.up)) in
-        let is : crowded ≡ (nat_lt 0 (length (due_to node.store.own to (node_seen node))) && nat_eq (length (keys_within (letters_left_by flights) (octets_left_by flights) node.store.own to (node_seen node) records)) 0) =
-        subst (λ (m : Node). crowded ≡ (nat_lt 0 (length (due_to m.store.own to (node_seen m))) && nat_eq (length (keys_within (letters_left_by flights) (octets_left_by flights) m.store.own to (node_seen m) records)) 0)) (sym same)
-        (c.is records (subst (λ m. NodeKeeps records m) same keeps)) in
+        let is : crowded ≡ (nat_lt 0 (length (due_to node.mail.store.own to (node_seen node.mail))) && nat_eq (length (keys_within (letters_left_by flights) (octets_left_by flights) node.mail.store.own to (node_seen node.mail) records)) 0) =
+        subst (λ (m : WholeNode). crowded ≡ (nat_lt 0 (length (due_to m.mail.store.own to (node_seen m.mail))) && nat_eq (length (keys_within (letters_left_by flights) (octets_left_by flights) m.mail.store.own to (node_seen m.mail) records)) 0)) (sym same)
+        (c.is records (subst (λ (m : WholeNode). NodeKeeps records m.mail) same keeps)) in
         sym (
-        is ∙ ap (λ o. nat_lt 0 (length (due_to o to (node_seen node))) && nat_eq (length (keys_within (letters_left_by flights) (octets_left_by flights) o to (node_seen node) records)) 0) own
-        ∙ ap (λ ks. nat_lt 0 (length (due_to n to (node_seen node))) && nat_eq (length ks) 0) (keys_same flights n to (node_seen node) records)
+        is ∙ ap (λ o. nat_lt 0 (length (due_to o to (node_seen node.mail))) && nat_eq (length (keys_within (letters_left_by flights) (octets_left_by flights) o to (node_seen node.mail) records)) 0) own
+        ∙ ap (λ ks. nat_lt 0 (length (due_to n to (node_seen node.mail))) && nat_eq (length ks) 0) (keys_same flights n to (node_seen node.mail) records)
         )
       where
-        the_node : (x y : Node) → Up x ≡ Up y → x ≡ y
+        the_node : (x y : WholeNode) → Up x ≡ Up y → x ≡ y
         the_node x y e = cc
 
   -- It is refused before it begins.
@@ -129,12 +137,8 @@ module _ {D : Type 0} (on : View D) (n to : ℕ) (old : Nodes D) (fit : node_ref
       leads = λ known ended w st.
           let (node, up) = push_up in
           let h = here node up w.slots st.slots in
-          record {
-            next = w;
-            stands = st;
-            made = (inl (inl (push_is_worn old.plan w n to (node_seen node) h.disk named h.at _ (ap (nat_le letters_end) (sym st.sent) ∙ late) refl)), refl);
-            stops = same_stops on before w st;
-          };
+          led_kept on before (Err fault.Worn) (step.Push n to) w st (record { step_is = refl; said_is = refl; sees = λ unseen. unseen }) (λ done. done)
+          (inl (inl (push_is_worn old.plan w n to (node_seen node.mail) h.disk named h.at _ (ap (nat_le letters_end) (sym st.sent) ∙ late) refl)), refl);
       cause = λ w st. tt;
     }
 
@@ -156,16 +160,11 @@ module _ {D : Type 0} (on : View D) (n to : ℕ) (old : Nodes D) (fit : node_ref
       leads = λ known ended w st.
           let (node, up) = push_up in
           let h = here node up w.slots st.slots in
-          record {
-            next = w;
-            stands = st;
-            made = (
-              inl (inl (push_is_crowded old.plan w n to (node_seen node) h.disk named h.at (ap (nat_le letters_end) (sym st.sent) ∙ early)
-                  (ap (λ fs. is_crowded_slot fs n to (slot_up (node_seen node) h.disk) (plain.Life.Up (node_seen node))) (sym st.flying) ∙ crowds node up flying.flights true life there crowded h.disk h.keeps h.own))),
-              refl,
-            );
-            stops = same_stops on before w st;
-          };
+          led_kept on before (Err fault.NoRoom) (step.Push n to) w st (record { step_is = refl; said_is = refl; sees = λ unseen. unseen }) (λ done. done) (
+            inl (inl (push_is_crowded old.plan w n to (node_seen node.mail) h.disk named h.at (ap (nat_le letters_end) (sym st.sent) ∙ early)
+                (ap (λ fs. is_crowded_slot fs n to (slot_up (node_seen node.mail) h.disk) (plain.Life.Up (node_seen node.mail))) (sym st.flying) ∙ crowds node up flying.flights true life there crowded h.disk h.keeps h.own))),
+            refl,
+          );
       cause = λ w st. tt;
     }
 
@@ -175,10 +174,10 @@ module _ {D : Type 0} (on : View D) (n to : ℕ) (old : Nodes D) (fit : node_ref
     abbrev P : Life → D → Life → D → Type 0
     P = PushesAt on is_settled n to (letters_left_by flying.flights) (octets_left_by flying.flights) pushed
 
-    abbrev a : Node
+    abbrev a : WholeNode
     a = ch.does.0.old
 
-    abbrev b : Node
+    abbrev b : WholeNode
     b = ch.does.0.new
 
     was : ch.life ≡ Up a
@@ -186,36 +185,41 @@ module _ {D : Type 0} (on : View D) (n to : ℕ) (old : Nodes D) (fit : node_ref
 
     -- what came of it
     abbrev Comes : Result Outbox NodeFault → Type 0
-    Comes r = PushesOut on n to (letters_left_by flying.flights) (octets_left_by flying.flights) a ch.disk b ch.disk' r × (ch.life' ≡ life_left r b) × (is_settled ch.disk → is_settled ch.disk')
+    Comes r = PushesOut on n to (letters_left_by flying.flights) (octets_left_by flying.flights) a.mail ch.disk b.mail ch.disk' r × (ch.life' ≡ life_left r b) × (is_settled ch.disk → is_settled ch.disk') × (LeavesUp r → WholeWorks (on.seen ch.disk') b)
 
     comes : (r : Result Outbox NodeFault) → pushed ≡ r → Comes r
-    comes r e = subst Comes e (ch.does.0.did, ch.does.0.is, ch.does.1)
+    comes r e = subst Comes e (ch.does.0.did, ch.does.0.is, ch.does.1, ch.does.0.works)
 
     -- The node is as it was, and its disk was read alone.
     record ReadAlone : Type 0 where
       is : ch.life' ≡ Up b
-      as_before : IsAsBefore a b
+      as_before : IsAsBefore a.mail b.mail
       read : IsOnlyRead on ch.disk ch.disk'
       quiet : on.faults ch.disk' ≡ on.faults ch.disk
       settled : is_settled ch.disk → is_settled ch.disk'
+      works : WholeWorks (on.seen ch.disk') b
 
     read_well : (outbox : Outbox) → Comes (Ok outbox) → ReadAlone
-    read_well outbox c = record { is = c.1; as_before = c.0.1.as_before; read = c.0.1.read; quiet = c.0.1.quiet; settled = c.2 }
+    read_well outbox c = record { is = c.1; as_before = c.0.1.as_before; read = c.0.1.read; quiet = c.0.1.quiet; settled = c.2; works = c.3 tt }
 
     read_out : Comes (Err (NoMemory false)) → ReadAlone
-    read_out c = record { is = c.1; as_before = c.0.0; read = c.0.1; quiet = c.0.2; settled = c.2 }
+    read_out c = record { is = c.1; as_before = c.0.0; read = c.0.1; quiet = c.0.2; settled = c.2; works = c.3 tt }
 
     abbrev Stays : Type 0
     Stays = StaysUp on n P old mid ch ready a was b
 
     stays : ReadAlone → Stays
-    stays r = read_stays on n P old mid ch ready a was b r.is r.as_before r.read r.quiet
+    stays r = read_stays on n P old mid ch ready a was b r.is r.as_before r.read r.quiet r.works
 
     abbrev Falls : Type 0
     Falls = FallsDown on n P old mid ch ready a was
 
     falls_so : Comes (Err Disk) → Falls
     falls_so c = record { is = c.1; told = ap (λ (o : Option (List ℕ)). is_some o) c.0.read.seen; later = c.0.later }
+
+    -- what it sends can be heard
+    pub pushed_heard : (outbox : Outbox) → pushed ≡ Ok outbox → IfOk pushed (λ o. All FitsMaps o.letters) → AllCanBeHeard outbox.letters
+    pushed_heard outbox e fits = all_heard outbox.letters (comes (Ok outbox) e).0.1.fits (subst (λ (r : Result Outbox NodeFault). IfOk r (λ o. All FitsMaps o.letters)) e fits)
 
     pub pushed_ready : (r : Result Outbox NodeFault) → pushed ≡ r → CanWorkOn on.seen mid.plan mid.lives.items mid.disks.items
     pushed_ready (Ok outbox) e = stays_ready on n P old mid ch ready a was b (stays (read_well outbox (comes (Ok outbox) e)))
@@ -253,10 +257,10 @@ module _ {D : Type 0} (on : View D) (n to : ℕ) (old : Nodes D) (fit : node_ref
       record Unmoved (w : machine.World) : Type 0 where
         found_slot : Slot
         disk : List Record
-        up : slot_at w.slots n ≡ Some (slot_up (node_seen a) disk)
-        keeps : NodeKeeps disk a
-        tells : TellsJournal (on.seen ch.disk) n (payloads_of disk) (end_in a)
-        same : with_slot w.slots n (slot_up (node_seen a) disk) ≡ w.slots
+        up : slot_at w.slots n ≡ Some (slot_up (node_seen a.mail) disk)
+        keeps : NodeKeeps disk a.mail
+        tells : TellsJournal (on.seen ch.disk) n (payloads_of disk) (end_in a.mail)
+        same : with_slot w.slots n (slot_up (node_seen a.mail) disk) ≡ w.slots
         slots : SlotsStand on mid.lives.items mid.disks.items w.slots
         stops : EveryStopKeeps on first between w.slots w.slots
 
@@ -294,12 +298,13 @@ module _ {D : Type 0} (on : View D) (n to : ℕ) (old : Nodes D) (fit : node_ref
             (λ away. absurd (away refl)) (λ _. (r.read, r.quiet)) refl refl (ap entries_seen wrote);
         leads = λ known ended w st.
             let u = unmoved r w st in
-            record {
+            led on (Err (fault.NoMemory None)) (step.Push n to) first between (even_of old) (even_of mid) w st (record { step_is = refl; said_is = refl; sees = λ unseen. unseen }) (λ v seen sound done. tt) (record {
               next = w;
               stands = record { slots = u.slots; flying = st.flying; sent = st.sent; seconds = st.seconds; book = ap entries_seen wrote ∙ st.book };
               made = refl;
               stops = u.stops;
-            };
+              follow = idle_follows on n P old mid mid ch (λ slots. slots) (only_none on mid) w.slots (slot_up (node_seen a.mail) u.disk) u.up w.slots (λ m. refl) a b was r.is (ap node_of ch.does.0.maps);
+            });
         cause = λ w st. tt;
       }
 
@@ -309,16 +314,16 @@ module _ {D : Type 0} (on : View D) (n to : ℕ) (old : Nodes D) (fit : node_ref
 
       module _ (life : Life) (there : of_node old.lives.items n ≡ Some life) (early : nat_le letters_end flying.sent ≡ false)
           (room : IsCrowdedAt to (letters_left_by flying.flights) (octets_left_by flying.flights) false life) where
-        goes : (w : machine.World) → StateStandsFor on first w → (disk : List Record) → slot_at w.slots n ≡ Some (slot_up (node_seen a) disk) → NodeKeeps disk a → step_fault old.plan (steps.Step.PushTo n to) w ≡ None
+        goes : (w : machine.World) → StateStandsFor on first w → (disk : List Record) → slot_at w.slots n ≡ Some (slot_up (node_seen a.mail) disk) → NodeKeeps disk a.mail → step_fault old.plan (steps.Step.PushTo n to) w ≡ None
         goes w st disk up keeps =
             let a_up : of_node old.lives.items n ≡ Some (Up a) = ch.was ∙ ap Some was in
-            let own : a.store.own ≡ n = (ready_of on.seen old.plan old.lives.items old.disks.items ready n a ch.disk a_up ch.held).0.own_is in
-            push_goes old.plan w n to (node_seen a) disk named up (ap (nat_le letters_end) (sym st.sent) ∙ early)
-            (ap (λ fs. is_crowded_slot fs n to (slot_up (node_seen a) disk) (plain.Life.Up (node_seen a))) (sym st.flying) ∙ crowds a a_up flying.flights false life there room disk keeps own)
+            let own : a.mail.store.own ≡ n = (ready_of on.seen old.plan old.lives.items old.disks.items ready n a ch.disk a_up ch.held).0.own_is in
+            push_goes old.plan w n to (node_seen a.mail) disk named up (ap (nat_le letters_end) (sym st.sent) ∙ early)
+            (ap (λ fs. is_crowded_slot fs n to (slot_up (node_seen a.mail) disk) (plain.Life.Up (node_seen a.mail))) (sym st.flying) ∙ crowds a a_up flying.flights false life there room disk keeps own)
 
         -- Its disk failed, and it is down.
         fell : WasToWork old.plan.nodes (step.Push n to) (life_among old n) n
-        fell = let inside = within_first old.plan n to named in record { above = inside.0; within = inside.1; worked = inl ((node_seen a).boot, ap seen_life ch.was ∙ ap life_seen was) }
+        fell = let inside = within_first old.plan n to named in record { above = inside.0; within = inside.1; worked = inl ((node_seen a.mail).boot, ap seen_life ch.was ∙ ap life_seen was) }
 
         failed : entries_of book' ≡ entries_of book ++ written.Down n ∷ [] → Comes (Err Disk) → StepDid on (Ok (said.Faulted n)) (step.Push n to) first between
         failed wrote c = record {
@@ -337,7 +342,7 @@ module _ {D : Type 0} (on : View D) (n to : ℕ) (old : Nodes D) (fit : node_ref
           leads = λ known ended w st.
               let f = found_up on n P old mid ch ready a was w.slots st.slots in
               let m = read_down on n P old mid ch ready a was w.slots st.slots c.0.read f c.1 in
-              record {
+              led on (Ok (said.Faulted n)) (step.Push n to) first between (even_of old) (even_of mid) w st (record { step_is = refl; said_is = refl; sees = λ unseen. unseen }) (λ v seen sound done. tt) (record {
                 next = cut_world w n f.slot.disk [] [];
                 stands = record {
                   slots = m.stand;
@@ -346,9 +351,10 @@ module _ {D : Type 0} (on : View D) (n to : ℕ) (old : Nodes D) (fit : node_ref
                   seconds = st.seconds;
                   book = ap entries_seen wrote ∙ entries_more (entries_of book) (written.Down n ∷ []) ∙ ap (λ x. x ++ entries_seen (written.Down n ∷ [])) st.book;
                 };
-                made = (goes w st f.slot.disk f.up f.keeps, Pushes.FailsPushing (node_seen a) f.slot.disk f.up refl refl);
+                made = (goes w st f.slot.disk f.up f.keeps, Pushes.FailsPushing (node_seen a.mail) f.slot.disk f.up refl refl);
                 stops = record { each = m.stops };
-              };
+                follow = fall_follows on n P old mid ch w.slots f.slot (record { life = plain.Life.Down []; disk = f.slot.disk ++ [] }) f.here (λ y up. let never : Down ≡ Up y = sym c.1 ∙ up in cc);
+              });
           cause = λ w st.
               let f = found_up on n P old mid ch ready a was w.slots st.slots in
               caused on n P old mid ch (step.Push n to) flying flying seconds seconds book book' (⊎_elim
@@ -382,32 +388,32 @@ module _ {D : Type 0} (on : View D) (n to : ℕ) (old : Nodes D) (fit : node_ref
           same_disk k d f = ap (λ ds. of_node ds k) (sym off.noticed.only.disks) ∙ f
 
           -- what the machine has it send
-          out_is : (w : machine.World) → StateStandsFor on first w → StepIsKnown on.seen first (step.Push n to) → (disk : List Record) → NodeKeeps disk a → TellsJournal (on.seen ch.disk) n (payloads_of disk) (end_in a)
-              → (push n to (keys_pushed w.flying n to (node_seen a) disk) (node_seen a) disk).out ≡ letters
+          out_is : (w : machine.World) → StateStandsFor on first w → StepIsKnown on.seen first (step.Push n to) → (disk : List Record) → NodeKeeps disk a.mail → TellsJournal (on.seen ch.disk) n (payloads_of disk) (end_in a.mail)
+              → (push n to (keys_pushed w.flying n to (node_seen a.mail) disk) (node_seen a.mail) disk).out ≡ letters
           out_is w st known disk keeps tells =
               let c = (comes (Ok outbox) e).0.1 in
-              let keys : keys_within (letters_left_by flying.flights) (octets_left_by flying.flights) n to (node_seen a) disk ≡ keys_pushed w.flying n to (node_seen a) disk =
-              keys_same flying.flights n to (node_seen a) disk ∙ ap (λ fs. keys_pushed fs n to (node_seen a) disk) st.flying in
+              let keys : keys_within (letters_left_by flying.flights) (octets_left_by flying.flights) n to (node_seen a.mail) disk ≡ keys_pushed w.flying n to (node_seen a.mail) disk =
+              keys_same flying.flights n to (node_seen a.mail) disk ∙ ap (λ fs. keys_pushed fs n to (node_seen a.mail) disk) st.flying in
               ⊎_elim
               (λ all.
               let told = told_there on.seen old.disks.items n ch.disk all ch.held in
-              ap (λ ks. (push n to ks (node_seen a) disk).out) (sym keys) ∙ when_told (on.seen ch.disk) _ told c.told disk keeps tells)
+              ap (λ ks. (push n to ks (node_seen a.mail) disk).out) (sym keys) ∙ when_told (on.seen ch.disk) _ told c.told disk keeps tells)
               (λ (blind : old.plan.nodes ≡ 1).
               let inside = within_first old.plan n to named in
               let beside = within_second old.plan n to named in
-              let none : due_to n to (node_seen a) ≡ [] = alone n to (node_seen a) (omega (arith, blind, inside.0, inside.1, beside.0, beside.1)) in
-              let nothing : keys_within (letters_left_by flying.flights) (octets_left_by flying.flights) n to (node_seen a) disk ≡ [] =
-              ap (λ ks. first_within (λ key. push_of n to (epoch_of (node_seen a)) disk key (fin.get (node_seen a).log key)) (letters_left_by flying.flights) (octets_left_by flying.flights) ks) none in
-              ap (λ ks. (push n to ks (node_seen a) disk).out) (sym keys ∙ nothing) ∙ sym (none_long letters (c.count disk keeps ∙ ap length nothing)))
+              let none : due_to n to (node_seen a.mail) ≡ [] = alone n to (node_seen a.mail) (omega (arith, blind, inside.0, inside.1, beside.0, beside.1)) in
+              let nothing : keys_within (letters_left_by flying.flights) (octets_left_by flying.flights) n to (node_seen a.mail) disk ≡ [] =
+              ap (λ ks. first_within (λ key. push_of n to (epoch_of (node_seen a.mail)) disk key (fin.get (node_seen a.mail).log key)) (letters_left_by flying.flights) (octets_left_by flying.flights) ks) none in
+              ap (λ ks. (push n to ks (node_seen a.mail) disk).out) (sym keys ∙ nothing) ∙ sym (none_long letters (c.count disk keeps ∙ ap length nothing)))
               known
 
           sent_leads : StepIsKnown on.seen first (step.Push n to) → (w : machine.World) → StateStandsFor on first w → LeadsTo on (Ok (said.Sent (length letters))) (step.Push n to) first last w
           sent_leads known w st =
               let u = unmoved r w st in
-              let out : (push n to (keys_pushed w.flying n to (node_seen a) u.disk) (node_seen a) u.disk).out ≡ letters = out_is w st known u.disk u.keeps u.tells in
+              let out : (push n to (keys_pushed w.flying n to (node_seen a.mail) u.disk) (node_seen a.mail) u.disk).out ≡ letters = out_is w st known u.disk u.keeps u.tells in
               let flying_is : ◌≡◌ {A = InFlight} (taken_out None flying) (record { flights = w.flying; sent = w.sent }) = λ i. record { flights = st.flying i; sent = st.sent i } in
               let next : machine.World = with_put w.slots w (put_down letters (record { flights = w.flying; sent = w.sent })) in
-              record {
+              led on (Ok (said.Sent (length letters))) (step.Push n to) first last (even_of old) (even_of new) w st (record { step_is = refl; said_is = refl; sees = λ unseen. unseen }) (λ v seen sound done. tt) (record {
                 next = next;
                 stands = record {
                   slots = subst (λ fl. SlotsStand on new.lives.items new.disks.items (all_missed Crowded w.slots (put_down letters fl).left)) flying_is (off.noticed.only.slots w.slots u.slots);
@@ -418,15 +424,17 @@ module _ {D : Type 0} (on : View D) (n to : ℕ) (old : Nodes D) (fit : node_ref
                 };
                 made = (
                   goes w st u.disk u.up u.keeps,
-                  Pushes.Sends (node_seen a) u.disk u.up (ap (λ ls. steps.Said.Sent (length ls)) (sym out))
+                  Pushes.Sends (node_seen a.mail) u.disk u.up (ap (λ ls. steps.Said.Sent (length ls)) (sym out))
                       (sym (
-                      ap (λ ls. put has_room ls (record w { slots = with_slot w.slots n (slot_up (node_seen a) u.disk) })) out
+                      ap (λ ls. put has_room ls (record w { slots = with_slot w.slots n (slot_up (node_seen a.mail) u.disk) })) out
                       ∙ ap (λ slots. put has_room letters (record w { slots = slots })) u.same
                       ∙ put_is letters w
                       )),
                 );
                 stops = stops_on on first between last w.slots w.slots next.slots off.noticed.only.disks (λ k. all_kept Crowded w.slots k (put_down letters (record { flights = w.flying; sent = w.sent })).left) u.stops;
-              }
+                follow = idle_follows on n P old mid new ch change off.noticed.only w.slots (slot_up (node_seen a.mail) u.disk) u.up next.slots
+                    (λ k. all_disk Crowded w.slots k (put_down letters (record { flights = w.flying; sent = w.sent })).left) a b was r.is (ap node_of ch.does.0.maps);
+              })
 
           pub sent_did : StepDid on (Ok (said.Sent (length letters))) (step.Push n to) first last
           sent_did =
@@ -515,11 +523,16 @@ push_whole on n to nodes fit ready l there =
     let (node, up) = push_up on n to nodes fit ready in
     let is : l ≡ Up node = some_same l (Up node) (sym there ∙ up) in
     let (disk, held) = disk_of nodes.disks.items nodes.lives.items n (Up node) (nodes.all ∙ sym nodes.disk_each) up in
-    record { node = node; up = is; whole = (ready_of on.seen nodes.plan nodes.lives.items nodes.disks.items ready n node disk up held).1.whole }
+    record { node = node; up = is; whole = (ready_of on.seen nodes.plan nodes.lives.items nodes.disks.items ready n node disk up held).1.mail.whole }
 
-pub crowded_at : {E : Type 0} (to most room : ℕ) (life : Life) (node : Node) → life ≡ Up node → (r : Result Bool E)
-    → IfOk r (λ crowded. (records : List Record) → NodeKeeps records node
-    → crowded ≡ (nat_lt 0 (length (due_to node.store.own to (node_seen node))) && nat_eq (length (keys_within most room node.store.own to (node_seen node) records)) 0))
+pub crowded_at : {E : Type 0} (to most room : ℕ) (life : Life) (node : WholeNode) → life ≡ Up node → (mail : Node) → mail ≡ node.mail → (r : Result Bool E)
+    → IfOk r (λ crowded. (records : List Record) → NodeKeeps records mail
+    → crowded ≡ (nat_lt 0 (length (due_to mail.store.own to (node_seen mail))) && nat_eq (length (keys_within most room mail.store.own to (node_seen mail) records)) 0))
     → IfOk r (λ crowded. IsCrowdedAt to most room crowded life)
-crowded_at to most room life node up (Ok crowded) is = record { node = node; up = up; is = is }
-crowded_at to most room life node up (Err why) is = tt
+crowded_at to most room life node up mail mail_is (Ok crowded) is = record {
+  node = node;
+  up = up;
+  is = λ records keeps. subst (λ (m : Node). crowded ≡ (nat_lt 0 (length (due_to m.store.own to (node_seen m))) && nat_eq (length (keys_within most room m.store.own to (node_seen m) records)) 0)) mail_is
+      (is records (subst (NodeKeeps records) (sym mail_is) keeps));
+}
+crowded_at to most room life node up mail mail_is (Err why) is = tt

@@ -1,5 +1,5 @@
 -- Steps that no session hears of: a call that is refused, a ticket that still waits, and what moves the cluster.
-use Rattle.std.proofs.Common.{◌≡◌, ◌⊎◌, inl, inr, ℕ, true, false, List, [], ◌∷◌, Some, None, refl, sym, subst}
+use Rattle.std.proofs.Common.{◌≡◌, ◌⊎◌, inl, inr, ⊎_elim, ℕ, true, false, List, [], ◌∷◌, Some, None, refl, sym, subst}
 use Rattle.std.specs.Prelude.{⊤, All, Result, Ok, Err}
 use Rattle.std.proofs.lemmas.List.Elements.{All-head, All-tail}
 use Rattle.mail_model.specs.Tape.{ClusterOrder}
@@ -15,7 +15,7 @@ use Rattle.cluster_owes.specs.Outcomes.{IsIdleStep}
 use Rattle.cluster_world.specs.Seen.{step_seen, outcome_seen}
 use Rattle.cluster_world.specs.Steps.{SaysSo}
 use Rattle.cluster_world.specs.Ended.{IsEnded}
-use Rattle.cluster_world.specs.Outcomes.{StepMade, IsPost, IsRefusal, LeavesUnanswered}
+use Rattle.cluster_world.specs.Outcomes.{StepMade, IsPost, AreOfRegroup, IsRefusal, LeavesUnanswered}
 use Rattle.cluster_world.proofs.Ordered.{IsPushOf, AreOne, AreStepsOf}
 use Rattle.cluster_world.specs.declared.step.Step.{Step}
 use Rattle.cluster_world.specs.declared.step.Step.TheVariants as step
@@ -50,6 +50,7 @@ refusal_quiet node call fault.NodeDown is = refused_begins node call machine.Ste
 refusal_quiet node call fault.NodeUp is = refused_begins node call machine.StepFault.NodeIsUp
 refusal_quiet node call fault.NoSuchLetter is = refused_begins node call machine.StepFault.NoSuchLetter
 refusal_quiet node call fault.NoSuchTicket is = refused_begins node call machine.StepFault.NoSuchTicket
+refusal_quiet node call fault.NotAGroup is = refused_begins node call machine.StepFault.NotAGroup
 refusal_quiet node call fault.Worn is = refused_begins node call machine.StepFault.Worn
 refusal_quiet node call fault.NoRoom is = refused_begins node call machine.StepFault.NoRoom
 refusal_quiet node call (fault.NoMemory None) is = short_begins node call
@@ -63,6 +64,7 @@ refused_asks ticket fault.NodeDown = tt
 refused_asks ticket fault.NodeUp = tt
 refused_asks ticket fault.NoSuchLetter = tt
 refused_asks ticket fault.NoSuchTicket = tt
+refused_asks ticket fault.NotAGroup = tt
 refused_asks ticket fault.Worn = tt
 refused_asks ticket fault.NoRoom = tt
 refused_asks ticket (fault.NoMemory down) = tt
@@ -83,6 +85,8 @@ untold_quiet asked ticket (Ok said.Heard) is = inl tt
 untold_quiet asked ticket (Ok (said.Thrown why)) is = inl tt
 untold_quiet asked ticket (Ok (said.Sent letters)) is = inl tt
 untold_quiet asked ticket (Ok (said.Widened did)) is = inl tt
+untold_quiet asked ticket (Ok (said.Grouped epoch)) is = inl tt
+untold_quiet asked ticket (Ok (said.Concluded epoch members)) is = inl tt
 untold_quiet asked ticket (Ok (said.NodeUp boot)) is = inl tt
 untold_quiet asked ticket (Ok said.Done) is = inl tt
 untold_quiet asked ticket (Ok (said.Faulted node)) is = inl tt
@@ -100,6 +104,17 @@ all_quiet : (P : StepMade → Type 0) → ((one : StepMade) → P one → IsQuie
 all_quiet P each [] all = tt
 all_quiet P each (one ∷ more) all = (each one (All-head P one more all), all_quiet P each more (All-tail P one more all))
 
+-- those of a regroup
+regroup_quiet : (node : ℕ) (steps : List StepMade) → AreOfRegroup node steps → AreQuiet steps
+regroup_quiet node [] are = tt
+regroup_quiet node (one ∷ more) (is, are) = (
+  ⊎_elim
+      (λ opens. subst IsQuietStep (sym opens) (λ outcome. tt, tt))
+      (λ other. ⊎_elim (λ concludes. subst IsQuietStep (sym concludes) (λ outcome. tt, tt)) (λ (posts : IsPost one). subst IsQuietStep (sym posts.1) (λ outcome. tt, tt)) other)
+      is,
+  regroup_quiet node more are,
+)
+
 -- whether an order sets the clock
 abbrev pub IsTick : ClusterOrder → Type 0
 IsTick (order.Tick seconds) = ⊤
@@ -115,6 +130,9 @@ tick_or (order.Drop letter) = inr (λ is. is)
 tick_or order.Flow = inr (λ is. is)
 tick_or (order.Push node) = inr (λ is. is)
 tick_or (order.Widen at user id to) = inr (λ is. is)
+tick_or (order.Group node) = inr (λ is. is)
+tick_or (order.Conclude node) = inr (λ is. is)
+tick_or (order.Regroup node) = inr (λ is. is)
 tick_or (order.Tick seconds) = inl (seconds, refl)
 tick_or order.Sum = inr (λ is. is)
 
@@ -128,6 +146,8 @@ tick_done seconds said.Heard so = absurd so
 tick_done seconds (said.Thrown why) so = absurd so
 tick_done seconds (said.Sent letters) so = absurd so
 tick_done seconds (said.Widened did) so = absurd so
+tick_done seconds (said.Grouped epoch) so = absurd so
+tick_done seconds (said.Concluded epoch members) so = absurd so
 tick_done seconds (said.NodeUp boot) so = absurd so
 tick_done seconds (said.Faulted node) so = absurd so
 
@@ -138,6 +158,7 @@ unticked_quiet seconds fault.NodeDown = tt
 unticked_quiet seconds fault.NodeUp = tt
 unticked_quiet seconds fault.NoSuchLetter = tt
 unticked_quiet seconds fault.NoSuchTicket = tt
+unticked_quiet seconds fault.NotAGroup = tt
 unticked_quiet seconds fault.Worn = tt
 unticked_quiet seconds fault.NoRoom = tt
 unticked_quiet seconds (fault.NoMemory down) = tt
@@ -152,5 +173,8 @@ moves_quiet (order.Drop letter) steps other are = one_quiet (step.Drop letter) s
 moves_quiet order.Flow steps other are = all_quiet IsPost (λ one is. subst IsQuietStep (sym is.1) (λ outcome. tt, tt)) steps are
 moves_quiet (order.Push node) steps other are = all_quiet (IsPushOf node) (λ one is. subst IsQuietStep (sym is.1) (λ outcome. tt, tt)) steps are
 moves_quiet (order.Widen at user id to) steps other are = one_quiet (step.Widen at user id to) steps (λ outcome. tt, tt) are
+moves_quiet (order.Group node) steps other are = one_quiet (step.Group node) steps (λ outcome. tt, tt) are
+moves_quiet (order.Conclude node) steps other are = one_quiet (step.Conclude node) steps (λ outcome. tt, tt) are
+moves_quiet (order.Regroup node) steps other are = regroup_quiet node steps are
 moves_quiet (order.Tick seconds) steps other are = absurd (other tt)
 moves_quiet order.Sum steps other are = subst AreQuiet (sym are) tt

@@ -22,7 +22,7 @@ use Rattle.cluster_world.proofs.Still.{some_same, both_at}
 use Rattle.cluster_world.specs.declared.life.Life.{Life}
 use Rattle.cluster_world.specs.declared.life.Life.TheVariants.{Up, Down, Lost}
 use Rattle.cluster_world.specs.declared.step.Step.{Step}
-use Rattle.cluster_world.specs.declared.step.Step.TheVariants.{Begin, Ask, GiveUp, Post, Drop, Push, Widen, Crash, Start, Lose, Tick}
+use Rattle.cluster_world.specs.declared.step.Step.TheVariants.{Begin, Ask, GiveUp, Post, Drop, Push, Widen, Group, Conclude, Crash, Start, Lose, Tick}
 use Rattle.cluster_world.specs.declared.fault.StepFault.{StepFault}
 use Rattle.cluster_world.specs.declared.fault.StepFault.TheVariants as fault
 
@@ -47,6 +47,8 @@ up_alike (Post letter keep) boot state = tt
 up_alike (Drop letter) boot state = tt
 up_alike (Push from to) boot state = tt
 up_alike (Widen at user id to) boot state = tt
+up_alike (Group node) boot state = tt
+up_alike (Conclude node) boot state = tt
 up_alike (Crash node) boot state = tt
 up_alike (Start node) boot state = refl
 up_alike (Lose node) boot state = tt
@@ -60,6 +62,8 @@ down_alike (Post letter keep) pending = refl
 down_alike (Drop letter) pending = refl
 down_alike (Push from to) pending = refl
 down_alike (Widen at user id to) pending = refl
+down_alike (Group node) pending = refl
+down_alike (Conclude node) pending = refl
 down_alike (Crash node) pending = refl
 down_alike (Start node) pending = tt
 down_alike (Lose node) pending = tt
@@ -78,7 +82,7 @@ life_alike step life.Lost plain.Life.Lost h = refl
 
 module _ {D : Type 0} (on : View D) where
   pub slot_alike : (own : ℕ) (one : Life) (disk : D) (slot : plain.Slot) → SlotStands on own one disk slot → IsLifeOf (life_seen one) slot.life
-  slot_alike own (Up node) disk slot (seen, is, st) = subst (λ l. IsLifeOf (life.Up (node_seen node).boot) l) (sym is) (ap (λ n. n.boot) st.seen_is)
+  slot_alike own (Up node) disk slot (seen, is, st) = subst (λ l. IsLifeOf (life.Up (node_seen node.mail).boot) l) (sym is) (ap (λ n. n.boot) st.seen_is)
   slot_alike own Down disk slot (pending, is, fit, holds) = subst (λ l. IsLifeOf life.Down l) (sym is) tt
   slot_alike own Lost disk slot (is, fit, holds) = subst (λ l. IsLifeOf life.Lost l) (sym is) tt
 
@@ -143,6 +147,8 @@ module _ {D : Type 0} (on : View D) where
       actor_there (Drop letter) e n same = none_there n same
       actor_there (Push from to) e n same = first_there from (to ∷ []) e n same
       actor_there (Widen at user id to) e n same = first_there at (to ∷ []) e n same
+      actor_there (Group node) e n same = first_there node [] e n same
+      actor_there (Conclude node) e n same = first_there node [] e n same
       actor_there (Crash node) e n same = first_there node [] e n same
       actor_there (Start node) e n same = first_there node [] e n same
       actor_there (Lose node) e n same = first_there node [] e n same

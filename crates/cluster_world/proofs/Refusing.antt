@@ -8,7 +8,7 @@ use Rattle.cluster_model.specs.Cluster.{Node, Slot, slot_at}
 use Rattle.cluster_model.specs.Cluster.Life.{Up, Down}
 use Rattle.cluster_model.specs.World.{World}
 use Rattle.cluster_model.specs.Steps.{StepFault, is_node, slot_fault, life_fault, stands_at, letters_end, is_worn_at, first_fault, step_fault}
-use Rattle.cluster_model.specs.Steps.Step.{AskFor, GiveUp, Crash, Start, Lose}
+use Rattle.cluster_model.specs.Steps.Step.{AskFor, GiveUp, Form, Crash, Start, Lose}
 use Rattle.cluster_model.specs.Steps.StepFault.{NoSuchNode, NoSuchTicket, Worn}
 use Rattle.cluster_world.specs.declared.fault.StepFault as code
 use Rattle.cluster_world.specs.declared.fault.StepFault.TheVariants as fault
@@ -66,6 +66,19 @@ module _ (plan : Plan) (w : World) (n : ℕ) (slot : Slot) (named : list_all (is
       (ap (slot_fault (Start n)) here ∙ ap (life_fault (Start n)) down)
       refl refl
       (start_worn true late)
+
+  form_worn : (b : Bool) → nat_le letters_end w.sent ≡ b → (if nat_le letters_end w.sent || is_worn_at plan w.seconds (Form n) (slot_at w.slots n) then Some Worn else None) ≡ (if b then Some Worn else None)
+  form_worn true e = ap (λ b. if b || is_worn_at plan w.seconds (Form n) (slot_at w.slots n) then Some Worn else None) e
+  form_worn false e = ap (λ b. if b || is_worn_at plan w.seconds (Form n) (slot_at w.slots n) then Some Worn else None) e
+      ∙ ap (λ o. if is_worn_at plan w.seconds (Form n) o then Some Worn else None) here
+
+  pub form_goes : (node : Node) → slot.life ≡ Up node → nat_le letters_end w.sent ≡ false → step_fault plan (Form n) w ≡ None
+  form_goes node up early = none_at_all _ _ _ _ _ _
+      named_well
+      (ap (slot_fault (Form n)) here ∙ ap (life_fault (Form n)) up)
+      refl refl
+      (form_worn false early)
+      refl
 
 module _ (plan : Plan) (w : World) (ticket : Number) (slot : Slot) (node : Node) (named : list_all (is_node plan) (ticket.node ∷ []) ≡ true) (here : slot_at w.slots ticket.node ≡ Some slot) (up : slot.life ≡ Up node) where
   pub ask_goes : stands_at ticket (slot_at w.slots ticket.node) ≡ true → step_fault plan (AskFor ticket) w ≡ None

@@ -1,16 +1,26 @@
 -- A step that changes nothing.
-use Rattle.std.proofs.Common.{◌≡◌, ℕ, ◌≤◌, Some, None, Err, refl, sym, ap, ◌∙◌, subst, arith}
+use Rattle.std.proofs.Common.{◌≡◌, ℕ, ◌≤◌, Some, None, Result, Err, refl, sym, ap, ◌∙◌, subst, arith}
 use Rattle.std.specs.Prelude.{is_some}
 use Rattle.cluster_model.specs.World as machine
+use Rattle.cluster_model.specs.Makes as mail_makes
+use Rattle.whole_world.specs.Laws.{Stands}
+use Rattle.whole_world.specs.Makes as whole_makes
+use Rattle.whole_world.specs.World as whole_world
+use Rattle.whole_world.specs.World.{mail_world_of}
 use Rattle.node_store.specs.Disks.{View}
-use Rattle.cluster_world.specs.Worlds.{WorldState, disk_in, StateStandsFor}
-use Rattle.cluster_world.specs.Steps.{AreToldAlike, IsQuiet, IsUnchanged, EveryStopKeeps, StepDid}
+use Rattle.cluster_world.specs.Maps.{AreMaps}
+use Rattle.cluster_world.specs.Seen.{step_seen, outcome_seen, whole_step, whole_outcome}
+use Rattle.cluster_world.specs.Worlds.{WorldState, disk_in, tells_in, StateStandsFor}
+use Rattle.cluster_world.specs.Steps.{AreToldAlike, IsQuiet, IsUnchanged, EveryStopKeeps, StepDid, LeadsTo}
 use Rattle.cluster_world.proofs.Clocks.{unticked}
 use Rattle.cluster_world.proofs.Still.{some_same, nothing_read, all_untouched}
 use Rattle.cluster_world.specs.Moments.{StopsKeep}
+use Rattle.cluster_world.specs.declared.step.Said.{Said}
 use Rattle.cluster_world.specs.declared.step.Step.{Step}
+use Rattle.cluster_world.specs.declared.fault.StepFault.{StepFault}
 use Rattle.cluster_world.specs.declared.fault.StepFault.TheVariants as fault
 use Rattle.cluster_world.proofs.Longer.{same_book}
+use Rattle.cluster_world.proofs.Told.{IsOfMail, IsDone, kept_whole}
 
 module _ {D : Type 0} (on : View D) (state : WorldState D) where
   same_disk : (n : ℕ) (disk disk' : D) → disk_in state n ≡ Some disk → disk_in state n ≡ Some disk' → disk' ≡ disk
@@ -42,6 +52,25 @@ module _ {D : Type 0} (on : View D) (state : WorldState D) where
     book = refl;
   }
 
+  -- A step that is refused, or for which there was no memory, leads to the world that was.
+  pub led_same : (result : Result Said StepFault) (step : Step) (w : machine.World) → StateStandsFor on state w → mail_makes.MakesStep state.plan (tells_in on.seen state) w (step_seen step) (outcome_seen result) w
+      → ((v : whole_world.World) → mail_world_of v ≡ w → Stands state.plan v → AreMaps state.lives v.slots
+      → whole_makes.MakesStep state.plan (tells_in on.seen state) v (whole_step step) (whole_outcome result) v) → LeadsTo on result step state state w
+  led_same result step w st made whole = record {
+    next = w;
+    stands = st;
+    made = made;
+    stops = same_stops w st;
+    whole = λ v seen sound maps. record { now = v; seen = seen; maps = maps; made = whole v seen sound maps };
+  }
+
+  -- so it is of one for messages
+  pub led_kept : (result : Result Said StepFault) (step : Step) (w : machine.World) → StateStandsFor on state w → IsOfMail result step → (IsDone (outcome_seen result) → ⊥)
+      → mail_makes.MakesStep state.plan (tells_in on.seen state) w (step_seen step) (outcome_seen result) w → LeadsTo on result step state state w
+  led_kept result step w st is none made = led_same result step w st made (λ v seen sound maps.
+      kept_whole state.plan (tells_in on.seen state) result step v is none
+      (subst (λ x. mail_makes.MakesStep state.plan (tells_in on.seen state) x (step_seen step) (outcome_seen result) x) (sym seen) made))
+
   -- out of memory, and nothing was done
   pub none_done : (step : Step) → StepDid on (Err (fault.NoMemory None)) step state state
   none_done step = record {
@@ -57,6 +86,6 @@ module _ {D : Type 0} (on : View D) (state : WorldState D) where
     lives = λ n. refl;
     told = same_told;
     quiet = same_quiet;
-    leads = λ known ended w s. record { next = w; stands = s; made = refl; stops = same_stops w s };
+    leads = λ known ended w s. led_same (Err (fault.NoMemory None)) step w s refl (λ v seen sound maps. refl);
     cause = λ w s. tt;
   }

@@ -13,19 +13,22 @@ use Rattle.mail_model.specs.Book.{BookEntry}
 use Rattle.session_model.specs.Events.{NodeLife, NodeLife as life, turned}
 use Rattle.cluster_model.specs.Cluster as plain
 use Rattle.cluster_model.specs.Cluster.{Slot, slot_at, with_slot}
-use Rattle.cluster_model.specs.Claims.{all_records}
+use Rattle.cluster_model.specs.Claims.{all_records, boot_of}
 use Rattle.cluster_model.specs.Deeds.{slot_up}
 use Rattle.cluster_model.specs.World as machine
 use Rattle.cluster_model.specs.Steps as steps
 use Rattle.cluster_model.specs.Steps.{is_node, letters_end, greatest_boot}
-use Rattle.cluster_model.specs.Makes.{MakesStep, StartsUp, RunsShort}
+use Rattle.cluster_model.specs.Makes.{MakesStep, StartsUp, RunsShort, IsLastBoot}
 use Rattle.disk_journal.specs.Journal.{EndsAt}
+use Rattle.whole_world.specs.World as whole_world
+use Rattle.whole_world.specs.World.{mail_world_of}
 use Rattle.node_store.specs.Disks.{View}
 use Rattle.node_core.specs.Nodes.{node_seen, end_in}
-use Rattle.node_core.specs.Starting.{MayHold, WhereItHolds, IsStartStop, StartKeeps, StartedOver, StoppedOver, WornOver, NodeStarted, NodeStarts}
+use Rattle.node_core.specs.Starting.{MayHold, WhereItHolds, IsStartStop, StartKeeps, StoppedOver, WornOver, NodeStarts}
 use Rattle.node_core.specs.declared.fault.NodeFault.{NodeFault}
 use Rattle.node_core.specs.declared.fault.NodeFault.TheVariants.{Disk, Worn, NoMemory}
-use Rattle.node_core.specs.declared.node.Node.{Node}
+use Rattle.whole_node.specs.declared.node.WholeNode.{WholeNode}
+use Rattle.whole_node.specs.Restarting.{WholeStartedOver, WholeNodeStarted}
 use Rattle.world_book.specs.Books.{entries_of}
 use Rattle.world_book.specs.declared.book.Book.{Book}
 use Rattle.world_book.specs.declared.entry.Entry.TheVariants as written
@@ -38,8 +41,9 @@ use Rattle.cluster_world.specs.Changes.{ChangesNode}
 use Rattle.cluster_world.specs.Starting.{said_of_start, entries_of_start, IsUpIn, ComesToThis, HasStarted}
 use Rattle.cluster_world.specs.Seen.{outcome_seen}
 use Rattle.cluster_world.specs.Turns.{life_refusal, node_refusal, life_after_step}
+use Rattle.cluster_world.specs.Maps.{AreMaps}
 use Rattle.cluster_world.specs.Moments.{IsStopOf, StopsKeep}
-use Rattle.cluster_world.specs.Steps.{StepDid, AreSettled, LeadsTo, StepIsKnown, IsRefusedRight, SaysSo, FallsSo, WasToWork, FaultHasCause, ChangesNothing, IsUnchanged}
+use Rattle.cluster_world.specs.Steps.{StepDid, AreSettled, LeadsTo, LeadsWhole, StepIsKnown, IsRefusedRight, SaysSo, FallsSo, WasToWork, FaultHasCause, ChangesNothing, IsUnchanged}
 use Rattle.cluster_world.specs.declared.life.Life.{Life}
 use Rattle.cluster_world.specs.declared.life.Life.TheVariants.{Up, Down, Lost}
 use Rattle.cluster_world.specs.declared.nodes.Nodes.{Nodes}
@@ -49,7 +53,7 @@ use Rattle.cluster_world.specs.declared.step.Said.TheVariants as said
 use Rattle.cluster_world.specs.declared.fault.StepFault.{StepFault}
 use Rattle.cluster_world.specs.declared.fault.StepFault.TheVariants as fault
 use Rattle.cluster_world.proofs.Still.{some_same}
-use Rattle.cluster_world.proofs.Same.{same_told, same_quiet, same_stops, same_unchanged}
+use Rattle.cluster_world.proofs.Same.{same_told, same_quiet, led_kept, same_unchanged}
 use Rattle.cluster_world.proofs.Worked.{passed, if_both}
 use Rattle.cluster_world.proofs.Turned.{slot_of, lives_turned, as_many, told_by, quiet_by, settled_by, still_ready, falls_now, stops_kept, stands_now}
 use Rattle.cluster_world.proofs.Refusing.{fit_of, start_goes, start_is_worn}
@@ -57,6 +61,8 @@ use Rattle.cluster_world.proofs.Falling.{entries_more}
 use Rattle.cluster_world.proofs.Asked.{turned_same, slot_same}
 use Rattle.cluster_world.proofs.Unchanged.{unchanged_by}
 use Rattle.cluster_world.proofs.Longer.{same_book, longer_by}
+use Rattle.cluster_world.proofs.Told.{IsOfMail, IsDone, kept_whole}
+use Rattle.cluster_world.proofs.WholeStarts.{fall_maps, start_comes, start_fails, start_short}
 
 -- a disk of those that all tell tells
 told_at : {D : Type 0} (seen : D → Option (List ℕ)) (disks : List D) (n : ℕ) (disk : D) → list_all (λ d. is_some (seen d)) disks ≡ true → of_node disks n ≡ Some disk → is_some (seen disk) ≡ true
@@ -107,20 +113,20 @@ module _ {D : Type 0} (on : View D) (is_settled : D → Type 0) (only : (disk : 
   was_down = ch.does.was
 
   -- the life is up only where the start went well
-  up_then : (r : Result ℕ NodeFault) → ComesToThis on old.plan n r ch.disk ch.life' ch.disk' → (node : Node) → ch.life' ≡ Up node
-      → (boot : ℕ) × (r ≡ Ok boot) × NodeStarted on old.plan n ch.disk ch.disk' node
+  up_then : (r : Result ℕ NodeFault) → ComesToThis on old.plan n r ch.disk ch.life' ch.disk' → (node : WholeNode) → ch.life' ≡ Up node
+      → (boot : ℕ) × (r ≡ Ok boot) × WholeNodeStarted on old.plan n ch.disk ch.disk' node
   up_then (Ok boot) (other, is, st) node up =
-      (boot, refl, subst (λ m. NodeStarted on old.plan n ch.disk ch.disk' m) (let same : Up other ≡ Up node = sym is.is ∙ up in the_node other node same) st)
+      (boot, refl, subst (λ m. WholeNodeStarted on old.plan n ch.disk ch.disk' m) (let same : Up other ≡ Up node = sym is.is ∙ up in the_node other node same) st)
     where
-      the_node : (x y : Node) → Up x ≡ Up y → x ≡ y
+      the_node : (x y : WholeNode) → Up x ≡ Up y → x ≡ y
       the_node x y e = cc
   up_then (Err why) (down, st) node up = absurd (let never : Down ≡ Up node = sym down ∙ up in cc)
 
   pub start_ready : CanWorkOn on.seen old.plan old.lives.items old.disks.items → CanWorkOn on.seen new.plan new.lives.items new.disks.items
   start_ready works = subst (λ p. CanWorkOn on.seen p new.lives.items new.disks.items) (sym ch.plan)
-      (still_ready n P old new ch on.seen old.plan works (λ node up. let (boot, is, st) = up_then started ch.does.comes node up in (st.of_plan, st.works)))
+      (still_ready n P old new ch on.seen old.plan works (λ node up. let (boot, is, st) = up_then started ch.does.comes node up in (st.mail.of_plan, st.works)))
 
-  up_life : (l : Life) (boot : ℕ) → life_seen l ≡ life.Up boot → (node : Node) × (l ≡ Up node)
+  up_life : (l : Life) (boot : ℕ) → life_seen l ≡ life.Up boot → (node : WholeNode) × (l ≡ Up node)
   up_life (Up node) boot e = (node, refl)
   up_life Down boot e = absurd (let never : life.Down ≡ life.Up boot = e in cc)
   up_life Lost boot e = absurd (let never : life.Lost ≡ life.Up boot = e in cc)
@@ -200,12 +206,15 @@ module _ {D : Type 0} (on : View D) (is_settled : D → Type 0) (only : (disk : 
     leads_so : (outcome : Result Said StepFault) (entries : List BookEntry) → booked_by book' ≡ booked_by book ++ entries → (w : machine.World) → StateStandsFor on before w → (f : Found w)
         → (slot' : Slot) → SlotStands on n ch.life' ch.disk' slot' → StopsKeep on n ch.disk ch.disk' f.slot slot'
         → MakesStep old.plan (tells_in on.seen before) w (steps.Step.Start n) (outcome_seen outcome) (record w { slots = with_slot w.slots n slot'; book = w.book ++ entries })
+        → ((v : whole_world.World) → mail_world_of v ≡ w → AreMaps old.lives.items v.slots
+        → LeadsWhole old.plan (tells_in on.seen before) outcome (step.Start n) new.lives.items v (record w { slots = with_slot w.slots n slot'; book = w.book ++ entries }))
         → LeadsTo on outcome (step.Start n) before behind w
-    leads_so outcome entries e w st f slot' stands kept made = record {
+    leads_so outcome entries e w st f slot' stands kept made whole = record {
       next = record w { slots = with_slot w.slots n slot'; book = w.book ++ entries };
       stands = stands_now n P old new ch on flying seconds book book' entries e w st slot' stands;
       made = made;
       stops = record { each = stops_kept n P old new ch on w.slots f.slot slot' st.slots f.here (λ _. kept) };
+      whole = λ v seen sound maps. whole v seen maps;
     }
 
     unchanged : (w : machine.World) (f : Found w) → ◌≡◌ {A = machine.World} (record w { slots = with_slot w.slots n f.slot; book = w.book ++ [] }) w
@@ -213,6 +222,29 @@ module _ {D : Type 0} (on : View D) (is_settled : D → Type 0) (only : (disk : 
         let slots_are : with_slot w.slots n f.slot ≡ w.slots = slot_same w.slots n f.slot f.here in
         let book_is : w.book ++ [] ≡ w.book = append-nil w.book in
         λ i. record w { slots = slots_are i; book = book_is i }
+
+    -- the machine's slot, as it is down
+    slot_down : (w : machine.World) (f : Found w) → slot_at w.slots n ≡ Some (record { life = plain.Life.Down f.pending; disk = f.slot.disk })
+    slot_down w f = f.here ∙ ap Some f.whole
+
+    never_up : ch.life' ≡ Down → (node : WholeNode) → ch.life' ≡ Up node → ⊥
+    never_up down node up = let never : Down ≡ Up node = sym down ∙ up in cc
+
+    worn : (w : machine.World) → StateStandsFor on before w → (f : Found w) → WornOver on old.plan n ch.disk ch.disk' f.slot.disk f.pending
+        → (steps.step_fault old.plan (steps.Step.Start n) w ≡ None) × (steps.StepFault.Worn ≡ steps.StepFault.Worn) × IsLastBoot w n
+    worn w st f so = (start_goes_now w st f, refl, record { disk = f.slot.disk; pending = f.pending; here = slot_down w f; kept = so.kept; pending_is = so.pending_is; last = so.last })
+
+    -- The whole world is as it was.
+    whole_stays : (why : StepFault) → IsOfMail (Err why) (step.Start n) → (IsDone (outcome_seen (Err why)) → ⊥) → ch.life' ≡ Down → (w : machine.World) (f : Found w)
+        → MakesStep old.plan (tells_in on.seen before) w (steps.Step.Start n) (outcome_seen (Err why)) w → (v : whole_world.World) → mail_world_of v ≡ w → AreMaps old.lives.items v.slots
+        → LeadsWhole old.plan (tells_in on.seen before) (Err why) (step.Start n) new.lives.items v (record w { slots = with_slot w.slots n f.slot; book = w.book ++ [] })
+    whole_stays why of none down w f made v seen maps = record {
+      now = v;
+      seen = seen ∙ sym (unchanged w f);
+      maps = fall_maps n P old new ch v maps (never_up down);
+      made = kept_whole old.plan (tells_in on.seen before) (Err why) (step.Start n) v of none
+          (subst (λ x. MakesStep old.plan (tells_in on.seen before) x (steps.Step.Start n) (outcome_seen (Err why)) x) (sym seen) made);
+    }
 
     -- Down it stays, or it went down in its start.
     down_did : (why : NodeFault) → ch.life' ≡ Down → IsRefusedRight (said_of_start n (Err why)) (node_refusal old.plan (life_among old) (step.Start n))
@@ -280,7 +312,8 @@ module _ {D : Type 0} (on : View D) (is_settled : D → Type 0) (only : (disk : 
         let (so, rose) = over (λ records pending. StoppedOver on old.plan n ch.disk ch.disk' records pending × Rose (on.faults ch.disk) (on.faults ch.disk')) known w f st in
         leads_so (Ok (said.Faulted n)) (entries_seen (written.Down n ∷ [])) (booked ∙ ap (λ r. booked_by book ++ entries_seen (entries_of_start n r)) e) w stands f
         (record { life = plain.Life.Down so.next; disk = so.new }) (stands_down so.next so.new so.holds down) (keeps_so w f (record { life = plain.Life.Down so.next; disk = so.new }) (so.new ++ so.next) refl so.stops_keep)
-        (start_goes_now w stands f, StartsUp.FailsStarting f.slot.disk f.pending so.next so.new (f.here ∙ ap Some f.whole) so.stops refl refl))
+        (start_goes_now w stands f, StartsUp.FailsStarting f.slot.disk f.pending so.next so.new (f.here ∙ ap Some f.whole) so.stops refl refl)
+        (λ v seen maps. start_fails n P old new ch v maps old.plan (tells_in on.seen before) w seen f.slot.disk f.pending (slot_down w f) so.next so.new so.stops (never_up down) (start_goes_now w stands f)))
         (λ w stands d d' e e'.
         let f = found w stands in
         let d_is : ch.disk ≡ d = some_same ch.disk d (sym ch.held ∙ e) in
@@ -300,7 +333,8 @@ module _ {D : Type 0} (on : View D) (is_settled : D → Type 0) (only : (disk : 
         let so = over (WornOver on old.plan n ch.disk ch.disk') known w f st in
         leads_so (Err fault.Worn) [] (booked ∙ ap (λ r. booked_by book ++ entries_seen (entries_of_start n r)) e) w stands f
         f.slot (still_down w f so.holds down) (keeps_so w f f.slot (f.slot.disk ++ f.pending) (all_there w f) so.stops_keep)
-        (inl (inr (start_goes_now w stands f, refl, record { disk = f.slot.disk; pending = f.pending; here = f.here ∙ ap Some f.whole; kept = so.kept; pending_is = so.pending_is; last = so.last })), unchanged w f))
+        (inl (inr (worn w stands f so)), unchanged w f)
+        (whole_stays fault.Worn (record { step_is = refl; said_is = refl; sees = λ unseen. unseen }) (λ done. done) down w f (inl (inr (worn w stands f so)), refl)))
         (λ w stands. tt)
         (left_down down (booked ∙ ap (λ r. booked_by book ++ entries_seen (entries_of_start n r)) e ∙ append-nil (booked_by book)))
     did_fail (NoMemory true) e down st = down_did (NoMemory true) down tt tt falls_here (λ m. refl)
@@ -309,7 +343,8 @@ module _ {D : Type 0} (on : View D) (is_settled : D → Type 0) (only : (disk : 
         let so = over (StoppedOver on old.plan n ch.disk ch.disk') known w f st in
         leads_so (Err (fault.NoMemory (Some n))) (entries_seen (written.Down n ∷ [])) (booked ∙ ap (λ r. booked_by book ++ entries_seen (entries_of_start n r)) e) w stands f
         (record { life = plain.Life.Down so.next; disk = so.new }) (stands_down so.next so.new so.holds down) (keeps_so w f (record { life = plain.Life.Down so.next; disk = so.new }) (so.new ++ so.next) refl so.stops_keep)
-        (RunsShort.Starting f.slot.disk f.pending so.next so.new refl (f.here ∙ ap Some f.whole) so.stops refl))
+        (RunsShort.Starting f.slot.disk f.pending so.next so.new refl (f.here ∙ ap Some f.whole) so.stops refl)
+        (λ v seen maps. start_short n P old new ch v maps old.plan (tells_in on.seen before) w seen f.slot.disk f.pending (slot_down w f) so.next so.new so.stops (never_up down)))
         (λ w stands. tt)
         tt
     did_fail (NoMemory false) e down st = down_did (NoMemory false) down tt tt tt stays
@@ -317,11 +352,12 @@ module _ {D : Type 0} (on : View D) (is_settled : D → Type 0) (only : (disk : 
         let f = found w stands in
         let (holds, so) = over (λ records pending. MayHold on ch.disk' n records pending × StartKeeps on old.plan n ch.disk ch.disk' records pending (records ++ pending)) known w f st in
         leads_so (Err (fault.NoMemory None)) [] (booked ∙ ap (λ r. booked_by book ++ entries_seen (entries_of_start n r)) e) w stands f
-        f.slot (still_down w f holds down) (keeps_so w f f.slot (f.slot.disk ++ f.pending) (all_there w f) so) (unchanged w f))
+        f.slot (still_down w f holds down) (keeps_so w f f.slot (f.slot.disk ++ f.pending) (all_there w f) so) (unchanged w f)
+        (whole_stays (fault.NoMemory None) (record { step_is = refl; said_is = refl; sees = λ unseen. unseen }) (λ done. done) down w f refl))
         (λ w stands. tt)
         (left_down down (booked ∙ ap (λ r. booked_by book ++ entries_seen (entries_of_start n r)) e ∙ append-nil (booked_by book)))
 
-    did_start : (boot : ℕ) → started ≡ Ok boot → is_settled ch.disk' → (node : Node) → IsUpIn boot node ch.life' → NodeStarted on old.plan n ch.disk ch.disk' node → StepDid on (Ok (said.NodeUp boot)) (step.Start n) before behind
+    did_start : (boot : ℕ) → started ≡ Ok boot → is_settled ch.disk' → (node : WholeNode) → IsUpIn boot node ch.life' → WholeNodeStarted on old.plan n ch.disk ch.disk' node → StepDid on (Ok (said.NodeUp boot)) (step.Start n) before behind
     did_start boot e settled node up st = record {
       plan = ch.plan;
       handed = as_many n P old new ch;
@@ -330,26 +366,30 @@ module _ {D : Type 0} (on : View D) (is_settled : D → Type 0) (only : (disk : 
       falls = tt;
       lives = λ m. lives_turned n P old new ch m ∙ ap (λ l. turned n l m (life_among old m)) (ap life_seen up.is ∙ ap life.Up (sym up.boot_is));
       told = told_by n P old new ch flying flying seconds seconds book book' on.seen ch.does.told;
-      quiet = quiet_by n P old new ch flying flying seconds seconds book book' on.faults ch.does.faults (λ boot _. st.quiet);
+      quiet = quiet_by n P old new ch flying flying seconds seconds book book' on.faults ch.does.faults (λ boot _. st.mail.quiet);
       clock = refl;
       lighter = tt;
       books = longer_by book book' (entries_of_start n started) wrote;
       kept = tt;
       leads = λ known ended w stands.
           let f = found w stands in
-          let so = over (StartedOver on old.plan n ch.disk ch.disk' node) known w f st.over in
-          let slot' : Slot = slot_up (node_seen node) so.new in
-          let images : IfSome (on.seen ch.disk') (λ _. (c : List ℕ) → on.clock.is_image ch.disk' c → EndsAt n c (payloads_of so.new) (end_in node)) =
-          both_held (on.seen ch.disk') (λ held. IsOnly on.clock ch.disk' held) (λ held. EndsAt n held (payloads_of so.new) (end_in node)) _
-          (λ held alone ends c image. subst (λ x. EndsAt n x (payloads_of so.new) (end_in node)) (sym (alone c image)) ends) (only ch.disk' settled) so.tells in
+          let whole_so = over (WholeStartedOver on old.plan n ch.disk ch.disk' node) known w f st.over in
+          let so = whole_so.mail in
+          let slot' : Slot = slot_up (node_seen node.mail) so.new in
+          let images : IfSome (on.seen ch.disk') (λ _. (c : List ℕ) → on.clock.is_image ch.disk' c → EndsAt n c (payloads_of so.new) (end_in node.mail)) =
+          both_held (on.seen ch.disk') (λ held. IsOnly on.clock ch.disk' held) (λ held. EndsAt n held (payloads_of so.new) (end_in node.mail)) _
+          (λ held alone ends c image. subst (λ x. EndsAt n x (payloads_of so.new) (end_in node.mail)) (sym (alone c image)) ends) (only ch.disk' settled) so.tells in
           let stands' : SlotStands on n ch.life' ch.disk' slot' = subst (λ l. SlotStands on n l ch.disk' slot') (sym up.is)
-          (node_seen node, refl, record { seen_is = refl; keeps = so.keeps; tells = so.tells; images = images }) in
+          (node_seen node.mail, refl, record { seen_is = refl; keeps = so.keeps; tells = so.tells; images = images }) in
           leads_so (Ok (said.NodeUp boot)) (entries_seen (written.Up n boot ∷ [])) (booked ∙ ap (λ r. booked_by book ++ entries_seen (entries_of_start n r)) e) w stands f
           slot' stands' (keeps_so w f slot' so.new (append-nil so.new) so.stops_keep) (
             start_goes_now w stands f,
-            StartsUp.Comes f.slot.disk f.pending (node_seen node) so.new (f.here ∙ ap Some f.whole) so.starts (subst (λ b. b ≤ greatest_boot) up.boot_is up.small) (ap steps.Said.NodeUp up.boot_is)
+            StartsUp.Comes f.slot.disk f.pending (node_seen node.mail) so.new (f.here ∙ ap Some f.whole) so.starts (subst (λ b. b ≤ greatest_boot) up.boot_is up.small) (ap steps.Said.NodeUp up.boot_is)
                 (ap (λ (b : ℕ). record w { slots = with_slot w.slots n slot'; book = w.book ++ entries_seen (written.Up n b ∷ []) }) up.boot_is),
-          );
+          ) (λ v seen maps.
+          let boot_is : boot ≡ boot_of (f.slot.disk ++ so.starts.kept) + 1 = up.boot_is ∙ ap (λ (x : plain.Node). x.boot) so.starts.is in
+          start_comes n P old new ch v maps old.plan (tells_in on.seen before) w seen f.slot.disk f.pending (slot_down w f) node so.starts.kept so.new boot up.is so.starts.pending_is so.starts.records
+          whole_so.starts boot_is (subst (λ b. b ≤ greatest_boot) boot_is up.small) (start_goes_now w stands f));
       cause = λ w stands. tt;
     }
 
@@ -390,11 +430,7 @@ module _ {D : Type 0} (on : View D) (n : ℕ) (old : Nodes D) (fit : node_refusa
         let (disk, held) = Rattle.cluster_world.proofs.Asked.disk_of old.disks.items old.lives.items n Down (old.all ∙ sym old.disk_each) down in
         let (slot, here, stood) = slot_of on old.lives.items old.disks.items w.slots n Down disk st.slots down held in
         let (pending, is, fit_all, holds) = stood in
-        record {
-          next = w;
-          stands = st;
-          made = (inl (inl (start_is_worn old.plan w n slot (named_of old.plan (life_among old) n fit) here pending is (ap (nat_le letters_end) (sym st.sent) ∙ late))), refl);
-          stops = same_stops on (state_with old flying seconds book) w st;
-        };
+        led_kept on (state_with old flying seconds book) (Err fault.Worn) (step.Start n) w st (record { step_is = refl; said_is = refl; sees = λ unseen. unseen }) (λ done. done)
+        (inl (inl (start_is_worn old.plan w n slot (named_of old.plan (life_among old) n fit) here pending is (ap (nat_le letters_end) (sym st.sent) ∙ late))), refl);
     cause = λ w st. tt;
   }

@@ -15,16 +15,20 @@ use Rattle.cluster_world.specs.declared.fault.StepFault.{StepFault}
 use Rattle.cluster_world.specs.Books.{booked_by}
 use Rattle.cluster_world.proofs.Same.{same_stops, same_told, same_quiet}
 use Rattle.cluster_world.proofs.Longer.{same_book}
+use Rattle.cluster_world.proofs.Follows.{nothing_follows}
+use Rattle.cluster_world.proofs.Wholly.{led, even_of}
 
 module _ {D : Type 0} (on : View D) (nodes : Nodes D) (flying : InFlight) (book : Book) (was seconds : ℕ) where
   leads : (w : machine.World) → StateStandsFor on (state_with nodes flying was book) w
       → LeadsTo on (Ok Done) (step.Tick seconds) (state_with nodes flying was book) (state_with nodes flying seconds book) w
-  leads w st = record {
-    next = record w { seconds = seconds };
-    stands = record { slots = st.slots; flying = st.flying; sent = st.sent; seconds = refl; book = st.book };
-    made = (refl, (refl, refl));
-    stops = record { each = (same_stops on (state_with nodes flying was book) w st).each };
-  }
+  leads w st = led on (Ok Done) (step.Tick seconds) (state_with nodes flying was book) (state_with nodes flying seconds book) (even_of nodes) (even_of nodes) w st (record { step_is = refl; said_is = refl; sees = λ unseen. unseen })
+      (λ v seen sound done. tt) (record {
+        next = record w { seconds = seconds };
+        stands = record { slots = st.slots; flying = st.flying; sent = st.sent; seconds = refl; book = st.book };
+        made = (refl, (refl, refl));
+        stops = record { each = (same_stops on (state_with nodes flying was book) w st).each };
+        follow = nothing_follows nodes.lives.items w.slots;
+      })
 
   pub ticked_did : StepDid on (Ok Done) (step.Tick seconds) (state_with nodes flying was book) (state_with nodes flying seconds book)
   ticked_did = record {

@@ -8,8 +8,9 @@ use Rattle.cluster_model.specs.Cluster as plain
 use Rattle.cluster_model.specs.Cluster.{Slot, slot_at, with_slot}
 use Rattle.cluster_model.proofs.Slots.{at_same}
 use Rattle.node_store.specs.Disks.{View}
-use Rattle.node_core.specs.Nodes.{CanWork, IsNodeOf}
-use Rattle.node_core.specs.declared.node.Node.{Node}
+use Rattle.node_core.specs.Nodes.{IsNodeOf}
+use Rattle.whole_node.specs.Nodes.{WholeWorks}
+use Rattle.whole_node.specs.declared.node.WholeNode.{WholeNode}
 use Rattle.cluster_world.specs.Lives.{life_seen, of_node, with_node_at, falls_left, all_falls_left, CanWorkOn}
 use Rattle.cluster_world.specs.Stands.{SlotStands, SlotsStand}
 use Rattle.io_edge.specs.Octets.{IsToldAlike}
@@ -155,14 +156,14 @@ module _ {D : Type 0} (n : ℕ) (P : Life → D → Life → D → Type 0) (old 
 
   -- each node that is up can work
   pub still_ready : (seen : D → Option (List ℕ)) (plan : Plan) → CanWorkOn seen plan old.lives.items old.disks.items
-      → ((node : Node) → ch.life' ≡ Up node → IsNodeOf plan n node × CanWork (seen ch.disk') node) → CanWorkOn seen plan new.lives.items new.disks.items
+      → ((node : WholeNode) → ch.life' ≡ Up node → IsNodeOf plan n node.mail × WholeWorks (seen ch.disk') node) → CanWorkOn seen plan new.lives.items new.disks.items
   still_ready seen plan works here = record {
     each = λ k node d a b. ⊎_elim
         (λ (same : suc k ≡ n).
         let la : ch.life' ≡ Up node = some_same ch.life' (Up node) (sym life_there ∙ ap (of_node new.lives.items) (sym same) ∙ a) in
         let da : ch.disk' ≡ d = some_same ch.disk' d (sym disk_there ∙ ap (of_node new.disks.items) (sym same) ∙ b) in
         let h = here node la in
-        (subst (λ m. IsNodeOf plan m node) (sym same) h.0, subst (λ x. CanWork (seen x) node) da h.1))
+        (subst (λ m. IsNodeOf plan m node.mail) (sym same) h.0, subst (λ x. WholeWorks (seen x) node) da h.1))
         (λ (other : suc k ≢ n). works.each k node d (sym (life_else (suc k) other) ∙ a) (sym (disk_else (suc k) other) ∙ b))
         (same_or (suc k) n);
   }

@@ -3,7 +3,7 @@ use Rattle.std.proofs.Common.{◌≡◌, ◌≢◌, ⊎_elim, ℕ, Some, None, E
 use Rattle.node_store.specs.Disks.{View}
 use Rattle.node_core.specs.Nodes.{IsAsBefore}
 use Rattle.node_core.specs.Works.{IsOnlyRead}
-use Rattle.node_core.specs.declared.node.Node.{Node}
+use Rattle.whole_node.specs.declared.node.WholeNode.{WholeNode}
 use Rattle.world_book.specs.declared.book.Book.{Book}
 use Rattle.cluster_world.specs.Books.{booked_by}
 use Rattle.cluster_world.specs.Changes.{ChangesNode}
@@ -22,7 +22,7 @@ use Rattle.cluster_world.proofs.Still.{some_same, nothing_read}
 use Rattle.cluster_world.proofs.Turned.{same_or, life_there, disk_there, life_else, disk_else, each_disk}
 
 -- a node is as it was
-pub node_kept : (l l' : Life) (a b : Node) → l ≡ Up a → l' ≡ Up b → IsAsBefore a b → node_of_life (Some l') ≡ node_of_life (Some l)
+pub node_kept : (l l' : Life) (a b : WholeNode) → l ≡ Up a → l' ≡ Up b → IsAsBefore a.mail b.mail → node_of_life (Some l') ≡ node_of_life (Some l)
 node_kept l l' a b was is same = ap (λ (x : Life). node_of_life (Some x)) is ∙ ap Some same.seen ∙ sym (ap (λ (x : Life). node_of_life (Some x)) was)
 
 -- whatever it is refused for
@@ -33,6 +33,7 @@ changes_none on fault.NodeDown step old new same = same
 changes_none on fault.NodeUp step old new same = same
 changes_none on fault.NoSuchLetter step old new same = same
 changes_none on fault.NoSuchTicket step old new same = same
+changes_none on fault.NotAGroup step old new same = same
 changes_none on fault.Worn step old new same = same
 changes_none on fault.NoRoom step old new same = same
 changes_none on (fault.NoMemory None) step old new same = same

@@ -1,5 +1,5 @@
 -- What a step does that gives a copy a target more.
-use Rattle.std.proofs.Common.{◌≡◌, inl, ℕ, ◌≤◌, ◌||◌, nat_le, Bool, true, false, List, [], ◌∷◌, ◌++◌, append-nil, Option, Some, None, Result, Ok, Err, refl, sym, ap, ◌∙◌, subst, arith, if◌then◌else◌}
+use Rattle.std.proofs.Common.{◌≡◌, inl, ℕ, ◌≤◌, ◌||◌, nat_le, Bool, true, false, List, [], ◌∷◌, ◌++◌, length, drop, append-nil, Option, Some, None, Result, Ok, Err, refl, sym, ap, ◌∙◌, subst, arith, if◌then◌else◌}
 use Rattle.std.specs.List.{list_all}
 use Rattle.mail_model.specs.Identity.{Id}
 use Rattle.mail_model.specs.Identity.Key.{Message}
@@ -14,13 +14,17 @@ use Rattle.cluster_model.specs.World.{put}
 use Rattle.cluster_model.specs.Steps as steps
 use Rattle.cluster_model.specs.Steps.{is_node, letters_end, slot_fault, is_worn_at, first_fault, step_fault}
 use Rattle.cluster_model.specs.Makes.{Widens, RunsShort, cut_world}
+use Rattle.whole_model.specs.Rules.{follows}
+use Rattle.node_maps.specs.Nodes.{node_of, own_of}
 use Rattle.node_store.specs.Disks.{View}
+use Rattle.whole_node.specs.Following.{FollowsRule}
 use Rattle.node_core.specs.Nodes.{node_seen}
 use Rattle.node_core.specs.Pushing.{WidensCopy}
 use Rattle.node_core.specs.Works.{Rule, LeavesUp}
 use Rattle.node_core.specs.declared.fault.NodeFault.{NodeFault}
 use Rattle.node_core.specs.declared.fault.NodeFault.TheVariants.{Disk, Worn, NoMemory}
-use Rattle.node_core.specs.declared.node.Node.{Node}
+use Rattle.whole_node.specs.Nodes.{WholeWorks}
+use Rattle.whole_node.specs.declared.node.WholeNode.{WholeNode}
 use Rattle.world_book.specs.Books.{entries_of}
 use Rattle.world_book.specs.declared.book.Book.{Book}
 use Rattle.world_book.specs.declared.entry.Entry.TheVariants as written
@@ -34,19 +38,22 @@ use Rattle.cluster_world.specs.Turning.{life_left}
 use Rattle.cluster_world.specs.Turns.{life_refusal, node_refusal}
 use Rattle.cluster_world.specs.Widens.{said_of_widening, entries_of_widening, WidensAt}
 use Rattle.cluster_world.specs.Steps.{StepDid, AreSettled, WasToWork}
-use Rattle.cluster_world.specs.declared.life.Life.TheVariants.{Up}
+use Rattle.cluster_world.specs.declared.life.Life.TheVariants.{Up, Down}
 use Rattle.cluster_world.specs.declared.nodes.Nodes.{Nodes}
 use Rattle.cluster_world.specs.declared.step.Step.TheVariants as step
 use Rattle.cluster_world.specs.declared.step.Said.TheVariants as said
 use Rattle.cluster_world.specs.declared.fault.StepFault.TheVariants as fault
-use Rattle.cluster_world.proofs.Same.{same_told, same_quiet, same_stops, same_unchanged}
+use Rattle.cluster_world.proofs.Same.{same_told, same_quiet, led_kept, same_unchanged}
 use Rattle.cluster_world.proofs.Still.{nothing_read}
 use Rattle.cluster_world.proofs.Turned.{as_many}
 use Rattle.cluster_world.proofs.Refusing.{fit_of}
 use Rattle.cluster_world.proofs.Falling.{entries_more}
 use Rattle.cluster_world.proofs.Asked.{slot_same}
-use Rattle.cluster_world.proofs.AfterWidening.{StaysUp, FallsDown, did_stay, read_stays, stopped_falls, stays_lives, stays_ready, stays_falls, stays_told, stays_quiet, stays_settled, down_lives, down_ready, down_falls, down_told, down_quiet, down_settled, FoundUp, found_up, did_there, CutThere, cut_there, read_there, within_first, caused, up_of, slot_up_of}
+use Rattle.cluster_world.proofs.AfterWidening.{works_there, StaysUp, FallsDown, did_stay, read_stays, stopped_falls, stays_lives, stays_ready, stays_falls, stays_told, stays_quiet, stays_settled, down_lives, down_ready, down_falls, down_told, down_quiet, down_settled, FoundUp, found_up, did_there, CutThere, cut_there, read_there, within_first, caused, up_of, slot_up_of}
 use Rattle.cluster_world.proofs.Unchanged.{unchanged_by, node_kept}
+use Rattle.cluster_world.proofs.Follows.{alone_follows, fall_follows, idle_follows, only_none, rule_follows}
+use Rattle.cluster_world.proofs.Turning.{up_same}
+use Rattle.cluster_world.proofs.Wholly.{led, even_of}
 use Rattle.cluster_world.proofs.Longer.{same_book, longer_by}
 
 -- The machine refuses it only once no letters are sent any more.
@@ -82,10 +89,10 @@ module _ {D : Type 0} (on : View D) (n to : ℕ) (user : List ℕ) (id : Id) (ol
     abbrev P : Rattle.cluster_world.specs.declared.life.Life.Life → D → Rattle.cluster_world.specs.declared.life.Life.Life → D → Type 0
     P = WidensAt on is_settled n to (Message user id) done
 
-    abbrev a : Node
+    abbrev a : WholeNode
     a = ch.does.0.old
 
-    abbrev b : Node
+    abbrev b : WholeNode
     b = ch.does.0.new
 
     was : ch.life ≡ Up a
@@ -93,10 +100,17 @@ module _ {D : Type 0} (on : View D) (n to : ℕ) (user : List ℕ) (id : Id) (ol
 
     -- what came of it
     abbrev Comes : Result Bool NodeFault → Type 0
-    Comes r = WidensCopy on n to (Message user id) a ch.disk b ch.disk' r × (ch.life' ≡ life_left r b) × (LeavesUp r → is_settled ch.disk → is_settled ch.disk')
+    Comes r = WidensCopy on n to (Message user id) a.mail ch.disk b.mail ch.disk' r × (ch.life' ≡ life_left r b) × (LeavesUp r → (is_settled ch.disk → is_settled ch.disk') × WholeWorks (on.seen ch.disk') b)
 
     comes : (r : Result Bool NodeFault) → done ≡ r → Comes r
-    comes r e = subst Comes e (ch.does.0.did, ch.does.0.is, ch.does.1)
+    comes r e = subst Comes e (ch.does.0.did, ch.does.0.is, λ up. (ch.does.1 up, ch.does.0.works up))
+
+    -- and of its maps
+    follows_so : (r : Result Bool NodeFault) → done ≡ r → FollowsRule widens r a b
+    follows_so r e = subst (λ (x : Result Bool NodeFault). FollowsRule widens x a b) e ch.does.0.maps
+
+    own_here : own_of a.maps ≡ n
+    own_here = let there = works_there on n P old new ch ready a was in there.1.maps.own ∙ there.0.own_is
 
     abbrev Stays : Type 0
     Stays = StaysUp on n P old new ch ready a was b
@@ -105,10 +119,10 @@ module _ {D : Type 0} (on : View D) (n to : ℕ) (user : List ℕ) (id : Id) (ol
     Falls = FallsDown on n P old new ch ready a was
 
     stays_did : (did : Bool) → Comes (Ok did) → Stays
-    stays_did did c = did_stay on n P old new ch ready a was widens b [] c.1 c.0.1
+    stays_did did c = did_stay on n P old new ch ready a was widens b [] c.1 c.0.1 (c.2 tt).1
 
     stays_out : Comes (Err (NoMemory false)) → Stays
-    stays_out c = read_stays on n P old new ch ready a was b c.1 c.0.0 (nothing_read on ch.disk ch.disk' c.0.1) (ap on.faults c.0.1)
+    stays_out c = read_stays on n P old new ch ready a was b c.1 c.0.0 (nothing_read on ch.disk ch.disk' c.0.1) (ap on.faults c.0.1) (c.2 tt).1
 
     falls_disk : Comes (Err Disk) → Falls
     falls_disk c = stopped_falls on n P old new ch ready a was widens c.1 c.0.1 c.0.2.0
@@ -140,20 +154,20 @@ module _ {D : Type 0} (on : View D) (n to : ℕ) (user : List ℕ) (id : Id) (ol
       pub widened_settled : (r : Result Bool NodeFault) → done ≡ r → AreSettled is_settled before → AreSettled is_settled behind
       widened_settled (Ok did) e =
           let c = comes (Ok did) e in
-          stays_settled on n P old new ch ready a was b (stays_did did c) flying flying seconds seconds book book' is_settled (c.2 tt)
+          stays_settled on n P old new ch ready a was b (stays_did did c) flying flying seconds seconds book book' is_settled (c.2 tt).0
       widened_settled (Err Disk) e = down_settled on n P old new ch ready a was (falls_disk (comes (Err Disk) e)) flying flying seconds seconds book book' is_settled
       widened_settled (Err Worn) e = absurd (comes (Err Worn) e).0
       widened_settled (Err (NoMemory true)) e = down_settled on n P old new ch ready a was (falls_out (comes (Err (NoMemory true)) e)) flying flying seconds seconds book book' is_settled
       widened_settled (Err (NoMemory false)) e =
           let c = comes (Err (NoMemory false)) e in
-          stays_settled on n P old new ch ready a was b (stays_out c) flying flying seconds seconds book book' is_settled (c.2 tt)
+          stays_settled on n P old new ch ready a was b (stays_out c) flying flying seconds seconds book book' is_settled (c.2 tt).0
 
       module _ (early : nat_le letters_end flying.sent ≡ false) (wrote : entries_of book' ≡ entries_of book ++ entries_of_widening n done) where
         booked : (r : Result Bool NodeFault) → done ≡ r → booked_by book' ≡ booked_by book ++ entries_seen (entries_of_widening n r)
         booked r e = ap entries_seen wrote ∙ entries_more (entries_of book) (entries_of_widening n done) ∙ ap (λ x. booked_by book ++ entries_seen (entries_of_widening n x)) e
 
         goes : (w : machine.World) (st : StateStandsFor on before w) → (f : FoundUp on n P old new ch ready a was w.slots st.slots) → step_fault old.plan (steps.Step.Widen n user id to) w ≡ None
-        goes w st f = widen_goes old.plan w n to user id (slot_up (node_seen a) f.slot.disk) (node_seen a) named f.up refl (ap (nat_le letters_end) (sym st.sent) ∙ early)
+        goes w st f = widen_goes old.plan w n to user id (slot_up (node_seen a.mail) f.slot.disk) (node_seen a.mail) named f.up refl (ap (nat_le letters_end) (sym st.sent) ∙ early)
 
         -- It did its work.
         did_well : (did : Bool) → done ≡ Ok did → Comes (Ok did) → StepDid on (Ok (said.Widened did)) (step.Widen n user id to) before behind
@@ -173,16 +187,20 @@ module _ {D : Type 0} (on : View D) (n to : ℕ) (user : List ℕ) (id : Id) (ol
           leads = λ known ended w st.
               let f = found_up on n P old new ch ready a was w.slots st.slots in
               let t = did_there on n P old new ch ready a was w.slots st.slots widens b [] c.1 c.0.1 f in
-              record {
-                next = record w { slots = with_slot w.slots n (slot_up (widens (node_seen a) f.slot.disk).node (widens (node_seen a) f.slot.disk).disk) };
+              led on (Ok (said.Widened did)) (step.Widen n user id to) before behind (even_of old) (even_of new) w st (record { step_is = refl; said_is = refl; sees = λ unseen. unseen }) (λ v seen sound done_. tt) (record {
+                next = record w { slots = with_slot w.slots n (slot_up (widens (node_seen a.mail) f.slot.disk).node (widens (node_seen a.mail) f.slot.disk).disk) };
                 stands = record { slots = t.moved.stand; flying = st.flying; sent = st.sent; seconds = st.seconds; book = booked (Ok did) e ∙ append-nil (booked_by book) ∙ st.book };
                 made = (
                   goes w st f,
-                  Widens.Adds (node_seen a) f.slot.disk f.up (ap steps.Said.Widened (c.0.0 f.slot.disk f.keeps))
-                      (sym (ap (λ out. put has_room out (record w { slots = with_slot w.slots n (slot_up (widens (node_seen a) f.slot.disk).node (widens (node_seen a) f.slot.disk).disk) })) t.out)),
+                  Widens.Adds (node_seen a.mail) f.slot.disk f.up (ap steps.Said.Widened (c.0.0 f.slot.disk f.keeps))
+                      (sym (ap (λ out. put has_room out (record w { slots = with_slot w.slots n (slot_up (widens (node_seen a.mail) f.slot.disk).node (widens (node_seen a.mail) f.slot.disk).disk) })) t.out)),
                 );
                 stops = record { each = t.moved.stops };
-              };
+                follow = alone_follows on n P old new ch w.slots f.slot (slot_up (widens (node_seen a.mail) f.slot.disk).node (widens (node_seen a.mail) f.slot.disk).disk) f.here (λ x y was' is'.
+                    ap (λ (z : WholeNode). node_of z.maps) (up_same y b (sym is' ∙ c.1))
+                    ∙ rule_follows widens n a b f.slot.disk c.0.1.added own_here (follows_so (Ok did) e) f.keeps (c.0.1.disk f.slot.disk f.keeps)
+                    ∙ ap (λ (z : WholeNode). follows n (node_of z.maps) f.slot.disk (drop (length f.slot.disk) (widens (node_seen a.mail) f.slot.disk).disk)) (up_same a x (sym was ∙ was')));
+              });
           cause = λ w st. tt;
         }
 
@@ -198,7 +216,7 @@ module _ {D : Type 0} (on : View D) (n to : ℕ) (user : List ℕ) (id : Id) (ol
         }
 
         fell : WasToWork old.plan.nodes (step.Widen n user id to) (life_among old n) n
-        fell = let inside = within_first old.plan n to named in record { above = inside.0; within = inside.1; worked = inl ((node_seen a).boot, ap seen_life ch.was ∙ ap life_seen was) }
+        fell = let inside = within_first old.plan n to named in record { above = inside.0; within = inside.1; worked = inl ((node_seen a.mail).boot, ap seen_life ch.was ∙ ap life_seen was) }
 
         did_fail : done ≡ Err Disk → Comes (Err Disk) → StepDid on (Ok (said.Faulted n)) (step.Widen n user id to) before behind
         did_fail e c = let s = falls_disk c in record {
@@ -217,12 +235,13 @@ module _ {D : Type 0} (on : View D) (n to : ℕ) (user : List ℕ) (id : Id) (ol
           leads = λ known ended w st.
               let f = found_up on n P old new ch ready a was w.slots st.slots in
               let t = cut_there on n P old new ch ready a was w.slots st.slots widens c.1 c.0.1 f in
-              record {
+              led on (Ok (said.Faulted n)) (step.Widen n user id to) before behind (even_of old) (even_of new) w st (record { step_is = refl; said_is = refl; sees = λ unseen. unseen }) (λ v seen sound done_. tt) (record {
                 next = cut_world w n f.slot.disk t.front t.pending;
                 stands = cut_stands (Err Disk) e refl w st f t;
-                made = (goes w st f, Widens.FailsWidening (node_seen a) f.slot.disk f.up refl (record { front = t.front; pending = t.pending; one = t.one; cut = t.cut; is = refl }));
+                made = (goes w st f, Widens.FailsWidening (node_seen a.mail) f.slot.disk f.up refl (record { front = t.front; pending = t.pending; one = t.one; cut = t.cut; is = refl }));
                 stops = record { each = t.moved.stops };
-              };
+                follow = fall_follows on n P old new ch w.slots f.slot (record { life = plain.Life.Down t.pending; disk = f.slot.disk ++ t.front }) f.here (λ y up. let never : Down ≡ Up y = sym c.1 ∙ up in cc);
+              });
           cause = λ w st. caused on n P old new ch (step.Widen n user id to) flying flying seconds seconds book book' (inl c.0.2.1);
         }
 
@@ -243,12 +262,13 @@ module _ {D : Type 0} (on : View D) (n to : ℕ) (user : List ℕ) (id : Id) (ol
           leads = λ known ended w st.
               let f = found_up on n P old new ch ready a was w.slots st.slots in
               let t = cut_there on n P old new ch ready a was w.slots st.slots widens c.1 c.0.1 f in
-              record {
+              led on (Err (fault.NoMemory (Some n))) (step.Widen n user id to) before behind (even_of old) (even_of new) w st (record { step_is = refl; said_is = refl; sees = λ unseen. unseen }) (λ v seen sound done_. tt) (record {
                 next = cut_world w n f.slot.disk t.front t.pending;
                 stands = cut_stands (Err (NoMemory true)) e refl w st f t;
-                made = RunsShort.Widening user id to (node_seen a) f.slot.disk refl f.up (record { front = t.front; pending = t.pending; one = t.one; cut = t.cut; is = refl });
+                made = RunsShort.Widening user id to (node_seen a.mail) f.slot.disk refl f.up (record { front = t.front; pending = t.pending; one = t.one; cut = t.cut; is = refl });
                 stops = record { each = t.moved.stops };
-              };
+                follow = fall_follows on n P old new ch w.slots f.slot (record { life = plain.Life.Down t.pending; disk = f.slot.disk ++ t.front }) f.here (λ y up. let never : Down ≡ Up y = sym c.1 ∙ up in cc);
+              });
           cause = λ w st. tt;
         }
 
@@ -272,7 +292,7 @@ module _ {D : Type 0} (on : View D) (n to : ℕ) (user : List ℕ) (id : Id) (ol
               let f = found_up on n P old new ch ready a was w.slots st.slots in
               let m = read_there on n P old new ch ready a was w.slots st.slots (nothing_read on ch.disk ch.disk' c.0.1) f b c.1 c.0.0 in
               let same : with_slot w.slots n f.slot ≡ w.slots = slot_same w.slots n f.slot f.here in
-              record {
+              led on (Err (fault.NoMemory None)) (step.Widen n user id to) before behind (even_of old) (even_of new) w st (record { step_is = refl; said_is = refl; sees = λ unseen. unseen }) (λ v seen sound done_. tt) (record {
                 next = w;
                 stands = record {
                   slots = subst (λ slots. SlotsStand on new.lives.items new.disks.items slots) same m.stand;
@@ -283,7 +303,8 @@ module _ {D : Type 0} (on : View D) (n to : ℕ) (user : List ℕ) (id : Id) (ol
                 };
                 made = refl;
                 stops = record { each = λ k d d' x x' p q r t. m.stops k d d' x x' p q r (ap (λ slots. slot_at slots k) same ∙ t) };
-              };
+                follow = idle_follows on n P old new new ch (λ slots. slots) (only_none on new) w.slots f.slot f.here w.slots (λ k. refl) a b was c.1 (ap node_of (follows_so (Err (NoMemory false)) e));
+              });
           cause = λ w st. tt;
         }
 
@@ -313,11 +334,7 @@ module _ {D : Type 0} (on : View D) (n to : ℕ) (user : List ℕ) (id : Id) (ol
       leads = λ known ended w st.
           let (node, here) = up_of (step.Widen n user id to) (of_node old.lives.items n) tt (fit_of (list_all (is_node old.plan) (n ∷ to ∷ [])) (life_refusal (step.Widen n user id to) (life_among old n)) fit).1 in
           let (slot, found, (seen, up)) = slot_up_of on old n node here w.slots st.slots in
-          record {
-            next = w;
-            stands = st;
-            made = (inl (inl (widen_is_worn old.plan w n to user id slot seen named found up (ap (nat_le letters_end) (sym st.sent) ∙ late))), refl);
-            stops = same_stops on (state_with old flying seconds book) w st;
-          };
+          led_kept on (state_with old flying seconds book) (Err fault.Worn) (step.Widen n user id to) w st (record { step_is = refl; said_is = refl; sees = λ unseen. unseen }) (λ done. done)
+          (inl (inl (widen_is_worn old.plan w n to user id slot seen named found up (ap (nat_le letters_end) (sym st.sent) ∙ late))), refl);
       cause = λ w st. tt;
     }

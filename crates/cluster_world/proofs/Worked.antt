@@ -16,6 +16,7 @@ use Rattle.node_core.specs.Nodes.{node_seen, NodeKeeps, end_in}
 use Rattle.node_core.specs.Works.{Rule, NodeDid, NodeStopped}
 use Rattle.node_core.specs.Starting.{MayHold}
 use Rattle.node_core.specs.declared.node.Node.{Node}
+use Rattle.whole_node.specs.declared.node.WholeNode.{WholeNode}
 use Rattle.cluster_world.specs.Stands.{StandsUp, SlotStands}
 use Rattle.cluster_world.specs.Moments.{IsStopOf}
 use Rattle.cluster_world.specs.Works.{SlotTurned, SlotCut}
@@ -89,37 +90,37 @@ module _ {D : Type 0} (on : View D) (own : ℕ) (old : Node) (before after : D) 
       → IfSome (on.seen before) (λ _. Passed on.clock before after (IsStopOf own slot added))
   stops_are added adds = if_both (on.seen before) _ _ _ (λ images moments. passed on.clock before after _ _ (stop_is added images) moments) st.images adds
 
-module _ {D : Type 0} (on : View D) (own : ℕ) (rule : Rule) (old : Node) (before after : D) (slot : plain.Slot) where
+module _ {D : Type 0} (on : View D) (own : ℕ) (rule : Rule) (old : WholeNode) (before after : D) (slot : plain.Slot) where
   abbrev whole : List Record
-  whole = (rule (node_seen old) slot.disk).disk
+  whole = (rule (node_seen old.mail) slot.disk).disk
 
   abbrev Later : ℕ → List Record → Type 0
   Later end records = (c : List ℕ) → on.clock.is_image after c → EndsAt own c (payloads_of records) end
 
   -- each image has what was appended too
-  images_after : (added : List Record) (end : ℕ) → ((c : List ℕ) → on.clock.is_image before c → EndsAt own c (payloads_of slot.disk) (end_in old))
-      → AddsAll on.clock before after (end_in old) end (payloads_of added) → Later end (slot.disk ++ added)
+  images_after : (added : List Record) (end : ℕ) → ((c : List ℕ) → on.clock.is_image before c → EndsAt own c (payloads_of slot.disk) (end_in old.mail))
+      → AddsAll on.clock before after (end_in old.mail) end (payloads_of added) → Later end (slot.disk ++ added)
   images_after added end images all c image =
       let e = all c image in
       subst (λ xs. EndsAt own c xs end) (sym (payloads_more slot.disk added)) (e.is own (payloads_of slot.disk) (images e.base e.was))
 
   -- the node did its work, and is up
-  pub did_turned : (new : Node) (sent : List Letter) → NodeDid on rule old before new after sent → SlotStands on own (Up old) before slot
+  pub did_turned : (new : WholeNode) (sent : List Letter) → NodeDid on rule old.mail before new.mail after sent → SlotStands on own (Up old) before slot
       → SlotTurned on own rule (Up old) before (Up new) after sent slot
   did_turned new sent did (seen, is, st) =
       let grew : whole ≡ slot.disk ++ did.added = did.disk slot.disk st.keeps in
       record {
-        node = node_seen old;
+        node = node_seen old.mail;
         was = ap (λ l. record { life = l; disk = slot.disk }) (is ∙ ap plain.Life.Up (sym st.seen_is));
         stands = (
-          (rule (node_seen old) slot.disk).node,
+          (rule (node_seen old.mail) slot.disk).node,
           refl,
           record {
             seen_is = sym (did.node slot.disk st.keeps);
-            keeps = subst (λ xs. NodeKeeps xs new) (sym grew) (did.keeps slot.disk st.keeps);
-            tells = subst (λ xs. TellsJournal (on.seen after) own (payloads_of xs) (end_in new)) (sym grew) (did.appends.stand own slot.disk st.tells);
-            images = subst (λ xs. IfSome (on.seen after) (λ _. Later (end_in new) xs)) (sym grew)
-                (if_told (on.seen before) (on.seen after) _ did.appends.told (if_both (on.seen before) _ _ _ (images_after did.added (end_in new)) st.images did.appends.images));
+            keeps = subst (λ xs. NodeKeeps xs new.mail) (sym grew) (did.keeps slot.disk st.keeps);
+            tells = subst (λ xs. TellsJournal (on.seen after) own (payloads_of xs) (end_in new.mail)) (sym grew) (did.appends.stand own slot.disk st.tells);
+            images = subst (λ xs. IfSome (on.seen after) (λ _. Later (end_in new.mail) xs)) (sym grew)
+                (if_told (on.seen before) (on.seen after) _ did.appends.told (if_both (on.seen before) _ _ _ (images_after did.added (end_in new.mail)) st.images did.appends.images));
           },
         );
         out = did.out slot.disk st.keeps;
@@ -128,7 +129,7 @@ module _ {D : Type 0} (on : View D) (own : ℕ) (rule : Rule) (old : Node) (befo
           pending_is = inl refl;
           added = did.added;
           grew = append-nil whole ∙ grew ∙ ap (λ xs. xs ++ did.added) (sym (append-nil slot.disk));
-          stops = stops_are on own old before after slot seen st did.added did.appends.moments;
+          stops = stops_are on own old.mail before after slot seen st did.added did.appends.moments;
         };
       }
 
@@ -137,8 +138,8 @@ module _ {D : Type 0} (on : View D) (own : ℕ) (rule : Rule) (old : Node) (befo
   first_fit xs ys h = λ k d within. subst IsRecord (get_or_append_left xs ys d k within) (h k d (omega (arith, within, length-append xs ys)))
 
   -- each image has what was written, or what is pending too
-  images_cut : (front pending : List Record) → ((c : List ℕ) → on.clock.is_image before c → EndsAt own c (payloads_of slot.disk) (end_in old))
-      → ((c : List ℕ) → on.clock.is_image after c → IsEither on.clock before (end_in old) front pending c) → All IsRecord ((slot.disk ++ front) ++ pending)
+  images_cut : (front pending : List Record) → ((c : List ℕ) → on.clock.is_image before c → EndsAt own c (payloads_of slot.disk) (end_in old.mail))
+      → ((c : List ℕ) → on.clock.is_image after c → IsEither on.clock before (end_in old.mail) front pending c) → All IsRecord ((slot.disk ++ front) ++ pending)
       → MayHold on after own (slot.disk ++ front) pending
   images_cut front pending images all fit = record {
     images = λ c image. let e = all c image in e.is own slot.disk (images e.base e.was);
@@ -146,12 +147,12 @@ module _ {D : Type 0} (on : View D) (own : ℕ) (rule : Rule) (old : Node) (befo
   }
 
   -- it stopped in its work, and is down
-  pub cut_down : NodeStopped on rule old before after → SlotStands on own (Up old) before slot → SlotCut on own rule (Up old) before Down after slot
+  pub cut_down : NodeStopped on rule old.mail before after → SlotStands on own (Up old) before slot → SlotCut on own rule (Up old) before Down after slot
   cut_down stopped (seen, is, st) =
       let cut : IsWorkCut slot.disk whole stopped.front stopped.pending = stopped.cut slot.disk st.keeps in
       let stops = stopped.stops in
       record {
-        node = node_seen old;
+        node = node_seen old.mail;
         was = ap (λ l. record { life = l; disk = slot.disk }) (is ∙ ap plain.Life.Up (sym st.seen_is));
         front = stopped.front;
         pending = stopped.pending;
@@ -169,7 +170,7 @@ module _ {D : Type 0} (on : View D) (own : ℕ) (rule : Rule) (old : Node) (befo
           pending_is = inl refl;
           added = stopped.front ++ stopped.pending;
           grew = append_assoc slot.disk stopped.front stopped.pending ∙ ap (λ xs. xs ++ (stopped.front ++ stopped.pending)) (sym (append-nil slot.disk));
-          stops = stops_are on own old before after slot seen st (stopped.front ++ stopped.pending) stops.moments;
+          stops = stops_are on own old.mail before after slot seen st (stopped.front ++ stopped.pending) stops.moments;
         };
       }
     where

@@ -18,6 +18,7 @@ use Rattle.world_book.specs.declared.entry.Entry.TheVariants as entry
 use Rattle.cluster_world.specs.Changes.{ChangesNode, IsTurnedTo}
 use Rattle.cluster_world.specs.Flights.{InFlight}
 use Rattle.cluster_world.specs.Missing.{SentOff}
+use Rattle.whole_node.specs.Following.{FollowsCall}
 use Rattle.cluster_world.specs.Turning.{TurnsBy}
 use Rattle.cluster_world.specs.Unfinished.{said_of_fault, takes_down}
 use Rattle.cluster_world.specs.declared.life.Life.{Life}
@@ -31,7 +32,8 @@ use Rattle.cluster_world.specs.declared.fault.StepFault.TheVariants as fault
 -- node n, which is up, began it with its disk
 abbrev pub BeginsAt : {D : Type 0} → View D → (D → Type 0) → Plan → ℕ → ℕ → NodeCall → Result (Option Number × Outbox) NodeFault → Life → D → Life → D → Type 0
 BeginsAt on is_settled plan n seconds call result life disk life' disk' =
-    TurnsBy (λ result old before new after. NodeBegins on plan n seconds call old before new after result) result life disk life' disk'
+    TurnsBy on.seen (λ result old before new after. NodeBegins on plan n seconds call old before new after result) (λ result old before new after. FollowsCall on plan n seconds call result old before new after)
+    result life disk life' disk'
     × (LeavesUp result → is_settled disk → is_settled disk')
 
 -- the calls that have a rule in a plan of so many nodes: those that change mailboxes, and in a plan of one node all

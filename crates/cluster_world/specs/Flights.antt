@@ -1,11 +1,11 @@
 -- Letters in flight as a list in order of number, and what becomes of letters that are put in flight.
 use Rattle.std.specs.Prelude.{◌≡◌, ℕ, ◌+◌, ◌≤◌, ◌<◌, ◌^◌, List, [], ◌∷◌, ◌++◌, length, ⊤, Option, Some, None, slice_get, if◌then◌else◌}
 use Rattle.object_model.specs.Letters.{Letter}
-use Rattle.node_core.specs.Spelling.{CanBeTaken}
 use Rattle.node_core.specs.Weights.{weight_of}
 use Rattle.cluster_model.specs.Room.{Flight, octets_flying, has_room}
 use Rattle.cluster_model.specs.Steps.{letter_at}
 use Rattle.cluster_model.specs.Plain.{without_letter}
+use Rattle.cluster_world.specs.Hears.{CanBeHeard}
 
 -- what is in flight, and the number of the last letter that was sent
 pub record InFlight : Type 0 where
@@ -26,10 +26,15 @@ abbrev pub AreUpTo : ℕ → List Flight → Type 0
 AreUpTo n [] = ⊤
 AreUpTo n (flight ∷ flights) = (flight.number ≤ n) × AreUpTo n flights
 
+-- Letters in flight have rising numbers, and none is above the last.
+pub record AreInOrder (flying : InFlight) : Type 0 where
+  pub rising : NumbersRise flying.flights
+  pub drawn : AreUpTo flying.sent flying.flights
+
 -- its receiver can hear each
-abbrev pub AllCanBeHeard : List Flight → Type 0
-AllCanBeHeard [] = ⊤
-AllCanBeHeard (flight ∷ flights) = CanBeTaken flight.letter.body × AllCanBeHeard flights
+abbrev pub FlightsCanBeHeard : List Flight → Type 0
+FlightsCanBeHeard [] = ⊤
+FlightsCanBeHeard (flight ∷ flights) = CanBeHeard flight.letter × FlightsCanBeHeard flights
 
 -- The numbers rise and none is above the last; so many octets are in flight; and each letter can be heard.
 pub record FlightIsCounted (octets sent : ℕ) (flights : List Flight) : Type 0 where
@@ -37,7 +42,7 @@ pub record FlightIsCounted (octets sent : ℕ) (flights : List Flight) : Type 0 
   pub drawn : AreUpTo sent flights
   pub sum : octets ≡ octets_flying flights
   pub few : octets < 2 ^ 30
-  pub heard : AllCanBeHeard flights
+  pub heard : FlightsCanBeHeard flights
 
 -- what letters that are put in flight leave: those in flight, and those that found no room
 pub record PutDown : Type 0 where

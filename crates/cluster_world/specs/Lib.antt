@@ -1,7 +1,8 @@
+pub mod Forming
+pub mod Hears
 pub mod Flights
 pub mod Books
 pub mod Lives
-pub mod Stations
 pub mod Stands
 pub mod Seen
 pub mod Sums
@@ -17,6 +18,7 @@ pub mod Turning
 pub mod Missing
 pub mod Noting
 pub mod Ended
+pub mod Maps
 pub mod Steps
 pub mod Telling
 pub mod Sure
@@ -30,4 +32,7 @@ pub mod Begins
 pub mod Widens
 pub mod Pushes
 pub mod Posts
+pub mod Forms
 pub mod Runs
+pub mod Wholes
+pub mod Regroups

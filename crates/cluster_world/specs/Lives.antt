@@ -2,14 +2,15 @@
 use Rattle.std.specs.Prelude.{◌≡◌, ℕ, zero, suc, ◌+◌, Bool, true, false, List, [], ◌∷◌, Option, Some, None, slice_get, slice_set}
 use Rattle.mail_model.specs.Plan.{Plan}
 use Rattle.session_model.specs.Events.{NodeLife, NodeLife as life}
-use Rattle.node_core.specs.Nodes.{CanWork, IsNodeOf, node_seen}
-use Rattle.node_core.specs.declared.node.Node.{Node}
+use Rattle.node_core.specs.Nodes.{IsNodeOf, node_seen}
+use Rattle.whole_node.specs.Nodes.{WholeWorks}
+use Rattle.whole_node.specs.declared.node.WholeNode.{WholeNode}
 use Rattle.cluster_world.specs.declared.life.Life.{Life}
 use Rattle.cluster_world.specs.declared.life.Life.TheVariants.{Up, Down, Lost}
 
 -- how a node is
 abbrev pub life_seen : Life → NodeLife
-life_seen (Up node) = life.Up (node_seen node).boot
+life_seen (Up node) = life.Up (node_seen node.mail).boot
 life_seen Down = life.Down
 life_seen Lost = life.Lost
 
@@ -49,6 +50,6 @@ abbrev pub all_falls_left : List Life → ℕ
 all_falls_left [] = 0
 all_falls_left (life ∷ lives) = falls_left life + all_falls_left lives
 
--- a node that is up is that node of the plan, and can work with its disk
+-- A node that is up is that node of the plan, and can work with its disk; its maps know what the disk says is here.
 pub record CanWorkOn {D : Type 0} (seen : D → Option (List ℕ)) (plan : Plan) (lives : List Life) (disks : List D) : Type 0 where
-  pub each : (k : ℕ) (node : Node) (disk : D) → slice_get lives k ≡ Some (Up node) → slice_get disks k ≡ Some disk → IsNodeOf plan (suc k) node × CanWork (seen disk) node
+  pub each : (k : ℕ) (node : WholeNode) (disk : D) → slice_get lives k ≡ Some (Up node) → slice_get disks k ≡ Some disk → IsNodeOf plan (suc k) node.mail × WholeWorks (seen disk) node

@@ -1,6 +1,7 @@
 -- Mishaps of letters, noted at their tickets.
 use Rattle.mail_model.specs.Plan.{Plan}
-use Rattle.std.specs.Prelude.{◌≡◌, ℕ, List, [], ◌∷◌, Option}
+use Rattle.std.specs.Prelude.{◌≡◌, ℕ, List, [], ◌∷◌, Option, Some}
+use Rattle.whole_node.specs.declared.node.WholeNode.{WholeNode}
 use Rattle.object_model.specs.Letters.{Letter}
 use Rattle.object_model.specs.Mishaps.{MishapKind}
 use Rattle.cluster_model.specs.Cluster as plain
@@ -11,6 +12,7 @@ use Rattle.cluster_world.specs.Stands.{SlotsStand}
 use Rattle.cluster_world.specs.Worlds.{seen_life}
 use Rattle.object_model.specs.Mishaps.MishapKind.{Crowded}
 use Rattle.cluster_world.specs.Flights.{InFlight, put_down, taken_out}
+use Rattle.cluster_world.specs.declared.life.Life.TheVariants.{Up}
 use Rattle.cluster_world.specs.declared.nodes.Nodes.{Nodes}
 
 -- a mishap of each of these letters
@@ -23,6 +25,7 @@ pub record OnlyTickets {D : Type 0} (on : View D) (change : List plain.Slot → 
   pub plan : new.plan ≡ old.plan
   pub disks : new.disks.items ≡ old.disks.items
   pub lives : (n : ℕ) → seen_life (of_node new.lives.items n) ≡ seen_life (of_node old.lives.items n)
+  pub maps : (n : ℕ) (a b : WholeNode) → of_node old.lives.items n ≡ Some (Up a) → of_node new.lives.items n ≡ Some (Up b) → b.maps ≡ a.maps
   pub falls : all_falls_left new.lives.items ≡ all_falls_left old.lives.items
   pub slots : (slots : List plain.Slot) → SlotsStand on old.lives.items old.disks.items slots → SlotsStand on new.lives.items new.disks.items (change slots)
 

@@ -4,14 +4,15 @@ use Rattle.object_model.specs.Letters.{Number, Letter}
 use Rattle.object_model.specs.Mishaps.{MishapKind}
 use Rattle.cluster_model.specs.World.{other_end}
 use Rattle.node_tickets.specs.Standing.{befell_in}
-use Rattle.node_core.specs.Nodes.{node_seen, ChangesTickets}
+use Rattle.node_core.specs.Nodes.{node_seen}
 use Rattle.node_core.specs.Standing.{ticket_standing}
+use Rattle.cluster_world.specs.Asking.{HasTickets}
 use Rattle.cluster_world.specs.declared.life.Life.{Life}
 use Rattle.cluster_world.specs.declared.life.Life.TheVariants.{Up, Down, Lost}
 
 -- a node that is up counts it at the ticket, if that stands
 abbrev pub LifeNoted : MishapKind → ℕ → Number → Life → Life → Type 0
-LifeNoted kind at number (Up old) (Up new) = ChangesTickets (befell_in kind at number.seq (ticket_standing old number) (node_seen old).tickets) old new
+LifeNoted kind at number (Up old) (Up new) = HasTickets (befell_in kind at number.seq (ticket_standing old.mail number) (node_seen old.mail).tickets) old new
 LifeNoted kind at number Down Down = ⊤
 LifeNoted kind at number Lost Lost = ⊤
 LifeNoted kind at number old new = ⊥

@@ -5,10 +5,12 @@ use Rattle.io_edge.specs.Octets.{IsToldAlike}
 use Rattle.mail_model.specs.Plan.{Plan}
 use Rattle.cluster_model.specs.WorldLaws.{opening_world}
 use Rattle.node_store.specs.Disks.{View}
-use Rattle.node_core.specs.First.{IsFirst}
-use Rattle.node_core.specs.declared.node.Node.{Node}
+use Rattle.whole_node.specs.declared.node.WholeNode.{WholeNode}
+use Rattle.whole_world.specs.First.{first_world}
+use Rattle.whole_node.specs.Starting.{first_map, IsFirstWhole}
 use Rattle.cluster_world.specs.Lives.{of_node}
-use Rattle.cluster_world.specs.Worlds.{state_of, plan_of, disks_of, steps_of, CanMakeSteps, StandsFor}
+use Rattle.cluster_world.specs.Worlds.{state_of, plan_of, lives_of, disks_of, steps_of, CanMakeSteps, StandsFor}
+use Rattle.cluster_world.specs.Maps.{AreMaps}
 use Rattle.cluster_world.specs.Steps.{AreSettled}
 use Rattle.cluster_world.specs.declared.life.Life.{Life}
 use Rattle.cluster_world.specs.declared.life.Life.TheVariants.{Up}
@@ -23,6 +25,7 @@ pub record CanBeOpened (plan : Plan) : Type 0 where
   pub confirmed : 1 ≤ plan.confirm
   pub copied : plan.confirm ≤ plan.copies
   pub spread : plan.copies ≤ plan.nodes
+  pub bucketed : 1 ≤ plan.buckets
 
 -- each disk is empty, where it tells what it holds
 pub record AreEmpty {D : Type 0} (seen : D → Option (List ℕ)) (disks : List D) : Type 0 where
@@ -33,11 +36,12 @@ pub record AreHandedOn {D : Type 0} (seen : D → Option (List ℕ)) (old new : 
   pub count : length new ≡ length old
   pub told : (k : ℕ) (disk disk' : D) → slice_get old k ≡ Some disk → slice_get new k ≡ Some disk' → IsToldAlike (seen disk) (seen disk')
 
--- The world is where a cluster begins: each node is up in its first boot, and nothing has been done.
+-- The world is where a cluster begins: each node is up in its first boot and in the first epoch, which its disk promised, and nothing has been done.
 pub record IsAtBeginning {D : Type 0} (on : View D) (plan : Plan) (world : World D) : Type 0 where
   pub plan_is : plan_of world ≡ plan
   pub steps : steps_of world ≡ 0
-  pub stands : StandsFor on world (opening_world plan.nodes)
+  pub stands : StandsFor on world (opening_world plan.nodes (first_map plan))
+  pub maps : AreMaps (lives_of world) (first_world plan.nodes (first_map plan)).slots
   pub ready : CanMakeSteps on.seen world
 
 -- a world was opened over the disks of its plan
@@ -59,11 +63,11 @@ pub record Refused {D : Type 0} (on : View D) (fault : OpenFault) (old new : Lis
   pub cause : OpenFails on.faults fault old new
 
 module _ {D : Type 0} (on : View D) (is_settled : D → Type 0) (plan : Plan) where
-  -- node n is up in its first boot, and its disk has the record of it alone
+  -- node n is up in its first boot and in the first epoch, and its disk has the records of both alone
   pub record IsOpenedOn (n : ℕ) (life : Life) (before after : D) : Type 0 where
-    pub node : Node
+    pub node : WholeNode
     pub is : life ≡ Up node
-    pub first : IsFirst on plan n before after node
+    pub first : IsFirstWhole on plan n before after node
     pub settled : is_settled after
     pub told : IsToldAlike (on.seen before) (on.seen after)
 

@@ -1,6 +1,6 @@
 -- The steps that the lines of a tape lead to in a world, one after another, and what came of each. Of them what a cluster owes is read off: what it was asked, and
 -- what it answered.
-use Rattle.std.specs.Prelude.{◌≡◌, ℕ, zero, suc, ◌+◌, Bool, true, false, not, nat_eq, List, [], ◌∷◌, ◌++◌, filter, ⊤, MatchBool, Option, Some, None, Result, Ok, Err, if◌then◌else◌}
+use Rattle.std.specs.Prelude.{◌≡◌, ◌⊎◌, ℕ, zero, suc, ◌+◌, Bool, true, false, not, nat_eq, List, [], ◌∷◌, ◌++◌, filter, ⊤, MatchBool, Option, Some, None, Result, Ok, Err, if◌then◌else◌}
 use Rattle.mail_model.specs.Tape.{ClusterOrder}
 use Rattle.mail_model.specs.Tape.{ClusterOrder as order}
 use Rattle.session_model.specs.Sums.{BookSum, sum_of}
@@ -162,6 +162,14 @@ pub record PushesAll (nodes : ℕ) (life : NodeLife) (node : ℕ) (steps : List 
   pub up : IsUp life → PushesTo node (nodes_but node nodes 1) steps
   pub else_none : (IsUp life → ⊥) → steps ≡ []
 
+-- a step that a regroup at this node makes
+abbrev pub IsOfRegroup : ℕ → StepMade → Type 0
+IsOfRegroup n one = (one.step ≡ step.Group n) ⊎ (one.step ≡ step.Conclude n) ⊎ IsPost one
+
+abbrev pub AreOfRegroup : ℕ → List StepMade → Type 0
+AreOfRegroup n [] = ⊤
+AreOfRegroup n (one ∷ more) = IsOfRegroup n one × AreOfRegroup n more
+
 -- this one step was made
 abbrev pub MakesOne : {D : Type 0} → View D → Step → List StepMade → World D → World D → Type 0
 MakesOne on step steps old new = (result : Result Said StepFault) × (steps ≡ record { step = step; result = result } ∷ []) × IsStep on result step old new
@@ -178,6 +186,9 @@ MakesOrder on order.Flow steps old new = PostsAll on steps old new
 MakesOrder on (order.Push node) steps old new = PushesAll (plan_of old).nodes (life_of old node) node steps × MakesSteps on steps old new
 MakesOrder on (order.Widen at user id to) steps old new = MakesOne on (step.Widen at user id to) steps old new
 MakesOrder on (order.Tick seconds) steps old new = MakesOne on (step.Tick seconds) steps old new
+MakesOrder on (order.Group node) steps old new = MakesOne on (step.Group node) steps old new
+MakesOrder on (order.Conclude node) steps old new = MakesOne on (step.Conclude node) steps old new
+MakesOrder on (order.Regroup node) steps old new = AreOfRegroup node steps × MakesSteps on steps old new
 MakesOrder on order.Sum steps old new = (steps ≡ []) × (new ≡ old)
 
 -- a refusal after which the world is as it was

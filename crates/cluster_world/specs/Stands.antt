@@ -24,7 +24,7 @@ module _ {D : Type 0} (on : View D) (own : ℕ) where
   DiskHolds disk records pending = IfSome (on.seen disk) (λ _. MayHold on disk own records pending)
 
   abbrev pub SlotStands : Life → D → plain.Slot → Type 0
-  SlotStands (Up node) disk slot = (seen : plain.Node) × (slot.life ≡ plain.Life.Up seen) × StandsUp node disk seen slot.disk
+  SlotStands (Up node) disk slot = (seen : plain.Node) × (slot.life ≡ plain.Life.Up seen) × StandsUp node.mail disk seen slot.disk
   SlotStands Down disk slot = (pending : List Record) × (slot.life ≡ plain.Life.Down pending) × All IsRecord (slot.disk ++ pending) × DiskHolds disk slot.disk pending
   SlotStands Lost disk slot = (slot.life ≡ plain.Life.Lost) × All IsRecord slot.disk × IfSome (on.seen disk) (λ held. IsJournal own held (payloads_of slot.disk))
 

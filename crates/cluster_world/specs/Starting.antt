@@ -7,7 +7,8 @@ use Rattle.node_store.specs.Disks.{View}
 use Rattle.node_core.specs.Nodes.{node_seen}
 use Rattle.node_core.specs.Starting.{NodeStarts}
 use Rattle.node_core.specs.declared.fault.NodeFault.{NodeFault}
-use Rattle.node_core.specs.declared.node.Node.{Node}
+use Rattle.whole_node.specs.Restarting.{WholeNodeStarted}
+use Rattle.whole_node.specs.declared.node.WholeNode.{WholeNode}
 use Rattle.world_book.specs.declared.entry.Entry.{Entry}
 use Rattle.world_book.specs.declared.entry.Entry.TheVariants as entry
 use Rattle.cluster_world.specs.declared.life.Life.{Life}
@@ -28,15 +29,15 @@ entries_of_start n (Ok boot) = entry.Up n boot ∷ []
 entries_of_start n (Err why) = entries_of_fault n why
 
 -- a node is up in this boot
-pub record IsUpIn (boot : ℕ) (node : Node) (life : Life) : Type 0 where
+pub record IsUpIn (boot : ℕ) (node : WholeNode) (life : Life) : Type 0 where
   pub is : life ≡ Up node
-  pub boot_is : boot ≡ (node_seen node).boot
+  pub boot_is : boot ≡ (node_seen node.mail).boot
   pub small : boot ≤ greatest_boot
 
 module _ {D : Type 0} (on : View D) (plan : Plan) (n : ℕ) where
   -- the node is up, or still down
   abbrev pub ComesToThis : Result ℕ NodeFault → D → Life → D → Type 0
-  ComesToThis (Ok boot) disk life' disk' = (node : Node) × IsUpIn boot node life' × NodeStarts on plan n disk disk' (Ok node)
+  ComesToThis (Ok boot) disk life' disk' = (node : WholeNode) × IsUpIn boot node life' × WholeNodeStarted on plan n disk disk' node
   ComesToThis (Err why) disk life' disk' = (life' ≡ Down) × NodeStarts on plan n disk disk' (Err why)
 
   -- a node that was down was to start

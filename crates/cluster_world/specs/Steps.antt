@@ -1,11 +1,16 @@
 -- What is known of each step of a world.
-use Rattle.std.specs.Prelude.{◌≡◌, ◌≢◌, ◌⊎◌, ℕ, ◌≤◌, ◌<◌, true, false, List, length, Option, Some, None, ⊤, IfOk, Result, Ok, Err}
+use Rattle.std.specs.Prelude.{◌≡◌, ◌≢◌, ◌⊎◌, ℕ, ◌≤◌, ◌<◌, Bool, true, false, List, length, Option, Some, None, ⊤, IfOk, Result, Ok, Err}
 use Rattle.io_edge.specs.Causes.{Rose}
 use Rattle.io_edge.specs.Octets.{IsToldAlike}
 use Rattle.cluster_model.specs.Cluster as plain
 use Rattle.cluster_model.specs.Cluster.{slot_at}
 use Rattle.cluster_model.specs.World as machine
 use Rattle.cluster_model.specs.Makes.{MakesStep}
+use Rattle.mail_model.specs.Plan.{Plan}
+use Rattle.whole_world.specs.World as whole_world
+use Rattle.whole_world.specs.World.{mail_world_of}
+use Rattle.whole_world.specs.Laws.{Stands}
+use Rattle.whole_world.specs.Makes as whole_makes
 use Rattle.node_store.specs.Disks.{View}
 use Rattle.node_core.specs.Works.{IsOnlyRead}
 use Rattle.call_tickets.specs.declared.call.Call.{Call}
@@ -15,15 +20,17 @@ use Rattle.session_model.specs.Events.NodeLife.{Up}
 use Rattle.cluster_world.specs.Books.{IsLongerBook}
 use Rattle.cluster_world.specs.Flights.{weight_of_flights}
 use Rattle.cluster_world.specs.Worlds.{WorldState, state_of, life_in, node_in, disk_in, tells_in, steps_of, one_more, StateStandsFor}
-use Rattle.cluster_world.specs.Seen.{step_seen, outcome_seen}
+use Rattle.cluster_world.specs.Seen.{step_seen, outcome_seen, whole_step, whole_outcome}
+use Rattle.cluster_world.specs.Maps.{AreMaps}
 use Rattle.cluster_world.specs.Ended.{IsEnded}
 use Rattle.cluster_world.specs.Turns.{node_refusal, refused_for_node, life_after_step, seconds_after_step}
 use Rattle.cluster_world.specs.Moments.{StopsKeep}
+use Rattle.cluster_world.specs.declared.life.Life.{Life}
 use Rattle.cluster_world.specs.declared.world.World.{World}
 use Rattle.cluster_world.specs.declared.step.Step.{Step}
-use Rattle.cluster_world.specs.declared.step.Step.TheVariants.{Begin, Ask, GiveUp, Post, Drop, Push, Widen, Crash, Start, Lose, Tick}
+use Rattle.cluster_world.specs.declared.step.Step.TheVariants.{Begin, Ask, GiveUp, Post, Drop, Push, Widen, Group, Conclude, Crash, Start, Lose, Tick}
 use Rattle.cluster_world.specs.declared.step.Said.{Said}
-use Rattle.cluster_world.specs.declared.step.Said.TheVariants.{Begun, Noted, Asked, Heard, Thrown, Sent, Widened, NodeUp, Done, Faulted}
+use Rattle.cluster_world.specs.declared.step.Said.TheVariants.{Begun, Noted, Asked, Heard, Thrown, Sent, Widened, Grouped, Concluded, NodeUp, Done, Faulted}
 use Rattle.cluster_world.specs.declared.fault.StepFault.{StepFault}
 use Rattle.cluster_world.specs.declared.fault.StepFault.TheVariants.{NoMemory}
 
@@ -42,12 +49,21 @@ pub record EveryStopKeeps {D : Type 0} (on : View D) (old new : WorldState D) (b
   pub each : (n : ℕ) (disk disk' : D) (slot slot' : plain.Slot) → disk_in old n ≡ Some disk → disk_in new n ≡ Some disk' → slot_at before n ≡ Some slot → slot_at after n ≡ Some slot' → slot.life ≢ plain.Life.Lost
       → StopsKeep on n disk disk' slot slot'
 
--- The step leads from a world of the machine to one for which the new world stands.
+-- As the whole machine has it: the step leads to a world that messages see as this next one, and that has the maps of these nodes.
+pub record LeadsWhole (plan : Plan) (tells : Bool) (result : Result Said StepFault) (step : Step) (lives : List Life) (v : whole_world.World) (next : machine.World) : Type 0 where
+  pub now : whole_world.World
+  pub seen : mail_world_of now ≡ next
+  pub maps : AreMaps lives now.slots
+  pub made : whole_makes.MakesStep plan tells v (whole_step step) (whole_outcome result) now
+
+-- The step leads from a world of the machine to one for which the new world stands. So it does from each sound world of the whole machine that messages see so, and that has the maps of the
+-- nodes: to one that they see as the very same next.
 pub record LeadsTo {D : Type 0} (on : View D) (result : Result Said StepFault) (step : Step) (old new : WorldState D) (w : machine.World) : Type 0 where
   pub next : machine.World
   pub stands : StateStandsFor on new next
   pub made : MakesStep old.plan (tells_in on.seen old) w (step_seen step) (outcome_seen result) next
   pub stops : EveryStopKeeps on old new w.slots next.slots
+  pub whole : (v : whole_world.World) → mail_world_of v ≡ w → Stands old.plan v → AreMaps old.lives v.slots → LeadsWhole old.plan (tells_in on.seen old) result step new.lives v next
 
 -- whether each disk tells what it holds has not changed
 pub record AreToldAlike {D : Type 0} (seen : D → Option (List ℕ)) (old new : WorldState D) : Type 0 where
@@ -72,6 +88,8 @@ MayMisread (Post letter keep) = ⊥
 MayMisread (Drop letter) = ⊥
 MayMisread (Push from to) = ⊤
 MayMisread (Widen at user id to) = ⊥
+MayMisread (Group node) = ⊥
+MayMisread (Conclude node) = ⊥
 MayMisread (Crash node) = ⊥
 MayMisread (Start node) = ⊤
 MayMisread (Lose node) = ⊥
@@ -114,6 +132,10 @@ SaysSo (Push from to) (Sent letters) = ⊤
 SaysSo (Push from to) (Faulted failed) = failed ≡ from
 SaysSo (Widen at user id to) (Widened did) = ⊤
 SaysSo (Widen at user id to) (Faulted failed) = failed ≡ at
+SaysSo (Group node) (Grouped epoch) = ⊤
+SaysSo (Group node) (Faulted failed) = failed ≡ node
+SaysSo (Conclude node) (Concluded epoch members) = ⊤
+SaysSo (Conclude node) (Faulted failed) = failed ≡ node
 SaysSo (Crash node) Done = ⊤
 SaysSo (Start node) (NodeUp boot) = ⊤
 SaysSo (Start node) (Faulted failed) = failed ≡ node
@@ -144,8 +166,8 @@ reader_in (Push from to) = Some from
 reader_in (Start node) = Some node
 reader_in step = None
 
--- Nothing was changed: no node in what it has in memory, no disk, no letter in flight, no second and no entry of the book. A disk may have been read, that of one node; a start reads
--- all of it again, and what it may then hold is said by the machine.
+-- Nothing was changed: no node in what it has in memory for messages, no disk, no letter in flight, no second and no entry of the book. A disk may have been read, that of one node; a
+-- start reads all of it again, and what it may then hold is said by the machine. That its maps are still those of the world is said by LeadsWhole.
 pub record IsUnchanged {D : Type 0} (on : View D) (step : Step) (old new : WorldState D) : Type 0 where
   pub nodes : (n : ℕ) → node_in new n ≡ node_in old n
   pub disks : (n : ℕ) (disk disk' : D) → disk_in old n ≡ Some disk → disk_in new n ≡ Some disk' → (reader_in step ≡ Some n → ⊥) → disk' ≡ disk

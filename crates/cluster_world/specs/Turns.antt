@@ -43,6 +43,7 @@ is_for_node fault.NodeDown = Some fault.NodeDown
 is_for_node fault.NodeUp = Some fault.NodeUp
 is_for_node fault.NoSuchLetter = None
 is_for_node fault.NoSuchTicket = None
+is_for_node fault.NotAGroup = None
 is_for_node fault.Worn = None
 is_for_node fault.NoRoom = None
 is_for_node (fault.NoMemory down) = None

@@ -6,6 +6,8 @@ use Rattle.node_core.specs.Pushing.{WidensCopy}
 use Rattle.node_core.specs.Works.{LeavesUp}
 use Rattle.node_core.specs.declared.fault.NodeFault.{NodeFault}
 use Rattle.world_book.specs.declared.entry.Entry.{Entry}
+use Rattle.cluster_model.specs.Rules.{widen}
+use Rattle.whole_node.specs.Following.{FollowsRule}
 use Rattle.cluster_world.specs.Turning.{TurnsBy}
 use Rattle.cluster_world.specs.Unfinished.{said_of_fault, entries_of_fault}
 use Rattle.cluster_world.specs.declared.life.Life.{Life}
@@ -24,4 +26,6 @@ entries_of_widening n (Err why) = entries_of_fault n why
 -- node n, which is up, gave the copy the target
 abbrev pub WidensAt : {D : Type 0} → View D → (D → Type 0) → ℕ → ℕ → Key → Result Bool NodeFault → Life → D → Life → D → Type 0
 WidensAt on is_settled n to key result life disk life' disk' =
-    TurnsBy (λ result old before new after. WidensCopy on n to key old before new after result) result life disk life' disk' × (LeavesUp result → is_settled disk → is_settled disk')
+    TurnsBy on.seen (λ result old before new after. WidensCopy on n to key old before new after result) (λ result old before new after. FollowsRule (λ node disk. widen n to key node disk) result old new)
+    result life disk life' disk'
+    × (LeavesUp result → is_settled disk → is_settled disk')

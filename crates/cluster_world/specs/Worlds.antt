@@ -51,9 +51,9 @@ life_among nodes n = seen_life (of_node nodes.lives.items n)
 abbrev pub life_in : {D : Type 0} → WorldState D → ℕ → NodeLife
 life_in state n = seen_life (of_node state.lives n)
 
--- what a node that is up has in memory, in the machine's words
+-- what a node that is up has in memory for messages, in the machine's words
 abbrev pub node_of_life : Option Life → Option plain.Node
-node_of_life (Some (Up node)) = Some (node_seen node)
+node_of_life (Some (Up node)) = Some (node_seen node.mail)
 node_of_life life = None
 
 abbrev pub node_in : {D : Type 0} → WorldState D → ℕ → Option plain.Node

@@ -17,9 +17,11 @@ pub enum StepFault {
     NoSuchLetter,
     /// The ticket does not stand.
     NoSuchTicket,
+    /// The node has no group open.
+    NotAGroup,
     /// A number that the step needs is used up.
     Worn,
-    /// Not even the first letter that is due finds room.
+    /// Not even the first letter that is due finds room; of a group, not all of them do.
     NoRoom,
     /// Out of memory. The world is as it was; or this node is down, with some of the step's records on its disk.
     NoMemory {

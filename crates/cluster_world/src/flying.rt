@@ -5,8 +5,9 @@ ghost use Rattle.std.specs.VecDeque.{deque_len, deque_capacity};
 ghost use Rattle.cluster_model.specs.Room.{fits, octets_flying, octets_of};
 ghost use Rattle.cluster_model.specs.Steps.{letter_at, letters_end};
 ghost use Rattle.cluster_model.specs.Plain.{without_letter};
-ghost use Rattle.node_core.specs.Spelling.{CanBeTaken, AllCanBeTaken};
-ghost use Rattle.cluster_world.specs.Flights.{NumbersRise, FlightIsCounted, put_one, put_all, put_down, flights_without, taken_out, HasAt, first_number};
+ghost use Rattle.cluster_world.specs.Regroups.{has_room_for_rounds};
+ghost use Rattle.cluster_world.specs.Hears.{CanBeHeard, AllCanBeHeard};
+ghost use Rattle.cluster_world.specs.Flights.{NumbersRise, AreInOrder, FlightIsCounted, put_one, put_all, put_down, flights_without, taken_out, HasAt, first_number};
 
 use crate::flight::{Flight, octets_of};
 use crate::limits::{LETTERS_END, MOST_LETTERS, MOST_OCTETS};
@@ -114,7 +115,7 @@ fn put_one(
     requires numbers { sent.old + 1 < 2 ^ 64 }
     requires room { deque_len flights.old < deque_capacity flights.old }
     requires spare { vec_len left.old < vec_capacity left.old }
-    requires heard { CanBeTaken letter.body }
+    requires heard { CanBeHeard letter }
     ensures counted { FlightIsCounted octets.new sent.new flights.new.items }
     ensures put { (record { flying = record { flights = flights.new.items; sent = sent.new }; left = left.new.items }) ≡ put_one letter (record { flying = record { flights = flights.old.items; sent = sent.old }; left = left.old.items }) }
     ensures len { deque_len flights.new ≤ deque_len flights.old + 1 }
@@ -144,7 +145,7 @@ fn put_all(
     requires numbers { sent.old + length letters.items < 2 ^ 64 }
     requires room { deque_len flights.old + length letters.items ≤ deque_capacity flights.old }
     requires spare { vec_len left.old + length letters.items ≤ vec_capacity left.old }
-    requires heard { AllCanBeTaken letters.items }
+    requires heard { AllCanBeHeard letters.items }
     ensures counted { FlightIsCounted octets.new sent.new flights.new.items }
     ensures put { (record { flying = record { flights = flights.new.items; sent = sent.new }; left = left.new.items }) ≡ put_all letters.items (record { flying = record { flights = flights.old.items; sent = sent.old }; left = left.old.items }) }
 {
@@ -186,6 +187,17 @@ impl Flying {
         self.octets
     }
 
+    /// Whether there is room for all letters of a regroup of so many nodes.
+    pub(crate) fn has_room_for_rounds(&self, nodes: u8) -> bool
+        requires { nodes ≤ 16 }
+        ensures room { result ≡ has_room_for_rounds nodes self.now.flights }
+        ensures order { AreInOrder self.now }
+    {
+        let letters = 6 * usize::from(nodes);
+        self.flights.len() <= MOST_LETTERS - letters
+            && self.octets <= MOST_OCTETS - 64 * letters as u64
+    }
+
     /// The lowest number of a letter in flight.
     pub(crate) fn first(&self) -> Option<u64>
         ensures { result ≡ first_number self.now.flights }
@@ -196,7 +208,8 @@ impl Flying {
     /// The letter of this number, if it is in flight.
     pub(crate) fn letter(&self, number: u64) -> Option<&Letter>
         ensures is { option_copied result ≡ letter_at number self.now.flights }
-        ensures heard { IfSome result (λ letter. CanBeTaken letter.now.body) }
+        ensures heard { IfSome result (λ letter. CanBeHeard letter.now) }
+        ensures order { AreInOrder self.now }
     {
         let place = place_in(&self.flights, number)?;
         let flight = self.flights.get(place)?;
@@ -221,7 +234,7 @@ impl Flying {
         letters: Vec<Letter>,
         posted: Option<u64>,
     ) -> Result<Vec<Letter>, AllocError>
-        requires heard { AllCanBeTaken letters.items }
+        requires heard { AllCanBeHeard letters.items }
         ensures ok { IfOk result (λ left. put_down letters.items (taken_out posted self.old) ≡ record { flying = self.new; left = left.items }) }
         ensures err { OnErr result (self.new ≡ self.old) }
     {

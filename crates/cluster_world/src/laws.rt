@@ -3,6 +3,7 @@ ghost use Rattle.node_store.specs.Disks.{view_of};
 ghost use Rattle.cluster_world.specs.Chains.{MakesMore, StepsAreCounted, PlanStays, LaterAfter};
 ghost use Rattle.cluster_world.specs.Owing.{WorldOwes, NonePending};
 ghost use Rattle.cluster_world.specs.Lasting.{PendingHasLetter, ConfirmedInEveryImage};
+ghost use Rattle.cluster_world.specs.Wholes.{WorldIsWhole, OneMapPerEpoch};
 
 use io_edge::Disk;
 
@@ -44,4 +45,14 @@ pub fn pending_has_letter<D: Disk>()
 /// Whatever a stop of the machine leaves at any moment of a step has what was confirmed.
 pub fn confirmed_in_every_image<D: Disk>()
     ensures { ConfirmedInEveryImage (view_of D.seen D.faults D.clock) }
+{}
+
+/// A world that was driven stands for a sound one of the whole machine.
+pub fn world_is_whole<D: Disk>()
+    ensures { WorldIsWhole (view_of D.seen D.faults D.clock) }
+{}
+
+/// All memberships of one epoch are equal.
+pub fn one_map_per_epoch<D: Disk>()
+    ensures { OneMapPerEpoch (view_of D.seen D.faults D.clock) }
 {}

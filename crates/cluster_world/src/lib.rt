@@ -3,8 +3,8 @@
 //! SUMMARY
 //!
 //! A `World` is all that a cluster holds: the nodes of a plan, each with its disk, the letters in flight, and a `Book` of what
-//! was acknowledged. `open` makes one over empty disks, one for each node, in order. `step` makes one step, `run` several, and
-//! `flow` posts letters until none is in flight. `close` hands the disks back. `plan`, `book`, `is_up`, `is_lost`, `boot`,
+//! was acknowledged. `open` makes one over empty disks, one for each node, in order. `step` makes one step, `run` several,
+//! `flow` posts letters until none is in flight, and `regroup` forms an epoch of the nodes that are up. `close` hands the disks back. `plan`, `book`, `is_up`, `is_lost`, `boot`,
 //! `members`, `kind`, `filing`, `flying`, `seconds` and `sum` tell what the world has, take no memory, and change nothing.
 //!
 //! DESCRIPTION
@@ -20,15 +20,18 @@
 //! | `Drop` | a letter is taken out of flight |
 //! | `Push` | a node sends what it owes to another: the first 64 states, as far as there is room |
 //! | `Widen` | a copy that is on a node's disk gets a target more |
+//! | `Group` | a node opens a group: it promises the next epoch, which is recorded, and asks every other node of the plan |
+//! | `Conclude` | a node concludes the group that it has open: those that joined are the members, and each of them is told |
 //! | `Crash` | a node stops; what is on its disk stays |
-//! | `Start` | a node that is down starts over its disk, in its next boot |
+//! | `Start` | a node that is down starts over its disk, in its next boot, and has no epoch until a group lets it in |
 //! | `Lose` | a node loses its disk for good |
 //! | `Tick` | the clock is set, forward or back; a message has the seconds of the clock as its call begins |
 //!
 //! A letter gets the next number as it is sent, from 1. At most 65,536 letters are in flight, of 536,870,912 octets together,
 //! where a letter counts for 64 octets and those of the message that it carries. One that finds no room is not sent: that is a
 //! mishap of its ticket, as it is where a letter is dropped, is posted to a node that is not up or has another epoch, or takes
-//! its receiver down. A mishap is counted at the ticket, where that stands.
+//! its receiver down. A mishap is counted at the ticket, where that stands. Letters of membership and maps have no ticket. Each
+//! letter in flight is one that its receiver can hear (`CanBeHeard` in `specs/Hears.antt`).
 //!
 //! The book has an entry for each user's copy that was acknowledged, for each that is to be deleted and for each whose deletion
 //! was confirmed, and one wherever a node went down, came up or was lost. It only grows.
@@ -47,6 +50,15 @@
 //! whatever the order of its calls and whatever becomes of letters and nodes, the law `world_owes` says what the cluster owes of
 //! the calls that it was asked and of those that it answered, and that it has it.
 //!
+//! A node that is up is a whole one, with its maps. Of each world of `whole_world` that the old world stands for, a step leads to
+//! one that `MakesStep` of `whole_world` allows, and the new world stands for it (`LeadsWhole` in `specs/Steps.antt`). So a world
+//! that was driven stands for a sound world of the whole machine (the law `world_is_whole`), and all memberships of one epoch
+//! that its nodes have installed, or that are on their way, are equal (`one_map_per_epoch`).
+//!
+//! `HasRegrouped` in `specs/Regroups.antt` says which steps a regroup makes, in which order, and with which it stops. Where it
+//! formed an epoch in a world that stands for a sound one of the whole machine, just the nodes that were up are its members, each
+//! is up in the boot it was in, and each has installed the epoch (`HasFormed`).
+//!
 //! DIAGNOSTICS
 //!
 //! A step that is refused says the first of these that applies:
@@ -55,8 +67,9 @@
 //! - `NodeLost`, `NodeDown`, `NodeUp`: the node that is to act, to stop, to start or to be lost is not as the step needs it.
 //! - `NoSuchLetter`: the letter is not in flight.
 //! - `NoSuchTicket`: the ticket does not stand.
+//! - `NotAGroup`: the node has no group open that it could conclude.
 //! - `Worn`: a number that the step needs is used up. No letter is sent from the number 2^64 - 2^32 on.
-//! - `NoRoom`: letters are due, and not even the first finds room.
+//! - `NoRoom`: letters are due, and not even the first finds room; of a group or its conclusion, not all of them do.
 //! - `NoMemory`: memory ran out. It may come before a refusal is found.
 //!
 //! All but `NoMemory` leave the world as it was. `NoMemory` does too where it names no node. A node that it names is down, with
@@ -65,7 +78,7 @@
 //! `Said::Faulted` says that the disk of a node failed in the step: its count of faults rose, or octets that were read are not
 //! those of the node's records, over a disk that does not tell what it holds. The node is down, and the book has that.
 //!
-//! A refused `run` or `flow` leaves what its earlier steps did.
+//! A refused `run`, `flow` or `regroup` leaves what its earlier steps did. A regroup for which there is no room makes no step.
 //!
 //! COSTS
 //!
@@ -84,16 +97,14 @@
 //! WHAT IT DOES NOT DO
 //!
 //! Its clock stands still between two ticks, and shows 0 before the first. It sends nothing by itself, tries nothing again, and
-//! starts no node that is down. All nodes of the plan are the members, in the one epoch of a plan. In a plan of several nodes the calls of a
-//! POP3 session are not begun yet. Each node that is up has its mail maps, which follow what its disk says is here; no letter of
-//! membership or maps is sent yet, and no clause speaks of them.
+//! starts no node that is down. In a plan of several nodes the calls of a POP3 session are not begun yet. No row of a map is
+//! reported yet.
 #![tactic(auto)]
 
 mod entries;
 mod fault;
 mod flight;
 mod flying;
-mod held;
 mod laws;
 mod life;
 mod limits;
@@ -101,9 +112,9 @@ mod mishaps;
 mod nodes;
 mod opening;
 mod refusal;
+mod regrouping;
 mod running;
 mod sending;
-mod station;
 mod step;
 mod steps;
 mod sum;
@@ -112,7 +123,11 @@ mod working;
 mod world;
 
 pub use fault::{OpenFault, StepFault};
-pub use laws::{later_after, makes_more, none_pending, plan_stays, steps_are_counted, world_owes};
+pub use laws::{
+    later_after, makes_more, none_pending, one_map_per_epoch, plan_stays, steps_are_counted,
+    world_is_whole, world_owes,
+};
+pub use regrouping::Regroup;
 pub use step::{Said, Step};
 pub use sum::BookSum;
 pub use world::World;

@@ -1,49 +1,38 @@
 //! Mishaps of letters, which are noted at their tickets.
 ghost use Rattle.std.specs.Prelude.{◌≡◌, ℕ, Some, slice_get};
 ghost use Rattle.node_core.specs.Nodes.{IsWhole};
-ghost use Rattle.node_core.specs.declared.node.Node.{Node as ANode};
+ghost use Rattle.whole_node.specs.declared.node.WholeNode.{WholeNode as AWholeNode};
 ghost use Rattle.node_tickets.specs.Seen.{kind_of_mishap};
 ghost use Rattle.node_store.specs.Disks.{view_of};
 ghost use Rattle.cluster_model.specs.World.{missed};
 ghost use Rattle.cluster_world.specs.Lives.{CanWorkOn};
 ghost use Rattle.cluster_world.specs.Missing.{all_missed, Noticed};
 ghost use Rattle.cluster_world.specs.Noting.{LifeNoted, LivesNoted, LettersNoted};
-ghost use Rattle.cluster_world.specs.Stations.{life_of_held, HoldsMaps};
-ghost use Rattle.cluster_world.specs.declared.life.Life.TheVariants as stations;
+ghost use Rattle.cluster_world.specs.declared.life.Life.TheVariants as life_is;
 
-use crate::held::Held;
+use crate::life::Life;
 use crate::nodes::{Nodes, place_of};
-use crate::station::Station;
 use io_edge::Disk;
 use mail_base::{Letter, NodeNo, Ticket};
 use node_tickets::MishapKind;
 
 /// The node counts it at the ticket, if that stands.
-fn note_held(held: &mut Held, ticket: Ticket, kind: MishapKind, at: NodeNo)
-    requires whole { (node : ANode) → life_of_held held.old ≡ stations.Up node → IsWhole node }
-    ensures noted { LifeNoted (kind_of_mishap kind) at ticket (life_of_held held.old) (life_of_held held.new) }
-    ensures maps { HoldsMaps held.old → HoldsMaps held.new }
+fn note_at(life: &mut Life, ticket: Ticket, kind: MishapKind, at: NodeNo)
+    requires whole { (node : AWholeNode) → life.old ≡ life_is.Up node → IsWhole node.mail }
+    ensures { LifeNoted (kind_of_mishap kind) at ticket life.old life.new }
 {
-    match held {
-        Held::Up(node) => {
+    match life {
+        Life::Up(node) => {
             node.mishap(ticket, kind, at);
         }
-        Held::Down => {}
-        Held::Lost => {}
+        Life::Down => {}
+        Life::Lost => {}
     }
 }
 
-/// The same at its station.
-fn note_at(life: &mut Station, ticket: Ticket, kind: MishapKind, at: NodeNo)
-    requires whole { (node : ANode) → life.old ≡ stations.Up node → IsWhole node }
-    ensures { LifeNoted (kind_of_mishap kind) at ticket life.old life.new }
-{
-    note_held(&mut life.held, ticket, kind, at);
-}
-
 /// The node of the ticket counts it, if there is one.
-fn note_on(lives: &mut Vec<Station>, ticket: Ticket, kind: MishapKind, at: NodeNo)
-    requires whole { (k : ℕ) (node : ANode) → slice_get lives.old.items k ≡ Some (stations.Up node) → IsWhole node }
+fn note_on(lives: &mut Vec<Life>, ticket: Ticket, kind: MishapKind, at: NodeNo)
+    requires whole { (k : ℕ) (node : AWholeNode) → slice_get lives.old.items k ≡ Some (life_is.Up node) → IsWhole node.mail }
     ensures { LivesNoted (kind_of_mishap kind) at ticket lives.old.items lives.new.items }
 {
     let place = place_of(ticket.node);
@@ -53,8 +42,8 @@ fn note_on(lives: &mut Vec<Station>, ticket: Ticket, kind: MishapKind, at: NodeN
 }
 
 /// Notes a mishap of the letter at its ticket, if it has one that stands. It takes no memory.
-pub(crate) fn note(lives: &mut Vec<Station>, kind: MishapKind, letter: &Letter)
-    requires whole { (k : ℕ) (node : ANode) → slice_get lives.old.items k ≡ Some (stations.Up node) → IsWhole node }
+pub(crate) fn note(lives: &mut Vec<Life>, kind: MishapKind, letter: &Letter)
+    requires whole { (k : ℕ) (node : AWholeNode) → slice_get lives.old.items k ≡ Some (life_is.Up node) → IsWhole node.mail }
     ensures { LettersNoted (kind_of_mishap kind) letter.now lives.old.items lives.new.items }
 {
     let Some(ticket) = letter.ticket else {

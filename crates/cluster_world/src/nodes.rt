@@ -2,7 +2,7 @@
 ghost use Rattle.std.specs.Prelude.{◌≡◌, ◌+◌, ◌≤◌, ◌<◌, length, Some, IfSome};
 ghost use Rattle.std.specs.Option.{option_copied};
 
-use crate::station::Station;
+use crate::life::Life;
 use crate::steps::ask::{ask_at, node_of};
 use crate::steps::give_up::give_up_at;
 use crate::steps::start::start_at;
@@ -16,11 +16,12 @@ use std::alloc::Global;
 #[derive(Drop)]
 pub struct Nodes<D> {
     pub(crate) plan: Plan,
-    pub(crate) lives: Vec<Station>,
+    pub(crate) lives: Vec<Life>,
     // in the list that was handed in
     pub(crate) disks: Vec<D>,
     ghost few: { plan.nodes ≤ 16 },
     ghost copied: { 1 ≤ plan.copies },
+    ghost bucketed: { 1 ≤ plan.buckets },
     ghost all: { length lives.items ≡ plan.nodes },
     ghost disk_each: { length disks.items ≡ plan.nodes },
 }
@@ -50,7 +51,7 @@ pub(crate) fn node_at(place: usize) -> NodeNo
 }
 
 /// The life is this one from now on.
-pub(crate) fn put_life(life: &mut Station, now: Station)
+pub(crate) fn put_life(life: &mut Life, now: Life)
     ensures { life.new ≡ now }
 {
     *life = now;
@@ -69,14 +70,14 @@ impl<D> Nodes<D> {
     }
 
     /// The life of a node, if the plan has it.
-    pub(crate) fn life(&self, node: NodeNo) -> Option<&Station>
+    pub(crate) fn life(&self, node: NodeNo) -> Option<&Life>
         ensures { option_copied result ≡ of_node self.now.lives.items node }
     {
         self.lives.get(usize::from(node.number()) - 1)
     }
 
     /// The life of a node of the plan is this one from now on. It takes no memory.
-    pub(crate) fn turn(&mut self, node: NodeNo, life: Station)
+    pub(crate) fn turn(&mut self, node: NodeNo, life: Life)
         requires within { node ≤ self.old.plan.nodes }
         ensures { ChangesNode node (IsTurnedTo life) self.old self.new }
     {
@@ -84,7 +85,7 @@ impl<D> Nodes<D> {
     }
 
     /// The life of a node of the plan.
-    pub(crate) fn at(&self, node: NodeNo) -> &Station
+    pub(crate) fn at(&self, node: NodeNo) -> &Life
         requires within { node ≤ self.now.plan.nodes }
         ensures { of_node self.now.lives.items node ≡ Some result.now }
     {

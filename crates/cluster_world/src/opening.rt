@@ -6,8 +6,8 @@ ghost use Rattle.world_book.specs.Books.{entries_of, spare_of};
 ghost use Rattle.cluster_world.specs.Opens.{AreEmpty, OpensSo, OpensNext, AllOpen};
 
 use crate::fault::OpenFault;
+use crate::life::Life;
 use crate::nodes::node_at;
-use crate::station::Station;
 use io_edge::Disk;
 use mail_base::{NodeNo, Plan};
 use node_core::NodeFault;
@@ -21,7 +21,7 @@ fn open_node<D: Disk>(
     disk: &mut D,
     plan: &Plan,
     node: NodeNo,
-) -> Result<Station, OpenFault>
+) -> Result<Life, OpenFault>
     requires empty { IfSome (D.seen disk.old) (λ held. held ≡ []) }
     requires within { node ≤ plan.now.nodes }
     requires few { plan.now.nodes ≤ 16 }
@@ -31,7 +31,7 @@ fn open_node<D: Disk>(
     ensures later { D.faults disk.old ≤ D.faults disk.new }
 {
     match WholeNode::first(alloc, disk, plan, node) {
-        Ok(up) => Ok(Station::up(up)),
+        Ok(up) => Ok(Life::Up(up)),
         Err(NodeFault::Disk) => Err(OpenFault::DiskFault(node)),
         Err(NodeFault::Worn) => unreachable!(),
         Err(NodeFault::NoMemory { .. }) => Err(OpenFault::NoMemory),
@@ -43,7 +43,7 @@ fn open_next<D: Disk>(
     alloc: Global,
     plan: &Plan,
     disks: &mut Vec<D>,
-    lives: &mut Vec<Station>,
+    lives: &mut Vec<Life>,
 ) -> Result<(), OpenFault>
     requires next { length lives.old.items < length disks.old.items }
     requires each { length disks.old.items ≤ plan.now.nodes }
@@ -65,7 +65,7 @@ pub(crate) fn open_all<D: Disk>(
     alloc: Global,
     plan: &Plan,
     disks: &mut Vec<D>,
-    lives: &mut Vec<Station>,
+    lives: &mut Vec<Life>,
 ) -> Result<(), OpenFault>
     requires none { lives.old.items ≡ [] }
     requires each { length disks.old.items ≡ plan.now.nodes }

@@ -4,39 +4,30 @@ ghost use Rattle.std.specs.List.{list_all};
 ghost use Rattle.cluster_model.specs.Steps.{nodes_named, actor_of, is_node};
 ghost use Rattle.cluster_world.specs.Seen.{step_seen};
 ghost use Rattle.cluster_world.specs.Lives.{life_seen};
-ghost use Rattle.cluster_world.specs.Stations.{life_of_held};
 ghost use Rattle.cluster_world.specs.Worlds.{life_among};
 ghost use Rattle.cluster_world.specs.Turns.{life_refusal, node_refusal};
 
 use crate::fault::StepFault;
-use crate::held::Held;
+use crate::life::Life;
 use crate::nodes::Nodes;
-use crate::station::Station;
 use crate::step::Step;
 use mail_base::NodeNo;
 
 /// What is wrong with the life of the node that is to act.
-fn for_held(step: &Step, held: &Held) -> Option<StepFault>
-    ensures { result ≡ life_refusal step.now (life_seen (life_of_held held.now)) }
+fn for_life(step: &Step, life: &Life) -> Option<StepFault>
+    ensures { result ≡ life_refusal step.now (life_seen life.now) }
 {
-    match held {
-        Held::Lost => Some(StepFault::NodeLost),
-        Held::Up(_) => match step {
+    match life {
+        Life::Lost => Some(StepFault::NodeLost),
+        Life::Up(_) => match step {
             Step::Start { .. } => Some(StepFault::NodeUp),
             _ => None,
         },
-        Held::Down => match step {
+        Life::Down => match step {
             Step::Start { .. } | Step::Lose { .. } => None,
             _ => Some(StepFault::NodeDown),
         },
     }
-}
-
-/// The same by its station.
-fn for_life(step: &Step, life: &Station) -> Option<StepFault>
-    ensures { result ≡ life_refusal step.now (life_seen life.now) }
-{
-    for_held(step, &life.held)
 }
 
 /// The node that acts, or that is to stop, to start or to be lost.
@@ -45,6 +36,8 @@ fn actor(step: &Step) -> Option<NodeNo>
 {
     match step {
         Step::Begin { node, .. }
+        | Step::Group { node }
+        | Step::Conclude { node }
         | Step::Crash { node }
         | Step::Start { node }
         | Step::Lose { node } => Some(*node),
@@ -67,6 +60,8 @@ impl<D> Nodes<D> {
     {
         match step {
             Step::Begin { node, .. }
+            | Step::Group { node }
+            | Step::Conclude { node }
             | Step::Crash { node }
             | Step::Start { node }
             | Step::Lose { node } => self.has(*node),

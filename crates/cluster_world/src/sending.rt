@@ -1,7 +1,7 @@
 //! Letters are put in flight.
 ghost use Rattle.std.specs.Prelude.{◌≡◌, IfOk, OnErr};
 ghost use Rattle.node_store.specs.Disks.{view_of};
-ghost use Rattle.node_core.specs.Spelling.{AllCanBeTaken};
+ghost use Rattle.cluster_world.specs.Hears.{AllCanBeHeard};
 ghost use Rattle.cluster_world.specs.Lives.{CanWorkOn};
 ghost use Rattle.cluster_world.specs.Missing.{SentOff};
 
@@ -26,7 +26,7 @@ pub(crate) fn send<D: Disk>(
     posted: Option<u64>,
 ) -> Result<(), AllocError>
     requires works { CanWorkOn D.seen nodes.old.plan nodes.old.lives.items nodes.old.disks.items }
-    requires heard { AllCanBeTaken letters.items }
+    requires heard { AllCanBeHeard letters.items }
     ensures ok { IfOk result (λ _. SentOff (view_of D.seen D.faults D.clock) nodes.old.plan letters.items posted flying.old flying.new nodes.old nodes.new) }
     ensures err { OnErr result (flying.new ≡ flying.old) }
     ensures same { OnErr result (nodes.new ≡ nodes.old) }

@@ -1,6 +1,6 @@
 //! What can be done with a world, and what it answers.
 use call_tickets::{Ask, Call};
-use mail_base::{MsgId, Name, NodeNo, Ticket};
+use mail_base::{EpochId, MsgId, Name, NodeNo, NodeSet, Ticket};
 use node_core::Why;
 
 /// What can be done with a world.
@@ -53,6 +53,16 @@ pub enum Step {
         /// The new target.
         to: NodeNo,
     },
+    /// A node opens a group: it promises the next epoch, and asks every other node of the plan to join.
+    Group {
+        /// The node.
+        node: NodeNo,
+    },
+    /// A node concludes the group that it has open: those that joined are the members, and it tells each of them.
+    Conclude {
+        /// The node.
+        node: NodeNo,
+    },
     /// A node stops. What is on its disk stays.
     Crash {
         /// The node.
@@ -101,6 +111,15 @@ pub enum Said {
     },
     /// Whether the copy got the target.
     Widened(bool),
+    /// The group of this epoch is open.
+    Grouped(EpochId),
+    /// The group was concluded.
+    Concluded {
+        /// Its epoch.
+        epoch: EpochId,
+        /// Its members.
+        members: NodeSet,
+    },
     /// The node is up.
     NodeUp {
         /// Its boot.

@@ -2,10 +2,12 @@
 
 pub(crate) mod ask;
 pub(crate) mod begin;
+pub(crate) mod conclude;
 pub(crate) mod crash;
 pub(crate) mod drop;
 pub(crate) mod fault;
 pub(crate) mod give_up;
+pub(crate) mod group;
 pub(crate) mod lose;
 pub(crate) mod post;
 pub(crate) mod push;

@@ -1,56 +1,53 @@
 //! What a world tells of its letters, its calls and its members.
-ghost use Rattle.std.specs.Prelude.{◌≡◌, ◌≤◌, Some, if◌then◌else◌};
+ghost use Rattle.std.specs.Prelude.{◌≡◌, Some};
 ghost use Rattle.std.specs.Option.{option_copied};
 ghost use Rattle.session_model.specs.Sums.{sum_of};
-ghost use Rattle.object_model.specs.Sets.{all_nodes};
 ghost use Rattle.node_core.specs.Nodes.{IsWhole};
-ghost use Rattle.node_core.specs.declared.node.Node.{Node as ANode};
+ghost use Rattle.whole_node.specs.declared.node.WholeNode.{WholeNode as AWholeNode};
 ghost use Rattle.node_tickets.specs.Standing.{call_kind_seen, kind_of_ticket, filed_seen, filing_at};
 ghost use Rattle.cluster_world.specs.Flights.{first_number};
-ghost use Rattle.cluster_world.specs.Lives.{is_up_life};
 ghost use Rattle.cluster_world.specs.Sums.{sum_seen};
-ghost use Rattle.cluster_world.specs.Worlds.{state_of, plan_of, life_of, book_of, CanMakeSteps};
-ghost use Rattle.cluster_world.specs.Telling.{standing_on, standing_in};
+ghost use Rattle.cluster_world.specs.Worlds.{state_of, book_of, node_of_life, node_in, CanMakeSteps};
+ghost use Rattle.cluster_world.specs.Telling.{members_seen, standing_on, standing_in};
 ghost use Rattle.cluster_world.specs.declared.life.Life.TheVariants as lives;
 
-use crate::nodes::numbered;
-use crate::station::Station;
+use crate::life::Life;
 use crate::steps::ask::{node_of, ticket_of};
 use crate::sum::{BookSum, sum};
 use crate::world::World;
 use io_edge::Disk;
 use mail_base::{CallKind, Filing, NodeNo, NodeSet, Ticket};
 
-/// The nodes from 1 to so many.
-fn first_nodes(nodes: u8) -> NodeSet
-    requires { nodes ≤ 16 }
-    ensures { result ≡ all_nodes nodes }
+/// The members of a node's epoch.
+pub(crate) fn members_at(life: &Life) -> NodeSet
+    requires whole { (node : AWholeNode) → life.now ≡ lives.Up node → IsWhole node.mail }
+    ensures { result ≡ members_seen (node_of_life (Some life.now)) }
 {
-    if nodes == 0 {
-        return NodeSet::empty();
+    match life {
+        Life::Up(node) => node.mail().member_set(),
+        Life::Down | Life::Lost => NodeSet::empty(),
     }
-    first_nodes(nodes - 1).with(numbered(nodes))
 }
 
 /// The kind of the call of the ticket at a node, if it stands there.
-fn kind_at(life: &Station, ticket: &Ticket) -> Option<CallKind>
-    requires whole { (node : ANode) → life.now ≡ lives.Up node → IsWhole node }
+fn kind_at(life: &Life, ticket: &Ticket) -> Option<CallKind>
+    requires whole { (node : AWholeNode) → life.now ≡ lives.Up node → IsWhole node.mail }
     ensures { call_kind_seen result ≡ kind_of_ticket (standing_on (Some life.now) ticket.now) }
 {
-    match life.mail() {
-        Some(node) => node.kind(ticket_of(ticket)),
-        None => None,
+    match life {
+        Life::Up(node) => node.mail().kind(ticket_of(ticket)),
+        Life::Down | Life::Lost => None,
     }
 }
 
 /// What the delivery of the ticket filed at a node, if it stands there.
-fn filing_in<'a>(life: &'a Station, ticket: &Ticket) -> Option<&'a Filing>
-    requires whole { (node : ANode) → life.now ≡ lives.Up node → IsWhole node }
+fn filing_in<'a>(life: &'a Life, ticket: &Ticket) -> Option<&'a Filing>
+    requires whole { (node : AWholeNode) → life.now ≡ lives.Up node → IsWhole node.mail }
     ensures { filed_seen (option_copied result) ≡ filing_at (standing_on (Some life.now) ticket.now) }
 {
-    match life.mail() {
-        Some(node) => node.filing(ticket_of(ticket)),
-        None => None,
+    match life {
+        Life::Up(node) => node.mail().filing(ticket_of(ticket)),
+        Life::Down | Life::Lost => None,
     }
 }
 
@@ -69,14 +66,14 @@ impl<D: Disk> World<D> {
         self.seconds
     }
 
-    /// The members of the node's epoch: all nodes of the plan, and none where the node is not up. It takes no memory.
+    /// The members of the node's epoch: none where the node is not up, or has no epoch. It takes no memory.
     pub fn members(&self, node: NodeNo) -> NodeSet
-        ensures { result ≡ (if is_up_life (life_of self.now node) then all_nodes (plan_of self.now).nodes else 0) }
+        requires ready { CanMakeSteps D.seen self.now }
+        ensures { result ≡ members_seen (node_in (state_of self.now) node) }
     {
-        if self.is_up(node) {
-            first_nodes(self.plan().nodes)
-        } else {
-            NodeSet::empty()
+        match self.nodes.life(node) {
+            Some(life) => members_at(life),
+            None => NodeSet::empty(),
         }
     }
 

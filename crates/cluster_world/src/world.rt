@@ -5,15 +5,17 @@ ghost use Rattle.cluster_world.specs.Lives.{all_falls_left};
 
 use crate::fault::{OpenFault, StepFault};
 use crate::flying::Flying;
+use crate::life::Life;
 use crate::nodes::Nodes;
 use crate::opening::{open_all, roomy_book};
-use crate::station::Station;
 use crate::step::{Said, Step};
 use crate::steps::ask::ask_for;
 use crate::steps::begin::begin_call;
+use crate::steps::conclude::conclude_node;
 use crate::steps::crash::crash_node;
 use crate::steps::drop::drop_letter;
 use crate::steps::give_up::give_up_call;
+use crate::steps::group::group_node;
 use crate::steps::lose::lose_node;
 use crate::steps::post::post_letter;
 use crate::steps::push::push_states;
@@ -41,9 +43,10 @@ pub struct World<D> {
 
 #[tactic(auto, using(crate::proofs::Turned::most_falls))]
 /// A world of these nodes, in which nothing has been done.
-fn opened<D>(alloc: Global, plan: Plan, lives: Vec<Station>, disks: Vec<D>, book: Book) -> World<D>
+fn opened<D>(alloc: Global, plan: Plan, lives: Vec<Life>, disks: Vec<D>, book: Book) -> World<D>
     requires few { plan.nodes ≤ 16 }
     requires copied { 1 ≤ plan.copies }
+    requires bucketed { 1 ≤ plan.buckets }
     requires all { length lives.items ≡ plan.nodes }
     requires disk_each { length disks.items ≡ plan.nodes }
     requires room { 2 * plan.nodes ≤ spare_of book }
@@ -80,8 +83,8 @@ impl<D: Disk> World<D> {
     ghost use Rattle.cluster_world.specs.declared.step.Step.TheVariants.{Begin};
     ghost use Rattle.cluster_world.specs.Opens.{CanBeOpened, AreEmpty, Opened, Refused};
 
-    /// A new world on empty disks, one for each node of the plan, in order: a journal each, and the record of each node's
-    /// first boot. A refusal hands the disks back.
+    /// A new world on empty disks, one for each node of the plan, in order: a journal each, and the records of each node's
+    /// first boot and of its promise of the first epoch, in which all nodes are. A refusal hands the disks back.
     pub fn open(alloc: Global, plan: Plan, disks: Vec<D>) -> Result<World<D>, (OpenFault, Vec<D>)>
         requires fit { CanBeOpened plan }
         requires one_each { length disks.items ≡ plan.nodes }
@@ -174,6 +177,20 @@ impl<D: Disk> World<D> {
                 user,
                 *id,
                 *to,
+            ),
+            Step::Group { node } => group_node(
+                alloc,
+                &mut self.nodes,
+                &mut self.flying,
+                &mut self.book,
+                *node,
+            ),
+            Step::Conclude { node } => conclude_node(
+                alloc,
+                &mut self.nodes,
+                &mut self.flying,
+                &mut self.book,
+                *node,
             ),
             Step::Tick { seconds } => {
                 self.seconds = *seconds;

@@ -88,9 +88,9 @@ module _ (plan : Plan) (tells : Bool) (old new : World) (own : ℕ) (call : Node
   says_so said (Goes node disk octets up fails filed is new_world) =
       struck_alone (ap (λ (w : World). w.book) new_world ∙ after_book (with_struck old call) own (begun_by plan old own node disk call octets))
   says_so said (FailsInIt node disk octets up filed is g) = struck_falls (ap (λ (w : World). w.book) g.is)
-  says_so said (Reads node disk kind what up one of_kind finds is new_world) =
+  says_so said (Reads node disk kind what up one goes of_kind finds is new_world) =
       struck_alone (ap (λ (w : World). w.book) new_world ∙ after_book old own (begin_read kind what node disk) ∙ sym (reads_none disk what finds))
-  says_so said (FailsReading node disk user id from most up one reads is new_world) =
+  says_so said (FailsReading node disk user id from most up one goes reads is new_world) =
       struck_falls (ap (λ (w : World). w.book) new_world ∙ ap (λ b. b ++ WentDown own ∷ []) (sym (fetch_none user id from most reads)))
   says_so said (Leaves node disk user up one leaves is new_world) = no_leave user leaves
 
@@ -149,8 +149,8 @@ module _ (plan : Plan) (tells : Bool) (old new : World) (own : ℕ) (mail : Mail
       filed_is in
       subst (IsFiledAs mail) same (record { octets = octets; stored = filed.0; users = refl; size = refl; digest = refl })
   by (FailsInIt node disk octets up filed is g) = absurd (let never : Begun number ≡ Faulted own = is in cc)
-  by (Reads node disk kind what up one of_kind finds is new_world) = absurd finds
-  by (FailsReading node disk user id from most up one reads is new_world) = absurd (let never : Begun number ≡ Faulted own = is in cc)
+  by (Reads node disk kind what up one goes of_kind finds is new_world) = absurd finds
+  by (FailsReading node disk user id from most up one goes reads is new_world) = absurd (let never : Begun number ≡ Faulted own = is in cc)
   by (Leaves node disk user up one leaves is new_world) = absurd (let never : Begun number ≡ Noted = is in cc)
 
   filed_as : MakesStep plan tells old (Begin own (Deliver mail)) (Says (Begun number)) new → IsFiledAs mail filing

@@ -4,14 +4,14 @@ use Rattle.std.specs.Ordering.{nat_cmp}
 use Rattle.std.specs.FinMap as fin
 use Rattle.mail_model.specs.Plan.{Plan}
 use Rattle.mail_model.specs.Record.{Record}
-use Rattle.mail_model.specs.Record.Record.{Boot}
-use Rattle.object_model.specs.Letters.{Number}
+use Rattle.mail_model.specs.Record.Record.{Boot, Promise}
+use Rattle.object_model.specs.Letters.{Number, MapRow}
 use Rattle.object_model.specs.Mishaps.{no_mishaps}
 use Rattle.cluster_model.specs.Cluster.{AskedOfNodes, Want, Ticket, CallKind, Node, Slot, slot_at, with_slot}
 use Rattle.cluster_model.specs.Cluster.AskedOfNodes.{Copies, Deletion}
 use Rattle.cluster_model.specs.Parts.{Sound}
 use Rattle.cluster_model.specs.Rules.{Reaction, StrikeItem, new_want, new_number, dated, begin_read, refuse, end_ticket}
-use Rattle.cluster_model.specs.Starts.{first_membership}
+use Rattle.cluster_model.specs.Starts.{first_epoch, fresh_node}
 use Rattle.cluster_model.specs.Deeds.{slot_up}
 use Rattle.cluster_model.specs.World.{World, cluster_of}
 use Rattle.cluster_model.specs.WorldLaws.{fresh_slot, fresh_slots, opening_world}
@@ -129,9 +129,9 @@ module _ (plan : Plan) (tells : Bool) (old new : World) where
   begins_keep own call said (Goes node disk octets up fails filed is new_world) all = goes_keeps own call node disk octets up filed new_world all
   begins_keep own call said (FailsInIt node disk octets up filed is g) all =
       falls_keeps own call node disk g.front g.pending up (cut_goes (with_struck old call) new own node disk g.front g.pending (up_with own call node disk up) g.is) all
-  begins_keep own call said (Reads node disk kind what up one of_kind finds is new_world) all =
+  begins_keep own call said (Reads node disk kind what up one goes of_kind finds is new_world) all =
       begun_keeps_one old old own node disk (begin_read kind what node disk) (record { kind = kind; wants = []; mishaps = no_mishaps; found = Some what }) refl up refl refl refl tt new new_world all
-  begins_keep own call said (FailsReading node disk user id from most up one reads is new_world) all = quiet_keeps old new (cut_goes old new own node disk [] [] up new_world) all
+  begins_keep own call said (FailsReading node disk user id from most up one goes reads is new_world) all = quiet_keeps old new (cut_goes old new own node disk [] [] up new_world) all
   begins_keep own call said (Leaves node disk user up one leaves is new_world) all = subst (λ (x : World). TicketsAskOneThing x.slots) (sym new_world) all
 
   begins_short : (own : ℕ) (call : NodeCall) (n : ℕ) → RunsShort plan old (Begin own call) n new → TicketsAskOneThing old.slots → TicketsAskOneThing new.slots
@@ -176,18 +176,17 @@ module _ (plan : Plan) (tells : Bool) (old new : World) where
   steps_ask_one_thing (Lose n) outcome made sound all = quiet_keeps old new (other_goes plan tells old new sound (Lose n) outcome tt made) all
 
 -- no ticket stands as a cluster opens
-fresh_tickets : (nodes k : ℕ) (n : ℕ) (node : Node) (disk : List Record) → slot_at (fresh_slots nodes k) n ≡ Some (slot_up node disk) → (seq : ℕ) → fin.get node.tickets seq ≡ None
-fresh_tickets nodes k zero node disk up seq = absurd (let never : None ≡ Some (slot_up node disk) = up in cc)
-fresh_tickets nodes zero (suc n) node disk up seq = absurd (let never : None ≡ Some (slot_up node disk) = up in cc)
-fresh_tickets nodes (suc k) (suc zero) node disk up seq = at_first up
+fresh_tickets : (nodes : ℕ) (managers : List MapRow) (k n : ℕ) (node : Node) (disk : List Record) → slot_at (fresh_slots nodes managers k) n ≡ Some (slot_up node disk) → (seq : ℕ) → fin.get node.tickets seq ≡ None
+fresh_tickets nodes managers k zero node disk up seq = absurd (let never : None ≡ Some (slot_up node disk) = up in cc)
+fresh_tickets nodes managers zero (suc n) node disk up seq = absurd (let never : None ≡ Some (slot_up node disk) = up in cc)
+fresh_tickets nodes managers (suc k) (suc zero) node disk up seq = at_first up
   where
-    at_first : Some (fresh_slot nodes) ≡ Some (slot_up node disk) → fin.get node.tickets seq ≡ None
+    at_first : Some (fresh_slot nodes managers) ≡ Some (slot_up node disk) → fin.get node.tickets seq ≡ None
     at_first e =
-        let first : Node = record { boot = 1; drawn = 0; count = 0; calls = 0; installed = Some (first_membership nodes); log = fin.empty; tickets = fin.empty } in
-        let same : first ≡ node = same_up first node (Boot 1 ∷ []) disk e in
+        let same : fresh_node nodes managers ≡ node = same_up (fresh_node nodes managers) node (Boot 1 ∷ Promise first_epoch ∷ []) disk e in
         ap (λ (x : Node). fin.get x.tickets seq) (sym same) ∙ fin.get-empty nat_cmp seq
-fresh_tickets nodes (suc k) (suc (suc n)) node disk up seq = fresh_tickets nodes k (suc n) node disk up seq
+fresh_tickets nodes managers (suc k) (suc (suc n)) node disk up seq = fresh_tickets nodes managers k (suc n) node disk up seq
 
-pub opening_asks_one_thing : (nodes : ℕ) → TicketsAskOneThing (opening_world nodes).slots
-opening_asks_one_thing nodes n node disk up seq ticket here =
-    absurd (let never : None ≡ Some ticket = sym (fresh_tickets nodes nodes n node disk up seq) ∙ here in cc)
+pub opening_asks_one_thing : (nodes : ℕ) (managers : List MapRow) → TicketsAskOneThing (opening_world nodes managers).slots
+opening_asks_one_thing nodes managers n node disk up seq ticket here =
+    absurd (let never : None ≡ Some ticket = sym (fresh_tickets nodes managers nodes n node disk up seq) ∙ here in cc)

@@ -1,8 +1,8 @@
 -- What the steps of a cluster keep, and what they add to its book.
-use Rattle.std.specs.Prelude.{◌≡◌, ℕ, Bool, Some}
+use Rattle.std.specs.Prelude.{◌≡◌, ℕ, Bool, List, Some}
 use Rattle.mail_model.specs.Plan.{Plan}
 use Rattle.mail_model.specs.Told.{Mail}
-use Rattle.object_model.specs.Letters.{Number}
+use Rattle.object_model.specs.Letters.{Number, MapRow}
 use Rattle.session_model.specs.Calls.{Call}
 use Rattle.session_model.specs.Books.{struck_by}
 use Rattle.cluster_model.specs.Cluster.{NodeFiling, Ticket}
@@ -24,7 +24,7 @@ use Rattle.desk_model.specs.Added.{Adds, AreQuiet, AreStrikes, AreForAnswer, IsF
 
 -- as a cluster opens, each ticket asks for one thing, since there is none
 abbrev pub OpeningAsksOneThing : Type 0
-OpeningAsksOneThing = (nodes : ℕ) → TicketsAskOneThing (opening_world nodes).slots
+OpeningAsksOneThing = (nodes : ℕ) (map : List MapRow) → TicketsAskOneThing (opening_world nodes map).slots
 
 -- and so it stays, whatever step is made
 abbrev pub StepsAskOneThing : Type 0

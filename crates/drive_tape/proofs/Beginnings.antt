@@ -7,7 +7,7 @@ use Rattle.call_tickets.specs.declared.call.Call.{Call}
 use Rattle.call_tickets.specs.declared.call.Call.TheVariants.{Deliver, Login, Fetch, Strike, Leave}
 use Rattle.cluster_world.specs.Steps.{BeginsSo}
 use Rattle.cluster_world.specs.declared.step.Said.{Said}
-use Rattle.cluster_world.specs.declared.step.Said.TheVariants.{Begun, Noted, Asked, Heard, Thrown, Sent, Widened, NodeUp, Done, Faulted}
+use Rattle.cluster_world.specs.declared.step.Said.TheVariants.{Begun, Noted, Asked, Heard, Thrown, Sent, Widened, Grouped, Concluded, NodeUp, Done, Faulted}
 use Rattle.cluster_world.specs.declared.fault.StepFault.{StepFault}
 use Rattle.drive_tape.specs.Kinds.{IsNoLeave}
 use Rattle.drive_tape.specs.Leaving.{IsALeave}
@@ -27,6 +27,8 @@ begins_so (Deliver deliver) asked e node Heard b = absurd b
 begins_so (Deliver deliver) asked e node (Thrown why) b = absurd b
 begins_so (Deliver deliver) asked e node (Sent letters) b = absurd b
 begins_so (Deliver deliver) asked e node (Widened did) b = absurd b
+begins_so (Deliver deliver) asked e node (Grouped epoch) b = absurd b
+begins_so (Deliver deliver) asked e node (Concluded epoch members) b = absurd b
 begins_so (Deliver deliver) asked e node (NodeUp boot) b = absurd b
 begins_so (Deliver deliver) asked e node Done b = absurd b
 begins_so (Deliver deliver) asked e node (Faulted failed) b = b
@@ -37,6 +39,8 @@ begins_so (Login user proof) asked e node Heard b = absurd b
 begins_so (Login user proof) asked e node (Thrown why) b = absurd b
 begins_so (Login user proof) asked e node (Sent letters) b = absurd b
 begins_so (Login user proof) asked e node (Widened did) b = absurd b
+begins_so (Login user proof) asked e node (Grouped epoch) b = absurd b
+begins_so (Login user proof) asked e node (Concluded epoch members) b = absurd b
 begins_so (Login user proof) asked e node (NodeUp boot) b = absurd b
 begins_so (Login user proof) asked e node Done b = absurd b
 begins_so (Login user proof) asked e node (Faulted failed) b = b
@@ -47,6 +51,8 @@ begins_so (Fetch user id holders from most) asked e node Heard b = absurd b
 begins_so (Fetch user id holders from most) asked e node (Thrown why) b = absurd b
 begins_so (Fetch user id holders from most) asked e node (Sent letters) b = absurd b
 begins_so (Fetch user id holders from most) asked e node (Widened did) b = absurd b
+begins_so (Fetch user id holders from most) asked e node (Grouped epoch) b = absurd b
+begins_so (Fetch user id holders from most) asked e node (Concluded epoch members) b = absurd b
 begins_so (Fetch user id holders from most) asked e node (NodeUp boot) b = absurd b
 begins_so (Fetch user id holders from most) asked e node Done b = absurd b
 begins_so (Fetch user id holders from most) asked e node (Faulted failed) b = b
@@ -57,6 +63,8 @@ begins_so (Strike user items) asked e node Heard b = absurd b
 begins_so (Strike user items) asked e node (Thrown why) b = absurd b
 begins_so (Strike user items) asked e node (Sent letters) b = absurd b
 begins_so (Strike user items) asked e node (Widened did) b = absurd b
+begins_so (Strike user items) asked e node (Grouped epoch) b = absurd b
+begins_so (Strike user items) asked e node (Concluded epoch members) b = absurd b
 begins_so (Strike user items) asked e node (NodeUp boot) b = absurd b
 begins_so (Strike user items) asked e node Done b = absurd b
 begins_so (Strike user items) asked e node (Faulted failed) b = b

@@ -46,6 +46,7 @@ module _ {D : Type 0} (on : View D) (start old new : World D) (outcomes : List O
   broke_off node call asked fault.NodeUp e seen whole is = inl (awaited, went_more on start outcomes awaited old at (Refused k node asked) awaited new (call, fault.NodeUp, seen, tt, is, refl) whole)
   broke_off node call asked fault.NoSuchLetter e seen whole is = inl (awaited, went_more on start outcomes awaited old at (Refused k node asked) awaited new (call, fault.NoSuchLetter, seen, tt, is, refl) whole)
   broke_off node call asked fault.NoSuchTicket e seen whole is = inl (awaited, went_more on start outcomes awaited old at (Refused k node asked) awaited new (call, fault.NoSuchTicket, seen, tt, is, refl) whole)
+  broke_off node call asked fault.NotAGroup e seen whole is = inl (awaited, went_more on start outcomes awaited old at (Refused k node asked) awaited new (call, fault.NotAGroup, seen, tt, is, refl) whole)
   broke_off node call asked fault.Worn e seen whole is = inl (awaited, went_more on start outcomes awaited old at (Refused k node asked) awaited new (call, fault.Worn, seen, tt, is, refl) whole)
   broke_off node call asked fault.NoRoom e seen whole is = inl (awaited, went_more on start outcomes awaited old at (Refused k node asked) awaited new (call, fault.NoRoom, seen, tt, is, refl) whole)
 
@@ -85,6 +86,8 @@ module _ {D : Type 0} (on : View D) (start old new : World D) (outcomes : List O
   handed_on node call asked kind (Ok (said.Thrown why)) handed seen whole fits hands is = absurd (begins_so call asked seen node (said.Thrown why) is.did.kind)
   handed_on node call asked kind (Ok (said.Sent letters)) handed seen whole fits hands is = absurd (begins_so call asked seen node (said.Sent letters) is.did.kind)
   handed_on node call asked kind (Ok (said.Widened did)) handed seen whole fits hands is = absurd (begins_so call asked seen node (said.Widened did) is.did.kind)
+  handed_on node call asked kind (Ok (said.Grouped epoch)) handed seen whole fits hands is = absurd (begins_so call asked seen node (said.Grouped epoch) is.did.kind)
+  handed_on node call asked kind (Ok (said.Concluded epoch members)) handed seen whole fits hands is = absurd (begins_so call asked seen node (said.Concluded epoch members) is.did.kind)
   handed_on node call asked kind (Ok (said.NodeUp boot)) handed seen whole fits hands is = absurd (begins_so call asked seen node (said.NodeUp boot) is.did.kind)
   handed_on node call asked kind (Ok said.Done) handed seen whole fits hands is = absurd (begins_so call asked seen node said.Done is.did.kind)
   handed_on node call asked kind (Err why) (Err e) seen whole fits hands is = broke_off node call asked why e seen whole is

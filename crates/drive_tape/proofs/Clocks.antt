@@ -21,7 +21,7 @@ use Rattle.cluster_world.specs.Turns.{seconds_after_step}
 use Rattle.cluster_world.specs.Worlds.{state_of, plan_of}
 use Rattle.cluster_world.specs.Steps.{IsStep}
 use Rattle.cluster_world.specs.Opens.{IsAtBeginning}
-use Rattle.cluster_world.specs.Outcomes.{Outcome, Awaited, StepMade, MakesSteps, IsPost, MakesOne, MakesOrder, Came, Makes as MakesAll}
+use Rattle.cluster_world.specs.Outcomes.{Outcome, Awaited, StepMade, MakesSteps, IsPost, IsOfRegroup, AreOfRegroup, MakesOne, MakesOrder, Came, Makes as MakesAll}
 use Rattle.cluster_world.specs.Outcomes.Outcome.{Began, Fell, Answers, StillPending, GaveUp, Abandoned, Left, Moved}
 use Rattle.cluster_world.specs.declared.world.World.{World}
 use Rattle.cluster_world.specs.declared.step.Step.{Step}
@@ -59,6 +59,17 @@ module _ {D : Type 0} (on : View D) where
       pushes_still node more mid new (All-tail (IsPushOf node) one more all) rest
       ∙ is.did.clock ∙ ap (λ (s : Step). seconds_after_step s one.result (shown old)) (All-head (IsPushOf node) one more all).1
 
+  of_regroup_still : (node : ℕ) (one : StepMade) (was : ℕ) → IsOfRegroup node one → seconds_after_step one.step one.result was ≡ was
+  of_regroup_still node one was of = ⊎_elim
+      (λ (opens : one.step ≡ step.Group node). ap (λ (s : Step). seconds_after_step s one.result was) opens)
+      (λ rest. ⊎_elim
+      (λ (concludes : one.step ≡ step.Conclude node). ap (λ (s : Step). seconds_after_step s one.result was) concludes)
+      (λ (post : IsPost one). ap (λ (s : Step). seconds_after_step s one.result was) post.1) rest) of
+
+  regroup_still : (node : ℕ) (steps : List StepMade) (old new : World D) → AreOfRegroup node steps → MakesSteps on steps old new → shown new ≡ shown old
+  regroup_still node [] old new all is = ap (λ (w : World D). shown w) is
+  regroup_still node (one ∷ more) old new all (mid, is, rest) = regroup_still node more mid new all.1 rest ∙ is.did.clock ∙ of_regroup_still node one (shown old) all.0
+
   -- the steps of a run line
   ticks : (seconds : ℕ) (result : Result Said StepFault) (steps : List StepMade) (sum : BookSum) (happened : ClusterEvent) (old new : World D) → steps ≡ record { step = step.Tick seconds; result = result } ∷ []
       → IsStep on result (step.Tick seconds) old new → Tells (order.Tick seconds) steps sum happened → shown new ≡ seconds
@@ -93,6 +104,8 @@ module _ {D : Type 0} (on : View D) where
           never event.HasFlowed told = one_told event.HasFlowed told
           never (event.HasSent count) told = one_told (event.HasSent count) told
           never (event.HasWidened did) told = one_told (event.HasWidened did) told
+          never (event.HasGrouped epoch) told = one_told (event.HasGrouped epoch) told
+          never (event.HasFormed epoch members) told = one_told (event.HasFormed epoch members) told
           never event.HasTicked told = one_told event.HasTicked told
           never (event.HasSummed counts) told = one_told (event.HasSummed counts) told
 
@@ -108,6 +121,10 @@ module _ {D : Type 0} (on : View D) where
   order_clock (order.Push node) steps sum happened old new made tells =
       pushes_still node steps old new (order_are on (order.Push node) steps old new made) (order_makes on (order.Push node) steps old new made)
   order_clock (order.Widen at user id to) steps sum happened old new (result, are, is) tells = is.did.clock
+  order_clock (order.Group node) steps sum happened old new (result, are, is) tells = is.did.clock
+  order_clock (order.Conclude node) steps sum happened old new (result, are, is) tells = is.did.clock
+  order_clock (order.Regroup node) steps sum happened old new made tells =
+      regroup_still node steps old new (order_are on (order.Regroup node) steps old new made) (order_makes on (order.Regroup node) steps old new made)
   order_clock (order.Tick seconds) steps sum happened old new (result, are, is) tells = ticks seconds result steps sum happened old new are is tells
   order_clock order.Sum steps sum happened old new made tells = ap (λ (w : World D). shown w) made.1
 

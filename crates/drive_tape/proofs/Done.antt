@@ -50,6 +50,7 @@ refused_life step_fault.NodeDown one n was fault is = refl
 refused_life step_fault.NodeUp one n was fault is = refl
 refused_life step_fault.NoSuchLetter one n was fault is = refl
 refused_life step_fault.NoSuchTicket one n was fault is = refl
+refused_life step_fault.NotAGroup one n was fault is = refl
 refused_life step_fault.Worn one n was fault is = refl
 refused_life step_fault.NoRoom one n was fault is = refl
 refused_life (step_fault.NoMemory down) one n was fault is = absurd (let never : NoMemory ≡ Bad fault = is in cc)

@@ -47,7 +47,7 @@ use Rattle.drive_tape.specs.Stops.{of_line}
 use Rattle.drive_tape.specs.Talks.{Converse}
 use Rattle.drive_tape.specs.Worlds.{WorldIsAt, IsSince, AreLives, HasCauses}
 use Rattle.drive_tape.proofs.AtFirst.{first_lives, node_within}
-use Rattle.drive_tape.proofs.Kept.{kept_in, none_waits, letters_in}
+use Rattle.drive_tape.proofs.Kept.{kept_in, none_waits, letters_in, whole_in, one_map_in}
 use Rattle.drive_tape.proofs.OwnNodes.{NodesStay, all_stay, at_nodes_more}
 use Rattle.drive_tape.proofs.Wholes.{stays_whole}
 use Rattle.drive_tape.proofs.Led.{AreLinked, MayLackOne, led_more, to_none, to_more, to_linked, to_waits}
@@ -360,6 +360,8 @@ module _ {D : Type 0} (on : View D) (start : World D) (left0 left1 left2 held0 h
       fallen = λ n among. h.causes n (subst (λ (d : List Act). Among n (failed_in d)) (flat_map-append (λ a. a) p.acts h.behind ∙ ap (λ (l : List Act). l ++ joined h.behind) (sym p.been)) among);
       letters = letters_in on start world begins stop p.handled midst p.acts h.behind _ entries sessions is_driven (p.point.outcomes ++ new) h.since.0 h.since.1.made refl nodes_are
           (plan_stays on (p.point.outcomes ++ new) [] h.since.0 start world h.since.1.made).0;
+      sound = whole_in on start world begins stop p.handled midst p.acts h.behind _ entries sessions is_driven (p.point.outcomes ++ new) h.since.0 h.since.1.made refl nodes_are;
+      one_map = one_map_in on start world begins stop p.handled midst p.acts h.behind _ entries sessions is_driven (p.point.outcomes ++ new) h.since.0 h.since.1.made refl nodes_are;
       quiet = stays_whole on (p.point.outcomes ++ new) h.since.0 start world;
       kept = kept_in on start world begins stop p.handled midst p.acts h.behind _ entries sessions is_driven (p.point.outcomes ++ new) h.since.0 h.since.1.made refl nodes_are
           owing h.lacking linked.0.asked linked.1 linked.0.answered (plan_stays on (p.point.outcomes ++ new) [] h.since.0 start world h.since.1.made).0;

@@ -63,6 +63,9 @@ refusal_alike plan been world lives (order.Again letter) = refl
 refusal_alike plan been world lives (order.Drop letter) = refl
 refusal_alike plan been world lives order.Flow = refl
 refusal_alike plan been world lives (order.Push node) = refl
+refusal_alike plan been world lives (order.Group node) = node_alike plan node (is_no_node plan node) refl _ _ (λ there. ap work_fault (lives node there))
+refusal_alike plan been world lives (order.Conclude node) = node_alike plan node (is_no_node plan node) refl _ _ (λ there. ap work_fault (lives node there))
+refusal_alike plan been world lives (order.Regroup node) = node_alike plan node (is_no_node plan node) refl _ _ (λ there. ap work_fault (lives node there))
 refusal_alike plan been world lives (order.Tick seconds) = refl
 refusal_alike plan been world lives order.Sum = refl
 refusal_alike plan been world lives (order.Widen node user id to) = ap (λ (rest : Option SiteFault). or_else (fault_if (not (is_user plan user)) BadLine) rest) (both (is_no_node plan node) (is_no_node plan to) refl)
@@ -93,6 +96,8 @@ turn_asks (plain.WasDropped letter) is = refl
 turn_asks plain.HasFlowed is = refl
 turn_asks (plain.HasSent count) is = refl
 turn_asks (plain.HasWidened did) is = refl
+turn_asks (plain.HasGrouped epoch) is = refl
+turn_asks (plain.HasFormed epoch members) is = refl
 turn_asks plain.HasTicked is = refl
 turn_asks (plain.HasSummed sum) is = refl
 turn_asks (plain.HasFaulted node) is = absurd (let never : ◌≡◌ {A = Option ℕ} (Some node) None = is in cc)
@@ -107,6 +112,8 @@ turn_falls (plain.WasDropped letter) n is = absurd (let never : ◌≡◌ {A = O
 turn_falls plain.HasFlowed n is = absurd (let never : ◌≡◌ {A = Option ℕ} None (Some n) = is in cc)
 turn_falls (plain.HasSent count) n is = absurd (let never : ◌≡◌ {A = Option ℕ} None (Some n) = is in cc)
 turn_falls (plain.HasWidened did) n is = absurd (let never : ◌≡◌ {A = Option ℕ} None (Some n) = is in cc)
+turn_falls (plain.HasGrouped epoch) n is = absurd (let never : ◌≡◌ {A = Option ℕ} None (Some n) = is in cc)
+turn_falls (plain.HasFormed epoch members) n is = absurd (let never : ◌≡◌ {A = Option ℕ} None (Some n) = is in cc)
 turn_falls plain.HasTicked n is = absurd (let never : ◌≡◌ {A = Option ℕ} None (Some n) = is in cc)
 turn_falls (plain.HasSummed sum) n is = absurd (let never : ◌≡◌ {A = Option ℕ} None (Some n) = is in cc)
 turn_falls (plain.HasFaulted node) n is = ap (λ (m : ℕ). Falling 1 m 1) (some_same node n is)
@@ -129,6 +136,8 @@ same_apart (plain.WasDropped letter) m n life is other = refl
 same_apart plain.HasFlowed m n life is other = refl
 same_apart (plain.HasSent count) m n life is other = refl
 same_apart (plain.HasWidened did) m n life is other = refl
+same_apart (plain.HasGrouped epoch) m n life is other = refl
+same_apart (plain.HasFormed epoch members) m n life is other = refl
 same_apart plain.HasTicked m n life is other = refl
 same_apart (plain.HasSummed sum) m n life is other = refl
 same_apart (plain.HasFaulted node) m n life is other = turned_apart node n _ life (λ same. other (same ∙ some_same node m is))
@@ -151,6 +160,8 @@ still_up (plain.WasDropped letter) n was is = (was, refl)
 still_up plain.HasFlowed n was is = (was, refl)
 still_up (plain.HasSent count) n was is = (was, refl)
 still_up (plain.HasWidened did) n was is = (was, refl)
+still_up (plain.HasGrouped epoch) n was is = (was, refl)
+still_up (plain.HasFormed epoch members) n was is = (was, refl)
 still_up plain.HasTicked n was is = (was, refl)
 still_up (plain.HasSummed sum) n was is = (was, refl)
 still_up (plain.HasFaulted node) n was is = absurd (let never : ◌≡◌ {A = Option ℕ} (Some node) None = is in cc)
@@ -247,5 +258,5 @@ pub moved_in_vain : {D : Type 0} (on : View D) (start : World D) (plan : Plan) (
 moved_in_vain on start plan p line one stop held old world same spelled accepted lives causes so =
     let denied = so.2 in
     let gone = so.3 in
-    in_vain on start plan p line held world same (Moves one) spelled accepted (Moved one so.1 (sum_of (book_of old))) (so.0, refl) (denied.why, (denied.before, denied.one, denied.last, denied.refused)) tt (gone.0, gone.1.at) (gone.1.causes (failed_in p.been) causes) denied.why stop denied.stops
-    (λ f is. (denied.before, denied.one, denied.why, denied.last, denied.refused, is)) (λ f is n there. so.4 f (denied.stops ∙ is) n ∙ lives n there)
+    in_vain on start plan p line held world same (Moves one) spelled accepted (Moved one so.1 (sum_of (book_of old))) (so.0, refl) (denied.why, denied.denied) tt (gone.0, gone.1.at) (gone.1.causes (failed_in p.been) causes) denied.why stop denied.stops
+    (λ f is. (denied.why, denied.denied, is)) (λ f is n there. so.4 f (denied.stops ∙ is) n ∙ lives n there)

@@ -35,18 +35,21 @@ use Rattle.session_model.proofs.Kept.{owed_is_kept}
 use Rattle.cluster_owes.specs.Held.{filed_on}
 use Rattle.cluster_owes.specs.Outcomes.{IsTakenAt}
 use Rattle.node_store.specs.Disks.{View}
-use Rattle.cluster_world.specs.Worlds.{plan_of, disks_of, book_of, disks_tell}
+use Rattle.cluster_world.specs.Wholes.{IsWhole, HasOneMap}
+use Rattle.cluster_world.specs.Worlds.{state_of, plan_of, disks_of, book_of, disks_tell}
 use Rattle.cluster_world.specs.Opens.{IsAtBeginning}
 use Rattle.cluster_world.specs.Owing.{AreBlind, IsOfBlind, AllBlind, AreKnown, AreOfSessions, WorldOwes}
-use Rattle.cluster_world.specs.Outcomes.{Outcome, Awaited, StepMade, Came, Makes, IsPost, made_of, asked_by_outcome, answered_by_outcome}
+use Rattle.cluster_world.specs.Outcomes.{Outcome, Awaited, StepMade, Came, Makes, IsPost, IsOfRegroup, AreOfRegroup, made_of, asked_by_outcome, answered_by_outcome}
 use Rattle.cluster_world.proofs.Ordered.{AreStepsOf, IsPushOf, order_are}
 use Rattle.cluster_world.specs.Outcomes.Outcome.{Began, Refused, Fell, Broke, Answers, StillPending, Unanswered, GaveUp, Abandoned, KeptUp, Left, Moved}
 use Rattle.cluster_world.specs.declared.world.World.{World}
+use Rattle.cluster_world.specs.declared.step.Step.TheVariants as step
 use Rattle.cluster_world.specs.Steps.{IsBlind}
 use Rattle.cluster_model.specs.Progress.{ask_of}
 use Rattle.cluster_model.specs.Progress.Ask.{Pending}
 use Rattle.cluster_world.proofs.Lasting.{pending_has_letter}
 use Rattle.cluster_world.proofs.Owed.{none_pending}
+use Rattle.cluster_world.proofs.Wholes.{world_is_whole, one_map_per_epoch}
 use Rattle.drive_tape.specs.Drive.{HasLetters}
 use Rattle.drive_tape.specs.Kept.{IsBlindOrder, AreBlindLines, AreToldOrBlind, KeptIn}
 use Rattle.drive_tape.specs.Points.{IsAtOwnNode, AreAtOwnNodes}
@@ -76,6 +79,14 @@ pushes_blind nodes node [] alone all = tt
 pushes_blind nodes node (one ∷ steps) alone all =
     let is : IsPushOf node one = All-head (IsPushOf node) one steps all in (subst (IsBlind nodes) (sym is.1) alone, pushes_blind nodes node steps alone (All-tail (IsPushOf node) one steps all))
 
+regroup_blind : (nodes node : ℕ) (steps : List StepMade) → AreOfRegroup node steps → AreBlind nodes steps
+regroup_blind nodes node [] all = tt
+regroup_blind nodes node (one ∷ steps) all = (
+  ⊎_elim (λ (opens : one.step ≡ step.Group node). subst (IsBlind nodes) (sym opens) tt)
+      (λ rest. ⊎_elim (λ (concludes : one.step ≡ step.Conclude node). subst (IsBlind nodes) (sym concludes) tt) (λ (post : IsPost one). subst (IsBlind nodes) (sym post.1) tt) rest) all.0,
+  regroup_blind nodes node steps all.1,
+)
+
 order_blind : (nodes : ℕ) (asked : ClusterOrder) (steps : List StepMade) → AreStepsOf asked steps → IsBlindOrder nodes (Some (tape.Order.Moves asked)) → AreBlind nodes steps
 order_blind nodes (order.Crash node) steps (result, are) blind = subst (AreBlind nodes) (sym are) (tt, tt)
 order_blind nodes (order.Start node) steps (result, are) blind = absurd blind
@@ -86,6 +97,9 @@ order_blind nodes (order.Drop letter) steps (result, are) blind = subst (AreBlin
 order_blind nodes order.Flow steps are blind = posts_blind nodes steps are
 order_blind nodes (order.Push node) steps are blind = pushes_blind nodes node steps blind are
 order_blind nodes (order.Widen at user id to) steps (result, are) blind = subst (AreBlind nodes) (sym are) (tt, tt)
+order_blind nodes (order.Group node) steps (result, are) blind = subst (AreBlind nodes) (sym are) (tt, tt)
+order_blind nodes (order.Conclude node) steps (result, are) blind = subst (AreBlind nodes) (sym are) (tt, tt)
+order_blind nodes (order.Regroup node) steps are blind = regroup_blind nodes node steps are
 order_blind nodes (order.Tick seconds) steps (result, are) blind = subst (AreBlind nodes) (sym are) (tt, tt)
 order_blind nodes order.Sum steps are blind = subst (AreBlind nodes) (sym are) tt
 
@@ -237,3 +251,10 @@ module _ {D : Type 0} (on : View D) (start last : World D) (begins : IsAtBeginni
   letters_in same told number ticket got wanted stands pending =
       pending_has_letter on plan lines outcomes awaited start last (record { begins = begins; known = known told; makes = steps; sessions = of_sessions }) number ticket stands got wanted
       (subst (λ (p : Plan). ask_of p.confirm ticket ≡ Pending got wanted) same pending)
+
+  -- it stands for a sound world of the whole machine, and all memberships of one epoch are equal
+  pub whole_in : AreToldOrBlind on start lines → IsWhole on plan last
+  whole_in told = world_is_whole on plan lines outcomes awaited start last (record { begins = begins; known = known told; makes = steps; sessions = of_sessions })
+
+  pub one_map_in : AreToldOrBlind on start lines → HasOneMap (state_of last)
+  one_map_in told = one_map_per_epoch on plan lines outcomes awaited start last (record { begins = begins; known = known told; makes = steps; sessions = of_sessions })

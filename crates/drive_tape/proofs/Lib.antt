@@ -38,3 +38,5 @@ pub mod FedOpens
 pub mod FedMoves
 pub mod Sure
 pub mod WholeTexts
+pub mod Forming
+pub mod EpochTexts

@@ -1,11 +1,12 @@
 -- What the steps of a run line make of a world.
-use Rattle.std.proofs.Common.{◌≡◌, ◌≢◌, ◌≤◌, ◌<◌, ⊎_elim, ℕ, nat_eq, nat_lt, Bool, true, false, List, [], ◌∷◌, ◌++◌, Option, None, Result, Ok, Err, refl, sym, ap, ◌∙◌, subst, arith}
+use Rattle.std.proofs.Common.{◌≡◌, ◌≢◌, ◌≤◌, ◌<◌, ⊎_elim, inl, ℕ, nat_eq, nat_lt, Bool, true, false, List, [], ◌∷◌, ◌++◌, Option, None, Result, Ok, Err, refl, sym, ap, ◌∙◌, subst, arith}
 use Rattle.std.proofs.lemmas.Bool.Decides.{nat_tests}
 use Rattle.std.specs.Prelude.{◌||◌, ⊤}
 use Rattle.object_model.specs.Lists.{Among}
 use Rattle.mail_model.specs.Plan.{Plan}
 use Rattle.session_model.specs.Sums.{sum_of}
 use Rattle.mail_model.specs.Tape.{ClusterOrder}
+use Rattle.mail_model.specs.Tape.{ClusterOrder as order}
 use Rattle.session_model.specs.Acts.{Act}
 use Rattle.session_model.specs.Acts.Act.{Makes as MakesAct}
 use Rattle.session_model.specs.Events.{NodeLife, IsEventOf, IsUp, MayFault, life_by_event, failed_by_event}
@@ -29,7 +30,7 @@ use Rattle.drive_tape.specs.declared.drove.Stop.{Stop}
 use Rattle.drive_tape.specs.declared.event.ClusterEvent.{ClusterEvent}
 use Rattle.drive_tape.specs.Denials.{stop_by}
 use Rattle.drive_tape.specs.Happenings.{event_seen, fallen_by}
-use Rattle.drive_tape.specs.Led.{Tells}
+use Rattle.drive_tape.specs.Led.{Tells, AreDenied, EndsIn as LastIs}
 use Rattle.drive_tape.specs.Moved.{OrderIsFit, Happened, MovedSo}
 use Rattle.drive_tape.specs.Worlds.{WentTo}
 use Rattle.drive_tape.proofs.WholeTexts.{are_ended, front_ended}
@@ -68,6 +69,11 @@ pub calm_left : (front more : List StepMade) (awaited : List Awaited) → AreCal
 calm_left [] more awaited calm = refl
 calm_left (one ∷ front) more awaited calm =
     calm_left front more (left_after (fallen_in one.step one.result) awaited) calm.1 ∙ ap (λ (f : Option ℕ). left_after_all more (left_after f awaited)) calm.0.falls
+
+-- a line whose last step was refused
+denied_ends : (asked : ClusterOrder) (why : StepFault) (steps : List StepMade) → LastIs (Err why) steps → AreDenied asked why steps
+denied_ends (order.Regroup node) why steps ends = inl ends
+denied_ends asked why steps ends = ends
 
 module _ {D : Type 0} (on : View D) where
   pub steps_more : (front : List StepMade) (one : StepMade) (old mid new : World D) → MakesSteps on front old mid → IsStep on one.result one.step mid new → MakesSteps on (front ++ one ∷ []) old new
@@ -154,7 +160,7 @@ module _ {D : Type 0} (on : View D) where
     denied_after new mid front one why stop before calm last makes refused stops never = (
       never,
       front ++ one ∷ [],
-      record { before = front; one = one; last = refl; why = why; refused = refused; stops = stops },
+      record { why = why; denied = denied_ends order why (front ++ one ∷ []) (front, one, refl, refused); stops = stops },
       (
         left_after_all (front ++ one ∷ []) awaited,
         went_more on start outcomes awaited old fit.at (Moved order (front ++ one ∷ []) (sum_of (book_of old))) (left_after_all (front ++ one ∷ []) awaited) new (makes, refl, refl) tt,

@@ -1,5 +1,5 @@
 -- The text of each message that a session asks to be stored is whole.
-use Rattle.std.proofs.Common.{◌≡◌, ◌⊎◌, inl, inr, ℕ, ◌≤◌, Bool, true, false, List, [], ◌∷◌, ◌++◌, length, length-append, append-nil, Option, Some, None, refl, sym, ap, ◌∙◌, subst, arith}
+use Rattle.std.proofs.Common.{◌≡◌, ◌⊎◌, inl, inr, ⊎_elim, ℕ, ◌≤◌, Bool, true, false, List, [], ◌∷◌, ◌++◌, length, length-append, append-nil, Option, Some, None, refl, sym, ap, ◌∙◌, subst, arith}
 use Rattle.std.specs.Prelude.{All, ⊤, if◌then◌else◌}
 use Rattle.std.proofs.lemmas.List.Elements.{All-head, All-tail}
 use Rattle.mail_model.specs.Lines.{sent_line, ends_in_crlf}
@@ -23,9 +23,10 @@ use Rattle.call_tickets.specs.declared.call.Call.TheVariants.{Deliver, Login, Fe
 use Rattle.mail_base.specs.Delivers.{mail_in}
 use Rattle.node_core.specs.Beginning.{call_seen as machine_call, IsTextEnded}
 use Rattle.cluster_world.specs.Ended.{IsEnded}
-use Rattle.cluster_world.specs.Outcomes.{Outcome, StepMade, IsLeave, IsPost}
+use Rattle.cluster_world.specs.Outcomes.{Outcome, StepMade, IsLeave, IsPost, AreOfRegroup}
 use Rattle.cluster_world.proofs.Ordered.{IsPushOf, AreStepsOf}
 use Rattle.cluster_world.specs.declared.step.Step.{Step}
+use Rattle.cluster_world.specs.declared.step.Step.TheVariants as step
 use Rattle.drive_tape.specs.Worlds.{IsWholeCall, IsWholeOutcome, AreWhole}
 
 some_same : (a b : model.Call) → Some a ≡ Some b → a ≡ b
@@ -63,6 +64,14 @@ pushes_ended : (node : ℕ) (steps : List StepMade) → All (IsPushOf node) step
 pushes_ended node [] all = tt
 pushes_ended node (one ∷ more) all = let first = All-head (IsPushOf node) one more all in (subst IsEnded (sym first.1) tt, pushes_ended node more (All-tail (IsPushOf node) one more all))
 
+regroup_ended : (node : ℕ) (steps : List StepMade) → AreOfRegroup node steps → AreEnded steps
+regroup_ended node [] all = tt
+regroup_ended node (one ∷ more) all = (
+  ⊎_elim (λ (opens : one.step ≡ step.Group node). subst IsEnded (sym opens) tt)
+      (λ rest. ⊎_elim (λ (concludes : one.step ≡ step.Conclude node). subst IsEnded (sym concludes) tt) (λ (post : IsPost one). subst IsEnded (sym post.1) tt) rest) all.0,
+  regroup_ended node more all.1,
+)
+
 pub are_ended : (line : ClusterOrder) (steps : List StepMade) → AreStepsOf line steps → AreEnded steps
 are_ended (order.Crash node) steps are = one_ended _ steps tt are.0 are.1
 are_ended (order.Start node) steps are = one_ended _ steps tt are.0 are.1
@@ -73,6 +82,9 @@ are_ended (order.Drop letter) steps are = one_ended _ steps tt are.0 are.1
 are_ended order.Flow steps are = posts_ended steps are
 are_ended (order.Push node) steps are = pushes_ended node steps are
 are_ended (order.Widen node user id to) steps are = one_ended _ steps tt are.0 are.1
+are_ended (order.Group node) steps are = one_ended _ steps tt are.0 are.1
+are_ended (order.Conclude node) steps are = one_ended _ steps tt are.0 are.1
+are_ended (order.Regroup node) steps are = regroup_ended node steps are
 are_ended (order.Tick seconds) steps are = one_ended _ steps tt are.0 are.1
 are_ended order.Sum steps are = subst AreEnded (sym are) tt
 

@@ -13,7 +13,7 @@ use Rattle.node_store.specs.Disks.{View}
 use Rattle.cluster_world.specs.Worlds.{life_of, disk_of_node, disks_of}
 use Rattle.cluster_world.specs.Steps.{IsStep}
 use Rattle.cluster_world.specs.Turns.{life_after_step}
-use Rattle.cluster_world.specs.Outcomes.{Outcome, Awaited, StepMade, Came, Makes, MakesSteps, IsPost}
+use Rattle.cluster_world.specs.Outcomes.{Outcome, Awaited, StepMade, Came, Makes, MakesSteps, IsPost, IsOfRegroup, AreOfRegroup}
 use Rattle.cluster_world.proofs.Ordered.{AreStepsOf, AreOne, IsPushOf, order_makes, order_are}
 use Rattle.cluster_world.specs.Outcomes.Outcome.{Began, Refused, Fell, Broke, Answers, StillPending, Unanswered, GaveUp, Abandoned, KeptUp, Left, Moved}
 use Rattle.cluster_world.specs.declared.world.World.{World}
@@ -49,6 +49,8 @@ done_up (step.Post letter keep) n now was is = is
 done_up (step.Drop letter) n now was is = is
 done_up (step.Push from to) n now was is = is
 done_up (step.Widen at user id to) n now was is = is
+done_up (step.Group node) n now was is = is
+done_up (step.Conclude node) n now was is = is
 done_up (step.Tick seconds) n now was is = is
 done_up (step.Crash node) n now was is = turned_up node n now Down was down_not_up is
 done_up (step.Start node) n now was is = is
@@ -62,6 +64,8 @@ comes_up (step.Post letter keep) boot n now was is = inl is
 comes_up (step.Drop letter) boot n now was is = inl is
 comes_up (step.Push from to) boot n now was is = inl is
 comes_up (step.Widen at user id to) boot n now was is = inl is
+comes_up (step.Group node) boot n now was is = inl is
+comes_up (step.Conclude node) boot n now was is = inl is
 comes_up (step.Tick seconds) boot n now was is = inl is
 comes_up (step.Crash node) boot n now was is = inl is
 comes_up (step.Lose node) boot n now was is = inl is
@@ -82,6 +86,8 @@ step_up (Ok said.Heard) one n now was is = inl is
 step_up (Ok (said.Thrown why)) one n now was is = inl is
 step_up (Ok (said.Sent letters)) one n now was is = inl is
 step_up (Ok (said.Widened did)) one n now was is = inl is
+step_up (Ok (said.Grouped epoch)) one n now was is = inl is
+step_up (Ok (said.Concluded epoch members)) one n now was is = inl is
 step_up (Err (fault.NoMemory (Some node))) one n now was is = inl (turned_up node n now Down was down_not_up is)
 step_up (Err (fault.NoMemory None)) one n now was is = inl is
 step_up (Err fault.NoSuchNode) one n now was is = inl is
@@ -90,6 +96,7 @@ step_up (Err fault.NodeDown) one n now was is = inl is
 step_up (Err fault.NodeUp) one n now was is = inl is
 step_up (Err fault.NoSuchLetter) one n now was is = inl is
 step_up (Err fault.NoSuchTicket) one n now was is = inl is
+step_up (Err fault.NotAGroup) one n now was is = inl is
 step_up (Err fault.Worn) one n now was is = inl is
 step_up (Err fault.NoRoom) one n now was is = inl is
 
@@ -112,6 +119,19 @@ pushes_start node (first ∷ steps) one n all among starts = ⊎_elim
     (λ (same : first ≡ one). let is : IsPushOf node one = subst (IsPushOf node) same (All-head (IsPushOf node) first steps all) in let never : step.Push node is.0 ≡ step.Start n = sym is.1 ∙ starts in cc)
     (λ (rest : Among one steps). pushes_start node steps one n (All-tail (IsPushOf node) first steps all) rest starts) among
 
+of_regroup_starts : (node : ℕ) (one : StepMade) (n : ℕ) → IsOfRegroup node one → one.step ≡ step.Start n → ⊥
+of_regroup_starts node one n of starts = ⊎_elim
+    (λ (opens : one.step ≡ step.Group node). let never : step.Group node ≡ step.Start n = sym opens ∙ starts in cc)
+    (λ rest. ⊎_elim
+    (λ (concludes : one.step ≡ step.Conclude node). let never : step.Conclude node ≡ step.Start n = sym concludes ∙ starts in cc)
+    (λ (post : IsPost one). let never : step.Post post.0 false ≡ step.Start n = sym post.1 ∙ starts in cc) rest) of
+
+regroup_starts : (node : ℕ) (steps : List StepMade) (one : StepMade) (n : ℕ) → AreOfRegroup node steps → Among one steps → one.step ≡ step.Start n → ⊥
+regroup_starts node [] one n all among starts = among
+regroup_starts node (first ∷ steps) one n all among starts = ⊎_elim
+    (λ (same : first ≡ one). of_regroup_starts node one n (subst (IsOfRegroup node) same all.0) starts)
+    (λ (rest : Among one steps). regroup_starts node steps one n all.1 rest starts) among
+
 order_starts : (asked : ClusterOrder) (steps : List StepMade) (sum : BookSum) (one : StepMade) (n : ℕ) → AreStepsOf asked steps → Among one steps → one.step ≡ step.Start n → StartsAgain n (Moved asked steps sum)
 order_starts (order.Crash node) steps sum one n are among starts = absurd (let never : step.Crash node ≡ step.Start n = one_starts (step.Crash node) steps one n are among starts in cc)
 order_starts (order.Lose node) steps sum one n are among starts = absurd (let never : step.Lose node ≡ step.Start n = one_starts (step.Lose node) steps one n are among starts in cc)
@@ -125,6 +145,9 @@ order_starts (order.Drop letter) steps sum one n are among starts = absurd (let 
 order_starts order.Flow steps sum one n are among starts = absurd (posts_start steps one n are among starts)
 order_starts (order.Push node) steps sum one n are among starts = absurd (pushes_start node steps one n are among starts)
 order_starts (order.Widen at user id to) steps sum one n are among starts = absurd (let never : step.Widen at user id to ≡ step.Start n = one_starts (step.Widen at user id to) steps one n are among starts in cc)
+order_starts (order.Group node) steps sum one n are among starts = absurd (let never : step.Group node ≡ step.Start n = one_starts (step.Group node) steps one n are among starts in cc)
+order_starts (order.Conclude node) steps sum one n are among starts = absurd (let never : step.Conclude node ≡ step.Start n = one_starts (step.Conclude node) steps one n are among starts in cc)
+order_starts (order.Regroup node) steps sum one n are among starts = absurd (regroup_starts node steps one n are among starts)
 order_starts (order.Tick seconds) steps sum one n are among starts = absurd (let never : step.Tick seconds ≡ step.Start n = one_starts (step.Tick seconds) steps one n are among starts in cc)
 order_starts order.Sum steps sum one n are among starts = absurd (subst (Among one) are among)
 

@@ -15,6 +15,7 @@ stop_by step.NodeDown = Bad tape.NodeDown
 stop_by step.NodeUp = Bad tape.NodeUp
 stop_by step.NoSuchLetter = Bad tape.NoSuchLetter
 stop_by step.NoSuchTicket = Bad tape.NoSuchTicket
+stop_by step.NotAGroup = Bad tape.NotAGroup
 stop_by step.Worn = Bad tape.Worn
 stop_by step.NoRoom = Bad tape.NoRoom
 stop_by (step.NoMemory down) = NoMemory

@@ -26,6 +26,7 @@ use Rattle.cluster_model.specs.Progress.Ask.{Pending}
 use Rattle.object_model.specs.Letters.{Number}
 use Rattle.cluster_world.specs.Worlds.{state_of, plan_of, disk_of_node, life_of}
 use Rattle.cluster_world.specs.Telling.{standing_in}
+use Rattle.cluster_world.specs.Wholes.{IsWhole, HasOneMap}
 use Rattle.cluster_world.specs.declared.fault.StepFault.{StepFault}
 use Rattle.object_model.specs.Lists.{Among}
 use Rattle.cluster_world.specs.declared.world.World.{World}
@@ -38,7 +39,7 @@ use Rattle.drive_tape.specs.declared.drove.Stop.TheVariants as why
 use Rattle.drive_tape.specs.Denials.{stop_by}
 use Rattle.drive_tape.specs.Faults.{tape_fault_seen}
 use Rattle.drive_tape.specs.Kept.{AreToldOrBlind, KeptIn}
-use Rattle.drive_tape.specs.Led.{AreLedTo}
+use Rattle.drive_tape.specs.Led.{AreLedTo, AreDenied}
 use Rattle.drive_tape.specs.Points.{AreAtOwnNodes}
 use Rattle.drive_tape.specs.Worlds.{AreLives, HasFailed}
 
@@ -80,9 +81,9 @@ NamesLine (drove.WriteFault n) line = n ≡ line
 NamesLine (drove.BadTape n why) line = n ≡ line
 NamesLine (drove.NoMemory n) line = n ≡ line
 
--- the last step of an outcome was refused, for this fault of the tape
+-- the steps of an outcome were denied, for this fault of the tape
 abbrev pub IsDenied : TapeFault → Outcome → Type 0
-IsDenied fault (Moved order steps sum) = (before : List StepMade) × (one : StepMade) × (cause : StepFault) × (steps ≡ before ++ one ∷ []) × (one.result ≡ Err cause) × (stop_by cause ≡ why.Bad fault)
+IsDenied fault (Moved order steps sum) = (cause : StepFault) × AreDenied order cause steps × (stop_by cause ≡ why.Bad fault)
 IsDenied fault (KeptUp k ticket cause) = stop_by cause ≡ why.Bad fault
 IsDenied fault outcome = ⊥
 
@@ -156,6 +157,9 @@ pub record Drives {D : Type 0} (on : View D) (start : World D) (left0 left1 held
   pub none_waits : AreToldOrBlind on start (handled ++ midst) → (plan_of start).nodes ≡ 1 → (plan_of start).confirm ≡ 1 → 1 ≤ (plan_of start).copies → (k : ℕ) → Among (StillWaits k) (flat_map (λ a. a) (acts ++ behind)) → ⊥
   -- whoever waits, waits for letters
   pub letters : AreToldOrBlind on start (handled ++ midst) → HasLetters last
+  -- the world that came back stands for a sound one of the whole machine, so all memberships of one epoch are equal: those that nodes have installed, and those that are on their way
+  pub sound : AreToldOrBlind on start (handled ++ midst) → IsWhole on (plan_of start) last
+  pub one_map : AreToldOrBlind on start (handled ++ midst) → HasOneMap (state_of last)
   pub why : Stops (stop_of answer) stop (plan_of start) (flat_map (λ a. a) acts) sessions midst left1 others room outcomes
   pub number : NamesLine answer (from + length handled + 1)
   pub whole : (IsCutShort stop → ⊥) → cut ≡ []

@@ -14,6 +14,7 @@ tape_fault_seen fault.NodeDown = site.TapeFault.NodeDown
 tape_fault_seen fault.NodeUp = site.TapeFault.NodeUp
 tape_fault_seen fault.NoSuchLetter = site.TapeFault.NoSuchLetter
 tape_fault_seen fault.NoSuchTicket = site.TapeFault.NoSuchTicket
+tape_fault_seen fault.NotAGroup = site.TapeFault.NotAGroup
 tape_fault_seen fault.Worn = site.TapeFault.Worn
 tape_fault_seen fault.NoRoom = site.TapeFault.NoRoom
 tape_fault_seen fault.TapeTooLong = site.TapeFault.TapeTooLong

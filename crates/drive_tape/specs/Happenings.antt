@@ -1,6 +1,7 @@
 -- What came of a run line that moves the cluster, as the definitions see it.
 use Rattle.std.specs.Prelude.{ℕ, List, [], ◌∷◌, Option, Some, None, Result, Ok, Err}
 use Rattle.std.specs.Io.KnownBytes.{Appends}
+use Rattle.object_model.specs.Sets.{nodes_in}
 use Rattle.mail_model.specs.Transcript as transcript
 use Rattle.mail_model.specs.Transcript.{Entry}
 use Rattle.mail_model.specs.Transcript.Entry.{Event}
@@ -9,7 +10,7 @@ use Rattle.node_core.specs.declared.outbox.Why.{Why}
 use Rattle.cluster_world.specs.Sums.{sum_seen}
 use Rattle.node_core.specs.declared.outbox.Why.TheVariants as why
 use Rattle.drive_tape.specs.declared.event.ClusterEvent.{ClusterEvent}
-use Rattle.drive_tape.specs.declared.event.ClusterEvent.TheVariants.{WentDown, CameUp, WasLost, WasHeard, WasThrown, WasDropped, HasFlowed, HasSent, HasWidened, HasTicked, HasSummed, HasFaulted}
+use Rattle.drive_tape.specs.declared.event.ClusterEvent.TheVariants.{WentDown, CameUp, WasLost, WasHeard, WasThrown, WasDropped, HasFlowed, HasSent, HasWidened, HasGrouped, HasFormed, HasTicked, HasSummed, HasFaulted}
 use Rattle.drive_tape.specs.declared.entry.WriteStop.{WriteStop}
 use Rattle.drive_tape.specs.declared.entry.WriteStop.TheVariants as write
 use Rattle.drive_tape.specs.Entries.{WritesEntries}
@@ -32,6 +33,8 @@ event_seen (WasDropped letter) = plain.ClusterEvent.WasDropped letter
 event_seen HasFlowed = plain.ClusterEvent.HasFlowed
 event_seen (HasSent count) = plain.ClusterEvent.HasSent count
 event_seen (HasWidened did) = plain.ClusterEvent.HasWidened did
+event_seen (HasGrouped epoch) = plain.ClusterEvent.HasGrouped epoch
+event_seen (HasFormed epoch members) = plain.ClusterEvent.HasFormed epoch (nodes_in members 16)
 event_seen HasTicked = plain.ClusterEvent.HasTicked
 event_seen (HasSummed sum) = plain.ClusterEvent.HasSummed (sum_seen sum)
 event_seen (HasFaulted node) = plain.ClusterEvent.HasFaulted node

@@ -1,12 +1,13 @@
 -- What the cluster made of each act of a run, and what each run line tells of the steps that were made for it.
 use Rattle.std.specs.Prelude.{◌≡◌, ◌⊎◌, ℕ, ◌+◌, ◌-◌, ◌^◌, min, false, List, [], ◌∷◌, ◌++◌, ⊤, Option, Some, None, Result, Ok, Err}
 use Rattle.object_model.specs.Letters.{Number}
+use Rattle.object_model.specs.Sets.{nodes_in}
 use Rattle.session_model.specs.Sums.{BookSum}
 use Rattle.mail_model.specs.Tape.{ClusterOrder}
 use Rattle.mail_model.specs.Tape.{ClusterOrder as order}
 use Rattle.session_model.specs.Calls.{Call}
 use Rattle.session_model.specs.Events.{ClusterEvent}
-use Rattle.session_model.specs.Events.ClusterEvent.{WentDown, CameUp, WasLost, WasHeard, WasThrown, WasDropped, HasFlowed, HasSent, HasWidened, HasTicked, HasSummed, HasFaulted}
+use Rattle.session_model.specs.Events.ClusterEvent.{WentDown, CameUp, WasLost, WasHeard, WasThrown, WasDropped, HasFlowed, HasSent, HasWidened, HasGrouped, HasFormed, HasTicked, HasSummed, HasFaulted}
 use Rattle.session_model.specs.Acts.{Act}
 use Rattle.session_model.specs.Acts.Act.{Opens, Does, Faults, StillWaits, Leaves, Makes, Abandons}
 use Rattle.session_model.specs.Acts.Deed.{IsFed, Hears, IsAnswered, IsGivenUp, Falls, Closes}
@@ -20,6 +21,8 @@ use Rattle.cluster_world.specs.declared.step.Step.TheVariants as step
 use Rattle.cluster_world.specs.declared.step.Said.{Said}
 use Rattle.cluster_world.specs.declared.step.Said.TheVariants as said
 use Rattle.cluster_world.specs.declared.fault.StepFault.{StepFault}
+use Rattle.cluster_world.specs.declared.fault.StepFault.TheVariants as fault
+use Rattle.cluster_world.specs.Regroups.{FormsBy, BeginsByGroup}
 use Rattle.drive_tape.specs.Happenings.{why_seen}
 
 -- what the transcript tells of a step that a run line asked for
@@ -31,6 +34,8 @@ told_of (step.Post letter keep) (Ok said.Heard) = Some (WasHeard letter)
 told_of (step.Post letter keep) (Ok (said.Thrown why)) = Some (WasThrown letter (why_seen why))
 told_of (step.Drop letter) (Ok said.Done) = Some (WasDropped letter)
 told_of (step.Widen at user id to) (Ok (said.Widened did)) = Some (HasWidened did)
+told_of (step.Group node) (Ok (said.Grouped epoch)) = Some (HasGrouped epoch)
+told_of (step.Conclude node) (Ok (said.Concluded epoch members)) = Some (HasFormed epoch (nodes_in members 16))
 told_of (step.Tick seconds) (Ok said.Done) = Some HasTicked
 told_of step result = None
 
@@ -53,12 +58,14 @@ abbrev pub EndsIn : Result Said StepFault → List StepMade → Type 0
 EndsIn result steps = (before : List StepMade) × (one : StepMade) × (steps ≡ before ++ one ∷ []) × (one.result ≡ result)
 
 -- What a run line tells of its steps, and of a book with so many entries. That the disk of a node failed is told of the last of them; else what came of the one that there
--- is, or of all. A count of letters stays at its type's end. Of no step the entries of the book are told.
+-- is, or of all. A count of letters stays at its type's end. Of a regroup the epoch is told that its one conclusion
+-- formed. Of no step the entries of the book are told.
 abbrev pub Tells : ClusterOrder → List StepMade → BookSum → ClusterEvent → Type 0
 Tells asked steps sum (HasFaulted node) = EndsIn (Ok (said.Faulted node)) steps
 Tells order.Flow steps sum HasFlowed = WentWell steps
 Tells (order.Push node) steps sum (HasSent count) = WentWell steps × (count ≡ min (sent_in steps) (2 ^ 64 - 1))
 Tells order.Sum steps sum (HasSummed told) = (steps ≡ []) × (told ≡ sum)
+Tells (order.Regroup node) steps sum (HasFormed epoch members) = (mask : ℕ) × FormsBy node epoch mask steps × BeginsByGroup node steps × (members ≡ nodes_in mask 16)
 Tells asked steps sum event = (one : StepMade) × (steps ≡ one ∷ []) × (told_of one.step one.result ≡ Some event)
 
 -- the call that a session asks, if any, began; or its node went down in it, since its disk failed
@@ -92,11 +99,16 @@ AreLed before [] outcomes = outcomes ≡ []
 AreLed before (act ∷ acts) outcomes =
     (own : List Outcome) × (others : List Outcome) × (outcomes ≡ own ++ others) × Led before act own × AreLed (before ++ own) acts others
 
--- A step of which no act tells: a ticket was asked for in vain, a call could not be given up, or the last step of a run line was refused.
+-- The steps of a run line were denied: the last of them was refused so; or a regroup, before its first step, for want of room.
+abbrev pub AreDenied : ClusterOrder → StepFault → List StepMade → Type 0
+AreDenied (order.Regroup node) why steps = EndsIn (Err why) steps ⊎ ((steps ≡ []) × (why ≡ fault.NoRoom))
+AreDenied asked why steps = EndsIn (Err why) steps
+
+-- A step of which no act tells: a ticket was asked for in vain, a call could not be given up, or the steps of a run line were denied.
 abbrev pub IsUntold : Outcome → Type 0
 IsUntold (Unanswered k asked ticket) = ⊤
 IsUntold (KeptUp k ticket why) = ⊤
-IsUntold (Moved asked steps sum) = (why : StepFault) × EndsIn (Err why) steps
+IsUntold (Moved asked steps sum) = (why : StepFault) × AreDenied asked why steps
 IsUntold outcome = ⊥
 
 -- nothing came of the call but this: it was refused, and is lacking among those that have begun; or its node went down in it as memory ran out

@@ -23,3 +23,4 @@ pub mod Plans
 pub mod Lines
 pub mod Fed
 pub mod Runs
+pub mod Forms

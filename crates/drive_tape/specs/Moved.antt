@@ -23,7 +23,7 @@ use Rattle.drive_tape.specs.declared.event.ClusterEvent.{ClusterEvent}
 use Rattle.drive_tape.specs.declared.event.ClusterEvent.TheVariants as event
 use Rattle.drive_tape.specs.Denials.{stop_by}
 use Rattle.drive_tape.specs.Happenings.{event_seen, fallen_by}
-use Rattle.drive_tape.specs.Led.{Tells}
+use Rattle.drive_tape.specs.Led.{Tells, AreDenied}
 use Rattle.drive_tape.specs.Worlds.{WorldIsAt, WentTo, HasGone, AreLives, StaysOn, HasFailed}
 
 -- The order is not refused to a world that the acts so far left.
@@ -41,19 +41,16 @@ pub record Happened {D : Type 0} (on : View D) (start : World D) (outcomes : Lis
   pub lives : AreLives (plan_of old) (been ++ Makes order (event_seen event) ∷ []) world
   pub cause : (n : ℕ) → Among n (failed_by_event (event_seen event)) → HasFailed on start world n
 
--- the last of the steps was refused, and so the work stops
-pub record IsDeniedBy (steps : List StepMade) (stop : Stop) : Type 0 where
-  pub before : List StepMade
-  pub one : StepMade
-  pub last : steps ≡ before ++ one ∷ []
+-- the steps of the order were denied, and so the work stops
+pub record IsDeniedBy (order : ClusterOrder) (steps : List StepMade) (stop : Stop) : Type 0 where
   pub why : StepFault
-  pub refused : one.result ≡ Err why
+  pub denied : AreDenied order why steps
   pub stops : stop ≡ stop_by why
 
 abbrev pub MovedSo : {D : Type 0} → View D → World D → List Outcome → List Awaited → List Act → World D → ClusterOrder → Result ClusterEvent Stop → World D → Type 0
 MovedSo on start outcomes awaited been old order (Ok event) world = Happened on start outcomes awaited been old order event world
 MovedSo on start outcomes awaited been old order (Err stop) world =
-    (IsAlwaysDone order → ⊥) × (steps : List StepMade) × IsDeniedBy steps stop × HasGone on start old (outcomes ++ Moved order steps (sum_of (book_of old)) ∷ []) world × StaysOn stop old world
+    (IsAlwaysDone order → ⊥) × (steps : List StepMade) × IsDeniedBy order steps stop × HasGone on start old (outcomes ++ Moved order steps (sum_of (book_of old)) ∷ []) world × StaysOn stop old world
 
 -- one node pushed to another
 abbrev pub PushedSo : {D : Type 0} → View D → ℕ → ℕ → Result (Option ℕ) Stop → World D → World D → Type 0

@@ -10,7 +10,7 @@ use Rattle.cluster_world.specs.declared.world.World.{World}
 use Rattle.drive_tape.specs.declared.drove.TapeFault.{TapeFault}
 use Rattle.drive_tape.specs.declared.drove.TapeFault.TheVariants.{NoSuchNode}
 use Rattle.drive_tape.specs.declared.orders.Admitted.{Admitted}
-use Rattle.drive_tape.specs.declared.orders.Admitted.TheVariants.{Crash, Start, Lose, Post, Drop, Flow, Push, Widen, Tick, Sum}
+use Rattle.drive_tape.specs.declared.orders.Admitted.TheVariants.{Crash, Start, Lose, Post, Drop, Flow, Push, Widen, Group, Conclude, Regroup, Tick, Sum}
 use Rattle.drive_tape.specs.Faults.{tape_fault_seen}
 
 -- the plan has the node, or it has not
@@ -41,6 +41,9 @@ admitted_seen (Drop letter) = tape.ClusterOrder.Drop letter
 admitted_seen Flow = tape.ClusterOrder.Flow
 admitted_seen (Push node) = tape.ClusterOrder.Push node
 admitted_seen (Widen at user id to) = tape.ClusterOrder.Widen at user id to
+admitted_seen (Group node) = tape.ClusterOrder.Group node
+admitted_seen (Conclude node) = tape.ClusterOrder.Conclude node
+admitted_seen (Regroup node) = tape.ClusterOrder.Regroup node
 admitted_seen (Tick seconds) = tape.ClusterOrder.Tick seconds
 admitted_seen Sum = tape.ClusterOrder.Sum
 

@@ -17,6 +17,7 @@ pub(crate) fn stop_by(fault: StepFault) -> Stop
         StepFault::NodeUp => Stop::Bad(TapeFault::NodeUp),
         StepFault::NoSuchLetter => Stop::Bad(TapeFault::NoSuchLetter),
         StepFault::NoSuchTicket => Stop::Bad(TapeFault::NoSuchTicket),
+        StepFault::NotAGroup => Stop::Bad(TapeFault::NotAGroup),
         StepFault::Worn => Stop::Bad(TapeFault::Worn),
         StepFault::NoRoom => Stop::Bad(TapeFault::NoRoom),
         StepFault::NoMemory { .. } => Stop::NoMemory,

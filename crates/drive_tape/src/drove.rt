@@ -26,9 +26,11 @@ pub enum TapeFault {
     NoSuchLetter,
     /// The call stands no more.
     NoSuchTicket,
+    /// The node has no group open.
+    NotAGroup,
     /// A number that the step needs is used up.
     Worn,
-    /// Not even the first letter finds room.
+    /// Not even the first letter finds room; of a group, not all of its letters do.
     NoRoom,
     /// 1,099,511,627,776 octets were taken after `go`, and no whole line is left of them.
     TapeTooLong,
@@ -50,6 +52,7 @@ impl TapeFault {
             TapeFault::NodeUp => b"NodeUp",
             TapeFault::NoSuchLetter => b"NoSuchLetter",
             TapeFault::NoSuchTicket => b"NoSuchTicket",
+            TapeFault::NotAGroup => b"NotAGroup",
             TapeFault::Worn => b"Worn",
             TapeFault::NoRoom => b"NoRoom",
             TapeFault::TapeTooLong => b"TapeTooLong",

@@ -8,10 +8,11 @@ ghost use Rattle.cluster_world.specs.Sums.{sum_seen};
 ghost use Rattle.drive_tape.specs.Happenings.{why_seen, event_seen, entries_of_event, fallen_by, WritesOrStops};
 
 use crate::entry::Entry;
+use crate::epoch_text::{formed, grouped, push_number};
 use crate::{WriteStop, write_entries};
 use cluster_world::BookSum;
 use io_edge::Sink;
-use mail_base::{NodeNo, Octets};
+use mail_base::{EpochId, NodeNo, NodeSet, Octets};
 use node_core::Why;
 use std::alloc::{AllocError, Global};
 
@@ -36,6 +37,10 @@ pub(crate) enum ClusterEvent {
     HasSent(u64),
     /// Whether a copy got a target more.
     HasWidened(bool),
+    /// A group was opened for this epoch.
+    HasGrouped(EpochId),
+    /// The epoch was formed, with these members.
+    HasFormed { epoch: EpochId, members: NodeSet },
     /// The clock was set.
     HasTicked,
     /// The entries of the book were counted.
@@ -115,20 +120,6 @@ fn widened(alloc: Global, did: bool) -> Result<Octets, AllocError>
     Ok(Octets::from_vec(Vec::from_slice(alloc, text)?))
 }
 
-// A word and a number more.
-fn push_number(
-    alloc: Global,
-    text: &mut Vec<u8>,
-    word: &[u8],
-    number: u64,
-) -> Result<(), AllocError>
-    ensures { OnOk result (text.new.items ≡ text.old.items ++ word.now ++ decimal number) }
-{
-    let number = number.to_string(alloc)?;
-    text.extend_from_slice(word)?;
-    text.extend_from_slice(number.as_bytes())
-}
-
 // `sum acked A struck S dropped D lost L`
 fn summed(alloc: Global, sum: &BookSum) -> Result<Octets, AllocError>
     ensures { IfOk result (λ text. text ≡ sum_text (sum_seen sum.now)) }
@@ -176,6 +167,10 @@ impl ClusterEvent {
             ClusterEvent::HasFlowed => Ok(Some(word(alloc, b"flowed")?)),
             ClusterEvent::HasSent(count) => Ok(Some(numbered(alloc, b"sent ", *count)?)),
             ClusterEvent::HasWidened(did) => Ok(Some(widened(alloc, *did)?)),
+            ClusterEvent::HasGrouped(epoch) => Ok(Some(grouped(alloc, *epoch)?)),
+            ClusterEvent::HasFormed { epoch, members } => {
+                Ok(Some(formed(alloc, *epoch, *members)?))
+            }
             ClusterEvent::HasTicked => Ok(None),
             ClusterEvent::HasSummed(sum) => Ok(Some(summed(alloc, sum)?)),
             ClusterEvent::HasFaulted(node) => Ok(Some(faulted(alloc, *node)?)),
@@ -197,6 +192,8 @@ impl ClusterEvent {
             ClusterEvent::HasFlowed => None,
             ClusterEvent::HasSent(_) => None,
             ClusterEvent::HasWidened(_) => None,
+            ClusterEvent::HasGrouped(_) => None,
+            ClusterEvent::HasFormed { .. } => None,
             ClusterEvent::HasTicked => None,
             ClusterEvent::HasSummed(_) => None,
         }

@@ -82,19 +82,21 @@
 //!   `giveup` of a session that does not wait.
 //! - `NoSuchNode`: the plan has no node of that number. The node in an ID is not meant.
 //! - `NoSuchSession`: `say`, `feed`, `close` or `giveup` names a session that was never opened, or has ended.
-//! - `NodeLost`: `open`, `crash`, `start`, `lose` or `widen` names a node that is lost, and is to do it.
-//! - `NodeDown`: `open`, `crash` or `widen` names a node that is down, and is to do it.
+//! - `NodeLost`: `open`, `crash`, `start`, `lose`, `widen`, `group`, `conclude` or `regroup` names a node that is lost,
+//!   and is to do it.
+//! - `NodeDown`: `open`, `crash`, `widen`, `group`, `conclude` or `regroup` names a node that is down, and is to do it.
 //! - `NodeUp`: `start` names a node that is up.
 //! - `TooManySessions`: `open` where 256 sessions stand.
 //! - `NoSuchLetter`: the letter of `post`, `again` or `drop` is not in flight.
 //! - `NoSuchTicket`: the call that `giveup` or `close` would give up does not stand at its node.
+//! - `NotAGroup`: the node of `conclude` has no group open.
 //! - `Worn`: a number that the line would draw is used up, as that of a boot or of a letter.
 //! - `NoRoom`: states are owed to a node to which `push` comes, and not even the first of them finds room among the
-//!   letters in flight.
+//!   letters in flight; or not all letters of a group do.
 //! - `TapeTooLong`: 1,099,511,627,776 octets were taken and no whole line is left of them.
 //!
-//! `NoSuchLetter`, `NoSuchTicket`, `Worn` and `NoRoom` come of a step of the cluster. Where a `push` or a `flow`
-//! is refused so, the steps before that one are made: the letters to earlier nodes are in flight, and those that
+//! `NoSuchLetter`, `NoSuchTicket`, `NotAGroup`, `Worn` and `NoRoom` come of the cluster. Where a step of a `push`, a `flow` or a
+//! `regroup` is refused so, the steps before that one are made: the letters to earlier nodes are in flight, and those that
 //! were posted are heard.
 //!
 //! After `WriteFault` a prefix of what the line gives was written, the last line of it perhaps in part.
@@ -137,7 +139,9 @@ mod denial;
 mod driver;
 mod drove;
 mod entry;
+mod epoch_text;
 mod event;
+mod grouping;
 mod lines;
 mod moved;
 mod open_call;

@@ -13,6 +13,7 @@ ghost use Rattle.drive_tape.specs.Moved.{MovedSo, OrderIsFit, PushedSo, PostsTo,
 use crate::Stop;
 use crate::denial::{done, stop_by};
 use crate::event::ClusterEvent;
+use crate::grouping::{conclude, group, regroup};
 use crate::orders::Admitted;
 use cluster_world::{Said, Step, StepFault, World};
 use io_edge::Disk;
@@ -275,6 +276,9 @@ pub(crate) fn make<D: Disk>(
         Admitted::Flow => flow(world, alloc),
         Admitted::Push(node) => push(world, alloc, node),
         Admitted::Widen { at, user, id, to } => widen(world, alloc, at, user, id, to),
+        Admitted::Group(node) => group(world, alloc, node),
+        Admitted::Conclude(node) => conclude(world, alloc, node),
+        Admitted::Regroup(node) => regroup(world, alloc, node),
         Admitted::Tick(seconds) => tick(world, alloc, seconds),
         Admitted::Sum => Ok(sum(world)),
     }

@@ -40,6 +40,12 @@ pub(crate) enum Admitted {
         id: MsgId,
         to: NodeNo,
     },
+    /// A node opens a group.
+    Group(NodeNo),
+    /// A node concludes its group.
+    Conclude(NodeNo),
+    /// A node forms the next epoch.
+    Regroup(NodeNo),
     /// The clock is set.
     Tick(u64),
     /// The entries of the book are counted.
@@ -168,6 +174,9 @@ pub(crate) fn admit<D: Disk>(world: &World<D>, order: ClusterOrder) -> Result<Ad
         ClusterOrder::Flow => Ok(Admitted::Flow),
         ClusterOrder::Push { node } => Ok(Admitted::Push(node_of(world.plan(), node)?)),
         ClusterOrder::Widen { at, user, id, to } => widen(world, at, user, id, to),
+        ClusterOrder::Group { node } => Ok(Admitted::Group(worker(world, node)?)),
+        ClusterOrder::Conclude { node } => Ok(Admitted::Conclude(worker(world, node)?)),
+        ClusterOrder::Regroup { node } => Ok(Admitted::Regroup(worker(world, node)?)),
         ClusterOrder::Tick { seconds } => Ok(Admitted::Tick(seconds)),
         ClusterOrder::Sum => Ok(Admitted::Sum),
     }

@@ -7,10 +7,10 @@ use Rattle.mail_model.specs.Identity.Value.{Here}
 use Rattle.mail_model.specs.Plan.{Plan}
 use Rattle.mail_model.specs.Listing.{octets_in}
 use Rattle.mail_model.specs.Record.{Record}
-use Rattle.mail_model.specs.Record.Record.{Boot, Stated}
+use Rattle.mail_model.specs.Record.Record.{Boot, Promise, Stated}
 use Rattle.object_model.specs.Lists.{Among}
 use Rattle.object_model.specs.Said.{said}
-use Rattle.object_model.specs.Letters.{Body, Letter}
+use Rattle.object_model.specs.Letters.{MapRow, Body, Letter}
 use Rattle.object_model.specs.Letters.Body.{Push}
 use Rattle.object_model.proofs.Lists.{among_front, among_either}
 use Rattle.cluster_model.specs.Cluster as mail_cluster
@@ -26,8 +26,9 @@ use Rattle.cluster_model.specs.Steps.{NodeCall}
 use Rattle.cluster_model.specs.Steps.NodeCall.{Deliver, Login, Fetch, Strike, Leave}
 use Rattle.cluster_model.specs.Makes as mail_makes
 use Rattle.cluster_model.specs.Makes.{begun_by, targets_for, asked_for}
+use Rattle.cluster_model.specs.Starts.{first_epoch}
 use Rattle.cluster_model.specs.WorldLaws.{InPlan, fresh_slot, fresh_slots, opening_world}
-use Rattle.cluster_model.proofs.Opening.{opening_sound}
+use Rattle.cluster_model.proofs.Opening.{of_opening, no_state, opening_sound}
 use Rattle.cluster_model.proofs.Running.{steps_sound}
 use Rattle.gone_model.specs.Gone.{AreForAll, IsBodyForAll, KeepsGone}
 use Rattle.gone_model.proofs.Keeping as gone
@@ -149,25 +150,25 @@ module _ (plan : Plan) (few : plan.nodes ≤ 64) where
       (one_hold Gone GoneBody gone_stays plan gone_rules old sound (gone_of old p) tells made.step made.outcome mid first)
       (one_hold EachHereHasOctets IsBodyWithOctets here_stays plan here_rules old sound (here_of old p) tells made.step made.outcome mid first))
 
-  -- where a cluster of messages opens, each disk has the record of its first boot
-  fresh_at : (k n : ℕ) (slot : mail_cluster.Slot) → slice_get (fresh_slots plan.nodes k) n ≡ Some slot → all_records slot ≡ Boot 1 ∷ []
-  fresh_at zero n slot e = absurd (cc e)
-  fresh_at (suc k) zero slot e = ap all_records (sym (same (fresh_slot plan.nodes) slot e))
+  -- where a cluster of messages opens, each disk has the record of its first boot and the promise of the first epoch
+  fresh_at : (managers : List MapRow) (k n : ℕ) (slot : mail_cluster.Slot) → slice_get (fresh_slots plan.nodes managers k) n ≡ Some slot → all_records slot ≡ Boot 1 ∷ Promise first_epoch ∷ []
+  fresh_at managers zero n slot e = absurd (cc e)
+  fresh_at managers (suc k) zero slot e = ap all_records (sym (same (fresh_slot plan.nodes managers) slot e))
     where
       same : (a b : mail_cluster.Slot) → Some a ≡ Some b → a ≡ b
       same a b h = cc
-  fresh_at (suc k) (suc n) slot e = fresh_at k n slot e
+  fresh_at managers (suc k) (suc n) slot e = fresh_at managers k n slot e
 
-  boots_alone : (n : ℕ) (slot : mail_cluster.Slot) → mail_cluster.slot_at (fresh_slots plan.nodes plan.nodes) n ≡ Some slot → (key : Key) (state : State) → Among (Stated key state) (all_records slot) → ⊥
-  boots_alone zero slot e key state m = absurd (cc e)
-  boots_alone (suc n) slot e key state m = ⊎_elim (λ is. cc is) (λ none. none) (subst (Among (Stated key state)) (fresh_at plan.nodes n slot e) m)
+  boots_alone : (managers : List MapRow) (n : ℕ) (slot : mail_cluster.Slot) → mail_cluster.slot_at (fresh_slots plan.nodes managers plan.nodes) n ≡ Some slot → (key : Key) (state : State) → Among (Stated key state) (all_records slot) → ⊥
+  boots_alone managers zero slot e key state m = absurd (cc e)
+  boots_alone managers (suc n) slot e key state m = no_state key state (of_opening (Stated key state) (subst (Among (Stated key state)) (fresh_at managers plan.nodes n slot e) m))
 
-  pub mail_worlds : (tells : Bool) (steps : List mail_makes.MadeStep) (w : mail.World) → mail_makes.MakesAll plan tells (opening_world plan.nodes) steps w → PartsHold plan w
-  mail_worlds tells steps w made =
-      let sound = opening_sound plan.nodes plan.confirm few in
-      mail_all tells (opening_world plan.nodes) w steps made sound.0 sound.1 (record {
-        gone = gone.empty_has plan.nodes (mail.cluster_of (opening_world plan.nodes)) boots_alone refl;
-        here = here_proofs.empty_has (mail.cluster_of (opening_world plan.nodes)) boots_alone refl;
+  pub mail_worlds : (tells : Bool) (managers : List MapRow) (steps : List mail_makes.MadeStep) (w : mail.World) → mail_makes.MakesAll plan tells (opening_world plan.nodes managers) steps w → PartsHold plan w
+  mail_worlds tells managers steps w made =
+      let sound = opening_sound plan.nodes plan.confirm managers few in
+      mail_all tells (opening_world plan.nodes managers) w steps made sound.0 sound.1 (record {
+        gone = gone.empty_has plan.nodes (mail.cluster_of (opening_world plan.nodes managers)) (boots_alone managers) refl;
+        here = here_proofs.empty_has (mail.cluster_of (opening_world plan.nodes managers)) (boots_alone managers) refl;
       })
 
   pub whole_all : (tells : Bool) (old new : World) (steps : List MadeStep) → MakesAll plan tells old steps new → Stands plan old → PartsHold plan (mail_world_of old) → PartsHold plan (mail_world_of new)
@@ -184,14 +185,14 @@ module _ (plan : Plan) (few : plan.nodes ≤ 64) where
       same a b h = cc
   empty_at (suc k) (suc n) slot e = empty_at k n slot e
 
-  no_state : (n : ℕ) (slot : mail_cluster.Slot) → mail_cluster.slot_at (map whole.mail_slot (empty_slots plan.nodes)) n ≡ Some slot → (key : Key) (state : State) → Among (Stated key state) (all_records slot) → ⊥
-  no_state zero slot e key state m = absurd (cc e)
-  no_state (suc n) slot e key state m = subst (Among (Stated key state)) (empty_at plan.nodes n slot e) m
+  none_stated : (n : ℕ) (slot : mail_cluster.Slot) → mail_cluster.slot_at (map whole.mail_slot (empty_slots plan.nodes)) n ≡ Some slot → (key : Key) (state : State) → Among (Stated key state) (all_records slot) → ⊥
+  none_stated zero slot e key state m = absurd (cc e)
+  none_stated (suc n) slot e key state m = subst (Among (Stated key state)) (empty_at plan.nodes n slot e) m
 
   pub opening_has : PartsHold plan (mail_world_of (unopened_world plan.nodes))
   opening_has = record {
-    gone = gone.empty_has plan.nodes (mail.cluster_of (mail_world_of (unopened_world plan.nodes))) no_state refl;
-    here = here_proofs.empty_has (mail.cluster_of (mail_world_of (unopened_world plan.nodes))) no_state refl;
+    gone = gone.empty_has plan.nodes (mail.cluster_of (mail_world_of (unopened_world plan.nodes))) none_stated refl;
+    here = here_proofs.empty_has (mail.cluster_of (mail_world_of (unopened_world plan.nodes))) none_stated refl;
   }
 
   pub worlds_have : (tells : Bool) (steps : List MadeStep) (w : World) → MakesAll plan tells (unopened_world plan.nodes) steps w → PartsHold plan (mail_world_of w)

@@ -111,8 +111,8 @@ module _ (P : List Record → Type 0) (B : Body → Type 0) (s : Stays P B) wher
         (after_hold P B (with_struck old call) (struck call) own node disk (struck_up call own node disk up) (begun_by plan old own node disk call octets) (r.begins old own node disk call octets))
     begins_hold tells own call said new (FailsInIt node disk octets up filed is g) =
         cut_hold P B s (with_struck old call) (struck call) own node disk (struck_up call own node disk up) (begun_by plan old own node disk call octets).disk (λ p. (r.begins old own node disk call octets p).0) new g
-    begins_hold tells own call said new (Reads node disk kind what up one of finds is new_world) = to_new _ new new_world (after_hold P B old h own node disk up (begin_read kind what node disk) (quiet (begin_read kind what node disk).node disk))
-    begins_hold tells own call said new (FailsReading node disk user id from most up one reads is new_world) = stops new own node disk up new_world
+    begins_hold tells own call said new (Reads node disk kind what up one goes of finds is new_world) = to_new _ new new_world (after_hold P B old h own node disk up (begin_read kind what node disk) (quiet (begin_read kind what node disk).node disk))
+    begins_hold tells own call said new (FailsReading node disk user id from most up one goes reads is new_world) = stops new own node disk up new_world
     begins_hold tells own call said new (Leaves node disk user up one leaves is new_world) = to_new old new new_world h
 
     asks_hold : (number : _) (said : Said) (new : World) → AnswersAsk plan old number said new → Holds P B new

@@ -6,6 +6,7 @@ use Rattle.mail_model.specs.Identity.Value.{Here}
 use Rattle.mail_model.specs.Listing.{octets_in}
 use Rattle.mail_model.specs.Plan.{Plan}
 use Rattle.object_model.specs.Said.{said}
+use Rattle.object_model.specs.Letters.{MapRow}
 use Rattle.cluster_model.specs.Parts as mail_parts
 use Rattle.cluster_model.specs.World as mail
 use Rattle.cluster_model.specs.Makes as mail_makes
@@ -30,7 +31,7 @@ MailStepsKeepParts = (plan : Plan) (tells : Bool) (old new : mail.World) (steps 
 
 -- so they hold of every world that comes of an opening over empty disks;
 abbrev pub MailWorldsHaveParts : Type 0
-MailWorldsHaveParts = (plan : Plan) (tells : Bool) (steps : List mail_makes.MadeStep) (w : mail.World) → plan.nodes ≤ 64 → mail_makes.MakesAll plan tells (opening_world plan.nodes) steps w → PartsHold plan w
+MailWorldsHaveParts = (plan : Plan) (tells : Bool) (map : List MapRow) (steps : List mail_makes.MadeStep) (w : mail.World) → plan.nodes ≤ 64 → mail_makes.MakesAll plan tells (opening_world plan.nodes map) steps w → PartsHold plan w
 
 -- and so they stay whatever steps are made of a world of the whole.
 abbrev pub StepsKeepParts : Type 0

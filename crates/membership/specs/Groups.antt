@@ -1,5 +1,5 @@
 -- What a node keeps of the epochs that it promises, forms and enters.
-use Rattle.std.specs.Prelude.{ℕ, ◌+◌, max, Bool, nat_eq, List, [], ◌∷◌, map, flat_map, Option, Some, None}
+use Rattle.std.specs.Prelude.{ℕ, ◌+◌, max, Bool, nat_eq, List, [], ◌∷◌, map, flat_map, length, Option, Some, None}
 use Rattle.std.specs.List.{list_any}
 use Rattle.mail_model.specs.Identity.{EpochId}
 use Rattle.object_model.specs.Letters.{Claim, Member, Membership, Row}
@@ -46,6 +46,10 @@ with_one_joined join group = record { epoch = group.epoch; joins = with_join joi
 
 abbrev pub has_joined : ℕ → OpenGroup → Bool
 has_joined node group = list_any (λ join. nat_eq join.member.node node) group.joins
+
+-- how many nodes have joined it
+abbrev pub joins_in : OpenGroup → ℕ
+joins_in group = length group.joins
 
 -- A node of the cluster keeps this. It also has versions, marks and rows, which a group knows nothing of.
 abbrev pub node_of_group : Group → (List ℕ → ℕ) → (List ℕ → Bool) → (ℕ → ℕ → List ℕ → Option Row) → Node

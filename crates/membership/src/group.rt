@@ -3,7 +3,7 @@ ghost use Rattle.std.specs.Prelude.{◌≡◌, ◌<◌, ◌-◌, ◌^◌, max, S
 ghost use Rattle.std.specs.Option.{option_copied, option_map};
 ghost use Rattle.maps_model.specs.Cluster.{epoch_in, member_of};
 ghost use Rattle.maps_model.specs.Rules.{claims_from, claims_in};
-ghost use Rattle.membership.specs.Groups.{new_group, next_epoch, own_join, promised, with_one_joined};
+ghost use Rattle.membership.specs.Groups.{new_group, next_epoch, own_join, promised, with_one_joined, joins_in};
 ghost use Rattle.membership.specs.Checks.{is_open, is_of_boot, FormsMembership};
 ghost use Rattle.membership.specs.Rounds.{StartsGroup, HearsGroup, HearsJoin, Concludes, HearsInstall, IsJoined};
 
@@ -138,6 +138,15 @@ fn joined_in(opened: &Option<OpenGroup>) -> Option<NodeSet>
     }
 }
 
+fn size_in(opened: &Option<OpenGroup>) -> Option<usize>
+    ensures { result ≡ option_map joins_in opened.now }
+{
+    match opened {
+        Some(group) => Some(group.size()),
+        None => None,
+    }
+}
+
 impl Group {
     /// What a node has as it starts in this boot: no open group, no installed epoch, and the promise that its disk tells.
     /// It takes no memory.
@@ -195,6 +204,13 @@ impl Group {
         ensures { IsJoined result self.now.opened }
     {
         joined_in(&self.opened)
+    }
+
+    /// How many nodes have joined the open group; nothing where none is open. It takes no memory.
+    pub fn size(&self) -> Option<usize>
+        ensures { result ≡ option_map joins_in self.now.opened }
+    {
+        size_in(&self.opened)
     }
 
     /// The buckets that the node manages, in rising order, each with the epoch since when. The time grows with the buckets.

@@ -5,7 +5,7 @@ ghost use Rattle.maps_model.specs.Assign.{IsAssigned};
 ghost use Rattle.maps_model.specs.Rules.{with_join, membership_of};
 ghost use Rattle.object_model.specs.Sets.{has};
 ghost use Rattle.membership.specs.Checks.{is_lower, is_same_node, is_earlier};
-ghost use Rattle.membership.specs.Groups.{all_claims, all_members, with_one_joined, has_joined};
+ghost use Rattle.membership.specs.Groups.{all_claims, all_members, with_one_joined, has_joined, joins_in};
 
 use crate::install::Install;
 use mail_base::{Claim, EpochId, Member, NodeSet, Sequence};
@@ -173,6 +173,13 @@ impl OpenGroup {
             self.epoch,
         )?;
         Ok(Install::new(self.epoch, members, map))
+    }
+
+    /// How many nodes joined.
+    pub(crate) fn size(&self) -> usize
+        ensures { result ≡ joins_in self.now }
+    {
+        self.joins.len()
     }
 
     /// The nodes that joined.

@@ -1,6 +1,7 @@
 -- A call that a node begins, for every plan whose node it is.
-use Rattle.std.proofs.Common.{◌≡◌, ◌⊎◌, ℕ, ◌+◌, List, [], ◌++◌, length, Bool, true, false, not, ◌&&◌, ◌||◌, nat_lt, nat_le, Option, Some, refl, sym, ap, subst, ◌∙◌, ⊎_elim, append-nil}
-use Rattle.std.specs.Prelude.{Result, Ok, Err}
+use Rattle.std.proofs.Common.{◌≡◌, ◌⊎◌, ◌<◌, ℕ, zero, suc, ◌+◌, max, List, [], ◌++◌, length, Bool, true, false, not, ◌&&◌, ◌||◌, nat_lt, nat_le, Option, Some, None, if◌then◌else◌, refl, sym, ap, subst, ◌∙◌, ⊎_elim, append-nil, lt-ltb, arith, true≢false}
+use Rattle.std.proofs.Math.Nat.{le-max_left}
+use Rattle.std.specs.Prelude.{Result, Ok, Err, is_some}
 use Rattle.io_edge.specs.Moments.{Keeps as KeepsImages}
 use Rattle.io_edge.proofs.Passing.{keeps_none}
 use Rattle.mail_model.specs.Lines.{ends_in_crlf}
@@ -11,12 +12,13 @@ use Rattle.mail_model.specs.Told.{Mail}
 use Rattle.mail_model.specs.Mail.{IsStored, trace_lines}
 use Rattle.mail_model.proofs.ShownFiled.{ends_front, trace_ends}
 use Rattle.object_model.specs.Sets.{nodes_in}
-use Rattle.object_model.specs.Letters.{Number}
-use Rattle.object_model.specs.Mishaps.{Mishaps, mishaps_of}
+use Rattle.object_model.specs.Letters.{Number, Membership}
+use Rattle.object_model.specs.Mishaps.{Mishaps, mishaps_of, no_mishaps, counted}
+use Rattle.object_model.specs.Mishaps.MishapKind.{FewMembers}
 use Rattle.cluster_model.specs.Cluster.{CallKind, members_of}
 use Rattle.cluster_model.specs.Rules.{begin_deliver, refuse, new_number}
 use Rattle.cluster_model.specs.Targets.{deliver_targets}
-use Rattle.cluster_model.specs.Steps.{NodeCall, greatest, end_of_dates, mishaps_of_call, fails_at_once, ids_drawn, stamps_drawn, tickets_drawn, is_worn_for}
+use Rattle.cluster_model.specs.Steps.{NodeCall, greatest, end_of_dates, mishaps_of_call, epoch_mishaps, fails_at_once, ids_drawn, stamps_drawn, tickets_drawn, is_worn_for}
 use Rattle.cluster_model.specs.Steps.NodeCall.{Deliver}
 use Rattle.cluster_model.specs.Makes.{IsFiled, begun_by, kind_of_call}
 use Rattle.node_store.specs.Disks.{View}
@@ -25,7 +27,7 @@ use Rattle.node_store.specs.declared.fault.KeepFault.TheVariants as keep
 use Rattle.node_core.specs.Nodes.{node_seen, CanWork, IsNodeOf}
 use Rattle.node_core.specs.Spelling.{AllCanBeTaken}
 use Rattle.node_core.specs.Works.{Rule, NodeDid, IsOnlyRead}
-use Rattle.node_core.specs.Failing.{late_seen, lacks_numbers, lacks_ids, CallRefused, RefusesCall}
+use Rattle.node_core.specs.Failing.{few_seen, late_seen, lacks_numbers, lacks_ids, CallRefused, RefusesCall}
 use Rattle.node_core.specs.Delivering.{delivering, DeliveryBegun, DeliveryStopped, BeginsDelivery}
 use Rattle.node_core.specs.Beginning.{at_second, CallDid, CallBegun, CallStopped, CallFailed, NodeBegins}
 use Rattle.node_core.specs.declared.fault.NodeFault.{NodeFault}
@@ -37,11 +39,19 @@ use Rattle.node_core.proofs.Sending.{none_fit}
 
 -- the mishaps of a delivery
 pub delivery_mishaps : (plan : Plan) (own seconds : ℕ) (old : Node) (members : List ℕ) (m : Mishaps) → IsNodeOf plan own old → members ≡ nodes_in (members_of (node_seen old)) old.shape.nodes
-    → m ≡ late_seen (nat_le end_of_dates seconds) (nat_lt (length members) old.shape.confirm) → (mail : Mail) → m ≡ mishaps_of_call plan seconds (node_seen old) (Deliver mail)
+    → m ≡ late_seen (nat_le end_of_dates seconds) (nat_lt (length members) (max 1 old.shape.confirm)) → (mail : Mail) → m ≡ mishaps_of_call plan seconds (node_seen old) (Deliver mail)
 delivery_mishaps plan own seconds old members m p are is mail =
-    is ∙ ap (λ (l : List ℕ). late_seen (nat_le end_of_dates seconds) (nat_lt (length l) old.shape.confirm)) are
-    ∙ ap (λ (n : ℕ). late_seen (nat_le end_of_dates seconds) (nat_lt (length (nodes_in (members_of (node_seen old)) n)) old.shape.confirm)) p.nodes
-    ∙ ap (λ (f : ℕ). late_seen (nat_le end_of_dates seconds) (nat_lt (length (nodes_in (members_of (node_seen old)) plan.nodes)) f)) p.confirm
+    is ∙ ap (λ (l : List ℕ). late_seen (nat_le end_of_dates seconds) (nat_lt (length l) (max 1 old.shape.confirm))) are
+    ∙ ap (λ (n : ℕ). late_seen (nat_le end_of_dates seconds) (nat_lt (length (nodes_in (members_of (node_seen old)) n)) (max 1 old.shape.confirm))) p.nodes
+    ∙ ap (λ (f : ℕ). late_seen (nat_le end_of_dates seconds) (nat_lt (length (nodes_in (members_of (node_seen old)) plan.nodes)) (max 1 f))) p.confirm
+
+-- and those of a call that reads
+pub reading_mishaps : (old : Node) → few_seen (not (is_some (node_seen old).installed)) ≡ epoch_mishaps (node_seen old)
+reading_mishaps old = by (node_seen old).installed
+  where
+    by : (installed : Option Membership) → few_seen (not (is_some installed)) ≡ (if is_some installed then no_mishaps else counted FewMembers no_mishaps)
+    by None = refl
+    by (Some membership) = refl
 
 -- a delivery that nothing befalls comes before the end of dates
 none_is_late : (late few : Bool) → nat_lt 0 (mishaps_of (late_seen late few)) ≡ false → late ≡ false
@@ -51,6 +61,23 @@ none_is_late true true none = absurd (cc none)
 
 pub comes_in_time : (late few : Bool) (m : Mishaps) → m ≡ late_seen late few → nat_lt 0 (mishaps_of m) ≡ false → late ≡ false
 comes_in_time late few m is none = none_is_late late few (sym (ap (λ (x : Mishaps). nat_lt 0 (mishaps_of x)) is) ∙ none)
+
+-- and one that nothing befalls has some members
+none_is_few : (late few : Bool) → nat_lt 0 (mishaps_of (late_seen late few)) ≡ false → few ≡ false
+none_is_few late false none = refl
+none_is_few false true none = absurd (cc none)
+none_is_few true true none = absurd (cc none)
+
+none_is_fewer : (confirm : ℕ) → nat_lt 0 (max 1 confirm) ≡ true
+none_is_fewer confirm = lt-ltb 0 (max 1 confirm) (omega (arith, le-max_left 1 confirm))
+
+some_there : (length confirm : ℕ) → nat_lt length (max 1 confirm) ≡ false → 0 < length
+some_there zero confirm few = absurd (true≢false (sym (none_is_fewer confirm) ∙ few))
+some_there (suc length) confirm few = omega arith
+
+pub has_some : (late : Bool) (length confirm : ℕ) (m : Mishaps) → m ≡ late_seen late (nat_lt length (max 1 confirm)) → nat_lt 0 (mishaps_of m) ≡ false → 0 < length
+has_some late length confirm m is none =
+    some_there length confirm (none_is_few late (nat_lt length (max 1 confirm)) (sym (ap (λ (x : Mishaps). nat_lt 0 (mishaps_of x)) is) ∙ none))
 
 -- when a call is worn that fails at once, or one that does not
 worn_failing : (a b c f : Bool) → f ≡ true → (a || b || (not f && c)) ≡ (a || b)

@@ -1,5 +1,5 @@
 -- Work on a node's store as work of the node.
-use Rattle.std.proofs.Common.{◌≡◌, ◌<◌, ℕ, List, Some, sym, ap, subst, ◌∙◌}
+use Rattle.std.proofs.Common.{◌≡◌, ◌<◌, ℕ, List, sym, ap, subst, ◌∙◌}
 use Rattle.std.specs.Prelude.{All}
 use Rattle.mail_model.specs.Record.{Record}
 use Rattle.mail_model.specs.Grammar.{IsRecord}
@@ -16,7 +16,6 @@ use Rattle.node_store.specs.Keeps.{KeepsRecords, seen_with}
 use Rattle.node_store.specs.Writes.{Done, WorkIsCutShort}
 use Rattle.node_store.specs.declared.store.NodeStore.{NodeStore}
 use Rattle.node_store.proofs.Works.{done_none, done_stopped}
-use Rattle.cluster_model.specs.Starts.{first_membership}
 use Rattle.node_tickets.specs.Standing.{IsOf, tickets_in}
 use Rattle.node_tickets.specs.declared.tickets.Tickets.{Tickets}
 use Rattle.node_core.specs.Nodes.{node_seen, NodeKeeps, end_in, IsShape, IsWhole, CanWork, IsSameNode}
@@ -189,7 +188,7 @@ module _ {D : Type 0} (on : View D) where
             ∙ ap (λ (t : Tickets). record (node_seen old) { drawn = drawn_past old.store.own old.numbers.boot old.numbers.drawn updates; log = log; tickets = tickets_in t }) tickets
           where
             node_shaped : Shape → plain.Node
-            node_shaped s = record (node_seen old) { installed = Some (first_membership s.nodes) }
+            node_shaped s = record (node_seen old) { installed = s.installed }
 
     pub takes_stopped :
         ((records : List Record) → rule (node_seen old) records

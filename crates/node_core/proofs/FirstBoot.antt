@@ -1,10 +1,9 @@
 -- A node that starts in its first boot.
-use Rattle.std.proofs.Common.{◌≡◌, ◌<◌, ◌≤◌, ℕ, List, [], ◌∷◌, Some, sym, ap, subst, ◌∙◌, arith}
+use Rattle.std.proofs.Common.{◌≡◌, ◌<◌, ◌≤◌, ℕ, List, [], ◌∷◌, None, sym, ap, subst, ◌∙◌, arith}
 use Rattle.std.specs.FinMap as fin
 use Rattle.mail_model.specs.Plan.{Plan}
 use Rattle.mail_model.specs.Record.{Record, payloads_of}
 use Rattle.mail_model.specs.Record.Record.{Boot}
-use Rattle.cluster_model.specs.Starts.{first_membership}
 use Rattle.disk_journal.specs.Journal.{TellsJournal, end_of}
 use Rattle.node_store.specs.Disks.{View}
 use Rattle.node_store.specs.Changes.{IsNew, with_boot}
@@ -22,9 +21,9 @@ module _ {D : Type 0} (on : View D) (plan : Plan) (own : ℕ) (before mid after 
   added = did.whole [] fresh.keeps
 
   pub is_first : (node : Node) → node.store ≡ new → node.numbers.boot ≡ 1 → node.numbers.drawn ≡ 0 → node.numbers.count ≡ 0 → node.numbers.calls ≡ 0 → node.shape.nodes ≡ plan.nodes
-      → node.shape.copies ≡ plan.copies → node.shape.confirm ≡ plan.confirm → IsOf own 1 node.shape.confirm node.tickets → tickets_in node.tickets ≡ fin.empty
+      → node.shape.copies ≡ plan.copies → node.shape.confirm ≡ plan.confirm → node.shape.installed ≡ None → IsOf own 1 node.shape.confirm node.tickets → tickets_in node.tickets ≡ fin.empty
       → 0 < own → own ≤ plan.nodes → plan.nodes ≤ 16 → 1 ≤ plan.copies → IsFirst on plan own before after node
-  is_first node store_is boot drawn count calls nodes copies confirm whose none some within few copied =
+  is_first node store_is boot drawn count calls nodes copies confirm installed whose none some within few copied =
       let own_is : node.store.own ≡ own = ap (λ (s : NodeStore). s.own) store_is ∙ did.own ∙ fresh.own_is in
       let log_is : node.store.log ≡ fin.empty = ap (λ (s : NodeStore). s.log) store_is ∙ sym (did.log [] fresh.keeps) ∙ fresh.log in
       record {
@@ -33,7 +32,7 @@ module _ {D : Type 0} (on : View D) (plan : Plan) (own : ℕ) (before mid after 
           drawn = drawn i;
           count = count i;
           calls = calls i;
-          installed = Some (first_membership (nodes i));
+          installed = installed i;
           log = log_is i;
           tickets = none i;
         };

@@ -61,7 +61,7 @@ module _ {D : Type 0} (on : View D) (old : Node) (before : D) (new : Node) (afte
       did : (ticket : Option Number) (sent : List Letter) → CallDid on (plan_with users old) old.store.own seconds call old before new after ticket sent → CanWork (on.seen after) new
       did ticket sent (CallDid.AtOnce kind is fails ticket_is d) = d.works
       did ticket sent (CallDid.Goes octets goes filed ticket_is d) = d.works
-      did ticket sent (CallDid.Reads kind found is those ticket_is d) = d.works
+      did ticket sent (CallDid.Reads kind found is goes those ticket_is d) = d.works
       did ticket sent (CallDid.Leaves user is none none_sent same untouched) = same_disk same untouched
 
       by : (r : Result (Option Number × Outbox) NodeFault) → LeavesUp r → NodeBegins on (plan_with users old) old.store.own seconds call old before new after r → CanWork (on.seen after) new

@@ -17,7 +17,7 @@ use Rattle.cluster_model.specs.Cluster.{CallKind}
 use Rattle.cluster_model.specs.Reads.{Found, is_here_held, has_copy}
 use Rattle.cluster_model.specs.Reads.Found.{PartOf, NotThere}
 use Rattle.cluster_model.specs.Rules.{begin_read, new_number}
-use Rattle.cluster_model.specs.Steps.{NodeCall, is_worn_for, greatest}
+use Rattle.cluster_model.specs.Steps.{NodeCall, fails_at_once, is_worn_for, greatest}
 use Rattle.cluster_model.specs.Steps.NodeCall.{Fetch, Leave}
 use Rattle.cluster_model.specs.Makes.{IsFound, kind_of_call}
 use Rattle.cluster_model.specs.Makes.FetchFinds.{HasPart, HasNone}
@@ -177,15 +177,15 @@ module _ {D : Type 0} (on : View D) where
 
   -- a call that read has its ticket
   module _ (plan : Plan) (own seconds : ℕ) (old : Node) (before : D) (p : IsNodeOf plan own old) (works : CanWork (on.seen before) old) (call : NodeCall) (kind : CallKind)
-      (of_kind : kind_of_call call ≡ Some kind) (goes : is_worn_for plan seconds (node_seen old) call ≡ false) (new : Node) (after : D) where
+      (of_kind : kind_of_call call ≡ Some kind) (goes : fails_at_once plan seconds (node_seen old) call ≡ false) (fresh : is_worn_for plan seconds (node_seen old) call ≡ false) (new : Node) (after : D) where
     pub reads : (found : Found) (given : Option Found) → given ≡ Some found
         → ((records : List Record) → NodeKeeps records old → TellsJournal (on.seen before) old.store.own (payloads_of records) (end_in old) → IsFound plan (is_some (on.seen before)) records call found)
         → IsOnlyRead on before after → on.faults after ≡ on.faults before
         → (result : Result (Option Number × Outbox) NodeFault) → AnswersRead kind given result old new → NodeBegins on plan own seconds call old before new after result
     reads found given is those read quiet (Ok begun) r = record {
-      fresh = goes;
+      fresh = fresh;
       none_thrown = r.none_thrown;
-      did = CallDid.Reads kind found of_kind
+      did = CallDid.Reads kind found of_kind goes
           (λ records k t. those records k (subst (λ (o : ℕ). TellsJournal (on.seen before) o (payloads_of records) (end_in old)) (sym p.own_is) t))
           (r.ticket_is ∙ ap (λ (o : ℕ). Some (new_number o (node_seen old))) p.own_is)
           (did_by on (begin_read kind found) (λ s. s) old before new after begun.1.letters
@@ -207,13 +207,13 @@ module _ {D : Type 0} (on : View D) where
 
   -- a Fetch failed in its read
   pub fetch_failed : (plan : Plan) (own seconds : ℕ) (old : Node) (before after : D) → IsNodeOf plan own old → (user : List ℕ) (id : Id) (start most : ℕ)
-      → is_worn_for plan seconds (node_seen old) (Fetch user id start most) ≡ false → (fault : NodeFault) → ReadsPart on user id start most old before after (Err fault)
+      → fails_at_once plan seconds (node_seen old) (Fetch user id start most) ≡ false → is_worn_for plan seconds (node_seen old) (Fetch user id start most) ≡ false → (fault : NodeFault) → ReadsPart on user id start most old before after (Err fault)
       → NodeBegins on plan own seconds (Fetch user id start most) old before old after (Err fault)
-  fetch_failed plan own seconds old before after p user id start most goes Disk r =
-      CallFailed.Reading user id start most refl goes (subst (λ (o : ℕ). ReadFailed on o old before old after) p.own_is r)
-  fetch_failed plan own seconds old before after p user id start most goes Worn r = absurd r
-  fetch_failed plan own seconds old before after p user id start most goes (NoMemory true) r = absurd r
-  fetch_failed plan own seconds old before after p user id start most goes (NoMemory false) r = (as_it_is old, r.0, r.1)
+  fetch_failed plan own seconds old before after p user id start most goes fresh Disk r =
+      CallFailed.Reading user id start most refl goes fresh (subst (λ (o : ℕ). ReadFailed on o old before old after) p.own_is r)
+  fetch_failed plan own seconds old before after p user id start most goes fresh Worn r = absurd r
+  fetch_failed plan own seconds old before after p user id start most goes fresh (NoMemory true) r = absurd r
+  fetch_failed plan own seconds old before after p user id start most goes fresh (NoMemory false) r = (as_it_is old, r.0, r.1)
 
 -- no number is too great where none is drawn
 pub not_over : (n : ℕ) → n ≤ greatest → nat_lt greatest (n + 0) ≡ false

@@ -25,8 +25,9 @@ use Rattle.node_store.specs.declared.recovered.Recovered.{Recovered}
 use Rattle.node_store.specs.declared.store.NodeStore.{NodeStore}
 use Rattle.std.proofs.lemmas.List.{map-append}
 use Rattle.mail_model.specs.Plan.{Plan}
+use Rattle.object_model.specs.Letters.{Membership}
 use Rattle.cluster_model.specs.Cluster as plain
-use Rattle.cluster_model.specs.Starts.{started, first_membership}
+use Rattle.cluster_model.specs.Starts.{started}
 use Rattle.cluster_model.specs.Steps.{greatest_boot}
 use Rattle.disk_journal.specs.Journal.{end_of}
 use Rattle.node_store.specs.Appends.{IsEither, Fails}
@@ -251,7 +252,7 @@ module _ {D : Type 0} (on : View D) (plan : Plan) (own : ℕ) (before : D) (reco
               cases
 
       -- it was recorded
-      pub boot_done : (new : NodeStore) → Done on (with_boot boot) store mid new after → (node : Node) → node.store ≡ new → node_seen node ≡ started own (Some (first_membership plan.nodes)) boot (r.records ++ Boot boot ∷ [])
+      pub boot_done : (new : NodeStore) → Done on (with_boot boot) store mid new after → (node : Node) → node.store ≡ new → node_seen node ≡ started own None boot (r.records ++ Boot boot ∷ [])
           → StartedOver on plan own before after node records pending
       boot_done new d node store_is seen_is =
           let whole = d.whole r.records r.keeps in
@@ -262,9 +263,7 @@ module _ {D : Type 0} (on : View D) (plan : Plan) (own : ℕ) (before : D) (reco
               kept = found_kept.some;
               pending_is = found_kept.pending_is;
               records = ap (λ (l : List Record). l ++ Boot boot ∷ []) (sym found_kept.is) ∙ ap (λ (n : ℕ). (records ++ found_kept.some) ++ Boot n ∷ []) next_boot;
-              installed = Some (first_membership plan.nodes);
-              begins = inr refl;
-              is = seen_is ∙ ap (λ (n : ℕ). started own (Some (first_membership plan.nodes)) n (r.records ++ Boot boot ∷ [])) next_boot;
+              is = seen_is ∙ ap (λ (n : ℕ). started own None n (r.records ++ Boot boot ∷ [])) next_boot;
             };
             keeps = subst (λ (l : List Record). KeepsRecords l node.store) (sym whole) (subst (KeepsRecords (r.records ++ d.added)) (sym store_is) (d.keeps r.records r.keeps));
             tells = subst (λ (l : List Record). TellsJournal (on.seen after) own (payloads_of l) (end_in node)) (sym whole)
@@ -273,7 +272,7 @@ module _ {D : Type 0} (on : View D) (plan : Plan) (own : ℕ) (before : D) (reco
           }
 
       -- and its last promise is the one that was found
-      pub boot_promised : (new : NodeStore) (d : Done on (with_boot boot) store mid new after) → (node : Node) → node.store ≡ new → node_seen node ≡ started own (Some (first_membership plan.nodes)) boot (r.records ++ Boot boot ∷ [])
+      pub boot_promised : (new : NodeStore) (d : Done on (with_boot boot) store mid new after) → (node : Node) → node.store ≡ new → node_seen node ≡ started own None boot (r.records ++ Boot boot ∷ [])
           → (promise : EpochId) → promise ≡ promise_found found → PromisedOver on plan own before after node promise records pending
       unfolding boot_done
       boot_promised new d node store_is seen_is promise is =
@@ -346,27 +345,27 @@ module _ {D : Type 0} (on : View D) (plan : Plan) (own : ℕ) (before mid : D) (
     abbrev node : Node
     node = record { shape = shape; numbers = record { boot = boot; drawn = drawn; count = count; calls = 0 }; store = new; tickets = tickets }
 
-    abbrev node_of : ℕ → ℕ → ℕ → Log → plain.Tickets → plain.Node
-    node_of nodes named stamped log seen = record { boot = boot; drawn = named; count = stamped; calls = 0; installed = Some (first_membership nodes); log = log; tickets = seen }
+    abbrev node_of : Option Membership → ℕ → ℕ → Log → plain.Tickets → plain.Node
+    node_of installed named stamped log seen = record { boot = boot; drawn = named; count = stamped; calls = 0; installed = installed; log = log; tickets = seen }
 
-    seen_is : Done on (with_boot boot) store mid new after → shape.nodes ≡ plan.nodes → tickets_in tickets ≡ fin.empty → drawn ≡ drawn_found found boot → count ≡ count_found found
-        → node_seen node ≡ started own (Some (first_membership plan.nodes)) boot (r.reopened.records ++ Boot boot ∷ [])
-    seen_is d nodes none drawn_is count_is =
+    seen_is : Done on (with_boot boot) store mid new after → shape.installed ≡ None → tickets_in tickets ≡ fin.empty → drawn ≡ drawn_found found boot → count ≡ count_found found
+        → node_seen node ≡ started own None boot (r.reopened.records ++ Boot boot ∷ [])
+    seen_is d installed none drawn_is count_is =
         let records = r.reopened.records in
         let log_is : new.log ≡ recovered own (records ++ Boot boot ∷ []) =
         sym (d.log records r.reopened.keeps) ∙ r.reopened.log ∙ sym (recovered_booted own boot records) in
         let drawn_on_is : drawn ≡ drawn_on own boot 0 (records ++ Boot boot ∷ []) = drawn_is ∙ r.reopened.names.drawn boot ∙ sym (drawn_booted own boot boot 0 records) in
         let count_on_is : count ≡ greatest_count_on 0 (records ++ Boot boot ∷ []) = count_is ∙ r.reopened.names.count ∙ sym (count_booted boot 0 records) in
-        ap (λ (n : ℕ). node_of n drawn count new.log (tickets_in tickets)) nodes
-        ∙ ap (λ (n : ℕ). node_of plan.nodes n count new.log (tickets_in tickets)) drawn_on_is
-        ∙ ap (λ (n : ℕ). node_of plan.nodes (drawn_on own boot 0 (records ++ Boot boot ∷ [])) n new.log (tickets_in tickets)) count_on_is
-        ∙ ap (λ (l : Log). node_of plan.nodes (drawn_on own boot 0 (records ++ Boot boot ∷ [])) (greatest_count_on 0 (records ++ Boot boot ∷ [])) l (tickets_in tickets)) log_is
-        ∙ ap (λ (t : plain.Tickets). node_of plan.nodes (drawn_on own boot 0 (records ++ Boot boot ∷ [])) (greatest_count_on 0 (records ++ Boot boot ∷ [])) (recovered own (records ++ Boot boot ∷ [])) t) none
+        ap (λ (m : Option Membership). node_of m drawn count new.log (tickets_in tickets)) installed
+        ∙ ap (λ (n : ℕ). node_of None n count new.log (tickets_in tickets)) drawn_on_is
+        ∙ ap (λ (n : ℕ). node_of None (drawn_on own boot 0 (records ++ Boot boot ∷ [])) n new.log (tickets_in tickets)) count_on_is
+        ∙ ap (λ (l : Log). node_of None (drawn_on own boot 0 (records ++ Boot boot ∷ [])) (greatest_count_on 0 (records ++ Boot boot ∷ [])) l (tickets_in tickets)) log_is
+        ∙ ap (λ (t : plain.Tickets). node_of None (drawn_on own boot 0 (records ++ Boot boot ∷ [])) (greatest_count_on 0 (records ++ Boot boot ∷ [])) (recovered own (records ++ Boot boot ∷ [])) t) none
 
-    pub has_started : Done on (with_boot boot) store mid new after → shape.nodes ≡ plan.nodes → shape.copies ≡ plan.copies → shape.confirm ≡ plan.confirm
+    pub has_started : Done on (with_boot boot) store mid new after → shape.nodes ≡ plan.nodes → shape.copies ≡ plan.copies → shape.confirm ≡ plan.confirm → shape.installed ≡ None
         → IsOf own boot shape.confirm tickets → tickets_in tickets ≡ fin.empty → drawn ≡ drawn_found found boot → count ≡ count_found found
         → 1 ≤ own → own ≤ plan.nodes → plan.nodes ≤ 16 → 1 ≤ plan.copies → NodeStarted on plan own before after node
-    has_started d nodes copies confirm whose none drawn_is count_is low within few some_copies =
+    has_started d nodes copies confirm installed whose none drawn_is count_is low within few some_copies =
         let own_is : new.own ≡ own = d.own ∙ r.reopened.own_is in
         record {
           of_plan = record { own_is = own_is; nodes = nodes; copies = copies; confirm = confirm };
@@ -383,21 +382,22 @@ module _ {D : Type 0} (on : View D) (plan : Plan) (own : ℕ) (before mid : D) (
               };
             };
           };
+          without = installed;
           quiet = d.appends.quiet ∙ r.quiet;
           over = after_reading on plan own before mid store found r only (StartedOver on plan own before after node)
               (λ records pending holds held seen was alone.
-              boot_done on plan own before records pending holds mid held seen was kept alone store found r.reopened boot boot_next boot_fits after new d node refl (seen_is d nodes none drawn_is count_is));
+              boot_done on plan own before records pending holds mid held seen was kept alone store found r.reopened boot boot_next boot_fits after new d node refl (seen_is d installed none drawn_is count_is));
           some = (r.reopened.records ++ d.added, d.keeps r.reopened.records r.reopened.keeps);
         }
 
-    pub has_promised : Done on (with_boot boot) store mid new after → shape.nodes ≡ plan.nodes → shape.copies ≡ plan.copies → shape.confirm ≡ plan.confirm
+    pub has_promised : Done on (with_boot boot) store mid new after → shape.nodes ≡ plan.nodes → shape.copies ≡ plan.copies → shape.confirm ≡ plan.confirm → shape.installed ≡ None
         → IsOf own boot shape.confirm tickets → tickets_in tickets ≡ fin.empty → drawn ≡ drawn_found found boot → count ≡ count_found found
         → 1 ≤ own → own ≤ plan.nodes → plan.nodes ≤ 16 → 1 ≤ plan.copies → (promise : EpochId) → promise ≡ promise_found found → NodeStartedWith on plan own before after node promise
-    has_promised d nodes copies confirm whose none drawn_is count_is low within few some_copies promise promise_is = record {
-      started = has_started d nodes copies confirm whose none drawn_is count_is low within few some_copies;
+    has_promised d nodes copies confirm installed whose none drawn_is count_is low within few some_copies promise promise_is = record {
+      started = has_started d nodes copies confirm installed whose none drawn_is count_is low within few some_copies;
       over = after_reading on plan own before mid store found r only (PromisedOver on plan own before after node promise)
           (λ records pending holds held seen was alone.
-          boot_promised on plan own before records pending holds mid held seen was kept alone store found r.reopened boot boot_next boot_fits after new d node refl (seen_is d nodes none drawn_is count_is)
+          boot_promised on plan own before records pending holds mid held seen was kept alone store found r.reopened boot boot_next boot_fits after new d node refl (seen_is d installed none drawn_is count_is)
           promise promise_is);
     }
 

@@ -1,5 +1,5 @@
 -- A deletion that a node begins, for every plan whose node it is.
-use Rattle.std.proofs.Common.{◌≡◌, ℕ, List, [], length, true, false, nat_lt, Option, Some, refl, ap, ◌∙◌}
+use Rattle.std.proofs.Common.{◌≡◌, ℕ, max, List, [], length, true, false, nat_lt, Option, Some, refl, ap, ◌∙◌}
 use Rattle.std.specs.Prelude.{Result, Ok, Err}
 use Rattle.mail_model.specs.Plan.{Plan}
 use Rattle.mail_model.specs.Record.{Record}
@@ -28,11 +28,11 @@ use Rattle.node_core.proofs.Begun.{worn_goes, untouched}
 
 -- the mishaps of a deletion
 pub strike_mishaps : (plan : Plan) (own seconds : ℕ) (old : Node) (members : List ℕ) (m : Mishaps) → IsNodeOf plan own old → members ≡ nodes_in (members_of (node_seen old)) old.shape.nodes
-    → m ≡ few_seen (nat_lt (length members) old.shape.confirm) → (user : List ℕ) (items : List Struck) → m ≡ mishaps_of_call plan seconds (node_seen old) (Strike user items)
+    → m ≡ few_seen (nat_lt (length members) (max 1 old.shape.confirm)) → (user : List ℕ) (items : List Struck) → m ≡ mishaps_of_call plan seconds (node_seen old) (Strike user items)
 strike_mishaps plan own seconds old members m p are is user items =
-    is ∙ ap (λ (l : List ℕ). few_seen (nat_lt (length l) old.shape.confirm)) are
-    ∙ ap (λ (n : ℕ). few_seen (nat_lt (length (nodes_in (members_of (node_seen old)) n)) old.shape.confirm)) p.nodes
-    ∙ ap (λ (f : ℕ). few_seen (nat_lt (length (nodes_in (members_of (node_seen old)) plan.nodes)) f)) p.confirm
+    is ∙ ap (λ (l : List ℕ). few_seen (nat_lt (length l) (max 1 old.shape.confirm))) are
+    ∙ ap (λ (n : ℕ). few_seen (nat_lt (length (nodes_in (members_of (node_seen old)) n)) (max 1 old.shape.confirm))) p.nodes
+    ∙ ap (λ (f : ℕ). few_seen (nat_lt (length (nodes_in (members_of (node_seen old)) plan.nodes)) (max 1 f))) p.confirm
 
 -- a deletion goes
 module _ {D : Type 0} (on : View D) (plan : Plan) (own seconds : ℕ) (old : Node) (before : D) (p : IsNodeOf plan own old) (user : List ℕ) (items : List Struck)

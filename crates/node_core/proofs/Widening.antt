@@ -10,7 +10,6 @@ use Rattle.object_model.specs.Said.{said}
 use Rattle.object_model.specs.Sets.{has, with_node, one_node}
 use Rattle.object_model.specs.UpdateLog.{Log}
 use Rattle.cluster_model.specs.Cluster as plain
-use Rattle.cluster_model.specs.Starts.{first_membership}
 use Rattle.cluster_model.specs.Store.{Store, Update, take_all}
 use Rattle.cluster_model.specs.Rules.{Reaction, idle, can_widen, widened, widen, with_updates, greatest_named}
 use Rattle.replica_push.specs.Pushes.{wider}
@@ -131,7 +130,7 @@ module _ {D : Type 0} (on : View D) (to : ℕ) (key : Key) (old : Node) (before 
       drawn = cond did (max old.numbers.drawn (greatest_named own old.numbers.boot key)) old.numbers.drawn
 
       node_shaped : Shape → plain.Node
-      node_shaped s = record (node_seen old) { installed = Some (first_membership s.nodes) }
+      node_shaped s = record (node_seen old) { installed = s.installed }
 
       node_is : (log : Log) → record (node_seen new) { log = log } ≡ record (node_seen old) { drawn = drawn; log = log }
       node_is log =

@@ -58,7 +58,7 @@ module _ {D : Type 0} (on : View D) (plan : Plan) (own seconds : ℕ) (call : No
     Goes : (octets : List ℕ) → fails_at_once plan seconds (node_seen old) call ≡ false → IsFiled (at_second seconds) own (node_seen old) call octets
         → ticket ≡ Some (new_number own (node_seen old))
         → NodeDid on (λ node disk. begun_by plan (at_second seconds) own node disk call octets) old before new after sent → CallDid ticket sent
-    Reads : (kind : CallKind) (found : Found) → kind_of_call call ≡ Some kind
+    Reads : (kind : CallKind) (found : Found) → kind_of_call call ≡ Some kind → fails_at_once plan seconds (node_seen old) call ≡ false
         → ((records : List Record) → NodeKeeps records old → TellsJournal (on.seen before) own (payloads_of records) (end_in old) → IsFound plan (is_some (on.seen before)) records call found)
         → ticket ≡ Some (new_number own (node_seen old)) → NodeDid on (begin_read kind found) old before new after sent → CallDid ticket sent
     Leaves : (user : List ℕ) → call ≡ Leave user → ticket ≡ None → sent ≡ [] → IsAsBefore old new → after ≡ before → CallDid ticket sent
@@ -80,7 +80,7 @@ module _ {D : Type 0} (on : View D) (plan : Plan) (own seconds : ℕ) (call : No
   -- the disk failed in its work; a Fetch only reads
   pub data CallFailed : Type 0 where
     Working : CallStopped keep.Disk → CallFailed
-    Reading : (user : List ℕ) (id : _) (from most : ℕ) → call ≡ Fetch user id from most → is_worn_for plan seconds (node_seen old) call ≡ false → ReadFailed on own old before new after → CallFailed
+    Reading : (user : List ℕ) (id : _) (from most : ℕ) → call ≡ Fetch user id from most → fails_at_once plan seconds (node_seen old) call ≡ false → is_worn_for plan seconds (node_seen old) call ≡ false → ReadFailed on own old before new after → CallFailed
 
   -- A call begins; it is worn exactly where a number that it would draw is used up. Out of memory that is told before its work begins leaves all as it was.
   abbrev pub NodeBegins : Result (Option Number × Outbox) NodeFault → Type 0

@@ -5,6 +5,7 @@ pub mod Failing
 pub mod Filed
 pub mod First
 pub mod Hearing
+pub mod Installing
 pub mod Listing
 pub mod Naming
 pub mod Nodes

@@ -1,23 +1,22 @@
 -- A node of the code as the machine's node, and what holds of it between its calls.
-use Rattle.std.specs.Prelude.{◌≡◌, ◌≤◌, ◌<◌, ℕ, List, Option, Some}
+use Rattle.std.specs.Prelude.{◌≡◌, ◌≤◌, ◌<◌, ℕ, List, Option}
 use Rattle.mail_model.specs.Plan.{Plan}
 use Rattle.mail_model.specs.Record.{Record}
 use Rattle.cluster_model.specs.Cluster as plain
-use Rattle.cluster_model.specs.Starts.{first_membership}
 use Rattle.disk_journal.specs.Journal.{end_of}
 use Rattle.node_store.specs.Keeps.{KeepsRecords, CanGoOn}
 use Rattle.node_tickets.specs.Standing.{IsOf, tickets_in}
 use Rattle.node_core.specs.declared.shape.Shape.{Shape}
 use Rattle.node_core.specs.declared.node.Node.{Node}
 
--- The node in the machine's words. It has installed the first epoch, whose members are all nodes of the plan.
+-- the node in the machine's words
 abbrev pub node_seen : Node → plain.Node
 node_seen node = record {
   boot = node.numbers.boot;
   drawn = node.numbers.drawn;
   count = node.numbers.count;
   calls = node.numbers.calls;
-  installed = Some (first_membership node.shape.nodes);
+  installed = node.shape.installed;
   log = node.store.log;
   tickets = tickets_in node.tickets;
 }

@@ -1,5 +1,5 @@
 -- What a node finds on its disk as it starts.
-use Rattle.std.specs.Prelude.{◌≡◌, ◌⊎◌, ◌≤◌, ℕ, List, [], ◌++◌, All, true, false, IfSome, ⊤, Result, Ok, Err}
+use Rattle.std.specs.Prelude.{◌≡◌, ◌⊎◌, ◌≤◌, ℕ, List, [], ◌++◌, All, true, false, None, IfSome, ⊤, Result, Ok, Err}
 use Rattle.io_edge.specs.Causes.{Rose}
 use Rattle.io_edge.specs.Moments.{Passed, Restarts}
 use Rattle.mail_model.specs.Identity.{EpochId}
@@ -50,7 +50,7 @@ module _ {D : Type 0} (on : View D) (plan : Plan) (own : ℕ) (before after : D)
   -- these records stand now, and the node is what the machine starts over them
   pub record StartedOver (node : Node) (records pending : List Record) : Type 0 where
     pub new : List Record
-    pub starts : StartsNode own plan.nodes records pending (node_seen node) new
+    pub starts : StartsNode own records pending (node_seen node) new
     pub keeps : NodeKeeps new node
     pub tells : TellsJournal (on.seen after) own (payloads_of new) (end_in node)
     pub stops_keep : StartKeeps records pending new
@@ -74,6 +74,7 @@ module _ {D : Type 0} (on : View D) (plan : Plan) (own : ℕ) (before after : D)
   pub record NodeStarted (node : Node) : Type 0 where
     pub of_plan : IsNodeOf plan own node
     pub works : CanWork (on.seen after) node
+    pub without : (node_seen node).installed ≡ None
     pub quiet : on.faults after ≡ on.faults before
     pub over : WhereItHolds on before own (StartedOver node)
     pub some : (records : List Record) × NodeKeeps records node

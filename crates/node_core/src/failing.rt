@@ -1,5 +1,5 @@
 //! Calls that fail at once.
-ghost use Rattle.std.specs.Prelude.{◌≡◌, nat_lt, nat_le, length};
+ghost use Rattle.std.specs.Prelude.{◌≡◌, max, nat_lt, nat_le, length, not, is_some};
 ghost use Rattle.object_model.specs.Mishaps.{mishaps_of};
 ghost use Rattle.cluster_model.specs.Steps.{end_of_dates};
 ghost use Rattle.node_tickets.specs.Seen.{kind_seen, mishaps_seen};
@@ -12,14 +12,15 @@ use crate::node::Node;
 use crate::outbox::Outbox;
 use call_tickets::Mishaps;
 use mail_base::{CallKind, NodeNo, Ticket};
+use membership::Install;
 use std::alloc::Global;
 
-/// What befalls a call that some members are asked for.
-pub(crate) fn few_members(members: &[NodeNo], confirm: u8) -> Mishaps
-    ensures { mishaps_seen result ≡ few_seen (nat_lt (length members.now) confirm) }
+// What befalls a call for which there are too few members.
+fn few_if(few: bool) -> Mishaps
+    ensures { mishaps_seen result ≡ few_seen few }
 {
     Mishaps {
-        few_members: u64::from(members.len() < usize::from(confirm)),
+        few_members: u64::from(few),
         year: 0,
         dropped: 0,
         stale: 0,
@@ -29,9 +30,23 @@ pub(crate) fn few_members(members: &[NodeNo], confirm: u8) -> Mishaps
     }
 }
 
+/// What befalls a call that some members are asked for: one at least has to be there.
+pub(crate) fn few_members(members: &[NodeNo], confirm: u8) -> Mishaps
+    ensures { mishaps_seen result ≡ few_seen (nat_lt (length members.now) (max 1 confirm)) }
+{
+    few_if(members.len() < usize::from(confirm.max(1)))
+}
+
+/// What befalls a call that reads: its node has to have installed an epoch.
+pub(crate) fn without_epoch(installed: &Option<Install>) -> Mishaps
+    ensures { mishaps_seen result ≡ few_seen (not (is_some installed.now)) }
+{
+    few_if(installed.is_none())
+}
+
 /// The same of a delivery at these seconds.
 pub(crate) fn few_members_or_late(members: &[NodeNo], confirm: u8, seconds: u64) -> Mishaps
-    ensures { mishaps_seen result ≡ late_seen (nat_le end_of_dates seconds) (nat_lt (length members.now) confirm) }
+    ensures { mishaps_seen result ≡ late_seen (nat_le end_of_dates seconds) (nat_lt (length members.now) (max 1 confirm)) }
 {
     Mishaps {
         year: u64::from(seconds >= 253_402_300_800),

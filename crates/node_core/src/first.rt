@@ -1,5 +1,5 @@
 //! The first boot of a node.
-ghost use Rattle.std.specs.Prelude.{◌≡◌, ◌≤◌, [], IfSome, OnOk};
+ghost use Rattle.std.specs.Prelude.{◌≡◌, ◌≤◌, [], None, IfSome, OnOk};
 ghost use Rattle.io_edge.specs.Octets.{IsToldAlike};
 ghost use Rattle.std.specs.FinMap as fin;
 ghost use Rattle.node_store.specs.Disks.{view_of};
@@ -15,7 +15,7 @@ use node_store::NodeStore;
 use node_tickets::Tickets;
 use std::alloc::Global;
 
-// A node that has done nothing, in its first boot.
+// A node that has done nothing, in its first boot. It has no epoch.
 fn in_first_boot(alloc: Global, store: NodeStore, plan: &Plan, number: NodeNo) -> Node
     ensures store { result.store ≡ store }
     ensures boot { result.numbers.boot ≡ 1 }
@@ -25,6 +25,7 @@ fn in_first_boot(alloc: Global, store: NodeStore, plan: &Plan, number: NodeNo) -
     ensures nodes { result.shape.nodes ≡ plan.now.nodes }
     ensures copies { result.shape.copies ≡ plan.now.copies }
     ensures confirm { result.shape.confirm ≡ plan.now.confirm }
+    ensures installed { result.shape.installed ≡ None }
     ensures whose { IsOf number 1 result.shape.confirm result.tickets }
     ensures none { tickets_in result.tickets ≡ fin.empty }
 {
@@ -46,7 +47,7 @@ fn in_first_boot(alloc: Global, store: NodeStore, plan: &Plan, number: NodeNo) -
 
 impl Node {
     /// Makes the journal of a node on its disk, which is empty, and starts the node in its first boot, whose record is
-    /// appended. Nothing is read, so this is known of a disk that does not tell what it holds, too.
+    /// appended. It has no epoch. Nothing is read, so this is known of a disk that does not tell what it holds, too.
     ///
     /// # Errors
     ///

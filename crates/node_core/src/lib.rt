@@ -23,6 +23,7 @@
 //! | `push` | the first due updates are sent to a node again |
 //! | `widen` | a copy that is here gets one target more |
 //! | `mishap` | the driver's mishap is counted in a ticket |
+//! | `install` | the node has installed an epoch, or none |
 //!
 //! `hear` throws a letter that carries another epoch than the installed one, and one that answers a ticket that is not there;
 //! the outbox says why, and nothing was changed.
@@ -51,12 +52,12 @@
 //!
 //! STANDS ON
 //!
-//! `node_store`, `node_tickets`, `mail_base`, `call_tickets`, `trace_lines` and `sha2`; the rules are those of `cluster_model`.
+//! `node_store`, `node_tickets`, `membership`, `mail_base`, `call_tickets`, `trace_lines` and `sha2`; the rules are those of `cluster_model`.
 //!
 //! WHAT IT DOES NOT DO
 //!
-//! It sends nothing and knows no time but the seconds of a delivery. The bodies of logins, of members and of maps do nothing
-//! yet: the epoch is that of the plan.
+//! It sends nothing and knows no time but the seconds of a delivery. The bodies of logins, of members and of maps do nothing:
+//! whoever forms an epoch hands it in by `install`. A node that has started has no epoch.
 #![tactic(auto)]
 
 mod begin;
@@ -67,6 +68,8 @@ mod fault;
 mod filing;
 mod first;
 mod hear;
+mod install;
+mod installed;
 mod letters;
 mod login;
 mod members;

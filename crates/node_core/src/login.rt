@@ -14,6 +14,7 @@ ghost use Rattle.node_core.specs.Works.{LeavesUp};
 ghost use Rattle.node_core.specs.Beginning.{NodeBegins};
 ghost use Rattle.node_core.specs.Listing.{copy_by, copy_of, copies_for, AreInOrder, MailboxFound};
 
+use crate::failing::{has_any, without_epoch};
 use crate::fault::NodeFault;
 use crate::node::Node;
 use crate::outbox::Outbox;
@@ -148,7 +149,8 @@ impl Node {
         })
     }
 
-    /// Opens a mailbox. What it finds is its ticket's from the start, and nothing of a login is kept after it.
+    /// Opens a mailbox. What it finds is its ticket's from the start, and nothing of a login is kept after it. It fails at once
+    /// where the node has no epoch.
     pub(crate) fn login<D: Disk>(
         &mut self,
         alloc: Global,
@@ -161,6 +163,10 @@ impl Node {
         ensures begins { (plan : PlainPlan) (own seconds : ℕ) → IsNodeOf plan own self.old → users.now ≡ plan.users → NodeBegins (view_of D.seen D.faults D.clock) plan own seconds (Logins user.now (proof_seen proof.now)) self.old disk.old self.new disk.new result }
         ensures settled { LeavesUp result → D.settled disk.old → D.settled disk.new }
     {
+        let mishaps = without_epoch(&self.shape.installed);
+        if has_any(&mishaps) {
+            return self.refuse(alloc, CallKind::Login, mishaps, 0);
+        }
         if self.numbers.lack(0, 0) {
             return Err(NodeFault::Worn);
         }

@@ -1,5 +1,5 @@
 //! The members of a node's epoch, and the numbers that it draws for calls.
-ghost use Rattle.std.specs.Prelude.{◌≡◌, ◌<◌, ◌≤◌, ◌+◌, ◌-◌, ◌||◌, nat_lt, length, IfOk};
+ghost use Rattle.std.specs.Prelude.{◌≡◌, ◌<◌, ◌≤◌, ◌+◌, ◌-◌, ◌||◌, nat_lt, IfOk};
 ghost use Rattle.mail_model.specs.Grammar.{IsStamp};
 ghost use Rattle.object_model.specs.Sets.{nodes_in};
 ghost use Rattle.cluster_model.specs.Cluster.{members_of};
@@ -7,11 +7,12 @@ ghost use Rattle.cluster_model.specs.Rules.{new_number};
 ghost use Rattle.cluster_model.specs.Steps.{greatest};
 ghost use Rattle.node_core.specs.Nodes.{node_seen, IsWhole};
 
+use crate::installed::members_in;
 use crate::node::Node;
 use crate::nodes::nodes_in;
 use crate::numbers::Numbers;
 use crate::spelling::stamp_of;
-use mail_base::{MsgId, NodeNo, Stamp, Ticket};
+use mail_base::{MsgId, NodeNo, NodeSet, Stamp, Ticket};
 use std::alloc::{AllocError, Global};
 
 impl Numbers {
@@ -53,13 +54,20 @@ impl Numbers {
 }
 
 impl Node {
+    /// The members of its epoch, none where it has no epoch. It takes no memory.
+    pub fn member_set(&self) -> NodeSet
+        requires whole { IsWhole self.now }
+        ensures { result ≡ members_of (node_seen self.now) }
+    {
+        members_in(&self.shape.installed)
+    }
+
     /// The members of its epoch, in rising order.
     pub(crate) fn members(&self, alloc: Global) -> Result<Vec<NodeNo>, AllocError>
         requires whole { IsWhole self.now }
-        ensures value { IfOk result (λ members. members.items ≡ nodes_in (members_of (node_seen self.now)) self.now.shape.nodes) }
-        ensures some { IfOk result (λ members. 0 < length members.items) }
+        ensures { IfOk result (λ members. members.items ≡ nodes_in (members_of (node_seen self.now)) self.now.shape.nodes) }
     {
-        nodes_in(alloc, self.everyone(), self.shape.nodes)
+        nodes_in(alloc, self.member_set(), self.shape.nodes)
     }
 
     /// The id that its next message gets.

@@ -1,5 +1,5 @@
 //! One node of a cluster.
-ghost use Rattle.std.specs.Prelude.{◌≡◌, ◌≤◌, [], IfSome, OnOk};
+ghost use Rattle.std.specs.Prelude.{◌≡◌, ◌≤◌, [], None, IfSome, OnOk};
 ghost use Rattle.io_edge.specs.Moments.{Keeps, Tears};
 ghost use Rattle.io_edge.specs.Octets.{IsToldAlike};
 ghost use Rattle.node_store.specs.Disks.{view_of};
@@ -46,16 +46,18 @@ fn reopened<D: Disk>(
     }
 }
 
-// The numbers of a plan that a node needs.
+// The numbers of a plan that a node needs. It has no epoch.
 pub(crate) fn shape_of(plan: &Plan) -> Shape
     ensures nodes { result.nodes ≡ plan.now.nodes }
     ensures copies { result.copies ≡ plan.now.copies }
     ensures confirm { result.confirm ≡ plan.now.confirm }
+    ensures installed { result.installed ≡ None }
 {
     Shape {
         nodes: plan.nodes,
         copies: plan.copies,
         confirm: plan.confirm,
+        installed: None,
     }
 }
 
@@ -79,7 +81,7 @@ impl Node {
     }
 
     /// Starts a node over its disk, which has its journal: the disk is started again, the journal is read, and the record of the
-    /// next boot is appended before all else.
+    /// next boot is appended before all else. A node that has started has no epoch.
     ///
     /// # Errors
     ///

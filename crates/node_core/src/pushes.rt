@@ -68,7 +68,7 @@ impl Node {
         requires whole { IsWhole self.now }
         ensures { result ≡ has (members_of (node_seen self.now)) to }
     {
-        self.everyone().has(to)
+        self.member_set().has(to)
     }
 
     // Whether the node is another member of it.

@@ -15,6 +15,7 @@ ghost use Rattle.node_core.specs.Failing.{lacks_numbers};
 ghost use Rattle.node_core.specs.Reading.{copy_size, ReadsPart, AnswersRead};
 ghost use Rattle.node_core.specs.Beginning.{NodeBegins};
 
+use crate::failing::{has_any, without_epoch};
 use crate::fault::NodeFault;
 use crate::letters::no_letters;
 use crate::node::Node;
@@ -109,7 +110,7 @@ impl Node {
         Ok((Some(ticket), Outbox::sent(no_letters(alloc))))
     }
 
-    /// Reads a part of a message.
+    /// Reads a part of a message. It fails at once where the node has no epoch.
     pub(crate) fn fetch<D: Disk>(
         &mut self,
         alloc: Global,
@@ -123,6 +124,10 @@ impl Node {
         ensures begins { (plan : PlainPlan) (own seconds : ℕ) → IsNodeOf plan own self.old → NodeBegins (view_of D.seen D.faults D.clock) plan own seconds (Fetches user.now id from most) self.old disk.old self.new disk.new result }
         ensures settled { LeavesUp result → D.settled disk.old → D.settled disk.new }
     {
+        let mishaps = without_epoch(&self.shape.installed);
+        if has_any(&mishaps) {
+            return self.refuse(alloc, CallKind::Fetch, mishaps, 0);
+        }
         if self.numbers.lack(0, 0) {
             return Err(NodeFault::Worn);
         }

@@ -11,6 +11,7 @@ ghost use Rattle.cluster_model.specs.Cluster.{epoch_of, members_of};
 ghost use Rattle.node_store.specs.Mailboxes.{AreIdsHere, AreUsersSaid};
 ghost use Rattle.node_core.specs.Nodes.{node_seen, NodeKeeps, IsWhole};
 
+use crate::installed::epoch_in;
 use crate::node::Node;
 use crate::nodes::node_of;
 use mail_base::{EpochId, Ids, Key, Name, Names, NodeNo, NodeSet, ObjState};
@@ -32,11 +33,11 @@ impl Node {
         self.numbers.boot
     }
 
-    /// The epoch that it has installed.
+    /// The epoch that it has installed; that of no epoch where it has none.
     pub fn epoch(&self) -> EpochId
         ensures { result ≡ epoch_of (node_seen self.now) }
     {
-        EpochId::new(1, 1)
+        epoch_in(&self.shape.installed)
     }
 
     /// What the node keeps: its journal, the octets of messages, the states of objects and to whom they are owed.
@@ -108,6 +109,6 @@ impl Node {
         requires whole { IsWhole self.now }
         ensures { result ≡ list_all (λ n. not (owes self.now.store.log n)) (nodes_in (members_of (node_seen self.now)) self.now.shape.nodes) }
     {
-        self.is_done_with_all(self.everyone(), self.shape.nodes)
+        self.is_done_with_all(self.member_set(), self.shape.nodes)
     }
 }

@@ -8,11 +8,13 @@ ghost use Rattle.node_core.specs.Nodes.{node_seen, IsWhole};
 ghost use Rattle.node_core.specs.Standing.{ticket_standing};
 ghost use Rattle.node_core.specs.Hearing.{why_seen};
 
+use crate::installed::is_stale;
 use crate::node::Node;
 use crate::outbox::Why;
 use mail_base::{Body, EpochId, Letter, Ticket};
 
-fn is_same_epoch(a: &EpochId, b: &EpochId) -> bool
+/// Whether both are one epoch.
+pub(crate) fn is_same_epoch(a: &EpochId, b: &EpochId) -> bool
     ensures { result ≡ is_same_epoch a.now b.now }
 {
     a.count == b.count && a.node == b.node
@@ -71,11 +73,11 @@ fn answers_ticket(body: &Body) -> bool
 }
 
 impl Node {
-    // Whether the letter carries another epoch than the one that is installed.
-    fn is_stale(&self, letter: &Letter) -> bool
+    /// Whether the letter carries another epoch than the one that is installed. It takes no memory.
+    pub fn is_stale(&self, letter: &Letter) -> bool
         ensures { result ≡ is_stale letter.now (node_seen self.now).installed }
     {
-        has_epoch(&letter.body) && !is_same_epoch(&letter.epoch, &self.epoch())
+        is_stale(letter, &self.shape.installed)
     }
 
     // Whether the ticket stands.

@@ -54,6 +54,7 @@ concludes old new g buckets membership before letters some h copied entered sent
             };
           };
       epoch = (h.group, h.opened, ap (λ (m : Membership). m.epoch) h.is);
+      tells = record { membership = membership; installed = ap (λ (k : Kept). k.installed) e.1; epoch = refl; letters = sent };
       own = ap (λ (k : Kept). k.own) e.1;
       boot = ap (λ (k : Kept). k.boot) e.1;
       held = e.2;

@@ -8,7 +8,7 @@ use Rattle.maps_model.specs.Rules.{next_epoch}
 use Rattle.maps_model.specs.Moves.{NodeInOrder}
 use Rattle.map_rebuild.specs.Rows.{due_users}
 use Rattle.mailbox_fragment.specs.Here.{SetsMessage, flips}
-use Rattle.node_maps.specs.Nodes.{node_of, own_of, holds_in, IsDisk, KeepsNode}
+use Rattle.node_maps.specs.Nodes.{node_of, own_of, holds_in, IsDisk, KeepsNode, installs_to}
 use Rattle.node_maps.specs.Hearing.{left_by}
 use Rattle.node_maps.specs.declared.concluding.Concluded.{Concluded}
 use Rattle.node_maps.specs.declared.maps.NodeMaps.{NodeMaps}
@@ -23,10 +23,18 @@ abbrev pub StartsAs : {E : Type 0} → ℕ → Result (List Letter) E → NodeMa
 StartsAs nodes (Ok letters) old new = OpensGroup nodes letters old new
 StartsAs nodes (Err refused) old new = KeepsNode old new
 
+-- The membership is installed, and told by an Install to each other member, in the order of members.
+pub record TellsMembers (old new : NodeMaps) (done : Concluded) : Type 0 where
+  pub membership : Membership
+  pub installed : new.group.installed ≡ Some membership
+  pub epoch : membership.epoch ≡ done.epoch
+  pub letters : done.letters ≡ installs_to (own_of old) membership membership.members
+
 -- The open group is concluded. Where the node's own join stands in it, that is done by the machine's rule.
 pub record ConcludesGroup (buckets : ℕ) (done : Concluded) (old new : NodeMaps) : Type 0 where
   pub did : (disk : Disk) → IsDisk old disk → NodeInOrder (own_of old) (node_of old) disk → rules.Concludes (own_of old) buckets (node_of old) disk (left_by new None disk done.letters)
   pub epoch : (group : OpenGroup) × (old.group.opened ≡ Some group) × (done.epoch ≡ group.epoch)
+  pub tells : TellsMembers old new done
   pub own : own_of new ≡ own_of old
   pub boot : (node_of new).boot ≡ (node_of old).boot
   pub held : new.fragments ≡ old.fragments

@@ -15,9 +15,12 @@
 //! the kind: File, f for Filed, Strike, s for StrikeTold, Push, A for PushAck, Retired, Unlock
 //! ```
 //!
+//! As a table begins the node is in the epoch 1.1, whose members are all three nodes, and so it is once it has started again by `r`.
+//!
 //! A File has the number of its users more, a Strike that of its deletions, and the others that have a state its value: here, with
 //! its octets in a Push, n where a Push has none, gone, or x for the secret of a profile.
 mod calls;
+mod epochs;
 mod falls;
 mod letters;
 mod lines;
@@ -36,6 +39,7 @@ ghost use Rattle.node_core.specs.Spelling.{CanBeTaken};
 ghost use Rattle.node_core.specs.Works.{LeavesUp};
 
 use call_tickets::Call;
+use epochs::{installs, installs_all};
 use io_edge::Disk;
 use lines::{
     at, deletion_at, deliver_at, digit, fetch_at, id_at, letter_at, lines_of, login_at, named,
@@ -118,7 +122,26 @@ fn widens<D: Disk>(
     Ok(())
 }
 
-/// The node starts again. Any fault is told as one that takes it down.
+/// The node starts again, and no epoch is installed.
+fn restarts_alone<D: Disk>(
+    alloc: Global,
+    disk: &mut D,
+    node: &mut Node,
+    out: &mut Vec<u8>,
+) -> Result<(), NodeFault>
+    ensures { LeavesUp result → CanWork (D.seen disk.new) node.new }
+{
+    match started_alone(alloc, disk, node.own()) {
+        Ok(again) => {
+            *node = again;
+            out.extend_from_slice(&[b' ', one(u64::from(node.boot()))])?;
+            Ok(())
+        }
+        Err(_) => Err(NodeFault::Disk),
+    }
+}
+
+/// The node starts again, and is in the epoch 1.1. Any fault is told as one that takes it down.
 fn restarts<D: Disk>(
     alloc: Global,
     disk: &mut D,
@@ -186,6 +209,7 @@ fn tells(alloc: Global, node: &mut Node, line: &[u8], out: &mut Vec<u8>) -> Resu
         b'o' => say_whether(out, node.is_due(node_at(line, 2))),
         b'i' => say_ticket(node, ticket_at(line), out),
         b'l' => say_ids(alloc, node, out),
+        b'I' => installs(alloc, node, line),
         b'u' => say_users(alloc, node, out),
         b'q' => say_whether(out, node.is_settled()),
         b'c' => {
@@ -273,6 +297,7 @@ fn acts<D: Disk>(
             widens(alloc, disk, node, &ann, id_at(line), node_at(line, 2), out)
         }
         b'r' => restarts(alloc, disk, node, out),
+        b'N' => restarts_alone(alloc, disk, node, out),
         b'V' => restarts_promised(alloc, disk, node, out),
         b'v' => promises_epoch(
             alloc,
@@ -307,8 +332,8 @@ fn plan_of(alloc: Global) -> Result<Plan, AllocError>
     })
 }
 
-/// A node of that plan that starts over its journal.
-fn started<D: Disk>(alloc: Global, disk: &mut D, number: NodeNo) -> Result<Node, NodeFault>
+/// A node of that plan that starts over its journal. It has no epoch.
+fn started_alone<D: Disk>(alloc: Global, disk: &mut D, number: NodeNo) -> Result<Node, NodeFault>
     ensures works { IfOk result (λ node. CanWork (D.seen disk.new) node) }
 {
     if number.number() > 3 {
@@ -316,6 +341,15 @@ fn started<D: Disk>(alloc: Global, disk: &mut D, number: NodeNo) -> Result<Node,
     }
     let plan = plan_of(alloc)?;
     Node::start(alloc, disk, &plan, number)
+}
+
+/// So does this one, and then it installs the epoch 1.1 of all three nodes.
+fn started<D: Disk>(alloc: Global, disk: &mut D, number: NodeNo) -> Result<Node, NodeFault>
+    ensures works { IfOk result (λ node. CanWork (D.seen disk.new) node) }
+{
+    let mut node = started_alone(alloc, disk, number)?;
+    installs_all(alloc, &mut node)?;
+    Ok(node)
 }
 
 /// So does this one, and the epoch is told too that it promised last.
@@ -330,7 +364,9 @@ fn started_promised<D: Disk>(
         return Err(NodeFault::Disk);
     }
     let plan = plan_of(alloc)?;
-    Node::start_with_promise(alloc, disk, &plan, number)
+    let (mut node, promise) = Node::start_with_promise(alloc, disk, &plan, number)?;
+    installs_all(alloc, &mut node)?;
+    Ok((node, promise))
 }
 
 /// What the line says that the node is to do.

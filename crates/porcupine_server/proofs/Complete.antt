@@ -22,6 +22,7 @@ use Rattle.session_model.specs.Run.{Made, Stop, AreHandled, IsLeftOff, is_no_nod
 use Rattle.session_model.specs.Run.Stop.{Denied}
 use Rattle.yard_stores.proofs.Taking.{as_many}
 use Rattle.node_store.specs.Disks.{View}
+use Rattle.whole_node.specs.Starting.{first_map}
 use Rattle.cluster_world.specs.Worlds.{plan_of, disks_of, disks_tell}
 use Rattle.cluster_world.specs.declared.world.World.{World}
 use Rattle.cluster_world.proofs.Chained.{plan_stays}
@@ -122,11 +123,11 @@ module _ (tape : List ℕ) (good : IsGoodTape tape) where
     quiet_behind midst behind none = flat_map-append (λ (a : List Act). a) d.acts behind ∙ ap (λ (l : List Act). been ++ l) none ∙ append-nil been
 
     module _ (others : List (List ℕ)) (first : good.lines ≡ (d.handled ++ d.midst) ++ others) (ample : d.stop ≡ OutOfMemory → ⊥) (none : flat_map (λ a. a) d.behind ≡ []) where
-      f : Followed on good.plan good.lines (flat_map (λ a. a) (d.acts ++ d.behind)) d.led.rest [] (opening_world good.plan.nodes) d.awaited last
+      f : Followed on good.plan good.lines (flat_map (λ a. a) (d.acts ++ d.behind)) d.led.rest [] (opening_world good.plan.nodes (first_map good.plan)) d.awaited last
       f = followed on start last begins tells good.plan same d.stop d.handled d.midst d.acts d.behind d.outcomes d.entries d.sessions d.driven d.awaited d.steps d.at_nodes d.lacking d.led good.lines others first ample
 
-      follows : FollowsAll good.plan good.lines been [] (opening_world good.plan.nodes) f.now f.next
-      follows = subst (λ (l : List Act). FollowsAll good.plan good.lines l [] (opening_world good.plan.nodes) f.now f.next) (quiet_behind d.midst d.behind none) f.follows
+      follows : FollowsAll good.plan good.lines been [] (opening_world good.plan.nodes (first_map good.plan)) f.now f.next
+      follows = subst (λ (l : List Act). FollowsAll good.plan good.lines l [] (opening_world good.plan.nodes (first_map good.plan)) f.now f.next) (quiet_behind d.midst d.behind none) f.follows
 
     nothing_behind : (midst : List (List ℕ)) (behind : List (List Act)) → midst ≡ [] → IsLeftOff (plan_of start) been d.stop d.driven.mid midst behind d.driven.tail d.driven.extra d.sessions → flat_map (λ a. a) behind ≡ []
     nothing_behind [] [] none off = refl

@@ -11,7 +11,7 @@ use Rattle.session_model.specs.Calls.{Call, Answer}
 use Rattle.session_model.specs.Sums.{BookSum}
 use Rattle.session_model.specs.Talk.{Exchange}
 use Rattle.session_model.specs.Events.{ClusterEvent}
-use Rattle.session_model.specs.Events.ClusterEvent.{WentDown, CameUp, WasLost, WasHeard, WasThrown, WasDropped, HasFlowed, HasSent, HasWidened, HasTicked, HasSummed, HasFaulted}
+use Rattle.session_model.specs.Events.ClusterEvent.{WentDown, CameUp, WasLost, WasHeard, WasThrown, WasDropped, HasFlowed, HasSent, HasWidened, HasGrouped, HasFormed, HasTicked, HasSummed, HasFaulted}
 use Rattle.session_model.specs.SoundMails.{IsSoundMail}
 use Rattle.session_model.specs.Acts.{Act}
 use Rattle.session_model.specs.Acts.Act.{Opens, Does, Faults, StillWaits, Leaves, Makes as MakesAct, Abandons}
@@ -42,6 +42,7 @@ use Rattle.cluster_world.specs.declared.fault.StepFault.{StepFault}
 use Rattle.cluster_world.proofs.Ended.{sound_ended}
 use Rattle.cluster_world.proofs.SeenAlike.{made_alike, told_alike}
 use Rattle.cluster_world.proofs.Mirrors.{IsOf, Led as LedOn, led}
+use Rattle.cluster_world.specs.Regroups.{AllWentOn}
 use Rattle.drive_tape.specs.Led.{Begins, EndsIn, WentWell, Tells, told_of, Led, AreLed}
 use Rattle.porcupine_server.proofs.MachineOrders.{made_seen, failed_alike, Ordered, known_on, order_follows}
 
@@ -102,6 +103,11 @@ ends_alike result steps (before, one, are, is) = (map made_seen before, made_see
     map_last [] = refl
     map_last (x ∷ front) = ap (λ (l : List MadeStep). made_seen x ∷ l) (map_last front)
 
+-- what went on went well
+went_on : (steps : List StepMade) → AllWentOn steps → WentWell steps
+went_on [] well = tt
+went_on (one ∷ more) well = (well.0, went_on more well.1)
+
 well_alike : (steps : List StepMade) → WentWell steps → asks.WentWell (map made_seen steps)
 well_alike [] well = tt
 well_alike (one ∷ more) well = (failed_alike one.result ∙ well.0, well_alike more well.1)
@@ -118,6 +124,8 @@ fine made (Ok (said.Faulted node)) event is = absurd (by made is)
     by (step.Drop letter) e = none-some event e
     by (step.Push from to) e = none-some event e
     by (step.Widen at user id to) e = none-some event e
+    by (step.Group at) e = none-some event e
+    by (step.Conclude at) e = none-some event e
     by (step.Crash at) e = none-some event e
     by (step.Start at) e = none-some event e
     by (step.Lose at) e = none-some event e
@@ -132,6 +140,8 @@ fine made (Err why) event is = absurd (by made is)
     by (step.Drop letter) e = none-some event e
     by (step.Push from to) e = none-some event e
     by (step.Widen at user id to) e = none-some event e
+    by (step.Group at) e = none-some event e
+    by (step.Conclude at) e = none-some event e
     by (step.Crash at) e = none-some event e
     by (step.Start at) e = none-some event e
     by (step.Lose at) e = none-some event e
@@ -143,6 +153,8 @@ fine made (Ok said.Heard) event is = refl
 fine made (Ok (said.Thrown why)) event is = refl
 fine made (Ok (said.Sent letters)) event is = refl
 fine made (Ok (said.Widened did)) event is = refl
+fine made (Ok (said.Grouped epoch)) event is = refl
+fine made (Ok (said.Concluded epoch members)) event is = refl
 fine made (Ok (said.NodeUp boot)) event is = refl
 fine made (Ok said.Done) event is = refl
 
@@ -154,6 +166,7 @@ went_so asked steps sum (HasFaulted node) tells = ends_alike (Ok (said.Faulted n
 went_so ClusterOrder.Flow steps sum HasFlowed tells = well_alike steps tells
 went_so (ClusterOrder.Push node) steps sum (HasSent count) tells = well_alike steps tells.0
 went_so ClusterOrder.Sum steps sum (HasSummed told) tells = well_alike steps (subst WentWell (sym tells.0) tt)
+went_so (ClusterOrder.Regroup node) steps sum (HasFormed epoch members) tells = well_alike steps (went_on steps tells.1.well)
 went_so asked steps sum event tells = told_well event steps tells
 
 -- a Leave hands in no text

@@ -23,6 +23,7 @@ use Rattle.drive_tape.specs.Faults.{tape_fault_seen}
 use Rattle.drive_tape.specs.Drive.{IsOrder, IsNoOrder, StopsAt}
 use Rattle.cluster_model.specs.World.{World}
 use Rattle.cluster_model.specs.WorldLaws.{opening_world}
+use Rattle.whole_node.specs.Starting.{first_map}
 use Rattle.accepted_tapes.specs.Follows.{Standing, FollowsAll}
 use Rattle.accepted_tapes.specs.Accepted.{NobodyWaits, MayBeDenied, Grants}
 use Rattle.porcupine_server.specs.Complete.{IsGoodTape}
@@ -89,7 +90,7 @@ module _ (tape : List ℕ) (good : IsGoodTape tape) where
 
   -- what the machine makes of the acts of these lines
   abbrev Follow : List (List Act) → List Standing → World → Type 0
-  Follow acts calls w = FollowsAll good.plan good.lines (flat_map (λ a. a) acts) [] (opening_world good.plan.nodes) calls w
+  Follow acts calls w = FollowsAll good.plan good.lines (flat_map (λ a. a) acts) [] (opening_world good.plan.nodes (first_map good.plan)) calls w
 
   -- Lines that were read, with no `end` among them, are the first of the run lines.
   pub first_lines : (lines : List (List ℕ)) (more : List ℕ) → All HasNoLf lines → ((front : List (List ℕ)) (rest : List (List ℕ)) → lines ≡ front ++ good.last ∷ rest → ⊥)
@@ -140,7 +141,7 @@ module _ (tape : List ℕ) (good : IsGoodTape tape) where
         short = run_short lines ahead.next ahead.others ahead.split;
       })
       (λ (before : (others : List (List ℕ)) × (good.lines ≡ lines ++ ahead.next ∷ others)).
-      let accepted = good.accepted lines ahead.next before.0 acts outputs sessions calls w before.1 runs follows up alone in
+      let accepted = good.accepted (first_map good.plan) lines ahead.next before.0 acts outputs sessions calls w before.1 runs follows up alone in
       record {
         next = ahead.next;
         rest = flat_map ended ahead.others ++ good.behind;

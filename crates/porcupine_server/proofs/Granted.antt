@@ -7,6 +7,7 @@ use Rattle.mail_model.specs.Plan.{Plan}
 use Rattle.mail_model.specs.Stored.{opened, opened_at, kind_at}
 use Rattle.mail_model.specs.Tape.{Protocol, Order, ClusterOrder, tape_order}
 use Rattle.mail_model.specs.Tape.{Order as tape}
+use Rattle.mail_model.specs.Tape.{ClusterOrder as order}
 use Rattle.mail_model.specs.Transcript.{Entry}
 use Rattle.object_model.specs.Lists.{Among}
 use Rattle.object_model.proofs.Lists.{among_front}
@@ -28,6 +29,7 @@ use Rattle.accepted_tapes.specs.Orders as asks
 use Rattle.accepted_tapes.specs.Follows.{Standing, IsOpenedAt, FollowsAll}
 use Rattle.accepted_tapes.specs.Accepted.{Grants}
 use Rattle.node_store.specs.Disks.{View}
+use Rattle.whole_node.specs.Starting.{first_map}
 use Rattle.cluster_world.specs.Opens.{IsAtBeginning}
 use Rattle.cluster_world.specs.Worlds.{plan_of, disks_tell, StandsFor}
 use Rattle.cluster_world.specs.Seen.{outcome_seen}
@@ -43,7 +45,7 @@ use Rattle.cluster_world.proofs.Mirrors.{IsOf, led}
 use Rattle.drive_tape.specs.declared.drove.TapeFault.{TapeFault}
 use Rattle.drive_tape.specs.declared.drove.Stop.TheVariants as why
 use Rattle.drive_tape.specs.Denials.{stop_by}
-use Rattle.drive_tape.specs.Led.{AreLed, AreLedTo, EndsWith, IsUntold}
+use Rattle.drive_tape.specs.Led.{AreLed, AreLedTo, EndsWith, IsUntold, AreDenied}
 use Rattle.drive_tape.specs.Drive.{IsDenied, EndsDenied}
 use Rattle.drive_tape.specs.Points.{IsAtOwnNode, AreAtOwnNodes}
 use Rattle.drive_tape.proofs.Kept.{of_sessions}
@@ -81,9 +83,17 @@ is_refusal fault.NodeDown f is = (steps.StepFault.NodeDown, refl)
 is_refusal fault.NodeUp f is = (steps.StepFault.NodeIsUp, refl)
 is_refusal fault.NoSuchLetter f is = (steps.StepFault.NoSuchLetter, refl)
 is_refusal fault.NoSuchTicket f is = (steps.StepFault.NoSuchTicket, refl)
+is_refusal fault.NotAGroup f is = (steps.StepFault.NotAGroup, refl)
 is_refusal fault.Worn f is = (steps.StepFault.Worn, refl)
 is_refusal fault.NoRoom f is = (steps.StepFault.NoRoom, refl)
 is_refusal (fault.NoMemory down) f is = absurd (let clash : why.NoMemory ≡ why.Bad f = is in cc)
+
+-- a line that was denied here is denied there
+denied_alike : (asked : ClusterOrder) (cause : StepFault) (f : steps.StepFault) → outcome_seen (Err cause) ≡ steps.StepOutcome.Refused f → (made : List StepMade) → AreDenied asked cause made → asks.AreDenied asked f (map made_seen made)
+denied_alike (order.Regroup node) cause f is made denied = ⊎_elim
+    (λ ends. inl (subst (λ out. asks.EndsIn out (map made_seen made)) is (ends_alike (Err cause) made ends)))
+    (λ none. inr (ap (map made_seen) none.0)) denied
+denied_alike asked cause f is made denied = subst (λ out. asks.EndsIn out (map made_seen made)) is (ends_alike (Err cause) made denied)
 
 module _ {D : Type 0} (on : View D) (start last : World D) (begins : IsAtBeginning on (plan_of start) start) (told : disks_tell on.seen start ≡ true) (plan : Plan) (same : plan_of start ≡ plan)
     (stop : Stop) (handled midst : List (List ℕ)) (acts behind : List (List Act)) (outcomes : List Outcome) (entries : List Entry) (sessions : List Session)
@@ -124,27 +134,27 @@ module _ {D : Type 0} (on : View D) (start last : World D) (begins : IsAtBeginni
   done_are : leads.done ≡ flat_map (λ a. a) (acts ++ behind)
   done_are = sym (append-nil leads.done) ∙ ap (λ l. leads.done ++ l) (sym (none_left leads.last leads.rest stop lacking driven.extra leads.ends ample)) ∙ sym leads.acts_are
 
-  pub followed : Followed on plan lines (flat_map (λ a. a) (acts ++ behind)) leads.rest [] (opening_world plan.nodes) awaited last
-  followed = subst (λ l. Followed on plan lines l leads.rest [] (opening_world plan.nodes) awaited last) done_are
-      (all_acts on plan lines leads.done [] leads.own leads.rest leads.led [] (opening_world plan.nodes) [] awaited start last (record { plan_is = same; told_is = told })
-      (subst (λ (p : Plan). StandsFor on start (opening_world p.nodes)) same begins.stands) (λ one m. absurd m)
+  pub followed : Followed on plan lines (flat_map (λ a. a) (acts ++ behind)) leads.rest [] (opening_world plan.nodes (first_map plan)) awaited last
+  followed = subst (λ l. Followed on plan lines l leads.rest [] (opening_world plan.nodes (first_map plan)) awaited last) done_are
+      (all_acts on plan lines leads.done [] leads.own leads.rest leads.led [] (opening_world plan.nodes (first_map plan)) [] awaited start last (record { plan_is = same; told_is = told })
+      (subst (λ (p : Plan). StandsFor on start (opening_world p.nodes (first_map p))) same begins.stands) (λ one m. absurd m)
       (λ outcome m. placed outcome (subst (Among outcome) (sym leads.outcomes_are) (among_front outcome leads.own leads.rest m)))
       (subst (λ l. Makes on l [] start awaited last) leads.outcomes_are makes))
 
   -- the step of this outcome was refused, and so the machine refuses one that the order asks for
   refuses_by : (order : Order) (made : Made) (fault : TapeFault) → FirstStep order sessions made → Grants plan order followed.now followed.next
       → (outcome : Outcome) → IsDenied fault outcome → made_of outcome ≡ made → (between : List Awaited) (mid : World D) → Came on outcome followed.between followed.mid between mid → ⊥
-  refuses_by order made fault first_step grants (Moved asked made_steps sum) (before, one, cause, are, is, stops) is_made between mid (makes_order, left_is, sum_is) =
+  refuses_by order made fault first_step grants (Moved asked made_steps sum) (cause, denied, stops) is_made between mid (makes_order, left_is, sum_is) =
       let r = is_refusal cause fault stops in
       let o = order_follows on plan asked made_steps followed.mid mid followed.known followed.next followed.stands makes_order in
-      by order first_step grants (map made_seen made_steps) r.0 o.next o.makes (subst (λ out. asks.EndsIn out (map made_seen made_steps)) r.1 (ends_alike (Err cause) made_steps (before, one, are, is)))
+      by order first_step grants (map made_seen made_steps) r.0 o.next o.makes (denied_alike asked cause r.0 r.1 made_steps denied)
     where
       by : (o : Order) → FirstStep o sessions made → Grants plan o followed.now followed.next → (ms : List MadeStep) (f : steps.StepFault) (next : machine.World)
-          → asks.MakesOrder plan asked ms followed.next next → asks.EndsIn (steps.StepOutcome.Refused f) ms → ⊥
+          → asks.MakesOrder plan asked ms followed.next next → asks.AreDenied asked f ms → ⊥
       by (tape.Moves other) (may, is_move) grants ms f next makes_it ends =
           let e : Made.Moves asked ≡ Made.Moves other = is_made ∙ is_move in
           let same_order : asked ≡ other = cc in
-          grants ms f next (subst (λ a. asks.MakesOrder plan a ms followed.next next) same_order makes_it) ends
+          grants ms f next (subst (λ a. asks.MakesOrder plan a ms followed.next next) same_order makes_it) (subst (λ a. asks.AreDenied a f ms) same_order ends)
       by (tape.GiveUp k) is_give grants ms f next makes_it ends = let e : Made.Moves asked ≡ Made.GivesUp k = is_made ∙ is_give in cc
       by (tape.Close k) (waits, is_give) grants ms f next makes_it ends = let e : Made.Moves asked ≡ Made.GivesUp k = is_made ∙ is_give in cc
       by (tape.Open protocol node) none grants ms f next makes_it ends = none

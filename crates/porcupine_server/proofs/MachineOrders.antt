@@ -19,7 +19,7 @@ use Rattle.cluster_world.specs.Worlds.{state_of, life_of, seen_life, StandsFor}
 use Rattle.cluster_world.specs.Seen.{step_seen, outcome_seen}
 use Rattle.cluster_world.specs.Ended.{IsEnded}
 use Rattle.cluster_world.specs.Steps.{IsStep}
-use Rattle.cluster_world.specs.Outcomes.{StepMade, MakesSteps, PostsAll, PushesTo, PushesAll, MakesOne, MakesOrder, has_failed, nodes_but}
+use Rattle.cluster_world.specs.Outcomes.{StepMade, MakesSteps, IsPost, IsOfRegroup, AreOfRegroup, PostsAll, PushesTo, PushesAll, MakesOne, MakesOrder, has_failed, nodes_but}
 use Rattle.cluster_world.specs.declared.life.Life.{Life}
 use Rattle.cluster_world.specs.declared.world.World.{World}
 use Rattle.cluster_world.specs.declared.step.Step.{Step}
@@ -46,6 +46,8 @@ failed_alike (Ok said.Heard) = refl
 failed_alike (Ok (said.Thrown why)) = refl
 failed_alike (Ok (said.Sent letters)) = refl
 failed_alike (Ok (said.Widened did)) = refl
+failed_alike (Ok (said.Grouped epoch)) = refl
+failed_alike (Ok (said.Concluded epoch members)) = refl
 failed_alike (Ok (said.NodeUp boot)) = refl
 failed_alike (Ok said.Done) = refl
 failed_alike (Ok (said.Faulted node)) = refl
@@ -55,6 +57,7 @@ failed_alike (Err fault.NodeDown) = refl
 failed_alike (Err fault.NodeUp) = refl
 failed_alike (Err fault.NoSuchLetter) = refl
 failed_alike (Err fault.NoSuchTicket) = refl
+failed_alike (Err fault.NotAGroup) = refl
 failed_alike (Err fault.Worn) = refl
 failed_alike (Err fault.NoRoom) = refl
 failed_alike (Err (fault.NoMemory down)) = refl
@@ -173,6 +176,18 @@ module _ {D : Type 0} (on : View D) (plan : Plan) where
             (subst IsEnded (sym is) tt, r.1),
           )
 
+  -- a step of a regroup
+  regroups_one : (node : ℕ) (one : StepMade) → IsOfRegroup node one → asks.IsOfRegroup node (made_seen one) × IsEnded one.step
+  regroups_one node one of = ⊎_elim
+      (λ (opens : one.step ≡ step.Group node). (inl (ap step_seen opens), subst IsEnded (sym opens) tt))
+      (λ (rest : (one.step ≡ step.Conclude node) ⊎ IsPost one). ⊎_elim
+      (λ (concludes : one.step ≡ step.Conclude node). (inl (ap step_seen concludes), subst IsEnded (sym concludes) tt))
+      (λ (post : IsPost one). (inr (post.0, ap step_seen post.1), subst IsEnded (sym post.1) tt)) rest) of
+
+  regroups : (node : ℕ) (steps : List StepMade) → AreOfRegroup node steps → asks.AreOfRegroup node (map made_seen steps) × AllEnded steps
+  regroups node [] of = (tt, tt)
+  regroups node (one ∷ more) of = let first = regroups_one node one of.0 in let rest = regroups node more of.1 in ((first.0, rest.0), (first.1, rest.1))
+
   -- a node that there is not is not there
   none_there : (old : World D) (w : machine.World) → StandsFor on old w → (node : ℕ) (slot : plain.Slot) → of_node (state_of old).lives node ≡ None → plain.slot_at w.slots node ≡ Some slot → ⊥
   none_there old w stands zero slot none here = none-some slot here
@@ -224,6 +239,12 @@ module _ {D : Type 0} (on : View D) (plan : Plan) where
   order_follows (order.Drop letter) steps old new of w stands makes = let s = one_step (step.Drop letter) tt steps old new of w stands makes in record { next = s.next; stands = s.stands; known = s.known; makes = s.makes }
   order_follows order.Flow steps old new of w stands makes = let s = posts steps old new of w stands makes in record { next = s.next; stands = s.stands; known = s.known; makes = s.makes }
   order_follows (order.Widen at user id to) steps old new of w stands makes = let s = one_step (step.Widen at user id to) tt steps old new of w stands makes in record { next = s.next; stands = s.stands; known = s.known; makes = s.makes }
+  order_follows (order.Group node) steps old new of w stands makes = let s = one_step (step.Group node) tt steps old new of w stands makes in record { next = s.next; stands = s.stands; known = s.known; makes = s.makes }
+  order_follows (order.Conclude node) steps old new of w stands makes = let s = one_step (step.Conclude node) tt steps old new of w stands makes in record { next = s.next; stands = s.stands; known = s.known; makes = s.makes }
+  order_follows (order.Regroup node) steps old new of w stands makes =
+      let r = regroups node steps makes.0 in
+      let s = several steps r.1 old new of w stands makes.1 in
+      record { next = s.next; stands = s.stands; known = s.known; makes = (r.0, s.makes) }
   order_follows (order.Tick seconds) steps old new of w stands makes = let s = one_step (step.Tick seconds) tt steps old new of w stands makes in record { next = s.next; stands = s.stands; known = s.known; makes = s.makes }
   order_follows order.Sum steps old new of w stands (none, same) = record {
     next = w;

@@ -57,6 +57,7 @@ name_none TapeFault.NodeDown = by_test (codes "NodeDown") refl
 name_none TapeFault.NodeUp = by_test (codes "NodeUp") refl
 name_none TapeFault.NoSuchLetter = by_test (codes "NoSuchLetter") refl
 name_none TapeFault.NoSuchTicket = by_test (codes "NoSuchTicket") refl
+name_none TapeFault.NotAGroup = by_test (codes "NotAGroup") refl
 name_none TapeFault.Worn = by_test (codes "Worn") refl
 name_none TapeFault.NoRoom = by_test (codes "NoRoom") refl
 name_none TapeFault.TapeTooLong = by_test (codes "TapeTooLong") refl

@@ -30,7 +30,7 @@ use Rattle.serve_word.proofs.Storing.{failed_opening}
 
 -- a plan of a tape is one that a cluster can be opened for
 pub fits : (plan : Plan) → IsTapePlan plan → CanBeOpened plan
-fits plan is = record { some = is.some; few = is.few; confirmed = is.confirmed; copied = is.copied; spread = is.spread }
+fits plan is = record { some = is.some; few = is.few; confirmed = is.confirmed; copied = is.copied; spread = is.spread; bucketed = is.buckets.0 }
 
 -- nothing was handled
 pub before_untaken : (fault : TakeFault) → IsBeforeRun (ending_untaken fault)

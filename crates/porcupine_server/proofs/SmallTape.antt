@@ -43,8 +43,8 @@ chained : Chained small_plan small_lines small_lines Fresh
 chained = told_chain 1 refl small_lines (codes "say 1 ." ∷ codes "say 1 QUIT" ∷ []) (On, period, (Unknown, quit, tt))
 
 accepted : AreAccepted small_plan small_lines
-accepted front line rest acts outputs sessions calls w split runs follows sound alone =
-    chain_accepts small_plan small_lines small_lines Fresh chained [] [] [] (opening_world 1) (refl, refl, refl, refl) front line rest acts outputs sessions calls w split runs follows sound
+accepted map front line rest acts outputs sessions calls w split runs follows sound alone =
+    chain_accepts small_plan small_lines small_lines Fresh chained [] [] [] (opening_world 1 map) (refl, refl, refl, (map, refl)) front line rest acts outputs sessions calls w split runs follows sound
 
 octets : length (flat_map ended small_lines ++ ended (codes "end")) ≡ 157
 octets = refl

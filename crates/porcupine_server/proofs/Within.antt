@@ -7,7 +7,7 @@ use Rattle.std.proofs.lemmas.List.Concat.{flat_map-append}
 use Rattle.mail_model.specs.Plan.{Plan}
 use Rattle.mail_model.specs.Tape.{Order, ClusterOrder, or_else}
 use Rattle.mail_model.specs.Tape.Order.{Open, Say, Feed, Close, GiveUp, Moves, End}
-use Rattle.mail_model.specs.Tape.ClusterOrder.{Crash, Start, Lose, Post, Again, Drop, Flow, Push, Widen, Tick, Sum}
+use Rattle.mail_model.specs.Tape.ClusterOrder.{Crash, Start, Lose, Post, Again, Drop, Flow, Push, Widen, Group, Conclude, Regroup, Tick, Sum}
 use Rattle.mail_model.specs.Lines.{sent_line}
 use Rattle.mail_model.specs.Site.{TapeFault}
 use Rattle.mail_model.specs.Site.TapeFault.{BadLine, NoSuchNode}
@@ -16,7 +16,7 @@ use Rattle.mail_model.proofs.Sessions.{by_number}
 use Rattle.object_model.specs.Lists.{Among}
 use Rattle.object_model.proofs.Lists.{among_either}
 use Rattle.session_model.specs.Events.{ClusterEvent, NodeLife, MayFault, IsEventOf, failed_by_event}
-use Rattle.session_model.specs.Events.ClusterEvent.{WentDown, CameUp, WasLost, WasHeard, WasThrown, WasDropped, HasFlowed, HasSent, HasWidened, HasTicked, HasSummed, HasFaulted}
+use Rattle.session_model.specs.Events.ClusterEvent.{WentDown, CameUp, WasLost, WasHeard, WasThrown, WasDropped, HasFlowed, HasSent, HasWidened, HasGrouped, HasFormed, HasTicked, HasSummed, HasFaulted}
 use Rattle.session_model.specs.Sessions.{Session, session_at}
 use Rattle.session_model.specs.Acts.{Act, Deed, Acted, replace, opened_session, greeting_of}
 use Rattle.session_model.specs.Acts.Act.{Opens, Does, Faults, StillWaits, Leaves, Makes, Abandons}
@@ -80,6 +80,8 @@ event_of plan lives order (WasDropped letter) accepted is n among = absurd among
 event_of plan lives order HasFlowed accepted is n among = absurd among
 event_of plan lives order (HasSent count) accepted is n among = absurd among
 event_of plan lives order (HasWidened did) accepted is n among = absurd among
+event_of plan lives order (HasGrouped epoch) accepted is n among = absurd among
+event_of plan lives order (HasFormed epoch members) accepted is n among = absurd among
 event_of plan lives order HasTicked accepted is n among = absurd among
 event_of plan lives order (HasSummed sum) accepted is n among = absurd among
 event_of plan lives order (HasFaulted failed) accepted is n (inr none) = absurd none
@@ -99,6 +101,9 @@ event_of plan lives order (HasFaulted failed) accepted is n (inl same) = subst (
     by (Push node) accepted is = subst (IsOfPlan plan) (sym is.0) (not_so (is_no_node plan node) NoSuchNode accepted)
     by (Widen node user id to) accepted is = subst (IsOfPlan plan) (sym is)
         (or_parts (is_no_node plan node) (is_no_node plan to) (not_so (is_no_node plan node || is_no_node plan to) NoSuchNode (first_none _ _ (second_none _ _ accepted)))).0
+    by (Group node) accepted is = subst (IsOfPlan plan) (sym is) (not_so (is_no_node plan node) NoSuchNode (first_none _ _ accepted))
+    by (Conclude node) accepted is = subst (IsOfPlan plan) (sym is) (not_so (is_no_node plan node) NoSuchNode (first_none _ _ accepted))
+    by (Regroup node) accepted is = may is
     by (Tick seconds) accepted is = absurd is
     by Sum accepted is = absurd is
 

@@ -48,6 +48,7 @@ kept number false more none = absurd (no_some number (sym none))
 record AreKept (file : Data) : Type 0 where
   nodes : has_nodes file ≡ true
   copies : has_copies file ≡ true
+  buckets : has_buckets file ≡ true
   ports : have_ports file ≡ true
 
 both : (a b : Bool) → (a && b) ≡ true → (a ≡ true) × (b ≡ true)
@@ -65,7 +66,7 @@ are_kept file none =
     let users = kept 7 (has_users file) (has_postmaster file ∷ (has_folder file && have_ports file) ∷ []) shards.1 in
     let postmaster = kept 8 (has_postmaster file) ((has_folder file && have_ports file) ∷ []) users.1 in
     let outside = kept 9 (has_folder file && have_ports file) [] postmaster.1 in
-    record { nodes = nodes.0; copies = copies.0; ports = (both (has_folder file) (have_ports file) outside.0).1 }
+    record { nodes = nodes.0; copies = copies.0; buckets = buckets.0; ports = (both (has_folder file) (have_ports file) outside.0).1 }
 
 within : (low high n : ℕ) → is_within low high (Some n) ≡ true → (low ≤ n) × (n ≤ high)
 within low high n is = let two = both (nat_le low n) (nat_le n high) is in (grind (arith, nat_tests, two.0), grind (arith, nat_tests, two.1))
@@ -81,11 +82,12 @@ pub can_be_opened : (file : Data) (plan : ServePlan) → first_broken file ≡ N
 can_be_opened file plan none is =
     let keeps = are_kept file none in
     let nodes = within 1 16 plan.plan.nodes (subst (λ (n : Option ℕ). is_within 1 16 n ≡ true) is.nodes keeps.nodes) in
+    let buckets = within 1 1024 plan.plan.buckets (subst (λ (n : Option ℕ). is_within 1 1024 n ≡ true) is.buckets keeps.buckets) in
     let copies = falling plan.plan.nodes plan.plan.copies plan.plan.confirm
     (ap (λ (n : Option ℕ). go_down n (Some plan.plan.copies) (Some plan.plan.confirm)) (sym is.nodes)
     ∙ ap (λ (n : Option ℕ). go_down (number_at (codes "nodes") file) n (Some plan.plan.confirm)) (sym is.copies)
     ∙ ap (λ (n : Option ℕ). go_down (number_at (codes "nodes") file) (number_at (codes "copies") file) n) (sym is.confirm) ∙ keeps.copies) in
-    record { some = nodes.0; few = nodes.1; confirmed = copies.2; copied = copies.1; spread = copies.0 }
+    record { some = nodes.0; few = nodes.1; confirmed = copies.2; copied = copies.1; spread = copies.0; bucketed = buckets.0 }
 
 -- its ports are ports
 pub fit_ports : (file : Data) (plan : ServePlan) → first_broken file ≡ None → IsPlanOf file plan → (plan.smtp_port + plan.plan.nodes ≤ 65536) × (plan.pop_port + plan.plan.nodes ≤ 65536)

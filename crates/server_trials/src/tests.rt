@@ -13,6 +13,7 @@ mod messages;
 mod pieces;
 mod plans;
 mod recipients;
+mod regroups;
 mod replies;
 mod run_lines;
 mod serving;
@@ -67,7 +68,7 @@ struct Run {
 }
 
 // How many disks a yard of the tests has.
-const DISKS: usize = 3;
+const DISKS: usize = 4;
 
 // A yard of empty disks, of the first of which this call fails; none where it is 0.
 fn yard_of(alloc: Global, failing: u64) -> Result<MemoryYard<MemoryDisk>, AllocError> {

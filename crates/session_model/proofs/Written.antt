@@ -3,6 +3,7 @@ use Rattle.std.proofs.Common.{⊎_elim, ℕ, true, false, List, [], ◌∷◌, �
 use Rattle.std.proofs.lemmas.List.{map-append}
 use Rattle.std.proofs.lemmas.List.Elements.{All-nil, All-cons, All-head, All-tail, All-append}
 use Rattle.std.specs.Fmt.{decimal}
+use Rattle.mail_model.specs.Identity.{EpochId}
 use Rattle.mail_model.specs.Lines.{HasNoLf}
 use Rattle.mail_model.specs.Plan.{Plan}
 use Rattle.mail_model.specs.Transcript.{Entry, Why, why_word, entry_line, said_lines, closed_event, all_of}
@@ -12,8 +13,8 @@ use Rattle.mail_model.proofs.OneLine.{IsNoLf, by_test, decimal_no_lf, said_line,
 use Rattle.session_model.specs.Sessions.{Session}
 use Rattle.session_model.specs.Acts.{Act, Acted, ActedAll, closing}
 use Rattle.session_model.specs.Sums.{BookSum}
-use Rattle.session_model.specs.Events.{ClusterEvent, event_entries, fault_event, sum_text}
-use Rattle.session_model.specs.Events.ClusterEvent.{WentDown, CameUp, WasLost, WasHeard, WasThrown, WasDropped, HasFlowed, HasSent, HasWidened, HasTicked, HasSummed, HasFaulted}
+use Rattle.session_model.specs.Events.{ClusterEvent, event_entries, fault_event, epoch_text, node_words, formed_text, sum_text}
+use Rattle.session_model.specs.Events.ClusterEvent.{WentDown, CameUp, WasLost, WasHeard, WasThrown, WasDropped, HasFlowed, HasSent, HasWidened, HasGrouped, HasFormed, HasTicked, HasSummed, HasFaulted}
 use Rattle.session_model.specs.Acts.Act.{Opens, Does, Faults, StillWaits, Leaves, Makes, Abandons}
 use Rattle.session_model.specs.Run.{Stop}
 use Rattle.session_model.specs.Run.Stop.{BehindLine, Denied, SinkFailed, OutOfMemory}
@@ -74,6 +75,20 @@ sum_line sum =
     (more_number (codes "sum acked " ++ decimal sum.acked) (codes " struck ") sum.struck (before_number (codes "sum acked ") sum.acked (by_test (codes "sum acked ") refl))
     (by_test (codes " struck ") refl)) (by_test (codes " dropped ") refl)) (by_test (codes " lost ") refl)
 
+epoch_line : (epoch : EpochId) → HasNoLf (epoch_text epoch)
+epoch_line epoch = more_number (decimal epoch.count) (codes ".") epoch.node (decimal_no_lf epoch.count) (by_test (codes ".") refl)
+
+node_line : (nodes : List ℕ) → HasNoLf (node_words nodes)
+node_line [] = All-nil IsNoLf
+node_line (node ∷ nodes) = All-append IsNoLf (codes " " ++ decimal node) (node_words nodes) (before_number (codes " ") node (by_test (codes " ") refl)) (node_line nodes)
+
+formed_line : (epoch : EpochId) (members : List ℕ) → HasNoLf (formed_text epoch members)
+formed_line epoch members =
+    All-append IsNoLf (codes "epoch " ++ epoch_text epoch ++ codes " members") (node_words members)
+    (All-append IsNoLf (codes "epoch " ++ epoch_text epoch) (codes " members")
+    (All-append IsNoLf (codes "epoch ") (epoch_text epoch) (by_test (codes "epoch ") refl) (epoch_line epoch)) (by_test (codes " members") refl))
+    (node_line members)
+
 words : (why : Why) → HasNoLf (why_word why)
 words WhileDown = by_test (codes "down") refl
 words Stale = by_test (codes "stale") refl
@@ -94,6 +109,8 @@ event_lines HasFlowed = event_of (codes "flowed") (by_test (codes "flowed") refl
 event_lines (HasSent count) = event_of _ (before_number (codes "sent ") count (by_test (codes "sent ") refl))
 event_lines (HasWidened true) = event_of (codes "widened") (by_test (codes "widened") refl)
 event_lines (HasWidened false) = event_of (codes "not widened") (by_test (codes "not widened") refl)
+event_lines (HasGrouped epoch) = event_of _ (All-append IsNoLf (codes "group ") (epoch_text epoch) (by_test (codes "group ") refl) (epoch_line epoch))
+event_lines (HasFormed epoch members) = event_of _ (formed_line epoch members)
 event_lines HasTicked = no_lines
 event_lines (HasSummed sum) = event_of (sum_text sum) (sum_line sum)
 event_lines (HasFaulted node) = faulted node

@@ -1,15 +1,17 @@
 -- What comes of a run line that moves the cluster itself, what the transcript says of it, and how it leaves the nodes.
-use Rattle.std.specs.Prelude.{◌≡◌, ℕ, ◌<◌, ◌≤◌, Bool, true, false, nat_eq, List, [], ◌∷◌, ◌++◌, ⊤, if◌then◌else◌, codes}
+use Rattle.std.specs.Prelude.{◌≡◌, ℕ, ◌<◌, ◌≤◌, Bool, true, false, nat_eq, List, [], ◌∷◌, ◌++◌, flat_map, ⊤, if◌then◌else◌, codes}
 use Rattle.std.specs.Fmt.{decimal}
+use Rattle.mail_model.specs.Identity.{EpochId}
 use Rattle.mail_model.specs.Plan.{Plan}
 use Rattle.mail_model.specs.Tape.{ClusterOrder}
-use Rattle.mail_model.specs.Tape.ClusterOrder.{Crash, Start, Lose, Post, Again, Drop, Flow, Push, Widen, Tick, Sum}
+use Rattle.mail_model.specs.Tape.ClusterOrder.{Crash, Start, Lose, Post, Again, Drop, Flow, Push, Widen, Group, Conclude, Regroup, Tick, Sum}
 use Rattle.session_model.specs.Sums.{BookSum}
 use Rattle.mail_model.specs.Transcript.{Entry, Why, why_word}
 use Rattle.mail_model.specs.Transcript.Entry.{Event}
 
 -- A node went down, came up in this boot, or is lost for good; a letter was heard, thrown, or dropped; all letters were posted; a node sent so many letters; a
--- copy got a target more, or did not; the clock was set; the entries of the book were counted; or the disk of a node failed.
+-- copy got a target more, or did not; a group was opened for this epoch, or the epoch was formed with these members; the clock was set; the entries of the book were
+-- counted; or the disk of a node failed.
 pub data ClusterEvent : Type 0 where
   WentDown : (node : ℕ) → ClusterEvent
   CameUp : (node boot : ℕ) → ClusterEvent
@@ -20,6 +22,8 @@ pub data ClusterEvent : Type 0 where
   HasFlowed : ClusterEvent
   HasSent : (count : ℕ) → ClusterEvent
   HasWidened : (did : Bool) → ClusterEvent
+  HasGrouped : (epoch : EpochId) → ClusterEvent
+  HasFormed : (epoch : EpochId) (members : List ℕ) → ClusterEvent
   HasTicked : ClusterEvent
   HasSummed : (sum : BookSum) → ClusterEvent
   HasFaulted : (node : ℕ) → ClusterEvent
@@ -37,6 +41,18 @@ abbrev pub widened_text : Bool → List ℕ
 widened_text true = codes "widened"
 widened_text false = codes "not widened"
 
+-- an epoch, by its count and the node that formed it
+abbrev pub epoch_text : EpochId → List ℕ
+epoch_text epoch = decimal epoch.count ++ codes "." ++ decimal epoch.node
+
+-- the numbers of nodes, each behind a space
+abbrev pub node_words : List ℕ → List ℕ
+node_words nodes = flat_map (λ (node : ℕ). codes " " ++ decimal node) nodes
+
+-- an epoch that was formed, and its members
+abbrev pub formed_text : EpochId → List ℕ → List ℕ
+formed_text epoch members = codes "epoch " ++ epoch_text epoch ++ codes " members" ++ node_words members
+
 -- how many entries of the book there are
 abbrev pub sum_text : BookSum → List ℕ
 sum_text sum =
@@ -53,6 +69,8 @@ event_entries (WasDropped letter) = []
 event_entries HasFlowed = Event (codes "flowed") ∷ []
 event_entries (HasSent count) = Event (codes "sent " ++ decimal count) ∷ []
 event_entries (HasWidened did) = Event (widened_text did) ∷ []
+event_entries (HasGrouped epoch) = Event (codes "group " ++ epoch_text epoch) ∷ []
+event_entries (HasFormed epoch members) = Event (formed_text epoch members) ∷ []
 event_entries HasTicked = []
 event_entries (HasSummed sum) = Event (sum_text sum) ∷ []
 event_entries (HasFaulted node) = fault_event node ∷ []
@@ -93,7 +111,7 @@ pub record MayFault (plan : Plan) (lives : ℕ → NodeLife) (node : ℕ) : Type
   pub up : IsUp (lives node)
 
 -- What can come of an order to nodes that are so. A letter may be heard or thrown, and the disk of its receiver may fail in that; a node that is not up sends
--- nothing; and a node that starts, pushes or widens may itself fail.
+-- nothing; and a node that starts, pushes, widens or forms an epoch may itself fail. While all letters of a group are posted any node that is up may.
 abbrev pub IsEventOf : Plan → (ℕ → NodeLife) → ClusterOrder → ClusterEvent → Type 0
 IsEventOf plan lives (Crash node) (WentDown n) = n ≡ node
 IsEventOf plan lives (Start node) (CameUp n boot) = n ≡ node
@@ -112,6 +130,12 @@ IsEventOf plan lives (Push node) (HasSent count) = (IsUp (lives node) → ⊥) �
 IsEventOf plan lives (Push node) (HasFaulted n) = (n ≡ node) × IsUp (lives node)
 IsEventOf plan lives (Widen node user id to) (HasWidened did) = ⊤
 IsEventOf plan lives (Widen node user id to) (HasFaulted n) = n ≡ node
+IsEventOf plan lives (Group node) (HasGrouped epoch) = ⊤
+IsEventOf plan lives (Group node) (HasFaulted n) = n ≡ node
+IsEventOf plan lives (Conclude node) (HasFormed epoch members) = ⊤
+IsEventOf plan lives (Conclude node) (HasFaulted n) = n ≡ node
+IsEventOf plan lives (Regroup node) (HasFormed epoch members) = ⊤
+IsEventOf plan lives (Regroup node) (HasFaulted n) = MayFault plan lives n
 IsEventOf plan lives (Tick seconds) HasTicked = ⊤
 IsEventOf plan lives Sum (HasSummed sum) = ⊤
 IsEventOf plan lives order event = ⊥

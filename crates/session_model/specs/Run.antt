@@ -4,7 +4,7 @@ use Rattle.mail_model.specs.Plan.{Plan, is_user}
 use Rattle.mail_model.specs.Tape.{Protocol, Order, ClusterOrder, tape_order, or_else}
 use Rattle.mail_model.specs.Tape.Protocol.{Smtp, Pop}
 use Rattle.mail_model.specs.Tape.Order.{Open, Say, Feed, Close, GiveUp, End}
-use Rattle.mail_model.specs.Tape.ClusterOrder.{Crash, Start, Lose, Post, Again, Drop, Flow, Push, Widen, Tick, Sum}
+use Rattle.mail_model.specs.Tape.ClusterOrder.{Crash, Start, Lose, Post, Again, Drop, Flow, Push, Widen, Group, Conclude, Regroup, Tick, Sum}
 use Rattle.mail_model.specs.Transcript.{Entry}
 use Rattle.mail_model.specs.Transcript.{all_of}
 use Rattle.mail_model.specs.Site.{TapeFault}
@@ -102,8 +102,8 @@ abbrev pub can_serve : Plan → Protocol → Bool
 can_serve plan Smtp = true
 can_serve plan Pop = nat_le plan.nodes 1
 
--- Why an order that moves the cluster is refused, the first that applies. Whether a letter is in flight, there is room for letters, or a number is used up, the
--- cluster alone can tell.
+-- Why an order that moves the cluster is refused, the first that applies. Whether a letter is in flight, a group is open, there is room for letters, or a number is
+-- used up, the cluster alone can tell.
 abbrev pub cluster_refusal : Plan → (ℕ → NodeLife) → ClusterOrder → Option TapeFault
 cluster_refusal plan lives (Crash node) = or_else (fault_if (is_no_node plan node) NoSuchNode) (work_fault (lives node))
 cluster_refusal plan lives (Start node) = or_else (fault_if (is_no_node plan node) NoSuchNode) (start_fault (lives node))
@@ -116,6 +116,9 @@ cluster_refusal plan lives (Push node) = fault_if (is_no_node plan node) NoSuchN
 cluster_refusal plan lives (Widen node user id to) =
     or_else (fault_if (not (is_user plan user)) BadLine)
     (or_else (fault_if (is_no_node plan node || is_no_node plan to) NoSuchNode) (work_fault (lives node)))
+cluster_refusal plan lives (Group node) = or_else (fault_if (is_no_node plan node) NoSuchNode) (work_fault (lives node))
+cluster_refusal plan lives (Conclude node) = or_else (fault_if (is_no_node plan node) NoSuchNode) (work_fault (lives node))
+cluster_refusal plan lives (Regroup node) = or_else (fault_if (is_no_node plan node) NoSuchNode) (work_fault (lives node))
 cluster_refusal plan lives (Tick seconds) = None
 cluster_refusal plan lives Sum = None
 

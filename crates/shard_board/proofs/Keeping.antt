@@ -12,19 +12,22 @@ use Rattle.cluster_model.proofs.Running.{steps_sound}
 use Rattle.desk_model.specs.Tickets.{TicketsAskOneThing}
 use Rattle.desk_model.proofs.Tickets.{steps_ask_one_thing, opening_asks_one_thing}
 use Rattle.node_store.specs.Disks.{View}
+use Rattle.whole_node.specs.Starting.{first_map}
 use Rattle.cluster_world.specs.Books.{IsLongerBook}
 use Rattle.cluster_world.specs.Worlds.{state_of, plan_of, book_of, disks_of, disks_tell, CanMakeSteps, StandsFor}
 use Rattle.cluster_world.specs.Steps.{IsStep, IsBlind, StepIsKnown}
 use Rattle.cluster_world.specs.Ended.{IsEnded}
 use Rattle.cluster_world.specs.Seen.{step_seen, outcome_seen}
-use Rattle.cluster_world.specs.Outcomes.{StepMade, MakesSteps, PostsAll, has_failed}
+use Rattle.cluster_world.specs.Outcomes.{StepMade, MakesSteps, PostsAll, IsOfRegroup, AreOfRegroup, has_failed}
+use Rattle.cluster_world.specs.Regroups.{HasRegrouped}
 use Rattle.cluster_world.specs.declared.world.World.{World}
 use Rattle.cluster_world.specs.declared.step.Step.{Step}
 use Rattle.cluster_world.specs.declared.step.Step.TheVariants as step
 use Rattle.cluster_world.specs.declared.step.Said.{Said}
+use Rattle.cluster_world.specs.declared.regrouping.Regroup.{Regroup}
 use Rattle.cluster_world.specs.declared.fault.StepFault.{StepFault}
 use Rattle.cluster_world.proofs.Chained.{tells_alike}
-use Rattle.shard_board.specs.Deeds.{is_blind}
+use Rattle.shard_board.specs.Deeds.{Regroups, is_blind}
 use Rattle.shard_board.specs.Pages.{is_known_over}
 use Rattle.shard_board.specs.Worlds.{KeepsWorld, AllKnown, StepsKeepWorld, FlowsKeepWorld, OpenedIsSound}
 
@@ -48,25 +51,42 @@ blind_so nodes (step.GiveUp ticket) blind = tt
 blind_so nodes (step.Post letter keep) blind = tt
 blind_so nodes (step.Drop letter) blind = tt
 blind_so nodes (step.Widen at user id to) blind = tt
+blind_so nodes (step.Group node) blind = tt
+blind_so nodes (step.Conclude node) blind = tt
 blind_so nodes (step.Crash node) blind = tt
 blind_so nodes (step.Lose node) blind = tt
 blind_so nodes (step.Tick seconds) blind = tt
 
+-- each step of a regroup is blind, and hands in no message
+pub regroup_blind : (nodes n : ℕ) (one : StepMade) → IsOfRegroup n one → IsBlind nodes one.step
+regroup_blind nodes n one (inl is) = subst (IsBlind nodes) (sym is) tt
+regroup_blind nodes n one (inr (inl is)) = subst (IsBlind nodes) (sym is) tt
+regroup_blind nodes n one (inr (inr (letter, is))) = subst (IsBlind nodes) (sym is) tt
+
+pub regroup_ended : (n : ℕ) (one : StepMade) → IsOfRegroup n one → IsEnded one.step
+regroup_ended n one (inl is) = subst IsEnded (sym is) tt
+regroup_ended n one (inr (inl is)) = subst IsEnded (sym is) tt
+regroup_ended n one (inr (inr (letter, is))) = subst IsEnded (sym is) tt
+
+regroup_known : (tells : Bool) (nodes n : ℕ) (steps : List StepMade) → AreOfRegroup n steps → AllKnown tells nodes steps
+regroup_known tells nodes n [] of = tt
+regroup_known tells nodes n (one ∷ more) (here, rest) = (inr (regroup_blind nodes n one here), regroup_ended n one here, regroup_known tells nodes n more rest)
+
 module _ {D : Type 0} (on : View D) where
   -- a sound world of the machine for which it stands
-  record IsSound (world : World D) : Type 0 where
-    w : machine.World
-    stands : StandsFor on world w
-    in_plan : InPlan (plan_of world).nodes w.slots
-    sound : Sound (plan_of world).confirm (cluster_of w)
-    tickets : TicketsAskOneThing w.slots
+  pub record IsSound (world : World D) : Type 0 where
+    pub w : machine.World
+    pub stands : StandsFor on world w
+    pub in_plan : InPlan (plan_of world).nodes w.slots
+    pub sound : Sound (plan_of world).confirm (cluster_of w)
+    pub tickets : TicketsAskOneThing w.slots
 
   -- what stays, but that the world can make steps
-  record Stays (old new : World D) : Type 0 where
-    plan : plan_of new ≡ plan_of old
-    told : disks_tell on.seen new ≡ disks_tell on.seen old
-    longer : IsLongerBook (book_of old) (book_of new)
-    sound : IsSound old → IsSound new
+  pub record Stays (old new : World D) : Type 0 where
+    pub plan : plan_of new ≡ plan_of old
+    pub told : disks_tell on.seen new ≡ disks_tell on.seen old
+    pub longer : IsLongerBook (book_of old) (book_of new)
+    pub sound : IsSound old → IsSound new
 
   stays_same : (old new : World D) → new ≡ old → Stays old new
   stays_same old new same = subst (Stays old) (sym same) (record { plan = refl; told = refl; longer = ([], sym (append-nil (book_of old))); sound = λ s. s })
@@ -82,7 +102,7 @@ module _ {D : Type 0} (on : View D) where
     sound = λ s. q.sound (p.sound s);
   }
 
-  step_stays : (result : Result Said StepFault) (step : Step) (old new : World D) → StepIsKnown on.seen (state_of old) step → IsEnded step → IsStep on result step old new → Stays old new
+  pub step_stays : (result : Result Said StepFault) (step : Step) (old new : World D) → StepIsKnown on.seen (state_of old) step → IsEnded step → IsStep on result step old new → Stays old new
   step_stays result step old new known ended is = record {
     plan = is.did.plan;
     told = tells_alike on.seen (disks_of old) (disks_of new) is.did.handed (λ k x y. is.did.told.each (suc k) x y);
@@ -136,17 +156,22 @@ module _ {D : Type 0} (on : View D) where
   pub flows_keep_world : FlowsKeepWorld on
   flows_keep_world steps old new ready posts = kept old new ready (posts_stay steps old new posts)
 
+  pub keeps_regroup : (n : ℕ) (result : Result Regroup StepFault) (old new : World D) → CanMakeSteps on.seen new → Regroups on n result old new → KeepsWorld on old new
+  keeps_regroup n result old new ready (inl made) =
+      kept old new ready (steps_stay made.steps old new (regroup_known (disks_tell on.seen old) (plan_of old).nodes n made.steps made.of) made.made)
+  keeps_regroup n result old new ready (inr (short, same)) = kept old new ready (stays_same old new same)
+
   pub opened_is_sound : OpenedIsSound on
   opened_is_sound plan world begins =
       let few : plan.nodes ≤ 64 = omega (arith, world.nodes.few, ap (λ (p : Plan). p.nodes) begins.plan_is) in
-      let opens = opening_sound plan.nodes plan.confirm few in
+      let opens = opening_sound plan.nodes plan.confirm (first_map plan) few in
       record {
         ready = begins.ready;
-        plain = opening_world plan.nodes;
+        plain = opening_world plan.nodes (first_map plan);
         stands = begins.stands;
-        in_plan = subst (λ (p : Plan). InPlan p.nodes (opening_world plan.nodes).slots) (sym begins.plan_is) opens.0;
-        sound = subst (λ (p : Plan). Sound p.confirm (cluster_of (opening_world plan.nodes))) (sym begins.plan_is) opens.1;
-        tickets = opening_asks_one_thing plan.nodes;
+        in_plan = subst (λ (p : Plan). InPlan p.nodes (opening_world plan.nodes (first_map plan)).slots) (sym begins.plan_is) opens.0;
+        sound = subst (λ (p : Plan). Sound p.confirm (cluster_of (opening_world plan.nodes (first_map plan)))) (sym begins.plan_is) opens.1;
+        tickets = opening_asks_one_thing plan.nodes (first_map plan);
       }
 
   -- what the machine does in a step is known, where it is blind or the disks tell

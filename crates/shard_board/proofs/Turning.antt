@@ -1,5 +1,5 @@
 -- What the single calls of a board say of their turn.
-use Rattle.std.proofs.Common.{◌≡◌, ℕ, Bool, true, ◌&&◌, zero, suc, ◌<◌, List, [], ◌∷◌, ◌++◌, append-nil, length, slice_get, Option, Some, None, refl, sym, ap, ◌∙◌, subst, arith}
+use Rattle.std.proofs.Common.{◌≡◌, ℕ, Bool, true, ◌&&◌, zero, suc, ◌<◌, List, [], ◌∷◌, ◌++◌, append-nil, length, slice_get, Option, refl, sym, ap, ◌∙◌, subst, arith}
 use Rattle.std.specs.Prelude.{Result, Ok, Err, IfOk}
 use Rattle.std.proofs.lemmas.List.{append_cancel_left}
 use Rattle.mail_model.specs.Book.{BookEntry}
@@ -11,18 +11,20 @@ use Rattle.cluster_world.specs.declared.step.Said.{Said}
 use Rattle.cluster_world.specs.declared.fault.StepFault.{StepFault}
 use Rattle.cluster_world.specs.declared.sum.BookSum.{BookSum}
 use Rattle.world_book.specs.declared.entry.Entry.{Entry}
+use Rattle.cluster_world.specs.declared.regrouping.Regroup.{Regroup}
 use Rattle.shard_board.specs.declared.order.Told.{Told}
 use Rattle.shard_board.specs.declared.order.Told.TheVariants as told
 use Rattle.shard_board.specs.declared.part.Part.{Part}
 use Rattle.shard_board.specs.declared.board.Board.{Board}
 use Rattle.shard_board.specs.declared.board.BoardPass.{BoardPass}
 use Rattle.shard_board.specs.Boards.{plan_of_board, own_entries, seen_book, made_known, IsTurnOf}
-use Rattle.shard_board.specs.Deeds.{MakesOne, is_blind}
+use Rattle.shard_board.specs.Deeds.{MakesOne, Regroups, is_blind}
 use Rattle.shard_board.specs.Pages.{are_known}
 use Rattle.shard_board.specs.Parts.{pages_of, AddsKnown}
 use Rattle.shard_board.proofs.Paged.{none_added}
 use Rattle.shard_board.specs.Entries.{entry_shown}
-use Rattle.shard_board.specs.Orders.{is_blind_order, Obeys, TellsOf}
+use Rattle.shard_board.specs.Orders.{Ordered, is_blind_order, Obeys, TellsOf, TellsOfRegroup}
+use Rattle.shard_board.specs.Orders.Ordered.{OneStep, Regrouped, Counted}
 use Rattle.shard_board.specs.Posts.{step_by}
 use Rattle.shard_board.specs.Reads.{TellsSum, TellsEntry}
 use Rattle.io_edge.specs.declared.fate.Luck.{Luck}
@@ -35,7 +37,7 @@ in_front (x ∷ xs) ys zero below = refl
 in_front (x ∷ xs) ys (suc n) below = in_front xs ys n (omega (arith, below))
 
 -- a step that is ordered is blind where its order is
-pub order_still : {X : Type 0} (nodes : ℕ) (order : Option Step) (one : Step) → order ≡ Some one → (is_blind nodes one ≡ true → X) → is_blind_order nodes order ≡ true → X
+pub order_still : {X : Type 0} (nodes : ℕ) (order : Ordered) (one : Step) → order ≡ OneStep one → (is_blind nodes one ≡ true → X) → is_blind_order nodes order ≡ true → X
 order_still nodes order one same still blind = still (ap (is_blind_order nodes) (sym same) ∙ blind)
 
 -- what becomes of a letter is blind
@@ -86,22 +88,33 @@ module _ {D F C : Type 0} (on : View D) where
       made_still (λ old out new. did old out new × (blind (plan_of old.world).nodes ≡ true → AddsKnown on.seen old new)) board before after answer t
       (t.work.1 (ap (λ (p : Plan). blind p.nodes) t.plans.0 ∙ so))
 
-  told_so : (order : Option Step) (one : Step) → order ≡ Some one → (said : Result Said StepFault) (result : Result Told StepFault) → TellsOf said result
+  told_so : (order : Ordered) (one : Step) → order ≡ OneStep one → (said : Result Said StepFault) (result : Result Told StepFault) → TellsOf said result
       → (old new : Part D F C) → MakesOne on said one old.world new.world → Obeys on order old result new
-  told_so order one same (Ok said) result e old new made = subst (λ o. Obeys on o old result new) (sym same) (subst (λ (r : Result Told StepFault). Obeys on (Some one) old r new) (sym e) made)
-  told_so order one same (Err why) result e old new made = subst (λ o. Obeys on o old result new) (sym same) (subst (λ (r : Result Told StepFault). Obeys on (Some one) old r new) (sym e) made)
+  told_so order one same (Ok said) result e old new made = subst (λ o. Obeys on o old result new) (sym same) (subst (λ (r : Result Told StepFault). Obeys on (OneStep one) old r new) (sym e) made)
+  told_so order one same (Err why) result e old new made = subst (λ o. Obeys on o old result new) (sym same) (subst (λ (r : Result Told StepFault). Obeys on (OneStep one) old r new) (sym e) made)
 
   -- the step that was ordered was made
-  pub obeyed : (order : Option Step) (one : Step) (board : Board D F C) (before after : BoardPass D F C) (said : Result Said StepFault) (result : Result Told StepFault) → order ≡ Some one → TellsOf said result
+  pub obeyed : (order : Ordered) (one : Step) (board : Board D F C) (before after : BoardPass D F C) (said : Result Said StepFault) (result : Result Told StepFault) → order ≡ OneStep one → TellsOf said result
       → IsTurnOf on (λ old s new. MakesOne on s one old.world new.world) board before after said → IsTurnOf on (Obeys on order) board before after result
   obeyed order one board before after said result same tells t = said_else (λ old s new. MakesOne on s one old.world new.world) (Obeys on order) board before after said result
       (λ old new made. told_so order one same said result tells old new made) t
 
+  regroup_told : (order : Ordered) (node : ℕ) → order ≡ Regrouped node → (came : Result Regroup StepFault) (result : Result Told StepFault) → TellsOfRegroup came result
+      → (old new : Part D F C) → Regroups on node came old.world new.world → Obeys on order old result new
+  regroup_told order node same (Ok came) result e old new made = subst (λ o. Obeys on o old result new) (sym same) (subst (λ (r : Result Told StepFault). Obeys on (Regrouped node) old r new) (sym e) made)
+  regroup_told order node same (Err why) result e old new made = subst (λ o. Obeys on o old result new) (sym same) (subst (λ (r : Result Told StepFault). Obeys on (Regrouped node) old r new) (sym e) made)
+
+  -- the regroup that was ordered was made
+  pub regrouped : (order : Ordered) (node : ℕ) (board : Board D F C) (before after : BoardPass D F C) (came : Result Regroup StepFault) (result : Result Told StepFault) → order ≡ Regrouped node
+      → TellsOfRegroup came result → IsTurnOf on (λ old c new. Regroups on node c old.world new.world) board before after came → IsTurnOf on (Obeys on order) board before after result
+  regrouped order node board before after came result same tells t = said_else (λ old c new. Regroups on node c old.world new.world) (Obeys on order) board before after came result
+      (λ old new made. regroup_told order node same came result tells old new made) t
+
   -- the entries were counted
-  pub counted : (order : Option Step) (board : Board D F C) (before after : BoardPass D F C) (sum : BookSum) → order ≡ None
+  pub counted : (order : Ordered) (board : Board D F C) (before after : BoardPass D F C) (sum : BookSum) → order ≡ Counted
       → IsTurnOf on TellsSum board before after sum → IsTurnOf on (Obeys on order) board before after (Ok (told.Sum sum))
   counted order board before after sum same t = said_else TellsSum (Obeys on order) board before after sum (Ok (told.Sum sum))
-      (λ old new tells. subst (λ (o : Option Step). Obeys on o old (Ok (told.Sum sum)) new) (sym same) (tells.sum_is, ap (λ (p : Part D F C). p.world) tells.same)) t
+      (λ old new tells. subst (λ (o : Ordered). Obeys on o old (Ok (told.Sum sum)) new) (sym same) (tells.sum_is, ap (λ (p : Part D F C). p.world) tells.same)) t
 
   -- an entry was read
   module _ {E : Type 0} (place : ℕ) (board : Board D F C) (before after : BoardPass D F C) (result : Result (Option Entry) E) (t : IsTurnOf on (TellsEntry place) board before after result) where

@@ -7,10 +7,11 @@ ghost use Rattle.cluster_world.specs.Ended.{IsEnded};
 ghost use Rattle.cluster_world.specs.declared.world.World.{World as AWorld};
 ghost use Rattle.shard_board.specs.Worlds.{IsSoundWorld};
 ghost use Rattle.shard_board.specs.Pages.{is_known_over};
-ghost use Rattle.shard_board.specs.Deeds.{MakesOne, is_blind};
+ghost use Rattle.shard_board.specs.Deeds.{MakesOne, Regroups, is_blind};
 
-use cluster_world::{Said, Step, StepFault, World};
+use cluster_world::{Regroup, Said, Step, StepFault, World};
 use io_edge::Disk;
+use mail_base::NodeNo;
 use std::alloc::Global;
 
 /// What one turn does to the world of a board. It has one page.
@@ -60,6 +61,8 @@ fn is_blind(step: &Step, nodes: u8) -> bool
         | Step::Post { .. }
         | Step::Drop { .. }
         | Step::Widen { .. }
+        | Step::Group { .. }
+        | Step::Conclude { .. }
         | Step::Crash { .. }
         | Step::Lose { .. }
         | Step::Tick { .. } => true,
@@ -90,6 +93,35 @@ impl<D: Disk> Deed<D> for Stepping {
     }
 
     fn short(self) -> Result<Said, StepFault> {
+        Err(StepFault::NoMemory { down: None })
+    }
+}
+
+/// A whole regroup.
+#[derive(Drop)]
+pub(crate) struct Regrouping {
+    pub node: NodeNo,
+}
+
+impl<D: Disk> Deed<D> for Regrouping {
+    type Out = Result<Regroup, StepFault>;
+
+    ghost asks = { λ deed world. Unit {0} };
+
+    ghost did = { λ deed old result new. Regroups (view_of D.seen D.faults D.clock) deed.node result old new };
+
+    ghost blind = { λ deed nodes. true };
+
+    fn is_blind(&self, nodes: u8) -> bool {
+        let _ = nodes;
+        true
+    }
+
+    fn act(self, alloc: Global, world: &mut World<D>) -> Result<Regroup, StepFault> {
+        world.regroup(alloc, self.node)
+    }
+
+    fn short(self) -> Result<Regroup, StepFault> {
         Err(StepFault::NoMemory { down: None })
     }
 }

@@ -14,7 +14,8 @@
 //! | Call | Steps of the world |
 //! |---|---|
 //! | `begin`, `ask`, `give_up` | one of that kind |
-//! | `console` | the one that an operator orders; none to count the entries of the book |
+//! | `regroup` | those of one regroup: a group is opened, its letters are posted, it is concluded, and its letters are posted |
+//! | `console` | the one that an operator orders; those of a regroup; none to count the entries of the book |
 //! | `post_one` | the clock is set, and then the letter of the lowest number is handed over, lost or handed over twice, as fate decides |
 //! | `is_up`, `entry`, `sum` | none |
 //! | `act` | those of the deed that it is handed |

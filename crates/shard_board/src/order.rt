@@ -1,5 +1,5 @@
 //! What an operator may order.
-use cluster_world::{BookSum, Said};
+use cluster_world::{BookSum, Regroup, Said};
 use mail_base::{MsgId, Name, NodeNo};
 
 /// What an operator may order.
@@ -29,6 +29,8 @@ pub enum Order {
         /// The new target.
         to: NodeNo,
     },
+    /// This node opens a group, asks all others, concludes with those that answered, and each of them is told: one epoch more.
+    Regroup(NodeNo),
     /// The entries of the book are counted.
     Sum,
 }
@@ -38,6 +40,8 @@ pub enum Order {
 pub enum Told {
     /// What the step said.
     Said(Said),
+    /// What came of the regroup.
+    Regrouped(Regroup),
     /// How many entries of each kind the book has.
     Sum(BookSum),
 }

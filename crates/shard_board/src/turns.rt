@@ -6,20 +6,20 @@ ghost use Rattle.cluster_world.specs.Ended.{IsEnded};
 ghost use Rattle.cluster_world.specs.declared.world.World.{World as AWorld};
 ghost use Rattle.cluster_world.specs.declared.step.Step.TheVariants as step;
 ghost use Rattle.shard_board.specs.Parts.{KeepsPart};
-ghost use Rattle.shard_board.specs.Deeds.{MakesOne, is_blind};
+ghost use Rattle.shard_board.specs.Deeds.{MakesOne, Regroups, is_blind};
 ghost use Rattle.shard_board.specs.Boards.{first_part, plan_of_board, own_entries, seen_book, made_known, IsPassOf, IsTurnOf};
-ghost use Rattle.shard_board.specs.Orders.{step_ordered, is_blind_order, Obeys, TellsOf};
+ghost use Rattle.shard_board.specs.Orders.{ordered_by, is_blind_order, Obeys, TellsOf, TellsOfRegroup};
 ghost use Rattle.shard_board.specs.Posts.{PostsOne};
 ghost use Rattle.shard_board.specs.Reads.{TellsLife, TellsSum, TellsEntry};
 ghost use Rattle.shard_board.specs.Entries.{entry_shown};
 
 use crate::board::{Board, BoardPass};
-use crate::deed::{Deed, Stepping};
+use crate::deed::{Deed, Regrouping, Stepping};
 use crate::order::{Order, Told};
 use crate::part::Part;
 use crate::works::{Doing, Looking, Posting, Reading, Summing};
 use call_tickets::{Call, DeskFault, Life, Posted, Tally};
-use cluster_world::{BookSum, Said, Step, StepFault};
+use cluster_world::{BookSum, Regroup, Said, Step, StepFault};
 use io_edge::{Clock, Disk, Fate};
 use mail_base::{NodeNo, Ticket};
 use std::alloc::{AllocError, Global};
@@ -32,6 +32,13 @@ fn told(said: Result<Said, StepFault>) -> Result<Told, StepFault>
     ensures { TellsOf said result }
 {
     Ok(Told::Said(said?))
+}
+
+// What came of a regroup is what is told of its order.
+fn told_regroup(came: Result<Regroup, StepFault>) -> Result<Told, StepFault>
+    ensures { TellsOfRegroup came result }
+{
+    Ok(Told::Regrouped(came?))
 }
 
 impl<D: Disk, F, C> Board<D, F, C> {
@@ -156,8 +163,29 @@ impl<D: Disk, F, C> Board<D, F, C> {
         self.take(rt, pass, Summing)
     }
 
-    /// What an operator orders: the step that is ordered, and no other, or a count of the entries of the book. A start, and a push
-    /// among several nodes, are not blind: over disks that tell nothing, no pass that has seen such a step tells any more.
+    /// A whole regroup, by this node: the steps that it takes, and no other, in one turn.
+    ///
+    /// # Errors
+    ///
+    /// Why the first of them was refused, or one after it.
+    pub fn regroup<R: Wait>(
+        &self,
+        rt: &R,
+        alloc: Global,
+        pass: &mut BoardPass<D, F, C>,
+        node: NodeNo,
+    ) -> Result<Regroup, StepFault>
+        requires pass { IsPassOf (view_of D.seen D.faults D.clock) self.now pass.old }
+        ensures pass { IsPassOf (view_of D.seen D.faults D.clock) self.now pass.new }
+        ensures turn { IsTurnOf (view_of D.seen D.faults D.clock) (λ old came new. Regroups (view_of D.seen D.faults D.clock) node came old.world new.world) self.now pass.old pass.new result }
+        ensures still { made_known D.seen pass.new ≡ made_known D.seen pass.old }
+    {
+        self.act(rt, alloc, pass, Regrouping { node })
+    }
+
+    /// What an operator orders: the step that is ordered, and no other; or the steps of a regroup, all in one turn; or a count of the
+    /// entries of the book. A start, and a push among several nodes, are not blind: over disks that tell nothing, no pass that has
+    /// seen such a step tells any more.
     ///
     /// # Errors
     ///
@@ -171,8 +199,8 @@ impl<D: Disk, F, C> Board<D, F, C> {
     ) -> Result<Told, StepFault>
         requires pass { IsPassOf (view_of D.seen D.faults D.clock) self.now pass.old }
         ensures pass { IsPassOf (view_of D.seen D.faults D.clock) self.now pass.new }
-        ensures turn { IsTurnOf (view_of D.seen D.faults D.clock) (Obeys (view_of D.seen D.faults D.clock) (step_ordered order)) self.now pass.old pass.new result }
-        ensures still { is_blind_order (plan_of_board self.now).nodes (step_ordered order) ≡ true → made_known D.seen pass.new ≡ made_known D.seen pass.old }
+        ensures turn { IsTurnOf (view_of D.seen D.faults D.clock) (Obeys (view_of D.seen D.faults D.clock) (ordered_by order)) self.now pass.old pass.new result }
+        ensures still { is_blind_order (plan_of_board self.now).nodes (ordered_by order) ≡ true → made_known D.seen pass.new ≡ made_known D.seen pass.old }
     {
         match order {
             Order::Crash(node) => told(self.step(rt, alloc, pass, Step::Crash { node })),
@@ -182,6 +210,7 @@ impl<D: Disk, F, C> Board<D, F, C> {
             Order::Widen { at, user, id, to } => {
                 told(self.step(rt, alloc, pass, Step::Widen { at, user, id, to }))
             }
+            Order::Regroup(node) => told_regroup(self.regroup(rt, alloc, pass, node)),
             Order::Sum => Ok(Told::Sum(self.sum(rt, pass))),
         }
     }

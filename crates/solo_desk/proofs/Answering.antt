@@ -206,6 +206,8 @@ module _ {D : Type 0} (on : View D) (ticket : DeskTicket) (old new : World D) (s
   handed_adds (Ok (said.Thrown why)) result hands is sure = absurd hands
   handed_adds (Ok (said.Sent letters)) result hands is sure = absurd hands
   handed_adds (Ok (said.Widened did)) result hands is sure = absurd hands
+  handed_adds (Ok (said.Grouped epoch)) result hands is sure = absurd hands
+  handed_adds (Ok (said.Concluded epoch members)) result hands is sure = absurd hands
   handed_adds (Ok (said.NodeUp boot)) result hands is sure = absurd hands
   handed_adds (Ok said.Done) result hands is sure = absurd hands
   handed_adds (Err why) result hands is sure =
@@ -220,6 +222,7 @@ module _ {D : Type 0} (on : View D) (ticket : DeskTicket) (old new : World D) (s
       never_falls fault.NodeUp s = tt
       never_falls fault.NoSuchLetter s = tt
       never_falls fault.NoSuchTicket s = tt
+      never_falls fault.NotAGroup s = tt
       never_falls fault.Worn s = tt
       never_falls fault.NoRoom s = tt
 
@@ -235,6 +238,8 @@ answers_in_kind begun (Ok said.Heard) result hands = absurd hands
 answers_in_kind begun (Ok (said.Thrown why)) result hands = absurd hands
 answers_in_kind begun (Ok (said.Sent letters)) result hands = absurd hands
 answers_in_kind begun (Ok (said.Widened did)) result hands = absurd hands
+answers_in_kind begun (Ok (said.Grouped epoch)) result hands = absurd hands
+answers_in_kind begun (Ok (said.Concluded epoch members)) result hands = absurd hands
 answers_in_kind begun (Ok (said.NodeUp boot)) result hands = absurd hands
 answers_in_kind begun (Ok said.Done) result hands = absurd hands
 answers_in_kind begun (Err why) result hands = subst (λ (r : Result Ask DeskFault). AnswersInKind begun r) (sym hands) tt
@@ -255,6 +260,8 @@ module _ {D : Type 0} (on : View D) (ticket : DeskTicket) (old new : World D) wh
   handed_by (Ok (said.Thrown why)) (Ok ask) hands is = absurd hands
   handed_by (Ok (said.Sent letters)) (Ok ask) hands is = absurd hands
   handed_by (Ok (said.Widened did)) (Ok ask) hands is = absurd hands
+  handed_by (Ok (said.Grouped epoch)) (Ok ask) hands is = absurd hands
+  handed_by (Ok (said.Concluded epoch members)) (Ok ask) hands is = absurd hands
   handed_by (Ok (said.NodeUp boot)) (Ok ask) hands is = absurd hands
   handed_by (Ok said.Done) (Ok ask) hands is = absurd hands
   handed_by (Err why) (Ok ask) hands is = absurd (let never : Ok ask ≡ Err (refusal_of why) = hands in cc)

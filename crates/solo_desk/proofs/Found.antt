@@ -14,9 +14,9 @@ use Rattle.cluster_model.specs.Deeds.{slot_up}
 use Rattle.cluster_model.specs.World as machine
 use Rattle.node_store.specs.Disks.{View}
 use Rattle.node_core.specs.Nodes.{node_seen}
-use Rattle.node_core.specs.declared.node.Node.{Node}
 use Rattle.node_tickets.specs.Standing as tickets
 use Rattle.node_tickets.specs.Standing.{filing_wanted}
+use Rattle.whole_node.specs.declared.node.WholeNode.{WholeNode}
 use Rattle.cluster_world.specs.Lives.{of_node}
 use Rattle.cluster_world.specs.Stands.{SlotsStand}
 use Rattle.cluster_world.specs.Telling.{standing_on, standing_in}
@@ -46,8 +46,8 @@ found_here own node number ticket e = by (nat_eq number.node own && nat_eq numbe
 
 module _ {D : Type 0} (on : View D) where
   -- the slot of a node that is up
-  up_there : (n : ℕ) (node : Node) (lives : List Life) (disks : List D) (slots : List Slot) → length disks ≡ length lives → SlotsStand on lives disks slots → of_node lives n ≡ Some (Up node)
-      → (disk : List Record) × (slot_at slots n ≡ Some (slot_up (node_seen node) disk))
+  up_there : (n : ℕ) (node : WholeNode) (lives : List Life) (disks : List D) (slots : List Slot) → length disks ≡ length lives → SlotsStand on lives disks slots → of_node lives n ≡ Some (Up node)
+      → (disk : List Record) × (slot_at slots n ≡ Some (slot_up (node_seen node.mail) disk))
   up_there zero node lives disks slots even s e = absurd (let never : None ≡ Some (Up node) = e in cc)
   up_there (suc k) node lives disks slots even s e =
       let (slot, here) = same_place lives slots k (Up node) s.count e in
@@ -64,8 +64,8 @@ module _ {D : Type 0} (on : View D) where
       by (Some Lost) here f = absurd (let never : None ≡ Some ticket = f in cc)
       by (Some (Up node)) here f =
           let up = up_there number.node node (lives_of world) (disks_of world) w.slots (world.nodes.disk_each ∙ sym world.nodes.all) stands.slots here in
-          let at = found_here node.store.own (node_seen node) number ticket f in
-          record { node = node_seen node; disk = up.0; up = up.1; boot = at.0; here = at.1 }
+          let at = found_here node.mail.store.own (node_seen node.mail) number ticket f in
+          record { node = node_seen node.mail; disk = up.0; up = up.1; boot = at.0; here = at.1 }
 
 -- what was filed is asked for first
 asked_same : (asked : AskedOfNodes) → tickets.filing_asked asked ≡ filing_in (record { asked = asked; confirmed = 0; waiting = 0; failed = 0 } ∷ [])

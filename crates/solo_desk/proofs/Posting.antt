@@ -54,6 +54,8 @@ module _ {D : Type 0} (on : View D) (old new : World D) where
   gave_up_by ticket (Ok (said.Thrown why)) (Ok done) ends is = absurd is.did.kind
   gave_up_by ticket (Ok (said.Sent letters)) (Ok done) ends is = absurd is.did.kind
   gave_up_by ticket (Ok (said.Widened did)) (Ok done) ends is = absurd is.did.kind
+  gave_up_by ticket (Ok (said.Grouped epoch)) (Ok done) ends is = absurd is.did.kind
+  gave_up_by ticket (Ok (said.Concluded epoch members)) (Ok done) ends is = absurd is.did.kind
   gave_up_by ticket (Ok (said.NodeUp boot)) (Ok done) ends is = absurd is.did.kind
   gave_up_by ticket (Ok (said.Faulted n)) (Ok done) ends is = absurd is.did.kind
 
@@ -76,4 +78,5 @@ posted_by on old new letter (Err fault.NodeDown) result first is e = subst (λ r
 posted_by on old new letter (Err fault.NodeUp) result first is e = subst (λ r. PostsBy on r old new) (sym e) (letter, fault.NodeUp, first, is)
 posted_by on old new letter (Err fault.NoSuchLetter) result first is e = subst (λ r. PostsBy on r old new) (sym e) (letter, fault.NoSuchLetter, first, is)
 posted_by on old new letter (Err fault.NoSuchTicket) result first is e = subst (λ r. PostsBy on r old new) (sym e) (letter, fault.NoSuchTicket, first, is)
+posted_by on old new letter (Err fault.NotAGroup) result first is e = subst (λ r. PostsBy on r old new) (sym e) (letter, fault.NotAGroup, first, is)
 posted_by on old new letter (Err fault.NoRoom) result first is e = subst (λ r. PostsBy on r old new) (sym e) (letter, fault.NoRoom, first, is)

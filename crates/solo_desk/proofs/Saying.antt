@@ -20,6 +20,8 @@ module _ {D : Type 0} (on : View D) (old new : World D) where
   said_of_ask (Ok (said.Thrown why)) number is = absurd is.did.kind
   said_of_ask (Ok (said.Sent letters)) number is = absurd is.did.kind
   said_of_ask (Ok (said.Widened did)) number is = absurd is.did.kind
+  said_of_ask (Ok (said.Grouped epoch)) number is = absurd is.did.kind
+  said_of_ask (Ok (said.Concluded epoch members)) number is = absurd is.did.kind
   said_of_ask (Ok (said.NodeUp boot)) number is = absurd is.did.kind
   said_of_ask (Ok said.Done) number is = absurd is.did.kind
   said_of_ask (Ok (said.Faulted failed)) number is = absurd is.did.kind

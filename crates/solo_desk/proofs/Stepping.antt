@@ -11,6 +11,7 @@ use Rattle.cluster_model.proofs.Opening.{opening_sound}
 use Rattle.cluster_model.proofs.Running.{steps_sound}
 use Rattle.cluster_owes.specs.Outcomes.{IsIdleStep}
 use Rattle.node_store.specs.Disks.{View}
+use Rattle.whole_node.specs.Starting.{first_map}
 use Rattle.cluster_world.specs.Ended.{IsEnded}
 use Rattle.cluster_world.specs.Opens.{IsAtBeginning}
 use Rattle.cluster_world.specs.Outcomes.{IsRefusal}
@@ -36,14 +37,14 @@ module _ {D : Type 0} (on : View D) where
   pub opened_serve : (plan : Plan) (world : World D) → IsAtBeginning on plan world → CanServe on world
   opened_serve plan world begins =
       let few : plan.nodes ≤ 64 = omega (arith, world.nodes.few, ap (λ (p : Plan). p.nodes) begins.plan_is) in
-      let opens = opening_sound plan.nodes plan.confirm few in
+      let opens = opening_sound plan.nodes plan.confirm (first_map plan) few in
       record {
         ready = begins.ready;
-        w = opening_world plan.nodes;
+        w = opening_world plan.nodes (first_map plan);
         stands = begins.stands;
-        in_plan = subst (λ (p : Plan). InPlan p.nodes (opening_world plan.nodes).slots) (sym begins.plan_is) opens.0;
-        sound = subst (λ (p : Plan). Sound p.confirm (cluster_of (opening_world plan.nodes))) (sym begins.plan_is) opens.1;
-        tickets = opening_asks_one_thing plan.nodes;
+        in_plan = subst (λ (p : Plan). InPlan p.nodes (opening_world plan.nodes (first_map plan)).slots) (sym begins.plan_is) opens.0;
+        sound = subst (λ (p : Plan). Sound p.confirm (cluster_of (opening_world plan.nodes (first_map plan)))) (sym begins.plan_is) opens.1;
+        tickets = opening_asks_one_thing plan.nodes (first_map plan);
       }
 
   pub steps_serve : (result : Result Said StepFault) (step : Step) (old new : World D) → IsStep on result step old new → StepIsKnown on.seen (state_of old) step → IsEnded step
@@ -86,6 +87,7 @@ refused_adds on fault.NodeDown step old new refusal is = same_adds old new is.di
 refused_adds on fault.NodeUp step old new refusal is = same_adds old new is.did.kept.book
 refused_adds on fault.NoSuchLetter step old new refusal is = same_adds old new is.did.kept.book
 refused_adds on fault.NoSuchTicket step old new refusal is = same_adds old new is.did.kept.book
+refused_adds on fault.NotAGroup step old new refusal is = same_adds old new is.did.kept.book
 refused_adds on fault.Worn step old new refusal is = same_adds old new is.did.kept.book
 refused_adds on fault.NoRoom step old new refusal is = same_adds old new is.did.kept.book
 refused_adds on (fault.NoMemory None) step old new refusal is = same_adds old new is.did.kept.book

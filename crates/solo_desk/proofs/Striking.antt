@@ -123,6 +123,8 @@ finds_kind kind (Ok said.Heard) world what finds = finds.0
 finds_kind kind (Ok (said.Thrown why)) world what finds = finds.0
 finds_kind kind (Ok (said.Sent letters)) world what finds = finds.0
 finds_kind kind (Ok (said.Widened did)) world what finds = finds.0
+finds_kind kind (Ok (said.Grouped epoch)) world what finds = finds.0
+finds_kind kind (Ok (said.Concluded epoch members)) world what finds = finds.0
 finds_kind kind (Ok (said.NodeUp boot)) world what finds = finds.0
 finds_kind kind (Ok said.Done) world what finds = finds.0
 finds_kind kind (Err why) world what finds = finds.0
@@ -149,6 +151,8 @@ module _ {D : Type 0} (on : View D) where
       by (Ok (said.Thrown why)) so is = absurd so
       by (Ok (said.Sent letters)) so is = absurd so
       by (Ok (said.Widened did)) so is = absurd so
+      by (Ok (said.Grouped epoch)) so is = absurd so
+      by (Ok (said.Concluded epoch members)) so is = absurd so
       by (Ok (said.NodeUp boot)) so is = absurd so
       by (Ok said.Done) so is = absurd so
       by (Err (fault.NoMemory (Some n))) so is =
@@ -163,6 +167,7 @@ module _ {D : Type 0} (on : View D) where
       by (Err fault.NodeUp) so is = absurd so
       by (Err fault.NoSuchLetter) so is = absurd so
       by (Err fault.NoSuchTicket) so is = absurd so
+      by (Err fault.NotAGroup) so is = absurd so
       by (Err fault.Worn) so is = absurd so
       by (Err fault.NoRoom) so is = absurd so
 
@@ -196,6 +201,7 @@ module _ {D : Type 0} (on : View D) where
         by (Err fault.NodeUp) so is = refused_adds on fault.NodeUp (step.Begin node begun) old mid tt is
         by (Err fault.NoSuchLetter) so is = refused_adds on fault.NoSuchLetter (step.Begin node begun) old mid tt is
         by (Err fault.NoSuchTicket) so is = refused_adds on fault.NoSuchTicket (step.Begin node begun) old mid tt is
+        by (Err fault.NotAGroup) so is = refused_adds on fault.NotAGroup (step.Begin node begun) old mid tt is
         by (Err fault.Worn) so is = refused_adds on fault.Worn (step.Begin node begun) old mid tt is
         by (Err fault.NoRoom) so is = refused_adds on fault.NoRoom (step.Begin node begun) old mid tt is
 
@@ -234,6 +240,8 @@ module _ {D : Type 0} (on : View D) where
         by (Ok (said.Thrown why)) so is found = absurd so
         by (Ok (said.Sent letters)) so is found = absurd so
         by (Ok (said.Widened did)) so is found = absurd so
+        by (Ok (said.Grouped epoch)) so is found = absurd so
+        by (Ok (said.Concluded epoch members)) so is found = absurd so
         by (Ok (said.NodeUp boot)) so is found = absurd so
         by (Ok said.Done) so is found = absurd so
         by (Err (fault.NoMemory (Some n))) so is found = fell found
@@ -244,6 +252,7 @@ module _ {D : Type 0} (on : View D) where
         by (Err fault.NodeUp) so is found = absurd so
         by (Err fault.NoSuchLetter) so is found = absurd so
         by (Err fault.NoSuchTicket) so is found = absurd so
+        by (Err fault.NotAGroup) so is found = absurd so
         by (Err fault.Worn) so is found = absurd so
         by (Err fault.NoRoom) so is found = absurd so
 

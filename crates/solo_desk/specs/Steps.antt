@@ -29,6 +29,7 @@ refusal_of fault.NodeDown = Down
 refusal_of fault.NodeUp = Down
 refusal_of fault.NoSuchLetter = Down
 refusal_of fault.NoSuchTicket = Down
+refusal_of fault.NotAGroup = Down
 refusal_of fault.Worn = Worn
 refusal_of fault.NoRoom = Worn
 refusal_of (fault.NoMemory down) = NoMemory

@@ -16,6 +16,7 @@ pub(crate) fn refusal_of(fault: StepFault) -> DeskFault
         StepFault::NodeUp => DeskFault::Down,
         StepFault::NoSuchLetter => DeskFault::Down,
         StepFault::NoSuchTicket => DeskFault::Down,
+        StepFault::NotAGroup => DeskFault::Down,
         StepFault::Worn => DeskFault::Worn,
         StepFault::NoRoom => DeskFault::Worn,
         StepFault::NoMemory { .. } => DeskFault::NoMemory,

@@ -52,6 +52,18 @@ pub enum ClusterOrder {
         id: MsgId,
         to: u64,
     },
+    /// A node opens a group.
+    Group {
+        node: u64,
+    },
+    /// A node concludes its group.
+    Conclude {
+        node: u64,
+    },
+    /// A node opens a group, all letters of it are posted, and the node concludes it.
+    Regroup {
+        node: u64,
+    },
     /// The clock is set to these seconds since 1970.
     Tick {
         seconds: u64,
@@ -136,6 +148,27 @@ fn sums(line: &[u8]) -> Option<ClusterOrder>
     Some(ClusterOrder::Sum)
 }
 
+fn groups(line: &[u8]) -> Option<ClusterOrder>
+    ensures { option_map moves_seen result ≡ option_and_then (numbered_line tape.ClusterOrder.Group) (strip (codes "group ") line.now) }
+{
+    let node = number(strip(b"group ", line)?)?;
+    Some(ClusterOrder::Group { node })
+}
+
+fn concludes(line: &[u8]) -> Option<ClusterOrder>
+    ensures { option_map moves_seen result ≡ option_and_then (numbered_line tape.ClusterOrder.Conclude) (strip (codes "conclude ") line.now) }
+{
+    let node = number(strip(b"conclude ", line)?)?;
+    Some(ClusterOrder::Conclude { node })
+}
+
+fn regroups(line: &[u8]) -> Option<ClusterOrder>
+    ensures { option_map moves_seen result ≡ option_and_then (numbered_line tape.ClusterOrder.Regroup) (strip (codes "regroup ") line.now) }
+{
+    let node = number(strip(b"regroup ", line)?)?;
+    Some(ClusterOrder::Regroup { node })
+}
+
 fn widen_to(alloc: Global, rest: &[u8]) -> Result<Option<ClusterOrder>, AllocError>
     ensures { IfOk result (λ order. option_map moves_seen order ≡ widen_line rest.now) }
 {
@@ -201,6 +234,15 @@ pub(crate) fn cluster_order(alloc: Global, line: &[u8]) -> Result<Option<Cluster
         return Ok(Some(order));
     }
     if let Some(order) = sums(line) {
+        return Ok(Some(order));
+    }
+    if let Some(order) = groups(line) {
+        return Ok(Some(order));
+    }
+    if let Some(order) = concludes(line) {
+        return Ok(Some(order));
+    }
+    if let Some(order) = regroups(line) {
         return Ok(Some(order));
     }
     widens(alloc, line)

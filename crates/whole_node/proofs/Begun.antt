@@ -1,6 +1,7 @@
 -- A call that has begun, and the maps after it.
 use Rattle.std.proofs.Common.{◌≡◌, ◌≢◌, ℕ, zero, suc, ◌+◌, ◌<◌, ◌≤◌, Bool, true, false, ◌&&◌, cond, List, [], ◌∷◌, ◌++◌, map, Option, Some, None, refl, sym, ap, ◌∙◌, subst, true≢false, nat_eq, eq-eqb, arith, append-nil, if◌then◌else◌}
-use Rattle.std.specs.Prelude.{flat_map, length, Result, Ok, Err, ⊤}
+use Rattle.std.specs.Prelude.{All, flat_map, length, Result, Ok, Err, ⊤}
+use Rattle.std.proofs.lemmas.List.Elements.{All-nil}
 use Rattle.std.specs.Cmp.{nat_cmp_total}
 use Rattle.std.specs.FinMap as fin
 use Rattle.std.proofs.lemmas.Map.Lookups.{exact_unsigned}
@@ -36,11 +37,13 @@ use Rattle.node_core.specs.declared.node.Node.{Node}
 use Rattle.node_maps.specs.Nodes.{own_of}
 use Rattle.whole_node.specs.Nodes.{HasMaps, WholeWorks}
 use Rattle.whole_node.specs.Noting.{Copy, NotesCopies, copies_confirmed, NotesBegun, WantsSome}
-use Rattle.whole_node.specs.Following.{MapsFollow, MapsStay, CallFollowed, FollowsCall}
+use Rattle.whole_node.specs.Following.{MapsFollow, MapsStay, FilesNothing, CallFollowed, FollowsCall}
 use Rattle.whole_node.specs.declared.node.WholeNode.{WholeNode}
 use Rattle.whole_node.proofs.Led.{led_none}
 use Rattle.whole_node.proofs.Taking.{Leads, leads_none}
 use Rattle.whole_node.proofs.Ruled.{leads_delivered, leads_deleted}
+use Rattle.whole_node.specs.Hearing.{FitsMaps}
+use Rattle.whole_node.proofs.Mailing.{begins_mail}
 use Rattle.whole_node.proofs.Called.{plan_for, is_for, has_users, same_own, done_stops, knows_any, follows_led, has_after, has_same}
 
 -- the own node is one of itself
@@ -125,15 +128,7 @@ module _ {D : Type 0} (on : View D) (plan : Plan) (own seconds : ℕ) (old : Who
   no_ticket : (a : Number) → Some a ≡ None → ⊥
   no_ticket a e = cc
 
-  -- calls that file and delete nothing
-  abbrev IsQuiet : NodeCall → Type 0
-  IsQuiet (Deliver mail) = ⊥
-  IsQuiet (Login user proof) = ⊤
-  IsQuiet (Fetch user id from most) = ⊤
-  IsQuiet (Strike user items) = ⊥
-  IsQuiet (Leave user) = ⊤
-
-  never_filed : (call : NodeCall) (octets : List ℕ) → IsQuiet call → IsFiled (at_second seconds) own (node_seen old.mail) call octets → ⊥
+  never_filed : (call : NodeCall) (octets : List ℕ) → FilesNothing call → IsFiled (at_second seconds) own (node_seen old.mail) call octets → ⊥
   never_filed (Deliver mail) octets quiet filed = quiet
   never_filed (Login user proof) octets quiet filed = filed
   never_filed (Fetch user id from most) octets quiet filed = filed
@@ -141,7 +136,7 @@ module _ {D : Type 0} (on : View D) (plan : Plan) (own seconds : ℕ) (old : Who
   never_filed (Leave user) octets quiet filed = filed
 
   led_by : (call : NodeCall) (octets : List ℕ) (sent : List Letter) → NodeDid on (λ node disk. begun_by plan (at_second seconds) own node disk call octets) old.mail before new.mail after sent
-      → NotesUnder (new_number own (node_seen old.mail)) → (IsQuiet call → new.maps ≡ old.maps) → (records : List Record) → NodeKeeps records old.mail
+      → NotesUnder (new_number own (node_seen old.mail)) → (FilesNothing call → new.maps ≡ old.maps) → (records : List Record) → NodeKeeps records old.mail
       → Leads (own_of old.maps) records (begun_by plan (at_second seconds) own (node_seen old.mail) records call octets).disk old.maps new.maps
   led_by (Deliver mail) octets sent d notes same = delivery_leads mail octets sent d notes
   led_by (Login user proof) octets sent d notes same = idle_leads (same tt)
@@ -175,32 +170,42 @@ module _ {D : Type 0} (on : View D) (plan : Plan) (own seconds : ℕ) (old : Who
         let n = subst NotesUnder (some_is number (new_number own (node_seen old.mail)) (sym it ∙ ticket_is)) notes in
         record {
           at_once = λ f. unchanged (rules.refuse kind (mishaps_of_call plan seconds (node_seen old.mail) call) (ids_drawn call)) sent d (refused kind sent d) n;
+          reads = λ quiet. unchanged (rules.refuse kind (mishaps_of_call plan seconds (node_seen old.mail) call) (ids_drawn call)) sent d (refused kind sent d) n;
           goes = λ g octets out e. absurd (true≢false (sym fails ∙ g));
         }
     noted_follows ticket number sent (Goes octets goes filed ticket_is d) it notes =
         let n = subst NotesUnder (some_is number (new_number own (node_seen old.mail)) (sym it ∙ ticket_is)) notes in
         record {
           at_once = λ f. absurd (true≢false (sym f ∙ goes));
+          reads = λ quiet. absurd (never_filed call octets quiet filed);
           goes = λ g o out e. follows_led old holds (begun o) new (led_by call o out e n (λ quiet. absurd (never_filed call octets quiet filed)));
         }
-    noted_follows ticket number sent (Reads kind found kind_is those ticket_is d) it notes =
+    noted_follows ticket number sent (Reads kind found kind_is goes those ticket_is d) it notes =
         let n = subst NotesUnder (some_is number (new_number own (node_seen old.mail)) (sym it ∙ ticket_is)) notes in
         let same = unchanged (rules.begin_read kind found) sent d (read kind found sent d) n in
-        record { at_once = λ f. same; goes = λ g o out e. follows_led old holds (begun o) new (led_by call o out e n (λ quiet. same)) }
+        record { at_once = λ f. same; reads = λ quiet. same; goes = λ g o out e. follows_led old holds (begun o) new (led_by call o out e n (λ quiet. same)) }
     noted_follows ticket number sent (Leaves user is_leave none none_sent as_before untouched) it notes = absurd (no_ticket number (sym it ∙ none))
 
     pub noted_has : (ticket : Option Number) (number : Number) (sent : List Letter) → Did ticket sent → ticket ≡ Some number → NotesUnder number → HasMaps new
     noted_has ticket number sent (AtOnce kind kind_is fails ticket_is d) it notes =
         let n = subst NotesUnder (some_is number (new_number own (node_seen old.mail)) (sym it ∙ ticket_is)) notes in
-        has_after old holds on (rules.refuse kind (mishaps_of_call plan seconds (node_seen old.mail) call) (ids_drawn call)) before new after sent d
+        has_after old holds on (rules.refuse kind (mishaps_of_call plan seconds (node_seen old.mail) call) (ids_drawn call)) before new after sent d (λ records. refl)
         (idle_leads (unchanged (rules.refuse kind (mishaps_of_call plan seconds (node_seen old.mail) call) (ids_drawn call)) sent d (refused kind sent d) n))
     noted_has ticket number sent (Goes octets goes filed ticket_is d) it notes =
         let n = subst NotesUnder (some_is number (new_number own (node_seen old.mail)) (sym it ∙ ticket_is)) notes in
-        has_after old holds on (begun octets) before new after sent d (led_by call octets sent d n (λ quiet. absurd (never_filed call octets quiet filed)))
-    noted_has ticket number sent (Reads kind found kind_is those ticket_is d) it notes =
+        has_after old holds on (begun octets) before new after sent d (λ records. (begins_mail plan (at_second seconds) own (node_seen old.mail) records call octets).epoch) (led_by call octets sent d n (λ quiet. absurd (never_filed call octets quiet filed)))
+    noted_has ticket number sent (Reads kind found kind_is goes those ticket_is d) it notes =
         let n = subst NotesUnder (some_is number (new_number own (node_seen old.mail)) (sym it ∙ ticket_is)) notes in
-        has_after old holds on (rules.begin_read kind found) before new after sent d (idle_leads (unchanged (rules.begin_read kind found) sent d (read kind found sent d) n))
+        has_after old holds on (rules.begin_read kind found) before new after sent d (λ records. refl) (idle_leads (unchanged (rules.begin_read kind found) sent d (read kind found sent d) n))
     noted_has ticket number sent (Leaves user is_leave none none_sent as_before untouched) it notes = absurd (no_ticket number (sym it ∙ none))
+
+    -- whatever it sends fits
+    begun_fits_by : (ticket : Option Number) (sent : List Letter) → Did ticket sent → All FitsMaps sent
+    begun_fits_by ticket sent (AtOnce kind kind_is fails ticket_is d) = subst (All FitsMaps) (d.out holds.records holds.keeps) (All-nil FitsMaps)
+    begun_fits_by ticket sent (Goes octets goes filed ticket_is d) =
+        subst (All FitsMaps) (d.out holds.records holds.keeps) (begins_mail plan (at_second seconds) own (node_seen old.mail) holds.records call octets).fits
+    begun_fits_by ticket sent (Reads kind found kind_is goes those ticket_is d) = subst (All FitsMaps) (d.out holds.records holds.keeps) (All-nil FitsMaps)
+    begun_fits_by ticket sent (Leaves user is_leave none none_sent as_before untouched) = subst (All FitsMaps) (sym none_sent) (All-nil FitsMaps)
 
     -- memory ran out as its copies were noted
     pub noting_stops : (ticket : Option Number) (number : Number) (sent : List Letter) → is_worn_for plan seconds (node_seen old.mail) call ≡ false → Did ticket sent → ticket ≡ Some number
@@ -210,7 +215,7 @@ module _ {D : Type 0} (on : View D) (plan : Plan) (own seconds : ℕ) (old : Who
     noting_stops ticket number sent fresh (Goes octets goes filed ticket_is d) it some =
         let s = done_stops on (begun octets) old.mail before new.mail after sent d in
         record { fresh = fresh; octets = octets; filed = filed; stopped = s.0; fails = s.1 }
-    noting_stops ticket number sent fresh (Reads kind found kind_is those ticket_is d) it some =
+    noting_stops ticket number sent fresh (Reads kind found kind_is goes those ticket_is d) it some =
         absurd (some (subst (λ (k : Number). wants_at (ticket_standing new.mail k) ≡ []) (sym (some_is number (new_number own (node_seen old.mail)) (sym it ∙ ticket_is))) (read kind found sent d)))
     noting_stops ticket number sent fresh (Leaves user is_leave none none_sent as_before untouched) it some = absurd (no_ticket number (sym it ∙ none))
 
@@ -221,9 +226,10 @@ module _ {D : Type 0} (on : View D) (plan : Plan) (own seconds : ℕ) (old : Who
     pub ticketless_follows : (ticket : Option Number) (sent : List Letter) → Did ticket sent → ticket ≡ None → new.maps ≡ old.maps → CallFollowed on plan own seconds call old before new after
     ticketless_follows ticket sent (AtOnce kind kind_is fails ticket_is d) it maps = absurd (none_some _ (sym it ∙ ticket_is))
     ticketless_follows ticket sent (Goes octets goes filed ticket_is d) it maps = absurd (none_some _ (sym it ∙ ticket_is))
-    ticketless_follows ticket sent (Reads kind found kind_is those ticket_is d) it maps = absurd (none_some _ (sym it ∙ ticket_is))
+    ticketless_follows ticket sent (Reads kind found kind_is goes those ticket_is d) it maps = absurd (none_some _ (sym it ∙ ticket_is))
     ticketless_follows ticket sent (Leaves user is_leave none none_sent as_before untouched) it maps = record {
       at_once = λ f. maps;
+      reads = λ quiet. maps;
       goes = λ g o out e. follows_led old holds (begun o) new
           (λ records keeps. subst (λ (c : NodeCall). Leads (own_of old.maps) records (begun_by plan (at_second seconds) own (node_seen old.mail) records c o).disk old.maps new.maps) (sym is_leave) (idle_leads maps records keeps));
     }
@@ -231,8 +237,8 @@ module _ {D : Type 0} (on : View D) (plan : Plan) (own seconds : ℕ) (old : Who
     pub ticketless_has : (ticket : Option Number) (sent : List Letter) → Did ticket sent → ticket ≡ None → new.maps ≡ old.maps → HasMaps new
     ticketless_has ticket sent (AtOnce kind kind_is fails ticket_is d) it maps = absurd (none_some _ (sym it ∙ ticket_is))
     ticketless_has ticket sent (Goes octets goes filed ticket_is d) it maps = absurd (none_some _ (sym it ∙ ticket_is))
-    ticketless_has ticket sent (Reads kind found kind_is those ticket_is d) it maps = absurd (none_some _ (sym it ∙ ticket_is))
-    ticketless_has ticket sent (Leaves user is_leave none none_sent as_before untouched) it maps = has_same old holds new as_before.same (ap (λ (n : plain.Node). n.boot) as_before.seen) as_before.keeps maps
+    ticketless_has ticket sent (Reads kind found kind_is goes those ticket_is d) it maps = absurd (none_some _ (sym it ∙ ticket_is))
+    ticketless_has ticket sent (Leaves user is_leave none none_sent as_before untouched) it maps = has_same old holds new as_before.same (ap (λ (n : plain.Node). n.boot) as_before.seen) (ap (λ (n : plain.Node). n.installed) as_before.seen) as_before.keeps maps
 
     -- its work failed
     pub failed_follows : (fault : NodeFault) → new.maps ≡ old.maps → FollowsCall on plan own seconds call (Err fault) old before new after
@@ -243,9 +249,9 @@ module _ {D : Type 0} (on : View D) (plan : Plan) (own seconds : ℕ) (old : Who
 
     pub failed_has : (fault : NodeFault) → NodeBegins on plan own seconds call old.mail before new.mail after (Err fault) → new.maps ≡ old.maps → LeavesUp {T = Option Number × Outbox} (Err fault) → HasMaps new
     failed_has Disk begins maps up = absurd up
-    failed_has Worn begins maps up = has_same old holds new begins.1.same (ap (λ (n : plain.Node). n.boot) begins.1.seen) begins.1.keeps maps
+    failed_has Worn begins maps up = has_same old holds new begins.1.same (ap (λ (n : plain.Node). n.boot) begins.1.seen) (ap (λ (n : plain.Node). n.installed) begins.1.seen) begins.1.keeps maps
     failed_has (NoMemory true) begins maps up = absurd up
-    failed_has (NoMemory false) begins maps up = has_same old holds new begins.0.same (ap (λ (n : plain.Node). n.boot) begins.0.seen) begins.0.keeps maps
+    failed_has (NoMemory false) begins maps up = has_same old holds new begins.0.same (ap (λ (n : plain.Node). n.boot) begins.0.seen) (ap (λ (n : plain.Node). n.installed) begins.0.seen) begins.0.keeps maps
 
     -- so whatever was begun
     pub begun_follows : (ticket : Option Number) (outbox : Outbox) → CallBegun on plan own seconds call old.mail before new.mail after ticket outbox → NotesBegun ticket new.mail old.maps new.maps
@@ -256,6 +262,9 @@ module _ {D : Type 0} (on : View D) (plan : Plan) (own seconds : ℕ) (old : Who
     pub begun_has : (ticket : Option Number) (outbox : Outbox) → CallBegun on plan own seconds call old.mail before new.mail after ticket outbox → NotesBegun ticket new.mail old.maps new.maps → HasMaps new
     begun_has None outbox b maps = ticketless_has None outbox.letters b.did refl maps
     begun_has (Some number) outbox b notes = noted_has (Some number) number outbox.letters b.did refl notes
+
+    pub begun_fits : (ticket : Option Number) (outbox : Outbox) → CallBegun on plan own seconds call old.mail before new.mail after ticket outbox → All FitsMaps outbox.letters
+    begun_fits ticket outbox b = begun_fits_by ticket outbox.letters b.did
 
     pub begun_stops : (ticket : Option Number) (outbox : Outbox) → CallBegun on plan own seconds call old.mail before new.mail after ticket outbox → WantsSome ticket new.mail
         → CallStopped on plan own seconds call old.mail before new.mail after keep.NoMemory
@@ -284,3 +293,7 @@ module _ {D : Type 0} (on : View D) (users : Users) (seconds : ℕ) (old : Whole
     mail = mail_works (Ok (ticket, outbox)) begins tt;
     maps = begun_has on (plan_for users old.mail) old.mail.store.own seconds old before new after (is_for users old.mail) works.maps works.mail.whole call ticket outbox (begins_one (Ok (ticket, outbox)) begins) notes;
   }
+
+  pub begun_all_fit : (ticket : Option Number) (outbox : Outbox) → BeginsAny (Ok (ticket, outbox)) → All FitsMaps outbox.letters
+  begun_all_fit ticket outbox begins =
+      begun_fits on (plan_for users old.mail) old.mail.store.own seconds old before new after (is_for users old.mail) works.maps works.mail.whole call ticket outbox (begins_one (Ok (ticket, outbox)) begins)

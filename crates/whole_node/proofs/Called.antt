@@ -8,6 +8,7 @@ use Rattle.mail_model.specs.Grammar.{IsRecord}
 use Rattle.std.specs.FinMap as fin
 use Rattle.object_model.specs.Said.{said}
 use Rattle.object_model.specs.Letters.{Letter}
+use Rattle.cluster_model.specs.Cluster as plain
 use Rattle.cluster_model.specs.Reads.{is_here_held}
 use Rattle.maps_model.specs.Cluster as maps
 use Rattle.node_store.specs.Disks.{View}
@@ -21,6 +22,7 @@ use Rattle.mailbox_fragment.specs.Here.{is_here_in}
 use Rattle.node_maps.specs.Nodes.{node_of, own_of}
 use Rattle.node_maps.specs.declared.maps.NodeMaps.{NodeMaps}
 use Rattle.whole_world.proofs.Staying.{follows_boot}
+use Rattle.whole_world.proofs.Keeping.{follows_epoch}
 use Rattle.whole_node.specs.Nodes.{KnowsHere, HasMaps, WholeWorks}
 use Rattle.whole_node.specs.Following.{MapsFollow}
 use Rattle.whole_node.specs.declared.node.WholeNode.{WholeNode}
@@ -91,29 +93,33 @@ module _ (old : WholeNode) (has : HasMaps old) where
   follows_led rule new leads records added keeps is = led_is (own_of old.maps) records (rule (node_seen old.mail) records).disk (node_of old.maps) (node_of new.maps) (leads records keeps).led added is
 
   pub has_after : {D : Type 0} (on : View D) (rule : Rule) (before : D) (new : WholeNode) (after : D) (sent : List Letter) → NodeDid on rule old.mail before new.mail after sent
+      → ((records : List Record) → (rule (node_seen old.mail) records).node.installed ≡ (node_seen old.mail).installed)
       → ((records : List Record) → NodeKeeps records old.mail → Leads (own_of old.maps) records (rule (node_seen old.mail) records).disk old.maps new.maps) → HasMaps new
-  has_after on rule before new after sent d leads =
+  has_after on rule before new after sent d stays leads =
       let l = leads has.records has.keeps in
       record {
         own = l.own_is ∙ has.own ∙ sym (same_own old.mail new.mail d.same);
         boot = ap (λ (n : maps.Node). n.boot) l.led.node ∙ follows_boot (own_of old.maps) (node_of old.maps) has.records l.led.added ∙ has.boot ∙ sym d.boot;
+        epoch = sym (ap (λ (n : plain.Node). n.installed) (d.node has.records has.keeps)) ∙ stays has.records ∙ has.epoch
+            ∙ sym (ap (λ (n : maps.Node). n.installed) l.led.node ∙ follows_epoch (own_of old.maps) (node_of old.maps) has.records l.led.added);
         records = has.records ++ d.added;
         keeps = d.keeps has.records has.keeps;
         knows = subst (λ (r : List Record). KnowsHere r new.maps) (d.disk has.records has.keeps) l.knows;
       }
 
   -- a node that is as it was, but perhaps for its tickets
-  pub has_same : (new : WholeNode) → IsSameNode old.mail new.mail → (node_seen new.mail).boot ≡ (node_seen old.mail).boot
+  pub has_same : (new : WholeNode) → IsSameNode old.mail new.mail → (node_seen new.mail).boot ≡ (node_seen old.mail).boot → (node_seen new.mail).installed ≡ (node_seen old.mail).installed
       → ((records : List Record) → NodeKeeps records old.mail → NodeKeeps records new.mail) → new.maps ≡ old.maps → HasMaps new
-  has_same new same boot keeps maps = record {
+  has_same new same boot epoch keeps maps = record {
     own = ap own_of maps ∙ has.own ∙ sym (same_own old.mail new.mail same);
     boot = ap (λ (m : NodeMaps). (node_of m).boot) maps ∙ has.boot ∙ sym boot;
+    epoch = epoch ∙ has.epoch ∙ sym (ap (λ (m : NodeMaps). m.group.installed) maps);
     records = has.records;
     keeps = keeps has.records has.keeps;
     knows = λ user id. ap (λ (m : NodeMaps). is_here_in m.fragments user id) maps ∙ has.knows user id;
   }
 
   -- its tickets changed alone, or nothing did
-  pub works_same : (new : WholeNode) (seen : Option (List ℕ)) → IsSameNode old.mail new.mail → (node_seen new.mail).boot ≡ (node_seen old.mail).boot
+  pub works_same : (new : WholeNode) (seen : Option (List ℕ)) → IsSameNode old.mail new.mail → (node_seen new.mail).boot ≡ (node_seen old.mail).boot → (node_seen new.mail).installed ≡ (node_seen old.mail).installed
       → ((records : List Record) → NodeKeeps records old.mail → NodeKeeps records new.mail) → new.maps ≡ old.maps → CanWork seen new.mail → WholeWorks seen new
-  works_same new seen same boot keeps maps works = record { mail = works; maps = has_same new same boot keeps maps }
+  works_same new seen same boot epoch keeps maps works = record { mail = works; maps = has_same new same boot epoch keeps maps }

@@ -6,12 +6,13 @@ use Rattle.std.specs.Cmp.Lexicographic.{slice_cmp}
 use Rattle.mail_model.specs.Identity.{Id, EpochId, State}
 use Rattle.mail_model.specs.Identity.Key.{Message}
 use Rattle.mail_model.specs.Record.{Record}
-use Rattle.mail_model.specs.Record.Record.{Boot}
+use Rattle.mail_model.specs.Record.Record.{Boot, Promise}
 use Rattle.mail_model.specs.Grammar.{IsId, IsRecord}
 use Rattle.mail_base.specs.Orders.{id_cmp}
 use Rattle.object_model.specs.Lists.{Among}
 use Rattle.object_model.specs.Said.{said}
 use Rattle.cluster_model.specs.Reads.{is_here_held}
+use Rattle.cluster_model.specs.Starts.{first_epoch}
 use Rattle.maps_model.specs.Cluster as maps
 use Rattle.maps_model.specs.Rules.{started}
 use Rattle.mailbox_fragment.specs.Here.{ids_of, is_here_in, is_none, has_id}
@@ -115,15 +116,16 @@ none_here maps holds user id = by (ids_of maps.fragments user) refl (holds user)
     by (one ∷ ids) e h = absurd (true≢false h)
 
 -- a node that starts has its maps
-pub over_has : (mail : Node) (promise : EpochId) (users : List (List ℕ)) (first new : NodeMaps) → 0 < mail.numbers.boot → KeepsNamed users mail
+pub over_has : (mail : Node) (promise : EpochId) (users : List (List ℕ)) (first new : NodeMaps) → 0 < mail.numbers.boot → (node_seen mail).installed ≡ None → KeepsNamed users mail
     → own_of first ≡ mail.store.own → ((image : maps.Disk) → image.boot + 1 ≡ mail.numbers.boot → image.promise ≡ promise → node_of first ≡ started image) → ((user : List ℕ) → holds_in first user ≡ false)
     → node_of new ≡ node_of first → own_of new ≡ own_of first
     → ((records : List Record) → NodeKeeps records mail → (user : List ℕ) (id : Id)
     → is_here_in new.fragments user id ≡ (is_here_in first.fragments user id || (has_user users user && is_here_held (said (Message user id) records))))
     → HasMaps (record { mail = mail; maps = new })
-over_has mail promise users first new drawn named own starts none node owns found = record {
+over_has mail promise users first new drawn without named own starts none node owns found = record {
   own = owns ∙ own;
   boot = ap (λ (n : maps.Node). n.boot) (node ∙ starts (record { boot = mail.numbers.boot - 1; promise = promise; holds = λ user. false }) back refl) ∙ back;
+  epoch = without ∙ sym (ap (λ (n : maps.Node). n.installed) (node ∙ starts (record { boot = mail.numbers.boot - 1; promise = promise; holds = λ user. false }) back refl));
   records = named.records;
   keeps = named.keeps;
   knows = λ user id. found named.records named.keeps user id
@@ -144,8 +146,8 @@ over_has mail promise users first new drawn named own starts none node owns foun
         and_false false = refl
 
 -- in a first boot nobody has to be named
-pub first_named : (mail : Node) → NodeKeeps (Boot 1 ∷ []) mail → KeepsNamed [] mail
-first_named mail keeps = record { records = Boot 1 ∷ []; keeps = keeps; named = λ user id here. absurd (true≢false (sym here)) }
+pub first_named : (mail : Node) → NodeKeeps (Boot 1 ∷ Promise first_epoch ∷ []) mail → KeepsNamed [] mail
+first_named mail keeps = record { records = Boot 1 ∷ Promise first_epoch ∷ []; keeps = keeps; named = λ user id here. absurd (true≢false (sym here)) }
 
 -- what holds where it went well
 pub ok_at : {T E : Type 0} (P : T → Type 0) (r : Result T E) (x : T) → r ≡ Ok x → IfOk r P → P x

@@ -1,6 +1,7 @@
 -- A letter that was heard, and a copy that was widened, and the maps after it.
 use Rattle.std.proofs.Common.{◌≡◌, ℕ, Bool, true, false, List, [], ◌++◌, Option, Some, None, refl, sym, ap, ◌∙◌, subst}
-use Rattle.std.specs.Prelude.{Result, Ok, Err, ⊤}
+use Rattle.std.specs.Prelude.{All, Result, Ok, Err, IfOk, ⊤}
+use Rattle.std.proofs.lemmas.List.Elements.{All-nil}
 use Rattle.mail_model.specs.Identity.{Id}
 use Rattle.mail_model.specs.Identity.Key.{Message}
 use Rattle.mail_model.specs.Plan.{Plan}
@@ -27,6 +28,8 @@ use Rattle.whole_node.specs.Following.{MapsFollow, MapsStay, FollowsRule, Follow
 use Rattle.whole_node.specs.declared.node.WholeNode.{WholeNode}
 use Rattle.whole_node.proofs.Taking.{Leads}
 use Rattle.whole_node.proofs.Ruled.{leads_heard, leads_widened}
+use Rattle.whole_node.proofs.Mailing.{hears_mail, widens_mail, sent_like}
+use Rattle.whole_node.specs.Hearing.{FitsMaps}
 use Rattle.whole_node.proofs.Called.{plan_of, is_of, done_stops, knows_any, follows_led, has_after, has_same}
 
 module _ {D : Type 0} (on : View D) (letter : Letter) (old : WholeNode) (before : D) (new : WholeNode) (after : D) (has : HasMaps old) where
@@ -61,7 +64,14 @@ module _ {D : Type 0} (on : View D) (letter : Letter) (old : WholeNode) (before 
       let plan = plan_of old.mail in
       let own = old.mail.store.own in
       let h = heard_of plan own outbox none (hears plan own (is_of old.mail)) in
-      has_after old has on (λ node disk. hear own plan.nodes node disk letter) before new after outbox.letters h.did (leads_of plan own (is_of old.mail) outbox.letters h.did notes)
+      has_after old has on (λ node disk. hear own plan.nodes node disk letter) before new after outbox.letters h.did (λ records. (hears_mail own plan.nodes (node_seen old.mail) records letter).epoch) (leads_of plan own (is_of old.mail) outbox.letters h.did notes)
+
+  pub heard_fits : (outbox : Outbox) → None ≡ outbox.thrown → HearsAny (Ok outbox) → All FitsMaps outbox.letters
+  heard_fits outbox none hears =
+      let plan = plan_of old.mail in
+      let own = old.mail.store.own in
+      let h = heard_of plan own outbox none (hears plan own (is_of old.mail)) in
+      subst (All FitsMaps) (h.did.out has.records has.keeps) (hears_mail own plan.nodes (node_seen old.mail) has.records letter).fits
 
   -- it was heard, and then memory ran out
   pub heard_stops : (outbox : Outbox) → None ≡ outbox.thrown → HearsAny (Ok outbox) → HearsAny (Err (NoMemory true))
@@ -75,7 +85,12 @@ module _ {D : Type 0} (on : View D) (letter : Letter) (old : WholeNode) (before 
   thrown_follows outbox why thrown maps plan own is = subst (λ (t : Option Why). FollowsOrThrows (λ node disk. hear own plan.nodes node disk letter) t old new) thrown maps
 
   as_before : IsAsBefore old.mail new.mail → new.maps ≡ old.maps → HasMaps new
-  as_before same maps = has_same old has new same.same (ap (λ n. n.boot) same.seen) same.keeps maps
+  as_before same maps = has_same old has new same.same (ap (λ n. n.boot) same.seen) (ap (λ n. n.installed) same.seen) same.keeps maps
+
+  pub thrown_fits : (outbox : Outbox) (why : Why) → Some why ≡ outbox.thrown → HearsAny (Ok outbox) → All FitsMaps outbox.letters
+  thrown_fits outbox why thrown hears = subst (All FitsMaps)
+      (sym (subst (λ (t : Option Why). HeardOrThrown on old.mail.store.own (plan_of old.mail).nodes letter old.mail before new.mail after t outbox.letters) (sym thrown) (hears (plan_of old.mail) old.mail.store.own (is_of old.mail))).none)
+      (All-nil FitsMaps)
 
   pub thrown_has : (outbox : Outbox) (why : Why) → Some why ≡ outbox.thrown → HearsAny (Ok outbox) → new.maps ≡ old.maps → HasMaps new
   thrown_has outbox why thrown hears maps = as_before
@@ -114,11 +129,11 @@ module _ {D : Type 0} (on : View D) (user : List ℕ) (id : Id) (to : ℕ) (old 
   widened_has result widens up = by result up (widens (plan_of old.mail) old.mail.store.own (is_of old.mail))
     where
       by : (r : Result Bool NodeFault) → LeavesUp r → WidensCopy on old.mail.store.own to (Message user id) old.mail before new.mail after r → HasMaps new
-      by (Ok did) up w = has_after old has on (λ node disk. widen old.mail.store.own to (Message user id) node disk) before new after [] w.1 (widening_leads old.mail.store.own has.own)
+      by (Ok did) up w = has_after old has on (λ node disk. widen old.mail.store.own to (Message user id) node disk) before new after [] w.1 (λ records. (widens_mail old.mail.store.own to (Message user id) (node_seen old.mail) records).epoch) (widening_leads old.mail.store.own has.own)
       by (Err Disk) up w = absurd up
       by (Err Worn) up w = absurd w
       by (Err (NoMemory true)) up w = absurd up
-      by (Err (NoMemory false)) up w = has_same old has new w.0.same (ap (λ n. n.boot) w.0.seen) w.0.keeps maps
+      by (Err (NoMemory false)) up w = has_same old has new w.0.same (ap (λ n. n.boot) w.0.seen) (ap (λ n. n.installed) w.0.seen) w.0.keeps maps
 
 -- a push changes nothing
 pub pushed_works : {D : Type 0} (on : View D) (to most room : ℕ) (old : WholeNode) (before : D) (new : WholeNode) (after : D) → WholeWorks (on.seen before) old → new.maps ≡ old.maps
@@ -129,8 +144,15 @@ pushed_works on to most room old before new after works maps result pushes up = 
 }
   where
     by : (r : Result Outbox NodeFault) → LeavesUp r → PushesOut on old.mail.store.own to most room old.mail before new.mail after r → HasMaps new
-    by (Ok outbox) up p = has_same old works.maps new p.1.as_before.same (ap (λ n. n.boot) p.1.as_before.seen) p.1.as_before.keeps maps
+    by (Ok outbox) up p = has_same old works.maps new p.1.as_before.same (ap (λ n. n.boot) p.1.as_before.seen) (ap (λ n. n.installed) p.1.as_before.seen) p.1.as_before.keeps maps
     by (Err Disk) up p = absurd up
     by (Err Worn) up p = absurd p
     by (Err (NoMemory true)) up p = absurd up
-    by (Err (NoMemory false)) up p = has_same old works.maps new p.0.same (ap (λ n. n.boot) p.0.seen) p.0.keeps maps
+    by (Err (NoMemory false)) up p = has_same old works.maps new p.0.same (ap (λ n. n.boot) p.0.seen) (ap (λ n. n.installed) p.0.seen) p.0.keeps maps
+
+pub pushed_fits : {D : Type 0} (on : View D) (to most room : ℕ) (old : WholeNode) (before : D) (new : WholeNode) (after : D) → HasMaps old
+    → (result : Result Outbox NodeFault) → ((plan : Plan) (own : ℕ) → IsNodeOf plan own old.mail → PushesOut on own to most room old.mail before new.mail after result) → IfOk result (λ outbox. All FitsMaps outbox.letters)
+pushed_fits on to most room old before new after has (Ok outbox) pushes =
+    let p = pushes (plan_of old.mail) old.mail.store.own (is_of old.mail) in
+    sent_like old.mail.store.own to most room (node_seen old.mail) has.records outbox.letters (p.1.alike has.records has.keeps)
+pushed_fits on to most room old before new after has (Err fault) pushes = tt

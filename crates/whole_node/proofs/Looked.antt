@@ -34,9 +34,10 @@ use Rattle.node_maps.specs.Hearing.{promise_due, left_by, HearsBody, StopsHearin
 use Rattle.node_maps.specs.declared.answer.Answer.{Answer}
 use Rattle.node_maps.specs.declared.maps.NodeMaps.{NodeMaps}
 use Rattle.node_core.specs.Nodes.{node_seen, NodeKeeps, end_in, IsAsBefore, IsSameNode, CanWork, IsWhole}
-use Rattle.node_core.specs.Works.{Rule, NodeDid, NodeStopped, NodeFailed, HasLearned}
+use Rattle.node_core.specs.Works.{Rule, NodeDid, NodeStopped, NodeFailed}
 use Rattle.node_core.specs.Hearing.{why_seen}
 use Rattle.node_core.specs.Spelling.{AllCanBeTaken}
+use Rattle.node_core.specs.Weights.{weight_of_body, weight_of, weight_of_all}
 use Rattle.node_core.specs.declared.fault.NodeFault.{NodeFault}
 use Rattle.node_core.specs.declared.fault.NodeFault.TheVariants.{Disk, Worn, NoMemory}
 use Rattle.node_core.specs.declared.node.Node.{Node}
@@ -45,13 +46,17 @@ use Rattle.node_core.specs.declared.outbox.Why.TheVariants as why
 use Rattle.node_core.specs.declared.outbox.Outbox.{Outbox}
 use Rattle.node_core.proofs.Doing.{did_none}
 use Rattle.node_core.proofs.Sending.{none_fit}
-use Rattle.whole_node.specs.Nodes.{joint_seen, KnowsHere, HasMaps, WholeWorks}
-use Rattle.whole_node.specs.Hearing.{NamesANode, FitsMaps, maps_weight, maps_weight_of_all, why_refused, is_install, appends_promise, learns_and_promises, PromiseStands, MakesPromise, TookLetter, TakesLetter, LeftByRule, LookedAt, ThrownStale, LookedAtOrStale, KeepsMaps, HearsOfMaps}
+use Rattle.whole_node.specs.Nodes.{KnowsHere, HasMaps, WholeWorks}
+use Rattle.whole_node.specs.Forming.{forms_by, FormsOn}
+use Rattle.whole_node.specs.Hearing.{NamesANode, FitsMaps, why_refused, is_install, installs, HasTakenIn, appends_promise, PromiseStands, MakesPromise, TookLetter, TakesLetter, LeftByRule, LookedAt, ThrownStale, LookedAtOrStale, KeepsMaps, HearsOfMaps}
 use Rattle.whole_node.specs.declared.node.WholeNode.{WholeNode}
 use Rattle.whole_node.proofs.Holding.{holds_same}
 use Rattle.whole_node.proofs.Called.{same_own, done_stops, knows_any}
 use Rattle.whole_node.proofs.Refused.{refused_same, never_stale}
-use Rattle.whole_node.proofs.Said.{AreSaid, hears_boot, are_said}
+use Rattle.whole_node.proofs.Said.{AreSaid, none_says, hears_boot, hears_epoch, are_said}
+use Rattle.whole_node.proofs.Epochs.{installs_boot, left_seen}
+use Rattle.whole_node.proofs.Forming.{stopped_forming}
+use Rattle.whole_world.proofs.Seeing.{hear_sends}
 
 -- a letter makes the promise due to which it brings a node
 pub due_is : (node : maps.Node) (body : Body) → promise_due node body ≡ promise_by node body
@@ -114,40 +119,32 @@ is_disk records maps knows = record { holds = λ user. sym (holds_same records m
 -- a rule of membership and maps leaves a node with its maps
 pub has_ruled : {D : Type 0} (on : View D) (rule : Rule) (promise : Option EpochId) (old : WholeNode) (before : D) (new : WholeNode) (after : D) (sent : List Letter) → HasMaps old
     → ((records : List Record) → (rule (node_seen old.mail) records).disk ≡ records ++ promise_records promise)
-    → NodeDid on rule old.mail before new.mail after sent → own_of new.maps ≡ own_of old.maps → (node_of new.maps).boot ≡ (node_of old.maps).boot → new.maps.fragments ≡ old.maps.fragments → HasMaps new
-has_ruled on rule promise old before new after sent has disk d own boot held = record {
+    → NodeDid on rule old.mail before new.mail after sent → own_of new.maps ≡ own_of old.maps → (node_of new.maps).boot ≡ (node_of old.maps).boot
+    → (node_seen new.mail).installed ≡ new.maps.group.installed → new.maps.fragments ≡ old.maps.fragments → HasMaps new
+has_ruled on rule promise old before new after sent has disk d own boot epoch held = record {
   own = own ∙ has.own ∙ sym (same_own old.mail new.mail d.same);
   boot = boot ∙ has.boot ∙ sym d.boot;
+  epoch = epoch;
   records = has.records ++ d.added;
   keeps = d.keeps has.records has.keeps;
   knows = subst (λ (r : List Record). KnowsHere r new.maps) (sym (disk has.records) ∙ d.disk has.records has.keeps) (knows_promised promise has.records old.maps new.maps held has.knows);
 }
 
 -- a promise and then the stamps of a letter
-did_learned : {D : Type 0} (on : View D) (body : Body) (promise : Option EpochId) (old mid new : Node) (before after : D) (sent : List Letter)
-    → NodeDid on (appends_promise promise []) old before mid after [] → HasLearned body mid new → AllCanBeTaken sent → NodeDid on (learns_and_promises body promise sent) old before new after sent
-did_learned on body promise old mid new before after sent d l fits = record {
+did_learned : {D : Type 0} (on : View D) (body : Body) (promise : Option EpochId) (installed : Option Membership) (old mid new : Node) (before after : D) (sent : List Letter)
+    → (is_install body ≡ false → (node_seen old).installed ≡ installed)
+    → NodeDid on (appends_promise promise []) old before mid after [] → HasTakenIn body installed mid new → AllCanBeTaken sent → NodeDid on (forms_by (with_stamps body) installed promise sent) old before new after sent
+did_learned on body promise installed old mid new before after sent stays d l fits = record {
   added = d.added;
   disk = λ records k. d.disk records k;
-  node = λ records k. ap (with_stamps body) (d.node records k) ∙ sym l.seen;
+  node = λ records k. sym (left_seen body installed (node_seen old) stays) ∙ ap (λ (n : plain.Node). with_stamps body (installs body installed n)) (d.node records k) ∙ sym l.seen;
   out = λ records k. refl;
   keeps = λ records k. subst (KeepsRecords (records ++ d.added)) (sym l.store) (d.keeps records k);
-  boot = ap (λ (n : plain.Node). n.boot) l.seen ∙ d.boot;
+  boot = ap (λ (n : plain.Node). n.boot) l.seen ∙ installs_boot body installed (node_seen mid) ∙ d.boot;
   same = λ plan own p. l.same plan own (d.same plan own p);
   works = record { store = subst (CanGoOn (on.seen after)) (sym l.store) d.works.store; whole = l.whole d.works.whole };
   appends = subst (λ (n : ℕ). AppendsRecords on before after (end_in old) n d.added) (sym (ap (λ (s : NodeStore). end_of s.journal) l.store)) d.appends;
   fits = fits;
-}
-
--- work that stopped, by another name of its rule
-stopped_so : {D : Type 0} (on : View D) (body : Body) (promise : Option EpochId) (old : Node) (before after : D) → NodeStopped on (appends_promise promise []) old before after
-    → NodeStopped on (learns_and_promises body promise []) old before after
-stopped_so on body promise old before after d = record {
-  front = d.front;
-  pending = d.pending;
-  cut = λ records k. record { missing = (d.cut records k).missing; is = (d.cut records k).is };
-  stops = d.stops;
-  fit = λ records k. d.fit records k;
 }
 
 module _ {D : Type 0} (on : View D) (letter : Letter) (old : WholeNode) (before : D) (works : WholeWorks (on.seen before) old) (of : IsMapsBody letter.body) where
@@ -155,17 +152,17 @@ module _ {D : Type 0} (on : View D) (letter : Letter) (old : WholeNode) (before 
   promise = promise_by (node_of old.maps) letter.body
 
   abbrev IsFresh : Type 0
-  IsFresh = is_stale letter old.maps.group.installed ≡ false
+  IsFresh = is_stale letter (node_seen old.mail).installed ≡ false
 
   -- thrown at once
-  pub stale_heard : is_stale letter old.maps.group.installed ≡ true → (outbox : Outbox) → outbox.letters ≡ [] → outbox.thrown ≡ Some why.Stale → LookedAtOrStale on letter old before old before outbox.thrown outbox.letters
+  pub stale_heard : is_stale letter (node_seen old.mail).installed ≡ true → (outbox : Outbox) → outbox.letters ≡ [] → outbox.thrown ≡ Some why.Stale → LookedAtOrStale on letter old before old before outbox.thrown outbox.letters
   stale_heard e outbox none thrown = subst (λ (t : Option Why). LookedAtOrStale on letter old before old before t outbox.letters) (sym thrown)
       (record { stale = e; none = none; as_before = as_it_was old.mail; maps = refl; untouched = refl })
 
-  pub stale_light : (outbox : Outbox) → outbox.letters ≡ [] → maps_weight_of_all outbox.letters < maps_weight letter.body
-  stale_light outbox none = subst (λ (l : List Letter). maps_weight_of_all l < maps_weight letter.body) (sym none) (by letter.body of)
+  pub stale_light : (outbox : Outbox) → outbox.letters ≡ [] → weight_of_all outbox.letters < weight_of letter
+  stale_light outbox none = subst (λ (l : List Letter). weight_of_all l < weight_of letter) (sym none) (by letter.body of)
     where
-      by : (body : Body) → IsMapsBody body → 0 < maps_weight body
+      by : (body : Body) → IsMapsBody body → 0 < weight_of_body body
       by (Group epoch) of = omega arith
       by (Join epoch promise boot was claims) of = omega arith
       by (Install membership) of = omega arith
@@ -173,12 +170,15 @@ module _ {D : Type 0} (on : View D) (letter : Letter) (old : WholeNode) (before 
       by (ReportAck user version) of = omega arith
       by other of = absurd of
 
+  pub stale_fits : (outbox : Outbox) → outbox.letters ≡ [] → All FitsMaps outbox.letters
+  stale_fits outbox none = subst (All FitsMaps) (sym none) none_says
+
   -- its promise could not be made
   pub failed_heard : (mid : WholeNode) (amid : D) (fault : NodeFault) → IsFresh → mid.maps ≡ old.maps → NodeFailed on (appends_promise promise []) ⊤ fault old.mail before mid.mail amid
       → HearsOfMaps on letter old before mid amid (Err fault)
-  failed_heard mid amid Disk fresh maps f = ((fresh, stopped_so on letter.body promise old.mail before amid f.1, f.2), tt)
+  failed_heard mid amid Disk fresh maps f = ((fresh, stopped_forming on (with_stamps letter.body) promise old.mail before amid f.1, f.2), tt)
   failed_heard mid amid Worn fresh maps f = absurd f
-  failed_heard mid amid (NoMemory true) fresh maps f = ((fresh, stopped_so on letter.body promise old.mail before amid f.1, f.2), tt)
+  failed_heard mid amid (NoMemory true) fresh maps f = ((fresh, stopped_forming on (with_stamps letter.body) promise old.mail before amid f.1, f.2), tt)
   failed_heard mid amid (NoMemory false) fresh maps f = (f, keeps_same)
     where
       keeps_same : KeepsNode old.maps mid.maps
@@ -190,7 +190,7 @@ module _ {D : Type 0} (on : View D) (letter : Letter) (old : WholeNode) (before 
         → HearsOfMaps on letter old before new amid (Err (NoMemory down))
     short_heard true fresh none calm stops mail =
         let s = done_stops on (appends_promise promise []) old.mail before mid.mail amid [] stands.did in
-        ((fresh, stopped_so on letter.body promise old.mail before amid s.0, s.1), tt)
+        ((fresh, stopped_forming on (with_stamps letter.body) promise old.mail before amid s.0, s.1), tt)
     short_heard false fresh none calm stops mail =
         let unchanged = stands.none (none refl) in
         ((as_before_of old.mail new.mail (mail ∙ unchanged.0), unchanged.1), subst (λ (m : NodeMaps). KeepsNode m new.maps) same (kept letter.body (calm refl) stops))
@@ -217,27 +217,41 @@ module _ {D : Type 0} (on : View D) (letter : Letter) (old : WholeNode) (before 
       said_so : AreSaid letter.body outbox.letters
       said_so = are_said old.mail.store.own (node_of old.maps) (maps_disk_of works.maps.records) letter (left_by new.maps promise (maps_disk_of works.maps.records) outbox.letters) letter.body of (hears works.maps.records works.maps.keeps)
 
-      mail_did : NodeDid on (learns_and_promises letter.body promise outbox.letters) old.mail before new.mail amid outbox.letters
-      mail_did = did_learned on letter.body promise old.mail mid.mail new.mail before amid outbox.letters stands.did took.learned said_so.taken
+      same_epoch : is_install letter.body ≡ false → (node_of new.maps).installed ≡ (node_of old.maps).installed
+      same_epoch none = hears_epoch old.mail.store.own (node_of old.maps) (maps_disk_of works.maps.records) letter (left_by new.maps promise (maps_disk_of works.maps.records) outbox.letters) letter.body of none
+          (hears works.maps.records works.maps.keeps)
 
-      mail_seen : record (with_stamps letter.body (node_seen old.mail)) { installed = new.maps.group.installed } ≡ record (node_seen new.mail) { installed = new.maps.group.installed }
-      mail_seen = ap (λ (n : plain.Node). record n { installed = new.maps.group.installed }) (mail_did.node works.maps.records works.maps.keeps)
+      mail_did : NodeDid on (forms_by (with_stamps letter.body) (node_of new.maps).installed promise outbox.letters) old.mail before new.mail amid outbox.letters
+      mail_did = did_learned on letter.body promise (node_of new.maps).installed old.mail mid.mail new.mail before amid outbox.letters (λ none. works.maps.epoch ∙ sym (same_epoch none)) stands.did took.taken said_so.taken
+
+      mail_seen : node_seen new.mail ≡ record (with_stamps letter.body (node_seen old.mail)) { installed = (node_of new.maps).installed }
+      mail_seen = sym (mail_did.node works.maps.records works.maps.keeps)
+
+      mail_forms : FormsOn on (with_stamps letter.body) (node_of new.maps).installed promise old.mail before new.mail amid outbox.letters
+      mail_forms = record {
+        did = mail_did;
+        sends = λ one m. hear_sends old.mail.store.own (node_of old.maps) (maps_disk_of works.maps.records) letter (left_by new.maps promise (maps_disk_of works.maps.records) outbox.letters) one letter.body of
+            (hears works.maps.records works.maps.keeps) m;
+      }
+
+      fresh_maps : IsFresh → is_stale letter (node_of old.maps).installed ≡ false
+      fresh_maps fresh = subst (λ (i : Option Membership). is_stale letter i ≡ false) works.maps.epoch fresh
 
       looked : IsFresh → LookedAt on letter old before new amid outbox.thrown outbox.letters
       looked fresh = record {
         within = fresh;
-        refused = took.thrown ∙ refused_same old.mail.store.own (node_of old.maps) letter letter.body refl of fresh took.answer.thrown
+        refused = took.thrown ∙ refused_same old.mail.store.own (node_of old.maps) letter letter.body refl of (fresh_maps fresh) took.answer.thrown
             (subst (λ (n : ℕ). Throws n (node_of old.maps) letter letter.body took.answer.thrown) own_is heard.thrown);
         rule = λ records keeps. record {
           did = left_by new.maps promise (maps_disk_of records) outbox.letters;
           hears = hears records keeps;
           left = λ i. record {
-            node = record { mail = (sym mail_seen) i; maps = node_of new.maps };
+            node = record { mail = mail_seen i; maps = node_of new.maps };
             disk = records ++ promise_records promise;
             out = outbox.letters;
           };
         };
-        mail = mail_did;
+        mail = mail_forms;
         fits = said_so.fits;
       }
 
@@ -253,14 +267,18 @@ module _ {D : Type 0} (on : View D) (letter : Letter) (old : WholeNode) (before 
           by (Some why.Late) l = l
           by None l = l
 
-      pub heard_light : maps_weight_of_all outbox.letters < maps_weight letter.body
+      pub heard_light : weight_of_all outbox.letters < weight_of letter
       heard_light = said_so.light
+
+      pub heard_fits : All FitsMaps outbox.letters
+      heard_fits = said_so.fits
 
       pub heard_works : WholeWorks (on.seen amid) new
       heard_works = record {
         mail = mail_did.works;
-        maps = has_ruled on (learns_and_promises letter.body promise outbox.letters) promise old before new amid outbox.letters works.maps (λ records. refl) mail_did heard.own
+        maps = has_ruled on (forms_by (with_stamps letter.body) (node_of new.maps).installed promise outbox.letters) promise old before new amid outbox.letters works.maps (λ records. refl) mail_did heard.own
             (hears_boot old.mail.store.own (node_of old.maps) (maps_disk_of works.maps.records) letter (left_by new.maps promise (maps_disk_of works.maps.records) outbox.letters) letter.body of
             (hears works.maps.records works.maps.keeps))
+            (ap (λ (n : plain.Node). n.installed) mail_seen)
             heard.held;
       }

@@ -46,7 +46,7 @@ module _ {D : Type 0} (on : View D) (old : WholeNode) (before : D) (works : Whol
   failed_works T rule may new after Worn maps f up = absurd f
   failed_works T rule may new after (NoMemory true) maps f up = absurd up
   failed_works T rule may new after (NoMemory false) maps f up =
-      works_same old works.maps new (on.seen after) f.0.same (ap (λ (n : plain.Node). n.boot) f.0.seen) f.0.keeps maps
+      works_same old works.maps new (on.seen after) f.0.same (ap (λ (n : plain.Node). n.boot) f.0.seen) (ap (λ (n : plain.Node). n.installed) f.0.seen) f.0.keeps maps
       (subst (λ (d : D). CanWork (on.seen d) new.mail) (sym f.1) (f.0.works (on.seen before) works.mail))
 
   -- where memory ran out as a letter was taken in

@@ -84,7 +84,7 @@ module _ {D : Type 0} (on : View D) (plan : Plan) (own : ℕ) (before after : D)
         let its_are : node_of its ≡ maps_rules.started (maps_disk_of found) = starts (maps_disk_of found) booted promised in
         record {
           mail = p.over;
-          starts = λ i. record { mail = record (p.over.starts.is i) { installed = (its_are i).installed }; maps = its_are i };
+          starts = λ i. record { mail = p.over.starts.is i; maps = its_are i };
         }
 
     pub whole_started : NodeStartedWith on plan own before after mail promise → HasMaps node → WholeNodeStarted on plan own before after node

@@ -1,5 +1,5 @@
 -- What a rule of membership and maps leaves of a node's boot, and what it says.
-use Rattle.std.proofs.Common.{◌≡◌, ◌<◌, ◌+◌, ℕ, Bool, true, false, cond, nat_eq, List, [], ◌∷◌, map, Option, Some, None, refl, sym, ap, ◌∙◌, subst, arith}
+use Rattle.std.proofs.Common.{◌≡◌, ◌<◌, ◌+◌, ℕ, Bool, true, false, cond, nat_eq, List, [], ◌∷◌, map, Option, Some, None, refl, sym, ap, ◌∙◌, subst, arith, true≢false}
 use Rattle.std.specs.Prelude.{All}
 use Rattle.std.proofs.lemmas.List.Elements.{All-nil, All-cons}
 use Rattle.mail_model.specs.Identity.{EpochId}
@@ -17,7 +17,8 @@ use Rattle.maps_model.specs.Rules.HearsAck.{Stale as StaleAck, Clears, Other}
 use Rattle.whole_model.specs.Rules.{IsMapsBody}
 use Rattle.node_core.specs.Spelling.{CanBeTaken, AllCanBeTaken}
 use Rattle.node_core.proofs.Sending.{one_fits, none_fit}
-use Rattle.whole_node.specs.Hearing.{FitsMaps, maps_weight, maps_weight_of_all}
+use Rattle.node_core.specs.Weights.{weight_of_body, weight_of_all}
+use Rattle.whole_node.specs.Hearing.{FitsMaps, is_install}
 
 -- letters that fit
 pub none_says : All FitsMaps []
@@ -33,7 +34,7 @@ more_taken letter letters fits all = All-cons (λ (l : Letter). CanBeTaken l.bod
 pub record AreSaid (body : Body) (out : List Letter) : Type 0 where
   pub fits : All FitsMaps out
   pub taken : AllCanBeTaken out
-  pub light : maps_weight_of_all out < maps_weight body
+  pub light : weight_of_all out < weight_of_body body
 
 module _ (own : ℕ) (node : maps.Node) (disk : maps.Disk) (letter : Letter) (did : rules.Reaction) where
   pub hears_boot : (body : Body) → IsMapsBody body → rules.Hears own node disk letter body did → did.node.boot ≡ node.boot
@@ -55,10 +56,26 @@ module _ (own : ℕ) (node : maps.Node) (disk : maps.Disk) (letter : Letter) (di
   hears_boot (ReportAck user version) of (Other g a b c e) = ap (λ (x : rules.Reaction). x.node.boot) e
   hears_boot other of h = absurd of
 
-  nothing : (body : Body) → 0 < maps_weight body → (r : rules.Reaction) → did ≡ r → r.out ≡ [] → AreSaid body did.out
+  pub hears_epoch : (body : Body) → IsMapsBody body → is_install body ≡ false → rules.Hears own node disk letter body did → did.node.installed ≡ node.installed
+  hears_epoch (Group epoch) of none (Rises below e) = ap (λ (x : rules.Reaction). x.node.installed) e
+  hears_epoch (Group epoch) of none (Again same e) = ap (λ (x : rules.Reaction). x.node.installed) e
+  hears_epoch (Group epoch) of none (OldGroup below e) = ap (λ (x : rules.Reaction). x.node.installed) e
+  hears_epoch (Join epoch promise boot was claims) of none (Late n e) = ap (λ (x : rules.Reaction). x.node.installed) e
+  hears_epoch (Join epoch promise boot was claims) of none (Above g a b c e) = ap (λ (x : rules.Reaction). x.node.installed) e
+  hears_epoch (Join epoch promise boot was claims) of none (Joins g a b c e) = ap (λ (x : rules.Reaction). x.node.installed) e
+  hears_epoch (Install g) of none h = absurd (true≢false none)
+  hears_epoch (Report row) of none (StaleReport n e) = ap (λ (x : rules.Reaction). x.node.installed) e
+  hears_epoch (Report row) of none (Takes g a b c e) = ap (λ (x : rules.Reaction). x.node.installed) e
+  hears_epoch (Report row) of none (Older g a b s c d e) = ap (λ (x : rules.Reaction). x.node.installed) e
+  hears_epoch (ReportAck user version) of none (StaleAck n e) = ap (λ (x : rules.Reaction). x.node.installed) e
+  hears_epoch (ReportAck user version) of none (Clears g a b c e) = ap (λ (x : rules.Reaction). x.node.installed) e
+  hears_epoch (ReportAck user version) of none (Other g a b c e) = ap (λ (x : rules.Reaction). x.node.installed) e
+  hears_epoch other of none h = absurd of
+
+  nothing : (body : Body) → 0 < weight_of_body body → (r : rules.Reaction) → did ≡ r → r.out ≡ [] → AreSaid body did.out
   nothing body some r e none = subst (AreSaid body) (sym (ap (λ (x : rules.Reaction). x.out) e ∙ none)) (record { fits = none_says; taken = none_fit; light = some })
 
-  one : (body : Body) (answer : Letter) → maps_weight answer.body + 0 < maps_weight body → FitsMaps answer → CanBeTaken answer.body → (r : rules.Reaction) → did ≡ r → r.out ≡ answer ∷ [] → AreSaid body did.out
+  one : (body : Body) (answer : Letter) → weight_of_body answer.body + 0 < weight_of_body body → FitsMaps answer → CanBeTaken answer.body → (r : rules.Reaction) → did ≡ r → r.out ≡ answer ∷ [] → AreSaid body did.out
   one body answer less fits taken r e is = subst (AreSaid body) (sym (ap (λ (x : rules.Reaction). x.out) e ∙ is)) (record { fits = more_says answer [] fits none_says; taken = one_fits answer taken; light = less })
 
   pub are_said : (body : Body) → IsMapsBody body → rules.Hears own node disk letter body did → AreSaid body did.out

@@ -1,10 +1,11 @@
 -- What a node makes of a letter of membership or maps: what the rule of the machine leaves of both its halves.
-use Rattle.std.specs.Prelude.{◌≡◌, ◌<◌, ◌+◌, ℕ, List, [], ◌∷◌, ◌++◌, All, Bool, true, false, ⊤, Option, Some, None, option_map, Result, Ok, Err}
+use Rattle.std.specs.Prelude.{◌≡◌, List, [], ◌++◌, All, Bool, true, false, ⊤, Option, Some, None, option_map, Result, Ok, Err}
 use Rattle.mail_model.specs.Identity.{EpochId}
 use Rattle.mail_model.specs.Grammar.{IsNodeNumber}
 use Rattle.mail_model.specs.Record.{Record}
-use Rattle.object_model.specs.Letters.{Body, Letter}
-use Rattle.object_model.specs.Letters.Body.{Group, Install, Report}
+use Rattle.object_model.specs.Letters.{Membership, Body, Letter}
+use Rattle.object_model.specs.Letters.Body.{Group, Install}
+use Rattle.cluster_model.specs.Cluster as cluster
 use Rattle.cluster_model.specs.Thrown as plain
 use Rattle.cluster_model.specs.Thrown.{is_stale, with_stamps}
 use Rattle.maps_model.specs.Rules as rules
@@ -19,15 +20,17 @@ use Rattle.node_maps.specs.Hearing.{HearsBody, StopsHearing, TellsOwnRow}
 use Rattle.node_maps.specs.declared.answer.Answer.{Answer}
 use Rattle.node_maps.specs.declared.answer.Refusal.{Refusal}
 use Rattle.node_maps.specs.declared.answer.Refusal.TheVariants as refusal
-use Rattle.node_core.specs.Nodes.{node_seen, NodeKeeps, IsAsBefore}
-use Rattle.node_core.specs.Works.{Rule, NodeDid, NodeFailed, HasLearned}
+use Rattle.node_core.specs.Nodes.{node_seen, NodeKeeps, IsAsBefore, IsSameNode, IsWhole}
+use Rattle.node_core.specs.Works.{Rule, NodeDid, NodeFailed}
 use Rattle.node_core.specs.Hearing.{why_seen}
 use Rattle.node_core.specs.declared.fault.NodeFault.{NodeFault}
 use Rattle.node_core.specs.declared.fault.NodeFault.TheVariants.{Disk, Worn, NoMemory}
 use Rattle.node_core.specs.declared.outbox.Why.{Why}
 use Rattle.node_core.specs.declared.outbox.Why.TheVariants.{Stale}
 use Rattle.node_core.specs.declared.outbox.Outbox.{Outbox}
-use Rattle.whole_node.specs.Nodes.{joint_seen}
+use Rattle.node_core.specs.declared.node.Node.{Node}
+use Rattle.whole_node.specs.Nodes.{whole_seen}
+use Rattle.whole_node.specs.Forming.{forms_by, FormsOn}
 use Rattle.whole_node.specs.declared.node.WholeNode.{WholeNode}
 
 -- A Group names a node that there can be, so that its promise can be recorded.
@@ -38,16 +41,6 @@ NamesANode body = Unit {0}
 -- and a Report tells the row of its sender. So does each letter of membership and maps that a node sends.
 abbrev pub FitsMaps : Letter → Type 0
 FitsMaps letter = NamesANode letter.body × TellsOwnRow letter.from letter.body
-
--- A Group is answered by a Join and a Report by its acknowledgement, and those by nothing. So these letters come to an end.
-abbrev pub maps_weight : Body → ℕ
-maps_weight (Group epoch) = 2
-maps_weight (Report row) = 2
-maps_weight body = 1
-
-abbrev pub maps_weight_of_all : List Letter → ℕ
-maps_weight_of_all [] = 0
-maps_weight_of_all (letter ∷ letters) = maps_weight letter.body + maps_weight_of_all letters
 
 -- why a letter is thrown, in the words of the whole node
 abbrev pub why_refused : Refusal → plain.Why
@@ -65,9 +58,10 @@ is_install body = false
 abbrev pub appends_promise : Option EpochId → List Letter → Rule
 appends_promise promise sent node disk = record { node = node; disk = disk ++ promise_records promise; out = sent }
 
--- As it hears a letter the node knows its stamps, too.
-abbrev pub learns_and_promises : Body → Option EpochId → List Letter → Rule
-learns_and_promises body promise sent node disk = record { node = with_stamps body node; disk = disk ++ promise_records promise; out = sent }
+-- after an Install messages go by the membership that the maps have
+abbrev pub installs : Body → Option Membership → cluster.Node → cluster.Node
+installs (Install membership) installed node = record node { installed = installed }
+installs body installed node = node
 
 -- a promise that was due stands on the disk; where none was, nothing was changed
 pub record PromiseStands {D : Type 0} (on : View D) (promise : Option EpochId) (appended : Bool) (old : WholeNode) (before : D) (new : WholeNode) (after : D) : Type 0 where
@@ -78,13 +72,27 @@ abbrev pub MakesPromise : {D : Type 0} → View D → Option EpochId → Result 
 MakesPromise on promise (Ok appended) old before new after = PromiseStands on promise appended old before new after
 MakesPromise on promise (Err fault) old before new after = NodeFailed on (appends_promise promise []) ⊤ fault old.mail before new.mail after
 
+-- messages go by this membership where the letter is an Install, and nothing else is changed
+pub record SharesInstall (body : Body) (installed : Option Membership) (old new : Node) : Type 0 where
+  pub seen : node_seen new ≡ installs body installed (node_seen old)
+  pub store : new.store ≡ old.store
+  pub same : IsSameNode old new
+  pub whole : IsWhole old → IsWhole new
+
+-- so it is, and the node knows the stamps of the letter
+pub record HasTakenIn (body : Body) (installed : Option Membership) (old new : Node) : Type 0 where
+  pub seen : node_seen new ≡ with_stamps body (installs body installed (node_seen old))
+  pub store : new.store ≡ old.store
+  pub same : IsSameNode old new
+  pub whole : IsWhole old → IsWhole new
+
 -- a letter was taken in whose promise stands
 pub record TookLetter (letter : Letter) (outbox : Outbox) (old new : WholeNode) : Type 0 where
   pub answer : Answer
   pub heard : HearsBody old.maps letter letter.body answer new.maps
   pub letters : outbox.letters ≡ answer.letters
   pub thrown : option_map why_seen outbox.thrown ≡ option_map why_refused answer.thrown
-  pub learned : HasLearned letter.body old.mail new.mail
+  pub taken : HasTakenIn letter.body new.maps.group.installed old.mail new.mail
 
 abbrev pub TakesLetter : {E : Type 0} → Letter → Result Outbox E → WholeNode → WholeNode → Type 0
 TakesLetter letter (Ok outbox) old new = TookLetter letter outbox old new
@@ -95,20 +103,20 @@ module _ {D : Type 0} (on : View D) (letter : Letter) (old : WholeNode) (before 
   pub record LeftByRule (records : List Record) (sent : List Letter) : Type 0 where
     pub did : rules.Reaction
     pub hears : rules.Hears old.mail.store.own (node_of old.maps) (maps_disk_of records) letter letter.body did
-    pub left : record { node = joint_seen new; disk = records ++ promise_records (promise_by (node_of old.maps) letter.body); out = sent }
-        ≡ done_for_maps (learnt (joint_seen old) letter.body) records did (promise_by (node_of old.maps) letter.body) did.out
+    pub left : record { node = whole_seen new; disk = records ++ promise_records (promise_by (node_of old.maps) letter.body); out = sent }
+        ≡ done_for_maps (learnt (whole_seen old) letter.body) records did (promise_by (node_of old.maps) letter.body) did.out
 
   -- The letter was looked at: it was heard, or refused as one of membership. One that is old is answered all the same.
   pub record LookedAt (thrown : Option Why) (sent : List Letter) : Type 0 where
-    pub within : is_stale letter old.maps.group.installed ≡ false
+    pub within : is_stale letter (node_seen old.mail).installed ≡ false
     pub refused : option_map why_seen thrown ≡ refused_by old.mail.store.own (node_of old.maps) letter.body
     pub rule : (records : List Record) → NodeKeeps records old.mail → LeftByRule records sent
-    pub mail : NodeDid on (learns_and_promises letter.body (promise_by (node_of old.maps) letter.body) sent) old.mail before new.mail after sent
+    pub mail : FormsOn on (with_stamps letter.body) (node_of new.maps).installed (promise_by (node_of old.maps) letter.body) old.mail before new.mail after sent
     pub fits : All FitsMaps sent
 
   -- It was thrown before the node looked at it, and changed nothing: it is of another epoch.
   pub record ThrownStale (sent : List Letter) : Type 0 where
-    pub stale : is_stale letter old.maps.group.installed ≡ true
+    pub stale : is_stale letter (node_seen old.mail).installed ≡ true
     pub none : sent ≡ []
     pub as_before : IsAsBefore old.mail new.mail
     pub maps : new.maps ≡ old.maps
@@ -128,5 +136,5 @@ module _ {D : Type 0} (on : View D) (letter : Letter) (old : WholeNode) (before 
   -- A letter is looked at, or stale. Its work stops only where it is looked at: of the promise that it makes due a prefix stands, the next record may, and nothing is sent.
   abbrev pub HearsOfMaps : Result Outbox NodeFault → Type 0
   HearsOfMaps (Ok outbox) = LookedAtOrStale outbox.thrown outbox.letters
-  HearsOfMaps (Err fault) = NodeFailed on (learns_and_promises letter.body (promise_by (node_of old.maps) letter.body) []) (is_stale letter old.maps.group.installed ≡ false) fault old.mail before new.mail after
+  HearsOfMaps (Err fault) = NodeFailed on (forms_by (with_stamps letter.body) None (promise_by (node_of old.maps) letter.body) []) (is_stale letter (node_seen old.mail).installed ≡ false) fault old.mail before new.mail after
       × KeepsMaps fault

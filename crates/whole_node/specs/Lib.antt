@@ -3,6 +3,7 @@ pub mod Noting
 pub mod Following
 pub mod Starting
 pub mod Restarting
+pub mod Forming
 pub mod Hearing
 pub mod Grouping
 pub mod Reporting

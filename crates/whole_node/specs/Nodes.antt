@@ -18,18 +18,15 @@ use Rattle.whole_node.specs.declared.node.WholeNode.{WholeNode}
 abbrev pub whole_seen : WholeNode → whole.Node
 whole_seen node = record { mail = node_seen node.mail; maps = node_of node.maps }
 
--- and where both halves have the membership that its maps have installed
-abbrev pub joint_seen : WholeNode → whole.Node
-joint_seen node = record { mail = record (node_seen node.mail) { installed = node.maps.group.installed }; maps = node_of node.maps }
-
 -- the maps know of each message whether these records say that it is here
 abbrev pub KnowsHere : List Record → NodeMaps → Type 0
 KnowsHere records maps = (user : List ℕ) (id : Id) → is_here_in maps.fragments user id ≡ is_here_held (said (Message user id) records)
 
--- The maps are those of this node in this boot, and know what its disk says is here.
+-- The maps are those of this node in this boot, messages go by the membership that they have installed, and they know what its disk says is here.
 pub record HasMaps (node : WholeNode) : Type 0 where
   pub own : own_of node.maps ≡ node.mail.store.own
   pub boot : (node_of node.maps).boot ≡ (node_seen node.mail).boot
+  pub epoch : (node_seen node.mail).installed ≡ node.maps.group.installed
   pub records : List Record
   pub keeps : NodeKeeps records node.mail
   pub knows : KnowsHere records node.maps

@@ -10,7 +10,7 @@ use Rattle.whole_world.specs.Steps.{most_reports}
 use Rattle.whole_world.specs.Makes.{done_for_maps}
 use Rattle.node_maps.specs.Nodes.{node_of}
 use Rattle.node_core.specs.Nodes.{NodeKeeps}
-use Rattle.whole_node.specs.Nodes.{joint_seen}
+use Rattle.whole_node.specs.Nodes.{whole_seen}
 use Rattle.whole_node.specs.Hearing.{FitsMaps}
 use Rattle.whole_node.specs.declared.node.WholeNode.{WholeNode}
 
@@ -22,7 +22,7 @@ users_first membership to room node = due_users membership.map to (min room most
 pub record ReportedBy (to room : ℕ) (membership : Membership) (letters : List Letter) (node : WholeNode) (records : List Record) : Type 0 where
   pub did : rules.Reaction
   pub reports : rules.Reports node.mail.store.own to (users_first membership to room node) (node_of node.maps) (maps_disk_of records) did
-  pub left : record { node = joint_seen node; disk = records ++ promise_records None; out = letters } ≡ done_for_maps (joint_seen node) records did None did.out
+  pub left : record { node = whole_seen node; disk = records ++ promise_records None; out = letters } ≡ done_for_maps (whole_seen node) records did None did.out
 
 -- Nothing goes to the node itself, nor where no epoch is installed.
 pub record ReportsTo (to room : ℕ) (letters : List Letter) (node : WholeNode) : Type 0 where

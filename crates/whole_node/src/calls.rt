@@ -1,5 +1,5 @@
 //! The calls of a node, and its maps after them.
-ghost use Rattle.std.specs.Prelude.{◌≡◌, ◌<◌, ℕ, List, Option, IfOk, is_some};
+ghost use Rattle.std.specs.Prelude.{◌≡◌, ◌<◌, ℕ, List, All, Option, IfOk, is_some};
 ghost use Rattle.mail_model.specs.Plan.{Plan as PlainPlan};
 ghost use Rattle.mail_model.specs.Identity.Key.{Message};
 ghost use Rattle.cluster_model.specs.Deeds.{hear};
@@ -15,6 +15,7 @@ ghost use Rattle.node_core.specs.Works.{LeavesUp};
 ghost use Rattle.node_core.specs.Beginning.{NodeBegins, IsTextEnded, call_seen};
 ghost use Rattle.node_core.specs.Hearing.{HearsLetter};
 ghost use Rattle.node_core.specs.Pushing.{PushesOut, WidensCopy};
+ghost use Rattle.whole_node.specs.Hearing.{FitsMaps};
 ghost use Rattle.whole_node.specs.Nodes.{WholeWorks};
 ghost use Rattle.whole_node.specs.Following.{FollowsRule, FollowsLetter, FollowsCall};
 
@@ -46,6 +47,7 @@ impl WholeNode {
         requires ended { IsTextEnded (call_seen call) }
         ensures begins { (plan : PlainPlan) (own : ℕ) → IsNodeOf plan own self.old.mail → users.now ≡ plan.users → NodeBegins (view_of D.seen D.faults D.clock) plan own seconds (call_seen call) self.old.mail disk.old self.new.mail disk.new result }
         ensures follows { (plan : PlainPlan) (own : ℕ) → IsNodeOf plan own self.old.mail → users.now ≡ plan.users → FollowsCall (view_of D.seen D.faults D.clock) plan own seconds (call_seen call) result self.old disk.old self.new disk.new }
+        ensures fits { IfOk result (λ begun. All FitsMaps (begun.1).letters) }
         ensures works { LeavesUp result → WholeWorks (D.seen disk.new) self.new }
         ensures settled { LeavesUp result → D.settled disk.old → D.settled disk.new }
     {
@@ -67,6 +69,7 @@ impl WholeNode {
         requires spelt { CanBeTaken letter.now.body }
         ensures hears { (plan : PlainPlan) (own : ℕ) → IsNodeOf plan own self.old.mail → HearsLetter (view_of D.seen D.faults D.clock) own plan.nodes letter.now self.old.mail disk.old self.new.mail disk.new result }
         ensures follows { (plan : PlainPlan) (own : ℕ) → IsNodeOf plan own self.old.mail → FollowsLetter (λ node disk. hear own plan.nodes node disk letter.now) result self.old self.new }
+        ensures fits { IfOk result (λ outbox. All FitsMaps outbox.letters) }
         ensures works { LeavesUp result → WholeWorks (D.seen disk.new) self.new }
         ensures light { IfOk result (λ outbox. weight_of_all outbox.letters < weight_of letter.now) }
         ensures settled { LeavesUp result → D.settled disk.old → D.settled disk.new }
@@ -97,6 +100,7 @@ impl WholeNode {
         requires works { WholeWorks (D.seen disk.old) self.old }
         ensures pushes { (plan : PlainPlan) (own : ℕ) → IsNodeOf plan own self.old.mail → PushesOut (view_of D.seen D.faults D.clock) own to most room self.old.mail disk.old self.new.mail disk.new result }
         ensures maps { self.new.maps ≡ self.old.maps }
+        ensures fits { IfOk result (λ outbox. All FitsMaps outbox.letters) }
         ensures works { LeavesUp result → WholeWorks (D.seen disk.new) self.new }
         ensures settled { D.settled disk.old → D.settled disk.new }
     {

@@ -3,7 +3,7 @@ ghost use Rattle.std.specs.Prelude.{◌≡◌, ◌≤◌, ◌<◌, ℕ, List, Op
 ghost use Rattle.node_store.specs.Disks.{view_of};
 ghost use Rattle.node_core.specs.Works.{LeavesUp};
 ghost use Rattle.whole_node.specs.Nodes.{WholeWorks};
-ghost use Rattle.whole_node.specs.Grouping.{OpensGroup, ConcludesGroup};
+ghost use Rattle.whole_node.specs.Grouping.{OpensGroup, ConcludesBoth, ConcludesGroup};
 
 use crate::node::WholeNode;
 use io_edge::Disk;
@@ -63,8 +63,26 @@ impl WholeNode {
         }
     }
 
-    /// Concludes the open group: those who joined are the members, and each of so many buckets gets its manager. Nothing exactly
-    /// where no group is open, and nothing changes.
+    // The maps conclude the open group, and messages go by its epoch.
+    fn conclude_both(
+        &mut self,
+        alloc: Global,
+        buckets: u32,
+    ) -> Result<Option<Concluded>, AllocError>
+        requires some { 0 < buckets }
+        ensures { ConcludesBoth buckets result self.old self.new }
+    {
+        match self.maps.conclude(alloc, buckets)? {
+            Some(done) => {
+                self.share_epoch()?;
+                Ok(Some(done))
+            }
+            None => Ok(None),
+        }
+    }
+
+    /// Concludes the open group: those who joined are the members, and each of so many buckets gets its manager. Messages go by
+    /// its epoch from now on. Nothing exactly where no group is open, and nothing changes.
     ///
     /// # Errors
     ///
@@ -74,7 +92,7 @@ impl WholeNode {
         ensures concludes { (seen : Option (List ℕ)) → WholeWorks seen self.old → ConcludesGroup buckets result self.old self.new }
         ensures works { (seen : Option (List ℕ)) → WholeWorks seen self.old → LeavesUp result → WholeWorks seen self.new }
     {
-        match self.maps.conclude(alloc, buckets) {
+        match self.conclude_both(alloc, buckets) {
             Ok(done) => Ok(done),
             Err(AllocError) => Err(NodeFault::NoMemory { down: true }),
         }

@@ -1,5 +1,5 @@
 //! A letter that is heard.
-ghost use Rattle.std.specs.Prelude.{◌≡◌, ◌<◌, ℕ, IfOk};
+ghost use Rattle.std.specs.Prelude.{◌<◌, ℕ, All, IfOk};
 ghost use Rattle.mail_model.specs.Plan.{Plan as PlainPlan};
 ghost use Rattle.cluster_model.specs.Deeds.{hear};
 ghost use Rattle.whole_model.specs.Rules.{IsMailBody, IsMapsBody};
@@ -11,7 +11,7 @@ ghost use Rattle.node_core.specs.Works.{LeavesUp};
 ghost use Rattle.node_core.specs.Hearing.{HearsLetter};
 ghost use Rattle.whole_node.specs.Nodes.{WholeWorks};
 ghost use Rattle.whole_node.specs.Following.{FollowsLetter};
-ghost use Rattle.whole_node.specs.Hearing.{FitsMaps, HearsOfMaps, maps_weight, maps_weight_of_all};
+ghost use Rattle.whole_node.specs.Hearing.{FitsMaps, HearsOfMaps};
 
 use crate::hearing::is_of_maps;
 use crate::node::WholeNode;
@@ -38,9 +38,9 @@ impl WholeNode {
         requires fits { FitsMaps letter.now }
         ensures hears { IsMailBody letter.now.body → (plan : PlainPlan) (own : ℕ) → IsNodeOf plan own self.old.mail → HearsLetter (view_of D.seen D.faults D.clock) own plan.nodes letter.now self.old.mail disk.old self.new.mail disk.new result }
         ensures follows { IsMailBody letter.now.body → (plan : PlainPlan) (own : ℕ) → IsNodeOf plan own self.old.mail → FollowsLetter (λ node disk. hear own plan.nodes node disk letter.now) result self.old self.new }
-        ensures light { IsMailBody letter.now.body → IfOk result (λ outbox. weight_of_all outbox.letters < weight_of letter.now) }
         ensures maps { IsMapsBody letter.now.body → HearsOfMaps (view_of D.seen D.faults D.clock) letter.now self.old disk.old self.new disk.new result }
-        ensures brief { IsMapsBody letter.now.body → IfOk result (λ outbox. maps_weight_of_all outbox.letters < maps_weight letter.now.body) }
+        ensures fits { IfOk result (λ outbox. All FitsMaps outbox.letters) }
+        ensures light { IfOk result (λ outbox. weight_of_all outbox.letters < weight_of letter.now) }
         ensures works { LeavesUp result → WholeWorks (D.seen disk.new) self.new }
         ensures settled { LeavesUp result → D.settled disk.old → D.settled disk.new }
     {

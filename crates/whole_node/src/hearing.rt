@@ -1,8 +1,6 @@
 //! Letters of membership and maps.
-ghost use Rattle.std.specs.Prelude.{◌≡◌, ◌↔◌, ◌<◌, ◌||◌, [], Some, IfOk, IsTrue, option_map};
-ghost use Rattle.object_model.specs.Keys.{is_same_epoch};
+ghost use Rattle.std.specs.Prelude.{◌≡◌, ◌↔◌, ◌<◌, ◌||◌, [], Some, All, IfOk, IsTrue, option_map};
 ghost use Rattle.mail_base.specs.Bodies.{body_seen};
-ghost use Rattle.cluster_model.specs.Thrown.{is_stale};
 ghost use Rattle.whole_model.specs.Rules.{IsMapsBody};
 ghost use Rattle.whole_world.specs.Makes.{promise_by};
 ghost use Rattle.node_store.specs.Disks.{view_of};
@@ -10,16 +8,17 @@ ghost use Rattle.node_maps.specs.Nodes.{node_of};
 ghost use Rattle.node_maps.specs.Hearing.{TellsOwnRow};
 ghost use Rattle.node_core.specs.Nodes.{CanWork};
 ghost use Rattle.node_core.specs.Hearing.{why_seen};
+ghost use Rattle.node_core.specs.Weights.{weight_of, weight_of_all};
 ghost use Rattle.node_core.specs.Works.{LeavesUp};
 ghost use Rattle.node_core.specs.declared.fault.NodeFault.TheVariants.{NoMemory};
 ghost use Rattle.node_core.specs.declared.outbox.Why.TheVariants.{Stale};
 ghost use Rattle.whole_node.specs.Nodes.{WholeWorks};
-ghost use Rattle.whole_node.specs.Hearing.{NamesANode, FitsMaps, maps_weight, maps_weight_of_all, why_refused, is_install, MakesPromise, TakesLetter, HearsOfMaps};
+ghost use Rattle.whole_node.specs.Hearing.{NamesANode, FitsMaps, why_refused, is_install, MakesPromise, TakesLetter, HearsOfMaps};
 
 use crate::node::WholeNode;
 use io_edge::Disk;
-use mail_base::{Body, EpochId, Letter, Sequence};
-use node_core::{NodeFault, Outbox, Why, has_epoch};
+use mail_base::{Body, Letter, Sequence};
+use node_core::{NodeFault, Outbox, Why};
 use node_maps::{Answer, Refusal, tells_own_row};
 use std::alloc::{AllocError, Global};
 
@@ -84,7 +83,8 @@ pub fn fits_maps(letter: &Letter) -> bool
     names_a_node(&letter.body) && tells_own_row(letter)
 }
 
-fn is_install(body: &Body) -> bool
+/// Whether it is an Install.
+pub(crate) fn is_install(body: &Body) -> bool
     ensures { result ≡ is_install (body_seen body.now) }
 {
     match body {
@@ -115,12 +115,6 @@ fn goes_down(promised: bool, body: &Body) -> bool
     ensures { result ≡ (promised || is_install (body_seen body.now)) }
 {
     promised || is_install(body)
-}
-
-fn is_same(a: &EpochId, b: &EpochId) -> bool
-    ensures { result ≡ is_same_epoch a.now b.now }
-{
-    a.count == b.count && a.node == b.node
 }
 
 fn why_of(refusal: Refusal) -> Why
@@ -172,16 +166,6 @@ fn no_memory(down: bool) -> NodeFault
 }
 
 impl WholeNode {
-    // Whether the letter carries another epoch than the one that is installed.
-    fn is_stale(&self, letter: &Letter) -> bool
-        ensures { result ≡ is_stale letter.now self.now.maps.group.installed }
-    {
-        match self.maps.group().installed() {
-            Some(install) => has_epoch(&letter.body) && !is_same(&letter.epoch, &install.epoch),
-            None => has_epoch(&letter.body),
-        }
-    }
-
     // Appends the promise that a letter of this body makes due, and answers whether there was one.
     fn promise_for<D: Disk>(
         &mut self,
@@ -204,12 +188,14 @@ impl WholeNode {
         }
     }
 
-    // The letter is taken in. The promise that it makes due stands on the disk.
+    // The letter is taken in. The promise that it makes due stands on the disk. After an Install messages go by the epoch that the
+    // maps have.
     fn take_letter(&mut self, alloc: Global, letter: &Letter) -> Result<Outbox, AllocError>
         requires row { TellsOwnRow letter.now.from letter.now.body }
         ensures { TakesLetter letter.now result self.old self.new }
     {
         let answer = self.maps.hear(alloc, letter)?;
+        self.share_after(&letter.body)?;
         self.mail.learn(&letter.body);
         Ok(outbox_of(answer))
     }
@@ -233,10 +219,11 @@ impl WholeNode {
         requires fits { FitsMaps letter.now }
         ensures hears { HearsOfMaps (view_of D.seen D.faults D.clock) letter.now self.old disk.old self.new disk.new result }
         ensures works { LeavesUp result → WholeWorks (D.seen disk.new) self.new }
-        ensures light { IfOk result (λ outbox. maps_weight_of_all outbox.letters < maps_weight letter.now.body) }
+        ensures fits { IfOk result (λ outbox. All FitsMaps outbox.letters) }
+        ensures light { IfOk result (λ outbox. weight_of_all outbox.letters < weight_of letter.now) }
         ensures settled { LeavesUp result → D.settled disk.old → D.settled disk.new }
     {
-        if self.is_stale(letter) {
+        if self.mail.is_stale(letter) {
             return Ok(stale(alloc));
         }
         let promised = self.promise_for(alloc, disk, &letter.body)?;

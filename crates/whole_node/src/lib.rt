@@ -9,7 +9,7 @@
 //!
 //! | Call | What is done beside the work of `node_core` |
 //! |---|---|
-//! | `first` | the node has the maps of an empty disk |
+//! | `first` | the node promises the first epoch, and enters it: all nodes of the plan are its members |
 //! | `over` | a node that has started gets its maps, with each message that is here |
 //! | `start` | the node starts over its disk, and so it gets its maps: it has the last promise, and no epoch |
 //! | `begin` | the copies that the node files or deletes itself are noted in its maps |
@@ -28,7 +28,8 @@
 //!
 //! Contracts say of the half for messages what `node_core` says. Beside that the maps are what `follows` of `whole_model`
 //! makes of them by the records that were appended. `WholeWorks` is what holds of a node between its calls: the `Node` can work,
-//! and its maps know of each message whether its disk says that it is here.
+//! its maps know of each message whether its disk says that it is here, and messages go by the epoch that the maps have
+//! installed. A node that has started has none.
 //!
 //! DIAGNOSTICS
 //!
@@ -46,11 +47,12 @@
 //!
 //! WHAT IT DOES NOT DO
 //!
-//! The half for messages still has all nodes of the plan as members: an epoch is known to the maps alone. A world has its nodes
-//! hear letters of messages alone (`hear_mail`), and forms no groups yet.
+//! It sends no letter, and knows of no other node: whoever has several hands on their letters.
 #![tactic(auto)]
 
 mod calls;
+mod epoch;
+mod first;
 mod grouping;
 mod hear;
 mod hearing;

@@ -1,5 +1,5 @@
 //! A node that starts over its disk.
-ghost use Rattle.std.specs.Prelude.{◌≡◌, ◌≤◌, ◌+◌, List, IfOk, OnOk};
+ghost use Rattle.std.specs.Prelude.{◌≡◌, ◌≤◌, ◌+◌, List, None, IfOk, OnOk};
 ghost use Rattle.io_edge.specs.Octets.{IsToldAlike};
 ghost use Rattle.mail_model.specs.Record.{Record};
 ghost use Rattle.maps_model.specs.Cluster.{Disk as PlainDisk};
@@ -19,6 +19,7 @@ use std::alloc::{AllocError, Global};
 // A node that has started, with its maps over the users of whom its disk says something.
 fn with_maps(alloc: Global, mail: Node, promise: EpochId) -> Result<WholeNode, AllocError>
     requires whole { IsWhole mail }
+    requires without { (node_seen mail).installed ≡ None }
     requires some { (records : List Record) × NodeKeeps records mail }
     ensures mail { IfOk result (λ node. node.mail ≡ mail) }
     ensures has_maps { IfOk result (λ node. HasMaps node) }

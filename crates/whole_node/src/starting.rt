@@ -1,6 +1,5 @@
 //! A node that has started, with the maps that its disk says.
-ghost use Rattle.std.specs.Prelude.{◌≡◌, ◌≤◌, ◌+◌, ◌&&◌, ◌||◌, ℕ, [], List, IfOk, IfSome, OnOk};
-ghost use Rattle.io_edge.specs.Octets.{IsToldAlike};
+ghost use Rattle.std.specs.Prelude.{◌≡◌, ◌+◌, ◌&&◌, ◌||◌, ℕ, List, None, IfOk, OnOk};
 ghost use Rattle.std.specs.Ordering.{nat_cmp, eq_by_cmp};
 ghost use Rattle.std.specs.Cmp.Lexicographic.{slice_cmp};
 ghost use Rattle.mail_model.specs.Identity.{Id};
@@ -12,16 +11,13 @@ ghost use Rattle.maps_model.specs.Cluster.{Disk as PlainDisk};
 ghost use Rattle.maps_model.specs.Rules.{started};
 ghost use Rattle.mailbox_fragment.specs.Here.{is_here_in, has_id};
 ghost use Rattle.map_rebuild.specs.Users.{has_user};
-ghost use Rattle.node_store.specs.Disks.{view_of};
 ghost use Rattle.node_core.specs.Nodes.{node_seen, NodeKeeps, IsWhole};
 ghost use Rattle.node_maps.specs.Nodes.{node_of, own_of};
 ghost use Rattle.whole_node.specs.Nodes.{HasMaps, KeepsNamed};
-ghost use Rattle.whole_node.specs.Starting.{StartsFirstWhole};
 
 use crate::node::WholeNode;
-use io_edge::Disk;
-use mail_base::{EpochId, MsgId, Name, NodeNo, Plan};
-use node_core::{Node, NodeFault};
+use mail_base::{EpochId, MsgId, Name};
+use node_core::Node;
 use node_maps::NodeMaps;
 use std::alloc::{AllocError, Global};
 
@@ -75,6 +71,7 @@ fn maps_over(
     users: &[Name],
 ) -> Result<NodeMaps, AllocError>
     requires whole { IsWhole mail.now }
+    requires without { (node_seen mail.now).installed ≡ None }
     requires named { KeepsNamed users.now mail.now }
     ensures has_maps { IfOk result (λ maps. HasMaps (record { mail = mail.now; maps = maps })) }
     ensures starts { IfOk result (λ maps. (image : PlainDisk) → image.boot + 1 ≡ (node_seen mail.now).boot → image.promise ≡ promise → node_of maps ≡ started image) }
@@ -101,6 +98,7 @@ impl WholeNode {
         users: &[Name],
     ) -> Result<WholeNode, AllocError>
         requires whole { IsWhole mail }
+        requires without { (node_seen mail).installed ≡ None }
         requires named { KeepsNamed users.now mail }
         ensures mail { IfOk result (λ node. node.mail ≡ mail) }
         ensures has_maps { IfOk result (λ node. HasMaps node) }
@@ -109,34 +107,6 @@ impl WholeNode {
         match maps_over(alloc, &mail, promise, users) {
             Ok(maps) => Ok(WholeNode { mail, maps }),
             Err(AllocError) => Err(AllocError),
-        }
-    }
-
-    /// Makes the journal of a node on its disk, which is empty, and starts the node in its first boot, as `Node::first`. No
-    /// message is here, and no epoch was promised.
-    ///
-    /// # Errors
-    ///
-    /// It is never `Worn`. After an error the disk has to be emptied before it is tried again.
-    pub fn first<D: Disk>(
-        alloc: Global,
-        disk: &mut D,
-        plan: &Plan,
-        number: NodeNo,
-    ) -> Result<WholeNode, NodeFault>
-        requires empty { IfSome (D.seen disk.old) (λ held. held ≡ []) }
-        requires within { number ≤ plan.now.nodes }
-        requires few { plan.now.nodes ≤ 16 }
-        requires copies { 1 ≤ plan.now.copies }
-        ensures starts { StartsFirstWhole (view_of D.seen D.faults D.clock) plan.now number disk.old disk.new result }
-        ensures told { IsToldAlike (D.seen disk.old) (D.seen disk.new) }
-        ensures faults { D.faults disk.old ≤ D.faults disk.new }
-        ensures settled { OnOk result (D.settled disk.new) }
-    {
-        let mail = Node::first(alloc, disk, plan, number)?;
-        match WholeNode::over(alloc, mail, EpochId::none(), &[]) {
-            Ok(node) => Ok(node),
-            Err(AllocError) => Err(NodeFault::NoMemory { down: true }),
         }
     }
 }

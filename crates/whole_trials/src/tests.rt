@@ -1,9 +1,9 @@
 //! Three whole nodes by hand: what each answers, and which letters it sends.
 //!
 //! A table is a text. Each line begins with what is done, in six columns, and goes on behind ` >` with what comes of it. All
-//! nodes are up in their first boots as a table begins. A letter is named by its kind, its sender and its receiver, as `G12`; of
-//! several that are named alike the first in flight is meant. The kinds are Group, Join, Install, Report and A for its
-//! acknowledgement, File and f for Filed.
+//! nodes are up in their first boots as a table begins, and in no epoch; those of `tests/openings.rt` are in the first one. A
+//! letter is named by its kind, its sender and its receiver, as `G12`; of several that are named alike the first in flight is
+//! meant. The kinds are Group, Join, Install, Report and A for its acknowledgement, File and f for Filed.
 //!
 //! ```text
 //! s 3    > 2 1.1           node 3 starts: its boot, and the last promise on its disk
@@ -22,6 +22,7 @@
 //! ```
 mod cluster;
 mod lines;
+mod openings;
 mod orders;
 mod rounds;
 mod rows;

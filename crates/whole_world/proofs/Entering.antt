@@ -7,6 +7,7 @@ use Rattle.object_model.specs.Lists.{Among}
 use Rattle.object_model.specs.Letters.{Member, MapRow, Membership, Letter}
 use Rattle.object_model.specs.Letters.Body.{Install}
 use Rattle.object_model.proofs.Lists.{among_front, among_behind, among_either}
+use Rattle.cluster_model.specs.Cluster.{set_of_members}
 use Rattle.cluster_model.specs.Room.{Flight}
 use Rattle.maps_model.specs.Cluster as maps
 use Rattle.maps_model.specs.Epochs.{IsBefore}
@@ -238,6 +239,35 @@ module _ (plan : Plan) (tells : Bool) (w : World) (n : ℕ) (y : maps.Node) (her
               either rest false false h = rest a b e f
               either rest true false h = absurd (true≢false h)
               either rest false true h = absurd (true≢false (sym h))
+
+  -- what it told is the epoch of the open group, and the nodes that joined it
+  pub concluded_tells : (members : ℕ) (formed : World) → MakesStep plan tells w (ConcludeGroup n) (Says (Concluded epoch members)) formed
+      → (epoch ≡ group.epoch) × (members ≡ set_of_members (map (λ join. join.member) group.joins))
+  concluded_tells members formed (fits, ForMessages one step answer says for_mail does follow) = absurd (cc step)
+  concluded_tells members formed (fits, PostsMaps number keep step h) = absurd (cc step)
+  concluded_tells members formed (fits, Starts m step h) = absurd (cc step)
+  concluded_tells members formed (fits, OpensGroup m step g) = absurd (cc step)
+  concluded_tells members formed (fits, SendsReports from to step h) = absurd (cc step)
+  concluded_tells members formed (fits, ConcludesGroup m step f) = by (subst (λ k. Forms plan w k (Concluded epoch members) formed) (same m step) f)
+    where
+      same : (m : ℕ) → ConcludeGroup n ≡ ConcludeGroup m → m ≡ n
+      same m e = cc
+
+      epochs : (a b : EpochId) (s t : ℕ) → Concluded a s ≡ Concluded b t → a ≡ b
+      epochs a b s t e = cc
+
+      masks : (a b : EpochId) (s t : ℕ) → Concluded a s ≡ Concluded b t → s ≡ t
+      masks a b s t e = cc
+
+      by : Forms plan w n (Concluded epoch members) formed → (epoch ≡ group.epoch) × (members ≡ set_of_members (map (λ join. join.member) group.joins))
+      by f =
+          let node_is : f.node.maps ≡ y = some_same (Some f.node.maps) f.node.maps y refl (sym (up_view w n f.node f.disk f.up) ∙ here) in
+          let c = f.concludes in
+          let groups : c.group ≡ group = some_same y.group c.group group (ap (λ (k : maps.Node). k.group) (sym node_is) ∙ c.opened) opened in
+          let told : ℕ = set_of_members (map (λ join. join.member) c.group.joins) in (
+            epochs epoch c.group.epoch members told f.said_is ∙ ap (λ (k : maps.OpenGroup). k.epoch) groups,
+            masks epoch c.group.epoch members told f.said_is ∙ ap (λ (k : maps.OpenGroup). set_of_members (map (λ join. join.member) k.joins)) groups,
+          )
 
 -- the Installs of these joins
 module _ (n : ℕ) (g : Membership) where

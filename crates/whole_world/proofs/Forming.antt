@@ -25,13 +25,13 @@ use Rattle.whole_world.specs.Steps.Said.{Concluded}
 use Rattle.whole_world.specs.Steps.StepOutcome.{Says}
 use Rattle.whole_world.specs.Makes.{MakesStep}
 use Rattle.whole_world.specs.Laws.{Stands}
-use Rattle.whole_world.specs.Regroup.{PostsEach, ThrownOld, Regroups, maps_at, AreNumbered, HasRoomFor, HasFormed}
+use Rattle.whole_world.specs.Regroup.{PostsEach, ThrownOld, Round, ConcludesAll, Regroups, maps_at, AreNumbered, HasRoomFor, HasFormed}
 use Rattle.whole_world.specs.Regroup.Regroups.{AtOnce, Again}
 use Rattle.whole_world.proofs.Along.{maps_here}
 use Rattle.whole_world.proofs.Turning.{ordered}
 use Rattle.whole_world.proofs.Viewing.{numbered, AreLight, AllPut, put_all}
 use Rattle.whole_world.proofs.Rounding.{some_same, none_some, view_up, RoundDone, round_done}
-use Rattle.whole_world.proofs.Entering.{round_stands, member_found, IsReadyAt, AllEntered, Formed, concludes_group, install_to, installs_few, installs_light, installs_of, installs_to, installs_all}
+use Rattle.whole_world.proofs.Entering.{round_stands, member_found, IsReadyAt, AllEntered, Formed, concludes_group, concluded_tells, install_to, installs_few, installs_light, installs_of, installs_to, installs_all}
 
 module _ (plan : Plan) (tells : Bool) (old : World) (stands : Stands plan old) (low : AreNumbered old) (room : HasRoomFor (suc plan.nodes) old.flying) (n : ℕ) (epoch : EpochId) (saids : List Said) (mid : World)
     (r : RoundDone old mid n epoch saids plan.nodes) (newest : (q : ℕ) (z : maps.Node) → maps_at mid q ≡ Some z → IsBefore epoch z.promise → Among ThrownOld saids → ⊥) where
@@ -128,10 +128,11 @@ module _ (plan : Plan) (tells : Bool) (old : World) (stands : Stands plan old) (
         lengths : (a b c d : ℕ) → a ≡ b + c → a ≡ b + d → c ≡ d
         lengths a b c d p q = omega (arith, p, q)
 
-    pub forms : HasFormed epoch old new
+    pub forms : HasFormed epoch members old new
     forms = record {
       membership = g;
       epoch_is = r.same;
+      members_are = (concluded_tells plan tells mid n r.y r.here r.group r.opened epoch members formed concludes).1;
       all_up = all_up;
       only_up = λ q boot names. let j = found_joined r.group.joins q names.member names.is in let k = r.from j.0 j.1 in
           (k.0, ap (maps_at old) (sym j.2) ∙ k.1, k.2 ∙ ap (λ (m : Member). m.boot) j.3 ∙ names.same);
@@ -165,75 +166,99 @@ module _ (plan : Plan) (tells : Bool) (old : World) (stands : Stands plan old) (
                   subst (maps.NamesNode g q) (sym (kept.boot ∙ s.2.boot)) (names_of q s.0.boot joined u h),
                 )
 
+-- what was concluded is the epoch of the round before it
+same_epoch : (plan : Plan) (tells : Bool) (old mid new : World) (n : ℕ) (opened epoch : EpochId) (members : ℕ) (saids : List Said) (r : RoundDone old mid n opened saids plan.nodes)
+    → ConcludesAll plan tells mid n epoch members new → epoch ≡ opened
+same_epoch plan tells old mid new n opened epoch members saids r c = (concluded_tells plan tells mid n r.y r.here r.group r.opened epoch members c.formed c.concludes).0 ∙ r.same
+
+formed_at_once : (plan : Plan) (tells : Bool) (old new : World) (n : ℕ) (epoch : EpochId) (members : ℕ) → Stands plan old → AreNumbered old → HasRoomFor (suc plan.nodes) old.flying
+    → (saids : List Said) (mid : World) → Round plan tells old n epoch saids mid → (Among ThrownOld saids → ⊥) → ConcludesAll plan tells mid n epoch members new → HasFormed epoch members old new
+formed_at_once plan tells old new n epoch members stands low room saids mid round none c =
+    forms plan tells old stands low room n epoch saids mid (round_done plan tells old stands low room n epoch saids mid round) (λ q z h b m. none m) members c.formed c.concludes c.installs new c.posts c.all_posted
+
+-- A second round follows the first.
+module _ (plan : Plan) (tells : Bool) (old new : World) (n : ℕ) (epoch : EpochId) (members : ℕ) (stands : Stands plan old) (low : AreNumbered old) (room : HasRoomFor (suc plan.nodes) old.flying)
+    (first : EpochId) (saids : List Said) (mid : World) (round : Round plan tells old n first saids mid) (others : List Said) (last : World) (again : Round plan tells mid n epoch others last) where
+  one : RoundDone old mid n first saids plan.nodes
+  one = round_done plan tells old stands low room n first saids mid round
+
+  mid_low : AreNumbered mid
+  mid_low = record { each = λ f m. le f.number old.sent mid.sent (low.each f (subst (Among f) one.flying m)) one.sent }
+    where
+      le : (a b c : ℕ) → a ≤ b → b ≤ c → a ≤ c
+      le a b c p q = omega (arith, p, q)
+
+  mid_stands : Stands plan mid
+  mid_stands = round_stands plan tells old n first saids mid round stands
+
+  mid_room : HasRoomFor (suc plan.nodes) mid.flying
+  mid_room = subst (HasRoomFor (suc plan.nodes)) (sym one.flying) room
+
+  pub two : RoundDone mid last n epoch others plan.nodes
+  two = round_done plan tells mid mid_stands mid_low mid_room n epoch others last again
+
+  -- the second epoch is later than all that was promised
+  newest : (q : ℕ) (z : maps.Node) → maps_at last q ≡ Some z → IsBefore epoch z.promise → Among ThrownOld others → ⊥
+  newest q z h below m = ⊎_elim
+      (λ same. let its : z ≡ two.y = some_same (maps_at last n) z two.y (ap (maps_at last) (sym same.1) ∙ h) two.here in
+      before_not_same epoch z.promise below (sym two.promise ∙ ap (λ (k : maps.Node). k.promise) (sym its)))
+      (λ apart. other apart.1 (maps_at mid q) refl)
+      (same_or_apart q n)
+    where
+      counts : (a b c : EpochId) → a.count ≡ c.count + 1 → b.count ≤ c.count → IsBefore a b → ⊥
+      counts a b c e l (inl lt) = omega (arith, e, l, lt)
+      counts a b c e l (inr s) = omega (arith, e, l, s.0)
+
+      other : q ≢ n → (o : Option maps.Node) → maps_at mid q ≡ o → ⊥
+      other apart None k = none_some z (sym (two.downs q k) ∙ h)
+      other apart (Some v) k =
+          let s = two.stays q v apart k in
+          let its : s.0 ≡ z = some_same (maps_at last q) s.0 z s.1 h in
+          let above : IsBefore epoch s.0.promise = subst (λ (t : maps.Node). IsBefore epoch t.promise) (sym its) below in
+          ⊎_elim
+          (λ same. of_first (maps_at old q) refl v k (subst (IsBefore epoch) same above))
+          (λ rose. before_not_same epoch s.0.promise above (sym rose.0))
+          s.2.promise
+        where
+          of_first : (o : Option maps.Node) → maps_at old q ≡ o → (v : maps.Node) → maps_at mid q ≡ Some v → IsBefore epoch v.promise → ⊥
+          of_first None e v k b = none_some v (sym (one.downs q e) ∙ k)
+          of_first (Some u) e v k b =
+              let t = one.stays q u apart e in
+              let same : t.0 ≡ v = some_same (maps_at mid q) t.0 v t.1 k in
+              let heard : v.promise.count ≤ two.x.heard = subst (λ (w : maps.Node). v.promise.count ≤ w.heard) (some_same (maps_at mid n) one.y two.x one.here two.before) (subst (λ (w : maps.Node). w.promise.count ≤ one.y.heard) same t.3) in
+              counts epoch v.promise (record { count = two.x.heard; node = 0 }) (ap (λ (a : EpochId). a.count) two.epoch_is) heard b
+
+  back : (q : ℕ) (v : maps.Node) → maps_at mid q ≡ Some v → (boot : ℕ) → v.boot ≡ boot → (o : Option maps.Node) → maps_at old q ≡ o → (u : maps.Node) × (maps_at old q ≡ Some u) × (u.boot ≡ boot)
+  back q v h boot e None k = absurd (none_some v (sym (one.downs q k) ∙ h))
+  back q v h boot e (Some u) k = ⊎_elim
+      (λ same. (u, k, ap (λ (t : maps.Node). t.boot) (some_same (maps_at old n) u one.x (ap (maps_at old) (sym same.1) ∙ k) one.before) ∙ sym one.boot ∙ ap (λ (t : maps.Node). t.boot) (some_same (maps_at mid n) one.y v one.here (ap (maps_at mid) (sym same.1) ∙ h)) ∙ e))
+      (λ apart. let s = one.stays q u apart.1 k in (u, k, sym s.2.boot ∙ ap (λ (t : maps.Node). t.boot) (some_same (maps_at mid q) s.0 v s.1 h) ∙ e))
+      (same_or_apart q n)
+
+  -- so it forms an epoch
+  pub formed_again : ConcludesAll plan tells last n epoch members new → HasFormed epoch members old new
+  formed_again c = record {
+    membership = done.membership;
+    epoch_is = done.epoch_is;
+    members_are = done.members_are;
+    all_up = λ q u h. ⊎_elim
+        (λ same. done.all_up q one.y (ap (maps_at mid) same.1 ∙ one.here))
+        (λ apart. let s = one.stays q u apart.1 h in done.all_up q s.0 s.1)
+        (same_or_apart q n);
+    only_up = λ q boot names. let k = done.only_up q boot names in back q k.0 k.1 boot k.2 (maps_at old q) refl;
+  }
+    where
+      done : HasFormed epoch members mid new
+      done = forms plan tells mid mid_stands mid_low mid_room n epoch others last two newest members c.formed c.concludes c.installs new c.posts c.all_posted
+
 -- a node regroups
-pub regroups_form : (plan : Plan) (tells : Bool) (old new : World) (n : ℕ) (epoch : EpochId) → Stands plan old → AreNumbered old → HasRoomFor (suc plan.nodes) old.flying → Regroups plan tells old n epoch new → HasFormed epoch old new
-regroups_form plan tells old new n epoch stands low room (AtOnce saids mid round none c) =
-    forms plan tells old stands low room n epoch saids mid (round_done plan tells old stands low room n epoch saids mid round) (λ q z h b m. none m) c.members c.formed c.concludes c.installs new c.posts c.all_posted
-regroups_form plan tells old new n epoch stands low room (Again first saids mid round some others last again c) = record {
-  membership = done.membership;
-  epoch_is = done.epoch_is;
-  all_up = λ q u h. ⊎_elim
-      (λ same. done.all_up q one.y (ap (maps_at mid) same.1 ∙ one.here))
-      (λ apart. let s = one.stays q u apart.1 h in done.all_up q s.0 s.1)
-      (same_or_apart q n);
-  only_up = λ q boot names. let k = done.only_up q boot names in back q k.0 k.1 boot k.2 (maps_at old q) refl;
-}
-  where
-    one : RoundDone old mid n first saids plan.nodes
-    one = round_done plan tells old stands low room n first saids mid round
-
-    mid_low : AreNumbered mid
-    mid_low = record { each = λ f m. le f.number old.sent mid.sent (low.each f (subst (Among f) one.flying m)) one.sent }
-      where
-        le : (a b c : ℕ) → a ≤ b → b ≤ c → a ≤ c
-        le a b c p q = omega (arith, p, q)
-
-    mid_stands : Stands plan mid
-    mid_stands = round_stands plan tells old n first saids mid round stands
-
-    mid_room : HasRoomFor (suc plan.nodes) mid.flying
-    mid_room = subst (HasRoomFor (suc plan.nodes)) (sym one.flying) room
-
-    two : RoundDone mid last n epoch others plan.nodes
-    two = round_done plan tells mid mid_stands mid_low mid_room n epoch others last again
-
-    -- the second epoch is later than all that was promised
-    newest : (q : ℕ) (z : maps.Node) → maps_at last q ≡ Some z → IsBefore epoch z.promise → Among ThrownOld others → ⊥
-    newest q z h below m = ⊎_elim
-        (λ same. let its : z ≡ two.y = some_same (maps_at last n) z two.y (ap (maps_at last) (sym same.1) ∙ h) two.here in
-        before_not_same epoch z.promise below (sym two.promise ∙ ap (λ (k : maps.Node). k.promise) (sym its)))
-        (λ apart. other apart.1 (maps_at mid q) refl)
-        (same_or_apart q n)
-      where
-        counts : (a b c : EpochId) → a.count ≡ c.count + 1 → b.count ≤ c.count → IsBefore a b → ⊥
-        counts a b c e l (inl lt) = omega (arith, e, l, lt)
-        counts a b c e l (inr s) = omega (arith, e, l, s.0)
-
-        other : q ≢ n → (o : Option maps.Node) → maps_at mid q ≡ o → ⊥
-        other apart None k = none_some z (sym (two.downs q k) ∙ h)
-        other apart (Some v) k =
-            let s = two.stays q v apart k in
-            let its : s.0 ≡ z = some_same (maps_at last q) s.0 z s.1 h in
-            let above : IsBefore epoch s.0.promise = subst (λ (t : maps.Node). IsBefore epoch t.promise) (sym its) below in
-            ⊎_elim
-            (λ same. of_first (maps_at old q) refl v k (subst (IsBefore epoch) same above))
-            (λ rose. before_not_same epoch s.0.promise above (sym rose.0))
-            s.2.promise
-          where
-            of_first : (o : Option maps.Node) → maps_at old q ≡ o → (v : maps.Node) → maps_at mid q ≡ Some v → IsBefore epoch v.promise → ⊥
-            of_first None e v k b = none_some v (sym (one.downs q e) ∙ k)
-            of_first (Some u) e v k b =
-                let t = one.stays q u apart e in
-                let same : t.0 ≡ v = some_same (maps_at mid q) t.0 v t.1 k in
-                let heard : v.promise.count ≤ two.x.heard = subst (λ (w : maps.Node). v.promise.count ≤ w.heard) (some_same (maps_at mid n) one.y two.x one.here two.before) (subst (λ (w : maps.Node). w.promise.count ≤ one.y.heard) same t.3) in
-                counts epoch v.promise (record { count = two.x.heard; node = 0 }) (ap (λ (a : EpochId). a.count) two.epoch_is) heard b
-
-    done : HasFormed epoch mid new
-    done = forms plan tells mid mid_stands mid_low mid_room n epoch others last two newest c.members c.formed c.concludes c.installs new c.posts c.all_posted
-
-    back : (q : ℕ) (v : maps.Node) → maps_at mid q ≡ Some v → (boot : ℕ) → v.boot ≡ boot → (o : Option maps.Node) → maps_at old q ≡ o → (u : maps.Node) × (maps_at old q ≡ Some u) × (u.boot ≡ boot)
-    back q v h boot e None k = absurd (none_some v (sym (one.downs q k) ∙ h))
-    back q v h boot e (Some u) k = ⊎_elim
-        (λ same. (u, k, ap (λ (t : maps.Node). t.boot) (some_same (maps_at old n) u one.x (ap (maps_at old) (sym same.1) ∙ k) one.before) ∙ sym one.boot ∙ ap (λ (t : maps.Node). t.boot) (some_same (maps_at mid n) one.y v one.here (ap (maps_at mid) (sym same.1) ∙ h)) ∙ e))
-        (λ apart. let s = one.stays q u apart.1 k in (u, k, sym s.2.boot ∙ ap (λ (t : maps.Node). t.boot) (some_same (maps_at mid q) s.0 v s.1 h) ∙ e))
-        (same_or_apart q n)
+pub regroups_form : (plan : Plan) (tells : Bool) (old new : World) (n : ℕ) (epoch : EpochId) (members : ℕ) → Stands plan old → AreNumbered old → HasRoomFor (suc plan.nodes) old.flying
+    → Regroups plan tells old n epoch members new → HasFormed epoch members old new
+regroups_form plan tells old new n epoch members stands low room (AtOnce opened saids mid round none c) =
+    let same : epoch ≡ opened = same_epoch plan tells old mid new n opened epoch members saids (round_done plan tells old stands low room n opened saids mid round) c in
+    subst (λ e. HasFormed e members old new) (sym same)
+    (formed_at_once plan tells old new n opened members stands low room saids mid round none (subst (λ e. ConcludesAll plan tells mid n e members new) same c))
+regroups_form plan tells old new n epoch members stands low room (Again first saids mid round some opened others last again c) =
+    let same : epoch ≡ opened = same_epoch plan tells mid last new n opened epoch members others (two plan tells old new n opened members stands low room first saids mid round others last again) c in
+    subst (λ e. HasFormed e members old new) (sym same)
+    (formed_again plan tells old new n opened members stands low room first saids mid round others last again (subst (λ e. ConcludesAll plan tells last n e members new) same c))

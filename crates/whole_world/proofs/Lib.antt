@@ -9,6 +9,7 @@ pub mod Stepping
 pub mod Projecting
 pub mod Settling
 pub mod Opening
+pub mod InFirst
 pub mod Viewing
 pub mod Asking
 pub mod Gathering

@@ -73,7 +73,7 @@ module _ (plan : Plan) (old new : World) where
   starts_seen : (n : ℕ) (said : Said) → StartsUp plan old n said new → mail_makes.StartsUp plan (mail_world_of old) n (said_seen said) (mail_world_of new)
   starts_seen n said (Comes disk pending kept here pending_is below is records rec new_world) =
       mail_makes.StartsUp.Comes disk pending (started n plan.nodes (disk ++ kept) records).mail records (mail_here old.slots n (record { life = Down pending; disk = disk }) here)
-      (record { kept = kept; pending_is = pending_is; records = rec; installed = None; begins = inl refl; is = refl }) below (ap said_seen is)
+      (record { kept = kept; pending_is = pending_is; records = rec; is = refl }) below (ap said_seen is)
       (ap mail_world_of new_world ∙ ap (λ (s : List mail_cluster.Slot). record (mail_world_of old) { slots = s; book = old.book ++ CameUp n (boot_of (disk ++ kept) + 1) ∷ [] })
       (mail_set old.slots n (slot_up (started n plan.nodes (disk ++ kept) records) records)))
   starts_seen n said (FailsStarting disk pending next records here stops is new_world) =

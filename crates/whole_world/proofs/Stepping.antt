@@ -266,14 +266,14 @@ module _ (plan : Plan) (old : World) (stands : Stands plan old) where
     abbrev begun_world : mail.World
     begun_world = record seen_old { slots = mail_cluster.with_slot seen_old.slots n (mail_deeds.slot_up first now) }
 
-    starts_node : mail_starts.StartsNode n plan.nodes disk pending first now
-    starts_node = record { kept = kept; pending_is = pending_is; records = refl; installed = None; begins = inl refl; is = refl }
+    starts_node : mail_starts.StartsNode n disk pending first now
+    starts_node = record { kept = kept; pending_is = pending_is; records = refl; is = refl }
 
     starts_mail : Leads plan.confirm no_octets (mail.cluster_of seen_old) (mail.cluster_of (mail_world_of new_world))
     starts_mail = subst (λ (s : List mail_cluster.Slot). Leads plan.confirm no_octets (mail.cluster_of seen_old) (record { slots = s; flying = letters_of old.flying; book = old.book ++ CameUp n boot ∷ [] }))
         (sym (mail_set old.slots n (slot_up node_now now)))
         (led_on plan.confirm no_octets (mail.cluster_of seen_old) (mail.cluster_of begun_world) _
-        (quiet_leads plan.confirm no_octets seen_old (mail_deeds.start_act n disk pending first now) refl refl refl refl down_seen (λ ready. start_acts n plan.nodes disk pending now first starts_node ready))
+        (quiet_leads plan.confirm no_octets seen_old (mail_deeds.start_act n disk pending first now) refl refl refl refl down_seen (λ ready. start_acts n disk pending now first starts_node ready))
         (books_one plan.confirm no_octets (mail.cluster_of begun_world) (CameUp n boot) tt))
 
     -- and as maps see it

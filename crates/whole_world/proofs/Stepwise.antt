@@ -280,9 +280,9 @@ module _ (old new : World) where
   begins_plain plan tells own call answer (FailsInIt node disk octets up filed is g) =
       cut_plain (with_struck old call) (struck_same old call).0 (λ letter m. subst (λ (f : List Flight). Among letter (letters_of f)) (struck_same old call).1 m) own node disk up
       (begun_by plan old own node disk call octets) (begun_did plan old own node disk call octets) g
-  begins_plain plan tells own call answer (Reads node disk kind what up one of_kind finds is new_world) =
+  begins_plain plan tells own call answer (Reads node disk kind what up one goes of_kind finds is new_world) =
       after_plain old refl (λ letter m. m) own node disk up (begin_read kind what node disk) (still own node _ disk refl) new_world
-  begins_plain plan tells own call answer (FailsReading node disk user id from most up one reads is new_world) = stop_plain own node disk up new_world
+  begins_plain plan tells own call answer (FailsReading node disk user id from most up one goes reads is new_world) = stop_plain own node disk up new_world
   begins_plain plan tells own call answer (Leaves node disk user up one leaves is new_world) = subst (IsPlain old) (sym new_world) (plain_same old old refl (λ letter m. m))
 
   asks_plain : (plan : Plan) (number : Number) (answer : Said) → AnswersAsk plan old number answer new → IsPlain old new

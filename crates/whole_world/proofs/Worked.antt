@@ -97,7 +97,7 @@ one_node = (
   up_world,
   formed_world,
   (refl, Starts 1 refl (Comes [] [] [] refl (inl refl) (omega arith) refl first_disk refl refl)),
-  AtOnce [] group_world
+  AtOnce epoch_one [] group_world
       (record {
         opened = group_world;
         asked = group_world;
@@ -110,7 +110,6 @@ one_node = (
       })
       (λ m. m)
       (record {
-        members = 1;
         formed = formed_world;
         concludes = (
           refl,

@@ -4,6 +4,7 @@ use Rattle.mail_model.specs.Identity.{EpochId}
 use Rattle.mail_model.specs.Plan.{Plan}
 use Rattle.object_model.specs.Lists.{Among}
 use Rattle.object_model.specs.Letters.{Membership}
+use Rattle.cluster_model.specs.Cluster.{set_of_members}
 use Rattle.cluster_model.specs.Room.{Flight, octets_flying, most_letters, most_octets}
 use Rattle.cluster_model.specs.Thrown.Why.{Old}
 use Rattle.cluster_model.specs.Steps.Step.{Post}
@@ -39,9 +40,8 @@ pub record Round (plan : Plan) (tells : Bool) (old : World) (n : ℕ) (epoch : E
 abbrev pub ThrownOld : Said
 ThrownOld = Told (Thrown Old)
 
--- The group is concluded, and all its Installs are posted.
-pub record ConcludesAll (plan : Plan) (tells : Bool) (old : World) (n : ℕ) (epoch : EpochId) (new : World) : Type 0 where
-  pub members : ℕ
+-- The group is concluded, with this epoch and these members, and all its Installs are posted.
+pub record ConcludesAll (plan : Plan) (tells : Bool) (old : World) (n : ℕ) (epoch : EpochId) (members : ℕ) (new : World) : Type 0 where
   pub formed : World
   pub concludes : MakesStep plan tells old (ConcludeGroup n) (Says (Concluded epoch members)) formed
   pub installs : List Said
@@ -49,12 +49,12 @@ pub record ConcludesAll (plan : Plan) (tells : Bool) (old : World) (n : ℕ) (ep
   pub all_posted : formed.sent ≡ old.sent + length installs
 
 -- A node regroups: a second round follows where a node that is up threw the first as old. Then all is concluded.
-pub data Regroups (plan : Plan) (tells : Bool) (old : World) (n : ℕ) (epoch : EpochId) (new : World) : Type 0 where
-  AtOnce : (saids : List Said) (mid : World) → Round plan tells old n epoch saids mid → (Among ThrownOld saids → ⊥)
-      → ConcludesAll plan tells mid n epoch new → Regroups plan tells old n epoch new
+pub data Regroups (plan : Plan) (tells : Bool) (old : World) (n : ℕ) (epoch : EpochId) (members : ℕ) (new : World) : Type 0 where
+  AtOnce : (opened : EpochId) (saids : List Said) (mid : World) → Round plan tells old n opened saids mid → (Among ThrownOld saids → ⊥)
+      → ConcludesAll plan tells mid n epoch members new → Regroups plan tells old n epoch members new
   Again : (first : EpochId) (saids : List Said) (mid : World) → Round plan tells old n first saids mid → Among ThrownOld saids
-      → (others : List Said) (last : World) → Round plan tells mid n epoch others last
-      → ConcludesAll plan tells last n epoch new → Regroups plan tells old n epoch new
+      → (opened : EpochId) (others : List Said) (last : World) → Round plan tells mid n opened others last
+      → ConcludesAll plan tells last n epoch members new → Regroups plan tells old n epoch members new
 
 -- what maps have of a node that is up
 abbrev pub maps_in : Life → Option maps.Node
@@ -78,14 +78,15 @@ pub record HasRoomFor (count : ℕ) (flying : List Flight) : Type 0 where
   pub letters : length flying + count ≤ most_letters
   pub octets : octets_flying flying + 64 * count ≤ most_octets
 
--- The epoch has just the nodes that are up as members, and all have installed it.
-pub record HasFormed (epoch : EpochId) (old new : World) : Type 0 where
+-- The epoch has just the nodes that are up as members, and all have installed it; and these are the members that were told.
+pub record HasFormed (epoch : EpochId) (members : ℕ) (old new : World) : Type 0 where
   pub membership : Membership
   pub epoch_is : membership.epoch ≡ epoch
+  pub members_are : members ≡ set_of_members membership.members
   pub all_up : (n : ℕ) (node : maps.Node) → maps_at old n ≡ Some node → (now : maps.Node) × (maps_at new n ≡ Some now) × (now.installed ≡ Some membership) × maps.NamesNode membership n now.boot
   pub only_up : (n boot : ℕ) → maps.NamesNode membership n boot → (node : maps.Node) × (maps_at old n ≡ Some node) × (node.boot ≡ boot)
 
 -- where nothing fails and there is room for the letters, a node that regroups forms an epoch of just the nodes that are up
 abbrev pub RegroupForms : Type 0
-RegroupForms = (plan : Plan) (tells : Bool) (old new : World) (n : ℕ) (epoch : EpochId) → Stands plan old → AreNumbered old → HasRoomFor (suc plan.nodes) old.flying
-    → Regroups plan tells old n epoch new → HasFormed epoch old new
+RegroupForms = (plan : Plan) (tells : Bool) (old new : World) (n : ℕ) (epoch : EpochId) (members : ℕ) → Stands plan old → AreNumbered old → HasRoomFor (suc plan.nodes) old.flying
+    → Regroups plan tells old n epoch members new → HasFormed epoch members old new

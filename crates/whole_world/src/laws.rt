@@ -3,6 +3,7 @@ ghost use Rattle.whole_world.specs.Laws.{StepsKeep};
 ghost use Rattle.whole_world.specs.Seen.{MessagesSeeSteps};
 ghost use Rattle.whole_world.specs.Worked.{OneNodeRegroups};
 ghost use Rattle.whole_world.specs.Epochs.{EpochsBegin, BeginsAnew, PostIsWorn, StaleChangesNothing};
+ghost use Rattle.whole_world.specs.First.{FirstStands};
 ghost use Rattle.whole_world.specs.Sweeps.{QuietIsSettled, PushIsAcked, AckClears, StepsChart, OpeningIsCharted, SweepsStay, SweepsSend, SweepIsWorn, FlowsStay, SettleSettles};
 ghost use Rattle.whole_world.specs.Regroup.{RegroupForms};
 ghost use Rattle.whole_world.specs.Settled.{OpeningStands, OneMapPerEpoch, PromisesStand, MapsNameFragments, HoldsHere, MembersAgree};
@@ -20,6 +21,11 @@ pub fn messages_see_steps()
 /// Both invariants hold before a cluster opens over empty disks.
 pub fn opening_stands()
     ensures { OpeningStands }
+{}
+
+/// Both invariants hold where a cluster opens in its first epoch.
+pub fn first_stands()
+    ensures { FirstStands }
 {}
 
 /// All memberships of one epoch are equal.

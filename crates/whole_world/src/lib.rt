@@ -24,6 +24,7 @@
 //! - `Epochs`: how an epoch begins at a node, how a cluster is opened, what a post is refused for.
 //! - `Settled`: live members and settled epochs; one map for each epoch; maps name fragments; members
 //!   agree.
+//! - `First`: a cluster that opens in its first epoch, with all nodes of the plan as members.
 //! - `Regroup`: the rounds of letters by which a node forms an epoch, and what they come to.
 //! - `Sweeps`: the pushes and reports by which an epoch settles, and that they come to an end.
 //! - `Worked`: one node starts over an empty disk and regroups.
@@ -32,7 +33,8 @@
 //! lead to the others: `steps_keep`, `regroup_forms` and `settle_settles`. And `messages_see_steps` says
 //! that a chain of steps is one of `cluster_model`, as messages see it.
 //!
-//! A node has no epoch when it starts: the first one is formed by a regroup like every other.
+//! A node has no epoch when it starts: what it enters is formed by a regroup. A cluster opens in a first epoch, which is formed
+//! without a letter: `first_stands`.
 //!
 //! STANDS ON
 //!
@@ -49,9 +51,9 @@
 mod laws;
 
 pub use laws::{
-    ack_clears, begins_anew, epochs_begin, flows_stay, holds_here, maps_name_fragments,
-    members_agree, messages_see_steps, one_map_per_epoch, one_node_regroups, opening_is_charted,
-    opening_stands, post_is_worn, promises_stand, push_is_acked, quiet_is_settled, regroup_forms,
-    settle_settles, stale_changes_nothing, steps_chart, steps_keep, sweep_is_worn, sweeps_send,
-    sweeps_stay,
+    ack_clears, begins_anew, epochs_begin, first_stands, flows_stay, holds_here,
+    maps_name_fragments, members_agree, messages_see_steps, one_map_per_epoch, one_node_regroups,
+    opening_is_charted, opening_stands, post_is_worn, promises_stand, push_is_acked,
+    quiet_is_settled, regroup_forms, settle_settles, stale_changes_nothing, steps_chart,
+    steps_keep, sweep_is_worn, sweeps_send, sweeps_stay,
 };

@@ -29,11 +29,11 @@ type Hand<D> = BoardPass<D, Lots, SetClock>;
 
 // What is done at a plan of three nodes, of which two have to confirm a message: a letter for the call, its node, its second node
 // or the number of the ticket, and two letters for the answer.
-const ROWS: [[u8; 5]; 19] = [
+const ROWS: [[u8; 5]; 20] = [
     // Both letters of a message of node 1 are lost, so it is not stored.
     *b"D1.B1", *b"p..po", *b"p..po", *b"p..qu", *b"A11F.",
-    // Node 2 stops, and starts again over its file.
-    *b"C2...", *b">21do", *b"S2.U2",
+    // Node 2 stops, and starts again over its file. Node 1 regroups, and lets it in.
+    *b"C2...", *b">21do", *b"S2.U2", *b"R1.E7",
     // Node 1 sends again what it owes. Both hear it, and acknowledge it; and then they hear that all have it.
     *b">12L1", *b">13L1", *b"p..po", *b"p..po", *b"p..po", *b"p..po", *b"p..po", *b"p..po",
     *b"p..qu", *b">12L0", *b">13L0",
@@ -118,6 +118,7 @@ fn does<D: Disk, R: Wait>(
         b'p' => Ok(posts(rt, alloc, board, pass)),
         b'C' => Ok(orders(rt, alloc, board, pass, Order::Crash(one))),
         b'S' => Ok(orders(rt, alloc, board, pass, Order::Start(one))),
+        b'R' => Ok(orders(rt, alloc, board, pass, Order::Regroup(one))),
         _ => Ok(orders(rt, alloc, board, pass, Order::Push { from: one, to: two })),
     }
 }

@@ -6,7 +6,7 @@ ghost use Rattle.shard_board.specs.Boards.{quota_of, IsPassOf};
 use super::{CARRY, Cluster, Pass, count, digit, made, node, opened};
 use crate::fresh::{message, name};
 use call_tickets::{Answer, Ask, Call, DeskFault, Posted};
-use cluster_world::{BookSum, Said, StepFault};
+use cluster_world::{BookSum, Regroup, Said, StepFault};
 use mail_base::{MsgId, NodeNo, Ticket};
 use shard_board::{Order, Told};
 use std::alloc::{AllocError, Global};
@@ -16,7 +16,7 @@ use world_book::Entry;
 
 // What is done at a plan of three nodes, of which two have to confirm a message: in whose name, and a letter for the call, then
 // its node, place or ticket, its second node or the number of the ticket, and two letters for the answer.
-const ROWS: [[u8; 6]; 58] = [
+const ROWS: [[u8; 6]; 69] = [
     // A message of one pass is asked for by the other. It waits for letters, and each pass posts some.
     *b"au1.b1", *b"aD1.B1", *b"bA11P1", *b"bp..po", *b"ap..po", *b"bA11P1", *b"bp..po", *b"aA11S3",
     // Each pass reads its entry; the ticket stands no more.
@@ -25,17 +25,31 @@ const ROWS: [[u8; 6]; 58] = [
     *b"bD1.B2", *b"aG12..", *b"bA12t?", *b"bG12t?", *b"ap..po", *b"bp..po", *b"ap..po", *b"bp..po",
     *b"bp..qu",
     // A node stops, and starts again.
-    *b"aC2...", *b"bu2.do", *b"bu1.b1", *b"be1.d2", *b"bD2.do", *b"bC2.do", *b"b>21do", *b"bS2.U2",
-    *b"au2.b2", *b"ae2.u2", *b"aS2.up",
+    *b"aC2...", *b"bu2.do", *b"bu1.b1", *b"be1.d2", *b"bD2.do", *b"bC2.do", *b"b>21do", *b"aR2.do",
+    *b"bS2.U2", *b"au2.b2", *b"ae2.u2", *b"aS2.up",
+    // It has no epoch: what node 1 sends to it is thrown, and it sends nothing.
+    *b"a>12L2", *b"bp..po", *b"bp..po", *b"bp..qu", *b"a>21L0",
+    // Node 1 regroups, in one turn. All nodes that are up are members.
+    *b"bR1.E7", *b"bp..qu",
     // Node 1 sends what it owes to node 2: two states. Both are heard, and acknowledged.
     *b"a>12L2", *b"bp..po", *b"ap..po", *b"bp..po", *b"ap..po", *b"bp..qu", *b"a>12L0",
     // All nodes are targets already.
     *b"bW13Wn",
     // A node is lost for good.
     *b"bL3...", *b"aL3.lo", *b"aS3.lo", *b"aC3.lo", *b"bW33lo", *b"bu3.do", *b"ae3.l3", *b"ae4.--",
-    *b"bs..11",
+    *b"bs..11", *b"bR3.lo", *b"bR2.E3",
     // What is not there.
-    *b"aC4.n?", *b"bS4.n?", *b"aL4.n?", *b"b>14n?", *b"aA41n?", *b"bu4.do",
+    *b"aC4.n?", *b"bS4.n?", *b"aL4.n?", *b"b>14n?", *b"aA41n?", *b"bu4.do", *b"bR4.n?",
+];
+
+// The same at a plan of four nodes, of which two have to confirm a message.
+const LEFT: [[u8; 6]; 21] = [
+    // Two nodes are lost. A message still has four copies to come, and two are confirmed.
+    *b"aL3...", *b"bL4...", *b"aD1.B1", *b"bp..po", *b"bp..po", *b"bp..po", *b"bp..po", *b"bp..qu",
+    *b"bA11S3",
+    // The two that are left regroup, and take mail: each message has a letter to the other, and one back.
+    *b"aR2.E3", *b"bD2.B1", *b"ap..po", *b"ap..po", *b"ap..qu", *b"aA21S3", *b"bD1.B2", *b"bp..po",
+    *b"bp..po", *b"bp..qu", *b"bA12S3", *b"bs..32",
 ];
 
 fn first_id() -> MsgId {
@@ -72,6 +86,8 @@ fn told_said(said: &Said) -> [u8; 2] {
         Said::Thrown(_) => *b"T.",
         Said::Sent { letters } => [b'L', digit(*letters)],
         Said::Widened(did) => { if *did { *b"Wy" } else { *b"Wn" } }
+        Said::Grouped(epoch) => [b'g', digit(epoch.count)],
+        Said::Concluded { members, .. } => [b'E', digit(u64::from(members.mask()))],
         Said::NodeUp { boot } => [b'U', digit(u64::from(*boot))],
         Said::Done => *b"..",
         Said::Faulted(node) => [b'!', digit(u64::from(node.number()))],
@@ -86,6 +102,7 @@ fn told_fault(fault: StepFault) -> [u8; 2] {
         StepFault::NodeUp => *b"up",
         StepFault::NoSuchLetter => *b"l?",
         StepFault::NoSuchTicket => *b"t?",
+        StepFault::NotAGroup => *b"g?",
         StepFault::Worn => *b"wo",
         StepFault::NoRoom => *b"ro",
         StepFault::NoMemory { .. } => *b"me",
@@ -100,6 +117,13 @@ pub(super) fn told_step(came: &Result<Said, StepFault>) -> [u8; 2] {
     }
 }
 
+fn told_regroup(came: &Regroup) -> [u8; 2] {
+    match came {
+        Regroup::Formed { members, .. } => [b'E', digit(u64::from(members.mask()))],
+        Regroup::Fault(node) => [b'!', digit(u64::from(node.number()))],
+    }
+}
+
 fn told_sum(sum: &BookSum) -> [u8; 2] {
     [digit(sum.acked), digit(sum.lost)]
 }
@@ -108,6 +132,7 @@ fn told_sum(sum: &BookSum) -> [u8; 2] {
 pub(super) fn told_order(came: &Result<Told, StepFault>) -> [u8; 2] {
     match came {
         Ok(Told::Said(said)) => told_said(said),
+        Ok(Told::Regrouped(came)) => told_regroup(came),
         Ok(Told::Sum(sum)) => told_sum(sum),
         Err(fault) => told_fault(*fault),
     }
@@ -238,6 +263,7 @@ fn order_of(alloc: Global, what: u8, first: u8, second: u8) -> Result<Order, All
         b'C' => Order::Crash(one),
         b'S' => Order::Start(one),
         b'L' => Order::Lose(one),
+        b'R' => Order::Regroup(one),
         b'>' => Order::Push { from: one, to: two },
         b'W' => Order::Widen {
             at: one,
@@ -343,5 +369,23 @@ fn each_call_answers(rt: HostRuntime) -> Result<(), Fail> {
     let sum = board.close(first).sum();
     assert_eq!(rt; left?, 0);
     assert_eq!(rt; told_sum(&sum), *b"11");
+    Ok(())
+}
+
+#[test]
+fn those_that_are_left_take_mail(rt: HostRuntime) -> Result<(), Fail> {
+    let alloc = rt.alloc();
+    let Ok(world) = opened(alloc, 4, 2) else {
+        panic!(rt; "no world");
+    };
+    let Some((board, mut first)) = made(alloc, world, CARRY, 2) else {
+        panic!(rt; "no memory");
+    };
+    let mut second = board.split(&mut first, 1);
+    let left = left_of(&rt, alloc, &board, &mut first, &mut second, &LEFT);
+    board.join(&mut first, second);
+    let sum = board.close(first).sum();
+    assert_eq!(rt; left?, 0);
+    assert_eq!(rt; told_sum(&sum), *b"32");
     Ok(())
 }

@@ -71,7 +71,7 @@ fn delivers(alloc: Global, world: World<MemoryDisk>, which: u8) -> Result<Option
     if begun == *b"!1" {
         let right = which == 1 && others_up(&world, 1) && says_down(world.book().entries(), 1);
         let disks = world.close();
-        let stands = holds(alloc, &disks, 1, b"B")? && holds(alloc, &disks, 2, b"B")?;
+        let stands = holds(alloc, &disks, 1, b"BP")? && holds(alloc, &disks, 2, b"BP")?;
         return Ok((right && stands).then_some(When::Beginning));
     }
     let fell = flow(alloc, &mut world)?;
@@ -90,9 +90,9 @@ fn delivers(alloc: Global, world: World<MemoryDisk>, which: u8) -> Result<Option
             None => others_up(&world, 0),
         };
     let disks = world.close();
-    let stands = holds(alloc, &disks, 0, b"BO7")?
-        && ((which == 2 && fell.is_some()) || holds(alloc, &disks, 1, b"BO7")?)
-        && ((which == 3 && fell.is_some()) || holds(alloc, &disks, 2, b"BO7")?);
+    let stands = holds(alloc, &disks, 0, b"BPO7")?
+        && ((which == 2 && fell.is_some()) || holds(alloc, &disks, 1, b"BPO7")?)
+        && ((which == 3 && fell.is_some()) || holds(alloc, &disks, 2, b"BPO7")?);
     Ok((right && stands).then_some(when))
 }
 

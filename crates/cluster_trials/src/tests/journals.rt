@@ -30,12 +30,16 @@ fn put(octets: &mut Vec<u8>, kind: u8, parts: &[&[u8]], last: &[u8]) -> Result<(
     Ok(())
 }
 
-/// Puts the record that a letter tells: `B` and `b` are boots 1 and 2, `O` the message's octets, a digit that ann's copy is
-/// here with this set of targets, and `R` that all of nodes 1 to 3 have it, `r` that nodes 1 and 2 do.
+/// Puts the record that a letter tells: `B` and `b` are boots 1 and 2, `P` the promise of the first epoch, `E` and `F` those of
+/// 2.1 and 2.2, `O` the message's octets, a digit that ann's copy is here with this set of targets, and `R` that all of nodes 1
+/// to 3 have it, `r` that nodes 1 and 2 do.
 fn put_record(octets: &mut Vec<u8>, letter: u8) -> Result<(), AllocError> {
     match letter {
         b'B' => put(octets, 1, &[], b"\x00\x00\x00\x01"),
         b'b' => put(octets, 1, &[], b"\x00\x00\x00\x02"),
+        b'P' => put(octets, 2, &[], b"\x00\x00\x00\x00\x00\x00\x00\x01\x01"),
+        b'E' => put(octets, 2, &[], b"\x00\x00\x00\x00\x00\x00\x00\x02\x01"),
+        b'F' => put(octets, 2, &[], b"\x00\x00\x00\x00\x00\x00\x00\x02\x02"),
         b'O' => put(octets, 3, &[ID], MESSAGE),
         b'3' => put(octets, 4, &[KEY, HERE], b"\x03"),
         b'7' => put(octets, 4, &[KEY, HERE], b"\x07"),

@@ -153,13 +153,13 @@ impl Course {
     /// The records that a node is to have.
     fn records(&self, here: bool, retired: bool) -> &'static [u8] {
         if !here {
-            return b"B";
+            return b"BP";
         }
         match (self.copies == 3, retired) {
-            (false, false) => b"BO3",
-            (false, true) => b"BO3r",
-            (true, false) => b"BO7",
-            (true, true) => b"BO7R",
+            (false, false) => b"BPO3",
+            (false, true) => b"BPO3r",
+            (true, false) => b"BPO7",
+            (true, true) => b"BPO7R",
         }
     }
 }

@@ -52,7 +52,9 @@ fn delivery_stands<D: Disk>(world: &World<D>) -> Option<bool>
 }
 
 /// The set of the members that a node knows.
-fn members<D: Disk>(world: &World<D>, number: u8) -> u16 {
+pub(super) fn members<D: Disk>(world: &World<D>, number: u8) -> u16
+    requires { CanMakeSteps D.seen world.now }
+{
     world.members(node(number)).mask()
 }
 
@@ -105,6 +107,9 @@ fn tells_of_members(rt: HostRuntime) -> Result<(), Fail> {
     assert!(rt; !world.is_lost(node(2)) && world.is_lost(node(3)) && world.is_lost(node(4)));
     let said = run(alloc, &mut world, &[*b"S2."])?;
     assert!(rt; said.as_slice() == b"U2".as_slice() && world.boot(node(2)) == Some(2));
-    assert!(rt; world.boot(node(3)).is_none() && members(&world, 2) == 7);
+    // It has no epoch until a group lets it in.
+    assert!(rt; world.boot(node(3)).is_none() && members(&world, 2) == 0);
+    assert_eq!(rt; make(alloc, &mut world, b'R', b'1', b'.')?, *b"23");
+    assert!(rt; members(&world, 1) == 3 && members(&world, 2) == 3);
     Ok(())
 }

@@ -10,14 +10,12 @@ ghost use Rattle.cluster_world.specs.Turns.{node_refusal};
 ghost use Rattle.cluster_world.specs.Asking.{IsUpWhole, IsDoneAt, AreForTicket, confirms, AsksNode};
 ghost use Rattle.cluster_world.specs.Steps.{StepDid, AreSettled};
 ghost use Rattle.cluster_world.specs.Sure.{IsSurelyDone};
-ghost use Rattle.cluster_world.specs.Stations.{life_of_held, HoldsMaps};
 ghost use Rattle.cluster_world.specs.declared.step.Step.TheVariants as step;
 
 use crate::entries::entries_of;
 use crate::fault::StepFault;
-use crate::held::Held;
+use crate::life::Life;
 use crate::nodes::Nodes;
-use crate::station::Station;
 use crate::step::Said;
 use call_tickets::{Answer, Ask};
 use io_edge::Disk;
@@ -40,41 +38,33 @@ pub(crate) fn node_of(ticket: &Ticket) -> NodeNo
 }
 
 // What the book is to say, should the ticket be done.
-fn entries_at(alloc: Global, life: &Station, ticket: &Ticket) -> Result<Vec<Entry>, AllocError>
+fn entries_at(alloc: Global, life: &Life, ticket: &Ticket) -> Result<Vec<Entry>, AllocError>
     requires up { IsUpWhole life.now }
     ensures fit { IfOk result (λ entries. AreForTicket ticket.now life.now entries.items) }
     ensures done { OnErr result (IsDoneAt ticket.now life.now) }
 {
-    match life.mail() {
-        Some(node) => {
-            if node.is_done(ticket_of(ticket)) {
-                entries_of(alloc, node.wants(ticket_of(ticket)))
+    match life {
+        Life::Up(node) => {
+            let mail = node.mail();
+            if mail.is_done(ticket_of(ticket)) {
+                entries_of(alloc, mail.wants(ticket_of(ticket)))
             } else {
                 Ok(Vec::new(alloc))
             }
         }
-        None => unreachable!(),
-    }
-}
-
-// Asks a node that is up.
-fn ask_held(held: &mut Held, ticket: &Ticket) -> Option<Ask>
-    requires up { IsUpWhole (life_of_held held.old) }
-    ensures asks { AsksNode ticket.now result (life_of_held held.old) (life_of_held held.new) }
-    ensures maps { HoldsMaps held.old → HoldsMaps held.new }
-{
-    match held {
-        Held::Up(node) => node.ask(ticket_of(ticket)),
-        Held::Down | Held::Lost => unreachable!(),
+        Life::Down | Life::Lost => unreachable!(),
     }
 }
 
 /// Asks a node that is up.
-pub(crate) fn ask_at(life: &mut Station, ticket: &Ticket) -> Option<Ask>
+pub(crate) fn ask_at(life: &mut Life, ticket: &Ticket) -> Option<Ask>
     requires up { IsUpWhole life.old }
     ensures { AsksNode ticket.now result life.old life.new }
 {
-    ask_held(&mut life.held, ticket)
+    match life {
+        Life::Up(node) => node.ask(ticket_of(ticket)),
+        Life::Down | Life::Lost => unreachable!(),
+    }
 }
 
 fn confirms(ask: &Ask) -> bool

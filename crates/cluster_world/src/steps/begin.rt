@@ -1,10 +1,11 @@
 //! A call begins at a node.
-ghost use Rattle.std.specs.Prelude.{◌≡◌, ◌+◌, ◌≤◌, ◌<◌, ◌⊎◌, ◌++◌, ◌∷◌, true, [], length, None, Ok, IsTrue, IfOk, OnErr};
+ghost use Rattle.std.specs.Prelude.{◌≡◌, ◌+◌, ◌≤◌, ◌<◌, ◌⊎◌, ◌++◌, ◌∷◌, true, [], length, All, None, Ok, IsTrue, IfOk, OnErr};
 ghost use Rattle.mail_model.specs.Lines.{ends_in_crlf};
 ghost use Rattle.cluster_model.specs.Makes.{struck_entries};
 ghost use Rattle.node_store.specs.Disks.{view_of};
 ghost use Rattle.node_core.specs.Beginning.{call_seen, struck_of, IsTextEnded};
-ghost use Rattle.node_core.specs.Spelling.{AllCanBeTaken};
+ghost use Rattle.whole_node.specs.Hearing.{FitsMaps};
+ghost use Rattle.cluster_world.specs.Hears.{AllCanBeHeard};
 ghost use Rattle.world_book.specs.Books.{entries_of as all_of, spare_of};
 ghost use Rattle.world_book.specs.declared.entry.Entry.TheVariants as written;
 ghost use Rattle.cluster_world.specs.Lives.{all_falls_left, CanWorkOn};
@@ -20,9 +21,9 @@ ghost use Rattle.cluster_world.specs.declared.step.Step.TheVariants.{Begin};
 
 use crate::fault::StepFault;
 use crate::flying::{Flying, is_worn};
+use crate::life::Life;
 use crate::nodes::{Nodes, place_of};
 use crate::sending::send;
-use crate::station::Station;
 use crate::step::Said;
 use crate::steps::fault::{enter_fall, said_of, takes_down};
 use crate::working::begin_at;
@@ -117,7 +118,8 @@ fn begin_in<D: Disk>(
     requires fit { node_refusal nodes.old.plan (life_among nodes.old) (Begin node call) ≡ None }
     requires works { CanWorkOn D.seen nodes.old.plan nodes.old.lives.items nodes.old.disks.items }
     requires ended { IsTextEnded (call_seen call) }
-    ensures { ChangesNode node (BeginsAt (view_of D.seen D.faults D.clock) D.settled nodes.old.plan node seconds (call_seen call) result) nodes.old nodes.new }
+    ensures begins { ChangesNode node (BeginsAt (view_of D.seen D.faults D.clock) D.settled nodes.old.plan node seconds (call_seen call) result) nodes.old nodes.new }
+    ensures fits { IfOk result (λ begun. All FitsMaps (begun.1).letters) }
 {
     let place = place_of(node);
     begin_at(
@@ -138,7 +140,7 @@ fn send_some<D: Disk>(
     letters: Vec<Letter>,
 ) -> Result<(), AllocError>
     requires works { CanWorkOn D.seen nodes.old.plan nodes.old.lives.items nodes.old.disks.items }
-    requires heard { AllCanBeTaken letters.items }
+    requires heard { AllCanBeHeard letters.items }
     ensures ok { IfOk result (λ _. SentOff (view_of D.seen D.faults D.clock) nodes.old.plan letters.items None flying.old flying.new nodes.old nodes.new) }
     ensures some { OnErr result (1 ≤ length letters.items) }
     ensures err { OnErr result (flying.new ≡ flying.old) }
@@ -210,13 +212,13 @@ fn go_on<D: Disk>(
 ) -> Result<Said, StepFault>
     requires within { node ≤ nodes.old.plan.nodes }
     requires works { CanWorkOn D.seen nodes.old.plan nodes.old.lives.items nodes.old.disks.items }
-    requires heard { AllCanBeTaken letters.items }
+    requires heard { AllCanBeHeard letters.items }
     requires room { length entries.items < spare_of book.old }
     ensures goes { GoesOn (view_of D.seen D.faults D.clock) node entries.items result nodes.old flying.old book.old nodes.new flying.new book.new ticket letters.items }
     ensures spare { spare_of book.old ≤ spare_of book.new + length entries.items + 1 }
 {
     if send_some(alloc, nodes, flying, letters).is_err() {
-        nodes.turn(node, Station::down());
+        nodes.turn(node, Life::Down);
         enter_failure(book, node, entries);
         return Err(StepFault::NoMemory { down: Some(node) });
     }
@@ -236,7 +238,7 @@ fn conclude<D: Disk>(
 ) -> Result<Said, StepFault>
     requires within { node ≤ nodes.old.plan.nodes }
     requires works { CanWorkOn D.seen nodes.old.plan nodes.old.lives.items nodes.old.disks.items }
-    requires heard { IfOk did (λ begun. AllCanBeTaken begun.1.letters) }
+    requires heard { IfOk did (λ begun. AllCanBeHeard begun.1.letters) }
     requires room { length entries.items < spare_of book.old }
     ensures concludes { Concludes (view_of D.seen D.faults D.clock) node entries.items result nodes.old flying.old book.old nodes.new flying.new book.new did }
     ensures spare { spare_of book.old ≤ spare_of book.new + length entries.items + 1 }

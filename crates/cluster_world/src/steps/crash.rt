@@ -10,8 +10,8 @@ ghost use Rattle.cluster_world.specs.Steps.{StepDid, AreSettled};
 ghost use Rattle.cluster_world.specs.declared.step.Step.TheVariants.{Crash};
 ghost use Rattle.cluster_world.specs.declared.step.Said.TheVariants.{Done};
 
+use crate::life::Life;
 use crate::nodes::Nodes;
-use crate::station::Station;
 use io_edge::Disk;
 use mail_base::NodeNo;
 use world_book::{Book, Entry};
@@ -25,6 +25,6 @@ pub(crate) fn crash_node<D: Disk>(nodes: &mut Nodes<D>, book: &mut Book, node: N
     ensures settled { (flying : InFlight) (seconds : ℕ) → AreSettled D.settled (state_with nodes.old flying seconds book.old) → AreSettled D.settled (state_with nodes.new flying seconds book.new) }
     ensures room { all_falls_left nodes.new.lives.items ≤ spare_of book.new }
 {
-    nodes.turn(node, Station::down());
+    nodes.turn(node, Life::Down);
     book.add(Entry::Down { node });
 }

@@ -8,50 +8,39 @@ ghost use Rattle.cluster_world.specs.Turns.{node_refusal};
 ghost use Rattle.cluster_world.specs.Asking.{IsUpWhole, IsRetold, TicketStands, tickets_without};
 ghost use Rattle.cluster_world.specs.Steps.{StepDid, AreSettled};
 ghost use Rattle.cluster_world.specs.Sure.{IsSurelyDone};
-ghost use Rattle.cluster_world.specs.Stations.{life_of_held, HoldsMaps};
 ghost use Rattle.cluster_world.specs.declared.step.Step.TheVariants as step;
 
 use crate::fault::StepFault;
 use crate::flying::{Flying, is_worn};
-use crate::held::Held;
+use crate::life::Life;
 use crate::nodes::Nodes;
-use crate::station::Station;
 use crate::step::Said;
 use crate::steps::ask::{node_of, ticket_of};
 use io_edge::Disk;
 use mail_base::Ticket;
 
 /// Whether the ticket stands at a node that is up.
-fn stands_at(life: &Station, ticket: &Ticket) -> bool
+fn stands_at(life: &Life, ticket: &Ticket) -> bool
     requires up { IsUpWhole life.now }
     ensures { TicketStands ticket.now result life.now }
 {
-    match life.mail() {
-        Some(node) => node.kind(ticket_of(ticket)).is_some(),
-        None => unreachable!(),
-    }
-}
-
-// Gives a ticket up at a node that is up.
-fn give_up_held(held: &mut Held, ticket: &Ticket)
-    requires up { IsUpWhole (life_of_held held.old) }
-    ensures retold { IsRetold (tickets_without ticket.now) (life_of_held held.old) (life_of_held held.new) }
-    ensures maps { HoldsMaps held.old → HoldsMaps held.new }
-{
-    match held {
-        Held::Up(node) => {
-            node.give_up(ticket_of(ticket));
-        }
-        Held::Down | Held::Lost => unreachable!(),
+    match life {
+        Life::Up(node) => node.mail().kind(ticket_of(ticket)).is_some(),
+        Life::Down | Life::Lost => unreachable!(),
     }
 }
 
 /// Gives a ticket up at a node that is up.
-pub(crate) fn give_up_at(life: &mut Station, ticket: &Ticket)
+pub(crate) fn give_up_at(life: &mut Life, ticket: &Ticket)
     requires up { IsUpWhole life.old }
     ensures { IsRetold (tickets_without ticket.now) life.old life.new }
 {
-    give_up_held(&mut life.held, ticket)
+    match life {
+        Life::Up(node) => {
+            node.give_up(ticket_of(ticket));
+        }
+        Life::Down | Life::Lost => unreachable!(),
+    }
 }
 
 /// Gives a call up: its ticket stands no more. It takes no memory.

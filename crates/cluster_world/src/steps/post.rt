@@ -1,14 +1,16 @@
 //! A letter is handed to its receiver.
-ghost use Rattle.std.specs.Prelude.{◌≡◌, ◌≤◌, ◌<◌, ℕ, true, Some, IfOk};
+ghost use Rattle.std.specs.Prelude.{◌≡◌, ◌≤◌, ◌<◌, ℕ, All, true, Some, IfOk, is_some};
+ghost use Rattle.mail_base.specs.Bodies.{body_seen};
 ghost use Rattle.node_store.specs.Disks.{view_of};
-ghost use Rattle.node_core.specs.Spelling.{CanBeTaken, AllCanBeTaken};
+ghost use Rattle.cluster_world.specs.Hears.{CanBeHeard, AllCanBeHeard};
 ghost use Rattle.node_core.specs.Weights.{weight_of, weight_of_all};
+ghost use Rattle.whole_node.specs.Hearing.{FitsMaps};
 ghost use Rattle.world_book.specs.Books.{spare_of};
 ghost use Rattle.cluster_world.specs.Flights.{taken_out};
 ghost use Rattle.cluster_world.specs.Lives.{is_up_life, all_falls_left, CanWorkOn};
 ghost use Rattle.cluster_world.specs.Worlds.{life_among, state_with};
 ghost use Rattle.cluster_world.specs.Changes.{ChangesNode, IsTurnedTo};
-ghost use Rattle.cluster_world.specs.Posts.{out_of, HearsAtNode, mishap_of_thrown, mishap_of, IsEntered, IsNotedIf, AnswersSent, EndsHeard, LeavesIfFailed, EndsStopped, EndsPost};
+ghost use Rattle.cluster_world.specs.Posts.{out_of, HearsAtNode, mishap_of_thrown, mishap_of_fault, mishap_of, IsEntered, IsNotedIf, AnswersSent, EndsThrown, EndsHeard, LeavesIfFailed, EndsStopped, EndsPost};
 ghost use Rattle.cluster_world.specs.Steps.{StepDid, AreSettled};
 ghost use Rattle.cluster_world.specs.declared.life.Life.TheVariants as lives;
 ghost use Rattle.cluster_world.specs.declared.step.Step.TheVariants as step;
@@ -16,15 +18,15 @@ ghost use Rattle.cluster_world.specs.declared.fault.StepFault.TheVariants as fau
 
 use crate::fault::StepFault;
 use crate::flying::{Flying, is_worn};
+use crate::life::Life;
 use crate::mishaps::note_in;
 use crate::nodes::{Nodes, place_of};
 use crate::sending::send;
-use crate::station::Station;
 use crate::step::Said;
 use crate::steps::fault::{enter_fall, note_fall, said_of};
 use crate::working::hear_at;
 use io_edge::Disk;
-use mail_base::{Letter, NodeNo};
+use mail_base::{Body, Letter, NodeNo};
 use node_core::{NodeFault, Outbox, Why};
 use node_tickets::MishapKind;
 use std::alloc::{AllocError, Global};
@@ -71,9 +73,10 @@ fn hear_in<D: Disk>(
 ) -> Result<Outbox, NodeFault>
     requires up { is_up_life (life_among nodes.old letter.now.to) ≡ true }
     requires works { CanWorkOn D.seen nodes.old.plan nodes.old.lives.items nodes.old.disks.items }
-    requires spelt { CanBeTaken letter.now.body }
+    requires fits { CanBeHeard letter.now }
     ensures hears { ChangesNode letter.now.to (HearsAtNode (view_of D.seen D.faults D.clock) D.settled nodes.old.plan letter.now.to letter.now result) nodes.old nodes.new }
     ensures light { IfOk result (λ outbox. weight_of_all outbox.letters < weight_of letter.now) }
+    ensures fits { IfOk result (λ outbox. All FitsMaps outbox.letters) }
 {
     let place = place_of(receiver_of(letter));
     hear_at(
@@ -96,14 +99,51 @@ fn note_thrown<D: Disk>(nodes: &mut Nodes<D>, letter: &Letter, thrown: &Option<W
     }
 }
 
+/// Whether a letter has a mishap as the disk of its receiver fails: one of messages does.
+fn has_mishap(body: &Body) -> bool
+    ensures { result ≡ is_some (mishap_of_fault (body_seen body.now)) }
+{
+    match body {
+        Body::Group { .. }
+        | Body::Join { .. }
+        | Body::Install { .. }
+        | Body::Report { .. }
+        | Body::ReportAck { .. } => false,
+        Body::File { .. }
+        | Body::Filed { .. }
+        | Body::LoginAsk { .. }
+        | Body::LoginTold { .. }
+        | Body::ListAsk { .. }
+        | Body::ListTold { .. }
+        | Body::FetchAsk { .. }
+        | Body::FetchTold { .. }
+        | Body::Strike { .. }
+        | Body::StrikeTold { .. }
+        | Body::Unlock { .. }
+        | Body::Push { .. }
+        | Body::PushAck { .. }
+        | Body::Retired { .. } => true,
+    }
+}
+
+/// Notes that the disk of the receiver failed, if that is a mishap of the letter. It takes no memory.
+fn note_fault<D: Disk>(nodes: &mut Nodes<D>, letter: &Letter)
+    requires works { CanWorkOn D.seen nodes.old.plan nodes.old.lives.items nodes.old.disks.items }
+    ensures { IsNotedIf (view_of D.seen D.faults D.clock) nodes.old.plan letter.now (mishap_of_fault letter.now.body) nodes.old nodes.new }
+{
+    if has_mishap(&letter.body) {
+        note_in(nodes, MishapKind::Disk, letter);
+    }
+}
+
 /// Notes the mishap of a letter that was handed to its receiver, if it has one. It takes no memory.
 fn note_handed<D: Disk>(nodes: &mut Nodes<D>, letter: &Letter, heard: &Result<Outbox, NodeFault>)
     requires works { CanWorkOn D.seen nodes.old.plan nodes.old.lives.items nodes.old.disks.items }
-    ensures { IsNotedIf (view_of D.seen D.faults D.clock) nodes.old.plan letter.now (mishap_of heard.now) nodes.old nodes.new }
+    ensures { IsNotedIf (view_of D.seen D.faults D.clock) nodes.old.plan letter.now (mishap_of letter.now.body heard.now) nodes.old nodes.new }
 {
     match heard {
         Ok(outbox) => note_thrown(nodes, letter, &outbox.thrown),
-        Err(NodeFault::Disk) => note_in(nodes, MishapKind::Disk, letter),
+        Err(NodeFault::Disk) => note_fault(nodes, letter),
         Err(NodeFault::Worn) => {}
         Err(NodeFault::NoMemory { .. }) => {}
     }
@@ -117,32 +157,59 @@ fn fall_short<D>(nodes: &mut Nodes<D>, book: &mut Book, node: NodeNo) -> StepFau
     ensures turned { ChangesNode node (IsTurnedTo lives.Down) nodes.old nodes.new }
     ensures entered { IsEntered node book.old book.new }
 {
-    nodes.turn(node, Station::down());
+    nodes.turn(node, Life::Down);
     enter_fall(book, node);
     StepFault::NoMemory { down: Some(node) }
 }
 
-/// What the receiver answers is put in flight. Where there is no memory for that, the receiver goes down, since it has done
-/// its work.
-fn send_answers<D: Disk>(
+/// What a node sends is put in flight, and this is said. Where there is no memory for that, the node goes down, since it has
+/// done its work.
+pub(crate) fn send_answers<D: Disk>(
     alloc: Global,
     nodes: &mut Nodes<D>,
     flying: &mut Flying,
     book: &mut Book,
     node: NodeNo,
     posted: Option<u64>,
+    said: Said,
     letters: Vec<Letter>,
 ) -> Result<Said, StepFault>
     requires works { CanWorkOn D.seen nodes.old.plan nodes.old.lives.items nodes.old.disks.items }
     requires within { node ≤ nodes.old.plan.nodes }
     requires room { 0 < spare_of book.old }
-    requires fit { AllCanBeTaken letters.items }
-    ensures { AnswersSent (view_of D.seen D.faults D.clock) nodes.old.plan node posted letters.items result nodes.old flying.old book.old nodes.new flying.new book.new }
+    requires fit { AllCanBeHeard letters.items }
+    ensures { AnswersSent (view_of D.seen D.faults D.clock) nodes.old.plan node posted said letters.items result nodes.old flying.old book.old nodes.new flying.new book.new }
 {
     match send(alloc, nodes, flying, letters, posted) {
-        Ok(()) => Ok(Said::Heard),
+        Ok(()) => Ok(said),
         Err(AllocError) => Err(fall_short(nodes, book, node)),
     }
+}
+
+/// A letter that was thrown leaves, if it is to. An old Group is answered all the same. Where nothing is answered this takes no
+/// memory.
+fn end_thrown<D: Disk>(
+    alloc: Global,
+    nodes: &mut Nodes<D>,
+    flying: &mut Flying,
+    book: &mut Book,
+    node: NodeNo,
+    posted: Option<u64>,
+    why: Why,
+    letters: Vec<Letter>,
+) -> Result<Said, StepFault>
+    requires works { CanWorkOn D.seen nodes.old.plan nodes.old.lives.items nodes.old.disks.items }
+    requires within { node ≤ nodes.old.plan.nodes }
+    requires room { 0 < spare_of book.old }
+    requires fit { AllCanBeHeard letters.items }
+    ensures { EndsThrown (view_of D.seen D.faults D.clock) nodes.old.plan node posted why letters.items result nodes.old flying.old book.old nodes.new flying.new book.new }
+{
+    let said = Said::Thrown(why);
+    if letters.is_empty() {
+        leave(flying, posted);
+        return Ok(said);
+    }
+    send_answers(alloc, nodes, flying, book, node, posted, said, letters)
 }
 
 /// A letter that was heard, or thrown, leaves, if it is to, and what the receiver answers is in flight.
@@ -158,16 +225,31 @@ fn end_heard<D: Disk>(
     requires works { CanWorkOn D.seen nodes.old.plan nodes.old.lives.items nodes.old.disks.items }
     requires within { node ≤ nodes.old.plan.nodes }
     requires room { 0 < spare_of book.old }
-    requires fit { AllCanBeTaken outbox.letters }
+    requires fit { AllCanBeHeard outbox.letters }
     ensures { EndsHeard (view_of D.seen D.faults D.clock) nodes.old.plan node posted outbox.thrown outbox.letters result nodes.old flying.old book.old nodes.new flying.new book.new }
 {
     let Outbox { letters, thrown } = outbox;
     match thrown {
-        Some(why) => {
-            leave(flying, posted);
-            Ok(Said::Thrown(why))
-        }
-        None => send_answers(alloc, nodes, flying, book, node, posted, letters.into_vec()),
+        Some(why) => end_thrown(
+            alloc,
+            nodes,
+            flying,
+            book,
+            node,
+            posted,
+            why,
+            letters.into_vec(),
+        ),
+        None => send_answers(
+            alloc,
+            nodes,
+            flying,
+            book,
+            node,
+            posted,
+            Said::Heard,
+            letters.into_vec(),
+        ),
     }
 }
 
@@ -210,7 +292,7 @@ fn end_post<D: Disk>(
     requires works { CanWorkOn D.seen nodes.old.plan nodes.old.lives.items nodes.old.disks.items }
     requires within { node ≤ nodes.old.plan.nodes }
     requires room { 0 < spare_of book.old }
-    requires fit { IfOk heard (λ outbox. AllCanBeTaken outbox.letters) }
+    requires fit { IfOk heard (λ outbox. AllCanBeHeard outbox.letters) }
     ensures { EndsPost (view_of D.seen D.faults D.clock) nodes.old.plan node posted heard result nodes.old flying.old book.old nodes.new flying.new book.new }
 {
     match heard {

@@ -1,7 +1,8 @@
 //! A node pushes to another what is due to it.
-ghost use Rattle.std.specs.Prelude.{◌≡◌, ◌+◌, ◌≤◌, ◌<◌, ℕ, None, length, IfOk, IfErr};
+ghost use Rattle.std.specs.Prelude.{◌≡◌, ◌+◌, ◌≤◌, ◌<◌, ℕ, All, None, length, IfOk, IfErr};
 ghost use Rattle.node_store.specs.Disks.{view_of};
-ghost use Rattle.node_core.specs.Spelling.{AllCanBeTaken};
+ghost use Rattle.whole_node.specs.Hearing.{FitsMaps};
+ghost use Rattle.cluster_world.specs.Hears.{AllCanBeHeard};
 ghost use Rattle.world_book.specs.Books.{spare_of};
 ghost use Rattle.cluster_world.specs.Asking.{IsUpWhole};
 ghost use Rattle.cluster_world.specs.Lives.{all_falls_left, CanWorkOn};
@@ -17,10 +18,10 @@ ghost use Rattle.cluster_world.specs.declared.fault.StepFault.TheVariants.{NoMem
 
 use crate::fault::StepFault;
 use crate::flying::{Flying, is_worn};
+use crate::life::Life;
 use crate::limits::{MOST_LETTERS, MOST_OCTETS};
 use crate::nodes::{Nodes, place_of};
 use crate::sending::send;
-use crate::station::Station;
 use crate::step::Said;
 use crate::steps::fault::tell_fault;
 use crate::working::push_at;
@@ -50,7 +51,7 @@ fn octets_left(flying: &Flying) -> u64
 /// Whether something is due to the other node, and not even the first letter finds room.
 fn is_crowded_at(
     alloc: Global,
-    life: &Station,
+    life: &Life,
     to: NodeNo,
     most: usize,
     room: u64,
@@ -58,9 +59,9 @@ fn is_crowded_at(
     requires up { IsUpWhole life.now }
     ensures { IfOk result (λ crowded. IsCrowdedAt to most room crowded life.now) }
 {
-    match life.mail() {
-        Some(node) => node.is_crowded(alloc, to, most, room),
-        None => unreachable!(),
+    match life {
+        Life::Up(node) => node.mail().is_crowded(alloc, to, most, room),
+        Life::Down | Life::Lost => unreachable!(),
     }
 }
 
@@ -75,7 +76,8 @@ fn push_in<D: Disk>(
 ) -> Result<Outbox, NodeFault>
     requires fit { node_refusal nodes.old.plan (life_among nodes.old) (step.Push from to) ≡ None }
     requires works { CanWorkOn D.seen nodes.old.plan nodes.old.lives.items nodes.old.disks.items }
-    ensures { ChangesNode from (PushesAt (view_of D.seen D.faults D.clock) D.settled from to most room result) nodes.old nodes.new }
+    ensures pushes { ChangesNode from (PushesAt (view_of D.seen D.faults D.clock) D.settled from to most room result) nodes.old nodes.new }
+    ensures fits { IfOk result (λ outbox. All FitsMaps outbox.letters) }
 {
     let place = place_of(from);
     push_at(
@@ -96,7 +98,7 @@ fn send_pushed<D: Disk>(
     letters: Vec<Letter>,
 ) -> Result<Said, StepFault>
     requires works { CanWorkOn D.seen nodes.old.plan nodes.old.lives.items nodes.old.disks.items }
-    requires heard { AllCanBeTaken letters.items }
+    requires heard { AllCanBeHeard letters.items }
     ensures ok { IfOk result (λ said. (said ≡ Sent (length letters.items)) × SentOff (view_of D.seen D.faults D.clock) nodes.old.plan letters.items None flying.old flying.new nodes.old nodes.new) }
     ensures err { IfErr result (λ why. (why ≡ NoMemory None) × (flying.new ≡ flying.old) × (nodes.new ≡ nodes.old)) }
 {

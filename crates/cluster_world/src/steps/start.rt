@@ -12,8 +12,8 @@ ghost use Rattle.cluster_world.specs.declared.life.Life.TheVariants as lives;
 
 use crate::fault::StepFault;
 use crate::flying::{Flying, is_worn};
+use crate::life::Life;
 use crate::nodes::{Nodes, put_life};
-use crate::station::Station;
 use crate::step::Said;
 use crate::steps::fault::tell_fault;
 use io_edge::Disk;
@@ -26,7 +26,7 @@ use world_book::{Book, Entry};
 /// Starts a node that is down over its disk. It answers its boot.
 pub(crate) fn start_at<D: Disk>(
     alloc: Global,
-    life: &mut Station,
+    life: &mut Life,
     disk: &mut D,
     plan: &Plan,
     node: NodeNo,
@@ -39,7 +39,7 @@ pub(crate) fn start_at<D: Disk>(
 {
     let up = WholeNode::start(alloc, disk, plan, node)?;
     let boot = up.mail().boot();
-    put_life(life, Station::up(up));
+    put_life(life, Life::Up(up));
     Ok(boot)
 }
 

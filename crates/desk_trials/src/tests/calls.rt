@@ -288,6 +288,22 @@ fn starts(alloc: Global, pass: &mut SoloPass<MemoryDisk>, node: NodeNo) -> [u8; 
     told_step(&said)
 }
 
+fn opens_group(alloc: Global, pass: &mut SoloPass<MemoryDisk>, node: NodeNo) -> [u8; 2]
+    requires { IsPass in_memory pass.old }
+    ensures { IsPass in_memory pass.new }
+{
+    let said = pass.step(alloc, Step::Group { node });
+    told_step(&said)
+}
+
+fn concludes(alloc: Global, pass: &mut SoloPass<MemoryDisk>, node: NodeNo) -> [u8; 2]
+    requires { IsPass in_memory pass.old }
+    ensures { IsPass in_memory pass.new }
+{
+    let said = pass.step(alloc, Step::Conclude { node });
+    told_step(&said)
+}
+
 // Does what a letter tells at a node.
 fn does_at(
     alloc: Global,
@@ -303,6 +319,8 @@ fn does_at(
         b'u' => Ok(tells_life(pass, node)),
         b'C' => Ok(crashes(alloc, pass, node)),
         b'S' => Ok(starts(alloc, pass, node)),
+        b'g' => Ok(opens_group(alloc, pass, node)),
+        b'c' => Ok(concludes(alloc, pass, node)),
         b'E' => Ok(leaves(alloc, pass, node, call_of(alloc, b'E')?)),
         b'e' => Ok(leaves(alloc, pass, node, call_of(alloc, b'D')?)),
         _ => begins(alloc, pass, tickets, node, call_of(alloc, what)?),
@@ -326,9 +344,10 @@ fn does_with(
     }
 }
 
-// Does what two letters tell, and says what came of it. `u` asks whether the node is up, `C` and `S` have it stop and start, and
-// `p` posts a letter. `E` begins a Leave, and `e` hands in a message where a Leave is wanted. `?`, `d`, `k` and `!` are done with
-// the ticket of this number, from 0. Any other letter begins its call at the node.
+// Does what two letters tell, and says what came of it. `u` asks whether the node is up, `C` and `S` have it stop and start, `g`
+// and `c` have it open a group and conclude it, and `p` posts a letter. `E` begins a Leave, and `e` hands in a message where a
+// Leave is wanted. `?`, `d`, `k` and `!` are done with the ticket of this number, from 0. Any other letter begins its call at the
+// node.
 pub(super) fn does(
     alloc: Global,
     pass: &mut SoloPass<MemoryDisk>,

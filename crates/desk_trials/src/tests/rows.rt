@@ -30,17 +30,21 @@ const AT_ONE: [[u8; 4]; 30] = [
 ];
 
 // At three nodes, of which two have to confirm.
-const AT_THREE: [[u8; 4]; 40] = [
+const AT_THREE: [[u8; 4]; 55] = [
     // A message waits for letters.
     *b"D1B1", *b"?0P1", *b"p.po", *b"?0P1", *b"p.po", *b"p.po", *b"?0S3", *b"p.po", *b"p.qu",
     // One is given up, and its letters are posted all the same.
     *b"D1B2", *b"!1..", *b"?1do", *b"p.po", *b"p.po", *b"p.po", *b"p.po", *b"p.qu",
     // The node goes down in the middle of one: its ticket stands no more, and none begins there.
     *b"D1B3", *b"C1..", *b"?2do", *b"u1do", *b"D1do", *b"!2..", *b"E1do", *b"C1re",
-    // It starts again.
-    *b"S1..", *b"u1b2", *b"D1B1",
+    // It starts again, without an epoch. A message fails there at once, and no group is to be concluded.
+    *b"S1..", *b"u1b2", *b"D1B1", *b"?3F.", *b"c1re",
+    // It opens a group, hears from both others, and is let in. The letters of the message that it began before are still in
+    // flight: both others hear them, and their answers come too late.
+    *b"g1..", *b"p.po", *b"p.po", *b"p.po", *b"p.po", *b"p.po", *b"p.po", *b"p.po", *b"p.po",
+    *b"p.qu", *b"c1..", *b"p.po", *b"p.po", *b"p.qu", *b"D1B2",
     // The others are down: the message fails once its letters are posted.
-    *b"C2..", *b"C3..", *b"?3P1", *b"p.po", *b"p.po", *b"p.po", *b"p.po", *b"?3F.", *b"p.qu",
+    *b"C2..", *b"C3..", *b"?4P1", *b"p.po", *b"p.po", *b"?4F.", *b"p.qu",
     // What the plan has no node for, and what has no rule among several.
     *b"u4do", *b"L1me", *b"E1me",
 ];
@@ -110,6 +114,6 @@ fn each_call_answers_at_three_nodes(rt: HostRuntime) -> Result<(), Fail> {
     };
     let left = left_of(alloc, &mut pass, &mut Vec::new(alloc), &AT_THREE)?;
     assert_eq!(rt; left, 0);
-    assert_eq!(rt; counted(&pass), [1, 0, 0, 0, 0, 0, 1, 6, 0]);
+    assert_eq!(rt; counted(&pass), [1, 0, 0, 0, 0, 0, 2, 6, 0]);
     Ok(())
 }

@@ -34,6 +34,8 @@ crash 1
   * node 1 down
 start 1
   * node 1 up 2
+regroup 1
+  * epoch 2.1 members 1
 open pop 1
   2 +OK node1 ready <2.2.0@node1>
 say 2 USER alice

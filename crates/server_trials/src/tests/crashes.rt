@@ -32,6 +32,8 @@ const STARTED: &[u8] = b"crash 1
   * node 1 down
 start 1
   * node 1 up 2
+regroup 1
+  * epoch 2.1 members 1
 ";
 
 const STARTED_IN_SESSION: &[u8] = b"crash 1
@@ -40,6 +42,8 @@ const STARTED_IN_SESSION: &[u8] = b"crash 1
   * 1 closed
 start 1
   * node 1 up 2
+regroup 1
+  * epoch 2.1 members 1
 ";
 
 const LOGIN: &[u8] = b"open pop 1
@@ -98,6 +102,7 @@ say 2 QUIT
 
 const STARTED_AGAIN: &[u8] = b"\
 start 1
+regroup 1
 open pop 1
 say 3 USER alice
 say 3 PASS tanstaaf

@@ -190,13 +190,13 @@ fn a_message_is_stored_or_the_disk_fails(rt: HostRuntime) -> Result<(), Fail> {
     let down = Drove::BadTape(18, TapeFault::NodeDown);
     let whole = Counts { acked: 2, ..none() };
     let gone = Counts { down: 1, ..none() };
-    // The opening makes six disk calls, and the message for two mailboxes twenty: its octets, and of each copy its state and
+    // The opening makes ten disk calls, and the message for two mailboxes twenty: its octets, and of each copy its state and
     // that it is retired.
     let cases: [(u64, Drove, &[u8], Counts); 4] = [
         (0, Drove::Ended, STORED, whole),
-        (7, down, FALLEN, gone),
-        (26, down, FALLEN, gone),
-        (27, Drove::Ended, STORED, whole),
+        (11, down, FALLEN, gone),
+        (30, down, FALLEN, gone),
+        (31, Drove::Ended, STORED, whole),
     ];
     for (call, drove, lines, counted) in cases {
         drives(&rt, rt.alloc(), &[MESSAGE, lines], call, (drove, counted))?;
@@ -216,12 +216,12 @@ fn a_marked_message_is_deleted_or_the_disk_fails(rt: HostRuntime) -> Result<(), 
         ..struck
     };
     let down = Counts { down: 1, ..struck };
-    // The Gone state takes four disk calls after the twenty-six before it, and that it is retired four more.
+    // The Gone state takes four disk calls after the thirty before it, and that it is retired four more.
     let cases: [(u64, &[u8], Counts); 4] = [
         (0, DROPPED, dropped),
-        (27, FALLEN_IN_QUIT, down),
-        (34, FALLEN_IN_QUIT, down),
-        (35, DROPPED, dropped),
+        (31, FALLEN_IN_QUIT, down),
+        (38, FALLEN_IN_QUIT, down),
+        (39, DROPPED, dropped),
     ];
     for (call, lines, counted) in cases {
         let pieces = [MESSAGE, MARKED, lines];

@@ -373,6 +373,8 @@ crash 1
   * 1 closed
 start 1
   * node 1 up 2
+regroup 1
+  * epoch 2.1 members 1
 open pop 1
   2 +OK node1 ready <2.2.0@node1>
 say 2 USER alice
@@ -401,6 +403,8 @@ crash 1
   * 2 closed
 start 1
   * node 1 up 3
+regroup 1
+  * epoch 3.1 members 1
 open pop 1
   3 +OK node1 ready <3.3.0@node1>
 say 3 USER alice
@@ -420,6 +424,8 @@ crash 1
   * node 1 down
 start 1
   * node 1 up 4
+regroup 1
+  * epoch 4.1 members 1
 open smtp 1
   4 220 node1 Porcupine ready
 say 4 HELO c.example
@@ -496,6 +502,8 @@ crash 1
   * node 1 down
 start 1
   * node 1 up 2
+regroup 1
+  * epoch 2.1 members 1 3
 open smtp 3
   2 220 node3 Porcupine ready
 say 2 HELO d.example
@@ -517,9 +525,92 @@ say 2 QUIT
 end
 ";
 
+const REGROUP: &[u8] = b"\
+nodes 4
+copies 2 2
+buckets 16
+user alice tanstaaf
+postmaster alice
+go
+lose 3
+  * node 3 lost
+lose 4
+  * node 4 lost
+open smtp 2
+  1 220 node2 Porcupine ready
+say 1 HELO c.example
+  1 250 node2
+say 1 MAIL FROM:<bob@b.example>
+  1 250 sender ok
+say 1 RCPT TO:<alice>
+  1 250 recipient ok
+say 1 DATA
+  1 354 end with a line that is a single period
+say 1 one
+say 1 .
+flow
+  * flowed
+  1 451 not stored, try again
+regroup 1
+  * epoch 2.1 members 1 2
+say 1 MAIL FROM:<bob@b.example>
+  1 250 sender ok
+say 1 RCPT TO:<alice>
+  1 250 recipient ok
+say 1 DATA
+  1 354 end with a line that is a single period
+say 1 two
+say 1 .
+flow
+  * flowed
+  1 250 stored
+crash 2
+  * node 2 down
+  1 421 node2 down
+  * 1 closed
+start 2
+  * node 2 up 2
+open smtp 2
+  2 220 node2 Porcupine ready
+say 2 HELO c.example
+  2 250 node2
+say 2 MAIL FROM:<bob@b.example>
+  2 250 sender ok
+say 2 RCPT TO:<alice>
+  2 250 recipient ok
+say 2 DATA
+  2 354 end with a line that is a single period
+say 2 three
+say 2 .
+  2 451 not stored, try again
+group 2
+  * group 3.2
+flow
+  * flowed
+conclude 2
+  * epoch 3.2 members 1 2
+flow
+  * flowed
+say 2 MAIL FROM:<bob@b.example>
+  2 250 sender ok
+say 2 RCPT TO:<alice>
+  2 250 recipient ok
+say 2 DATA
+  2 354 end with a line that is a single period
+say 2 three
+say 2 .
+flow
+  * flowed
+  2 250 stored
+say 2 QUIT
+  2 221 node2 closing
+  * 2 closed
+end
+";
+
 #[test]
 fn each_example_is_answered_as_its_file_says(rt: HostRuntime) -> Result<(), Fail> {
-    for lines in [FIRST, READING, EXTENDED, DAY, RESTART, LOST_NODE] {
+    for lines in [FIRST, READING, EXTENDED, DAY, RESTART, LOST_NODE, REGROUP] {
         each_case(&rt, rt.alloc(), b"", lines)?;
     }
     Ok(())

@@ -175,9 +175,9 @@ const THREE: [Message; 3] = [
 #[test]
 fn texts_are_stored_octet_for_octet(rt: HostRuntime) -> Result<(), Fail> {
     let alloc = rt.alloc();
-    // A message has 129 octets besides its text, and besides one message the store has 130.
-    assert_eq!(rt; stores(&rt, alloc, &[(b"", b"")])?, 259);
-    assert_eq!(rt; stores(&rt, alloc, &HELLO)?, 281);
+    // A message has 129 octets besides its text, and besides one message the store has 145.
+    assert_eq!(rt; stores(&rt, alloc, &[(b"", b"")])?, 274);
+    assert_eq!(rt; stores(&rt, alloc, &HELLO)?, 296);
     stores(&rt, alloc, &THREE)?;
     stores_a_long_line(&rt, alloc)?;
     Ok(())

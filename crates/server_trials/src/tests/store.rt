@@ -18,7 +18,7 @@ pub(super) struct Journal {
 }
 
 impl Journal {
-    /// The header of node 1 and the record of its boot.
+    /// The header of node 1, the record of its boot and that of its promise of epoch 1.1.
     pub(super) fn new(alloc: Global) -> Result<Journal, Fail> {
         let mut journal = Journal {
             alloc,
@@ -27,6 +27,8 @@ impl Journal {
             number: 0,
             count: 0,
         };
+        journal.record()?;
+        journal.add(b"\x02\0\0\0\0\0\0\0\x01\x01")?;
         journal.record()?;
         Ok(journal)
     }

@@ -1,7 +1,9 @@
 // What the console is answered, and how it ends.
 
-use super::trials::{Outside, SOUND, STOPPED, goes};
-use super::worlds::{counts, is_up};
+use super::plans::plan;
+use super::signals::Signals;
+use super::trials::{Outside, SOUND, STOPPED, agrees_wholly, goes, serves};
+use super::worlds::{confirmers, counts, is_up, opened};
 use mail_service::{ConsoleEnd, DoorEnd, ServiceEnd};
 use std::test::Fail;
 
@@ -14,26 +16,38 @@ C
 <*0 node 2 down
 >crash 2
 <! line 3 NodeDown
+>group 2
+<! line 4 NodeDown
 >start 2\r
 <*0 node 2 up 2
 >start 2
-<! line 5 NodeUp
+<! line 6 NodeUp
+>group 2
+<*0 epoch 2.2 members 1 2 3
 >lose 2
 <*0 node 2 lost
 >lose 2
-<! line 7 NodeLost
+<! line 9 NodeLost
 >start 2
-<! line 8 NodeLost
+<! line 10 NodeLost
+>group 2
+<! line 11 NodeLost
+>group 3
+<*0 epoch 3.3 members 1 3
 >crash 4
-<! line 9 NoSuchNode
+<! line 13 NoSuchNode
+>group 4
+<! line 14 NoSuchNode
 >lose 17
-<! line 10 NoSuchNode
+<! line 15 NoSuchNode
 >stop it
-<! line 11 BadLine
+<! line 16 BadLine
+>group
+<! line 17 BadLine
 >
-<! line 12 BadLine
+<! line 18 BadLine
 >~~~~~~~~~~~~~~~~~~~~~~~~~~~~~~~~~~~~~~~~~~~~~~~~~~~~~~~~~~~~~~~~~~~~~~~~~~~~~~~~~~~~~~~~~~~~~~~~~~~~~~~~~~~~~~~~~~~~~~~~~~~~~~~~~~~~
-<! line 13 BadLine
+<! line 19 BadLine
 >sum
 <*0 sum acked 0 struck 0 dropped 0 lost 1
 >stop\r
@@ -54,7 +68,7 @@ C
 <*0 sum acked 0 struck 0 dropped 0 lost 0
 ";
 
-// A node stops in the middle of a text. It starts, and takes mail again.
+// A node stops in the middle of a text. It starts, is let in by a regroup, and takes mail again.
 const STOPS: &[u8] = b"\
 S2
 <220 node2 Porcupine ready
@@ -79,9 +93,85 @@ C
 @1
 >start 2
 <*0 node 2 up 2
+>group 1
+<*0 epoch 2.1 members 1 2 3
 !9
 @3
 >stop
+S2@9
+<220 node2 Porcupine ready
+>HELO c.example
+<250 node2
+>MAIL FROM:<bob@b.example>
+<250 sender ok
+>RCPT TO:<ann>
+<250 recipient ok
+>DATA
+<354 end with a line that is a single period
+>a text
+>.
+<250 stored
+>QUIT
+<221 node2 closing
+";
+
+// A node that was started has no epoch, and takes no mail.
+const NO_EPOCH: &[u8] = b"\
+C
+>crash 2
+<*0 node 2 down
+>start 2
+<*0 node 2 up 2
+!9
+@2
+>stop
+S2@9
+<220 node2 Porcupine ready
+>HELO c.example
+<250 node2
+>MAIL FROM:<bob@b.example>
+<250 sender ok
+>RCPT TO:<ann>
+<250 recipient ok
+>DATA
+<354 end with a line that is a single period
+>a text
+>.
+<451 not stored, try again
+>QUIT
+<221 node2 closing
+";
+
+// Two of four nodes are lost. The two that are left regroup, and have the two copies of each message.
+const TWO_LEFT: &[u8] = b"\
+C
+>lose 3
+<*0 node 3 lost
+>lose 4
+<*0 node 4 lost
+>group 2
+<*0 epoch 2.2 members 1 2
+!9
+@2
+@3
+>sum
+<*0 sum acked 2 struck 0 dropped 0 lost 2
+>stop
+S1@9
+<220 node1 Porcupine ready
+>HELO c.example
+<250 node1
+>MAIL FROM:<bob@b.example>
+<250 sender ok
+>RCPT TO:<ann>
+<250 recipient ok
+>DATA
+<354 end with a line that is a single period
+>a text
+>.
+<250 stored
+>QUIT
+<221 node1 closing
 S2@9
 <220 node2 Porcupine ready
 >HELO c.example
@@ -143,5 +233,40 @@ fn a_node_stops_and_starts_again(rt: HostRuntime) -> Result<(), Fail> {
     let world = goes(&rt, rt.alloc(), outside, 3, STOPPED)?;
     assert_eq!(rt; counts(&world.sum()), [1, 0, 0, 0]);
     assert!(rt; is_up(&world, 2));
+    Ok(())
+}
+
+#[test]
+fn a_node_without_an_epoch_takes_no_mail(rt: HostRuntime) -> Result<(), Fail> {
+    let outside = Outside {
+        text: NO_EPOCH,
+        ..SOUND
+    };
+    let world = goes(&rt, rt.alloc(), outside, 3, STOPPED)?;
+    assert_eq!(rt; counts(&world.sum()), [0, 0, 0, 0]);
+    Ok(())
+}
+
+#[test]
+fn those_that_are_left_take_mail(rt: HostRuntime) -> Result<(), Fail> {
+    let alloc = rt.alloc();
+    let plan = plan(alloc, 4, 2, 2)?;
+    let Ok(world) = opened(alloc, 4, 2, 2, 0, 0) else {
+        panic!(rt; "no world");
+    };
+    let signals = Signals::new();
+    let outside = Outside {
+        text: TWO_LEFT,
+        ..SOUND
+    };
+    let (end, world) = serves(&rt, alloc, outside, &plan, &signals, world)?;
+    agrees_wholly(&rt, &signals, TWO_LEFT);
+    assert_eq!(rt; end, STOPPED);
+    assert_eq!(rt; counts(&world.sum()), [2, 0, 0, 2]);
+    let last = world.book().entries().last();
+    assert_eq!(rt;
+        confirmers(last, b"ann", 1).max(confirmers(last, b"ann", 2)),
+        2
+    );
     Ok(())
 }

@@ -1,5 +1,5 @@
 // A disk in memory that tells nothing of what it holds.
-ghost use Rattle.std.specs.Prelude.{◌≡◌, ◌≤◌, ◌^◌, [], ◌≤◌, vec_len, vec_capacity, None};
+ghost use Rattle.std.specs.Prelude.{◌≡◌, ◌≤◌, ◌^◌, [], None};
 ghost use Rattle.io_edge.specs.Causes.{Rose};
 
 use io_edge::{Disk, Failed, overwrite};

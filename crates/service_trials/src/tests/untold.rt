@@ -13,7 +13,7 @@ use std::test::Fail;
 use std::thread::Threads;
 use std::time::Clock;
 
-// Mail goes in, its node stops and starts again, and the mail is read.
+// Mail goes in, its node stops, starts again and regroups, and the mail is read.
 const READ_AFTER: &[u8] = b"\
 S1
 <220 node1 Porcupine ready
@@ -36,6 +36,8 @@ C
 <*0 node 1 down
 >start 1
 <*0 node 1 up 2
+>group 1
+<*0 epoch 2.1 members 1
 !9
 @3
 >sum

@@ -43,6 +43,9 @@ fn of_move(alloc: Global, order: &ClusterOrder) -> Result<Vec<u8>, AllocError> {
         ClusterOrder::Flow => Vec::from_slice(alloc, b"flow"),
         ClusterOrder::Push { node } => worded(alloc, b"push", *node, b""),
         ClusterOrder::Widen { at, user, id, to } => widening(alloc, *at, user, *id, *to),
+        ClusterOrder::Group { node } => worded(alloc, b"group", *node, b""),
+        ClusterOrder::Conclude { node } => worded(alloc, b"conclude", *node, b""),
+        ClusterOrder::Regroup { node } => worded(alloc, b"regroup", *node, b""),
         ClusterOrder::Tick { seconds } => worded(alloc, b"tick", *seconds, b""),
         ClusterOrder::Sum => Vec::from_slice(alloc, b"sum"),
     }
@@ -72,7 +75,7 @@ fn read_as(alloc: Global, line: &[u8]) -> Result<Vec<u8>, AllocError> {
 }
 
 // Run lines, and what each is read as.
-const TAKEN: [(&[u8], &[u8]); 39] = [
+const TAKEN: [(&[u8], &[u8]); 43] = [
     (b"open smtp 2\r", b"smtp 2:"),
     (b"open smtp 0", b"smtp 0:"),
     (b"open pop 2\r", b"pop 2:"),
@@ -113,6 +116,10 @@ const TAKEN: [(&[u8], &[u8]); 39] = [
     (b"flow", b"flow"),
     (b"flow\r", b"flow"),
     (b"push 2", b"push 2:"),
+    (b"group 1", b"group 1:"),
+    (b"conclude 16\r", b"conclude 16:"),
+    (b"regroup 0", b"regroup 0:"),
+    (b"regroup 00000000000000000002", b"regroup 2:"),
     (b"giveup 12\r", b"giveup 12:"),
     (b"widen 1 alice 2.3.4 5", b"widen 1:alice 2.3.4 5"),
     (
@@ -133,7 +140,7 @@ const TAKEN: [(&[u8], &[u8]); 39] = [
 ];
 
 // Lines of no form.
-const REFUSED: [&[u8]; 84] = [
+const REFUSED: [&[u8]; 91] = [
     b"open sm",
     b"open pop",
     b"open pop ",
@@ -191,6 +198,13 @@ const REFUSED: [&[u8]; 84] = [
     b"flow 1",
     b"flows",
     b"push",
+    b"group",
+    b"group 1 2",
+    b"groups 1",
+    b"conclude ",
+    b"conclude x",
+    b"regroup  1",
+    b"re group 1",
     b"giveup",
     b"giveup x",
     b"give up 1",

@@ -29,6 +29,17 @@ fn fresh(alloc: Global, number: u8) -> Result<Site, AllocError> {
     }
 }
 
+// A node that begins in the first epoch.
+fn opened(alloc: Global, number: u8) -> Result<Site, AllocError> {
+    let own = NodeNo::new(number).ok_or(AllocError)?;
+    match Site::open(alloc, own) {
+        Ok(site) => Ok(site),
+        Err(NodeFault::Disk) => Err(AllocError),
+        Err(NodeFault::Worn) => Err(AllocError),
+        Err(NodeFault::NoMemory { .. }) => Err(AllocError),
+    }
+}
+
 // Where the first letter of this name is.
 fn place_of(flying: &[Letter], name: &[u8]) -> Option<usize>
     ensures { IfSome result (λ place. place < length flying.now) }
@@ -59,6 +70,19 @@ impl Trial {
         let mut trial = Trial::empty(alloc)?;
         trial.start_all()?;
         Ok(trial)
+    }
+
+    // Three nodes that begin over empty disks, in the first epoch.
+    fn opened(alloc: Global) -> Result<Trial, AllocError> {
+        let mut sites = Vec::new(alloc);
+        for number in 1..4u8 {
+            sites.push(opened(alloc, number)?)?;
+        }
+        Ok(Trial {
+            alloc,
+            sites,
+            flying: Vec::new(alloc),
+        })
     }
 
     fn start_all(&mut self) -> Result<(), AllocError> {
@@ -207,6 +231,21 @@ fn plays(alloc: Global, table: &[u8]) -> Result<Vec<u8>, AllocError> {
     let lines = lines_of(alloc, table)?;
     let mut trial = Trial::new(alloc)?;
     trial.plays(&lines)
+}
+
+fn plays_opened(alloc: Global, table: &[u8]) -> Result<Vec<u8>, AllocError> {
+    let lines = lines_of(alloc, table)?;
+    let mut trial = Trial::opened(alloc)?;
+    trial.plays(&lines)
+}
+
+/// So it does of nodes that begin in the first epoch.
+pub(crate) fn stands_opened(rt: &impl Abort, alloc: Global, table: &[u8]) -> Result<(), Fail> {
+    let Ok(wrong) = plays_opened(alloc, table) else {
+        panic!(rt; "out of memory");
+    };
+    assert_eq!(rt; str::from_utf8(&wrong)?, "");
+    Ok(())
 }
 
 /// Each line of the table comes as it is written.

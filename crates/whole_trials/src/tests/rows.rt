@@ -2,18 +2,29 @@
 use super::cluster::stands;
 use std::test::Fail;
 
-// Mail that is there as an epoch begins: each holder that is not the manager reports its row, once.
+// Mail that is there as an epoch begins, at a node that has started again: it reports its row to the manager, once.
 #[test]
 fn rows_are_told_as_an_epoch_begins(rt: HostRuntime) -> Result<(), Fail> {
     let table = b"\
-m 3    > F31
-p F31  > f13
 o 2    > 1.2 G21 G23
 p G21  > J12
 p G23  > J32
 p J12  >
 p J32  >
 c 2    > 1.2 I21 I23
+p I21  >
+p I23  >
+m 3    > F31
+p F31  > f13
+p f13  >
+h 3    >
+s 3    > 2 1.2
+o 2    > 2.2 G21 G23
+p G21  > J12
+p G23  > J32
+p J12  >
+p J32  >
+c 2    > 2.2 I21 I23
 p I21  >
 p I23  >
 n 1    > 1

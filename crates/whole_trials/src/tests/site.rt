@@ -399,6 +399,21 @@ impl Site {
         })
     }
 
+    /// A node that begins over an empty disk: it is up in its first boot, and has made the first epoch itself.
+    pub(crate) fn open(alloc: Global, own: NodeNo) -> Result<Site, NodeFault> {
+        if own.number() > 3 {
+            return Err(NodeFault::Disk);
+        }
+        let plan = plan_of(alloc)?;
+        let mut disk = MemoryDisk::new(alloc);
+        let node = WholeNode::first(alloc, &mut disk, &plan, own)?;
+        Ok(Site {
+            own,
+            disk,
+            node: Some(node),
+        })
+    }
+
     /// The node starts, if it is down.
     pub(crate) fn start(&mut self, alloc: Global, out: &mut Vec<u8>) -> Result<(), AllocError> {
         if is_up(&self.node) || self.own.number() > 3 {

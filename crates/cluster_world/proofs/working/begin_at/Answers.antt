@@ -1,12 +1,17 @@
-use Rattle.std.proofs.Common.{◌∙◌}
-use Rattle.cluster_world.proofs.Stationed.{whole_of, turned_station}
+use Rattle.std.proofs.Common.{◌∙◌, refl, sym, ap, subst}
+use Rattle.cluster_world.proofs.Turning.{works_in}
 use Rattle.cluster_world.proofs.working.begin_at.Goals as goal
 
-pub begin_held-requires-clause-up : goal.begin_held-requires-clause-up
-begin_held-requires-clause-up g c = let (node, is, works) = c.requires.up in whole_of c.life.inside.held node _ (c.life.view_is ∙ is) c.life.invariant works
+pub begin-done-requires-clause-works : goal.begin-done-requires-clause-works
+begin-done-requires-clause-works g c = works_in c.args.life.now c.in-Up.node _ c.in-Up.is c.requires.up
 
 pub returns-clause-turns : goal.returns-clause-turns
-returns-clause-turns g c = turned_station c.life.view_is c.begin_held.ensures.turns
-
-pub invariant_of-life : goal.invariant_of-life
-invariant_of-life g c = c.begin_held.ensures.maps
+returns-clause-turns g c = record {
+  old = c.in-Up.node;
+  new = c.begin-done.new.self;
+  was = c.in-Up.is;
+  did = λ plan own is users ended. c.begin-done.ensures.begins plan own is users;
+  maps = c.begin-done.ensures.follows;
+  is = c.settle.ensures _ refl;
+  works = c.begin-done.ensures.works;
+}

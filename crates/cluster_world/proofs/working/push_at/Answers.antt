@@ -1,12 +1,17 @@
-use Rattle.std.proofs.Common.{◌∙◌}
-use Rattle.cluster_world.proofs.Stationed.{whole_of, turned_station}
+use Rattle.std.proofs.Common.{◌∙◌, refl, sym, ap, subst}
+use Rattle.cluster_world.proofs.Turning.{works_in}
 use Rattle.cluster_world.proofs.working.push_at.Goals as goal
 
-pub push_held-requires : goal.push_held-requires
-push_held-requires g c = let (node, is, works) = c.requires.up in record { up = whole_of c.life.inside.held node _ (c.life.view_is ∙ is) c.life.invariant works }
+pub push-done-requires : goal.push-done-requires
+push-done-requires g c = record { works = works_in c.args.life.now c.in-Up.node _ c.in-Up.is c.requires.up }
 
 pub returns-clause-turns : goal.returns-clause-turns
-returns-clause-turns g c = turned_station c.life.view_is c.push_held.ensures.turns
-
-pub invariant_of-life : goal.invariant_of-life
-invariant_of-life g c = c.push_held.ensures.maps
+returns-clause-turns g c = record {
+  old = c.in-Up.node;
+  new = c.push-done.new.self;
+  was = c.in-Up.is;
+  did = c.push-done.ensures.pushes;
+  maps = λ plan own is. c.push-done.ensures.maps;
+  is = c.settle.ensures _ refl;
+  works = c.push-done.ensures.works;
+}

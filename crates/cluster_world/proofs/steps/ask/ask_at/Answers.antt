@@ -1,11 +1,21 @@
-use Rattle.cluster_world.proofs.Stationed.{whole_station, asked_station}
+use Rattle.std.proofs.Common.{◌≡◌, refl, subst}
+use Rattle.node_tickets.specs.Standing.{asks_seen, asks_at, asked_out}
+use Rattle.node_core.specs.Nodes.{node_seen, ChangesTickets}
+use Rattle.node_core.specs.Standing.{ticket_standing}
 use Rattle.cluster_world.proofs.steps.ask.ask_at.Goals as goal
 
-pub ask_held-requires : goal.ask_held-requires
-ask_held-requires c = record { up = whole_station c.life.view_is c.requires.up }
-
 pub returns : goal.returns
-returns c = asked_station c.life.view_is c.ask_held.ensures.asks
-
-pub invariant_of-life : goal.invariant_of-life
-invariant_of-life c = c.ask_held.ensures.maps c.life.invariant
+returns c =
+    let node = c.in-Up.node in
+    record {
+      old = node;
+      new = c.ask.new.self;
+      was = c.in-Up.is;
+      is = refl;
+      answer = subst (λ t. asks_seen c.ask.result ≡ asks_at node.mail.shape.confirm (ticket_standing node.mail t)) c.ticket_of.ensures c.ask.ensures.answer;
+      tickets = record {
+        mail = subst (λ t. ChangesTickets (asked_out node.mail.shape.confirm t.seq (ticket_standing node.mail t) (node_seen node.mail).tickets) node.mail c.ask.new.self.mail) c.ticket_of.ensures c.ask.ensures.tickets;
+        maps = c.ask.ensures.maps;
+        works = c.ask.ensures.works;
+      };
+    }

@@ -7,7 +7,7 @@ use Rattle.cluster_world.specs.Worlds.{state_with}
 use Rattle.cluster_world.specs.declared.step.Step.TheVariants as step
 use Rattle.cluster_world.proofs.Same.{none_done}
 use Rattle.cluster_world.proofs.Asked.{same_book}
-use Rattle.cluster_world.proofs.BeginParts.{rule_of, begin_ready}
+use Rattle.cluster_world.proofs.BeginParts.{rule_of, begin_ready, begin_heard}
 use Rattle.cluster_world.proofs.BeginEnds.{begin_late, begun_did, concluded_ready, concluded_room, concluded_settled}
 use Rattle.cluster_world.proofs.steps.begin.begin_call.Goals as goal
 
@@ -35,26 +35,31 @@ returns-then-not-can_begin-clause-did g c =
 
 pub conclude-requires-clause-works : goal.conclude-requires-clause-works
 conclude-requires-clause-works g c =
-    begin_ready (view_of g.D.Disk.seen g.D.Disk.faults g.D.Disk.clock) g.D.Disk.settled c.args.node c.args.call c.args.seconds c.args.nodes.now c.begin_in-did.new.nodes c.requires.fit c.requires.ready c.begin_in-did.result c.begin_in-did.ensures
+    begin_ready (view_of g.D.Disk.seen g.D.Disk.faults g.D.Disk.clock) g.D.Disk.settled c.args.node c.args.call c.args.seconds c.args.nodes.now c.begin_in-did.new.nodes c.requires.fit c.requires.ready c.begin_in-did.result c.begin_in-did.ensures.begins
+
+pub conclude-requires-clause-heard : goal.conclude-requires-clause-heard
+conclude-requires-clause-heard g c =
+    begin_heard (view_of g.D.Disk.seen g.D.Disk.faults g.D.Disk.clock) g.D.Disk.settled c.args.node c.args.call c.args.seconds c.args.nodes.now c.begin_in-did.new.nodes c.requires.fit c.requires.ready c.begin_in-did.result c.begin_in-did.ensures.begins
+    c.begin_in-did.result refl c.begin_in-did.ensures.fits
 
 pub returns-clause-did : goal.returns-clause-did
 returns-clause-did g c =
-    begun_did (view_of g.D.Disk.seen g.D.Disk.faults g.D.Disk.clock) g.D.Disk.settled c.args.node c.args.call c.args.seconds c.args.nodes.now c.begin_in-did.new.nodes c.requires.fit c.requires.ready c.begin_in-did.result c.begin_in-did.ensures
+    begun_did (view_of g.D.Disk.seen g.D.Disk.faults g.D.Disk.clock) g.D.Disk.settled c.args.node c.args.call c.args.seconds c.args.nodes.now c.begin_in-did.new.nodes c.requires.fit c.requires.ready c.begin_in-did.result c.begin_in-did.ensures.begins
     c.args.flying.now c.args.book.now (ap (nat_le letters_end) (sym c.sent.ensures) ∙ sym c.is_worn.ensures ∙ c.if-is_worn.false) (rule_of _ c.args.nodes.now c.nodes.view_is (call_seen c.args.call) (c.if-not-can_begin.ensures.rule refl)) c.in_ok-entries.entries.items c.in_ok-entries.ensures c.reserve.new.self c.reserve.ensures.entries
     c.conclude.new.nodes c.conclude.new.flying c.conclude.new.book c.conclude.result c.conclude.ensures.concludes
 
 pub returns-clause-ready : goal.returns-clause-ready
 returns-clause-ready g c =
-    concluded_ready (view_of g.D.Disk.seen g.D.Disk.faults g.D.Disk.clock) g.D.Disk.settled c.args.node c.args.call c.args.seconds c.args.nodes.now c.begin_in-did.new.nodes c.requires.fit c.requires.ready c.begin_in-did.result c.begin_in-did.ensures
+    concluded_ready (view_of g.D.Disk.seen g.D.Disk.faults g.D.Disk.clock) g.D.Disk.settled c.args.node c.args.call c.args.seconds c.args.nodes.now c.begin_in-did.new.nodes c.requires.fit c.requires.ready c.begin_in-did.result c.begin_in-did.ensures.begins
     c.in_ok-entries.entries.items c.conclude.result c.args.flying.now c.reserve.new.self c.conclude.new.nodes c.conclude.new.flying c.conclude.new.book c.conclude.ensures.concludes
 
 pub returns-clause-settled : goal.returns-clause-settled
 returns-clause-settled g c =
-    concluded_settled (view_of g.D.Disk.seen g.D.Disk.faults g.D.Disk.clock) g.D.Disk.settled c.args.node c.args.call c.args.seconds c.args.nodes.now c.begin_in-did.new.nodes c.requires.fit c.requires.ready c.begin_in-did.result c.begin_in-did.ensures
+    concluded_settled (view_of g.D.Disk.seen g.D.Disk.faults g.D.Disk.clock) g.D.Disk.settled c.args.node c.args.call c.args.seconds c.args.nodes.now c.begin_in-did.new.nodes c.requires.fit c.requires.ready c.begin_in-did.result c.begin_in-did.ensures.begins
     c.in_ok-entries.entries.items c.conclude.result c.args.flying.now c.reserve.new.self c.conclude.new.nodes c.conclude.new.flying c.conclude.new.book c.args.book.now c.conclude.ensures.concludes
 
 pub returns-clause-room : goal.returns-clause-room
 returns-clause-room g c =
-    concluded_room (view_of g.D.Disk.seen g.D.Disk.faults g.D.Disk.clock) g.D.Disk.settled c.args.node c.args.call c.args.seconds c.args.nodes.now c.begin_in-did.new.nodes c.requires.fit c.requires.ready c.begin_in-did.result c.begin_in-did.ensures
+    concluded_room (view_of g.D.Disk.seen g.D.Disk.faults g.D.Disk.clock) g.D.Disk.settled c.args.node c.args.call c.args.seconds c.args.nodes.now c.begin_in-did.new.nodes c.requires.fit c.requires.ready c.begin_in-did.result c.begin_in-did.ensures.begins
     c.in_ok-entries.entries.items c.conclude.result c.args.flying.now c.reserve.new.self c.conclude.new.nodes c.conclude.new.flying c.conclude.new.book c.conclude.ensures.concludes
     c.most_falls.result _ c.most_falls.ensures.most (omega (arith, c.in_ok-reserve.ensures.spare, c.conclude.ensures.spare, c.len.ensures))

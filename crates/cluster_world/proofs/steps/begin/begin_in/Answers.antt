@@ -11,8 +11,8 @@ begin_at-requires g c =
       ended = c.requires.ended;
     }
 
-pub returns : goal.returns
-returns g c =
+pub returns-clause-begins : goal.returns-clause-begins
+returns-clause-begins g c =
     begin_changed (view_of g.D.Disk.seen g.D.Disk.faults g.D.Disk.clock) c.args.node c.args.call _ c.args.nodes.now c.nodes.view_is c.requires.fit c.requires.works c.place_of-place.result c.place_of-place.ensures
     c.index_mut.result.now _ c.index_mut-2.result.now _ c.index_mut.ensures.value c.index_mut-2.ensures.value g.D.Disk.settled c.args.seconds c.begin_at.result c.begin_at.new.life c.begin_at.new.disk _ refl refl refl
     c.requires.ended c.begin_at.ensures.turns c.begin_at.ensures.settled

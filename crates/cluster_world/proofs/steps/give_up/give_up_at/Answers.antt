@@ -1,11 +1,19 @@
-use Rattle.cluster_world.proofs.Stationed.{whole_station, retold_station}
+use Rattle.std.proofs.Common.{refl, subst}
+use Rattle.node_core.specs.Nodes.{ChangesTickets}
+use Rattle.cluster_world.specs.Asking.{tickets_without}
 use Rattle.cluster_world.proofs.steps.give_up.give_up_at.Goals as goal
 
-pub give_up_held-requires : goal.give_up_held-requires
-give_up_held-requires c = record { up = whole_station c.life.view_is c.requires.up }
-
 pub returns : goal.returns
-returns c = retold_station c.life.view_is c.give_up_held.ensures.retold
-
-pub invariant_of-life : goal.invariant_of-life
-invariant_of-life c = c.give_up_held.ensures.maps c.life.invariant
+returns c =
+    let node = c.in-Up.node in
+    record {
+      old = node;
+      new = c.give_up.new.self;
+      was = c.in-Up.is;
+      is = refl;
+      tickets = record {
+        mail = subst (λ t. ChangesTickets (tickets_without t node.mail) node.mail c.give_up.new.self.mail) c.ticket_of.ensures c.give_up.ensures.tickets;
+        maps = c.give_up.ensures.maps;
+        works = c.give_up.ensures.works;
+      };
+    }

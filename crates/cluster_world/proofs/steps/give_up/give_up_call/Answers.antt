@@ -2,6 +2,7 @@ use Rattle.std.proofs.Common.{◌≡◌, ◌∙◌, ap, is_some, subst, sym, tru
 use Rattle.cluster_model.specs.Steps.{letters_end}
 use Rattle.node_store.specs.Disks.{view_of}
 use Rattle.node_core.specs.Standing.{ticket_standing}
+use Rattle.whole_node.specs.declared.node.WholeNode.{WholeNode}
 use Rattle.cluster_world.specs.Lives.{of_node}
 use Rattle.cluster_world.proofs.Still.{some_same}
 use Rattle.cluster_world.proofs.Asked.{if_there}
@@ -33,7 +34,7 @@ returns-clause-did g c = λ seconds book.
     let ch = c.give_up.ensures in
     let up : c.at.result.now ≡ _ = some_same c.at.result.now ch.life (sym c.at.ensures ∙ ap (of_node c.args.nodes.now.lives.items) c.node_of.ensures ∙ ch.was) ∙ ch.does.0.was in
     given_did (view_of g.D.Disk.seen g.D.Disk.faults g.D.Disk.clock) c.args.ticket.now c.args.nodes.now c.requires.fit c.requires.ready c.give_up.new.self ch c.args.flying.now seconds book
-    (subst (λ node. is_some (ticket_standing node c.args.ticket.now) ≡ true) (up_same _ _ (sym c.stands_at.ensures.up ∙ up)) (sym c.stands_at.ensures.is ∙ c.if-not-stands_at.false)) (ap (nat_le letters_end) (sym c.sent.ensures) ∙ sym c.is_worn.ensures ∙ c.if-is_worn.false)
+    (subst (λ (node : WholeNode). is_some (ticket_standing node.mail c.args.ticket.now) ≡ true) (up_same _ _ (sym c.stands_at.ensures.up ∙ up)) (sym c.stands_at.ensures.is ∙ c.if-not-stands_at.false)) (ap (nat_le letters_end) (sym c.sent.ensures) ∙ sym c.is_worn.ensures ∙ c.if-is_worn.false)
 
 pub returns-clause-ready : goal.returns-clause-ready
 returns-clause-ready g c =

@@ -1,4 +1,4 @@
-use Rattle.std.proofs.Common.{[], ◌∷◌, Result, refl}
+use Rattle.std.proofs.Common.{◌≡◌, [], ◌∷◌, Result, refl}
 use Rattle.std.specs.List.{list_all}
 use Rattle.cluster_model.specs.Steps.{is_node}
 use Rattle.node_store.specs.Disks.{view_of}
@@ -21,8 +21,8 @@ push_at-requires g c =
     let f = fit_of (list_all (is_node nodes.plan) (c.args.from ∷ c.args.to ∷ [])) (life_refusal s (life_among nodes c.args.from)) c.requires.fit in
     record { up = up_there g.D.Disk.seen s c.args.from c.args.to c.place_of-place.result nodes f.0 f.1 tt c.requires.works c.place_of-place.ensures _ _ _ _ c.index_mut.ensures.value c.index_mut-2.ensures.value }
 
-pub returns : goal.returns
-returns g c =
+pub returns-clause-pushes : goal.returns-clause-pushes
+returns-clause-pushes g c =
     let nodes = c.args.nodes.now in
     let on = view_of g.D.Disk.seen g.D.Disk.faults g.D.Disk.clock in
     let s = step.Push c.args.from c.args.to in
@@ -35,7 +35,8 @@ returns g c =
     (life_at g.D.Disk.seen s c.args.from c.args.to k nodes f.0 f.1 tt c.requires.works c.place_of-place.ensures _ _ _ _ was held)
     (disk_at g.D.Disk.seen s c.args.from c.args.to k nodes f.0 f.1 tt c.requires.works c.place_of-place.ensures _ _ _ _ was held)
     refl refl refl (
-      turns_at (λ own (r : Result Outbox NodeFault) old before new after. PushesOut on own c.args.to c.args.most c.args.room old before new after r) nodes.plan c.args.from c.push_at.result _ _ _ _
+      turns_at on.seen (λ own (r : Result Outbox NodeFault) old before new after. PushesOut on own c.args.to c.args.most c.args.room old before new after r)
+          (λ own (r : Result Outbox NodeFault) old before new after. new.maps ≡ old.maps) nodes.plan c.args.from c.push_at.result _ _ _ _
           (λ node up. (plan_node_at g.D.Disk.seen s c.args.from c.args.to k nodes f.0 f.1 tt c.requires.works c.place_of-place.ensures _ _ _ _ was held node up).0) c.push_at.ensures.turns,
       c.push_at.ensures.settled,
     )

@@ -1,4 +1,6 @@
-use Rattle.std.proofs.Common.{◌∙◌, ◌++◌, ap, refl, subst, sym, arith, nat_le}
+use Rattle.std.proofs.Common.{◌∙◌, ◌++◌, List, ap, refl, subst, sym, arith, nat_le}
+use Rattle.object_model.specs.Letters.{Letter}
+use Rattle.cluster_world.specs.Hears.{AllCanBeHeard}
 use Rattle.cluster_model.specs.Steps.{letters_end}
 use Rattle.std.proofs.lemmas.Result.{err_from_is_err_and}
 use Rattle.node_store.specs.Disks.{view_of}
@@ -9,7 +11,7 @@ use Rattle.cluster_world.specs.Steps.{StepDid}
 use Rattle.cluster_world.specs.declared.step.Step.TheVariants as step
 use Rattle.cluster_world.proofs.Same.{none_done}
 use Rattle.cluster_world.proofs.Asked.{same_book}
-use Rattle.cluster_world.proofs.Pushing.{push_late, push_crowded, push_whole, counted_room, counted_crowd, pushed_ready, pushed_falls, pushed_settled, push_failed, sending_did, sending_ready, sending_falls, sending_settled}
+use Rattle.cluster_world.proofs.Pushing.{push_late, push_crowded, push_whole, counted_room, counted_crowd, pushed_heard, pushed_ready, pushed_falls, pushed_settled, push_failed, sending_did, sending_ready, sending_falls, sending_settled}
 use Rattle.cluster_world.proofs.steps.push.push_states.Goals as goal
 
 pub returns-then-is_worn-clause-did : goal.returns-then-is_worn-clause-did
@@ -45,14 +47,21 @@ returns-in_err-reserve-clause-did g c = λ seconds.
 pub send_pushed-requires-clause-works : goal.send_pushed-requires-clause-works
 send_pushed-requires-clause-works g c =
     let on = view_of g.D.Disk.seen g.D.Disk.faults g.D.Disk.clock in
-    let ch = counted_room on g.D.Disk.settled c.args.from c.args.to _ _ _ _ c.push_in.result c.args.nodes.now c.push_in.new.nodes c.letters_left-most.ensures c.octets_left-room.ensures c.push_in.ensures in
+    let ch = counted_room on g.D.Disk.settled c.args.from c.args.to _ _ _ _ c.push_in.result c.args.nodes.now c.push_in.new.nodes c.letters_left-most.ensures c.octets_left-room.ensures c.push_in.ensures.pushes in
     pushed_ready on c.args.from c.args.to c.args.nodes.now c.requires.fit c.requires.ready g.D.Disk.settled c.args.flying.now c.push_in.new.nodes c.push_in.result ch c.push_in.result refl
+
+pub send_pushed-requires-clause-heard : goal.send_pushed-requires-clause-heard
+send_pushed-requires-clause-heard g c =
+    let on = view_of g.D.Disk.seen g.D.Disk.faults g.D.Disk.clock in
+    let ch = counted_room on g.D.Disk.settled c.args.from c.args.to _ _ _ _ c.push_in.result c.args.nodes.now c.push_in.new.nodes c.letters_left-most.ensures c.octets_left-room.ensures c.push_in.ensures.pushes in
+    subst (λ (letters : List Letter). AllCanBeHeard letters) (sym c.into_vec.ensures)
+    (pushed_heard on c.args.from c.args.to c.args.nodes.now c.requires.fit c.requires.ready g.D.Disk.settled c.args.flying.now c.push_in.new.nodes c.push_in.result ch c.in-Ok.outbox c.in-Ok.is c.push_in.ensures.fits)
 
 pub returns-in-Ok-clause-did : goal.returns-in-Ok-clause-did
 returns-in-Ok-clause-did g c = λ seconds.
     let on = view_of g.D.Disk.seen g.D.Disk.faults g.D.Disk.clock in
     let flights = c.args.flying.now.flights in
-    let ch = counted_room on g.D.Disk.settled c.args.from c.args.to _ _ _ _ c.push_in.result c.args.nodes.now c.push_in.new.nodes c.letters_left-most.ensures c.octets_left-room.ensures c.push_in.ensures in
+    let ch = counted_room on g.D.Disk.settled c.args.from c.args.to _ _ _ _ c.push_in.result c.args.nodes.now c.push_in.new.nodes c.letters_left-most.ensures c.octets_left-room.ensures c.push_in.ensures.pushes in
     let crowded : IsCrowdedAt c.args.to (letters_left_by flights) (octets_left_by flights) _ c.at.result.now =
     counted_crowd c.args.to _ _ _ _ _ c.at.result.now c.letters_left-most.ensures c.octets_left-room.ensures c.in_ok-is_crowded_at.ensures in
     sending_did on c.args.from c.args.to c.args.nodes.now c.requires.fit c.requires.ready g.D.Disk.settled c.args.flying.now c.push_in.new.nodes c.push_in.result ch
@@ -63,21 +72,21 @@ returns-in-Ok-clause-did g c = λ seconds.
 pub returns-in-Ok-clause-ready : goal.returns-in-Ok-clause-ready
 returns-in-Ok-clause-ready g c =
     let on = view_of g.D.Disk.seen g.D.Disk.faults g.D.Disk.clock in
-    let ch = counted_room on g.D.Disk.settled c.args.from c.args.to _ _ _ _ c.push_in.result c.args.nodes.now c.push_in.new.nodes c.letters_left-most.ensures c.octets_left-room.ensures c.push_in.ensures in
+    let ch = counted_room on g.D.Disk.settled c.args.from c.args.to _ _ _ _ c.push_in.result c.args.nodes.now c.push_in.new.nodes c.letters_left-most.ensures c.octets_left-room.ensures c.push_in.ensures.pushes in
     sending_ready on c.args.from c.args.to c.args.nodes.now c.requires.fit c.requires.ready g.D.Disk.settled c.args.flying.now c.push_in.new.nodes c.push_in.result ch
     0 c.args.book.now c.reserve.new.self c.in-Ok.outbox c.in-Ok.is c.into_vec.result.items c.into_vec.ensures c.send_pushed.new.nodes c.send_pushed.new.flying c.send_pushed.result c.send_pushed.ensures.ok c.send_pushed.ensures.err
 
 pub returns-in-Ok-clause-settled : goal.returns-in-Ok-clause-settled
 returns-in-Ok-clause-settled g c = λ seconds.
     let on = view_of g.D.Disk.seen g.D.Disk.faults g.D.Disk.clock in
-    let ch = counted_room on g.D.Disk.settled c.args.from c.args.to _ _ _ _ c.push_in.result c.args.nodes.now c.push_in.new.nodes c.letters_left-most.ensures c.octets_left-room.ensures c.push_in.ensures in
+    let ch = counted_room on g.D.Disk.settled c.args.from c.args.to _ _ _ _ c.push_in.result c.args.nodes.now c.push_in.new.nodes c.letters_left-most.ensures c.octets_left-room.ensures c.push_in.ensures.pushes in
     sending_settled on c.args.from c.args.to c.args.nodes.now c.requires.fit c.requires.ready g.D.Disk.settled c.args.flying.now c.push_in.new.nodes c.push_in.result ch
     seconds c.args.book.now c.reserve.new.self c.in-Ok.outbox c.in-Ok.is c.into_vec.result.items c.into_vec.ensures c.send_pushed.new.nodes c.send_pushed.new.flying c.send_pushed.result c.send_pushed.ensures.ok c.send_pushed.ensures.err
 
 pub returns-in-Ok-clause-room : goal.returns-in-Ok-clause-room
 returns-in-Ok-clause-room g c =
     let on = view_of g.D.Disk.seen g.D.Disk.faults g.D.Disk.clock in
-    let ch = counted_room on g.D.Disk.settled c.args.from c.args.to _ _ _ _ c.push_in.result c.args.nodes.now c.push_in.new.nodes c.letters_left-most.ensures c.octets_left-room.ensures c.push_in.ensures in
+    let ch = counted_room on g.D.Disk.settled c.args.from c.args.to _ _ _ _ c.push_in.result c.args.nodes.now c.push_in.new.nodes c.letters_left-most.ensures c.octets_left-room.ensures c.push_in.ensures.pushes in
     omega (
       arith,
       c.most_falls.ensures.most,
@@ -90,7 +99,7 @@ pub returns-in-Err-clause-did : goal.returns-in-Err-clause-did
 returns-in-Err-clause-did g c = λ seconds.
     let on = view_of g.D.Disk.seen g.D.Disk.faults g.D.Disk.clock in
     let flights = c.args.flying.now.flights in
-    let ch = counted_room on g.D.Disk.settled c.args.from c.args.to _ _ _ _ c.push_in.result c.args.nodes.now c.push_in.new.nodes c.letters_left-most.ensures c.octets_left-room.ensures c.push_in.ensures in
+    let ch = counted_room on g.D.Disk.settled c.args.from c.args.to _ _ _ _ c.push_in.result c.args.nodes.now c.push_in.new.nodes c.letters_left-most.ensures c.octets_left-room.ensures c.push_in.ensures.pushes in
     let crowded : IsCrowdedAt c.args.to (letters_left_by flights) (octets_left_by flights) _ c.at.result.now =
     counted_crowd c.args.to _ _ _ _ _ c.at.result.now c.letters_left-most.ensures c.octets_left-room.ensures c.in_ok-is_crowded_at.ensures in
     subst (λ r. StepDid on r (step.Push c.args.from c.args.to) (state_with c.args.nodes.now c.args.flying.now seconds c.args.book.now) (state_with c.push_in.new.nodes c.args.flying.now seconds c.tell_fault.new.book))
@@ -103,20 +112,20 @@ returns-in-Err-clause-did g c = λ seconds.
 pub returns-in-Err-clause-ready : goal.returns-in-Err-clause-ready
 returns-in-Err-clause-ready g c =
     let on = view_of g.D.Disk.seen g.D.Disk.faults g.D.Disk.clock in
-    let ch = counted_room on g.D.Disk.settled c.args.from c.args.to _ _ _ _ c.push_in.result c.args.nodes.now c.push_in.new.nodes c.letters_left-most.ensures c.octets_left-room.ensures c.push_in.ensures in
+    let ch = counted_room on g.D.Disk.settled c.args.from c.args.to _ _ _ _ c.push_in.result c.args.nodes.now c.push_in.new.nodes c.letters_left-most.ensures c.octets_left-room.ensures c.push_in.ensures.pushes in
     pushed_ready on c.args.from c.args.to c.args.nodes.now c.requires.fit c.requires.ready g.D.Disk.settled c.args.flying.now c.push_in.new.nodes c.push_in.result ch c.push_in.result refl
 
 pub returns-in-Err-clause-settled : goal.returns-in-Err-clause-settled
 returns-in-Err-clause-settled g c = λ seconds.
     let on = view_of g.D.Disk.seen g.D.Disk.faults g.D.Disk.clock in
-    let ch = counted_room on g.D.Disk.settled c.args.from c.args.to _ _ _ _ c.push_in.result c.args.nodes.now c.push_in.new.nodes c.letters_left-most.ensures c.octets_left-room.ensures c.push_in.ensures in
+    let ch = counted_room on g.D.Disk.settled c.args.from c.args.to _ _ _ _ c.push_in.result c.args.nodes.now c.push_in.new.nodes c.letters_left-most.ensures c.octets_left-room.ensures c.push_in.ensures.pushes in
     pushed_settled on c.args.from c.args.to c.args.nodes.now c.requires.fit c.requires.ready g.D.Disk.settled c.args.flying.now c.push_in.new.nodes c.push_in.result ch
     seconds c.args.book.now c.tell_fault.new.book c.push_in.result refl
 
 pub returns-in-Err-clause-room : goal.returns-in-Err-clause-room
 returns-in-Err-clause-room g c =
     let on = view_of g.D.Disk.seen g.D.Disk.faults g.D.Disk.clock in
-    let ch = counted_room on g.D.Disk.settled c.args.from c.args.to _ _ _ _ c.push_in.result c.args.nodes.now c.push_in.new.nodes c.letters_left-most.ensures c.octets_left-room.ensures c.push_in.ensures in
+    let ch = counted_room on g.D.Disk.settled c.args.from c.args.to _ _ _ _ c.push_in.result c.args.nodes.now c.push_in.new.nodes c.letters_left-most.ensures c.octets_left-room.ensures c.push_in.ensures.pushes in
     omega (
       arith,
       c.most_falls.ensures.most,

@@ -3,7 +3,9 @@ use Rattle.std.specs.List.{list_all}
 use Rattle.mail_model.specs.Identity.Key.{Message}
 use Rattle.cluster_model.specs.Steps.{is_node}
 use Rattle.node_store.specs.Disks.{view_of}
+use Rattle.cluster_model.specs.Rules.{widen}
 use Rattle.node_core.specs.Pushing.{WidensCopy}
+use Rattle.whole_node.specs.Following.{FollowsRule}
 use Rattle.node_core.specs.declared.fault.NodeFault.{NodeFault}
 use Rattle.cluster_world.specs.Worlds.{life_among}
 use Rattle.cluster_world.specs.Turns.{life_refusal}
@@ -35,7 +37,8 @@ returns g c =
     (life_at g.D.Disk.seen s c.args.at c.args.to k nodes f.0 f.1 tt c.requires.works c.place_of-place.ensures _ _ _ _ was held)
     (disk_at g.D.Disk.seen s c.args.at c.args.to k nodes f.0 f.1 tt c.requires.works c.place_of-place.ensures _ _ _ _ was held)
     refl refl refl (
-      turns_at (λ own (r : Result Bool NodeFault) old before new after. WidensCopy on own c.args.to (Message c.args.user.now c.args.id) old before new after r) nodes.plan c.args.at c.widen_at.result _ _ _ _
+      turns_at on.seen (λ own (r : Result Bool NodeFault) old before new after. WidensCopy on own c.args.to (Message c.args.user.now c.args.id) old before new after r)
+          (λ own (r : Result Bool NodeFault) old before new after. FollowsRule (λ node disk. widen own c.args.to (Message c.args.user.now c.args.id) node disk) r old new) nodes.plan c.args.at c.widen_at.result _ _ _ _
           (λ node up. (plan_node_at g.D.Disk.seen s c.args.at c.args.to k nodes f.0 f.1 tt c.requires.works c.place_of-place.ensures _ _ _ _ was held node up).0) c.widen_at.ensures.turns,
       c.widen_at.ensures.settled,
     )

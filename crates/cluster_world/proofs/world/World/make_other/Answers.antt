@@ -52,6 +52,16 @@ returns-in-Widen-clause-did g c =
     subst (λ s. StepDid (view_of g.D.Disk.seen g.D.Disk.faults g.D.Disk.clock) c.widen_copy.result s (state_of c.args.self.now) (state_with c.widen_copy.new.nodes c.args.self.now.flying c.args.self.now.seconds c.widen_copy.new.book))
     (sym c.in-Widen.is) (c.widen_copy.ensures.did c.args.self.now.seconds)
 
+pub returns-in-Group-clause-did : goal.returns-in-Group-clause-did
+returns-in-Group-clause-did g c =
+    subst (λ s. StepDid (view_of g.D.Disk.seen g.D.Disk.faults g.D.Disk.clock) c.group_node.result s (state_of c.args.self.now) (state_with c.group_node.new.nodes c.group_node.new.flying c.args.self.now.seconds c.group_node.new.book))
+    (sym c.in-Group.is) (c.group_node.ensures.did c.args.self.now.seconds)
+
+pub returns-in-Conclude-clause-did : goal.returns-in-Conclude-clause-did
+returns-in-Conclude-clause-did g c =
+    subst (λ s. StepDid (view_of g.D.Disk.seen g.D.Disk.faults g.D.Disk.clock) c.conclude_node.result s (state_of c.args.self.now) (state_with c.conclude_node.new.nodes c.conclude_node.new.flying c.args.self.now.seconds c.conclude_node.new.book))
+    (sym c.in-Conclude.is) (c.conclude_node.ensures.did c.args.self.now.seconds)
+
 pub returns-in-Ask-clause-sure : goal.returns-in-Ask-clause-sure
 returns-in-Ask-clause-sure g c =
     subst (λ s. IsSurelyDone (state_of c.args.self.now) s c.ask_for.result) (sym c.in-Ask.is) (c.ask_for.ensures.sure c.args.self.now.flying c.args.self.now.seconds)

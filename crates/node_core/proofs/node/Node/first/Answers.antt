@@ -9,4 +9,4 @@ returns-clause-starts g c =
     let made = c.in_ok-store.ensures.created in
     let n = c.in_first_boot.ensures in
     is_first on c.args.plan.now c.args.number c.args.disk.now c.create.new.disk c.boot.new.disk c.in_ok-store.store made.0 made.2 made.3 c.boot.new.self c.in_ok-boot.ensures.wrote
-    c.in_first_boot.result n.store n.boot n.drawn n.count n.calls n.nodes n.copies n.confirm n.whose n.none (omega (arith, c.well_formed)) c.requires.within c.requires.few c.requires.copies
+    c.in_first_boot.result n.store n.boot n.drawn n.count n.calls n.nodes n.copies n.confirm n.installed n.whose n.none (omega (arith, c.well_formed)) c.requires.within c.requires.few c.requires.copies

@@ -8,7 +8,7 @@ use Rattle.update_log.specs.Answers.{answer_at}
 use Rattle.update_log.specs.declared.logged.Acked.TheVariants.{Cleared, Emptied, Other}
 use Rattle.replica_push.proofs.Follows.{acks_follow}
 use Rattle.cluster_model.specs.Rules.{hear_ack, receivers, letters_to}
-use Rattle.cluster_model.specs.Starts.{first_epoch}
+use Rattle.cluster_model.specs.Cluster.{epoch_of}
 use Rattle.node_store.specs.Disks.{view_of}
 use Rattle.node_store.specs.Changes.{acked_by}
 use Rattle.node_core.specs.Nodes.{node_seen}
@@ -56,14 +56,14 @@ returns-in_ok-retirement-in-Emptied-clause-wrote g c =
     let state = c.args.state.now in
     let d = c.in_ok-acknowledged.ensures.wrote in
     let emptied : answer_at state c.args.from (fin.get old.store.log key) ≡ Emptied = sym c.in_ok-acknowledged.ensures.answer ∙ c.in-Emptied.is in
-    let sent = subst (λ (n : ℕ). c.in_ok-retirement-in-Emptied.field-0 ≡ letters_to n first_epoch None (receivers n state.targets old.shape.nodes) (Retire key state)) d.own c.in_ok-retirement-in-Emptied.ensures in
+    let sent = subst (λ (n : ℕ). c.in_ok-retirement-in-Emptied.field-0 ≡ letters_to n (epoch_of (node_seen old)) None (receivers n state.targets old.shape.nodes) (Retire key state)) d.own c.in_ok-retirement-in-Emptied.ensures in
     did_by on (λ node disk. hear_ack old.store.own old.shape.nodes node disk key state c.args.from) (acked_by key state c.args.from) old c.args.disk.now _ _ _ d
     (λ records k. (acks_follow old.store.own old.shape.nodes (node_seen old) records key state c.args.from).disk_is)
     (λ records k. (acks_follow old.store.own old.shape.nodes (node_seen old) records key state c.args.from).node_is)
     (λ records k. ack_out old.store.own old.shape.nodes (node_seen old) records key state c.args.from (fin.get old.store.log key)
     ∙ ap (out_of old.store.own old.shape.nodes (node_seen old) key state) emptied ∙ sym sent)
     (record { boot = refl; shape = refl; tickets = λ own boot confirm is. is }) c.requires.works.whole
-    (subst AllCanBeTaken (sym sent) (letters_fit old.store.own first_epoch None (receivers old.store.own state.targets old.shape.nodes) (Retire key state) c.requires.object))
+    (subst AllCanBeTaken (sym sent) (letters_fit old.store.own (epoch_of (node_seen old)) None (receivers old.store.own state.targets old.shape.nodes) (Retire key state) c.requires.object))
 
 pub returns-in-Cleared-clause-wrote : goal.returns-in-Cleared-clause-wrote
 returns-in-Cleared-clause-wrote g c =
@@ -98,4 +98,4 @@ returns-in_ok-retirement-in-Emptied-clause-light g c =
     let old = c.args.self.now in
     let own = c.acknowledged.new.self.own in
     subst (λ (l : List Letter). weight_of_all l ≤ 16) (sym c.in_ok-retirement-in-Emptied.ensures)
-    (retired_light own first_epoch None c.args.state.now.targets old.shape.nodes (key_seen c.args.key.now) c.args.state.now c.requires.works.whole.shape.few)
+    (retired_light own (epoch_of (node_seen old)) None c.args.state.now.targets old.shape.nodes (key_seen c.args.key.now) c.args.state.now c.requires.works.whole.shape.few)

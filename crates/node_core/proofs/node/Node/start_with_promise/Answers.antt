@@ -43,5 +43,5 @@ returns-clause-starts g c =
     let shape = c.shape_of-shape in
     has_promised on c.args.plan.now c.args.number c.args.disk.now mid c.in_ok-store.store c.in_ok-store.found made.reopens made.images (g.met.D.Disk.settled_is_only mid made.settled)
     (c.boot-last.result + 1) (c.boot-last.result) c.boot-last.ensures refl (omega (arith, c.if-last.false, c.boot-last.type_inv)) c.boot.new.disk c.boot.new.self shape.result c.new-tickets.result c.drawn.result c.count.result
-    c.in_ok-boot.ensures.wrote shape.ensures.nodes shape.ensures.copies shape.ensures.confirm c.new-tickets.ensures.whose c.new-tickets.ensures.none c.drawn.ensures c.count.ensures
+    c.in_ok-boot.ensures.wrote shape.ensures.nodes shape.ensures.copies shape.ensures.confirm shape.ensures.installed c.new-tickets.ensures.whose c.new-tickets.ensures.none c.drawn.ensures c.count.ensures
     (omega (arith, c.well_formed)) c.requires.within c.requires.few c.requires.copies c.promise.result c.promise.ensures

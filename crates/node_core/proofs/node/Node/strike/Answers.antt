@@ -20,7 +20,7 @@ returns-then-has_any-clause-begins g c =
     let old = c.args.self.now in
     let call = Strike c.args.user.now (struck_of c.args.items.now) in
     λ plan own seconds p.
-    let m = strike_mishaps plan own seconds old c.deref.result.now (mishaps_seen c.few_members-mishaps.result) p (c.deref.ensures.value ∙ c.in_ok-members.ensures.value)
+    let m = strike_mishaps plan own seconds old c.deref.result.now (mishaps_seen c.few_members-mishaps.result) p (c.deref.ensures.value ∙ c.in_ok-members.ensures)
     c.few_members-mishaps.ensures c.args.user.now (struck_of c.args.items.now) in
     let fails : fails_at_once plan seconds (node_seen old) call ≡ true = ap (λ (x : Mishaps). nat_lt 0 (mishaps_of x)) (sym m) ∙ sym c.has_any.ensures ∙ c.if-has_any.true in
     refuses on plan own seconds old c.args.disk.now p c.requires.works call Striking (mishaps_seen c.few_members-mishaps.result) 0 refl refl refl m fails c.refuse.new.self c.refuse.result c.refuse.ensures
@@ -34,7 +34,7 @@ returns-clause-begins g c =
     let counted = sym (length-map c.args.items.now (λ (item : Item). record { id = item.id; targets = item.targets })) in
     let fresh = subst (λ (n : ℕ). lacks_numbers 0 n old ≡ false) counted (sym c.lack.ensures ∙ c.if-lack.false) in
     λ plan own seconds p.
-    let m = strike_mishaps plan own seconds old c.deref.result.now (mishaps_seen c.few_members-mishaps.result) p (c.deref.ensures.value ∙ c.in_ok-members.ensures.value)
+    let m = strike_mishaps plan own seconds old c.deref.result.now (mishaps_seen c.few_members-mishaps.result) p (c.deref.ensures.value ∙ c.in_ok-members.ensures)
     c.few_members-mishaps.ensures c.args.user.now items in
     let fails : fails_at_once plan seconds (node_seen old) call ≡ false = ap (λ (x : Mishaps). nat_lt 0 (mishaps_of x)) (sym m) ∙ sym c.has_any.ensures ∙ c.if-has_any.false in
     strikes on plan own seconds old c.args.disk.now p c.args.user.now items fails fresh c.strike_and_send.new.self c.strike_and_send.new.disk c.strike_and_send.result c.strike_and_send.ensures.begins

@@ -1,42 +1,48 @@
 use Rattle.std.proofs.Common.{ap}
 use Rattle.node_store.specs.Disks.{view_of}
 use Rattle.shard_board.specs.Boards.{plan_of_board}
-use Rattle.shard_board.specs.Orders.{step_ordered}
-use Rattle.shard_board.proofs.Turning.{obeyed, counted, order_still}
+use Rattle.shard_board.specs.Orders.{ordered_by}
+use Rattle.shard_board.proofs.Turning.{obeyed, regrouped, counted, order_still}
 use Rattle.shard_board.proofs.board.Board.console.Goals as goal
 
 pub returns-in-Crash-clause-turn : goal.returns-in-Crash-clause-turn
-returns-in-Crash-clause-turn g c = obeyed (view_of g.D.Disk.seen g.D.Disk.faults g.D.Disk.clock) (step_ordered c.args.order) _ c.args.self.now c.args.pass.now _ _ _ (ap step_ordered c.in-Crash.is) c.told.ensures c.step.ensures.turn
+returns-in-Crash-clause-turn g c = obeyed (view_of g.D.Disk.seen g.D.Disk.faults g.D.Disk.clock) (ordered_by c.args.order) _ c.args.self.now c.args.pass.now _ _ _ (ap ordered_by c.in-Crash.is) c.told.ensures c.step.ensures.turn
 
 pub returns-in-Start-clause-turn : goal.returns-in-Start-clause-turn
-returns-in-Start-clause-turn g c = obeyed (view_of g.D.Disk.seen g.D.Disk.faults g.D.Disk.clock) (step_ordered c.args.order) _ c.args.self.now c.args.pass.now _ _ _ (ap step_ordered c.in-Start.is) c.told-in-Start.ensures c.step-in-Start.ensures.turn
+returns-in-Start-clause-turn g c = obeyed (view_of g.D.Disk.seen g.D.Disk.faults g.D.Disk.clock) (ordered_by c.args.order) _ c.args.self.now c.args.pass.now _ _ _ (ap ordered_by c.in-Start.is) c.told-in-Start.ensures c.step-in-Start.ensures.turn
 
 pub returns-in-Lose-clause-turn : goal.returns-in-Lose-clause-turn
-returns-in-Lose-clause-turn g c = obeyed (view_of g.D.Disk.seen g.D.Disk.faults g.D.Disk.clock) (step_ordered c.args.order) _ c.args.self.now c.args.pass.now _ _ _ (ap step_ordered c.in-Lose.is) c.told-in-Lose.ensures c.step-in-Lose.ensures.turn
+returns-in-Lose-clause-turn g c = obeyed (view_of g.D.Disk.seen g.D.Disk.faults g.D.Disk.clock) (ordered_by c.args.order) _ c.args.self.now c.args.pass.now _ _ _ (ap ordered_by c.in-Lose.is) c.told-in-Lose.ensures c.step-in-Lose.ensures.turn
 
 pub returns-in-Push-clause-turn : goal.returns-in-Push-clause-turn
-returns-in-Push-clause-turn g c = obeyed (view_of g.D.Disk.seen g.D.Disk.faults g.D.Disk.clock) (step_ordered c.args.order) _ c.args.self.now c.args.pass.now _ _ _ (ap step_ordered c.in-Push.is) c.told-in-Push.ensures c.step-in-Push.ensures.turn
+returns-in-Push-clause-turn g c = obeyed (view_of g.D.Disk.seen g.D.Disk.faults g.D.Disk.clock) (ordered_by c.args.order) _ c.args.self.now c.args.pass.now _ _ _ (ap ordered_by c.in-Push.is) c.told-in-Push.ensures c.step-in-Push.ensures.turn
 
 pub returns-in-Widen-clause-turn : goal.returns-in-Widen-clause-turn
-returns-in-Widen-clause-turn g c = obeyed (view_of g.D.Disk.seen g.D.Disk.faults g.D.Disk.clock) (step_ordered c.args.order) _ c.args.self.now c.args.pass.now _ _ _ (ap step_ordered c.in-Widen.is) c.told-in-Widen.ensures c.step-in-Widen.ensures.turn
+returns-in-Widen-clause-turn g c = obeyed (view_of g.D.Disk.seen g.D.Disk.faults g.D.Disk.clock) (ordered_by c.args.order) _ c.args.self.now c.args.pass.now _ _ _ (ap ordered_by c.in-Widen.is) c.told-in-Widen.ensures c.step-in-Widen.ensures.turn
+
+pub returns-in-Regroup-clause-turn : goal.returns-in-Regroup-clause-turn
+returns-in-Regroup-clause-turn g c = regrouped (view_of g.D.Disk.seen g.D.Disk.faults g.D.Disk.clock) (ordered_by c.args.order) _ c.args.self.now c.args.pass.now _ _ _ (ap ordered_by c.in-Regroup.is) c.told_regroup.ensures c.regroup.ensures.turn
 
 pub returns-in-Sum-clause-turn : goal.returns-in-Sum-clause-turn
-returns-in-Sum-clause-turn g c = counted (view_of g.D.Disk.seen g.D.Disk.faults g.D.Disk.clock) (step_ordered c.args.order) c.args.self.now c.args.pass.now _ _ (ap step_ordered c.in-Sum.is) c.sum.ensures.turn
+returns-in-Sum-clause-turn g c = counted (view_of g.D.Disk.seen g.D.Disk.faults g.D.Disk.clock) (ordered_by c.args.order) c.args.self.now c.args.pass.now _ _ (ap ordered_by c.in-Sum.is) c.sum.ensures.turn
 
 pub returns-in-Crash-clause-still : goal.returns-in-Crash-clause-still
-returns-in-Crash-clause-still g c = order_still (plan_of_board c.args.self.now).nodes (step_ordered c.args.order) _ (ap step_ordered c.in-Crash.is) c.step.ensures.still
+returns-in-Crash-clause-still g c = order_still (plan_of_board c.args.self.now).nodes (ordered_by c.args.order) _ (ap ordered_by c.in-Crash.is) c.step.ensures.still
 
 pub returns-in-Start-clause-still : goal.returns-in-Start-clause-still
-returns-in-Start-clause-still g c = order_still (plan_of_board c.args.self.now).nodes (step_ordered c.args.order) _ (ap step_ordered c.in-Start.is) c.step-in-Start.ensures.still
+returns-in-Start-clause-still g c = order_still (plan_of_board c.args.self.now).nodes (ordered_by c.args.order) _ (ap ordered_by c.in-Start.is) c.step-in-Start.ensures.still
 
 pub returns-in-Lose-clause-still : goal.returns-in-Lose-clause-still
-returns-in-Lose-clause-still g c = order_still (plan_of_board c.args.self.now).nodes (step_ordered c.args.order) _ (ap step_ordered c.in-Lose.is) c.step-in-Lose.ensures.still
+returns-in-Lose-clause-still g c = order_still (plan_of_board c.args.self.now).nodes (ordered_by c.args.order) _ (ap ordered_by c.in-Lose.is) c.step-in-Lose.ensures.still
 
 pub returns-in-Push-clause-still : goal.returns-in-Push-clause-still
-returns-in-Push-clause-still g c = order_still (plan_of_board c.args.self.now).nodes (step_ordered c.args.order) _ (ap step_ordered c.in-Push.is) c.step-in-Push.ensures.still
+returns-in-Push-clause-still g c = order_still (plan_of_board c.args.self.now).nodes (ordered_by c.args.order) _ (ap ordered_by c.in-Push.is) c.step-in-Push.ensures.still
 
 pub returns-in-Widen-clause-still : goal.returns-in-Widen-clause-still
-returns-in-Widen-clause-still g c = order_still (plan_of_board c.args.self.now).nodes (step_ordered c.args.order) _ (ap step_ordered c.in-Widen.is) c.step-in-Widen.ensures.still
+returns-in-Widen-clause-still g c = order_still (plan_of_board c.args.self.now).nodes (ordered_by c.args.order) _ (ap ordered_by c.in-Widen.is) c.step-in-Widen.ensures.still
+
+pub returns-in-Regroup-clause-still : goal.returns-in-Regroup-clause-still
+returns-in-Regroup-clause-still g c = λ blind. c.regroup.ensures.still
 
 pub returns-in-Sum-clause-still : goal.returns-in-Sum-clause-still
 returns-in-Sum-clause-still g c = λ blind. c.sum.ensures.still

@@ -9,4 +9,4 @@ returns-clause-works c =
     let old = c.args.self.now in
     let new : WholeNode = record { mail = c.ask.new.self; maps = old.maps } in
     let t = c.ask.ensures.tickets in
-    λ seen w. works_same old w.maps new seen t.same (ap (λ (n : Node). n.boot) t.seen) t.keeps refl (t.works seen w.mail)
+    λ seen w. works_same old w.maps new seen t.same (ap (λ (n : Node). n.boot) t.seen) (ap (λ (n : Node). n.installed) t.seen) t.keeps refl (t.works seen w.mail)

@@ -6,7 +6,7 @@ use Rattle.node_core.specs.Beginning.{call_seen}
 use Rattle.node_core.proofs.Going.{beginning_goes_on}
 use Rattle.whole_node.specs.declared.node.WholeNode.{WholeNode}
 use Rattle.whole_node.proofs.Called.{on_ok, on_err}
-use Rattle.whole_node.proofs.Begun.{begun_follows, begun_has, begun_stops, failed_follows, failed_works, begun_works}
+use Rattle.whole_node.proofs.Begun.{begun_follows, begun_has, begun_stops, failed_follows, failed_works, begun_works, begun_all_fit}
 use Rattle.whole_node.proofs.node.WholeNode.begin.Goals as goal
 
 pub returns-in_err-begun-clause-begins : goal.returns-in_err-begun-clause-begins
@@ -69,3 +69,11 @@ note_begun-requires g c =
     record {
       whole = (beginning_goes_on on c.args.self.now.mail c.args.disk.now c.begin.new.self c.begin.new.disk c.requires.works.mail c.args.users.now c.args.seconds (call_seen c.args.call) c.requires.ended (Ok c.in_ok-begun.begun) c.in_ok-begun.ensures.begins tt).whole;
     }
+
+pub returns-clause-fits : goal.returns-clause-fits
+returns-clause-fits g c =
+    let on = view_of g.D.Disk.seen g.D.Disk.faults g.D.Disk.clock in
+    let old = c.args.self.now in
+    let new : WholeNode = record { mail = c.begin.new.self; maps = c.note_begun.new.maps } in
+    let begun = c.in_ok-begun.begun in
+    begun_all_fit on c.args.users.now c.args.seconds old c.args.disk.now new c.begin.new.disk c.requires.works (call_seen c.args.call) c.requires.ended begun.0 begun.1 c.in_ok-begun.ensures.begins

@@ -7,7 +7,7 @@ use Rattle.node_core.proofs.Going.{hearing_goes_on}
 use Rattle.whole_node.specs.Noting.{NotesCopies, copies_named}
 use Rattle.whole_node.specs.declared.node.WholeNode.{WholeNode}
 use Rattle.whole_node.proofs.Called.{on_ok, some_of, none_of}
-use Rattle.whole_node.proofs.Heard.{heard_follows, heard_has, heard_stops, thrown_follows, thrown_has, failed_follows, failed_has}
+use Rattle.whole_node.proofs.Heard.{heard_follows, heard_has, heard_fits, heard_stops, thrown_follows, thrown_has, thrown_fits, failed_follows, failed_has}
 use Rattle.whole_node.proofs.node.WholeNode.hear_mail.Goals as goal
 
 pub returns-in_err-outbox-clause-hears : goal.returns-in_err-outbox-clause-hears
@@ -85,3 +85,20 @@ returns-clause-works g c =
           (λ records keeps. subst (λ (b : Body). NotesCopies records (copies_named b) old.maps c.note_letter.new.maps) (ap (λ (l : Letter). l.body) c.letter.view_is)
           (on_ok c.note_letter.result c.note_letter.ensures (sym c.is_err.ensures.value ∙ c.if-is_err.false) records keeps));
     }
+
+pub returns-then-is_some-clause-fits : goal.returns-then-is_some-clause-fits
+returns-then-is_some-clause-fits g c =
+    let on = view_of g.D.Disk.seen g.D.Disk.faults g.D.Disk.clock in
+    let old = c.args.self.now in
+    let new : WholeNode = record { mail = c.hear.new.self; maps = old.maps } in
+    let outbox = c.in_ok-outbox.outbox in
+    let why = some_of outbox.thrown (sym c.is_some.ensures ∙ c.if-is_some.true) in
+    thrown_fits on c.args.letter.now old c.args.disk.now new c.hear.new.disk c.requires.works.maps outbox why.0 why.1 c.in_ok-outbox.ensures.hears
+
+pub returns-clause-fits : goal.returns-clause-fits
+returns-clause-fits g c =
+    let on = view_of g.D.Disk.seen g.D.Disk.faults g.D.Disk.clock in
+    let old = c.args.self.now in
+    let new : WholeNode = record { mail = c.hear.new.self; maps = c.note_letter.new.maps } in
+    let outbox = c.in_ok-outbox.outbox in
+    heard_fits on c.args.letter.now old c.args.disk.now new c.hear.new.disk c.requires.works.maps outbox (none_of outbox.thrown (sym c.is_some.ensures ∙ c.if-is_some.false)) c.in_ok-outbox.ensures.hears

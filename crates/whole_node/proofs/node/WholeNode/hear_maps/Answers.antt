@@ -11,7 +11,7 @@ use Rattle.node_core.specs.declared.fault.NodeFault.{NodeFault}
 use Rattle.node_core.specs.declared.outbox.Outbox.{Outbox}
 use Rattle.whole_node.specs.Nodes.{WholeWorks}
 use Rattle.whole_node.specs.Hearing.{is_install, appends_promise, PromiseStands, HearsOfMaps}
-use Rattle.whole_node.proofs.Looked.{failed_heard, short_heard, heard_so, heard_light, heard_works}
+use Rattle.whole_node.proofs.Looked.{failed_heard, short_heard, heard_so, heard_light, heard_fits, heard_works}
 use Rattle.whole_node.proofs.Outlasted.{failed_works, short_works, or_first, or_second}
 use Rattle.whole_node.proofs.node.WholeNode.hear_maps.Goals as goal
 
@@ -55,6 +55,14 @@ returns-in-Ok-clause-light g c =
     let mid = c.promise_for.new.self in
     let stands = subst (λ (b : Body). PromiseStands on (promise_by (node_of old.maps) b) c.in_ok-promised.promised old c.args.disk.now mid c.promise_for.new.disk) (ap (λ (l : Letter). l.body) c.letter.view_is) c.in_ok-promised.ensures.promises in
     heard_light on c.args.letter.now old c.args.disk.now c.requires.works c.requires.kind mid c.promise_for.new.disk c.take_letter.new.self c.in_ok-promised.promised stands c.promise_for.ensures.maps c.in-Ok.outbox c.in-Ok.ensures
+
+pub returns-in-Ok-clause-fits : goal.returns-in-Ok-clause-fits
+returns-in-Ok-clause-fits g c =
+    let on = view_of g.D.Disk.seen g.D.Disk.faults g.D.Disk.clock in
+    let old = c.args.self.now in
+    let mid = c.promise_for.new.self in
+    let stands = subst (λ (b : Body). PromiseStands on (promise_by (node_of old.maps) b) c.in_ok-promised.promised old c.args.disk.now mid c.promise_for.new.disk) (ap (λ (l : Letter). l.body) c.letter.view_is) c.in_ok-promised.ensures.promises in
+    heard_fits on c.args.letter.now old c.args.disk.now c.requires.works c.requires.kind mid c.promise_for.new.disk c.take_letter.new.self c.in_ok-promised.promised stands c.promise_for.ensures.maps c.in-Ok.outbox c.in-Ok.ensures
 
 pub returns-in-Err-clause-hears : goal.returns-in-Err-clause-hears
 returns-in-Err-clause-hears g c =

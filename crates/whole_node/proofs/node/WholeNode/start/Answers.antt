@@ -13,6 +13,9 @@ use Rattle.whole_node.proofs.node.WholeNode.start.Goals as goal
 pub with_maps-requires-clause-whole : goal.with_maps-requires-clause-whole
 with_maps-requires-clause-whole g c = c.in_ok-mail.ensures.starts.started.works.whole
 
+pub with_maps-requires-clause-without : goal.with_maps-requires-clause-without
+with_maps-requires-clause-without g c = c.in_ok-mail.ensures.starts.started.without
+
 pub with_maps-requires-clause-some : goal.with_maps-requires-clause-some
 with_maps-requires-clause-some g c = c.in_ok-mail.ensures.starts.started.some
 

@@ -1,0 +1,113 @@
+-- What is refused for the sake of a node is refused in the whole world, too.
+use Rattle.std.proofs.Common.{◌≡◌, inl, ℕ, Bool, true, false, ◌&&◌, List, [], ◌∷◌, length, Option, Some, None, Err, refl, sym, ap, ◌∙◌, subst, if◌then◌else◌}
+use Rattle.std.specs.Option.{option_map}
+use Rattle.mail_model.specs.Plan.{Plan}
+use Rattle.cluster_model.specs.Cluster as plain
+use Rattle.cluster_model.specs.Steps as steps
+use Rattle.cluster_model.specs.Steps.{is_node, slot_fault, life_fault}
+use Rattle.cluster_model.specs.World as machine
+use Rattle.whole_world.specs.Makes as whole_makes
+use Rattle.whole_world.specs.Steps as whole_steps
+use Rattle.whole_world.specs.Steps.{first_refusal, node_fault, actor_fault}
+use Rattle.whole_world.specs.World as whole_world
+use Rattle.whole_world.specs.World.{mail_world_of}
+use Rattle.node_store.specs.Disks.{View}
+use Rattle.cluster_world.specs.Seen.{step_seen, fault_seen, whole_step, whole_fault}
+use Rattle.cluster_world.specs.Turns.{node_refusal}
+use Rattle.cluster_world.specs.Worlds.{WorldState, life_in, StateStandsFor}
+use Rattle.cluster_world.specs.declared.fault.StepFault.{StepFault}
+use Rattle.cluster_world.specs.declared.fault.StepFault.TheVariants as fault
+use Rattle.cluster_world.specs.declared.step.Step.{Step}
+use Rattle.cluster_world.specs.declared.step.Step.TheVariants.{Begin, Ask, GiveUp, Post, Drop, Push, Widen, Group, Conclude, Crash, Start, Lose, Tick}
+use Rattle.cluster_world.proofs.Still.{some_same}
+use Rattle.cluster_world.proofs.Refusals.{named_fault, named_none}
+
+abbrev Fault : steps.StepFault → whole_steps.StepFault
+Fault f = whole_steps.StepFault.Fault f
+
+-- a node acts in a group as in anything else
+life_alike : (n : ℕ) (l : plain.Life) → life_fault (steps.Step.PushTo n n) l ≡ life_fault (steps.Step.Form n) l
+life_alike n (plain.Life.Up node) = refl
+life_alike n (plain.Life.Down pending) = refl
+life_alike n plain.Life.Lost = refl
+
+slot_alike : (n : ℕ) (o : Option plain.Slot) → slot_fault (steps.Step.PushTo n n) o ≡ slot_fault (steps.Step.Form n) o
+slot_alike n None = refl
+slot_alike n (Some slot) = life_alike n slot.life
+
+-- the first two of the faults, for messages and in the whole world
+abbrev Firsts : Bool → Option steps.StepFault → List (Option steps.StepFault)
+Firsts b o = (if b && true then None else Some steps.StepFault.NoSuchNode) ∷ o ∷ []
+
+first_so : (b : Bool) (o : Option steps.StepFault) (rest : List (Option whole_steps.StepFault)) (g : steps.StepFault) → steps.first_fault (Firsts b o) ≡ Some g
+    → first_refusal ((if b then None else Some (Fault steps.StepFault.NoSuchNode)) ∷ option_map Fault o ∷ rest) ≡ Some (Fault g)
+first_so false o rest g e = ap (λ x. Some (Fault x)) (some_same steps.StepFault.NoSuchNode g e)
+first_so true None rest g e = absurd (let never : None ≡ Some g = e in cc)
+first_so true (Some f) rest g e = ap (λ x. Some (Fault x)) (some_same f g e)
+
+none_so : (b : Bool) (o : Option steps.StepFault) (rest : List (Option whole_steps.StepFault)) → steps.first_fault (Firsts b o) ≡ None
+    → first_refusal ((if b then None else Some (Fault steps.StepFault.NoSuchNode)) ∷ option_map Fault o ∷ rest) ≡ first_refusal rest
+none_so false o rest e = absurd (let never : Some steps.StepFault.NoSuchNode ≡ None = e in cc)
+none_so true None rest e = refl
+none_so true (Some f) rest e = absurd (let never : Some f ≡ None = e in cc)
+
+module _ {D : Type 0} (on : View D) (plan : Plan) (state : WorldState D) (even : length state.disks ≡ length state.lives) (within : length state.lives ≡ plan.nodes)
+    (w : machine.World) (st : StateStandsFor on state w) (v : whole_world.World) (seen : mail_world_of v ≡ w) where
+  -- the node that acts, as the whole world has it
+  abbrev acts : ℕ → Option steps.StepFault
+  acts n = slot_fault (steps.Step.Form n) (plain.slot_at w.slots n)
+
+  actor_is : (n : ℕ) → actor_fault n v ≡ acts n
+  actor_is n = ap (λ (x : machine.World). slot_fault (steps.Step.PushTo n n) (plain.slot_at x.slots n)) seen ∙ slot_alike n (plain.slot_at w.slots n)
+
+  form_refused : (n : ℕ) (rest : List (Option whole_steps.StepFault)) (g : steps.StepFault) → steps.first_fault (Firsts (is_node plan n) (acts n)) ≡ Some g
+      → first_refusal (node_fault plan (n ∷ []) ∷ option_map Fault (actor_fault n v) ∷ rest) ≡ Some (Fault g)
+  form_refused n rest g e = ap (λ o. first_refusal (node_fault plan (n ∷ []) ∷ option_map Fault o ∷ rest)) (actor_is n) ∙ first_so (is_node plan n) (acts n) rest g e
+
+  form_fits : (n : ℕ) (rest : List (Option whole_steps.StepFault)) → steps.first_fault (Firsts (is_node plan n) (acts n)) ≡ None
+      → first_refusal (node_fault plan (n ∷ []) ∷ option_map Fault (actor_fault n v) ∷ rest) ≡ first_refusal rest
+  form_fits n rest e = ap (λ o. first_refusal (node_fault plan (n ∷ []) ∷ option_map Fault o ∷ rest)) (actor_is n) ∙ none_so (is_node plan n) (acts n) rest e
+
+  -- a group and a conclusion that no node stands against
+  pub group_fits : (n : ℕ) (rest : List (Option whole_steps.StepFault)) → node_refusal plan (life_in state) (Group n) ≡ None
+      → first_refusal (node_fault plan (n ∷ []) ∷ option_map Fault (actor_fault n v) ∷ rest) ≡ first_refusal rest
+  group_fits n rest fit = form_fits n rest (named_none on plan state w even st within (Group n) [] fit)
+
+  pub conclude_fits : (n : ℕ) (rest : List (Option whole_steps.StepFault)) → node_refusal plan (life_in state) (Conclude n) ≡ None
+      → first_refusal (node_fault plan (n ∷ []) ∷ option_map Fault (actor_fault n v) ∷ rest) ≡ first_refusal rest
+  conclude_fits n rest fit = form_fits n rest (named_none on plan state w even st within (Conclude n) [] fit)
+
+  -- the machine for messages refuses the step so, and the whole machine does
+  pub record Refuses (step : Step) (f : StepFault) : Type 0 where
+    pub g : steps.StepFault
+    pub is : fault_seen f ≡ steps.StepOutcome.Refused g
+    pub first : whole_steps.step_fault plan (whole_step step) v ≡ Some (Fault g)
+
+  of_mail : (step : Step) (f : StepFault) → whole_step step ≡ whole_steps.Step.OfMessages (step_seen step) → node_refusal plan (life_in state) step ≡ Some f → Refuses step f
+  of_mail step f mail e =
+      let (g, is, first) = named_fault on plan state w even st within step _ f e in
+      let here : steps.step_fault plan (step_seen step) w ≡ Some g = first in
+      record {
+        g = g;
+        is = is;
+        first = ap (λ s. whole_steps.step_fault plan s v) mail ∙ ap (option_map Fault) (ap (steps.step_fault plan (step_seen step)) seen ∙ here);
+      }
+
+  pub whole_refuses : (step : Step) (f : StepFault) → node_refusal plan (life_in state) step ≡ Some f → Refuses step f
+  whole_refuses (Begin node call) f e = of_mail (Begin node call) f refl e
+  whole_refuses (Ask ticket) f e = of_mail (Ask ticket) f refl e
+  whole_refuses (GiveUp ticket) f e = of_mail (GiveUp ticket) f refl e
+  whole_refuses (Post letter keep) f e = of_mail (Post letter keep) f refl e
+  whole_refuses (Drop letter) f e = of_mail (Drop letter) f refl e
+  whole_refuses (Push from to) f e = of_mail (Push from to) f refl e
+  whole_refuses (Widen at user id to) f e = of_mail (Widen at user id to) f refl e
+  whole_refuses (Crash node) f e = of_mail (Crash node) f refl e
+  whole_refuses (Start node) f e = of_mail (Start node) f refl e
+  whole_refuses (Lose node) f e = of_mail (Lose node) f refl e
+  whole_refuses (Tick seconds) f e = of_mail (Tick seconds) f refl e
+  whole_refuses (Group n) f e =
+      let (g, is, first) = named_fault on plan state w even st within (Group n) [] f e in
+      record { g = g; is = is; first = form_refused n _ g first }
+  whole_refuses (Conclude n) f e =
+      let (g, is, first) = named_fault on plan state w even st within (Conclude n) [] f e in
+      record { g = g; is = is; first = form_refused n _ g first }

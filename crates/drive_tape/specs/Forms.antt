@@ -1,0 +1,41 @@
+-- What is said of a group that was to be opened or concluded, and of a regroup.
+use Rattle.std.specs.Prelude.{◌≡◌, ⊤, Result, Ok, Err}
+use Rattle.cluster_world.specs.declared.step.Said.{Said}
+use Rattle.cluster_world.specs.declared.step.Said.TheVariants as said
+use Rattle.cluster_world.specs.declared.fault.StepFault.{StepFault}
+use Rattle.cluster_world.specs.declared.regrouping.Regroup.{Regroup}
+use Rattle.cluster_world.specs.declared.regrouping.Regroup.TheVariants.{Formed, Fault}
+use Rattle.drive_tape.specs.declared.drove.Stop.{Stop}
+use Rattle.drive_tape.specs.declared.event.ClusterEvent.{ClusterEvent}
+use Rattle.drive_tape.specs.declared.event.ClusterEvent.TheVariants as event
+use Rattle.drive_tape.specs.Denials.{stop_by}
+
+-- a group is open, or was concluded, or its node failed, or the step was refused
+abbrev pub IsSaidOfForming : Result Said StepFault → Type 0
+IsSaidOfForming (Ok (said.Grouped epoch)) = ⊤
+IsSaidOfForming (Ok (said.Concluded epoch members)) = ⊤
+IsSaidOfForming (Ok (said.Faulted node)) = ⊤
+IsSaidOfForming (Ok what) = ⊥
+IsSaidOfForming (Err why) = ⊤
+
+-- what is told of it
+abbrev pub FormsTo : Result Said StepFault → Result ClusterEvent Stop → Type 0
+FormsTo (Ok (said.Grouped epoch)) (Ok happened) = happened ≡ event.HasGrouped epoch
+FormsTo (Ok (said.Grouped epoch)) (Err stop) = ⊥
+FormsTo (Ok (said.Concluded epoch members)) (Ok happened) = happened ≡ event.HasFormed epoch members
+FormsTo (Ok (said.Concluded epoch members)) (Err stop) = ⊥
+FormsTo (Ok (said.Faulted node)) (Ok happened) = happened ≡ event.HasFaulted node
+FormsTo (Ok (said.Faulted node)) (Err stop) = ⊥
+FormsTo (Ok what) (Ok happened) = ⊥
+FormsTo (Ok what) (Err stop) = ⊤
+FormsTo (Err why) (Ok happened) = ⊥
+FormsTo (Err why) (Err stop) = stop ≡ stop_by why
+
+-- and of a regroup
+abbrev pub RegroupsTo : Result Regroup StepFault → Result ClusterEvent Stop → Type 0
+RegroupsTo (Ok (Formed epoch members)) (Ok happened) = happened ≡ event.HasFormed epoch members
+RegroupsTo (Ok (Formed epoch members)) (Err stop) = ⊥
+RegroupsTo (Ok (Fault failed)) (Ok happened) = happened ≡ event.HasFaulted failed
+RegroupsTo (Ok (Fault failed)) (Err stop) = ⊥
+RegroupsTo (Err why) (Ok happened) = ⊥
+RegroupsTo (Err why) (Err stop) = stop ≡ stop_by why
